@@ -1,0 +1,18 @@
+//! TLVs and upstream service flow encodings (CM-SP-MULPIv3.1, Annex C, type 24), read and written exactly.
+#![tactic(auto)]
+
+mod bytes;
+mod class_name;
+mod fault;
+mod fields;
+mod flow;
+mod read;
+mod tlv;
+
+pub use bytes::Bytes;
+pub use class_name::ClassName;
+pub use fault::FlowFault;
+pub use fields::{ErrorEncodings, FlowFields};
+pub use flow::FlowTlv;
+pub use read::read_flow;
+pub use tlv::{FirstTlv, Tlv, TlvFault, Tlvs, first_tlv};
