@@ -66,21 +66,25 @@ goes_on_more before t tlvs cut e = ap (λ (o : Option TlvFault). elim o [ None �
 stops_at : (before : List Tlv) (t : Tlv) (tlvs : List Tlv) (cut : Option ℕ) (fault : TlvFault) → fault_of before t ≡ Some fault → says_after before (t ∷ tlvs) cut ≡ Err (fault_after before fault)
 stops_at before t tlvs cut fault e = ap (λ (o : Option TlvFault). elim o [ None ↦ says_after (before ++ t ∷ []) tlvs cut | Some f ↦ Err (fault_after before f) ]) e
 
+pub read_more_here : (bytes rest : List ℕ) (fields next : FlowFields) (first : First) (r : IsReadUpTo bytes rest fields) → first_of rest ≡ Some first → Begins rest first.tlv first.rest
+    → fault_of r.before first.tlv ≡ None → States (r.before ++ first.tlv ∷ []) next → IsReadUpTo bytes first.rest next
+read_more_here bytes rest fields next first r e begins free stated =
+    record {
+      before = r.before ++ first.tlv ∷ [];
+      front = IsFront-more bytes r.before rest first.tlv first.rest r.front begins;
+      sound = sound_more r.before first.tlv r.sound free;
+      stated = stated;
+      goes_on = r.goes_on ∙ ap (λ (f : Front). says_after r.before f.tlvs (cut_in bytes f.rest)) (front_of-some rest first e)
+        ∙ goes_on_more r.before first.tlv (front_of first.rest).tlvs (cut_in bytes (front_of first.rest).rest) free;
+    }
+
 pub read_more : (bytes rest : List ℕ) (fields next : FlowFields) (kind : ℕ) (value after : List ℕ) → IsReadUpTo bytes rest fields → Some (record { tlv = tlv kind value; rest = after }) ≡ first_of rest → Begins rest (tlv kind value) after
     → ((before : List Tlv) → States before fields → None ≡ fault_of before (tlv kind value))
     → ((before : List Tlv) → States before fields → fault_of before (tlv kind value) ≡ None → States (before ++ tlv kind value ∷ []) next)
     → IsReadUpTo bytes after next
 read_more bytes rest fields next kind value after r first begins judged put =
     let free : fault_of r.before (tlv kind value) ≡ None = sym (judged r.before r.stated) in
-    let front = front_of-some rest (record { tlv = tlv kind value; rest = after }) (sym first) in
-    record {
-      before = r.before ++ tlv kind value ∷ [];
-      front = IsFront-more bytes r.before rest (tlv kind value) after r.front begins;
-      sound = sound_more r.before (tlv kind value) r.sound free;
-      stated = put r.before r.stated free;
-      goes_on = r.goes_on ∙ ap (λ (f : Front). says_after r.before f.tlvs (cut_in bytes f.rest)) front
-          ∙ goes_on_more r.before (tlv kind value) (front_of after).tlvs (cut_in bytes (front_of after).rest) free;
-    }
+    read_more_here bytes rest fields next (record { tlv = tlv kind value; rest = after }) r (sym first) begins free (put r.before r.stated free)
 
 -- ---- the end
 
@@ -164,14 +168,18 @@ cut_first bytes rest fields e r some none is =
       sfid = refl;
     })
 
+pub fault_exact_here : (bytes rest : List ℕ) (fields : FlowFields) (first : First) (fault : TlvFault) (e : FlowFault) (r : IsReadUpTo bytes rest fields) → first_of rest ≡ Some first
+    → fault_of r.before first.tlv ≡ Some fault → e ≡ record { fault = fault; reference = fields.reference; sfid = fields.sfid } → flow_of bytes ≡ Err e
+fault_exact_here bytes rest fields first fault e r is_first at_fault is =
+    r.goes_on ∙ ap (λ (f : Front). says_after r.before f.tlvs (cut_in bytes f.rest)) (front_of-some rest first is_first)
+    ∙ stops_at r.before first.tlv (front_of first.rest).tlvs (cut_in bytes (front_of first.rest).rest) fault at_fault
+    ∙ ap flow_err (sym (fault_is fields fault e r.before r.stated is))
+
 pub fault_exact : (bytes rest : List ℕ) (fields : FlowFields) (kind : ℕ) (value after : List ℕ) (fault : TlvFault) (e : FlowFault) → IsReadUpTo bytes rest fields → Some (record { tlv = tlv kind value; rest = after }) ≡ first_of rest
     → ((before : List Tlv) → States before fields → Some fault ≡ fault_of before (tlv kind value))
     → e ≡ record { fault = fault; reference = fields.reference; sfid = fields.sfid } → flow_of bytes ≡ Err e
 fault_exact bytes rest fields kind value after fault e r first judged is =
-    let front = front_of-some rest (record { tlv = tlv kind value; rest = after }) (sym first) in
-    r.goes_on ∙ ap (λ (f : Front). says_after r.before f.tlvs (cut_in bytes f.rest)) front
-    ∙ stops_at r.before (tlv kind value) (front_of after).tlvs (cut_in bytes (front_of after).rest) fault (sym (judged r.before r.stated))
-    ∙ ap flow_err (sym (fault_is fields fault e r.before r.stated is))
+    fault_exact_here bytes rest fields (record { tlv = tlv kind value; rest = after }) fault e r (sym first) (sym (judged r.before r.stated)) is
 
 -- of a TLV no cut and no want of memory is said
 no_other : (long seen fits : Bool) (a b c fault : TlvFault) → cond long (Some a) (cond seen (Some b) (cond fits None (Some c))) ≡ Some fault → (fault ≡ a) ⊎ ((fault ≡ b) ⊎ (fault ≡ c))
@@ -191,21 +199,25 @@ wrong_under (Some lengths) before t rest after fault b whole e =
       ]
     ]
 
-pub fault_first : (bytes rest : List ℕ) (fields : FlowFields) (kind : ℕ) (value after : List ℕ) (fault : TlvFault) (e : FlowFault) → IsReadUpTo bytes rest fields → Begins rest (tlv kind value) after
-    → ((before : List Tlv) → States before fields → Some fault ≡ fault_of before (tlv kind value))
-    → e ≡ record { fault = fault; reference = fields.reference; sfid = fields.sfid } → IsFirstFlowFault bytes e
+pub fault_first_here : (bytes rest : List ℕ) (fields : FlowFields) (first : First) (fault : TlvFault) (e : FlowFault) (r : IsReadUpTo bytes rest fields) → Begins rest first.tlv first.rest
+    → fault_of r.before first.tlv ≡ Some fault → e ≡ record { fault = fault; reference = fields.reference; sfid = fields.sfid } → IsFirstFlowFault bytes e
 unfolding fault_of
-fault_first bytes rest fields kind value after fault e r begins judged is =
-    let at_fault : fault_of r.before (tlv kind value) ≡ Some fault = sym (judged r.before r.stated) in
+fault_first_here bytes rest fields first fault e r begins at_fault is =
     subst (IsFirstFlowFault bytes) (sym (fault_is fields fault e r.before r.stated is)) (record {
       before = r.before;
       rest = rest;
       front = r.front;
       sound = r.sound;
-      wrong = wrong_under (lengths_of kind) r.before (tlv kind value) rest after fault begins at_fault at_fault;
+      wrong = wrong_under (lengths_of first.tlv.kind) r.before first.tlv rest first.rest fault begins at_fault at_fault;
       reference = refl;
       sfid = refl;
     })
+
+pub fault_first : (bytes rest : List ℕ) (fields : FlowFields) (kind : ℕ) (value after : List ℕ) (fault : TlvFault) (e : FlowFault) → IsReadUpTo bytes rest fields → Begins rest (tlv kind value) after
+    → ((before : List Tlv) → States before fields → Some fault ≡ fault_of before (tlv kind value))
+    → e ≡ record { fault = fault; reference = fields.reference; sfid = fields.sfid } → IsFirstFlowFault bytes e
+fault_first bytes rest fields kind value after fault e r begins judged is =
+    fault_first_here bytes rest fields (record { tlv = tlv kind value; rest = after }) fault e r begins (sym (judged r.before r.stated)) is
 
 -- ---- an encoding has one meaning and no fault
 

@@ -6,3 +6,4 @@ pub mod Flow
 pub mod Stated
 pub mod Reading
 pub mod Split
+pub mod Law

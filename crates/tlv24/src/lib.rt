@@ -7,6 +7,7 @@ mod fault;
 mod fields;
 mod flow;
 mod read;
+mod reading_law;
 mod tlv;
 
 pub use bytes::Bytes;
@@ -15,4 +16,5 @@ pub use fault::FlowFault;
 pub use fields::{ErrorEncodings, FlowFields};
 pub use flow::FlowTlv;
 pub use read::read_flow;
+pub use reading_law::flow_is_read;
 pub use tlv::{FirstTlv, Tlv, TlvFault, Tlvs, first_tlv};
