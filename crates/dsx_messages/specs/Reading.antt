@@ -1,0 +1,96 @@
+-- Messages read from left to right, as functions on their bytes.
+use Rattle.std.specs.Prelude.{◌≡◌, ◌==◌, ℕ, ◌-◌, Bool, ◌||◌, List, [], ◌∷◌, ◌++◌, length, Option, Some, None, Result, Ok, Err, if◌then◌else◌}
+use Rattle.std.specs.Option.{option_map}
+use Rattle.std.specs.List.{find}
+use Rattle.tlv24.specs.declared.tlv.Tlv.{Tlv}
+use Rattle.tlv24.specs.declared.tlv.TlvFault.{TlvFault}
+use Rattle.tlv24.specs.declared.tlv.TlvFault.TheVariants.{Cut}
+use Rattle.tlv24.specs.declared.fields.FlowFields.{FlowFields}
+use Rattle.tlv24.specs.declared.fault.FlowFault.{FlowFault}
+use Rattle.tlv24.specs.Tlv.{Front, front_of}
+use Rattle.tlv24.specs.Flow.{word, long, values_of, flow_of}
+use Rattle.dsx_messages.specs.declared.kind.Kind.{Kind}
+use Rattle.dsx_messages.specs.declared.kind.Kind.TheVariants.{Dsa, Dsc, Dsd}
+use Rattle.dsx_messages.specs.declared.reply.FlowId.{FlowId}
+use Rattle.dsx_messages.specs.declared.reply.FlowId.TheVariants.{Reference, Sfid}
+use Rattle.dsx_messages.specs.declared.message.Request.{Request}
+use Rattle.dsx_messages.specs.declared.message.Request.TheVariants as requests
+use Rattle.dsx_messages.specs.declared.message.Message.{Message}
+use Rattle.dsx_messages.specs.declared.message.Message.TheVariants as messages
+use Rattle.dsx_messages.specs.declared.fault.MessageFault.{MessageFault}
+use Rattle.dsx_messages.specs.declared.fault.MessageFault.TheVariants as faults
+
+infixl 10 ◌>>=◌
+abbrev pub ◌>>=◌ : {A B : Type 0} → Result A MessageFault → (A → Result B MessageFault) → Result B MessageFault
+(Ok x) >>= f = f x
+(Err e) >>= f = Err e
+
+-- What a function returned, seen by view, is what reading gives, unless memory ran out.
+abbrev pub Fails : {Y : Type 0} → MessageFault → Result Y MessageFault → Type 0
+Fails faults.NoMemory read = Unit {0}
+Fails fault read = read ≡ Err fault
+
+abbrev pub Gives : {X Y : Type 0} → (X → Y) → Result X MessageFault → Result Y MessageFault → Type 0
+Gives view (Ok x) read = read ≡ Ok (view x)
+Gives view (Err fault) read = Fails fault read
+
+-- classifiers (22, 23), downstream flows (25) and payload header suppression (26) are left out of this product
+abbrev pub is_left_out : Tlv → Bool
+is_left_out t = (t.kind == 22) || (t.kind == 23) || (t.kind == 25) || (t.kind == 26)
+
+-- the identifier of an encoding: a reference in an addition, an SFID in a change
+abbrev pub id_of : Kind → FlowFault → Option FlowId
+id_of Dsa fault = option_map Reference fault.reference
+id_of Dsc fault = option_map Sfid fault.sfid
+id_of Dsd fault = None
+
+-- what the type 24 values say in order, after those before them
+abbrev pub flows_after : ℕ → Kind → List FlowFields → List (List ℕ) → Result (List FlowFields) MessageFault
+flows_after tid kind flows [] = Ok flows
+flows_after tid kind flows (value ∷ values) =
+    elim (flow_of value) [
+      | Ok flow ↦ flows_after tid kind (flows ++ flow ∷ []) values
+      | Err e ↦ Err (faults.Tlv tid kind (id_of kind e) e.fault)
+    ]
+
+-- what the TLVs of a request say: first a cut, then a type that is left out, then the first flow encoding at fault
+abbrev pub flows_in_front : ℕ → Kind → List ℕ → Front → Result (List FlowFields) MessageFault
+flows_in_front tid kind list front =
+    if length front.rest == 0 then
+      elim (find is_left_out front.tlvs) [
+        | None ↦ flows_after tid kind [] (values_of 24 front.tlvs)
+        | Some t ↦ Err (faults.LeftOut tid kind t.kind)
+      ]
+    else Err (faults.Tlv tid kind None (Cut (length list - length front.rest)))
+
+unfoldable pub flows_in : ℕ → Kind → List ℕ → Result (List FlowFields) MessageFault
+flows_in tid kind list = flows_in_front tid kind list (front_of list)
+
+-- the fixed parts behind the type byte, and what follows them
+
+abbrev pub addition_of : List ℕ → Result Message MessageFault
+addition_of (high ∷ low ∷ list) = flows_in (word (high ∷ low ∷ [])) Dsa list >>= λ flows. Ok (messages.Request (requests.Dsa (word (high ∷ low ∷ [])) flows))
+addition_of body = Err faults.Short
+
+abbrev pub change_of : List ℕ → Result Message MessageFault
+change_of (high ∷ low ∷ list) = flows_in (word (high ∷ low ∷ [])) Dsc list >>= λ flows. Ok (messages.Request (requests.Dsc (word (high ∷ low ∷ [])) flows))
+change_of body = Err faults.Short
+
+abbrev pub deletion_of : List ℕ → Result Message MessageFault
+deletion_of (high ∷ low ∷ reserved ∷ reserved' ∷ a ∷ b ∷ c ∷ d ∷ more) = Ok (messages.Request (requests.Dsd (word (high ∷ low ∷ [])) (long (a ∷ b ∷ c ∷ d ∷ []))))
+deletion_of body = Err faults.Short
+
+abbrev pub ack_of : Kind → List ℕ → Result Message MessageFault
+ack_of kind (high ∷ low ∷ code ∷ more) = Ok (messages.Ack kind (word (high ∷ low ∷ [])) code)
+ack_of kind body = Err faults.Short
+
+-- a message by its type byte
+unfoldable pub message_of : List ℕ → Result Message MessageFault
+message_of [] = Err faults.Empty
+message_of (mtype ∷ body) =
+    if mtype == 15 then addition_of body else
+    if mtype == 17 then ack_of Dsa body else
+    if mtype == 18 then change_of body else
+    if mtype == 20 then ack_of Dsc body else
+    if mtype == 21 then deletion_of body else
+    Err (faults.NotOurs mtype)

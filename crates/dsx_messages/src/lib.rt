@@ -1,0 +1,19 @@
+//! Dynamic service messages of the upstream (CM-SP-MULPIv3.1, 6.4.12 to 6.4.22): DSA, DSC and DSD read by their grammar,
+//! replies written in their one spelling and read back.
+#![tactic(auto)]
+
+mod code;
+mod fault;
+mod kind;
+mod message;
+mod modem;
+mod reply;
+mod spell;
+
+pub use code::Code;
+pub use fault::MessageFault;
+pub use kind::Kind;
+pub use message::{Flows, Message, Request};
+pub use modem::Modem;
+pub use reply::{Detail, FlowId, Reply, ReplyFields};
+pub use spell::write_reply;

@@ -1,0 +1,161 @@
+//! The spelling of replies.
+
+ghost use Rattle.std.specs.Prelude.{◌≡◌, ℕ, ◌<◌, ◌+◌, ◌^◌, [], ◌∷◌, ◌++◌, length, OnOk, IfOk};
+ghost use Rattle.std.specs.Int.{w16, w32, to_be_bytes};
+ghost use Rattle.tlv24.specs.Tlv.{tlv, spelled, spelled_one};
+ghost use Rattle.dsx_messages.specs.Code.{number_of};
+ghost use Rattle.dsx_messages.specs.Spelling.{response_type, reference_tlv, sid_tlv, id_tlv, given_tlvs, errored_tlvs, tlvs_in, tail_of, spell_reply};
+
+use crate::code::Code;
+use crate::kind::Kind;
+use crate::reply::{Detail, FlowId, Reply};
+use std::alloc::{AllocError, Global};
+
+/// The most bytes that a reply has.
+const LONGEST: usize = 20;
+
+fn response_type(kind: Kind) -> u8
+    ensures { result ≡ response_type kind }
+{
+    match kind {
+        Kind::Dsa => 16,
+        Kind::Dsc => 19,
+        Kind::Dsd => 22,
+    }
+}
+
+/// Writes a TLV of two bytes.
+fn put_word(out: &mut Vec<u8>, subtype: u8, value: u16) -> Result<(), AllocError>
+    ensures { OnOk result (out.new.items ≡ out.old.items ++ spelled_one (tlv subtype (to_be_bytes w16 value))) }
+{
+    out.extend_from_slice(&[subtype, 2])?;
+    out.extend_from_slice(&value.to_be_bytes())
+}
+
+/// Writes a TLV of four bytes.
+fn put_long(out: &mut Vec<u8>, subtype: u8, value: u32) -> Result<(), AllocError>
+    ensures { OnOk result (out.new.items ≡ out.old.items ++ spelled_one (tlv subtype (to_be_bytes w32 value))) }
+{
+    out.extend_from_slice(&[subtype, 4])?;
+    out.extend_from_slice(&value.to_be_bytes())
+}
+
+fn put_reference(out: &mut Vec<u8>, reference: Option<u16>) -> Result<(), AllocError>
+    ensures { OnOk result (out.new.items ≡ out.old.items ++ spelled (reference_tlv reference)) }
+{
+    match reference {
+        None => Ok(()),
+        Some(reference) => put_word(out, 1, reference),
+    }
+}
+
+fn put_sid(out: &mut Vec<u8>, sid: Option<u16>) -> Result<(), AllocError>
+    ensures { OnOk result (out.new.items ≡ out.old.items ++ spelled (sid_tlv sid)) }
+{
+    match sid {
+        None => Ok(()),
+        Some(sid) => put_word(out, 3, sid),
+    }
+}
+
+fn put_id(out: &mut Vec<u8>, id: Option<FlowId>) -> Result<(), AllocError>
+    ensures { OnOk result (out.new.items ≡ out.old.items ++ spelled (id_tlv id)) }
+{
+    match id {
+        None => Ok(()),
+        Some(FlowId::Reference(reference)) => put_word(out, 1, reference),
+        Some(FlowId::Sfid(sfid)) => put_long(out, 2, sfid),
+    }
+}
+
+/// How many bytes an identifier takes.
+fn id_len(id: Option<FlowId>) -> u8
+    ensures { result ≡ length (spelled (id_tlv id)) }
+{
+    match id {
+        None => 0,
+        Some(FlowId::Reference(_)) => 4,
+        Some(FlowId::Sfid(_)) => 6,
+    }
+}
+
+/// How many bytes a reference or a SID takes.
+fn word_len(value: Option<u16>) -> u8
+    ensures reference { result ≡ length (spelled (reference_tlv value)) }
+    ensures sid { result ≡ length (spelled (sid_tlv value)) }
+{
+    match value {
+        None => 0,
+        Some(_) => 4,
+    }
+}
+
+/// Writes the flow that was added or changed.
+fn put_given(
+    out: &mut Vec<u8>,
+    reference: Option<u16>,
+    sfid: u32,
+    sid: Option<u16>,
+) -> Result<(), AllocError>
+    ensures { OnOk result (out.new.items ≡ out.old.items ++ spelled (tlv 24 (spelled (given_tlvs reference sfid sid)) ∷ [])) }
+{
+    let count = word_len(reference) + 6 + word_len(sid);
+    out.extend_from_slice(&[24, count])?;
+    put_reference(out, reference)?;
+    put_long(out, 2, sfid)?;
+    put_sid(out, sid)
+}
+
+/// Writes the encoding at fault and its subtype.
+fn put_errored(
+    out: &mut Vec<u8>,
+    code: Code,
+    id: Option<FlowId>,
+    subtype: u8,
+) -> Result<(), AllocError>
+    ensures { OnOk result (out.new.items ≡ out.old.items ++ spelled (tlv 24 (spelled (errored_tlvs code id subtype)) ∷ [])) }
+{
+    let count = id_len(id) + 8;
+    out.extend_from_slice(&[24, count])?;
+    put_id(out, id)?;
+    out.extend_from_slice(&[5, 6, 1, 1, subtype, 2, 1, code.number()])
+}
+
+fn put_detail(out: &mut Vec<u8>, code: Code, detail: Detail) -> Result<(), AllocError>
+    ensures { OnOk result (out.new.items ≡ out.old.items ++ spelled (tlvs_in code detail)) }
+{
+    match detail {
+        Detail::Nothing => Ok(()),
+        Detail::Given {
+            reference,
+            sfid,
+            sid,
+        } => put_given(out, reference, sfid, sid),
+        Detail::Errored { id, subtype } => put_errored(out, code, id, subtype),
+    }
+}
+
+/// What follows the confirmation code.
+fn put_tail(out: &mut Vec<u8>, kind: Kind, code: Code, detail: Detail) -> Result<(), AllocError>
+    ensures { OnOk result (out.new.items ≡ out.old.items ++ tail_of kind code detail) }
+{
+    match kind {
+        Kind::Dsa | Kind::Dsc => put_detail(out, code, detail),
+        Kind::Dsd => {
+            out.push(0)?;
+            Ok(())
+        }
+    }
+}
+
+/// The bytes of a reply: its one spelling.
+pub fn write_reply(alloc: Global, reply: &Reply) -> Result<Vec<u8>, AllocError>
+    ensures { IfOk result (λ bytes. bytes.items ≡ spell_reply reply.now) }
+{
+    let mut out = Vec::with_capacity(alloc, LONGEST)?;
+    let [high, low] = reply.get_tid().to_be_bytes();
+    let code = reply.get_code();
+    out.extend_from_slice(&[response_type(reply.get_kind()), high, low, code.number()])?;
+    put_tail(&mut out, reply.get_kind(), code, reply.get_detail())?;
+    Ok(out)
+}
