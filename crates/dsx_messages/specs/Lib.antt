@@ -2,4 +2,8 @@ pub mod Code
 pub mod WellFormed
 pub mod Spelling
 pub mod Reading
+pub mod Survey
 pub mod Message
+pub use Rattle.tlv24.specs.Tlv
+pub use Rattle.tlv24.specs.Flow
+pub use Rattle.tlv24.specs.Law

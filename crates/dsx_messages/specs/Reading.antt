@@ -44,23 +44,30 @@ id_of Dsa fault = option_map Reference fault.reference
 id_of Dsc fault = option_map Sfid fault.sfid
 id_of Dsd fault = None
 
--- what the type 24 values say in order, after those before them
+-- what the value of one type 24 says
+abbrev pub flow_told : ℕ → Kind → Result FlowFields FlowFault → Result FlowFields MessageFault
+flow_told tid kind (Ok flow) = Ok flow
+flow_told tid kind (Err e) = Err (faults.Tlv tid kind (id_of kind e) e.fault)
+
+unfoldable pub flow_in : ℕ → Kind → List ℕ → Result FlowFields MessageFault
+flow_in tid kind value = flow_told tid kind (flow_of value)
+
+-- what the values of the type 24s say, in order, after the flows before them
 abbrev pub flows_after : ℕ → Kind → List FlowFields → List (List ℕ) → Result (List FlowFields) MessageFault
 flows_after tid kind flows [] = Ok flows
-flows_after tid kind flows (value ∷ values) =
-    elim (flow_of value) [
-      | Ok flow ↦ flows_after tid kind (flows ++ flow ∷ []) values
-      | Err e ↦ Err (faults.Tlv tid kind (id_of kind e) e.fault)
-    ]
+flows_after tid kind flows (value ∷ values) = flow_in tid kind value >>= λ flow. flows_after tid kind (flows ++ flow ∷ []) values
 
 -- what the TLVs of a request say: first a cut, then a type that is left out, then the first flow encoding at fault
+abbrev pub flows_unless : ℕ → Kind → Option ℕ → List (List ℕ) → Result (List FlowFields) MessageFault
+flows_unless tid kind None values = flows_after tid kind [] values
+flows_unless tid kind (Some found) values = Err (faults.LeftOut tid kind found)
+
+abbrev pub left_out_in : List Tlv → Option ℕ
+left_out_in tlvs = option_map (λ t. t.kind) (find is_left_out tlvs)
+
 abbrev pub flows_in_front : ℕ → Kind → List ℕ → Front → Result (List FlowFields) MessageFault
 flows_in_front tid kind list front =
-    if length front.rest == 0 then
-      elim (find is_left_out front.tlvs) [
-        | None ↦ flows_after tid kind [] (values_of 24 front.tlvs)
-        | Some t ↦ Err (faults.LeftOut tid kind t.kind)
-      ]
+    if length front.rest == 0 then flows_unless tid kind (left_out_in front.tlvs) (values_of 24 front.tlvs)
     else Err (faults.Tlv tid kind None (Cut (length list - length front.rest)))
 
 unfoldable pub flows_in : ℕ → Kind → List ℕ → Result (List FlowFields) MessageFault

@@ -14,7 +14,9 @@ pub enum MessageFault {
     /// There is no byte.
     Empty,
     /// Its type is none of 15, 17, 18, 20 and 21.
-    NotOurs { mtype: u8 },
+    NotOurs {
+        mtype: u8,
+    },
     /// It ends within its fixed part.
     Short,
     /// Its TLVs are cut, or one of its flow encodings is at fault: `id` is the identifier of that encoding, where it
@@ -27,7 +29,11 @@ pub enum MessageFault {
     },
     /// It has a TLV of a type that this product leaves out: classifiers (22, 23), a downstream flow (25) or payload header
     /// suppression (26).
-    LeftOut { tid: u16, kind: Kind, found: u8 },
+    LeftOut {
+        tid: u16,
+        kind: Kind,
+        found: u8,
+    },
     /// No memory was left.
     NoMemory,
 }

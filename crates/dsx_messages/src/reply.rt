@@ -26,7 +26,10 @@ pub enum Detail {
         sid: Option<u16>,
     },
     /// The encoding at fault, where it is known, and the subtype that is wrong or missing.
-    Errored { id: Option<FlowId>, subtype: u8 },
+    Errored {
+        id: Option<FlowId>,
+        subtype: u8,
+    },
 }
 
 /// The parts of a reply: DSA-RSP (type 16), DSC-RSP (19) or DSD-RSP (22).

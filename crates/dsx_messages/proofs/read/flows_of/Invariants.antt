@@ -1,0 +1,12 @@
+use Rattle.std.proofs.Common.{◌≡◌, [], length}
+use Rattle.tlv24.specs.Tlv.{front_of}
+use Rattle.tlv24.specs.Flow.{values_of}
+use Rattle.dsx_messages.specs.Reading.{flows_after}
+use Rattle.dsx_messages.proofs.read.flows_of.Given as goal
+
+abbrev pub invariant-loop-first : goal.invariant-loop-first
+invariant-loop-first l =
+    flows_after l.tid l.kind l.flows.items (values_of 24 (front_of l.rest).tlvs) ≡ flows_after l.tid l.kind [] (values_of 24 (front_of l.list).tlvs)
+
+abbrev pub decreases-loop-first : goal.decreases-loop-first
+decreases-loop-first l = length l.rest

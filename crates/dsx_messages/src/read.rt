@@ -1,0 +1,219 @@
+//! Reading a message.
+
+ghost use Rattle.std.specs.Prelude.{◌≡◌, ◌==◌, ◌||◌, ℕ, List, [], length, Option, Some, None, Result, Ok, Err, IfOk, IfErr, MatchResult};
+ghost use Rattle.tlv24.specs.Tlv.{front_of};
+ghost use Rattle.tlv24.specs.Flow.{word, long, values_of};
+ghost use Rattle.dsx_messages.specs.Reading.{id_of, Gives, Fails, flow_in, flows_after, flows_in, addition_of, change_of, deletion_of, ack_of, message_of};
+ghost use Rattle.dsx_messages.specs.Survey.{left_out_kind, first_some, flow_count, IsSurveyed, IsCutSurvey};
+ghost use Rattle.dsx_messages.specs.Message.{Says, IsFirstMessageFault};
+ghost use Rattle.dsx_messages.specs.declared.message.Message.{Message};
+
+use crate::fault::MessageFault;
+use crate::kind::Kind;
+use crate::message::{Flows, Message, Request};
+use crate::reply::FlowId;
+use std::alloc::Global;
+use tlv24::{FlowFault, FlowTlv, TlvFault, first_tlv, read_flow};
+
+/// What a first pass over the TLVs of a request finds.
+struct Survey {
+    left_out: Option<u8>,
+    flows: usize,
+}
+
+/// A type that is left out of this product: classifiers, downstream flows, payload header suppression.
+fn left_out_kind(kind: u8) -> Option<u8>
+    ensures { result ≡ left_out_kind kind }
+{
+    if matches!(kind, 22 | 23 | 25 | 26) {
+        Some(kind)
+    } else {
+        None
+    }
+}
+
+/// The first of two, where it is there.
+fn first_some(first: Option<u8>, second: Option<u8>) -> Option<u8>
+    ensures { result ≡ first_some first second }
+{
+    match first {
+        Some(kind) => Some(kind),
+        None => second,
+    }
+}
+
+/// One for a flow encoding, else nothing.
+fn flow_count(kind: u8) -> usize
+    ensures { result ≡ flow_count kind }
+{
+    if kind == 24 { 1 } else { 0 }
+}
+
+/// Goes over the TLVs by their lengths; where they are cut, answers the place.
+fn survey_of(list: &[u8]) -> Result<Survey, usize>
+    ensures { MatchResult result (λ s. IsSurveyed list.now s.left_out s.flows) (IsCutSurvey list.now) }
+{
+    let mut left_out = None;
+    let mut flows = 0;
+    let mut rest = list;
+    while let Some(first) = first_tlv(rest) {
+        left_out = first_some(left_out, left_out_kind(first.kind));
+        flows += flow_count(first.kind);
+        rest = first.rest;
+    }
+    if rest.is_empty() {
+        Ok(Survey { left_out, flows })
+    } else {
+        Err(list.len() - rest.len())
+    }
+}
+
+/// The identifier of an encoding at fault.
+fn id_of(kind: Kind, fault: &FlowFault) -> Option<FlowId>
+    ensures { result ≡ id_of kind fault.now }
+{
+    match kind {
+        Kind::Dsa => fault.reference.map(FlowId::Reference),
+        Kind::Dsc => fault.sfid.map(FlowId::Sfid),
+        Kind::Dsd => None,
+    }
+}
+
+/// What one flow encoding says.
+#[tactic(auto, unfolding(crate::specs::Reading::flow_in))]
+fn flow_in(tid: u16, kind: Kind, value: &[u8]) -> Result<FlowTlv, MessageFault>
+    ensures { result ≡ flow_in tid kind value.now }
+{
+    match read_flow(value) {
+        Ok(flow) => Ok(flow),
+        Err(told) => Err(MessageFault::Tlv {
+            tid,
+            kind,
+            id: id_of(kind, &told),
+            fault: told.fault,
+        }),
+    }
+}
+
+/// What the flow encodings of a list say, `count` of them.
+fn flows_of(
+    alloc: Global,
+    tid: u16,
+    kind: Kind,
+    list: &[u8],
+    count: usize,
+) -> Result<Vec<FlowTlv>, MessageFault>
+    ensures { Gives (λ flows. flows.items) result (flows_after tid kind [] (values_of 24 (front_of list.now).tlvs)) }
+{
+    let mut flows = Vec::with_capacity(alloc, count)?;
+    let mut rest = list;
+    while let Some(first) = first_tlv(rest) {
+        if first.kind == 24 {
+            let flow = flow_in(tid, kind, first.value)?;
+            flows.push(flow)?;
+        }
+        rest = first.rest;
+    }
+    Ok(flows)
+}
+
+/// What the TLVs of a request say.
+#[tactic(auto, unfolding(crate::specs::Reading::flows_in))]
+fn flows_in(alloc: Global, tid: u16, kind: Kind, list: &[u8]) -> Result<Flows, MessageFault>
+    ensures { Gives (λ flows. flows) result (flows_in tid kind list.now) }
+{
+    match survey_of(list) {
+        Err(at) => Err(MessageFault::Tlv {
+            tid,
+            kind,
+            id: None,
+            fault: TlvFault::Cut { at },
+        }),
+        Ok(
+            Survey {
+                left_out: Some(found),
+                flows: _,
+            },
+        ) => Err(MessageFault::LeftOut { tid, kind, found }),
+        Ok(
+            Survey {
+                left_out: None,
+                flows,
+            },
+        ) => Ok(Flows::from_vec(flows_of(alloc, tid, kind, list, flows)?)),
+    }
+}
+
+fn addition_of(alloc: Global, body: &[u8]) -> Result<Message, MessageFault>
+    ensures { Gives (λ message. message) result (addition_of body.now) }
+{
+    let [high, low, list @ ..] = body else {
+        return Err(MessageFault::Short);
+    };
+    let tid = u16::from_be_bytes([*high, *low]);
+    let flows = flows_in(alloc, tid, Kind::Dsa, list)?;
+    Ok(Message::Request(Request::Dsa { tid, flows }))
+}
+
+fn change_of(alloc: Global, body: &[u8]) -> Result<Message, MessageFault>
+    ensures { Gives (λ message. message) result (change_of body.now) }
+{
+    let [high, low, list @ ..] = body else {
+        return Err(MessageFault::Short);
+    };
+    let tid = u16::from_be_bytes([*high, *low]);
+    let flows = flows_in(alloc, tid, Kind::Dsc, list)?;
+    Ok(Message::Request(Request::Dsc { tid, flows }))
+}
+
+fn deletion_of(body: &[u8]) -> Result<Message, MessageFault>
+    ensures { result ≡ deletion_of body.now }
+{
+    let [high, low, _, _, a, b, c, d, ..] = body else {
+        return Err(MessageFault::Short);
+    };
+    let tid = u16::from_be_bytes([*high, *low]);
+    let sfid = u32::from_be_bytes([*a, *b, *c, *d]);
+    Ok(Message::Request(Request::Dsd { tid, sfid }))
+}
+
+fn ack_of(kind: Kind, body: &[u8]) -> Result<Message, MessageFault>
+    ensures { result ≡ ack_of kind body.now }
+{
+    let [high, low, code, ..] = body else {
+        return Err(MessageFault::Short);
+    };
+    let tid = u16::from_be_bytes([*high, *low]);
+    Ok(Message::Ack {
+        kind,
+        tid,
+        code: *code,
+    })
+}
+
+#[tactic(auto, unfolding(crate::specs::Reading::message_of))]
+fn message_of(alloc: Global, bytes: &[u8]) -> Result<Message, MessageFault>
+    ensures { Gives (λ message. message) result (message_of bytes.now) }
+{
+    let [mtype, body @ ..] = bytes else {
+        return Err(MessageFault::Empty);
+    };
+    match *mtype {
+        15 => addition_of(alloc, body),
+        17 => ack_of(Kind::Dsa, body),
+        18 => change_of(alloc, body),
+        20 => ack_of(Kind::Dsc, body),
+        21 => deletion_of(body),
+        mtype => Err(MessageFault::NotOurs { mtype }),
+    }
+}
+
+/// Reads a message of a modem: one byte of message type and the payload.
+///
+/// The first fault is told in this order: no byte; a type that is not ours; a fixed part that is cut short; a list of TLVs
+/// that is cut; the first TLV of a type that is left out; the first flow encoding at fault.
+pub fn read(alloc: Global, bytes: &[u8]) -> Result<Message, MessageFault>
+    ensures exact { Gives (λ message. message) result (message_of bytes.now) }
+{
+    message_of(alloc, bytes)
+}
