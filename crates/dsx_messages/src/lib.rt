@@ -7,7 +7,7 @@ mod fault;
 mod kind;
 mod message;
 mod modem;
-mod read;
+mod reading;
 mod reply;
 mod spell;
 
@@ -16,6 +16,6 @@ pub use fault::MessageFault;
 pub use kind::Kind;
 pub use message::{Flows, Message, Request};
 pub use modem::Modem;
-pub use read::read;
+pub use reading::read;
 pub use reply::{Detail, FlowId, Reply, ReplyFields};
 pub use spell::write_reply;

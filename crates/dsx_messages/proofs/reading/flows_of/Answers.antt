@@ -5,8 +5,8 @@ use Rattle.tlv24.specs.Tlv.{front_of}
 use Rattle.tlv24.specs.Flow.{values_of}
 use Rattle.dsx_messages.specs.Reading.{flows_after}
 use Rattle.dsx_messages.proofs.Passes.{fails, flows_skip, flows_take, flows_stop, flows_end}
-use Rattle.dsx_messages.proofs.read.flows_of.Goals as goal
-use Rattle.dsx_messages.proofs.read.flows_of.Goals.{then-first-eq24+in_ok-flow+in_ok-push, else-first-eq24}
+use Rattle.dsx_messages.proofs.reading.flows_of.Goals as goal
+use Rattle.dsx_messages.proofs.reading.flows_of.Goals.{then-first-eq24+in_ok-flow+in_ok-push, else-first-eq24}
 
 pub returns-in_err-flow : goal.returns-in_err-flow
 returns-in_err-flow c =

@@ -2,7 +2,7 @@ use Rattle.std.proofs.Common.{◌≡◌, [], length}
 use Rattle.tlv24.specs.Tlv.{front_of}
 use Rattle.tlv24.specs.Flow.{values_of}
 use Rattle.dsx_messages.specs.Reading.{flows_after}
-use Rattle.dsx_messages.proofs.read.flows_of.Given as goal
+use Rattle.dsx_messages.proofs.reading.flows_of.Given as goal
 
 abbrev pub invariant-loop-first : goal.invariant-loop-first
 invariant-loop-first l =

@@ -1,0 +1,4 @@
+pub mod FreeLemmas
+pub mod MarkLemmas
+pub mod RowLemmas
+pub mod LedgerLemmas

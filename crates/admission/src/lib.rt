@@ -1,0 +1,13 @@
+//! Which identifiers are free, and what the flows of one operator have committed.
+#![tactic(auto)]
+
+mod budget;
+mod id_range;
+mod ledger;
+
+pub use budget::Budget;
+pub use id_range::{IdRange, least_free_is_given, least_free_is_one, unused_is_given};
+pub use ledger::{Ledger, LedgerFault, Over};
+
+#[cfg(test)]
+mod tests;

@@ -1,0 +1,15 @@
+//! One operator's book: its service flows, its waiting requests, its inbox, and the history of all that was done.
+//! The state is the replay of the history.
+#![tactic(auto)]
+
+mod action;
+mod heard;
+mod output;
+mod row;
+mod state;
+
+pub use action::{Action, Entry};
+pub use heard::{Arrival, Heard};
+pub use output::{Cause, Output, Outputs};
+pub use row::{Consts, Modems, OperatorRow, RowFields};
+pub use state::{Flow, Waiting};
