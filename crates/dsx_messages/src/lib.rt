@@ -5,6 +5,7 @@
 mod code;
 mod fault;
 mod kind;
+mod laws;
 mod message;
 mod modem;
 mod reading;
@@ -14,6 +15,7 @@ mod spell;
 pub use code::Code;
 pub use fault::MessageFault;
 pub use kind::Kind;
+pub use laws::message_is_read;
 pub use message::{Flows, Message, Request};
 pub use modem::Modem;
 pub use reading::read;

@@ -213,6 +213,11 @@ fn message_of(alloc: Global, bytes: &[u8]) -> Result<Message, MessageFault>
 /// The first fault is told in this order: no byte; a type that is not ours; a fixed part that is cut short; a list of TLVs
 /// that is cut; the first TLV of a type that is left out; the first flow encoding at fault.
 pub fn read(alloc: Global, bytes: &[u8]) -> Result<Message, MessageFault>
+    // What is read is what the bytes say, and what they say is read, unless memory runs out.
+    ensures found { IfOk result (Says bytes.now) }
+    ensures only { (m : Message) → Says bytes.now m → Gives (λ message. message) result (Ok m) }
+    // Else the first fault.
+    ensures fault { IfErr result (IsFirstMessageFault bytes.now) }
     ensures exact { Gives (λ message. message) result (message_of bytes.now) }
 {
     message_of(alloc, bytes)

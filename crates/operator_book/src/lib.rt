@@ -4,12 +4,15 @@
 
 mod action;
 mod heard;
+mod machine;
 mod output;
 mod row;
 mod state;
+mod verdict;
 
 pub use action::{Action, Entry};
 pub use heard::{Arrival, Heard};
 pub use output::{Cause, Output, Outputs};
 pub use row::{Consts, Modems, OperatorRow, RowFields};
 pub use state::{Flow, Waiting};
+pub use verdict::Verdict;
