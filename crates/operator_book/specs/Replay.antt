@@ -1,5 +1,6 @@
 -- A history, and the state that it is the replay of.
-use Rattle.std.specs.Prelude.{◌≡◌, ℕ, Bool, true, List, [], ◌∷◌, ◌++◌, map}
+use Rattle.std.specs.Prelude.{◌≡◌, ℕ, List, [], ◌∷◌, ◌++◌, map, Option, Some, None, if◌then◌else◌}
+use Rattle.dsx_messages.specs.declared.modem.Modem.{Modem}
 use Rattle.operator_book.specs.declared.row.RowFields.{RowFields}
 use Rattle.operator_book.specs.declared.row.Consts.{Consts}
 use Rattle.operator_book.specs.declared.action.Action.{Action}
@@ -40,7 +41,7 @@ acted b action = record {
   history = b.history ++ record { action = action; outputs = (own_step b.row b.state action).outputs } ∷ [];
 }
 
--- an Arrive of a modem of this row, or another action
-abbrev pub is_mine : RowFields → Action → Bool
-is_mine row (Arrive modem heard) = is_listed modem row.modems
-is_mine row Work = true
+-- the modem of an Arrive that is not of this row
+abbrev pub stranger_of : RowFields → Action → Option Modem
+stranger_of row (Arrive modem heard) = if is_listed modem row.modems then None else Some modem
+stranger_of row Work = None

@@ -3,16 +3,20 @@
 #![tactic(auto)]
 
 mod action;
+mod book;
 mod heard;
 mod machine;
 mod output;
 mod row;
 mod state;
+mod state_view;
 mod verdict;
 
 pub use action::{Action, Entry};
+pub use book::{Book, BookFault};
 pub use heard::{Arrival, Heard};
 pub use output::{Cause, Output, Outputs};
 pub use row::{Consts, Modems, OperatorRow, RowFields};
 pub use state::{Flow, Waiting};
+pub use state_view::StateView;
 pub use verdict::Verdict;

@@ -3,7 +3,6 @@
 ghost use Rattle.std.specs.Prelude.{◌≡◌, ℕ, [], ◌∷◌, ◌++◌, Some, None, IfOk, OnOk, OnErr, remove, slice_get};
 ghost use Rattle.std.specs.Ordering.{nat_cmp};
 ghost use Rattle.std.specs.BTreeMap.{insert_entry};
-ghost use Rattle.operator_book.specs.declared.row.RowFields.{RowFields};
 ghost use Rattle.operator_book.specs.Row.{IsRow};
 ghost use Rattle.operator_book.specs.State.{opened};
 ghost use Rattle.operator_book.specs.Machine.{told, flows_settled, flows_after, waiting_after, arrived, worked, own_step};
@@ -14,6 +13,7 @@ use crate::heard::{Arrival, Heard};
 use crate::output::{Cause, Output};
 use crate::row::{Consts, RowFields};
 use crate::state::{Flow, Waiting};
+use crate::state_view::StateView;
 use crate::verdict::{Verdict, verdict_of};
 use dsx_messages::{Modem, write_reply};
 use std::alloc::{AllocError, Global};
@@ -39,6 +39,7 @@ impl Model for Machine {
 }
 
 /// The outputs of an action twice: for the history and for the caller.
+#[derive(Drop)]
 pub(crate) struct Both {
     pub kept: Vec<Output>,
     pub told: Vec<Output>,
@@ -166,9 +167,10 @@ fn change(
 
 impl Machine {
     /// The machine of an operator as it is opened.
-    pub fn new(alloc: Global, consts: &Consts) -> Machine
-        ensures { (row : RowFields) → result ≡ opened row consts.now }
+    pub fn new(alloc: Global, row: &RowFields, consts: &Consts) -> Machine
+        ensures { result ≡ opened row.now consts.now }
     {
+        let _row = row;
         Machine {
             flows: BTreeMap::new(alloc),
             waiting: Vec::new(alloc),
@@ -234,4 +236,40 @@ impl Machine {
             Action::Work => self.work(alloc, row),
         }
     }
+}
+
+impl Machine {
+    /// A copy of the state.
+    pub fn state_view(&self, alloc: Global) -> Result<StateView, AllocError>
+        ensures { IfOk result (λ view. view ≡ self.now) }
+    {
+        let mut flows = Vec::with_capacity(alloc, self.flows.len())?;
+        for (sfid, flow) in &self.flows {
+            flows.push((*sfid, *flow))?;
+        }
+        let inbox = inbox_copy(alloc, &self.inbox)?;
+        let waiting = Vec::from_slice(alloc, self.waiting.as_slice())?;
+        let frame = self.frame;
+        Ok(StateView {
+            flows,
+            waiting,
+            inbox,
+            frame,
+        })
+    }
+}
+
+/// A copy of what was heard.
+fn inbox_copy(alloc: Global, inbox: &VecDeque<Arrival>) -> Result<Vec<Arrival>, AllocError>
+    ensures { IfOk result (λ copies. copies.items ≡ inbox.now.items) }
+{
+    let mut copies = Vec::with_capacity(alloc, inbox.len())?;
+    for arrival in inbox {
+        let heard = arrival.heard.copy(alloc)?;
+        copies.push(Arrival {
+            modem: arrival.modem,
+            heard,
+        })?;
+    }
+    Ok(copies)
 }
