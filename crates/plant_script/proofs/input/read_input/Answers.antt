@@ -1,0 +1,8 @@
+use Rattle.std.proofs.Common.{List, ℕ, subst, ◌∙◌}
+use Rattle.std.specs.Str.{IsUtf8}
+use Rattle.plant_script.proofs.Splits.{readable}
+use Rattle.plant_script.proofs.input.read_input.Goals as goal
+
+pub returns-in-Ok : goal.returns-in-Ok
+returns-in-Ok g c =
+    (readable c.in_ok-input.input.items c.in_ok-input.ensures.fits (subst (λ (x : List ℕ). IsUtf8 x) c.as_slice.ensures.value c.in-Ok.ensures.cases.1), c.in_ok-input.ensures.all)

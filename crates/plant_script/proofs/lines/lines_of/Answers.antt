@@ -1,0 +1,23 @@
+use Rattle.std.proofs.Common.{◌≡◌, ◌==◌, ℕ, true, false, map, get_or, arith, sym, ap, ◌∙◌}
+use Rattle.std.proofs.lemmas.Bool.Decides.{nat_tests}
+use Rattle.std.proofs.lemmas.List.{map_push}
+use Rattle.plant_script.proofs.Splits.{split_line, split_byte, split_end}
+use Rattle.plant_script.proofs.lines.lines_of.Goals as goal
+use Rattle.plant_script.proofs.lines.lines_of.Goals.{then-byte-eq10+in_ok-push, else-byte-eq10}
+
+pub loop-place-preserved : goal.loop-place-preserved
+loop-place-preserved c =
+    elim c.if-byte-eq10.branch [
+      | then-byte-eq10+in_ok-push w ↦
+        let lf : (get_or c.args.input.now c.loop-place.place 0 == 10) ≡ true = grind (arith, nat_tests, w.if-byte-eq10.true) in
+        rw (w.lines-is, w.start-is, w.in_ok-push.ensures.items, map_push _ c.loop-place.lines.items w.part.result)
+        (split_line c.args.input.now c.loop-place.start c.loop-place.place c.loop-place-test.true _ w.part.result.now c.loop-place.invariant w.part.ensures lf)
+      | else-byte-eq10 w ↦
+        let other : (get_or c.args.input.now c.loop-place.place 0 == 10) ≡ false = grind (arith, nat_tests, w.if-byte-eq10.false) in
+        rw (w.lines-is, w.start-is) (split_byte c.args.input.now c.loop-place.start c.loop-place.place c.loop-place-test.true _ c.loop-place.invariant other)
+    ]
+
+pub returns : goal.returns
+returns c =
+    rw (c.in_ok-push-2.ensures.items, map_push _ c.loop-place.lines.items c.part-2.result)
+    (split_end c.args.input.now _ c.loop-place.start c.loop-place.place c.part-2.result.now c.loop-place.invariant c.loop-place-test.false c.part-2.ensures)

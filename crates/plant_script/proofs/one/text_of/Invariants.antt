@@ -1,0 +1,5 @@
+use Rattle.plant_script.specs.RunSoFar.{IsRunSoFar}
+use Rattle.plant_script.proofs.one.text_of.Given as goal
+
+abbrev pub invariant-loop-message : goal.invariant-loop-message
+invariant-loop-message l = IsRunSoFar l.messages l.book l.text.items l.message-index

@@ -1,0 +1,9 @@
+pub mod Lines
+pub mod OperatorA
+pub mod Words
+pub mod One
+pub mod LineFault
+pub mod ReadSoFar
+pub mod SplitSoFar
+pub mod SaidSoFar
+pub mod RunSoFar

@@ -1,0 +1,95 @@
+//! Lines, and the messages in them.
+
+ghost use Rattle.std.specs.Prelude.{◌≡◌, ◌≤◌, length, take, drop, map, IfOk};
+ghost use Rattle.plant_script.specs.Lines.{lines_of};
+ghost use Rattle.plant_script.specs.One.{message_in, messages_of};
+ghost use Rattle.plant_script.specs.LineFault.{Gives};
+ghost use Rattle.plant_script.specs.declared.lines.LineFault.TheVariants.{NoMemory};
+
+use hex::{FromHexError, decode};
+use std::alloc::{AllocError, AllocFailed, Global};
+use tlv24::Bytes;
+
+/// Why lines are no messages.
+#[derive(Clone, Copy, Debug, PartialEq, Eq)]
+pub enum LineFault {
+    /// The line of this number, counted from 1, is no message.
+    Shape { number: u64 },
+    /// No memory was left.
+    NoMemory,
+}
+
+impl From<AllocError> for LineFault {
+    ghost from_gives = { λ _ fault. fault ≡ NoMemory };
+
+    fn from(_error: AllocError) -> LineFault {
+        LineFault::NoMemory
+    }
+}
+
+impl<T: Drop> From<AllocFailed<T>> for LineFault {
+    ghost from_gives = { λ _ fault. fault ≡ NoMemory };
+
+    fn from(_error: AllocFailed<T>) -> LineFault {
+        LineFault::NoMemory
+    }
+}
+
+/// The bytes from a place up to another.
+fn part(input: &[u8], start: usize, end: usize) -> &[u8]
+    requires begun { start ≤ end }
+    requires inside { end ≤ length input.now }
+    ensures { result.now ≡ drop start (take end input.now) }
+{
+    let (front, _rest) = input.split_at(end);
+    let (_before, line) = front.split_at(start);
+    line
+}
+
+/// The lines of an input: each LF ends one, and the last has none.
+pub fn lines_of(alloc: Global, input: &[u8]) -> Result<Vec<&[u8]>, AllocError>
+    ensures { IfOk result (λ lines. map (λ line. line.now) lines.items ≡ lines_of input.now) }
+{
+    let mut lines = Vec::new(alloc);
+    let mut start = 0;
+    for (place, byte) in input.iter().enumerate() {
+        if *byte == b'\n' {
+            lines.push(part(input, start, place))?;
+            start = place + 1;
+        }
+    }
+    lines.push(part(input, start, input.len()))?;
+    Ok(lines)
+}
+
+/// The message in a line that is not empty; none where it is no message.
+fn message_in(alloc: Global, line: &[u8]) -> Result<Option<Bytes>, AllocError>
+    ensures { IfOk result (λ message. message ≡ message_in line.now) }
+{
+    if line == b"-".as_slice() {
+        return Ok(Some(Bytes::from_vec(Vec::new(alloc))));
+    }
+    match decode(alloc, line) {
+        Ok(bytes) => Ok(Some(Bytes::from_vec(bytes))),
+        Err(FromHexError::OutOfMemory) => Err(AllocError),
+        Err(_shape) => Ok(None),
+    }
+}
+
+/// The messages in lines; empty lines are counted and say nothing.
+pub fn messages_of(alloc: Global, lines: &[&[u8]]) -> Result<Vec<Bytes>, LineFault>
+    ensures { Gives result (messages_of (map (λ line. line.now) lines.now)) }
+{
+    let mut messages = Vec::new(alloc);
+    let mut number = 1u64;
+    for line in lines {
+        if !line.is_empty() {
+            let Some(message) = message_in(alloc, line)? else {
+                return Err(LineFault::Shape { number });
+            };
+            messages.push(message)?;
+        }
+        number += 1;
+    }
+    Ok(messages)
+}

@@ -1,0 +1,46 @@
+//! The plant's program. Its one word so far is `one`: it reads messages of a modem, a line each, and prints the answers of
+//! the modem's operator.
+#![tactic(auto)]
+
+mod input;
+mod lines;
+mod one;
+mod operator_a;
+mod program;
+
+
+use std::env;
+use std::io;
+use std::process::ExitCode;
+use std::rt::Env;
+
+use program::run_program;
+
+/// Reads the words, and runs the program over standard input and output. Its own want of memory is status 5, an
+/// unreadable environment status 6.
+fn main(rt: HostRuntime) -> ExitCode {
+    match run(&rt) {
+        Ok(status) => ExitCode::from(status),
+        Err(error) if error.kind() == io::ErrorKind::OutOfMemory => ExitCode::from(5),
+        Err(_error) => ExitCode::from(6),
+    }
+}
+
+fn run(rt: &(impl Env + Input + Print + AllocGlobal)) -> io::Result<u8> {
+    let mut words = Vec::new(rt.alloc());
+    for word in env::args(rt)?.skip(1) {
+        words.push(word)?;
+    }
+    let mut texts = Vec::with_capacity(rt.alloc(), words.len())?;
+    for word in &words {
+        texts.push(word.as_str())?;
+    }
+    let mut reader = rt.reader();
+    let mut writer = io::writer(rt);
+    Ok(run_program(
+        rt.alloc(),
+        texts.as_slice(),
+        &mut reader,
+        &mut writer,
+    ))
+}

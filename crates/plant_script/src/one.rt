@@ -1,0 +1,106 @@
+//! The word `one`: messages to outputs, outputs to text.
+
+ghost use Rattle.std.specs.Prelude.{◌≡◌, ◌++◌, [], ◌∷◌, None, IfOk, OnOk};
+ghost use Rattle.operator_book.specs.State.{opened};
+ghost use Rattle.operator_book.specs.Machine.{own_step, own_run};
+ghost use Rattle.operator_book.specs.Replay.{stranger_of};
+ghost use Rattle.plant_script.specs.OperatorA.{row_a, consts_a};
+ghost use Rattle.plant_script.specs.One.{actions_of, outputs_of, name_of, line_of, text_of};
+
+use crate::operator_a::{consts_a, first_modem, row_a};
+use hex::encode_upper;
+use operator_book::{Action, Book, BookFault, Cause, Heard, Output};
+use std::alloc::{AllocError, Global};
+use tlv24::Bytes;
+
+fn name_of(cause: Cause) -> &'static str
+    ensures { result.now ≡ name_of cause }
+{
+    match cause {
+        Cause::InboxFull => "InboxFull",
+        Cause::Idle => "Idle",
+        Cause::Empty => "Empty",
+        Cause::NotOurs => "NotOurs",
+        Cause::Short => "Short",
+        Cause::TidInUse => "TidInUse",
+        Cause::UnknownAck => "UnknownAck",
+    }
+}
+
+/// The line of an output.
+fn put_line(alloc: Global, text: &mut Vec<u8>, output: &Output) -> Result<(), AllocError>
+    ensures { OnOk result (text.new.items ≡ text.old.items ++ line_of output.now) }
+{
+    match output {
+        Output::Reply { modem: _, bytes } => {
+            let digits = encode_upper(alloc, bytes.as_slice())?;
+            text.extend_from_slice(digits.as_bytes())?;
+        }
+        Output::Silent { modem: _, cause } => {
+            text.extend_from_slice(b"S ")?;
+            text.extend_from_slice(name_of(*cause).as_bytes())?;
+        }
+    }
+    text.extend_from_slice(b"\n")
+}
+
+/// The lines of outputs.
+fn put_lines(alloc: Global, text: &mut Vec<u8>, outputs: &[Output]) -> Result<(), AllocError>
+    ensures { OnOk result (text.new.items ≡ text.old.items ++ text_of outputs.now) }
+{
+    for output in outputs {
+        put_line(alloc, text, output)?;
+    }
+    Ok(())
+}
+
+/// One action on operator A's book, and the lines of its outputs.
+fn put_action(
+    alloc: Global,
+    book: &mut Book,
+    text: &mut Vec<u8>,
+    action: Action,
+) -> Result<(), AllocError>
+    requires row { book.old.row ≡ row_a }
+    requires mine { stranger_of row_a action ≡ None }
+    ensures row { OnOk result (book.new.row ≡ row_a) }
+    ensures state { OnOk result (book.new.state ≡ (own_step row_a book.old.state action).state) }
+    ensures text { OnOk result (text.new.items ≡ text.old.items ++ text_of (own_step row_a book.old.state action).outputs) }
+{
+    match book.act(alloc, action) {
+        Ok(outputs) => put_lines(alloc, text, outputs.as_slice()),
+        Err(BookFault::NoMemory) => Err(AllocError),
+        Err(BookFault::NotMine { modem: _ }) => unreachable!(),
+    }
+}
+
+/// A message of the first modem on operator A's book, and the lines of its outputs.
+fn put_message(
+    alloc: Global,
+    book: &mut Book,
+    text: &mut Vec<u8>,
+    message: &Bytes,
+) -> Result<(), AllocError>
+    requires { book.old.row ≡ row_a }
+    ensures row { OnOk result (book.new.row ≡ row_a) }
+    ensures state { OnOk result (book.new.state ≡ (own_run row_a book.old.state (actions_of (message.now ∷ []))).state) }
+    ensures text { OnOk result (text.new.items ≡ text.old.items ++ text_of (own_run row_a book.old.state (actions_of (message.now ∷ []))).outputs) }
+{
+    let heard = Heard::Message(message.copy(alloc)?);
+    let modem = first_modem();
+    put_action(alloc, book, text, Action::Arrive { modem, heard })?;
+    put_action(alloc, book, text, Action::Work)
+}
+
+/// The text of all outputs that messages of the first modem get of operator A's book.
+pub fn text_of(alloc: Global, messages: &[Bytes]) -> Result<Vec<u8>, AllocError>
+    ensures { IfOk result (λ text. text.items ≡ text_of (outputs_of messages.now)) }
+{
+    let row = row_a(alloc)?;
+    let mut book = Book::open(alloc, &row, &consts_a())?;
+    let mut text = Vec::new(alloc);
+    for message in messages {
+        put_message(alloc, &mut book, &mut text, message)?;
+    }
+    Ok(text)
+}

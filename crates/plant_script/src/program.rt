@@ -1,0 +1,98 @@
+//! The program over any reader and any writer.
+
+ghost use Rattle.std.specs.Prelude.{◌≡◌, ◌≢◌, true, false, ◌∷◌, [], ◌++◌, map, codes, Ok, Err, IfOk, IfSome};
+ghost use Rattle.std.specs.Io.KnownBytes.{Appends};
+ghost use Rattle.plant_script.specs.Words.{is_one};
+ghost use Rattle.plant_script.specs.One.{answer_of, is_readable};
+
+use crate::input::{Stop, read_input};
+use crate::lines::{LineFault, lines_of, messages_of};
+use crate::one::text_of;
+use std::alloc::Global;
+use std::io::{Read, Write};
+
+/// What the program answers: its exit status, and what it writes.
+#[derive(Drop)]
+struct Answer {
+    status: u8,
+    text: Vec<u8>,
+}
+
+/// Whether the words are the one word `one`.
+fn is_one(words: &[&str]) -> bool
+    ensures { result ≡ is_one (map (λ word. word.now) words.now) }
+{
+    match words {
+        [word] => *word == "one",
+        _ => false,
+    }
+}
+
+/// Writes the text, and answers the status; where that fails, 6.
+fn finish<W: Write>(writer: &mut W, status: u8, text: &[u8]) -> u8
+    ensures { result ≢ 6 → (result ≡ status) × Appends (W.contents writer.old) (W.contents writer.new) text.now }
+{
+    if writer.write_all(text).is_ok() && writer.flush().is_ok() {
+        status
+    } else {
+        6
+    }
+}
+
+/// What `one` answers to an input.
+#[tactic(auto, unfolding(crate::specs::One::answer_of))]
+fn answer_of(alloc: Global, input: &[u8]) -> Result<Answer, Stop>
+    requires { is_readable input.now ≡ true }
+    ensures { IfOk result (λ answer. (answer.status ≡ (answer_of input.now).status) × (answer.text.items ≡ (answer_of input.now).text)) }
+{
+    let lines = lines_of(alloc, input)?;
+    match messages_of(alloc, lines.as_slice()) {
+        Ok(messages) => {
+            let text = text_of(alloc, messages.as_slice())?;
+            Ok(Answer { status: 0, text })
+        }
+        Err(LineFault::Shape { number }) => {
+            let line = format!(in alloc; "fault: line {number}\n")?;
+            let text = line.into_bytes();
+            Ok(Answer { status: 4, text })
+        }
+        Err(LineFault::NoMemory) => Err(Stop::Memory),
+    }
+}
+
+/// Reads all input, and answers it.
+fn serve<R: Read>(alloc: Global, reader: &mut R) -> Result<Answer, Stop>
+    ensures { IfOk result (λ answer. IfSome (R.remaining reader.old) (λ input. (answer.status ≡ (answer_of input).status) × (answer.text.items ≡ (answer_of input).text))) }
+{
+    let input = read_input(alloc, reader)?;
+    answer_of(alloc, input.as_slice())
+}
+
+/// Runs the program: the words after its name, its input and its output. Answers the exit status:
+/// 0 all well; 2 words that are not known; 4 a line that is no message; 5 want of memory; 6 a read or a write that failed,
+/// or an input that is too long or no UTF-8.
+///
+/// Statuses 5 and 6 may come at any time, since no clause says what memory or a writer does; where they come, what stands
+/// before the last line is not fixed.
+pub fn run_program<R: Read, W: Write>(
+    alloc: Global,
+    words: &[&str],
+    reader: &mut R,
+    writer: &mut W,
+) -> u8
+    // What is written is a stated function of what is read.
+    ensures served { is_one (map (λ word. word.now) words.now) ≡ true → result ≢ 5 → result ≢ 6 → IfSome (R.remaining reader.old) (λ input.
+        (result ≡ (answer_of input).status) × Appends (W.contents writer.old) (W.contents writer.new) (answer_of input).text) }
+    // Other words are a fault, and nothing is read.
+    ensures refused { is_one (map (λ word. word.now) words.now) ≡ false → result ≢ 6 →
+        (result ≡ 2) × Appends (W.contents writer.old) (W.contents writer.new) (codes "fault: words" ++ 10 ∷ []) }
+{
+    if !is_one(words) {
+        return finish(writer, 2, b"fault: words\n");
+    }
+    match serve(alloc, reader) {
+        Ok(answer) => finish(writer, answer.status, answer.text.as_slice()),
+        Err(Stop::Memory) => finish(writer, 5, b"fault: memory\n"),
+        Err(Stop::Io) => finish(writer, 6, b"fault: io\n"),
+    }
+}
