@@ -1,4 +1,5 @@
-pub mod Values
+pub mod Law
 pub mod Lists
 pub mod Sound
-pub mod Law
+pub mod Values
+pub mod Written

@@ -1,5 +1,5 @@
 -- Upstream service flow encodings: what a list of TLVs under type 24 says (CM-SP-MULPIv3.1, Annex C, type 24).
-use Rattle.std.specs.Prelude.{◌≡◌, ◌==◌, ℕ, ◌-◌, ◌%◌, ◌<◌, ◌≤◌, Bool, true, false, not, ◌&&◌, ◌||◌, List, [], ◌∷◌, ◌++◌, length, map, filter, take, slice_get, slice_index, slice_index_or, Option, Some, None, Result, Ok, Err, is_some, nat_le, nat_lt, if◌then◌else◌}
+use Rattle.std.specs.Prelude.{◌≡◌, ◌==◌, ℕ, ◌-◌, ◌%◌, ◌<◌, ◌≤◌, Bool, true, not, ◌&&◌, ◌||◌, List, [], ◌∷◌, ◌++◌, length, map, filter, take, slice_get, slice_index, slice_index_or, Option, Some, None, Result, Ok, Err, is_some, nat_le, nat_lt, if◌then◌else◌}
 use Rattle.std.specs.Option.{option_map}
 use Rattle.std.specs.List.{list_all, find}
 use Rattle.std.specs.Int.{w16, w32, from_be_bytes}
@@ -9,7 +9,7 @@ use Rattle.tlv24.specs.declared.tlv.TlvFault.TheVariants.{Cut, WrongLength, Twic
 use Rattle.tlv24.specs.declared.fields.ErrorEncodings.{ErrorEncodings}
 use Rattle.tlv24.specs.declared.fields.FlowFields.{FlowFields}
 use Rattle.tlv24.specs.declared.fault.FlowFault.{FlowFault}
-use Rattle.tlv24.specs.Tlv.{IsTlvList, IsFront, Begins, NoTlvBegins, spelled, tlv, Front, front_of}
+use Rattle.tlv24.specs.Tlv.{IsTlvList, IsFront, Begins, NoTlvBegins, spelled, front_of}
 
 -- Numbers in a value, the most significant byte first.
 

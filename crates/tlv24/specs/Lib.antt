@@ -7,3 +7,4 @@ pub mod Stated
 pub mod Reading
 pub mod Split
 pub mod Law
+pub mod Spelling

@@ -1,5 +1,5 @@
 -- Names of service classes (CM-SP-MULPIv3.1, Annex C, subtype 4).
-use Rattle.std.specs.Prelude.{◌≡◌, ◌==◌, ℕ, ◌-◌, ◌≤◌, Bool, not, IsTrue, List, ◌++◌, length, take, replicate}
+use Rattle.std.specs.Prelude.{◌≡◌, ◌==◌, ℕ, ◌-◌, ◌≤◌, not, IsTrue, List, ◌++◌, length, take, replicate}
 use Rattle.std.specs.List.{list_all}
 
 -- a class name: 1 to 15 bytes, none of them 0

@@ -1,5 +1,5 @@
 -- The ranges that the fields of a service flow encoding keep (CM-SP-MULPIv3.1, Annex C, type 24).
-use Rattle.std.specs.Prelude.{ℕ, ◌<◌, ◌≤◌, IfSome}
+use Rattle.std.specs.Prelude.{◌<◌, ◌≤◌, IfSome}
 use Rattle.tlv24.specs.declared.fields.FlowFields.{FlowFields}
 
 -- each field that stands is in its range; a class name is one by its type

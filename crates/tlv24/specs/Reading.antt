@@ -5,7 +5,6 @@ use Rattle.tlv24.specs.declared.fields.FlowFields.{FlowFields}
 use Rattle.tlv24.specs.Tlv.{IsFront, front_of}
 use Rattle.tlv24.specs.Flow.{IsSound, flow_of, says_after, cut_in}
 use Rattle.tlv24.specs.Stated.{States}
-use Rattle.tlv24.specs.Range.{AreInRange}
 
 -- TLVs were read that are sound and state the fields; the rest decides what the bytes say
 pub record IsReadUpTo (bytes rest : List ℕ) (fields : FlowFields) : Type 0 where

@@ -6,15 +6,19 @@ mod class_name;
 mod fault;
 mod fields;
 mod flow;
+mod laws;
 mod read;
-mod reading_law;
+#[cfg(test)]
+mod tests;
 mod tlv;
+mod write;
 
 pub use bytes::Bytes;
 pub use class_name::ClassName;
 pub use fault::FlowFault;
 pub use fields::{ErrorEncodings, FlowFields};
 pub use flow::FlowTlv;
+pub use laws::{flow_is_read, one_meaning, read_back};
 pub use read::read_flow;
-pub use reading_law::flow_is_read;
 pub use tlv::{FirstTlv, Tlv, TlvFault, Tlvs, first_tlv};
+pub use write::write_flow;

@@ -1,9 +1,7 @@
-use Rattle.std.proofs.Common.{◌≡◌, ◌≢◌, ℕ, List, [], ◌∷◌, ◌++◌, Some, false, nat_eq, refl, sym, ap, subst, ◌∙◌, arith}
+use Rattle.std.proofs.Common.{◌≡◌, ◌≢◌, ℕ, false, nat_eq, refl, sym, ap, ◌∙◌, arith}
 use Rattle.std.proofs.lemmas.Bool.Decides.{nat_tests}
 use Rattle.std.specs.Option.{option_map}
-use Rattle.tlv24.specs.declared.tlv.Tlv.{Tlv}
-use Rattle.tlv24.specs.Tlv.{tlv}
-use Rattle.tlv24.specs.Flow.{word, long, byte, low_bits, name_of, errored_of, value_of}
+use Rattle.tlv24.specs.Flow.{word, long, byte, low_bits, name_of, errored_of}
 use Rattle.tlv24.proofs.Values.{one_lem, other_lem, named, IsNameAtRight}
 use Rattle.tlv24.proofs.read.put.Goals as goal
 

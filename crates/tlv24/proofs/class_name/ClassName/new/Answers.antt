@@ -1,4 +1,4 @@
-use Rattle.std.proofs.Common.{ℕ, rules, length-append, ◌≡◌, ◌-◌, ◌≤◌, ◌<◌, ◌==◌, true, not, List, ◌++◌, length, take, drop, arith, sym, ap, ◌∙◌, refl}
+use Rattle.std.proofs.Common.{ℕ, rules, length-append, ◌≡◌, ◌-◌, ◌≤◌, ◌==◌, true, not, List, ◌++◌, length, take, drop, arith, ap, ◌∙◌}
 use Rattle.std.specs.Prelude.{replicate}
 use Rattle.std.specs.List.{list_all}
 use Rattle.std.proofs.lemmas.List.{take_at, drop-replicate, length-replicate}

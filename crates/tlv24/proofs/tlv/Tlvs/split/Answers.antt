@@ -1,4 +1,4 @@
-use Rattle.std.proofs.Common.{ℕ, ◌≡◌, ◌<◌, length, arith}
+use Rattle.std.proofs.Common.{◌≡◌, ◌<◌, length, arith}
 use Rattle.std.proofs.lemmas.Bool.Decides.{nat_tests}
 use Rattle.tlv24.proofs.Lists.{IsFront-end, IsFront-stuck}
 use Rattle.tlv24.proofs.tlv.Tlvs.split.Goals as goal

@@ -1,5 +1,5 @@
 use Rattle.tlv24.proofs.Law.{right_answer, flow_answered}
-use Rattle.tlv24.proofs.reading_law.flow_is_read.Goals as goal
+use Rattle.tlv24.proofs.laws.flow_is_read.Goals as goal
 
 pub returns-clause-right : goal.returns-clause-right
 returns-clause-right c bytes are = right_answer bytes are

@@ -1,0 +1,248 @@
+//! What the clauses do not say: bytes and their meaning, written by hand from the standard.
+
+ghost use Rattle.tlv24.specs.Range.{AreInRange};
+
+use super::*;
+use std::test::Fail;
+
+/// An encoding with every known subtype.
+const WHOLE: &[u8] = &[
+    0x01, 0x02, 0x01, 0x02, // reference
+    0x02, 0x04, 0x01, 0x02, 0x03, 0x04, // SFID
+    0x03, 0x02, 0x23, 0x45, // SID
+    0x04, 0x03, 0x75, 0x70, 0x00, // class name
+    0x05, 0x06, 0x01, 0x01, 0x07, 0x02, 0x01, 0x19, // error encodings
+    0x06, 0x01, 0x07, // set type
+    0x07, 0x01, 0x05, // traffic priority
+    0x08, 0x04, 0x00, 0x0F, 0x42, 0x40, // maximum sustained rate
+    0x09, 0x04, 0x00, 0x00, 0x0B, 0xE4, // maximum burst
+    0x0A, 0x04, 0x00, 0x01, 0xE8, 0x48, // minimum reserved rate
+    0x0F, 0x01, 0x06, // scheduling type
+    0x10, 0x04, 0x00, 0x00, 0x01, 0x7F, // request policy
+    0x11, 0x04, 0x00, 0x00, 0x4E, 0x20, // polling interval
+    0x12, 0x04, 0x00, 0x00, 0x07, 0xD0, // poll jitter
+    0x13, 0x02, 0x00, 0xE8, // grant size
+    0x14, 0x04, 0x00, 0x00, 0x27, 0x10, // grant interval
+    0x15, 0x04, 0x00, 0x00, 0x03, 0x20, // grant jitter
+    0x16, 0x01, 0x02, // grants per interval
+];
+
+fn whole_fields() -> FlowFields
+    ensures { AreInRange result }
+{
+    FlowFields {
+        reference: Some(258),
+        sfid: Some(0x01020304),
+        sid: Some(9029),
+        class_name: ClassName::new(b"up"),
+        errored: Some(ErrorEncodings {
+            errored_parameter: 7,
+            code: 25,
+        }),
+        set_type: Some(7),
+        traffic_priority: Some(5),
+        max_sustained_rate: Some(1000000),
+        max_burst: Some(3044),
+        min_reserved_rate: Some(125000),
+        scheduling_type: Some(6),
+        request_policy: Some(383),
+        polling_interval: Some(20000),
+        poll_jitter: Some(2000),
+        grant_size: Some(232),
+        grant_interval: Some(10000),
+        grant_jitter: Some(800),
+        grants_per_interval: Some(2),
+    }
+}
+
+#[test]
+fn encodings_are_read(rt: HostRuntime) {
+    for (bytes, fields) in [
+        (b"".as_slice(), FlowFields::NONE),
+        (
+            b"\x03\x02\xC1\x01",
+            FlowFields {
+                sid: Some(257),
+                ..FlowFields::NONE
+            },
+        ),
+        (
+            b"\x04\x02A\0",
+            FlowFields {
+                class_name: ClassName::new(b"A"),
+                ..FlowFields::NONE
+            },
+        ),
+        (
+            b"\x05\x06\x01\x01\x02\x02\x01\x03",
+            FlowFields {
+                errored: Some(ErrorEncodings {
+                    errored_parameter: 2,
+                    code: 3,
+                }),
+                ..FlowFields::NONE
+            },
+        ),
+        // A subtype that is not known is skipped however often it comes.
+        (b"\x63\x01\xFF\x63\x01\xFF", FlowFields::NONE),
+        (WHOLE, whole_fields()),
+    ] {
+        match read_flow(bytes) {
+            Ok(flow) => assert_eq!(rt; flow.get_fields(), fields, "at {bytes:?}"),
+            Err(fault) => assert!(rt; false, "{fault:?} at {bytes:?}"),
+        }
+    }
+}
+
+#[test]
+fn the_first_fault_is_told(rt: HostRuntime) {
+    for (bytes, fault, reference) in [
+        (
+            b"\x01\x02\0\0".as_slice(),
+            TlvFault::Range { subtype: 1 },
+            None,
+        ),
+        (b"\x04\x02\0A", TlvFault::Range { subtype: 4 }, None),
+        (b"\x05\x01\0", TlvFault::WrongLength { subtype: 5 }, None),
+        (b"\x06\x01\x06\x06\x01", TlvFault::Cut { at: 3 }, None),
+        (b"\x07\x01\x08", TlvFault::Range { subtype: 7 }, None),
+        (
+            b"\x01\x02\0\x01\x01\x02\0\0",
+            TlvFault::Twice { subtype: 1 },
+            Some(1),
+        ),
+        (
+            b"\x01\x02\0\x01\x01\x01\0",
+            TlvFault::WrongLength { subtype: 1 },
+            Some(1),
+        ),
+    ] {
+        match read_flow(bytes) {
+            Ok(flow) => assert!(rt; false, "{flow:?} at {bytes:?}"),
+            Err(told) => {
+                assert_eq!(rt; told.fault, fault, "at {bytes:?}");
+                assert_eq!(rt; told.reference, reference, "at {bytes:?}");
+                assert_eq!(rt; told.sfid, None, "at {bytes:?}");
+            }
+        }
+    }
+}
+
+#[test]
+fn the_sfid_before_a_fault_is_told(rt: HostRuntime) {
+    let told = FlowFault {
+        fault: TlvFault::Cut { at: 6 },
+        reference: None,
+        sfid: Some(0x01020304),
+    };
+    assert_eq!(rt;
+        read_flow(b"\x02\x04\x01\x02\x03\x04\x06").err(),
+        Some(told)
+    );
+}
+
+#[test]
+fn bytes_are_split(rt: HostRuntime) -> Result<(), Fail> {
+    let tlvs = Tlvs::split(rt.alloc(), b"\x1B\0\x1F\x01\x07")?;
+    assert_eq!(rt; tlvs.len(), 2);
+    assert_eq!(rt; (tlvs[0].kind, tlvs[1].kind), (27, 31));
+    assert!(rt; tlvs[0].value.is_empty());
+    assert_eq!(rt; tlvs[1].value.as_slice(), [7].as_slice());
+    assert!(rt; Tlvs::split(rt.alloc(), b"")?.is_empty());
+    match Tlvs::split(rt.alloc(), b"\x1B\0\x1F\x02") {
+        Ok(_) => assert!(rt; false, "cut bytes were split"),
+        Err(fault) => assert_eq!(rt; fault, TlvFault::Cut { at: 2 }),
+    }
+    Ok(())
+}
+
+#[test]
+fn the_first_tlv_is_found(rt: HostRuntime) -> Result<(), Fail> {
+    let first = first_tlv(b"\x1F\x01\x07\x1B\0").ok_or("no TLV")?;
+    assert_eq!(rt; first.kind, 31);
+    assert_eq!(rt; first.value, [7].as_slice());
+    assert_eq!(rt; first.rest, [27, 0].as_slice());
+    assert!(rt; first_tlv(b"\x1F\x02\x07").is_none());
+    Ok(())
+}
+
+#[test]
+fn fields_are_written_in_ascending_order(rt: HostRuntime) -> Result<(), Fail> {
+    let flow = FlowTlv::new(FlowFields {
+        set_type: Some(6),
+        reference: Some(1),
+        ..FlowFields::NONE
+    });
+    let bytes = write_flow(rt.alloc(), &flow)?;
+    assert_eq!(rt; bytes.as_slice(), b"\x01\x02\0\x01\x06\x01\x06".as_slice());
+    let whole = FlowTlv::new(whole_fields());
+    let bytes = write_flow(rt.alloc(), &whole)?;
+    assert_eq!(rt; bytes.as_slice(), WHOLE);
+    assert_eq!(rt; read_back(rt.alloc(), &whole)?, whole);
+    Ok(())
+}
+
+#[test]
+fn a_sid_is_written_without_its_upper_bits(rt: HostRuntime) -> Result<(), Fail> {
+    let Ok(flow) = read_flow(b"\x03\x02\xC1\x01") else {
+        assert!(rt; false, "a SID was not read");
+        return Ok(());
+    };
+    let bytes = write_flow(rt.alloc(), &flow)?;
+    assert_eq!(rt; bytes.as_slice(), b"\x03\x02\x01\x01".as_slice());
+    Ok(())
+}
+
+#[test]
+fn each_field_has_its_getter(rt: HostRuntime) -> Result<(), Fail> {
+    one_meaning();
+    one_reading();
+    let flow = FlowTlv::new(whole_fields());
+    let name = flow.get_class_name().ok_or("no class name")?;
+    assert_eq!(rt; name.as_slice(), b"up".as_slice());
+    let errored = flow.get_errored().ok_or("no error encodings")?;
+    assert_eq!(rt; (errored.errored_parameter, errored.code), (7, 25));
+    assert_eq!(rt; flow.get_reference(), Some(258));
+    assert_eq!(rt; flow.get_sfid(), Some(0x01020304));
+    assert_eq!(rt; flow.get_sid(), Some(9029));
+    assert_eq!(rt; flow.get_set_type(), Some(7));
+    assert_eq!(rt; flow.get_traffic_priority(), Some(5));
+    assert_eq!(rt; flow.get_max_sustained_rate(), Some(1000000));
+    assert_eq!(rt; flow.get_max_burst(), Some(3044));
+    assert_eq!(rt; flow.get_min_reserved_rate(), Some(125000));
+    assert_eq!(rt; flow.get_scheduling_type(), Some(6));
+    assert_eq!(rt; flow.get_request_policy(), Some(383));
+    assert_eq!(rt; flow.get_polling_interval(), Some(20000));
+    assert_eq!(rt; flow.get_poll_jitter(), Some(2000));
+    assert_eq!(rt; flow.get_grant_size(), Some(232));
+    assert_eq!(rt; flow.get_grant_interval(), Some(10000));
+    assert_eq!(rt; flow.get_grant_jitter(), Some(800));
+    assert_eq!(rt; flow.get_grants_per_interval(), Some(2));
+    Ok(())
+}
+
+#[test]
+fn class_names_have_1_to_15_bytes_and_no_0(rt: HostRuntime) {
+    for (name, fine) in [
+        (b"".as_slice(), false),
+        (b"A", true),
+        (b"fifteen bytes !", true),
+        (b"sixteen bytes !!", false),
+        (b"A\0", false),
+        (b"A\0B", false),
+    ] {
+        assert_eq!(rt; ClassName::new(name).is_some(), fine, "at {name:?}");
+    }
+}
+
+#[test]
+fn bytes_are_owned(rt: HostRuntime) -> Result<(), Fail> {
+    let bytes = Bytes::from_slice(rt.alloc(), &[1, 2, 3])?;
+    let copy = bytes.copy(rt.alloc())?;
+    assert_eq!(rt; copy.as_slice(), [1, 2, 3].as_slice());
+    assert_eq!(rt; bytes.len(), 3);
+    assert!(rt; !bytes.is_empty());
+    let again = Bytes::from_vec(bytes.into_vec());
+    assert_eq!(rt; again.into_vec().as_slice(), [1, 2, 3].as_slice());
+    Ok(())
+}

@@ -1,0 +1,121 @@
+//! Writing a flow encoding in its one spelling.
+
+ghost use Rattle.std.specs.Prelude.{◌≡◌, ℕ, ◌<◌, ◌^◌, List, [], ◌∷◌, ◌++◌, length, IfOk, IfSome, OnOk};
+ghost use Rattle.std.specs.Option.{option_map};
+ghost use Rattle.std.specs.Int.{w16, w32, to_be_bytes};
+ghost use Rattle.tlv24.specs.Tlv.{tlv, spelled_one, spelled};
+ghost use Rattle.tlv24.specs.Name.{IsClassName};
+ghost use Rattle.tlv24.specs.Flow.{IsFlowEncoding};
+ghost use Rattle.tlv24.specs.Spelling.{single, terminated, spelled_error, under, tlvs_of};
+
+use crate::class_name::ClassName;
+use crate::fields::ErrorEncodings;
+use crate::flow::FlowTlv;
+use std::alloc::{AllocError, Global};
+
+/// Appends one TLV.
+fn put_tlv(out: &mut Vec<u8>, subtype: u8, value: &[u8]) -> Result<(), AllocError>
+    requires { length value.now < 256 }
+    ensures { OnOk result (out.new.items ≡ out.old.items ++ spelled_one (tlv subtype value.now)) }
+{
+    out.push(subtype)?;
+    out.push(value.len() as u8)?;
+    out.extend_from_slice(value)
+}
+
+/// Appends a field of one byte, where it stands.
+fn put_byte(out: &mut Vec<u8>, subtype: u8, value: Option<u8>) -> Result<(), AllocError>
+    ensures { OnOk result (out.new.items ≡ out.old.items ++ spelled (under subtype (option_map single value))) }
+{
+    match value {
+        Some(n) => put_tlv(out, subtype, &[n]),
+        None => Ok(()),
+    }
+}
+
+/// Appends a field of two bytes, where it stands.
+fn put_word(out: &mut Vec<u8>, subtype: u8, value: Option<u16>) -> Result<(), AllocError>
+    ensures bytes { OnOk result (out.new.items ≡ out.old.items ++ spelled (under subtype (option_map (to_be_bytes w16) value))) }
+    ensures fits { IfSome value (λ n. n < 2 ^ 16) }
+{
+    match value {
+        Some(n) => put_tlv(out, subtype, &n.to_be_bytes()),
+        None => Ok(()),
+    }
+}
+
+/// Appends a field of four bytes, where it stands.
+fn put_long(out: &mut Vec<u8>, subtype: u8, value: Option<u32>) -> Result<(), AllocError>
+    ensures bytes { OnOk result (out.new.items ≡ out.old.items ++ spelled (under subtype (option_map (to_be_bytes w32) value))) }
+    ensures fits { IfSome value (λ n. n < 2 ^ 32) }
+{
+    match value {
+        Some(n) => put_tlv(out, subtype, &n.to_be_bytes()),
+        None => Ok(()),
+    }
+}
+
+/// Appends the class name and the 0 that ends it, where it stands.
+fn put_class_name(
+    out: &mut Vec<u8>,
+    subtype: u8,
+    value: Option<ClassName>,
+) -> Result<(), AllocError>
+    ensures bytes { OnOk result (out.new.items ≡ out.old.items ++ spelled (under subtype (option_map terminated value))) }
+    ensures valid { IfSome value IsClassName }
+{
+    let Some(name) = value else {
+        return Ok(());
+    };
+    let name = name.as_slice();
+    out.push(subtype)?;
+    out.push(name.len() as u8 + 1)?;
+    out.extend_from_slice(name)?;
+    out.push(0)?;
+    Ok(())
+}
+
+/// Appends error encodings, where they stand.
+fn put_errored(
+    out: &mut Vec<u8>,
+    subtype: u8,
+    value: Option<ErrorEncodings>,
+) -> Result<(), AllocError>
+    ensures { OnOk result (out.new.items ≡ out.old.items ++ spelled (under subtype (option_map spelled_error value))) }
+{
+    match value {
+        Some(e) => put_tlv(out, subtype, &[1, 1, e.errored_parameter, 2, 1, e.code]),
+        None => Ok(()),
+    }
+}
+
+/// The value of a type 24 TLV that says these fields: those that stand, each once, in ascending order of subtype.
+/// `AllocError` where no memory is left.
+pub fn write_flow(alloc: Global, flow: &FlowTlv) -> Result<Vec<u8>, AllocError>
+    // The one spelling.
+    ensures spelling { IfOk result (λ bytes. bytes.items ≡ spelled (tlvs_of flow.now)) }
+    // It says these very fields.
+    ensures encoding { IfOk result (λ bytes. IsFlowEncoding bytes.items flow.now) }
+{
+    let fields = flow.get_fields();
+    let mut out = Vec::new(alloc);
+    put_word(&mut out, 1, fields.reference)?;
+    put_long(&mut out, 2, fields.sfid)?;
+    put_word(&mut out, 3, fields.sid)?;
+    put_class_name(&mut out, 4, fields.class_name)?;
+    put_errored(&mut out, 5, fields.errored)?;
+    put_byte(&mut out, 6, fields.set_type)?;
+    put_byte(&mut out, 7, fields.traffic_priority)?;
+    put_long(&mut out, 8, fields.max_sustained_rate)?;
+    put_long(&mut out, 9, fields.max_burst)?;
+    put_long(&mut out, 10, fields.min_reserved_rate)?;
+    put_byte(&mut out, 15, fields.scheduling_type)?;
+    put_long(&mut out, 16, fields.request_policy)?;
+    put_long(&mut out, 17, fields.polling_interval)?;
+    put_long(&mut out, 18, fields.poll_jitter)?;
+    put_word(&mut out, 19, fields.grant_size)?;
+    put_long(&mut out, 20, fields.grant_interval)?;
+    put_long(&mut out, 21, fields.grant_jitter)?;
+    put_byte(&mut out, 22, fields.grants_per_interval)?;
+    Ok(out)
+}
