@@ -10,6 +10,8 @@ mod output;
 mod row;
 mod state;
 mod state_view;
+#[cfg(test)]
+mod tests;
 mod verdict;
 
 pub use action::{Action, Entry};

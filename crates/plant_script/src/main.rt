@@ -8,6 +8,9 @@ mod one;
 mod operator_a;
 mod program;
 
+#[cfg(test)]
+mod tests;
+
 
 use std::env;
 use std::io;

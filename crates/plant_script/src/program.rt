@@ -28,13 +28,15 @@ fn is_one(words: &[&str]) -> bool
     }
 }
 
-/// Writes the text, and answers the status; where that fails, 6.
+/// Writes the text, and answers the status. Where that fails, it tries to write the line of a failed write, which may be
+/// lost too, and answers 6.
 fn finish<W: Write>(writer: &mut W, status: u8, text: &[u8]) -> u8
     ensures { result ≢ 6 → (result ≡ status) × Appends (W.contents writer.old) (W.contents writer.new) text.now }
 {
     if writer.write_all(text).is_ok() && writer.flush().is_ok() {
         status
     } else {
+        let _lost = writer.write_all(b"fault: io\n");
         6
     }
 }

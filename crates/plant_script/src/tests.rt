@@ -1,0 +1,209 @@
+//! The program over text in memory, and over readers and writers that fail.
+
+use crate::program::run_program;
+use std::alloc::Global;
+use std::io;
+use std::io::{Read, Write};
+use std::test::Fail;
+
+const ADDITION: &str = "0F0001180A010200010601060F0102\n";
+const REPLY: &str = "10000100180E0102000102040000010103020101\n";
+
+/// The status and the text that an input of `one` gets.
+fn one(alloc: Global, input: &str) -> (u8, Vec<u8>) {
+    let mut reader = input.as_bytes();
+    let mut text = Vec::new(alloc);
+    let status = run_program(alloc, &["one"], &mut reader, &mut text);
+    (status, text)
+}
+
+#[test]
+fn messages_and_their_answers(rt: HostRuntime) -> Result<(), Fail> {
+    let rows = [
+        // A lone addition.
+        (ADDITION, 0, REPLY),
+        // The last line may lack its end; empty lines say nothing; digits may be lower case.
+        ("\n0f0001180a010200010601060f0102", 0, REPLY),
+        // A type 24 that says 11 bytes where 10 are.
+        ("0F0003180B010200010601060F0102\n", 0, "10000301\n"),
+        // A known subtype of a wrong length beside a skipped one.
+        (
+            "0F0002180E010200010601066301FF0F020002\n",
+            0,
+            "10000202180C01020001050601010F020102\n",
+        ),
+        // A transaction ID of the CMTS's half, with nothing kept; and the last of the modems' half.
+        (
+            "0F8000180A010200010601060F0102\n0F8000180A010200010601060F0102\n",
+            0,
+            "1080000A\n1080000A\n",
+        ),
+        (
+            "0F7FFF180A010200010601060F0102\n",
+            0,
+            "107FFF00180E0102000102040000010103020101\n",
+        ),
+        // A repeated request while it waits, its acknowledgement, and an unknown one.
+        (
+            "0F0001180A010200010601060F0102\n0F0001180A010200010601060F0102\n11000100\n11000100\n",
+            0,
+            "10000100180E0102000102040000010103020101\nS TidInUse\nS UnknownAck\n",
+        ),
+        // A downstream flow is left out; an unknown type is skipped, and no encoding stands.
+        ("0F00011900\n0F00021B00\n", 0, "10000102\n10000208\n"),
+        // No byte, a short message, messages that are not handled.
+        (
+            "-\n0F00\n10000100\n150001000000000101\n",
+            0,
+            "S Empty\nS Short\nS NotOurs\nS NotOurs\n",
+        ),
+        ("", 0, ""),
+        // Lines at fault, the first of them told, and no step made.
+        ("0F0001180A010200010601060F0102\n\n0F0\n", 4, "fault: line 3\n"),
+        ("11000100\r\n", 4, "fault: line 1\n"),
+        (" \n-\n", 4, "fault: line 1\n"),
+        ("--\n", 4, "fault: line 1\n"),
+    ];
+    for (input, status, text) in rows {
+        let answer = one(rt.alloc(), input);
+        assert_eq!(rt; answer.0, status, "at {input}");
+        assert_eq!(rt; answer.1.as_slice(), text.as_bytes(), "at {input}");
+    }
+    Ok(())
+}
+
+#[test]
+fn other_words_are_refused(rt: HostRuntime) -> Result<(), Fail> {
+    let none: [&str; 0] = [];
+    for words in [none.as_slice(), ["two"].as_slice(), ["one", "one"].as_slice()] {
+        let mut reader = ADDITION.as_bytes();
+        let mut text = Vec::new(rt.alloc());
+        let status = run_program(rt.alloc(), words, &mut reader, &mut text);
+        assert_eq!(rt; status, 2);
+        assert_eq!(rt; text.as_slice(), b"fault: words\n".as_slice());
+    }
+    Ok(())
+}
+
+/// Gives its bytes one by one, and fails at a read.
+#[derive(Drop)]
+struct Slow<'a> {
+    bytes: &'a [u8],
+    reads: usize,
+    fails_at: usize,
+}
+
+impl Read for Slow<'_> {
+    fn read(&mut self, buf: &mut [u8]) -> io::Result<usize> {
+        if self.reads == self.fails_at {
+            return Err(io::Error::from(io::ErrorKind::Other));
+        }
+        self.reads = self.reads.saturating_add(1);
+        match (self.bytes, buf) {
+            ([first, rest @ ..], [place, ..]) => {
+                *place = *first;
+                self.bytes = rest;
+                Ok(1)
+            }
+            _ => Ok(0),
+        }
+    }
+}
+
+/// Gives one byte at each read, without end.
+#[derive(Drop)]
+struct Endless {
+    reads: usize,
+}
+
+impl Read for Endless {
+    fn read(&mut self, buf: &mut [u8]) -> io::Result<usize> {
+        self.reads = self.reads.saturating_add(1);
+        match buf {
+            [place, ..] => {
+                *place = b'\n';
+                Ok(1)
+            }
+            [] => Ok(0),
+        }
+    }
+}
+
+/// Takes one byte at each write, and fails at one.
+#[derive(Drop)]
+struct Tight {
+    held: Vec<u8>,
+    writes: usize,
+    fails_at: usize,
+}
+
+impl Write for Tight {
+    fn write(&mut self, buf: &[u8]) -> io::Result<usize> {
+        if self.writes == self.fails_at {
+            return Err(io::Error::from(io::ErrorKind::Other));
+        }
+        self.writes = self.writes.saturating_add(1);
+        match buf {
+            [first, ..] => {
+                self.held.push(*first)?;
+                Ok(1)
+            }
+            [] => Ok(0),
+        }
+    }
+
+    fn flush(&mut self) -> io::Result<()> {
+        Ok(())
+    }
+}
+
+#[test]
+fn a_read_that_fails_is_status_6(rt: HostRuntime) -> Result<(), Fail> {
+    // The input has 31 bytes, so its end is told by the 32nd read.
+    for fails_at in 0..=32 {
+        let mut reader = Slow {
+            bytes: ADDITION.as_bytes(),
+            reads: 0,
+            fails_at,
+        };
+        let mut text = Vec::new(rt.alloc());
+        let status = run_program(rt.alloc(), &["one"], &mut reader, &mut text);
+        let (wanted, line) = if fails_at < 32 { (6, "fault: io\n") } else { (0, REPLY) };
+        assert_eq!(rt; status, wanted, "at {fails_at}");
+        assert_eq!(rt; text.as_slice(), line.as_bytes(), "at {fails_at}");
+    }
+    Ok(())
+}
+
+#[test]
+fn a_write_that_fails_is_status_6(rt: HostRuntime) -> Result<(), Fail> {
+    for fails_at in 0..=41 {
+        let mut reader = ADDITION.as_bytes();
+        let mut writer = Tight {
+            held: Vec::new(rt.alloc()),
+            writes: 0,
+            fails_at,
+        };
+        let status = run_program(rt.alloc(), &["one"], &mut reader, &mut writer);
+        let wanted = if fails_at < 41 { 6 } else { 0 };
+        assert_eq!(rt; status, wanted, "at {fails_at}");
+        assert_eq!(rt; writer.held.len(), fails_at, "at {fails_at}");
+    }
+    Ok(())
+}
+
+#[test]
+fn an_input_that_is_too_long_or_no_text_is_status_6(rt: HostRuntime) -> Result<(), Fail> {
+    let mut reader = Endless { reads: 0 };
+    let mut text = Vec::new(rt.alloc());
+    let status = run_program(rt.alloc(), &["one"], &mut reader, &mut text);
+    assert_eq!(rt; status, 6);
+    assert_eq!(rt; text.as_slice(), b"fault: io\n".as_slice());
+    assert_eq!(rt; reader.reads, 1_048_577);
+    let mut reader = b"\xFF\n".as_slice();
+    let mut text = Vec::new(rt.alloc());
+    let status = run_program(rt.alloc(), &["one"], &mut reader, &mut text);
+    assert_eq!(rt; status, 6);
+    assert_eq!(rt; text.as_slice(), b"fault: io\n".as_slice());
+    Ok(())
+}
