@@ -72,15 +72,22 @@ fn messages_and_their_answers(rt: HostRuntime) -> Result<(), Fail> {
     Ok(())
 }
 
+/// The status and the text that words get.
+fn said(alloc: Global, words: &[&str]) -> (u8, Vec<u8>) {
+    let mut reader = ADDITION.as_bytes();
+    let mut text = Vec::new(alloc);
+    let status = run_program(alloc, words, &mut reader, &mut text);
+    (status, text)
+}
+
 #[test]
 fn other_words_are_refused(rt: HostRuntime) -> Result<(), Fail> {
-    let none: [&str; 0] = [];
-    for words in [none.as_slice(), ["two"].as_slice(), ["one", "one"].as_slice()] {
-        let mut reader = ADDITION.as_bytes();
-        let mut text = Vec::new(rt.alloc());
-        let status = run_program(rt.alloc(), words, &mut reader, &mut text);
-        assert_eq!(rt; status, 2);
-        assert_eq!(rt; text.as_slice(), b"fault: words\n".as_slice());
+    let none = said(rt.alloc(), &[]);
+    let other = said(rt.alloc(), &["two"]);
+    let more = said(rt.alloc(), &["one", "one"]);
+    for answer in [none, other, more] {
+        assert_eq!(rt; answer.0, 2);
+        assert_eq!(rt; answer.1.as_slice(), b"fault: words\n".as_slice());
     }
     Ok(())
 }
