@@ -1,5 +1,5 @@
 -- The identifier that is told of an encoding at fault.
-use Rattle.std.proofs.Common.{◌≡◌, ◌⊎◌, ℕ, List, Option, Some, None, Result, Ok, Err, refl, sym, ap, subst, ◌∙◌, inl, inr}
+use Rattle.std.proofs.Common.{◌≡◌, ℕ, List, Option, Some, None, Result, Ok, Err, sym, ap, subst, ◌∙◌, inl, inr}
 use Rattle.std.specs.Prelude.{IfSome, IfOk}
 use Rattle.std.specs.Option.{option_map}
 use Rattle.tlv24.specs.declared.fault.FlowFault.{FlowFault}

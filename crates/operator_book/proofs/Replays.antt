@@ -25,8 +25,8 @@ pub IsReplay-push : (row : RowFields) (consts : Consts) (history : List Entry) (
     → IsReplay row consts (history ++ record { action = action; outputs = outputs } ∷ []) next
 IsReplay-push row consts history state next action outputs r next_is outputs_are = record {
   state_is =
-    next_is ∙ ap (λ (s : OperatorState). (own_step row s action).state) r.state_is
-    ∙ sym (after-push row (opened row consts) (actions_of history) action)
-    ∙ ap (λ (actions : List Action). (own_run row (opened row consts) actions).state) (sym (map-append (λ (e : Entry). e.action) history (record { action = action; outputs = outputs } ∷ [])));
+      next_is ∙ ap (λ (s : OperatorState). (own_step row s action).state) r.state_is
+      ∙ sym (after-push row (opened row consts) (actions_of history) action)
+      ∙ ap (λ (actions : List Action). (own_run row (opened row consts) actions).state) (sym (map-append (λ (e : Entry). e.action) history (record { action = action; outputs = outputs } ∷ [])));
   told = AreTold-push row (opened row consts) history (record { action = action; outputs = outputs }) r.told (outputs_are ∙ ap (λ (s : OperatorState). (own_step row s action).outputs) r.state_is);
 }

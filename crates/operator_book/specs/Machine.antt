@@ -1,12 +1,11 @@
 -- One operator's machine: what each action makes of its state, and what it puts out (CM-SP-MULPIv3.1, 11.2; own).
-use Rattle.std.specs.Prelude.{◌≡◌, ℕ, ◌<◌, Bool, true, false, List, [], ◌∷◌, ◌++◌, length, remove, slice_get, Option, Some, None, nat_le, if◌then◌else◌}
+use Rattle.std.specs.Prelude.{ℕ, Bool, true, false, List, [], ◌∷◌, ◌++◌, length, remove, slice_get, Option, Some, None, nat_le, if◌then◌else◌}
 use Rattle.std.specs.Ordering.{nat_cmp}
 use Rattle.std.specs.BTreeMap.{is_at, insert_entry}
 use Rattle.std.specs.Map.{remove_entry}
 use Rattle.dsx_messages.specs.declared.modem.Modem.{Modem}
 use Rattle.dsx_messages.specs.Spelling.{spell_reply}
 use Rattle.operator_book.specs.declared.row.RowFields.{RowFields}
-use Rattle.operator_book.specs.declared.row.Consts.{Consts}
 use Rattle.operator_book.specs.declared.state.Flow.{Flow}
 use Rattle.operator_book.specs.declared.state.Waiting.{Waiting}
 use Rattle.operator_book.specs.declared.heard.Heard.{Heard}
@@ -14,13 +13,12 @@ use Rattle.operator_book.specs.declared.heard.Heard.TheVariants as heards
 use Rattle.operator_book.specs.declared.heard.Arrival.{Arrival}
 use Rattle.operator_book.specs.declared.action.Action.{Action}
 use Rattle.operator_book.specs.declared.action.Action.TheVariants.{Arrive, Work}
-use Rattle.operator_book.specs.declared.action.Entry.{Entry}
 use Rattle.operator_book.specs.declared.output.Cause.TheVariants.{InboxFull, Idle}
 use Rattle.operator_book.specs.declared.output.Output.{Output}
 use Rattle.operator_book.specs.declared.output.Output.TheVariants as outputs
 use Rattle.operator_book.specs.declared.verdict.Verdict.{Verdict}
 use Rattle.operator_book.specs.declared.verdict.Verdict.TheVariants.{Silent, Refused, Added, Acknowledged}
-use Rattle.operator_book.specs.State.{OperatorState, opened}
+use Rattle.operator_book.specs.State.{OperatorState}
 use Rattle.operator_book.specs.Verdict.{verdict}
 
 -- a state, and what was put out on the way to it

@@ -1,5 +1,5 @@
 -- A history, and the state that it is the replay of.
-use Rattle.std.specs.Prelude.{◌≡◌, ℕ, List, [], ◌∷◌, ◌++◌, map, Option, Some, None, if◌then◌else◌}
+use Rattle.std.specs.Prelude.{◌≡◌, List, [], ◌∷◌, ◌++◌, map, Option, Some, None, if◌then◌else◌}
 use Rattle.dsx_messages.specs.declared.modem.Modem.{Modem}
 use Rattle.operator_book.specs.declared.row.RowFields.{RowFields}
 use Rattle.operator_book.specs.declared.row.Consts.{Consts}

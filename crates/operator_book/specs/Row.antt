@@ -1,5 +1,5 @@
 -- What an operator is provisioned with (own).
-use Rattle.std.specs.Prelude.{ℕ, ◌≤◌}
+use Rattle.std.specs.Prelude.{◌≤◌}
 use Rattle.operator_book.specs.declared.row.RowFields.{RowFields}
 
 -- SFIDs are 1 or more, SIDs 1 to 8,191

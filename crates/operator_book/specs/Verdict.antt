@@ -1,15 +1,15 @@
 -- How a message is judged: the table of checks, the first check that holds deciding (CM-SP-MULPIv3.1, 11.2.2 and 11.2.3.1;
 -- which case gets which code is own). Of the table this book has what an addition of one best-effort flow needs.
-use Rattle.std.specs.Prelude.{◌≡◌, ◌==◌, ℕ, ◌≤◌, Bool, not, ◌&&◌, true, List, [], ◌∷◌, length, map, position, slice_get, Option, Some, None, Result, Ok, Err, is_some, nat_le, unwrap_or, IfSome, if◌then◌else◌}
+use Rattle.std.specs.Prelude.{◌==◌, ℕ, Bool, not, ◌&&◌, true, List, [], ◌∷◌, length, map, position, Option, Some, None, Result, Ok, Err, is_some, nat_le, unwrap_or, IfSome, if◌then◌else◌}
 use Rattle.tlv24.specs.declared.tlv.TlvFault.{TlvFault}
 use Rattle.tlv24.specs.declared.tlv.TlvFault.TheVariants as tlv_faults
 use Rattle.tlv24.specs.declared.fields.FlowFields.{FlowFields}
 use Rattle.dsx_messages.specs.declared.modem.Modem.{Modem}
-use Rattle.dsx_messages.specs.declared.kind.Kind.TheVariants.{Dsa, Dsc, Dsd}
+use Rattle.dsx_messages.specs.declared.kind.Kind.TheVariants.{Dsa}
 use Rattle.dsx_messages.specs.declared.code.Code.{Code}
 use Rattle.dsx_messages.specs.declared.code.Code.TheVariants as codes
 use Rattle.dsx_messages.specs.declared.reply.FlowId.{FlowId}
-use Rattle.dsx_messages.specs.declared.reply.FlowId.TheVariants.{Reference, Sfid}
+use Rattle.dsx_messages.specs.declared.reply.FlowId.TheVariants.{Reference}
 use Rattle.dsx_messages.specs.declared.reply.Detail.{Detail}
 use Rattle.dsx_messages.specs.declared.reply.Detail.TheVariants.{Nothing, Given, Errored}
 use Rattle.dsx_messages.specs.declared.message.Message.{Message}

@@ -218,14 +218,25 @@ impl Machine {
         };
         let kept = outputs_of(alloc, modem, &verdict)?;
         let told = outputs_of(alloc, modem, &verdict)?;
-        change(&mut self.flows, &mut self.waiting, self.frame, modem, verdict)?;
+        change(
+            &mut self.flows,
+            &mut self.waiting,
+            self.frame,
+            modem,
+            verdict,
+        )?;
         let _first = self.inbox.pop_front();
         Ok(Both { kept, told })
     }
 
     /// One action.
     #[tactic(auto, unfolding(crate::specs::Machine::own_step))]
-    pub fn step(&mut self, alloc: Global, row: &RowFields, action: &Action) -> Result<Both, AllocError>
+    pub fn step(
+        &mut self,
+        alloc: Global,
+        row: &RowFields,
+        action: &Action,
+    ) -> Result<Both, AllocError>
         requires { IsRow row.now }
         ensures state { OnOk result (self.new ≡ (own_step row.now self.old action.now).state) }
         ensures outputs { IfOk result (λ both. both.told.items ≡ (own_step row.now self.old action.now).outputs) }

@@ -1,6 +1,8 @@
 //! What no clause says: messages and replies as others spell them.
 
-use crate::{Action, Book, BookFault, Cause, Consts, Heard, Modems, OperatorRow, Output, RowFields};
+use crate::{
+    Action, Book, BookFault, Cause, Consts, Heard, Modems, OperatorRow, Output, RowFields,
+};
 use admission::IdRange;
 use dsx_messages::Modem;
 use std::alloc::{AllocError, Global};
@@ -8,8 +10,11 @@ use std::test::Fail;
 use tlv24::Bytes;
 
 const FIRST: Modem = Modem([2, 0, 0, 0, 0, 1]);
+
 const STRANGER: Modem = Modem([2, 0, 0, 0, 0, 3]);
+
 const ADDITION: &[u8; 15] = b"\x0F\x00\x01\x18\x0A\x01\x02\x00\x01\x06\x01\x06\x0F\x01\x02";
+
 const REPLY: &[u8; 20] =
     b"\x10\x00\x01\x00\x18\x0E\x01\x02\x00\x01\x02\x04\x00\x00\x01\x01\x03\x02\x01\x01";
 
@@ -65,13 +70,29 @@ fn cause(alloc: Global, book: &mut Book, bytes: &[u8]) -> Result<Option<Cause>, 
 fn an_idle_book_fills_its_inbox_and_refuses_a_stranger(rt: HostRuntime) -> Result<(), Fail> {
     let mut book = book(rt.alloc(), 4, 4, 4)?;
     let idle = book.act(rt.alloc(), Action::Work)?;
-    assert!(rt; matches!(idle.as_slice(), [Output::Silent { modem: None, cause: Cause::Idle }]));
+    assert!(rt;
+        matches!(
+            idle.as_slice(),
+            [Output::Silent {
+                modem: None,
+                cause: Cause::Idle
+            }]
+        )
+    );
     for _ in 0..4 {
         let outputs = arrive(rt.alloc(), &mut book, ADDITION)?;
         assert!(rt; outputs.is_empty());
     }
     let full = arrive(rt.alloc(), &mut book, ADDITION)?;
-    assert!(rt; matches!(full.as_slice(), [Output::Silent { modem: Some(_), cause: Cause::InboxFull }]));
+    assert!(rt;
+        matches!(
+            full.as_slice(),
+            [Output::Silent {
+                modem: Some(_),
+                cause: Cause::InboxFull
+            }]
+        )
+    );
     let heard = Heard::Message(Bytes::from_slice(rt.alloc(), ADDITION)?);
     let modem = STRANGER;
     let refused = book.act(rt.alloc(), Action::Arrive { modem, heard });
@@ -91,10 +112,16 @@ fn an_addition_is_answered_and_acknowledged(rt: HostRuntime) -> Result<(), Fail>
     assert_eq!(rt; view.waiting().len(), 1);
     assert_eq!(rt; view.inbox().len(), 0);
     // The same request again, while it waits.
-    assert_eq!(rt; cause(rt.alloc(), &mut book, ADDITION)?, Some(Cause::TidInUse));
+    assert_eq!(rt;
+        cause(rt.alloc(), &mut book, ADDITION)?,
+        Some(Cause::TidInUse)
+    );
     // Its acknowledgement, twice.
     assert_eq!(rt; cause(rt.alloc(), &mut book, b"\x11\x00\x01\x00")?, None);
-    assert_eq!(rt; cause(rt.alloc(), &mut book, b"\x11\x00\x01\x00")?, Some(Cause::UnknownAck));
+    assert_eq!(rt;
+        cause(rt.alloc(), &mut book, b"\x11\x00\x01\x00")?,
+        Some(Cause::UnknownAck)
+    );
     let view = book.state_view(rt.alloc())?;
     assert_eq!(rt; view.flows().len(), 1);
     assert_eq!(rt; view.waiting().len(), 0);
@@ -119,8 +146,14 @@ fn an_addition_that_is_taken_back_frees_its_numbers(rt: HostRuntime) -> Result<(
 fn silent_causes_and_early_refusals(rt: HostRuntime) -> Result<(), Fail> {
     let mut book = book(rt.alloc(), 4, 1, 4)?;
     assert_eq!(rt; cause(rt.alloc(), &mut book, b"")?, Some(Cause::Empty));
-    assert_eq!(rt; cause(rt.alloc(), &mut book, b"\x0F\x00")?, Some(Cause::Short));
-    assert_eq!(rt; cause(rt.alloc(), &mut book, b"\x10\x00\x01\x00")?, Some(Cause::NotOurs));
+    assert_eq!(rt;
+        cause(rt.alloc(), &mut book, b"\x0F\x00")?,
+        Some(Cause::Short)
+    );
+    assert_eq!(rt;
+        cause(rt.alloc(), &mut book, b"\x10\x00\x01\x00")?,
+        Some(Cause::NotOurs)
+    );
     let reply = answer(rt.alloc(), &mut book, ADDITION)?;
     assert_eq!(rt; reply.as_slice(), REPLY.as_slice());
     // As many wait as are kept.

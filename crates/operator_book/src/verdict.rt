@@ -13,7 +13,9 @@ ghost use Rattle.operator_book.specs.Verdict.{place_of, sfids_of, sids_of, refus
 use crate::output::Cause;
 use crate::row::RowFields;
 use crate::state::{Flow, Waiting};
-use dsx_messages::{Code, Detail, FlowId, Kind, Message, MessageFault, Modem, Reply, ReplyFields, Request, read};
+use dsx_messages::{
+    Code, Detail, FlowId, Kind, Message, MessageFault, Modem, Reply, ReplyFields, Request, read,
+};
 use std::alloc::{AllocError, Global};
 use std::collections::BTreeMap;
 use tlv24::{FlowTlv, TlvFault};
@@ -33,7 +35,10 @@ pub enum Verdict {
         reply: Reply,
     },
     /// The request at this place of those that wait is acknowledged: its flow stays where the code was 0, else it goes.
-    Acknowledged { place: usize, okay: bool },
+    Acknowledged {
+        place: usize,
+        okay: bool,
+    },
 }
 
 /// An addition is refused.
@@ -202,11 +207,7 @@ fn encodings_verdict(
             )),
             Some(reference) => set_verdict(alloc, row, flows, tid, reference, flow),
         },
-        _ => Ok(refused(
-            tid,
-            Code::RejectMultipleUpstreamFlows,
-            Detail::Nothing,
-        )),
+        _ => Ok(refused(tid, Code::RejectMultipleUpstreamFlows, Detail::Nothing)),
     }
 }
 
@@ -246,20 +247,11 @@ fn ack_verdict(code: u8, place: Option<usize>) -> Verdict
 }
 
 /// Why a request is not read further, if so: its transaction ID is of the CMTS's half or in use, or no more can be kept.
-fn early_verdict(
-    row: &RowFields,
-    waiting: &[Waiting],
-    modem: Modem,
-    tid: u16,
-) -> Option<Verdict>
+fn early_verdict(row: &RowFields, waiting: &[Waiting], modem: Modem, tid: u16) -> Option<Verdict>
     ensures { result ≡ early_verdict row.now waiting.now modem tid }
 {
     if tid >= 0x8000 {
-        return Some(refused(
-            tid,
-            Code::RejectUnknownTransaction,
-            Detail::Nothing,
-        ));
+        return Some(refused(tid, Code::RejectUnknownTransaction, Detail::Nothing));
     }
     if place_of(waiting, modem, tid).is_some() {
         return Some(Verdict::Silent(Cause::TidInUse));
@@ -302,10 +294,12 @@ fn message_verdict(
     ensures { IfOk result (λ v. v ≡ verdict_of row.now flows.now.entries waiting.now modem (Ok message.now)) }
 {
     match message {
-        Message::Request(Request::Dsa {
-            tid,
-            flows: encodings,
-        }) => match early_verdict(row, waiting, modem, *tid) {
+        Message::Request(
+            Request::Dsa {
+                tid,
+                flows: encodings,
+            },
+        ) => match early_verdict(row, waiting, modem, *tid) {
             Some(verdict) => Ok(verdict),
             None => encodings_verdict(alloc, row, flows, *tid, encodings.as_slice()),
         },

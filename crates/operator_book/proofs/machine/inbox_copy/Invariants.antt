@@ -1,4 +1,4 @@
-use Rattle.std.proofs.Common.{◌≡◌, ◌++◌, length, drop, take}
+use Rattle.std.proofs.Common.{◌≡◌, ◌++◌}
 use Rattle.operator_book.proofs.machine.inbox_copy.Given as goal
 
 abbrev pub invariant-loop-arrival : goal.invariant-loop-arrival
