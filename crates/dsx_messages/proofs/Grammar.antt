@@ -1,15 +1,15 @@
 -- What reading answers is what the grammar says.
-use Rattle.std.proofs.Common.{◌≡◌, ◌≢◌, ℕ, zero, suc, ◌+◌, ◌-◌, ◌<◌, ◌≤◌, ◌⊎◌, inl, inr, Bool, true, false, cond, eqb, List, [], ◌∷◌, ◌++◌, length, take, drop, Option, Some, None, Result, Ok, Err, refl, sym, ap, subst, ◌∙◌, append-nil, append_assoc, length-append, arith}
+use Rattle.std.proofs.Common.{◌≡◌, ◌≢◌, ℕ, zero, suc, ◌+◌, ◌-◌, ◌<◌, inl, inr, Bool, true, false, cond, eqb, List, [], ◌∷◌, ◌++◌, length, take, drop, Option, Some, None, Result, Ok, Err, refl, sym, ap, subst, ◌∙◌, append-nil, append_assoc, length-append, arith}
 use Rattle.std.specs.Prelude.{IfOk, IfErr}
 use Rattle.std.specs.Option.{option_map}
 use Rattle.std.specs.List.{find, AllByRecursion}
 use Rattle.std.proofs.lemmas.List.{take_at, drop_at}
-use Rattle.std.proofs.lemmas.Bool.{eqb-true, eqb-false, eq-eqb}
+use Rattle.std.proofs.lemmas.Bool.{eqb-true, eqb-false}
 use Rattle.tlv24.specs.declared.tlv.Tlv.{Tlv}
 use Rattle.tlv24.specs.declared.tlv.TlvFault.TheVariants.{Cut}
 use Rattle.tlv24.specs.declared.fields.FlowFields.{FlowFields}
 use Rattle.tlv24.specs.declared.fault.FlowFault.{FlowFault}
-use Rattle.tlv24.specs.Tlv.{spelled_one, spelled, IsTlvList, IsCutAt, NoTlvBegins, Front, front_of}
+use Rattle.tlv24.specs.Tlv.{spelled_one, spelled, IsTlvList, NoTlvBegins, Front, front_of}
 use Rattle.tlv24.specs.Flow.{word, long, values_of, flow_of, IsFlowEncoding}
 use Rattle.tlv24.specs.Law.{AreBytes}
 use Rattle.tlv24.proofs.Lists.{IsFront-end, IsFront-stuck}
@@ -21,8 +21,8 @@ use Rattle.dsx_messages.specs.declared.message.Message.{Message}
 use Rattle.dsx_messages.specs.declared.message.Message.TheVariants as messages
 use Rattle.dsx_messages.specs.declared.fault.MessageFault.{MessageFault}
 use Rattle.dsx_messages.specs.declared.fault.MessageFault.TheVariants as faults
-use Rattle.dsx_messages.specs.Reading.{◌>>=◌, Fails, Gives, is_left_out, left_out_in, flow_told, flow_in, flows_after, flows_unless, flows_in_front, flows_in, addition_of, change_of, deletion_of, ack_of, message_of}
-use Rattle.dsx_messages.specs.Message.{IsHeaded, AreSaid, SaysFlows, SaysSfid, Says, HasType, IsShortBody, IsForeign, IsRequest, IsCutList, IsFaultyFlow, IsLeftOutIn, IsFirstMessageFault}
+use Rattle.dsx_messages.specs.Reading.{◌>>=◌, Gives, is_left_out, left_out_in, flow_told, flow_in, flows_after, flows_unless, flows_in_front, flows_in, addition_of, change_of, deletion_of, ack_of, message_of}
+use Rattle.dsx_messages.specs.Message.{IsHeaded, AreSaid, SaysFlows, SaysSfid, Says, IsShortBody, IsForeign, IsRequest, IsFirstMessageFault}
 use Rattle.dsx_messages.proofs.Passes.{values-flow, values-other}
 
 -- ---- parts of a list of bytes
@@ -59,14 +59,14 @@ said-append (v ∷ before) [] value flow said here = absurd said
 said-append (v ∷ before) (m ∷ flows) value flow said here = (said.0, said-append before flows value flow said.1 here)
 
 -- a fault of the message, and not want of memory
-pub record IsTold (bytes : List ℕ) (fault : MessageFault) : Type 0 where
+pub record IsRightFault (bytes : List ℕ) (fault : MessageFault) : Type 0 where
   pub first : IsFirstMessageFault bytes fault
   pub of_message : fault ≢ faults.NoMemory
 
 -- an answer about the list of a request
 abbrev pub IsRightAboutFlows : List ℕ → List ℕ → Result (List FlowFields) MessageFault → Type 0
 IsRightAboutFlows bytes list (Ok flows) = SaysFlows list flows
-IsRightAboutFlows bytes list (Err fault) = IsTold bytes fault
+IsRightAboutFlows bytes list (Err fault) = IsRightFault bytes fault
 
 module _ (bytes : List ℕ) (tid : ℕ) (kind : Kind) (list : List ℕ) (request : IsRequest bytes tid kind list) where
   after_right : (tlvs : List Tlv) → IsTlvList list tlvs → find is_left_out tlvs ≡ None
@@ -81,7 +81,7 @@ module _ (bytes : List ℕ) (tid : ℕ) (kind : Kind) (list : List ℕ) (request
   }
   after_right tlvs spelling none before (value ∷ values) flows are whole said =
       first tlvs spelling none before value values flows are.0 whole said (flow_of value) refl
-          (λ flow here. after_right tlvs spelling none (before ++ value ∷ []) values (flows ++ flow ∷ []) are.1 (whole ∙ sym (append_assoc before (value ∷ []) values)) (said-append before flows value flow said here))
+      (λ flow here. after_right tlvs spelling none (before ++ value ∷ []) values (flows ++ flow ∷ []) are.1 (whole ∙ sym (append_assoc before (value ∷ []) values)) (said-append before flows value flow said here))
     where
       first : (tlvs : List Tlv) → IsTlvList list tlvs → find is_left_out tlvs ≡ None
           → (before : List (List ℕ)) (value : List ℕ) (values : List (List ℕ)) (flows : List FlowFields) → AreBytes value → values_of 24 tlvs ≡ before ++ value ∷ values → AreSaid before flows
@@ -89,21 +89,25 @@ module _ (bytes : List ℕ) (tid : ℕ) (kind : Kind) (list : List ℕ) (request
           → IsRightAboutFlows bytes list (flow_told tid kind r >>= λ flow. flows_after tid kind (flows ++ flow ∷ []) values)
       first tlvs spelling none before value values flows are whole said (Ok flow) e again = again flow (answers_flow value flow are e)
       first tlvs spelling none before value values flows are whole said (Err told) e again = record {
-        first = (list, request, inr (record {
-          tlvs = tlvs;
-          spelling = spelling;
-          none_left_out = none;
-          before = before;
-          value = value;
-          after = values;
-          values = whole;
-          flows = flows;
-          said = said;
-          told = told;
-          first = answers_fault value told are e;
-          fault_is = refl;
-          id_is = refl;
-        }));
+        first = (
+          list,
+          request,
+          inr (record {
+            tlvs = tlvs;
+            spelling = spelling;
+            none_left_out = none;
+            before = before;
+            value = value;
+            after = values;
+            values = whole;
+            flows = flows;
+            said = said;
+            told = told;
+            first = answers_fault value told are e;
+            fault_is = refl;
+            id_is = refl;
+          }),
+        );
         of_message = λ same. absurd cc;
       }
 
@@ -128,20 +132,24 @@ module _ (bytes : List ℕ) (tid : ℕ) (kind : Kind) (list : List ℕ) (request
       let len : length list ≡ length (spelled front.tlvs) + length front.rest = ap length whole.front.spelling ∙ length-append (spelled front.tlvs) front.rest in
       let place : length (spelled front.tlvs) ≡ length list - length front.rest = omega arith in
       record {
-        first = (list, request, inl (record {
-          place = length list - length front.rest;
-          fault_is = refl;
-          cut = record {
-            inside = omega arith;
-            before = front.tlvs;
-            front = record {
-              short = whole.front.short;
-              spelling = ap (take (length list - length front.rest)) whole.front.spelling ∙ take_at (spelled front.tlvs) front.rest (length list - length front.rest) place;
+        first = (
+          list,
+          request,
+          inl (record {
+            place = length list - length front.rest;
+            fault_is = refl;
+            cut = record {
+              inside = omega arith;
+              before = front.tlvs;
+              front = record {
+                short = whole.front.short;
+                spelling = ap (take (length list - length front.rest)) whole.front.spelling ∙ take_at (spelled front.tlvs) front.rest (length list - length front.rest) place;
+              };
+              stuck = subst NoTlvBegins (sym (ap (drop (length list - length front.rest)) whole.front.spelling ∙ drop_at (spelled front.tlvs) front.rest (length list - length front.rest) place)) whole.stuck;
             };
-            stuck = subst NoTlvBegins (sym (ap (drop (length list - length front.rest)) whole.front.spelling ∙ drop_at (spelled front.tlvs) front.rest (length list - length front.rest) place)) whole.stuck;
-          };
-          id_is = refl;
-        }));
+            id_is = refl;
+          }),
+        );
         of_message = λ same. absurd cc;
       }
 
@@ -188,27 +196,27 @@ flows_said tid kind list flows are says =
 -- an answer about a message
 abbrev pub IsRightMessage : List ℕ → Result Message MessageFault → Type 0
 IsRightMessage bytes (Ok m) = Says bytes m
-IsRightMessage bytes (Err fault) = IsTold bytes fault
+IsRightMessage bytes (Err fault) = IsRightFault bytes fault
 
 head_is : (mtype high low : ℕ) (body : List ℕ) → IsHeaded (mtype ∷ high ∷ low ∷ body) mtype (word (high ∷ low ∷ [])) body
 head_is mtype high low body = record { high = high; low = low; spelling = refl; tid_is = refl }
 
-short_right : (mtype : ℕ) (body : List ℕ) → IsShortBody mtype body → (IsForeign mtype → ⊥) → IsTold (mtype ∷ body) faults.Short
+short_right : (mtype : ℕ) (body : List ℕ) → IsShortBody mtype body → (IsForeign mtype → ⊥) → IsRightFault (mtype ∷ body) faults.Short
 short_right mtype body short ours = record { first = (mtype, body, refl, short, ours); of_message = λ same. absurd cc }
 
-addition_short : (body : List ℕ) → length body < 2 → IsTold (15 ∷ body) faults.Short
+addition_short : (body : List ℕ) → length body < 2 → IsRightFault (15 ∷ body) faults.Short
 addition_short body few = short_right 15 body (record { addition = λ e. few; addition_ack = λ e. absurd (omega arith); change = λ e. absurd (omega arith); change_ack = λ e. absurd (omega arith); deletion = λ e. absurd (omega arith) }) (λ f. f.addition refl)
 
-change_short : (body : List ℕ) → length body < 2 → IsTold (18 ∷ body) faults.Short
+change_short : (body : List ℕ) → length body < 2 → IsRightFault (18 ∷ body) faults.Short
 change_short body few = short_right 18 body (record { addition = λ e. absurd (omega arith); addition_ack = λ e. absurd (omega arith); change = λ e. few; change_ack = λ e. absurd (omega arith); deletion = λ e. absurd (omega arith) }) (λ f. f.change refl)
 
-addition_ack_short : (body : List ℕ) → length body < 3 → IsTold (17 ∷ body) faults.Short
+addition_ack_short : (body : List ℕ) → length body < 3 → IsRightFault (17 ∷ body) faults.Short
 addition_ack_short body few = short_right 17 body (record { addition = λ e. absurd (omega arith); addition_ack = λ e. few; change = λ e. absurd (omega arith); change_ack = λ e. absurd (omega arith); deletion = λ e. absurd (omega arith) }) (λ f. f.addition_ack refl)
 
-change_ack_short : (body : List ℕ) → length body < 3 → IsTold (20 ∷ body) faults.Short
+change_ack_short : (body : List ℕ) → length body < 3 → IsRightFault (20 ∷ body) faults.Short
 change_ack_short body few = short_right 20 body (record { addition = λ e. absurd (omega arith); addition_ack = λ e. absurd (omega arith); change = λ e. absurd (omega arith); change_ack = λ e. few; deletion = λ e. absurd (omega arith) }) (λ f. f.change_ack refl)
 
-deletion_short : (body : List ℕ) → length body < 8 → IsTold (21 ∷ body) faults.Short
+deletion_short : (body : List ℕ) → length body < 8 → IsRightFault (21 ∷ body) faults.Short
 deletion_short body few = short_right 21 body (record { addition = λ e. absurd (omega arith); addition_ack = λ e. absurd (omega arith); change = λ e. absurd (omega arith); change_ack = λ e. absurd (omega arith); deletion = λ e. few }) (λ f. f.deletion refl)
 
 addition_right : (body : List ℕ) → AreBytes (15 ∷ body) → IsRightMessage (15 ∷ body) (addition_of body)
@@ -256,9 +264,11 @@ deletion_right (high ∷ low ∷ x ∷ y ∷ []) = deletion_short (high ∷ low 
 deletion_right (high ∷ low ∷ x ∷ y ∷ a ∷ []) = deletion_short (high ∷ low ∷ x ∷ y ∷ a ∷ []) (omega arith)
 deletion_right (high ∷ low ∷ x ∷ y ∷ a ∷ b ∷ []) = deletion_short (high ∷ low ∷ x ∷ y ∷ a ∷ b ∷ []) (omega arith)
 deletion_right (high ∷ low ∷ x ∷ y ∷ a ∷ b ∷ c ∷ []) = deletion_short (high ∷ low ∷ x ∷ y ∷ a ∷ b ∷ c ∷ []) (omega arith)
-deletion_right (high ∷ low ∷ x ∷ y ∷ a ∷ b ∷ c ∷ d ∷ more) =
-    (x ∷ y ∷ a ∷ b ∷ c ∷ d ∷ more, head_is 21 high low (x ∷ y ∷ a ∷ b ∷ c ∷ d ∷ more),
-        record { reserved = x ∷ y ∷ []; two = omega arith; field = a ∷ b ∷ c ∷ d ∷ []; four = omega arith; more = more; spelling = refl; sfid_is = refl })
+deletion_right (high ∷ low ∷ x ∷ y ∷ a ∷ b ∷ c ∷ d ∷ more) = (
+  x ∷ y ∷ a ∷ b ∷ c ∷ d ∷ more,
+  head_is 21 high low (x ∷ y ∷ a ∷ b ∷ c ∷ d ∷ more),
+  record { reserved = x ∷ y ∷ []; two = omega arith; field = a ∷ b ∷ c ∷ d ∷ []; four = omega arith; more = more; spelling = refl; sfid_is = refl },
+)
 
 typed_right : (mtype : ℕ) (body : List ℕ) (p q r s t : Bool) → eqb mtype 15 ≡ p → eqb mtype 17 ≡ q → eqb mtype 18 ≡ r → eqb mtype 20 ≡ s → eqb mtype 21 ≡ t → AreBytes (mtype ∷ body)
     → IsRightMessage (mtype ∷ body) (cond p (addition_of body) (cond q (ack_of Dsa body) (cond r (change_of body) (cond s (ack_of Dsc body) (cond t (deletion_of body) (Err (faults.NotOurs mtype)))))))
@@ -268,13 +278,17 @@ typed_right mtype body false false true s t is15 is17 is18 is20 is21 are = subst
 typed_right mtype body false false false true t is15 is17 is18 is20 is21 are = subst (λ (n : ℕ). IsRightMessage (n ∷ body) (ack_of Dsc body)) (sym (eqb-true mtype 20 is20)) (change_ack_right body)
 typed_right mtype body false false false false true is15 is17 is18 is20 is21 are = subst (λ (n : ℕ). IsRightMessage (n ∷ body) (deletion_of body)) (sym (eqb-true mtype 21 is21)) (deletion_right body)
 typed_right mtype body false false false false false is15 is17 is18 is20 is21 are = record {
-  first = (body, refl, record {
-    addition = eqb-false mtype 15 is15;
-    addition_ack = eqb-false mtype 17 is17;
-    change = eqb-false mtype 18 is18;
-    change_ack = eqb-false mtype 20 is20;
-    deletion = eqb-false mtype 21 is21;
-  });
+  first = (
+    body,
+    refl,
+    record {
+      addition = eqb-false mtype 15 is15;
+      addition_ack = eqb-false mtype 17 is17;
+      change = eqb-false mtype 18 is18;
+      change_ack = eqb-false mtype 20 is20;
+      deletion = eqb-false mtype 21 is21;
+    },
+  );
   of_message = λ same. absurd cc;
 }
 
@@ -286,7 +300,7 @@ right_message (mtype ∷ body) are = typed_right mtype body (eqb mtype 15) (eqb 
 pub message_says : (bytes : List ℕ) (m : Message) → AreBytes bytes → message_of bytes ≡ Ok m → Says bytes m
 message_says bytes m are e = subst (IsRightMessage bytes) e (right_message bytes are)
 
-message_told : (bytes : List ℕ) (fault : MessageFault) → AreBytes bytes → message_of bytes ≡ Err fault → IsTold bytes fault
+message_told : (bytes : List ℕ) (fault : MessageFault) → AreBytes bytes → message_of bytes ≡ Err fault → IsRightFault bytes fault
 message_told bytes fault are e = subst (IsRightMessage bytes) e (right_message bytes are)
 
 pub message_fault : (bytes : List ℕ) (fault : MessageFault) → AreBytes bytes → message_of bytes ≡ Err fault → IsFirstMessageFault bytes fault
@@ -303,7 +317,7 @@ addition_said bytes tid flows list are headed says =
     let within : AreBytes (15 ∷ headed.high ∷ headed.low ∷ list) = subst AreBytes headed.spelling are in
     ap message_of headed.spelling
     ∙ ap (λ (r : Result (List FlowFields) MessageFault). r >>= λ m. Ok (messages.Request (requests.Dsa (word (headed.high ∷ headed.low ∷ [])) m)))
-        (flows_said (word (headed.high ∷ headed.low ∷ [])) Dsa list flows (bytes_back (15 ∷ headed.high ∷ headed.low ∷ []) list within) says)
+    (flows_said (word (headed.high ∷ headed.low ∷ [])) Dsa list flows (bytes_back (15 ∷ headed.high ∷ headed.low ∷ []) list within) says)
     ∙ ap (λ (n : ℕ). Ok (messages.Request (requests.Dsa n flows))) (sym headed.tid_is)
 
 change_said : (bytes : List ℕ) (tid : ℕ) (flows : List FlowFields) (list : List ℕ) → AreBytes bytes → IsHeaded bytes 18 tid list → SaysFlows list flows → message_of bytes ≡ Ok (messages.Request (requests.Dsc tid flows))
@@ -312,7 +326,7 @@ change_said bytes tid flows list are headed says =
     let within : AreBytes (18 ∷ headed.high ∷ headed.low ∷ list) = subst AreBytes headed.spelling are in
     ap message_of headed.spelling
     ∙ ap (λ (r : Result (List FlowFields) MessageFault). r >>= λ m. Ok (messages.Request (requests.Dsc (word (headed.high ∷ headed.low ∷ [])) m)))
-        (flows_said (word (headed.high ∷ headed.low ∷ [])) Dsc list flows (bytes_back (18 ∷ headed.high ∷ headed.low ∷ []) list within) says)
+    (flows_said (word (headed.high ∷ headed.low ∷ [])) Dsc list flows (bytes_back (18 ∷ headed.high ∷ headed.low ∷ []) list within) says)
     ∙ ap (λ (n : ℕ). Ok (messages.Request (requests.Dsc n flows))) (sym headed.tid_is)
 
 four_said : (high low x y : ℕ) (field more : List ℕ) → length field ≡ 4 → deletion_of (high ∷ low ∷ x ∷ y ∷ (field ++ more)) ≡ Ok (messages.Request (requests.Dsd (word (high ∷ low ∷ [])) (long field)))

@@ -1,17 +1,14 @@
 -- The two passes over the TLVs of a request.
-use Rattle.std.proofs.Common.{◌≡◌, ◌≢◌, ℕ, zero, suc, ◌+◌, ◌-◌, ◌<◌, ◌≤◌, ◌||◌, Bool, true, false, cond, eqb, List, [], ◌∷◌, ◌++◌, length, map, filter, Option, Some, None, Result, Ok, Err, refl, sym, ap, subst, ◌∙◌, append-nil, arith}
-use Rattle.std.specs.Prelude.{MatchResult}
-use Rattle.std.specs.Option.{option_map}
-use Rattle.std.specs.List.{find}
+use Rattle.std.proofs.Common.{◌≡◌, ◌≢◌, ℕ, ◌+◌, ◌-◌, ◌<◌, ◌≤◌, Bool, true, false, cond, eqb, List, [], ◌∷◌, ◌++◌, length, Option, Some, None, Result, Ok, Err, refl, sym, ap, ◌∙◌, arith}
 use Rattle.tlv24.specs.declared.tlv.Tlv.{Tlv}
 use Rattle.tlv24.specs.declared.fields.FlowFields.{FlowFields}
-use Rattle.tlv24.specs.Tlv.{tlv, First, Front, first_of, front_of}
+use Rattle.tlv24.specs.Tlv.{tlv, Front, first_of, front_of}
 use Rattle.tlv24.specs.Flow.{values_of}
 use Rattle.tlv24.proofs.Lists.{front_of-some, front_of-none, shrinks}
 use Rattle.dsx_messages.specs.declared.kind.Kind.{Kind}
 use Rattle.dsx_messages.specs.declared.fault.MessageFault.{MessageFault}
 use Rattle.dsx_messages.specs.declared.fault.MessageFault.TheVariants as faults
-use Rattle.dsx_messages.specs.Reading.{◌>>=◌, Fails, Gives, is_left_out, left_out_in, flow_in, flows_after}
+use Rattle.dsx_messages.specs.Reading.{◌>>=◌, Fails, is_left_out, left_out_in, flow_in, flows_after}
 use Rattle.dsx_messages.specs.Survey.{first_some, left_out_kind, flow_count, IsSurveyed, IsCutSurvey, IsSurveyedUpTo}
 
 -- ---- values under type 24

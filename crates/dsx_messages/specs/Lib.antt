@@ -4,6 +4,9 @@ pub mod Spelling
 pub mod Reading
 pub mod Survey
 pub mod Message
+pub mod Widths
+pub mod Told
+pub mod Modem
 pub use Rattle.tlv24.specs.Tlv
 pub use Rattle.tlv24.specs.Flow
 pub use Rattle.tlv24.specs.Law

@@ -1,6 +1,6 @@
 -- What a first pass over the TLVs of a request finds.
 use Rattle.std.specs.Prelude.{◌≡◌, ◌==◌, ◌||◌, if◌then◌else◌, ℕ, ◌+◌, ◌-◌, ◌<◌, ◌≤◌, List, length, Option, Some, None}
-use Rattle.tlv24.specs.Tlv.{Front, front_of}
+use Rattle.tlv24.specs.Tlv.{front_of}
 use Rattle.tlv24.specs.Flow.{values_of}
 use Rattle.dsx_messages.specs.Reading.{left_out_in}
 

@@ -1,7 +1,8 @@
 //! Confirmation codes.
 
-ghost use Rattle.std.specs.Prelude.{◌≡◌};
+ghost use Rattle.std.specs.Prelude.{◌≡◌, IfSome, Some};
 ghost use Rattle.dsx_messages.specs.Code.{number_of};
+ghost use Rattle.dsx_messages.specs.declared.code.Code.{Code};
 
 /// What a response says of a request: the confirmation codes that this profile gives, under their numbers.
 #[derive(Clone, Copy, Debug, PartialEq, Eq)]
@@ -53,6 +54,29 @@ impl Code {
             Code::RejectMultipleUpstreamFlows => 19,
             Code::RejectInvalidForContext => 23,
             Code::RejectAuthorizationFailure => 24,
+        }
+    }
+
+    /// The code of a number on the wire; none for a number that this profile gives to no code.
+    pub fn from_number(number: u8) -> Option<Code>
+        ensures found { IfSome result (λ code. number_of code ≡ number) }
+        ensures every { (code : Code) → number_of code ≡ number → result ≡ Some code }
+    {
+        match number {
+            0 => Some(Code::Okay),
+            1 => Some(Code::RejectOther),
+            2 => Some(Code::RejectUnrecognizedSetting),
+            3 => Some(Code::RejectTemporary),
+            4 => Some(Code::RejectPermanent),
+            5 => Some(Code::RejectNotOwner),
+            6 => Some(Code::RejectFlowNotFound),
+            8 => Some(Code::RejectRequiredParameterNotPresent),
+            10 => Some(Code::RejectUnknownTransaction),
+            18 => Some(Code::RejectDuplicateReference),
+            19 => Some(Code::RejectMultipleUpstreamFlows),
+            23 => Some(Code::RejectInvalidForContext),
+            24 => Some(Code::RejectAuthorizationFailure),
+            _ => None,
         }
     }
 }

@@ -15,5 +15,4 @@ pub fn message_is_read()
     ensures only { (bytes : List ℕ) (m : Message) → AreBytes bytes → Says bytes m → message_of bytes ≡ Ok m }
     ensures fault { (bytes : List ℕ) (fault : MessageFault) → AreBytes bytes → message_of bytes ≡ Err fault → IsFirstMessageFault bytes fault }
     ensures memory { (bytes : List ℕ) → AreBytes bytes → message_of bytes ≢ Err NoMemory }
-{
-}
+{}

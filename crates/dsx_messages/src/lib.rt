@@ -10,6 +10,7 @@ mod message;
 mod modem;
 mod reading;
 mod reply;
+mod reply_reading;
 mod spell;
 
 pub use code::Code;
@@ -20,4 +21,8 @@ pub use message::{Flows, Message, Request};
 pub use modem::Modem;
 pub use reading::read;
 pub use reply::{Detail, FlowId, Reply, ReplyFields};
+pub use reply_reading::{read_back, read_reply};
 pub use spell::write_reply;
+
+#[cfg(test)]
+mod tests;

@@ -1,5 +1,35 @@
 //! Who sends messages.
 
-/// The hardware address of a cable modem.
+ghost use Rattle.std.specs.Prelude.{Some};
+ghost use Rattle.dsx_messages.specs.Modem.{hex_pair, hex_digits};
+
+use std::fmt::{self, Display};
+
+/// The hardware address of a cable modem, shown as 12 upper-case hexadecimal digits with nothing between them.
 #[derive(Clone, Copy, Debug, PartialEq, Eq, Hash)]
 pub struct Modem(pub [u8; 6]);
+
+/// A byte, shown as two upper-case hexadecimal digits.
+#[derive(Clone, Copy)]
+struct HexByte(u8);
+
+impl Display for HexByte {
+    ghost output = { λ byte. Some (hex_pair byte.0) };
+
+    #[tactic(auto, using(std::proofs::lemmas::Fmt::hex_byte))]
+    fn fmt<W: fmt::Write>(&self, f: &mut fmt::Formatter<W>) -> fmt::Result {
+        let byte = self.0;
+        write!(f, "{byte:02X}")
+    }
+}
+
+impl Display for Modem {
+    ghost output = { λ modem. Some (hex_digits modem.0) };
+
+    fn fmt<W: fmt::Write>(&self, f: &mut fmt::Formatter<W>) -> fmt::Result {
+        let [a, b, c, d, e, g] = self.0;
+        let (a, b, c) = (HexByte(a), HexByte(b), HexByte(c));
+        let (d, e, g) = (HexByte(d), HexByte(e), HexByte(g));
+        write!(f, "{a}{b}{c}{d}{e}{g}")
+    }
+}

@@ -2,6 +2,7 @@
 
 ghost use Rattle.std.specs.Prelude.{◌≡◌};
 ghost use Rattle.dsx_messages.specs.WellFormed.{IsWellFormed};
+ghost use Rattle.dsx_messages.specs.Widths.{FitsId, FitsDetail, FitsReply};
 ghost use Rattle.dsx_messages.specs.declared.reply.ReplyFields.{ReplyFields};
 
 use crate::code::Code;
@@ -93,5 +94,41 @@ impl Reply {
         ensures fits { IsWellFormed self.now }
     {
         self.fields.detail
+    }
+
+    /// A law: the detail of a reply goes with its kind and its code, and its numbers have the widths of their fields.
+    pub fn fits(&self)
+        ensures well_formed { IsWellFormed self.now }
+        ensures widths { FitsReply self.now }
+    {
+        let _tid = self.fields.tid;
+        detail_fits(self.fields.detail);
+    }
+}
+
+fn id_fits(id: FlowId)
+    ensures { FitsId id }
+{
+    match id {
+        FlowId::Reference(_reference) => {}
+        FlowId::Sfid(_sfid) => {}
+    }
+}
+
+fn detail_fits(detail: Detail)
+    ensures { FitsDetail detail }
+{
+    match detail {
+        Detail::Nothing => {}
+        Detail::Given {
+            reference: _,
+            sfid: _,
+            sid: _,
+        } => {}
+        Detail::Errored { id, subtype: _ } => {
+            if let Some(id) = id {
+                id_fits(id);
+            }
+        }
     }
 }

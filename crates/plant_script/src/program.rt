@@ -1,6 +1,6 @@
 //! The program over any reader and any writer.
 
-ghost use Rattle.std.specs.Prelude.{◌≡◌, ◌≢◌, true, false, ◌∷◌, [], ◌++◌, map, codes, Ok, Err, IfOk, IfSome};
+ghost use Rattle.std.specs.Prelude.{◌≡◌, ◌≢◌, true, false, ◌∷◌, [], ◌++◌, map, codes, Ok, Err, IfOk, IfErr, IfSome};
 ghost use Rattle.std.specs.Io.KnownBytes.{Appends};
 ghost use Rattle.plant_script.specs.Words.{is_one};
 ghost use Rattle.plant_script.specs.One.{answer_of, is_readable};
@@ -45,7 +45,8 @@ fn finish<W: Write>(writer: &mut W, status: u8, text: &[u8]) -> u8
 #[tactic(auto, unfolding(crate::specs::One::answer_of))]
 fn answer_of(alloc: Global, input: &[u8]) -> Result<Answer, Stop>
     requires { is_readable input.now ≡ true }
-    ensures { IfOk result (λ answer. (answer.status ≡ (answer_of input.now).status) × (answer.text.items ≡ (answer_of input.now).text)) }
+    ensures value { IfOk result (λ answer. (answer.status ≡ (answer_of input.now).status) × (answer.text.items ≡ (answer_of input.now).text)) }
+    ensures memory { IfErr result (λ stop. stop ≡ Stop.Memory) }
 {
     let lines = lines_of(alloc, input)?;
     match messages_of(alloc, lines.as_slice()) {

@@ -1,6 +1,6 @@
-use Rattle.std.proofs.Common.{◌≡◌, ◌≢◌, ℕ, length, arith, sym, ap, ◌∙◌, subst}
+use Rattle.std.proofs.Common.{◌≡◌, ◌≢◌, length, arith, sym}
 use Rattle.std.proofs.lemmas.Bool.Decides.{nat_tests}
-use Rattle.dsx_messages.proofs.Passes.{survey_start, survey_more, survey_whole, survey_cut}
+use Rattle.dsx_messages.proofs.Passes.{survey_more, survey_whole, survey_cut}
 use Rattle.dsx_messages.proofs.reading.survey_of.Goals as goal
 
 pub loop-first-preserved : goal.loop-first-preserved

@@ -1,0 +1,262 @@
+//! Reading replies.
+
+ghost use Rattle.std.specs.Prelude.{◌≡◌, ◌≢◌, ℕ, ◌<◌, ◌^◌, [], ◌∷◌, Option, Some, None, IfSome, IfOk};
+ghost use Rattle.tlv24.specs.Tlv.{spelled};
+ghost use Rattle.dsx_messages.specs.Spelling.{response_type, tlvs_in, tail_of, spell_reply};
+ghost use Rattle.dsx_messages.specs.WellFormed.{IsWellFormed};
+ghost use Rattle.dsx_messages.specs.Told.{IsTold};
+ghost use Rattle.dsx_messages.specs.Widths.{FitsDetail, FitsReply};
+ghost use Rattle.dsx_messages.specs.declared.kind.Kind.{Kind};
+ghost use Rattle.dsx_messages.specs.declared.kind.Kind.TheVariants.{Dsa, Dsc, Dsd};
+ghost use Rattle.dsx_messages.specs.declared.code.Code.{Code};
+ghost use Rattle.dsx_messages.specs.declared.code.Code.TheVariants.{Okay};
+ghost use Rattle.dsx_messages.specs.declared.reply.FlowId.TheVariants.{Reference, Sfid};
+ghost use Rattle.dsx_messages.specs.declared.reply.Detail.{Detail};
+ghost use Rattle.dsx_messages.specs.declared.reply.Detail.TheVariants.{Nothing, Given, Errored};
+ghost use Rattle.dsx_messages.specs.declared.reply.ReplyFields.{ReplyFields};
+
+use crate::code::Code;
+use crate::kind::Kind;
+use crate::reply::{Detail, FlowId, Reply, ReplyFields};
+use crate::spell::write_reply;
+use std::alloc::{AllocError, Global};
+
+/// What a response answers to, by its message type.
+fn kind_of(mtype: u8) -> Option<Kind>
+    ensures found { IfSome result (λ kind. response_type kind ≡ mtype) }
+    ensures every { (kind : Kind) → response_type kind ≡ mtype → result ≡ Some kind }
+{
+    match mtype {
+        16 => Some(Kind::Dsa),
+        19 => Some(Kind::Dsc),
+        22 => Some(Kind::Dsd),
+        _ => None,
+    }
+}
+
+/// An accepted addition: the reference, the SFID and the SID of its flow, in this order.
+fn added(tail: &[u8]) -> Option<(u16, u32, u16)>
+    ensures spelled { IfSome result (λ n. tail.now ≡ tail_of Dsa Okay (Given (Some n.0) n.1 (Some n.2))) }
+    ensures every { (reference sfid sid : ℕ) → reference < 2 ^ 16 → sfid < 2 ^ 32 → sid < 2 ^ 16 → tail.now ≡ tail_of Dsa Okay (Given (Some reference) sfid (Some sid)) → result ≡ Some (reference, sfid, sid) }
+{
+    match tail {
+        [24, 14, 1, 2, rh, rl, 2, 4, a, b, c, d, 3, 2, sh, sl] => Some((
+            u16::from_be_bytes([*rh, *rl]),
+            u32::from_be_bytes([*a, *b, *c, *d]),
+            u16::from_be_bytes([*sh, *sl]),
+        )),
+        _ => None,
+    }
+}
+
+/// An accepted change of a flow that has no SID: its SFID.
+fn changed(tail: &[u8]) -> Option<u32>
+    ensures spelled { IfSome result (λ sfid. tail.now ≡ tail_of Dsc Okay (Given None sfid None)) }
+    ensures every { (sfid : ℕ) → sfid < 2 ^ 32 → tail.now ≡ tail_of Dsc Okay (Given None sfid None) → result ≡ Some sfid }
+{
+    match tail {
+        [24, 6, 2, 4, a, b, c, d] => Some(u32::from_be_bytes([*a, *b, *c, *d])),
+        _ => None,
+    }
+}
+
+/// An accepted change of a flow that has a SID: its SFID and its SID, in this order.
+fn changed_with_sid(tail: &[u8]) -> Option<(u32, u16)>
+    ensures spelled { IfSome result (λ n. tail.now ≡ tail_of Dsc Okay (Given None n.0 (Some n.1))) }
+    ensures every { (sfid sid : ℕ) → sfid < 2 ^ 32 → sid < 2 ^ 16 → tail.now ≡ tail_of Dsc Okay (Given None sfid (Some sid)) → result ≡ Some (sfid, sid) }
+{
+    match tail {
+        [24, 10, 2, 4, a, b, c, d, 3, 2, sh, sl] => Some((
+            u32::from_be_bytes([*a, *b, *c, *d]),
+            u16::from_be_bytes([*sh, *sl]),
+        )),
+        _ => None,
+    }
+}
+
+/// A refusal that names no flow: the subtype at fault.
+fn errored(code: Code, tail: &[u8]) -> Option<u8>
+    ensures spelled { IfSome result (λ subtype. tail.now ≡ spelled (tlvs_in code (Errored None subtype))) }
+    ensures every { (subtype : ℕ) → tail.now ≡ spelled (tlvs_in code (Errored None subtype)) → result ≡ Some subtype }
+{
+    let [24, 8, 5, 6, 1, 1, subtype, 2, 1, number] = tail else {
+        return None;
+    };
+    if *number == code.number() {
+        Some(*subtype)
+    } else {
+        None
+    }
+}
+
+/// A refusal that names a flow by its reference: the reference and the subtype at fault.
+fn errored_reference(code: Code, tail: &[u8]) -> Option<(u16, u8)>
+    ensures spelled { IfSome result (λ n. tail.now ≡ spelled (tlvs_in code (Errored (Some (Reference n.0)) n.1))) }
+    ensures every { (reference subtype : ℕ) → reference < 2 ^ 16 → tail.now ≡ spelled (tlvs_in code (Errored (Some (Reference reference)) subtype)) → result ≡ Some (reference, subtype) }
+{
+    let [24, 12, 1, 2, high, low, 5, 6, 1, 1, subtype, 2, 1, number] = tail else {
+        return None;
+    };
+    if *number == code.number() {
+        Some((u16::from_be_bytes([*high, *low]), *subtype))
+    } else {
+        None
+    }
+}
+
+/// A refusal that names a flow by its SFID: the SFID and the subtype at fault.
+fn errored_sfid(code: Code, tail: &[u8]) -> Option<(u32, u8)>
+    ensures spelled { IfSome result (λ n. tail.now ≡ spelled (tlvs_in code (Errored (Some (Sfid n.0)) n.1))) }
+    ensures every { (sfid subtype : ℕ) → sfid < 2 ^ 32 → tail.now ≡ spelled (tlvs_in code (Errored (Some (Sfid sfid)) subtype)) → result ≡ Some (sfid, subtype) }
+{
+    let [24, 14, 2, 4, a, b, c, d, 5, 6, 1, 1, subtype, 2, 1, number] = tail else {
+        return None;
+    };
+    if *number == code.number() {
+        Some((u32::from_be_bytes([*a, *b, *c, *d]), *subtype))
+    } else {
+        None
+    }
+}
+
+/// What an accepted addition says.
+fn accepted_addition(tail: &[u8]) -> Option<Detail>
+    ensures spelled { IfSome result (IsTold Dsa Okay tail.now) }
+    ensures every { (reference sfid sid : ℕ) → reference < 2 ^ 16 → sfid < 2 ^ 32 → sid < 16384 → tail.now ≡ tail_of Dsa Okay (Given (Some reference) sfid (Some sid)) → result ≡ Some (Given (Some reference) sfid (Some sid)) }
+{
+    let (reference, sfid, sid) = added(tail)?;
+    if sid < 16384 {
+        Some(Detail::Given {
+            reference: Some(reference),
+            sfid,
+            sid: Some(sid),
+        })
+    } else {
+        None
+    }
+}
+
+/// What an accepted change says.
+fn accepted_change(tail: &[u8]) -> Option<Detail>
+    ensures spelled { IfSome result (IsTold Dsc Okay tail.now) }
+    ensures every { (sfid : ℕ) → sfid < 2 ^ 32 → tail.now ≡ tail_of Dsc Okay (Given None sfid None) → result ≡ Some (Given None sfid None) }
+    ensures every_with_sid { (sfid sid : ℕ) → sfid < 2 ^ 32 → sid < 16384 → tail.now ≡ tail_of Dsc Okay (Given None sfid (Some sid)) → result ≡ Some (Given None sfid (Some sid)) }
+{
+    if let Some(sfid) = changed(tail) {
+        return Some(Detail::Given {
+            reference: None,
+            sfid,
+            sid: None,
+        });
+    }
+    let (sfid, sid) = changed_with_sid(tail)?;
+    if sid < 16384 {
+        Some(Detail::Given {
+            reference: None,
+            sfid,
+            sid: Some(sid),
+        })
+    } else {
+        None
+    }
+}
+
+/// What a refused addition says.
+fn refused_addition(code: Code, tail: &[u8]) -> Option<Detail>
+    ensures spelled { code ≢ Okay → IfSome result (IsTold Dsa code tail.now) }
+    ensures every { tail.now ≡ tail_of Dsa code Nothing → result ≡ Some Nothing }
+    ensures every_errored { (subtype : ℕ) → tail.now ≡ tail_of Dsa code (Errored None subtype) → result ≡ Some (Errored None subtype) }
+    ensures every_reference { (reference subtype : ℕ) → reference < 2 ^ 16 → tail.now ≡ tail_of Dsa code (Errored (Some (Reference reference)) subtype) → result ≡ Some (Errored (Some (Reference reference)) subtype) }
+{
+    if tail.is_empty() {
+        return Some(Detail::Nothing);
+    }
+    if let Some(subtype) = errored(code, tail) {
+        return Some(Detail::Errored { id: None, subtype });
+    }
+    let (reference, subtype) = errored_reference(code, tail)?;
+    Some(Detail::Errored {
+        id: Some(FlowId::Reference(reference)),
+        subtype,
+    })
+}
+
+/// What a refused change says.
+fn refused_change(code: Code, tail: &[u8]) -> Option<Detail>
+    ensures spelled { code ≢ Okay → IfSome result (IsTold Dsc code tail.now) }
+    ensures every { tail.now ≡ tail_of Dsc code Nothing → result ≡ Some Nothing }
+    ensures every_errored { (subtype : ℕ) → tail.now ≡ tail_of Dsc code (Errored None subtype) → result ≡ Some (Errored None subtype) }
+    ensures every_sfid { (sfid subtype : ℕ) → sfid < 2 ^ 32 → tail.now ≡ tail_of Dsc code (Errored (Some (Sfid sfid)) subtype) → result ≡ Some (Errored (Some (Sfid sfid)) subtype) }
+{
+    if tail.is_empty() {
+        return Some(Detail::Nothing);
+    }
+    if let Some(subtype) = errored(code, tail) {
+        return Some(Detail::Errored { id: None, subtype });
+    }
+    let (sfid, subtype) = errored_sfid(code, tail)?;
+    Some(Detail::Errored {
+        id: Some(FlowId::Sfid(sfid)),
+        subtype,
+    })
+}
+
+/// What a deletion says: nothing, in a reserved byte, which is 0.
+fn deleted(tail: &[u8]) -> Option<Detail>
+    ensures spelled { (code : Code) → IfSome result (IsTold Dsd code tail.now) }
+    ensures every { tail.now ≡ 0 ∷ [] → result ≡ Some Nothing }
+{
+    match tail {
+        [0] => Some(Detail::Nothing),
+        _ => None,
+    }
+}
+
+/// What follows the confirmation code.
+fn detail_of(kind: Kind, code: Code, tail: &[u8]) -> Option<Detail>
+    ensures spelled { IfSome result (IsTold kind code tail.now) }
+    ensures every { (detail : Detail) → IsTold kind code tail.now detail → FitsDetail detail → result ≡ Some detail }
+{
+    match kind {
+        Kind::Dsa => match code {
+            Code::Okay => accepted_addition(tail),
+            _ => refused_addition(code, tail),
+        },
+        Kind::Dsc => match code {
+            Code::Okay => accepted_change(tail),
+            _ => refused_change(code, tail),
+        },
+        Kind::Dsd => deleted(tail),
+    }
+}
+
+/// Reads a reply: some exactly for the bytes that `write_reply` gives for it. Takes no memory.
+pub fn read_reply(bytes: &[u8]) -> Option<Reply>
+    ensures spelled { IfSome result (λ reply. bytes.now ≡ spell_reply reply) }
+    ensures every { (reply : ReplyFields) → IsWellFormed reply → FitsReply reply → bytes.now ≡ spell_reply reply → result ≡ Some reply }
+{
+    let [mtype, high, low, number, tail @ ..] = bytes else {
+        return None;
+    };
+    let kind = kind_of(*mtype)?;
+    let code = Code::from_number(*number)?;
+    let detail = detail_of(kind, code, tail)?;
+    Some(Reply::new(ReplyFields {
+        kind,
+        tid: u16::from_be_bytes([*high, *low]),
+        code,
+        detail,
+    }))
+}
+
+/// A law: what is written of a reply is read as that reply.
+pub fn read_back(alloc: Global, reply: &Reply) -> Result<Reply, AllocError>
+    ensures { IfOk result (λ again. again ≡ reply.now) }
+{
+    let bytes = write_reply(alloc, reply)?;
+    reply.fits();
+    match read_reply(&bytes) {
+        Some(again) => Ok(again),
+        None => unreachable!(),
+    }
+}

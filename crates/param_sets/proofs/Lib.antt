@@ -1,0 +1,5 @@
+pub mod First
+pub mod KeptLemmas
+pub mod AskedLemmas
+pub mod RefusalLemmas
+pub mod WithinLemmas

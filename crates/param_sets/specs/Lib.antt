@@ -1,0 +1,11 @@
+pub mod Units
+pub mod Scheduling
+pub mod FirstTrue
+pub mod ParamSet
+pub mod Kept
+pub mod AsksFor
+pub mod Reading
+pub mod Overridden
+pub mod Within
+pub mod Need
+pub mod Sets

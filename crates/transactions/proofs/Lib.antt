@@ -1,0 +1,4 @@
+pub mod ListLemmas
+pub mod TickLemmas
+pub mod AckLemmas
+pub mod LifeLemmas

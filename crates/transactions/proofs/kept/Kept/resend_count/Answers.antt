@@ -1,0 +1,14 @@
+use Rattle.std.proofs.Common.{count_by, filter, ap, ◌∙◌, sym}
+use Rattle.std.proofs.lemmas.List.{length-map}
+use Rattle.std.proofs.lemmas.List.Sums.{length-filter}
+use Rattle.transactions.specs.Timers.{is_resent, resend_of}
+use Rattle.transactions.specs.Keeping.{Keeping}
+use Rattle.transactions.proofs.kept.Kept.resend_count.Goals as goal
+
+pub returns : goal.returns
+returns c =
+    let entries = ap (λ (k : Keeping). k.entries) c.self.view_is in
+    let now = c.args.self.now.entries in
+    c.resent_count.ensures
+    ∙ (ap (count_by is_resent) (c.deref.ensures.value ∙ entries)
+    ∙ sym (length-map (filter is_resent now) resend_of ∙ length-filter is_resent now))

@@ -1,0 +1,141 @@
+//! What is kept of one transaction.
+
+ghost use Rattle.std.specs.Prelude.{◌≡◌, not};
+ghost use Rattle.transactions.specs.Entry.{is_of, waits_for};
+ghost use Rattle.transactions.specs.Timers.{is_due, is_resent, is_given_up, is_forgotten, ticked};
+ghost use Rattle.transactions.specs.Keeping.{begun, held_entry};
+
+use crate::timers::Timers;
+use dsx_messages::{Kind, Modem};
+use tlv24::Bytes;
+
+/// Whether a response waits for its acknowledgement.
+#[derive(Clone, Copy, Debug, PartialEq, Eq)]
+pub enum Standing {
+    /// It waits, and is sent again in the meantime.
+    Waiting,
+    /// It waits for nothing, and is held for a request that is repeated.
+    Held,
+}
+
+/// What is kept of one transaction: its response, and the state of its timer.
+#[derive(Debug, Drop)]
+pub struct KeptEntry {
+    /// The modem that asked.
+    pub modem: Modem,
+    /// The transaction ID of its request.
+    pub tid: u16,
+    /// What the transaction does.
+    pub kind: Kind,
+    /// The bytes of the response.
+    pub reply: Bytes,
+    /// The SFID of the flow that the transaction is about.
+    pub sfid: u32,
+    /// Whether the response waits for its acknowledgement.
+    pub standing: Standing,
+    /// How many ticks are left until the timer acts.
+    pub ticks_left: u16,
+    /// How often the response may still be sent again.
+    pub resends_left: u8,
+}
+
+impl KeptEntry {
+    /// An entry that begins: it waits for an acknowledgement, or is only held.
+    pub(crate) fn begin(
+        timers: Timers,
+        modem: Modem,
+        tid: u16,
+        kind: Kind,
+        reply: Bytes,
+        sfid: u32,
+        waits: bool,
+    ) -> KeptEntry
+        ensures { result ≡ begun timers modem tid kind reply sfid waits }
+    {
+        let (standing, ticks_left, resends_left) = if waits {
+            (
+                Standing::Waiting,
+                timers.get_ack_wait(),
+                timers.get_resends(),
+            )
+        } else {
+            (Standing::Held, timers.get_hold(), 0)
+        };
+        KeptEntry {
+            modem,
+            tid,
+            kind,
+            reply,
+            sfid,
+            standing,
+            ticks_left,
+            resends_left,
+        }
+    }
+
+    /// Whether it is the entry of this modem and transaction ID.
+    pub(crate) fn is_of(&self, modem: Modem, tid: u16) -> bool
+        ensures { result ≡ is_of modem tid self.now }
+    {
+        self.modem == modem && self.tid == tid
+    }
+
+    /// Whether it waits for an acknowledgement of this kind, from this modem and under this transaction ID.
+    pub(crate) fn waits_for(&self, modem: Modem, tid: u16, kind: Kind) -> bool
+        ensures { result ≡ waits_for modem tid kind self.now }
+    {
+        self.is_of(modem, tid) && self.standing == Standing::Waiting && self.kind == kind
+    }
+
+    /// Whether the next tick ends its time.
+    pub(crate) fn is_due(&self) -> bool
+        ensures { result ≡ is_due self.now }
+    {
+        self.ticks_left == 1
+    }
+
+    /// Whether the next tick sends its response again.
+    pub(crate) fn is_resent(&self) -> bool
+        ensures { result ≡ is_resent self.now }
+    {
+        self.is_due() && self.standing == Standing::Waiting && self.resends_left > 0
+    }
+
+    /// Whether the next tick gives it up.
+    pub(crate) fn is_given_up(&self) -> bool
+        ensures { result ≡ is_given_up self.now }
+    {
+        self.is_due() && self.standing == Standing::Waiting && self.resends_left == 0
+    }
+
+    /// Whether the next tick forgets it: it is given up, or its last tick as a held entry ends.
+    pub(crate) fn is_forgotten(&self) -> bool
+        ensures { result ≡ is_forgotten self.now }
+    {
+        self.is_given_up() || self.is_due() && self.standing == Standing::Held
+    }
+
+    /// Counts one tick down, and where the response is sent again, begins the next wait. Answers whether the entry stays.
+    pub(crate) fn tick(&mut self, timers: Timers) -> bool
+        ensures stays { result ≡ not (is_forgotten self.old) }
+        ensures after { self.new ≡ ticked timers self.old }
+    {
+        let stays = !self.is_forgotten();
+        if self.is_resent() {
+            self.ticks_left = timers.get_ack_wait();
+            self.resends_left -= 1;
+        } else {
+            self.ticks_left = self.ticks_left.saturating_sub(1);
+        }
+        stays
+    }
+
+    /// Ends the wait: from now on it is only held.
+    pub(crate) fn hold(&mut self, timers: Timers)
+        ensures { self.new ≡ held_entry timers self.old }
+    {
+        self.standing = Standing::Held;
+        self.ticks_left = timers.get_hold();
+        self.resends_left = 0;
+    }
+}

@@ -1,0 +1,183 @@
+//! The kept entries of all transactions.
+
+ghost use Rattle.std.specs.Prelude.{◌≡◌, ◌≤◌, ◌<◌, ◌↔◌, [], ◌∷◌, ◌++◌, length, All, find, position, map, count_by, option_map, IsTrue, IsSome, IsNone, IsOk, IfOk, OnOk, OnErr};
+ghost use Rattle.std.specs.Option.{option_copied};
+ghost use Rattle.transactions.specs.Waits.{IsLasting};
+ghost use Rattle.transactions.specs.Entry.{is_of, waits_for};
+ghost use Rattle.transactions.specs.Timers.{is_resent, resent_in, given_up_in, kept_after};
+ghost use Rattle.transactions.specs.Keeping.{begun, acknowledged, OneEach, HasTicks, IsHeldUnsent};
+
+use crate::entry::KeptEntry;
+use crate::tick::{Ticked, count_down, given_ups_in, resends_in};
+use crate::timers::Timers;
+use dsx_messages::{Kind, Modem};
+use std::alloc::{AllocError, Global};
+use std::marker::Model;
+use tlv24::Bytes;
+
+/// Why a transaction was not begun.
+#[derive(Clone, Copy, Debug, PartialEq, Eq)]
+pub enum KeptFault {
+    /// As many entries stand as there is room for.
+    Full,
+    /// An entry of this modem and transaction ID stands.
+    Live,
+}
+
+/// The kept entries of all transactions, in the order in which they began, one for each modem and transaction ID.
+#[derive(Debug, Drop)]
+pub struct Kept {
+    capacity: u32,
+    timers: Timers,
+    entries: Vec<KeptEntry>,
+}
+
+impl Model for Kept {
+    ghost use Rattle.std.specs.Vec.{vec_capacity};
+    ghost use Rattle.transactions.specs.Keeping.{Keeping, IsKept};
+
+    ghost Value = { Keeping };
+
+    ghost view = { λ kept. record { capacity = kept.capacity; waits = kept.timers; entries = kept.entries.items } };
+
+    ghost invariant = { λ kept. IsKept kept.capacity kept.timers kept.entries.items (vec_capacity kept.entries) };
+}
+
+impl Kept {
+    /// No entries, and room for `capacity` of them. Beside `tick`, no other call takes memory.
+    pub fn new(alloc: Global, capacity: u32, timers: Timers) -> Result<Kept, AllocError>
+        ensures { IfOk result (λ kept. kept ≡ record { capacity = capacity; waits = timers; entries = [] }) }
+    {
+        timers.kept();
+        Ok(Kept {
+            capacity,
+            timers,
+            entries: Vec::with_capacity(alloc, capacity as usize)?,
+        })
+    }
+
+    /// The entry of a modem and transaction ID.
+    pub fn find(&self, modem: Modem, tid: u16) -> Option<&KeptEntry>
+        ensures { option_copied result ≡ find (is_of modem tid) self.now.entries }
+    {
+        self.entries.iter().find(|entry| entry.is_of(modem, tid))
+    }
+
+    /// Begins an entry for a response. Where it `waits` for an acknowledgement, it is sent again until that comes; else it
+    /// is held to answer a repeated request.
+    ///
+    /// Faults, in this order: `Full`, `Live`. Each leaves all as it was.
+    pub fn begin(
+        &mut self,
+        modem: Modem,
+        tid: u16,
+        kind: Kind,
+        reply: Bytes,
+        sfid: u32,
+        waits: bool,
+    ) -> Result<(), KeptFault>
+        ensures ok { OnOk result (self.new ≡ record self.old { entries = self.old.entries ++ begun self.old.waits modem tid kind reply sfid waits ∷ [] }) }
+        ensures was_free { OnOk result ((length self.old.entries < self.old.capacity) × IsNone (find (is_of modem tid) self.old.entries)) }
+
+        ensures full { (result ≡ Err KeptFault.Full) ↔ (length self.old.entries ≡ self.old.capacity) }
+        ensures live { (result ≡ Err KeptFault.Live) ↔ ((length self.old.entries < self.old.capacity) × IsSome (find (is_of modem tid) self.old.entries)) }
+        ensures err { OnErr result (self.new ≡ self.old) }
+    {
+        if self.is_full() {
+            return Err(KeptFault::Full);
+        }
+        if self.find(modem, tid).is_some() {
+            return Err(KeptFault::Live);
+        }
+        let entry = KeptEntry::begin(self.timers, modem, tid, kind, reply, sfid, waits);
+        self.entries.push_reserved(entry);
+        Ok(())
+    }
+
+    /// Takes an acknowledgement: the SFID of the entry that waited for it, which is only held from now on. `None` where no
+    /// entry of this modem and transaction ID waits, or one of another kind; then all is as it was.
+    pub fn acked(&mut self, modem: Modem, tid: u16, kind: Kind) -> Option<u32>
+        ensures sfid { result ≡ option_map (λ e. e.sfid) (find (waits_for modem tid kind) self.old.entries) }
+        ensures state { self.new ≡ record self.old { entries = map (acknowledged self.old.waits modem tid kind) self.old.entries } }
+        ensures none { result ≡ None → self.new ≡ self.old }
+    {
+        let place = waiting_place(&self.entries, modem, tid, kind)?;
+        let timers = self.timers;
+        let entry = &mut self.entries[place];
+        entry.hold(timers);
+        Some(entry.sfid)
+    }
+
+    /// Counts one tick: sends responses again, gives up those that were never acknowledged, and forgets these and the
+    /// entries that were held for their time.
+    ///
+    /// At `AllocError` nothing has changed. A tick that sends nothing again and gives nothing up takes no memory.
+    pub fn tick(&mut self, alloc: Global) -> Result<Ticked, AllocError>
+        ensures state { OnOk result (self.new ≡ record self.old { entries = kept_after self.old.waits self.old.entries }) }
+        ensures resend { IfOk result (λ told. told.resend ≡ resent_in self.old.entries) }
+        ensures given_up { IfOk result (λ told. told.given_up ≡ given_up_in self.old.entries) }
+        ensures quiet { resent_in self.old.entries ≡ [] → given_up_in self.old.entries ≡ [] → IsOk result }
+        ensures err { OnErr result (self.new ≡ self.old) }
+    {
+        let resend = resends_in(alloc, self.entries.as_slice())?;
+        let given_up = given_ups_in(alloc, self.entries.as_slice())?;
+        count_down(&mut self.entries, self.timers);
+        Ok(Ticked { resend, given_up })
+    }
+
+    /// How many responses the next tick sends again.
+    pub fn resend_count(&self) -> usize
+        ensures { result ≡ length (resent_in self.now.entries) }
+    {
+        resent_count(&self.entries)
+    }
+
+    /// How many entries stand.
+    pub fn len(&self) -> usize
+        ensures { result ≡ length self.now.entries }
+    {
+        self.entries.len()
+    }
+
+    /// Whether no entry stands.
+    pub fn is_empty(&self) -> bool
+        ensures { IsTrue result ↔ (self.now.entries ≡ []) }
+    {
+        self.entries.is_empty()
+    }
+
+    /// Whether as many entries stand as there is room for.
+    pub fn is_full(&self) -> bool
+        ensures { IsTrue result ↔ (length self.now.entries ≡ self.now.capacity) }
+    {
+        self.len() == self.capacity as usize
+    }
+
+    /// The entries, in the order in which they began.
+    pub fn entries(&self) -> &[KeptEntry]
+        ensures value { result.now ≡ self.now.entries }
+        ensures lasting { IsLasting self.now.waits }
+        ensures within { length self.now.entries ≤ self.now.capacity }
+        ensures ticking { All HasTicks self.now.entries }
+        ensures held { All IsHeldUnsent self.now.entries }
+        ensures one_each { OneEach self.now.entries }
+    {
+        self.entries.as_slice()
+    }
+}
+
+/// Where the entry stands that waits for this acknowledgement.
+fn waiting_place(entries: &[KeptEntry], modem: Modem, tid: u16, kind: Kind) -> Option<usize>
+    ensures { result ≡ position (waits_for modem tid kind) entries.now }
+{
+    entries
+        .iter()
+        .position(|entry| entry.waits_for(modem, tid, kind))
+}
+
+/// How many of these entries the next tick sends again.
+fn resent_count(entries: &[KeptEntry]) -> usize
+    ensures { result ≡ count_by is_resent entries.now }
+{
+    entries.iter().filter(|entry| entry.is_resent()).count()
+}

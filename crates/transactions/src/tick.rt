@@ -1,0 +1,148 @@
+//! What a tick sends again, gives up and forgets.
+
+ghost use Rattle.std.specs.Prelude.{◌≡◌, ◌≢◌, [], IfOk, OnErr};
+ghost use Rattle.std.specs.Vec.{vec_capacity};
+ghost use Rattle.transactions.specs.Timers.{resent_in, given_up_in, kept_after};
+
+use crate::entry::KeptEntry;
+use crate::timers::Timers;
+use dsx_messages::{Kind, Modem};
+use std::alloc::{AllocError, Global};
+use std::marker::Model;
+use tlv24::Bytes;
+
+/// A response that is sent again.
+#[derive(Debug, Drop)]
+pub struct Resend {
+    /// The modem that it is sent to.
+    pub modem: Modem,
+    /// Its bytes.
+    pub reply: Bytes,
+}
+
+/// A transaction whose response was never acknowledged.
+#[derive(Clone, Copy, Debug, PartialEq, Eq)]
+pub struct GivenUp {
+    /// What it did: after a `Dsa` its flow goes, after a `Dsc` its flow stays.
+    pub kind: Kind,
+    /// The SFID of its flow.
+    pub sfid: u32,
+}
+
+/// The responses that a tick sends again, in the order in which their transactions began.
+#[derive(Debug, Drop)]
+pub struct Resends {
+    resends: Vec<Resend>,
+}
+
+impl Model for Resends {
+    ghost use Rattle.std.specs.Prelude.{List};
+    ghost use Rattle.transactions.specs.declared.tick.Resend.{Resend};
+
+    ghost Value = { List Resend };
+
+    ghost view = { λ r. r.resends.items };
+}
+
+impl Resends {
+    /// The responses in place.
+    pub fn as_slice(&self) -> &[Resend]
+        ensures { result.now ≡ self.now }
+    {
+        self.resends.as_slice()
+    }
+
+    /// The responses, given back without a copy.
+    pub fn into_vec(self) -> Vec<Resend>
+        ensures { result.items ≡ self }
+    {
+        let Resends { resends } = self;
+        resends
+    }
+}
+
+/// The transactions that a tick gives up, in the order in which they began.
+#[derive(Debug, Drop)]
+pub struct GivenUps {
+    given_ups: Vec<GivenUp>,
+}
+
+impl Model for GivenUps {
+    ghost use Rattle.std.specs.Prelude.{List};
+    ghost use Rattle.transactions.specs.declared.tick.GivenUp.{GivenUp};
+
+    ghost Value = { List GivenUp };
+
+    ghost view = { λ g. g.given_ups.items };
+}
+
+impl GivenUps {
+    /// The transactions in place.
+    pub fn as_slice(&self) -> &[GivenUp]
+        ensures { result.now ≡ self.now }
+    {
+        self.given_ups.as_slice()
+    }
+
+    /// The transactions, given back without a copy.
+    pub fn into_vec(self) -> Vec<GivenUp>
+        ensures { result.items ≡ self }
+    {
+        let GivenUps { given_ups } = self;
+        given_ups
+    }
+}
+
+/// What a tick tells.
+#[derive(Debug, Drop)]
+pub struct Ticked {
+    /// What is sent again.
+    pub resend: Resends,
+    /// What is given up.
+    pub given_up: GivenUps,
+}
+
+/// Copies of the responses that the next tick sends again. Takes no memory where there are none.
+#[tactic(auto, using(crate::proofs::ListLemmas::told_there))]
+pub(crate) fn resends_in(alloc: Global, entries: &[KeptEntry]) -> Result<Resends, AllocError>
+    ensures ok { IfOk result (λ resend. resend ≡ resent_in entries.now) }
+    ensures err { OnErr result (resent_in entries.now ≢ []) }
+{
+    let mut resends = Vec::new(alloc);
+    for entry in entries {
+        if entry.is_resent() {
+            let reply = entry.reply.copy(alloc)?;
+            resends.push(Resend {
+                modem: entry.modem,
+                reply,
+            })?;
+        }
+    }
+    Ok(Resends { resends })
+}
+
+/// The transactions that the next tick gives up. Takes no memory where there are none.
+#[tactic(auto, using(crate::proofs::ListLemmas::told_there))]
+pub(crate) fn given_ups_in(alloc: Global, entries: &[KeptEntry]) -> Result<GivenUps, AllocError>
+    ensures ok { IfOk result (λ given_up. given_up ≡ given_up_in entries.now) }
+    ensures err { OnErr result (given_up_in entries.now ≢ []) }
+{
+    let mut given_ups = Vec::new(alloc);
+    for entry in entries {
+        if entry.is_given_up() {
+            given_ups.push(GivenUp {
+                kind: entry.kind,
+                sfid: entry.sfid,
+            })?;
+        }
+    }
+    Ok(GivenUps { given_ups })
+}
+
+/// Forgets entries whose time ends, and counts the others one tick down.
+pub(crate) fn count_down(entries: &mut Vec<KeptEntry>, timers: Timers)
+    ensures items { entries.new.items ≡ kept_after timers entries.old.items }
+    ensures capacity { vec_capacity entries.new ≡ vec_capacity entries.old }
+{
+    entries.retain_mut(move |entry| entry.tick(timers));
+}
