@@ -16,8 +16,8 @@ readable input fits utf8 = rw (le-leb (length input) 1048576 fits, is_utf8-from_
 
 -- ---- lines
 
-from_byte : (line : List ℕ) (b : ℕ) (bytes : List ℕ) (t : Bool) → (b == 10) ≡ t → lines_from line (b ∷ bytes) ≡ elim t [ | true ↦ line ∷ lines_from [] bytes | false ↦ lines_from (line ++ b ∷ []) bytes ]
-from_byte line b bytes t e = ap (λ (v : Bool). elim v [ | true ↦ line ∷ lines_from [] bytes | false ↦ lines_from (line ++ b ∷ []) bytes ]) e
+from_byte : (line : List ℕ) (b : ℕ) (bytes : List ℕ) (t : Bool) → (b == 10) ≡ t → lines_from line (b ∷ bytes) ≡ elim t [ true ↦ line ∷ lines_from [] bytes | false ↦ lines_from (line ++ b ∷ []) bytes ]
+from_byte line b bytes t e = ap (λ (v : Bool). elim v [ true ↦ line ∷ lines_from [] bytes | false ↦ lines_from (line ++ b ∷ []) bytes ]) e
 
 module _ (input : List ℕ) (start place : ℕ) (lt : place < length input) where
   line_more : start ≤ place → drop start (take (place + 1) input) ≡ drop start (take place input) ++ get_or input place 0 ∷ []
@@ -36,35 +36,35 @@ module _ (input : List ℕ) (start place : ℕ) (lt : place < length input) wher
   split_line lines line s line_is lf = record {
     begun = omega arith;
     goes_on =
-      ap (λ (x : List ℕ). (lines ++ line ∷ []) ++ lines_from x (drop (place + 1) input)) line_none
-      ∙ append_assoc lines (line ∷ []) (lines_from [] (drop (place + 1) input))
-      ∙ ap (λ (x : List ℕ). lines ++ (x ∷ lines_from [] (drop (place + 1) input))) line_is
-      ∙ ap (λ (x : List (List ℕ)). lines ++ x) (sym (from_byte (drop start (take place input)) (get_or input place 0) (drop (place + 1) input) true lf))
-      ∙ ap (λ (x : List ℕ). lines ++ lines_from (drop start (take place input)) x) (sym at_place)
-      ∙ s.goes_on;
+        ap (λ (x : List ℕ). (lines ++ line ∷ []) ++ lines_from x (drop (place + 1) input)) line_none
+        ∙ append_assoc lines (line ∷ []) (lines_from [] (drop (place + 1) input))
+        ∙ ap (λ (x : List ℕ). lines ++ (x ∷ lines_from [] (drop (place + 1) input))) line_is
+        ∙ ap (λ (x : List (List ℕ)). lines ++ x) (sym (from_byte (drop start (take place input)) (get_or input place 0) (drop (place + 1) input) true lf))
+        ∙ ap (λ (x : List ℕ). lines ++ lines_from (drop start (take place input)) x) (sym at_place)
+        ∙ s.goes_on;
   }
 
   pub split_byte : (lines : List (List ℕ)) → IsSplitSoFar input lines start place → (get_or input place 0 == 10) ≡ false → IsSplitSoFar input lines start (place + 1)
   split_byte lines s other = record {
     begun = let b : start ≤ place = s.begun in omega arith;
     goes_on =
-      ap (λ (x : List ℕ). lines ++ lines_from x (drop (place + 1) input)) (line_more s.begun)
-      ∙ ap (λ (x : List (List ℕ)). lines ++ x) (sym (from_byte (drop start (take place input)) (get_or input place 0) (drop (place + 1) input) false other))
-      ∙ ap (λ (x : List ℕ). lines ++ lines_from (drop start (take place input)) x) (sym at_place)
-      ∙ s.goes_on;
+        ap (λ (x : List ℕ). lines ++ lines_from x (drop (place + 1) input)) (line_more s.begun)
+        ∙ ap (λ (x : List (List ℕ)). lines ++ x) (sym (from_byte (drop start (take place input)) (get_or input place 0) (drop (place + 1) input) false other))
+        ∙ ap (λ (x : List ℕ). lines ++ lines_from (drop start (take place input)) x) (sym at_place)
+        ∙ s.goes_on;
   }
 
 -- ---- messages
 
 said_by : (number : ℕ) (messages : List (List ℕ)) (line : List ℕ) (lines : List (List ℕ)) (t : Bool) → (length line == 0) ≡ t
-    → messages_after number messages (line ∷ lines) ≡ elim t [ | true ↦ messages_after (number + 1) messages lines | false ↦ elim (message_in line) [ | None ↦ Err number | Some message ↦ messages_after (number + 1) (messages ++ message ∷ []) lines ] ]
-said_by number messages line lines t e = ap (λ (v : Bool). elim v [ | true ↦ messages_after (number + 1) messages lines | false ↦ elim (message_in line) [ | None ↦ Err number | Some message ↦ messages_after (number + 1) (messages ++ message ∷ []) lines ] ]) e
+    → messages_after number messages (line ∷ lines) ≡ elim t [ true ↦ messages_after (number + 1) messages lines | false ↦ elim (message_in line) [ None ↦ Err number | Some message ↦ messages_after (number + 1) (messages ++ message ∷ []) lines ] ]
+said_by number messages line lines t e = ap (λ (v : Bool). elim v [ true ↦ messages_after (number + 1) messages lines | false ↦ elim (message_in line) [ None ↦ Err number | Some message ↦ messages_after (number + 1) (messages ++ message ∷ []) lines ] ]) e
 
 said_in : (number : ℕ) (messages : List (List ℕ)) (line : List ℕ) (lines : List (List ℕ)) (o : Option (List ℕ)) → (length line == 0) ≡ false → message_in line ≡ o
-    → messages_after number messages (line ∷ lines) ≡ elim o [ | None ↦ Err number | Some message ↦ messages_after (number + 1) (messages ++ message ∷ []) lines ]
+    → messages_after number messages (line ∷ lines) ≡ elim o [ None ↦ Err number | Some message ↦ messages_after (number + 1) (messages ++ message ∷ []) lines ]
 said_in number messages line lines o some e =
     said_by number messages line lines false some
-    ∙ ap (λ (v : Option (List ℕ)). elim v [ | None ↦ Err number | Some message ↦ messages_after (number + 1) (messages ++ message ∷ []) lines ]) e
+    ∙ ap (λ (v : Option (List ℕ)). elim v [ None ↦ Err number | Some message ↦ messages_after (number + 1) (messages ++ message ∷ []) lines ]) e
 
 module _ (lines messages : List (List ℕ)) (number place : ℕ) (line : List ℕ) (s : IsSaidSoFar lines messages number place) (here : drop place lines ≡ line ∷ drop (place + 1) lines) where
   said_first : messages_after number messages (line ∷ drop (place + 1) lines) ≡ messages_after 1 [] lines

@@ -7,17 +7,13 @@ mod lines;
 mod one;
 mod operator_a;
 mod program;
-
 #[cfg(test)]
 mod tests;
 
-
-use std::env;
-use std::io;
+use program::run_program;
 use std::process::ExitCode;
 use std::rt::Env;
-
-use program::run_program;
+use std::{env, io};
 
 /// Reads the words, and runs the program over standard input and output. Its own want of memory is status 5, an
 /// unreadable environment status 6.
@@ -40,10 +36,5 @@ fn run(rt: &(impl Env + Input + Print + AllocGlobal)) -> io::Result<u8> {
     }
     let mut reader = rt.reader();
     let mut writer = io::writer(rt);
-    Ok(run_program(
-        rt.alloc(),
-        texts.as_slice(),
-        &mut reader,
-        &mut writer,
-    ))
+    Ok(run_program(rt.alloc(), texts.as_slice(), &mut reader, &mut writer))
 }

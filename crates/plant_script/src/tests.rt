@@ -7,6 +7,7 @@ use std::io::{Read, Write};
 use std::test::Fail;
 
 const ADDITION: &str = "0F0001180A010200010601060F0102\n";
+
 const REPLY: &str = "10000100180E0102000102040000010103020101\n";
 
 /// The status and the text that an input of `one` gets.
@@ -59,7 +60,11 @@ fn messages_and_their_answers(rt: HostRuntime) -> Result<(), Fail> {
         ),
         ("", 0, ""),
         // Lines at fault, the first of them told, and no step made.
-        ("0F0001180A010200010601060F0102\n\n0F0\n", 4, "fault: line 3\n"),
+        (
+            "0F0001180A010200010601060F0102\n\n0F0\n",
+            4,
+            "fault: line 3\n",
+        ),
         ("11000100\r\n", 4, "fault: line 1\n"),
         (" \n-\n", 4, "fault: line 1\n"),
         ("--\n", 4, "fault: line 1\n"),
@@ -175,7 +180,11 @@ fn a_read_that_fails_is_status_6(rt: HostRuntime) -> Result<(), Fail> {
         };
         let mut text = Vec::new(rt.alloc());
         let status = run_program(rt.alloc(), &["one"], &mut reader, &mut text);
-        let (wanted, line) = if fails_at < 32 { (6, "fault: io\n") } else { (0, REPLY) };
+        let (wanted, line) = if fails_at < 32 {
+            (6, "fault: io\n")
+        } else {
+            (0, REPLY)
+        };
         assert_eq!(rt; status, wanted, "at {fails_at}");
         assert_eq!(rt; text.as_slice(), line.as_bytes(), "at {fails_at}");
     }

@@ -99,7 +99,7 @@ answer_within (suc n) bytes rest fields (Some first) le are r e =
     let less : length first.rest < length rest = shrinks rest first e in
     let f = first_some rest first are e in
     judged n bytes rest fields first (fault_of r.before first.tlv) f r e refl
-        (λ next again. answer_within n bytes first.rest next (first_of first.rest) (omega arith) f.bytes_left again refl)
+    (λ next again. answer_within n bytes first.rest next (first_of first.rest) (omega arith) f.bytes_left again refl)
   where
     judged : (n : ℕ) (bytes rest : List ℕ) (fields : FlowFields) (first : First) (o : Option TlvFault) → IsFirst rest first → (r : IsReadUpTo bytes rest fields) → first_of rest ≡ Some first → fault_of r.before first.tlv ≡ o
         → ((next : FlowFields) → IsReadUpTo bytes first.rest next → IsRightAnswer bytes (flow_of bytes)) → IsRightAnswer bytes (flow_of bytes)

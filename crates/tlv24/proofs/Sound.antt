@@ -75,7 +75,7 @@ read_more_here bytes rest fields next first r e begins free stated =
       sound = sound_more r.before first.tlv r.sound free;
       stated = stated;
       goes_on = r.goes_on ∙ ap (λ (f : Front). says_after r.before f.tlvs (cut_in bytes f.rest)) (front_of-some rest first e)
-        ∙ goes_on_more r.before first.tlv (front_of first.rest).tlvs (cut_in bytes (front_of first.rest).rest) free;
+          ∙ goes_on_more r.before first.tlv (front_of first.rest).tlvs (cut_in bytes (front_of first.rest).rest) free;
     }
 
 pub read_more : (bytes rest : List ℕ) (fields next : FlowFields) (kind : ℕ) (value after : List ℕ) → IsReadUpTo bytes rest fields → Some (record { tlv = tlv kind value; rest = after }) ≡ first_of rest → Begins rest (tlv kind value) after

@@ -1,4 +1,4 @@
--- Own: what a tick does with each kept entry (CM-SP-MULPIv3.1, 11.2: T7, T8 and T10; the tick counts are own).
+-- Own: what a tick does with each kept entry (CM-SP-MULPIv3.1, 11.2; the tick counts are own).
 use Rattle.std.specs.Prelude.{◌-◌, Bool, not, ◌&&◌, ◌||◌, ◌==◌, nat_lt, if◌then◌else◌, List, map, filter}
 use Rattle.transactions.specs.declared.entry.KeptEntry.{KeptEntry}
 use Rattle.transactions.specs.declared.tick.Resend.{Resend}

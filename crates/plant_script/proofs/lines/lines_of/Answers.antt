@@ -9,12 +9,12 @@ pub loop-place-preserved : goal.loop-place-preserved
 loop-place-preserved c =
     elim c.if-byte-eq10.branch [
       | then-byte-eq10+in_ok-push w ↦
-        let lf : (get_or c.args.input.now c.loop-place.place 0 == 10) ≡ true = grind (arith, nat_tests, w.if-byte-eq10.true) in
-        rw (w.lines-is, w.start-is, w.in_ok-push.ensures.items, map_push _ c.loop-place.lines.items w.part.result)
-        (split_line c.args.input.now c.loop-place.start c.loop-place.place c.loop-place-test.true _ w.part.result.now c.loop-place.invariant w.part.ensures lf)
+          let lf : (get_or c.args.input.now c.loop-place.place 0 == 10) ≡ true = grind (arith, nat_tests, w.if-byte-eq10.true) in
+          rw (w.lines-is, w.start-is, w.in_ok-push.ensures.items, map_push _ c.loop-place.lines.items w.part.result)
+          (split_line c.args.input.now c.loop-place.start c.loop-place.place c.loop-place-test.true _ w.part.result.now c.loop-place.invariant w.part.ensures lf)
       | else-byte-eq10 w ↦
-        let other : (get_or c.args.input.now c.loop-place.place 0 == 10) ≡ false = grind (arith, nat_tests, w.if-byte-eq10.false) in
-        rw (w.lines-is, w.start-is) (split_byte c.args.input.now c.loop-place.start c.loop-place.place c.loop-place-test.true _ c.loop-place.invariant other)
+          let other : (get_or c.args.input.now c.loop-place.place 0 == 10) ≡ false = grind (arith, nat_tests, w.if-byte-eq10.false) in
+          rw (w.lines-is, w.start-is) (split_byte c.args.input.now c.loop-place.start c.loop-place.place c.loop-place-test.true _ c.loop-place.invariant other)
     ]
 
 pub returns : goal.returns

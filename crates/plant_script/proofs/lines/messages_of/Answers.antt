@@ -12,12 +12,12 @@ loop-line-preserved c =
     let here = line_at c.args.lines.now c.loop-line.line-index none c.loop-line-test.true in
     elim c.if-not-is_empty.branch [
       | then-not-is_empty+in_ok-message+in-Some+in_ok-push w ↦
-        let some : (length line.now == 0) ≡ false = sym w.if-not-is_empty.ensures in
-        rw (w.messages-is, w.in_ok-push.ensures.items)
-        (said_message _ c.loop-line.messages.items c.loop-line.number c.loop-line.line-index line.now c.loop-line.invariant here w.in-Some.message some (sym w.in_ok-message.ensures ∙ w.in-Some.is))
+          let some : (length line.now == 0) ≡ false = sym w.if-not-is_empty.ensures in
+          rw (w.messages-is, w.in_ok-push.ensures.items)
+          (said_message _ c.loop-line.messages.items c.loop-line.number c.loop-line.line-index line.now c.loop-line.invariant here w.in-Some.message some (sym w.in_ok-message.ensures ∙ w.in-Some.is))
       | else-not-is_empty w ↦
-        let empty : (length line.now == 0) ≡ true = sym w.if-not-is_empty.ensures in
-        rw w.messages-is (said_empty _ c.loop-line.messages.items c.loop-line.number c.loop-line.line-index line.now c.loop-line.invariant here empty)
+          let empty : (length line.now == 0) ≡ true = sym w.if-not-is_empty.ensures in
+          rw w.messages-is (said_empty _ c.loop-line.messages.items c.loop-line.number c.loop-line.line-index line.now c.loop-line.invariant here empty)
     ]
 
 pub returns-in_default : goal.returns-in_default

@@ -11,5 +11,5 @@ no_one m (Some n) p q = cc
 pub unreachable-requires : goal.unreachable-requires
 unreachable-requires c =
     no_one c.in-Err-NotMine.field-0-0 (stranger_of c.args.book.now.row c.args.action)
-        (ap (λ (r : RowFields). stranger_of r c.args.action) c.requires.row ∙ c.requires.mine)
-        ((c.in-Err-NotMine.ensures.not_mine c.in-Err-NotMine.field-0-0).0 (ap Err c.in-Err-NotMine.field-0-is))
+    (ap (λ (r : RowFields). stranger_of r c.args.action) c.requires.row ∙ c.requires.mine)
+    ((c.in-Err-NotMine.ensures.not_mine c.in-Err-NotMine.field-0-0).0 (ap Err c.in-Err-NotMine.field-0-is))
