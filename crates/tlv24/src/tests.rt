@@ -196,7 +196,7 @@ fn a_sid_is_written_without_its_upper_bits(rt: HostRuntime) -> Result<(), Fail> 
 #[test]
 fn each_field_has_its_getter(rt: HostRuntime) -> Result<(), Fail> {
     one_meaning();
-    one_reading();
+    flow_is_read();
     let flow = FlowTlv::new(whole_fields());
     let name = flow.get_class_name().ok_or("no class name")?;
     assert_eq!(rt; name.as_slice(), b"up".as_slice());
