@@ -1,0 +1,167 @@
+-- All that is granted fits the slice.
+use Rattle.std.proofs.Common.{◌≡◌, ℕ, zero, suc, ◌+◌, ◌*◌, ◌<◌, ◌≤◌, ◌⊎◌, inl, inr, Bool, true, false, cond, List, [], ◌∷◌, refl, sym, ap, ◌∙◌, zero-add, arith, map, sum_by, replicate, All, length, get_or, subst}
+use Rattle.std.specs.List.{AllByRecursion, flat_map}
+use Rattle.std.proofs.lemmas.Bool.{eq-eqb, ne_eqb, cases_eq, le-leb}
+use Rattle.std.proofs.lemmas.List.Elements.{recursion_from_All}
+use Rattle.std.proofs.lemmas.List.Sums.{sum_by-cons, sum_by-append}
+use Rattle.param_sets.specs.Units.{minislots_of}
+use Rattle.param_sets.specs.declared.scheduling.Scheduling.{Scheduling}
+use Rattle.param_sets.specs.declared.scheduling.Scheduling.TheVariants.{BestEffort, NonRealTimePolling, RealTimePolling, UnsolicitedGrant}
+use Rattle.grant_policy.specs.declared.policy.Policy.{Policy}
+use Rattle.slice_scheduler.specs.declared.piece.Piece.{Piece}
+use Rattle.slice_scheduler.specs.declared.claim.Claim.{Claim}
+use Rattle.slice_scheduler.specs.declared.award.Award.{Award}
+use Rattle.slice_scheduler.specs.declared.flowing.At.{At}
+use Rattle.slice_scheduler.specs.declared.flowing.Flowing.{Flowing}
+use Rattle.slice_scheduler.specs.Due.{is_due, due_minislots, minislots_when_due, due_pieces, pieces_when_due, iuc_of}
+use Rattle.slice_scheduler.specs.Claims.{claim_of, claims_of, base_of, taken_of, room_of}
+use Rattle.slice_scheduler.specs.Awards.{goes_before, wanted_before, award_of, awards_of, share_of}
+use Rattle.slice_scheduler.specs.Schedule.{ranked_below, by_rank, award_pieces, pieces_of, minislots_in}
+use Rattle.slice_scheduler.specs.Servable.{SfidsAscend}
+use Rattle.slice_scheduler.specs.Wanted.{IsClaim, wanted_from}
+use Rattle.slice_scheduler.proofs.SumLemmas.{sum_by-add, sum_by-flat_map, filtered-all, filtered-without, recursion-weaker}
+use Rattle.slice_scheduler.proofs.WantedLemmas.{wanted_from-none}
+use Rattle.std.specs.Prelude.{nat_le}
+use Rattle.std.proofs.lemmas.Bool.Decides.{nat_tests}
+use Rattle.std.proofs.lemmas.List.{get_or-map, length-map}
+use Rattle.slice_scheduler.specs.Busy.{LeavesNothingIdle}
+use Rattle.slice_scheduler.proofs.RankLemmas.{sum_by-ranked, Ascends-map}
+use Rattle.slice_scheduler.proofs.ShareLemmas.{ClaimsAscend, shares_below-fit}
+
+sum_by-map : {X Y : Type 0} (f : Y → ℕ) (g : X → Y) (xs : List X) → sum_by f (map g xs) ≡ sum_by (λ x. f (g x)) xs
+sum_by-map f g [] = refl
+sum_by-map f g (x ∷ xs) = omega (arith, sum_by-cons f (g x) (map g xs), sum_by-cons (λ y. f (g y)) x xs, sum_by-map f g xs)
+
+recursion-map : {X Y : Type 0} (P : Y → Type 0) (g : X → Y) (xs : List X) → AllByRecursion (λ x. P (g x)) xs → AllByRecursion P (map g xs)
+recursion-map P g [] a = tt
+recursion-map P g (x ∷ xs) a = (a.0, recursion-map P g xs a.1)
+
+-- ---- what is due
+
+minislots-replicate : (n : ℕ) (p : Piece) → minislots_in (replicate n p) ≡ n * p.len
+minislots-replicate zero p = omega arith
+minislots-replicate (suc n) p = sum_by-cons (λ (q : Piece). q.len) p (replicate n p) ∙ omega (arith, minislots-replicate n p)
+
+due_when : (at : At) (f : Flowing) (kind : Scheduling) → minislots_in (pieces_when_due kind at f) ≡ minislots_when_due kind f.set at.units
+due_when at f BestEffort = refl
+due_when at f NonRealTimePolling = refl
+due_when at f RealTimePolling = refl
+due_when at f UnsolicitedGrant = minislots-replicate f.set.grants_per_interval
+    (record { sid = f.sid; iuc = iuc_of at (minislots_of f.set.grant_size at.units); len = minislots_of f.set.grant_size at.units })
+
+due_is : (at : At) (f : Flowing) → minislots_in (due_pieces at f) ≡ due_minislots at f
+due_is at f = elim (is_due at f) as (λ b. minislots_in (cond b (pieces_when_due f.set.scheduling at f) []) ≡ cond b (minislots_when_due f.set.scheduling f.set at.units) 0) [
+  | true ↦ due_when at f f.set.scheduling
+  | false ↦ refl
+]
+
+-- ---- what is awarded
+
+abbrev piece_of : At → Award → Piece
+piece_of at a = record { sid = a.sid; iuc = iuc_of at a.grant; len = a.grant }
+
+award_is : (at : At) (a : Award) → minislots_in (award_pieces at a) ≡ a.grant
+award_is at a = by (cases_eq a.grant 0)
+  where
+    by : (a.grant ≡ 0) ⊎ (a.grant ≡ 0 → ⊥) → minislots_in (award_pieces at a) ≡ a.grant
+    by (inl e) = ap (λ (b : Bool). minislots_in (cond b [] (piece_of at a ∷ []))) (eq-eqb a.grant 0 e) ∙ sym e
+    by (inr e) = ap (λ (b : Bool). minislots_in (cond b [] (piece_of at a ∷ []))) (ne_eqb a.grant 0 e) ∙ zero-add a.grant
+
+shares-all : (room : ℕ) (claims : List Claim) → AllByRecursion IsClaim claims → ClaimsAscend claims → sum_by (share_of room claims) claims ≤ room
+shares-all room claims sound ascend =
+    let same : sum_by (share_of room claims) (ranked_below (λ c. c.rank) 64 claims) ≡ sum_by (share_of room claims) claims =
+    sum_by-ranked (share_of room claims) (λ (c : Claim). c.rank) 64 claims (recursion-weaker IsClaim (λ c. c.rank < 64) (λ c h. omega (arith, h.rank)) claims sound) in
+    omega (arith, shares_below-fit room claims 64 ascend)
+
+awards-all : (room : ℕ) (claims : List Claim) → AllByRecursion IsClaim claims → ClaimsAscend claims
+    → sum_by (λ (a : Award). a.grant) (by_rank (map (award_of room claims) claims)) ≤ sum_by (λ (c : Claim). c.base) claims + room
+awards-all room claims sound ascend =
+    let ranked : AllByRecursion (λ (a : Award). a.rank < 64) (map (award_of room claims) claims) =
+    recursion-map (λ (a : Award). a.rank < 64) (award_of room claims) claims (recursion-weaker IsClaim (λ c. c.rank < 64) (λ c h. omega (arith, h.rank)) claims sound) in
+    omega (
+      arith,
+      sum_by-ranked (λ (a : Award). a.grant) (λ (a : Award). a.rank) 64 (map (award_of room claims) claims) ranked,
+      sum_by-map (λ (a : Award). a.grant) (award_of room claims) claims,
+      sum_by-add (λ (c : Claim). c.base + share_of room claims c) (λ (c : Claim). c.base) (share_of room claims) (λ c. refl) claims,
+      shares-all room claims sound ascend,
+    )
+
+-- a claim that is not all granted leaves no room
+itself : (c : Claim) → goes_before c c ≡ false
+itself c = grind (arith, nat_tests)
+
+wanted-from_zero : (claims : List Claim) → wanted_from claims 0 ≡ sum_by (λ (c : Claim). c.left) claims
+wanted-from_zero claims = filtered-all (λ (c : Claim). c.left) (λ c. nat_le 0 c.rank) claims (every claims)
+  where
+    every : (cs : List Claim) → AllByRecursion (λ c. nat_le 0 c.rank ≡ true) cs
+    every [] = tt
+    every (c ∷ cs) = (le-leb 0 c.rank (omega arith), every cs)
+
+shares-full : (room : ℕ) (claims : List Claim) (i : ℕ) (e : Claim) → AllByRecursion IsClaim claims → ClaimsAscend claims → i < length claims
+    → share_of room claims (get_or claims i e) < (get_or claims i e).left → sum_by (share_of room claims) claims ≡ room
+shares-full room claims i e sound ascend lt less =
+    let same : sum_by (share_of room claims) (ranked_below (λ c. c.rank) 64 claims) ≡ sum_by (share_of room claims) claims =
+    sum_by-ranked (share_of room claims) (λ (c : Claim). c.rank) 64 claims (recursion-weaker IsClaim (λ c. c.rank < 64) (λ c h. omega (arith, h.rank)) claims sound) in
+    let before : wanted_before claims (get_or claims i e) + (get_or claims i e).left ≤ sum_by (λ (c : Claim). c.left) claims =
+    filtered-without (λ (c : Claim). c.left) (λ d. goes_before d (get_or claims i e)) claims i e lt (itself (get_or claims i e)) in
+    omega (arith, shares_below-fit room claims 64 ascend, wanted_from-none claims sound, wanted-from_zero claims)
+
+awards-full : (room : ℕ) (claims : List Claim) (i : ℕ) (e : Claim) → AllByRecursion IsClaim claims → ClaimsAscend claims → i < length claims
+    → share_of room claims (get_or claims i e) < (get_or claims i e).left
+    → sum_by (λ (a : Award). a.grant) (by_rank (map (award_of room claims) claims)) ≡ sum_by (λ (c : Claim). c.base) claims + room
+awards-full room claims i e sound ascend lt less =
+    let ranked : AllByRecursion (λ (a : Award). a.rank < 64) (map (award_of room claims) claims) =
+    recursion-map (λ (a : Award). a.rank < 64) (award_of room claims) claims (recursion-weaker IsClaim (λ c. c.rank < 64) (λ c h. omega (arith, h.rank)) claims sound) in
+    omega (
+      arith,
+      sum_by-ranked (λ (a : Award). a.grant) (λ (a : Award). a.rank) 64 (map (award_of room claims) claims) ranked,
+      sum_by-map (λ (a : Award). a.grant) (award_of room claims) claims,
+      sum_by-add (λ (c : Claim). c.base + share_of room claims c) (λ (c : Claim). c.base) (share_of room claims) (λ c. refl) claims,
+      shares-full room claims i e sound ascend lt less,
+    )
+
+-- ---- all of it
+
+pub claims-ascend : (policy : Policy) (at : At) (flows : List Flowing) → SfidsAscend flows → ClaimsAscend (claims_of policy at flows)
+claims-ascend policy at flows ascend = Ascends-map (λ (c : Claim). c.sfid) (claim_of policy at) flows ascend
+
+pub pieces-fit : (policy : Policy) (at : At) (flows : List Flowing) → All IsClaim (claims_of policy at flows) → SfidsAscend flows → sum_by (taken_of at) flows ≤ at.slice.length
+    → minislots_in (pieces_of policy at flows) ≤ at.slice.length
+pieces-fit policy at flows sound ascend fits =
+    let due : minislots_in (flat_map (due_pieces at) flows) ≡ sum_by (due_minislots at) flows = sum_by-flat_map (λ (q : Piece). q.len) (due_pieces at) (due_minislots at) (due_is at) flows in
+    let awarded : minislots_in (flat_map (award_pieces at) (by_rank (awards_of policy at flows))) ≡ sum_by (λ (a : Award). a.grant) (by_rank (awards_of policy at flows)) =
+    sum_by-flat_map (λ (q : Piece). q.len) (award_pieces at) (λ (a : Award). a.grant) (award_is at) (by_rank (awards_of policy at flows)) in
+    let within : sum_by (λ (a : Award). a.grant) (by_rank (awards_of policy at flows)) ≤ sum_by (λ (c : Claim). c.base) (claims_of policy at flows) + room_of at flows =
+    awards-all (room_of at flows) (claims_of policy at flows) (recursion_from_All IsClaim (claims_of policy at flows) sound) (claims-ascend policy at flows ascend) in
+    let bases : sum_by (λ (c : Claim). c.base) (claims_of policy at flows) ≡ sum_by (base_of at) flows = sum_by-map (λ (c : Claim). c.base) (claim_of policy at) flows in
+    let taken : sum_by (taken_of at) flows ≡ sum_by (due_minislots at) flows + sum_by (base_of at) flows = sum_by-add (taken_of at) (due_minislots at) (base_of at) (λ f. refl) flows in
+    let all : minislots_in (pieces_of policy at flows) ≡ minislots_in (flat_map (due_pieces at) flows) + minislots_in (flat_map (award_pieces at) (by_rank (awards_of policy at flows))) =
+    sum_by-append (λ (q : Piece). q.len) (flat_map (due_pieces at) flows) (flat_map (award_pieces at) (by_rank (awards_of policy at flows))) in
+    omega arith
+
+-- the minislots that are granted, part by part
+parts : (policy : Policy) (at : At) (flows : List Flowing)
+    → minislots_in (pieces_of policy at flows) + sum_by (base_of at) flows ≡ sum_by (taken_of at) flows + sum_by (λ (a : Award). a.grant) (by_rank (awards_of policy at flows))
+parts policy at flows =
+    let due : minislots_in (flat_map (due_pieces at) flows) ≡ sum_by (due_minislots at) flows = sum_by-flat_map (λ (q : Piece). q.len) (due_pieces at) (due_minislots at) (due_is at) flows in
+    let awarded : minislots_in (flat_map (award_pieces at) (by_rank (awards_of policy at flows))) ≡ sum_by (λ (a : Award). a.grant) (by_rank (awards_of policy at flows)) =
+    sum_by-flat_map (λ (q : Piece). q.len) (award_pieces at) (λ (a : Award). a.grant) (award_is at) (by_rank (awards_of policy at flows)) in
+    let taken : sum_by (taken_of at) flows ≡ sum_by (due_minislots at) flows + sum_by (base_of at) flows = sum_by-add (taken_of at) (due_minislots at) (base_of at) (λ f. refl) flows in
+    let all : minislots_in (pieces_of policy at flows) ≡ minislots_in (flat_map (due_pieces at) flows) + minislots_in (flat_map (award_pieces at) (by_rank (awards_of policy at flows))) =
+    sum_by-append (λ (q : Piece). q.len) (flat_map (due_pieces at) flows) (flat_map (award_pieces at) (by_rank (awards_of policy at flows))) in
+    omega arith
+
+pub nothing-idle : (policy : Policy) (at : At) (flows : List Flowing) → All IsClaim (claims_of policy at flows) → SfidsAscend flows → sum_by (taken_of at) flows ≤ at.slice.length
+    → All (LeavesNothingIdle policy at flows) flows
+nothing-idle policy at flows sound ascend fits i e lt less =
+    let f : Flowing = get_or flows i e in
+    let claims : List Claim = claims_of policy at flows in
+    let here : get_or claims i (claim_of policy at e) ≡ claim_of policy at f = get_or-map (claim_of policy at) flows i e (claim_of policy at e) lt in
+    let wants : share_of (room_of at flows) claims (claim_of policy at f) < (claim_of policy at f).left = omega arith in
+    let wants_here : share_of (room_of at flows) claims (get_or claims i (claim_of policy at e)) < (get_or claims i (claim_of policy at e)).left =
+    subst (λ (c : Claim). share_of (room_of at flows) claims c < c.left) (sym here) wants in
+    let inside : i < length claims = omega (arith, length-map flows (claim_of policy at)) in
+    let full : sum_by (λ (a : Award). a.grant) (by_rank (awards_of policy at flows)) ≡ sum_by (λ (c : Claim). c.base) claims + room_of at flows =
+    awards-full (room_of at flows) claims i (claim_of policy at e) (recursion_from_All IsClaim claims sound) (claims-ascend policy at flows ascend) inside wants_here in
+    let bases : sum_by (λ (c : Claim). c.base) claims ≡ sum_by (base_of at) flows = sum_by-map (λ (c : Claim). c.base) (claim_of policy at) flows in
+    omega (arith, parts policy at flows)

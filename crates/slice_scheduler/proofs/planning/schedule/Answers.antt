@@ -1,0 +1,54 @@
+use Rattle.std.proofs.Common.{◌≡◌, ◌≤◌, ℕ, ◌++◌, List, All, map, filter, ap, ◌∙◌, subst, sym}
+use Rattle.std.specs.Prelude.{nat_lt}
+use Rattle.std.specs.List.{flat_map}
+use Rattle.slice_scheduler.specs.declared.claim.Claim.{Claim}
+use Rattle.slice_scheduler.specs.declared.award.Award.{Award}
+use Rattle.slice_scheduler.specs.declared.piece.Piece.{Piece}
+use Rattle.slice_scheduler.specs.Due.{due_pieces}
+use Rattle.slice_scheduler.specs.Claims.{claims_of, room_of}
+use Rattle.slice_scheduler.specs.Awards.{award_of, awards_of}
+use Rattle.slice_scheduler.specs.Schedule.{by_rank, award_pieces, pieces_of, minislots_in}
+use Rattle.slice_scheduler.specs.Wanted.{IsClaim}
+use Rattle.slice_scheduler.proofs.TotalLemmas.{claims-ascend, pieces-fit, nothing-idle}
+use Rattle.slice_scheduler.proofs.planning.schedule.Goals as goal
+
+pub awards-requires-clause-ascending : goal.awards-requires-clause-ascending
+awards-requires-clause-ascending g c =
+    rw (c.as_slice.ensures.value, c.in_ok-claims.ensures.items) (claims-ascend c.args.ranking.now.policy c.args.at.now c.args.flows.now c.requires.ascending)
+
+pub pack-requires-clause-fits : goal.pack-requires-clause-fits
+pack-requires-clause-fits g c =
+    let policy = c.args.ranking.now.policy in
+    let at = c.args.at.now in
+    let flows = c.args.flows.now in
+    let claims : c.as_slice.result.now ≡ claims_of policy at flows = c.as_slice.ensures.value ∙ c.in_ok-claims.ensures.items in
+    let awards : c.as_slice-2.result.now ≡ awards_of policy at flows =
+    c.as_slice-2.ensures.value ∙ (c.in_ok-awards.ensures.items
+    ∙ (ap (λ (r : ℕ). map (award_of r c.as_slice.result.now) c.as_slice.result.now) c.room-room.ensures.value
+    ∙ ap (λ (cs : List Claim). map (award_of (room_of at flows) cs) cs) claims)) in
+    let ordered : c.as_slice-3.result.now ≡ by_rank (awards_of policy at flows) =
+    c.as_slice-3.ensures.value ∙ (c.in_ok-ordered.ensures ∙ ap (λ (xs : List Award). by_rank xs) awards) in
+    let pieces : c.as_slice-4.result.now ≡ pieces_of policy at flows =
+    c.as_slice-4.ensures.value ∙ (c.in_ok-push_awards.ensures.items
+    ∙ (ap (λ (ps : List Piece). ps ++ flat_map (award_pieces at) c.as_slice-3.result.now) c.in_ok-pieces.ensures.items
+    ∙ ap (λ (xs : List Award). flat_map (due_pieces at) flows ++ flat_map (award_pieces at) xs) ordered)) in
+    subst (λ (ps : List Piece). minislots_in ps ≤ at.slice.length) (sym pieces)
+    (pieces-fit policy at flows (subst (λ (cs : List Claim). All IsClaim cs) c.in_ok-claims.ensures.items c.in_ok-claims.ensures.sound) c.requires.ascending c.room-room.ensures.fits)
+
+pub returns-clause-granted : goal.returns-clause-granted
+returns-clause-granted g c =
+    let policy = c.args.ranking.now.policy in
+    let at = c.args.at.now in
+    let flows = c.args.flows.now in
+    let claims : c.as_slice.result.now ≡ claims_of policy at flows = c.as_slice.ensures.value ∙ c.in_ok-claims.ensures.items in
+    let awards : c.in_ok-awards.awards.items ≡ awards_of policy at flows =
+    c.in_ok-awards.ensures.items
+    ∙ (ap (λ (r : ℕ). map (award_of r c.as_slice.result.now) c.as_slice.result.now) c.room-room.ensures.value
+    ∙ ap (λ (cs : List Claim). map (award_of (room_of at flows) cs) cs) claims) in
+    c.from_vec-3.ensures ∙ (c.in_ok-granted.ensures
+    ∙ ap (λ (xs : List Award). map (λ (a : Award). (a.sfid, a.grant)) (filter (λ (a : Award). nat_lt 0 a.grant) xs)) (c.as_slice-6.ensures.value ∙ awards))
+
+pub returns-clause-busy : goal.returns-clause-busy
+returns-clause-busy g c =
+    nothing-idle c.args.ranking.now.policy c.args.at.now c.args.flows.now
+    (subst (λ (cs : List Claim). All IsClaim cs) c.in_ok-claims.ensures.items c.in_ok-claims.ensures.sound) c.requires.ascending c.room-room.ensures.fits

@@ -1,0 +1,10 @@
+pub mod Minislots
+pub mod Iuc
+pub mod Tiles
+pub mod Due
+pub mod Claims
+pub mod Awards
+pub mod Schedule
+pub mod Busy
+pub mod Servable
+pub mod Wanted

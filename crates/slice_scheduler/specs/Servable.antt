@@ -1,0 +1,28 @@
+-- Flows that a slice can serve (own).
+use Rattle.std.specs.Prelude.{ℕ, ◌≤◌, ◌<◌, List, [], ◌∷◌, sum_by}
+use Rattle.std.specs.List.{AllByRecursion}
+use Rattle.param_sets.specs.Need.{need_of}
+use Rattle.slice_scheduler.specs.declared.flowing.At.{At}
+use Rattle.slice_scheduler.specs.declared.flowing.Flowing.{Flowing}
+
+-- each key is below those of the later elements
+abbrev pub Ascends : {X : Type 0} → (X → ℕ) → List X → Type 0
+Ascends key [] = Unit {0}
+Ascends key (x ∷ xs) = AllByRecursion (λ y. key x < key y) xs × Ascends key xs
+
+-- the flows stand by SFID, each once
+abbrev pub SfidsAscend : List Flowing → Type 0
+SfidsAscend flows = Ascends (λ f. f.sfid) flows
+
+-- the flow is not of a later frame
+pub record IsPast (frame : ℕ) (f : Flowing) : Type 0 where
+  pub start : f.start ≤ frame
+  pub since : f.since ≤ frame
+
+-- the minislots that the parameter set of a flow needs of each frame
+abbrev pub need_at : At → Flowing → ℕ
+need_at at f = (need_of f.set at.units).minislots
+
+-- those of all flows
+abbrev pub needed : At → List Flowing → ℕ
+needed at flows = sum_by (need_at at) flows

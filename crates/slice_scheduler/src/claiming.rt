@@ -1,0 +1,81 @@
+//! What flows claim for their backlogs, and what is shared among them.
+
+ghost use Rattle.std.specs.Prelude.{◌≡◌, ◌≤◌, All, IfOk, sum_by};
+ghost use Rattle.slice_scheduler.specs.Claims.{base_of, claim_of, claims_of, taken_of, room_of};
+ghost use Rattle.slice_scheduler.specs.Servable.{IsPast, need_at, needed};
+ghost use Rattle.slice_scheduler.specs.Wanted.{IsClaim};
+
+use crate::claim::Claim;
+use crate::due::minislots_due;
+use crate::flowing::{At, Flowing};
+use grant_policy::{RankInput, Ranking};
+use std::alloc::{AllocError, Global};
+
+/// The minislots of a flow's backlog that its reserved rate covers.
+fn base(at: &At, flow: &Flowing) -> u16
+    ensures value { result ≡ base_of at.now flow.now }
+    ensures most { result ≤ flow.now.backlog }
+{
+    let reserve = at.units.reserve(flow.set.get_min_reserved_rate());
+    u32::from(flow.backlog).min(reserve) as u16
+}
+
+/// What a flow has before the rest is shared.
+fn taken(at: &At, flow: &Flowing) -> u32
+    requires { IsPast at.now.frame flow.now }
+    ensures value { result ≡ taken_of at.now flow.now }
+    ensures within { taken_of at.now flow.now ≤ need_at at.now flow.now }
+{
+    let _fields = flow.set.get_fields();
+    minislots_due(at, flow) + u32::from(base(at, flow))
+}
+
+/// The minislots of the slice that are shared.
+pub(crate) fn room(flows: &[Flowing], at: &At) -> u16
+    requires past { All (IsPast at.now.frame) flows.now }
+    requires within { needed at.now flows.now ≤ at.now.slice.length }
+    ensures value { result ≡ room_of at.now flows.now }
+    ensures fits { sum_by (taken_of at.now) flows.now ≤ at.now.slice.length }
+{
+    let mut room = u32::from(at.slice.get_length());
+    for flow in flows {
+        room -= taken(at, flow);
+    }
+    room as u16
+}
+
+/// What a flow claims.
+fn claim(flow: &Flowing, at: &At, ranking: &Ranking) -> Claim
+    requires { IsPast at.now.frame flow.now }
+    ensures value { result ≡ claim_of ranking.now.policy at.now flow.now }
+    ensures sound { IsClaim result }
+{
+    let age = (at.frame - flow.since).min(255) as u8;
+    let input = RankInput::new(flow.set.get_priority(), age, flow.backlog);
+    let base = base(at, flow);
+    Claim {
+        sfid: flow.sfid,
+        sid: flow.sid,
+        rank: ranking.rank(&input),
+        base,
+        left: flow.backlog - base,
+    }
+}
+
+/// What each flow claims, in the flows' order.
+pub(crate) fn claims(
+    alloc: Global,
+    flows: &[Flowing],
+    at: &At,
+    ranking: &Ranking,
+) -> Result<Vec<Claim>, AllocError>
+    requires { All (IsPast at.now.frame) flows.now }
+    ensures items { IfOk result (λ claims. claims.items ≡ claims_of ranking.now.policy at.now flows.now) }
+    ensures sound { IfOk result (λ claims. All IsClaim claims.items) }
+{
+    let mut claims = Vec::new(alloc);
+    for flow in flows {
+        claims.push(claim(flow, at, ranking))?;
+    }
+    Ok(claims)
+}

@@ -1,0 +1,127 @@
+//! What due flows are granted, whatever they ask.
+
+ghost use Rattle.std.specs.Prelude.{◌≡◌, ◌≤◌, ◌++◌, All, OnOk, IfOk, replicate};
+ghost use Rattle.std.specs.List.{flat_map};
+ghost use Rattle.slice_scheduler.specs.Due.{interval_of, ends_after, is_due, due_minislots, due_pieces, iuc_of};
+ghost use Rattle.slice_scheduler.specs.Servable.{IsPast, need_at};
+ghost use Rattle.slice_scheduler.specs.Wanted.{HasMinislots};
+
+use crate::flowing::{At, Flowing};
+use crate::piece::Piece;
+use crate::span::Iuc;
+use param_sets::{ParamFields, Scheduling, Units};
+use std::alloc::{AllocError, Global};
+
+/// The frames from one due frame of a flow to the next: None at best effort.
+fn interval(fields: &ParamFields, units: &Units) -> Option<u32>
+    ensures { result ≡ interval_of fields.now.scheduling fields.now units.now }
+{
+    match fields.scheduling {
+        Scheduling::BestEffort => None,
+        Scheduling::NonRealTimePolling | Scheduling::RealTimePolling => {
+            Some(units.frames(fields.polling_interval))
+        }
+        Scheduling::UnsolicitedGrant => Some(units.frames(fields.grant_interval)),
+    }
+}
+
+/// Whether an interval ends after so many frames.
+fn ends_at(frames: u32, interval: Option<u32>) -> bool
+    ensures { result ≡ ends_after frames interval }
+{
+    match interval {
+        None | Some(0) => false,
+        Some(interval) => frames % interval == 0,
+    }
+}
+
+/// Whether a flow is due.
+fn due_now(at: &At, flow: &Flowing) -> bool
+    requires { IsPast at.now.frame flow.now }
+    ensures { result ≡ is_due at.now flow.now }
+{
+    let fields = flow.set.get_fields();
+    ends_at(at.frame - flow.start, interval(&fields, &at.units))
+}
+
+/// The code of a grant of so many minislots.
+pub(crate) fn iuc_for(at: &At, minislots: u16) -> Iuc
+    ensures { result ≡ iuc_of at.now minislots }
+{
+    if minislots <= at.short_max {
+        Iuc::Short
+    } else {
+        Iuc::Long
+    }
+}
+
+/// The minislots that a flow is granted whatever it asks.
+pub(crate) fn minislots_due(at: &At, flow: &Flowing) -> u32
+    requires { IsPast at.now.frame flow.now }
+    ensures { result ≡ due_minislots at.now flow.now }
+{
+    if !due_now(at, flow) {
+        return 0;
+    }
+    let fields = flow.set.get_fields();
+    match fields.scheduling {
+        Scheduling::BestEffort => 0,
+        Scheduling::NonRealTimePolling | Scheduling::RealTimePolling => 1,
+        Scheduling::UnsolicitedGrant => {
+            u32::from(fields.grants_per_interval) * at.units.minislots(u32::from(fields.grant_size))
+        }
+    }
+}
+
+/// Adds the same grant so many times.
+fn push_many(pieces: &mut Vec<Piece>, piece: Piece, times: u8) -> Result<(), AllocError>
+    ensures { OnOk result (pieces.new.items ≡ pieces.old.items ++ replicate times piece) }
+{
+    for _time in 0..times {
+        pieces.push(piece)?;
+    }
+    Ok(())
+}
+
+/// Adds the grants that a flow has whatever it asks.
+fn push_due(pieces: &mut Vec<Piece>, flow: &Flowing, at: &At) -> Result<(), AllocError>
+    requires { IsPast at.now.frame flow.now }
+    ensures items { OnOk result (pieces.new.items ≡ pieces.old.items ++ due_pieces at.now flow.now) }
+    ensures some { OnOk result (All HasMinislots (due_pieces at.now flow.now)) }
+{
+    if !due_now(at, flow) {
+        return Ok(());
+    }
+    let fields = flow.set.get_fields();
+    match fields.scheduling {
+        Scheduling::BestEffort => {}
+        Scheduling::NonRealTimePolling | Scheduling::RealTimePolling => pieces.push(Piece {
+            sid: flow.sid,
+            iuc: Iuc::Request,
+            len: 1,
+        })?,
+        Scheduling::UnsolicitedGrant => {
+            let len = at.units.minislots(u32::from(fields.grant_size)) as u16;
+            let piece = Piece {
+                sid: flow.sid,
+                iuc: iuc_for(at, len),
+                len,
+            };
+            push_many(pieces, piece, fields.grants_per_interval)?;
+        }
+    }
+    Ok(())
+}
+
+/// The grants that flows have whatever they ask, in the flows' order.
+pub(crate) fn all_due(alloc: Global, flows: &[Flowing], at: &At) -> Result<Vec<Piece>, AllocError>
+    requires { All (IsPast at.now.frame) flows.now }
+    ensures items { IfOk result (λ pieces. pieces.items ≡ flat_map (due_pieces at.now) flows.now) }
+    ensures some { IfOk result (λ pieces. All HasMinislots pieces.items) }
+{
+    let mut pieces = Vec::new(alloc);
+    for flow in flows {
+        push_due(&mut pieces, flow, at)?;
+    }
+    Ok(pieces)
+}

@@ -1,0 +1,88 @@
+//! The elements of an operator's part of a MAP.
+
+ghost use Rattle.std.specs.Prelude.{◌≡◌, IfOk};
+ghost use Rattle.slice_scheduler.specs.Tiles.{IsTiled};
+ghost use Rattle.slice_scheduler.specs.declared.elements.ElementsFields.{ElementsFields};
+
+use crate::lists::{Sids, Spans};
+use crate::slice::Slice;
+use crate::span::Span;
+use std::alloc::{AllocError, Global};
+use std::marker::Model;
+
+/// The elements of an operator's part of a MAP: who is granted which minislots of its slice, and who waits for more.
+#[derive(Debug, Drop)]
+pub struct ElementsFields {
+    /// The minislots that are the operator's.
+    pub slice: Slice,
+    /// Who is granted which, in the order of the minislots.
+    pub spans: Spans,
+    /// The SIDs of grants pending (CM-SP-MULPIv3.1, 7.2): flows that asked for more than they are granted.
+    pub pending: Sids,
+}
+
+/// The elements of an operator's part of a MAP, whose spans are the minislots of its slice, each in exactly one. Contracts
+/// see the three fields.
+#[derive(Debug, Drop)]
+pub struct Elements {
+    fields: ElementsFields,
+}
+
+impl Model for Elements {
+    ghost Value = { ElementsFields };
+
+    ghost view = { λ e. e.fields };
+
+    ghost invariant = { λ e. IsTiled e.fields };
+}
+
+impl Elements {
+    /// These elements. The caller knows that the spans tile the slice.
+    pub fn new(fields: ElementsFields) -> Elements
+        requires { IsTiled fields }
+        ensures { result ≡ fields }
+    {
+        Elements { fields }
+    }
+
+    /// The minislots that are the operator's.
+    pub fn get_slice(&self) -> Slice
+        ensures { result ≡ self.now.slice }
+    {
+        self.fields.slice
+    }
+
+    /// Who is granted which minislots, in their order.
+    pub fn get_spans(&self) -> &[Span]
+        ensures { result.now ≡ self.now.spans }
+    {
+        self.fields.spans.as_slice()
+    }
+
+    /// The SIDs of flows that asked for more than they are granted.
+    pub fn get_pending(&self) -> &[u16]
+        ensures { result.now ≡ self.now.pending }
+    {
+        self.fields.pending.as_slice()
+    }
+
+    /// What all elements keep, for a caller's proof: the spans tile the slice. Does nothing.
+    pub fn kept(&self)
+        ensures { IsTiled self.now }
+    {
+        let _ = &self.fields;
+    }
+
+    /// Equal elements with memory of their own.
+    pub fn copy(&self, alloc: Global) -> Result<Elements, AllocError>
+        ensures { IfOk result (λ elements. elements ≡ self.now) }
+    {
+        Ok(Elements {
+            fields: ElementsFields {
+                slice: self.fields.slice,
+                spans: self.fields.spans.copy(alloc)?,
+                pending: self.fields.pending.copy(alloc)?,
+            },
+        })
+    }
+}

@@ -1,0 +1,25 @@
+//! Laws of grants.
+
+ghost use Rattle.std.specs.Prelude.{◌≡◌, ◌≤◌, nat_lt, List, map, filter};
+ghost use Rattle.grant_policy.specs.declared.policy.Policy.{Policy};
+ghost use Rattle.slice_scheduler.specs.declared.flowing.At.{At};
+ghost use Rattle.slice_scheduler.specs.declared.flowing.Flowing.{Flowing};
+ghost use Rattle.slice_scheduler.specs.Awards.{grant_of};
+ghost use Rattle.slice_scheduler.specs.Claims.{base_of};
+ghost use Rattle.slice_scheduler.specs.Schedule.{granted_of};
+
+/// No flow is granted more than it asks.
+pub fn grant_is_within_backlog()
+    ensures { (policy : Policy) (at : At) (flows : List Flowing) (f : Flowing) → grant_of policy at flows f ≤ f.backlog }
+{}
+
+/// Each flow is granted what its reserved rate covers of its backlog.
+pub fn base_is_granted()
+    ensures { (policy : Policy) (at : At) (flows : List Flowing) (f : Flowing) → base_of at f ≤ grant_of policy at flows f }
+{}
+
+/// The grants that a schedule tells are those of its flows, each SFID with its flow's grant, in the flows' order.
+#[tactic(auto, using(crate::proofs::GrantedLemmas::granted_is))]
+pub fn granted_by_flow()
+    ensures { (policy : Policy) (at : At) (flows : List Flowing) → granted_of policy at flows ≡ map (λ f. (f.sfid, grant_of policy at flows f)) (filter (λ f. nat_lt 0 (grant_of policy at flows f)) flows) }
+{}

@@ -1,0 +1,30 @@
+//! Who is granted which minislots of one operator's slice of a frame: the elements of its part of a MAP, and the grants to backlogs.
+#![tactic(auto)]
+
+mod award;
+mod awarding;
+mod claim;
+mod claiming;
+mod due;
+mod elements;
+mod flowing;
+mod laws;
+mod lists;
+mod ordering;
+mod packing;
+mod piece;
+mod planning;
+mod served;
+mod slice;
+mod span;
+#[cfg(test)]
+mod tests;
+
+pub use elements::{Elements, ElementsFields};
+pub use flowing::{At, Flowing};
+pub use laws::{base_is_granted, grant_is_within_backlog, granted_by_flow};
+pub use lists::{Grants, Sids, Spans};
+pub use planning::schedule;
+pub use served::Served;
+pub use slice::Slice;
+pub use span::{Iuc, Span};

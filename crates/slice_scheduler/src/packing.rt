@@ -1,0 +1,68 @@
+//! Grants put one after the other into a slice.
+
+ghost use Rattle.std.specs.Prelude.{◌≡◌, ◌+◌, ◌-◌, ◌≤◌, ◌++◌, All, IfOk, OnOk};
+ghost use Rattle.std.specs.List.{flat_map};
+ghost use Rattle.slice_scheduler.specs.Schedule.{award_pieces, idle, packed, minislots_in};
+ghost use Rattle.slice_scheduler.specs.Tiles.{Tiles};
+ghost use Rattle.slice_scheduler.specs.Wanted.{HasMinislots};
+
+use crate::award::Award;
+use crate::due::iuc_for;
+use crate::flowing::At;
+use crate::piece::Piece;
+use crate::slice::Slice;
+use crate::span::{Iuc, Span};
+use std::alloc::{AllocError, Global};
+
+/// Adds the awards that are more than none.
+pub(crate) fn push_awards(
+    pieces: &mut Vec<Piece>,
+    awards: &[Award],
+    at: &At,
+) -> Result<(), AllocError>
+    requires { All HasMinislots pieces.old.items }
+    ensures items { OnOk result (pieces.new.items ≡ pieces.old.items ++ flat_map (award_pieces at.now) awards.now) }
+    ensures some { OnOk result (All HasMinislots pieces.new.items) }
+{
+    for award in awards {
+        if award.grant == 0 {
+            continue;
+        }
+        pieces.push(Piece {
+            sid: award.sid,
+            iuc: iuc_for(at, award.grant),
+            len: award.grant,
+        })?;
+    }
+    Ok(())
+}
+
+/// The grants one after the other from the slice's first minislot on, and then what is left.
+pub(crate) fn pack(alloc: Global, slice: &Slice, pieces: &[Piece]) -> Result<Vec<Span>, AllocError>
+    requires some { All HasMinislots pieces.now }
+    requires fits { minislots_in pieces.now ≤ slice.now.length }
+    ensures items { IfOk result (λ spans. spans.items ≡ packed slice.now.start (pieces.now ++ idle (slice.now.length - minislots_in pieces.now))) }
+    ensures tiles { IfOk result (λ spans. Tiles slice.now.start (slice.now.start + slice.now.length) spans.items) }
+{
+    let end = slice.get_start() + slice.get_length();
+    let mut start = slice.get_start();
+    let mut spans = Vec::new(alloc);
+    for piece in pieces {
+        spans.push(Span {
+            sid: piece.sid,
+            iuc: piece.iuc,
+            start,
+            len: piece.len,
+        })?;
+        start += piece.len;
+    }
+    if start < end {
+        spans.push(Span {
+            sid: 0,
+            iuc: Iuc::Long,
+            start,
+            len: end - start,
+        })?;
+    }
+    Ok(spans)
+}

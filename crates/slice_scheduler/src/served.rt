@@ -1,0 +1,14 @@
+//! What a schedule answers.
+
+use crate::elements::Elements;
+use crate::lists::Grants;
+
+/// What a schedule answers.
+#[derive(Debug, Drop)]
+pub struct Served {
+    /// The elements of the operator's part of the MAP.
+    pub elements: Elements,
+    /// The minislots granted to backlogs, each more than none, by SFID ascending. Grants that a flow has whatever it asks,
+    /// polls and unsolicited ones, are not among them.
+    pub granted: Grants,
+}
