@@ -1,0 +1,16 @@
+//! The plant file: what all operators share, what each operator is provisioned with, and that a plant is valid.
+#![tactic(auto)]
+
+mod class_table;
+mod consts;
+mod name;
+mod operator_row;
+mod plant;
+mod provision;
+
+pub use class_table::{Class, Classes};
+pub use consts::{Backoffs, Consts, ConstsFields};
+pub use name::OperatorName;
+pub use operator_row::{Modems, OperatorRow, RowFields};
+pub use plant::{Op, Plant, PlantFields, Rows};
+pub use provision::{Provision, Provisions};
