@@ -1,5 +1,5 @@
 -- What a parameter set needs of each frame and of its MAP (own).
-use Rattle.std.specs.Prelude.{◌+◌, ◌*◌}
+use Rattle.std.specs.Prelude.{◌+◌, ◌*◌, Option, Some, None}
 use Rattle.admission.specs.declared.budget.Budget.{Budget}
 use Rattle.param_sets.specs.Units.{UnitSizes, minislots_of, reserve_of}
 use Rattle.param_sets.specs.declared.scheduling.Scheduling.{Scheduling}
@@ -16,3 +16,8 @@ need_of_kind UnsolicitedGrant set units =
 
 abbrev pub need_of : ParamFields → UnitSizes → Budget
 need_of set units = need_of_kind set.scheduling set units
+
+-- what a set needs, where there is one
+abbrev pub need_if : UnitSizes → Option ParamFields → Budget
+need_if units None = record { minislots = 0; elements = 0 }
+need_if units (Some set) = need_of set units

@@ -6,8 +6,7 @@ use Rattle.dsx_messages.specs.declared.modem.Modem.{Modem}
 use Rattle.admission.specs.Free.{Numbers}
 use Rattle.admission.specs.declared.budget.Budget.{Budget}
 use Rattle.param_sets.specs.Units.{UnitSizes}
-use Rattle.param_sets.specs.Need.{need_of}
-use Rattle.param_sets.specs.declared.param_set.ParamFields.{ParamFields}
+use Rattle.param_sets.specs.Need.{need_if}
 use Rattle.param_sets.specs.declared.sets.SetsFields.{SetsFields}
 use Rattle.slice_table.specs.declared.consts.ConstsFields.{ConstsFields}
 use Rattle.slice_table.specs.declared.provision.Provision.{Provision}
@@ -42,11 +41,6 @@ pub record IsRow (row : RowFields) : Type 0 where
   pub modems : IsFrom 1 1024 (length row.modems)
 
 -- ---- the keys beside what all operators share
-
--- what a set needs, where there is one
-abbrev pub need_if : UnitSizes → Option ParamFields → Budget
-need_if units None = record { minislots = 0; elements = 0 }
-need_if units (Some set) = need_of set units
 
 -- what a provisioned flow needs: the need of its admitted set
 abbrev pub need_of_sets : UnitSizes → Option SetsFields → Budget
