@@ -1,0 +1,72 @@
+-- What a tick does: the timers, the frame, and the share that waits for the next one (CM-SP-MULPIv3.1, 7.2 and 11.2; the
+-- schedule and the counting in ticks are own).
+use Rattle.std.specs.Prelude.{◌==◌, ℕ, ◌+◌, List, [], ◌∷◌, ◌++◌, map, Option, Some, None, if◌then◌else◌}
+use Rattle.transactions.specs.declared.tick.Resend.{Resend}
+use Rattle.transactions.specs.declared.tick.GivenUp.{GivenUp}
+use Rattle.transactions.specs.Timers.{resent_in, given_up_in, kept_after}
+use Rattle.slice_scheduler.specs.declared.flowing.At.{At}
+use Rattle.slice_scheduler.specs.Schedule.{elements_of, granted_of}
+use Rattle.slice_table.specs.declared.consts.ConstsFields.{ConstsFields}
+use Rattle.slice_table.specs.declared.operator_row.RowFields.{RowFields}
+use Rattle.flow_table.specs.declared.flow.Flow.{Flow}
+use Rattle.flow_table.specs.Flow.{granted}
+use Rattle.flow_table.specs.Table.{flowing_in}
+use Rattle.operator_machine.specs.declared.output.Output.{Output}
+use Rattle.operator_machine.specs.declared.output.Output.TheVariants as outputs
+use Rattle.operator_machine.specs.declared.share.Share.{Share}
+use Rattle.operator_machine.specs.declared.share.NextShare.{NextShare}
+use Rattle.operator_machine.specs.State.{OperatorState}
+use Rattle.operator_machine.specs.Handle.{Ran, change_at, undone}
+
+-- ---- timers
+
+abbrev pub resent : Resend → Output
+resent resend = outputs.Reply resend.modem resend.reply
+
+-- each transaction that is given up is undone, in order
+abbrev pub all_undone : List GivenUp → List (ℕ × Flow) → List (ℕ × Flow)
+all_undone [] flows = flows
+all_undone (g ∷ given_up) flows = all_undone given_up (undone g.kind g.sfid flows)
+
+-- ---- the frame
+
+-- the frame that is scheduled, in the slice in force
+abbrev pub at_frame : ConstsFields → OperatorState → At
+at_frame consts state = record { slice = state.share.slice; frame = state.frame; short_max = consts.short_max; units = consts.units }
+
+-- each grant lowers its flow's backlog
+abbrev pub all_granted : ℕ → List (ℕ × ℕ) → List (ℕ × Flow) → List (ℕ × Flow)
+all_granted frame [] flows = flows
+all_granted frame (grant ∷ grants) flows = all_granted frame grants (change_at grant.0 (granted grant.1 frame) flows)
+
+-- ---- the share
+
+-- a share takes force in its frame, and waits no more
+abbrev pub share_at : ℕ → Share → Option NextShare → Share
+share_at frame share None = share
+share_at frame share (Some next) = if next.from == frame then next.share else share
+
+abbrev pub next_at : ℕ → Option NextShare → Option NextShare
+next_at frame None = None
+next_at frame (Some next) = if next.from == frame then None else Some next
+
+-- ---- the tick
+
+-- the flows once what is given up is undone
+abbrev pub flows_left : OperatorState → List (ℕ × Flow)
+flows_left state = all_undone (given_up_in state.kept) state.flows
+
+-- resends in the order of their transactions, then the frame, scheduled over the flows that are left; then the next frame
+abbrev pub ticked : ConstsFields → RowFields → OperatorState → Ran
+ticked consts row state = record {
+  state = record {
+    flows = all_granted state.frame (granted_of row.policy (at_frame consts state) (flowing_in (flows_left state))) (flows_left state);
+    kept = kept_after consts.timers state.kept;
+    inbox = state.inbox;
+    frame = state.frame + 1;
+    share = share_at (state.frame + 1) state.share state.next;
+    next = next_at (state.frame + 1) state.next;
+  };
+  outputs = map resent (resent_in state.kept)
+      ++ outputs.Frame state.frame (elements_of row.policy (at_frame consts state) (flowing_in (flows_left state))) ∷ [];
+}

@@ -1,0 +1,48 @@
+-- What an operator's machine keeps (CM-SP-MULPIv3.1, 7.5 and 11.2; the tables are own).
+use Rattle.std.specs.Prelude.{ℕ, List, [], map, Option, None}
+use Rattle.dsx_messages.specs.declared.modem.Modem.{Modem}
+use Rattle.transactions.specs.declared.entry.KeptEntry.{KeptEntry}
+use Rattle.slice_table.specs.declared.consts.ConstsFields.{ConstsFields}
+use Rattle.slice_table.specs.declared.operator_row.RowFields.{RowFields}
+use Rattle.slice_table.specs.Provisioned.{Opened, opened_flows}
+use Rattle.flow_table.specs.declared.flow.Flow.{Flow}
+use Rattle.operator_machine.specs.declared.heard.Arrival.{Arrival}
+use Rattle.operator_machine.specs.declared.share.Share.{Share}
+use Rattle.operator_machine.specs.declared.share.NextShare.{NextShare}
+
+pub record OperatorState : Type 0 where
+  -- the flows under their SFIDs, ascending
+  pub flows : List (ℕ × Flow)
+  -- the responses that are kept, in the order in which their transactions began
+  pub kept : List KeptEntry
+  -- what was heard and not handled, in order
+  pub inbox : List Arrival
+  -- the number of the next frame
+  pub frame : ℕ
+  -- the slice and the budget in force
+  pub share : Share
+  -- those that wait for their frame
+  pub next : Option NextShare
+
+-- a provisioned flow as it is opened in this frame
+abbrev pub opened_flow : ℕ → Opened → Flow
+opened_flow frame opened = record {
+  modem = opened.modem;
+  sid = opened.sid;
+  sets = opened.sets;
+  pending = None;
+  start = frame;
+  backlog = 0;
+  since = frame;
+}
+
+-- a machine as it is opened: the provisioned flows, and nothing else
+abbrev pub opened : ConstsFields → RowFields → OperatorState
+opened consts row = record {
+  flows = map (λ entry. (entry.0, opened_flow consts.first_frame entry.1)) (opened_flows consts row);
+  kept = [];
+  inbox = [];
+  frame = consts.first_frame;
+  share = record { slice = row.slice; budget = row.budget };
+  next = None;
+}

@@ -1,0 +1,15 @@
+//! One operator's own machine: what it keeps, what is done to it, what it puts out, and what each action makes of its state.
+//! The definitions stand in specs/; `operator_book` carries them out.
+#![tactic(auto)]
+
+mod action;
+mod heard;
+mod output;
+mod share;
+mod verdict;
+
+pub use action::{Action, Entry, SliceRow, Unfit};
+pub use heard::{Arrival, Heard};
+pub use output::{Cause, Output, Outputs};
+pub use share::{NextShare, Share};
+pub use verdict::{Addition, AskedSets, Change, Verdict};
