@@ -89,11 +89,19 @@ impl Flow {
             None => *self,
             Some(pending) => Flow {
                 modem: self.modem,
-                sid: if pending.sets.get_admitted().is_some() { self.sid } else { None },
+                sid: if pending.sets.get_admitted().is_some() {
+                    self.sid
+                } else {
+                    None
+                },
                 sets: pending.sets,
                 pending: None,
                 start: frame,
-                backlog: if asks_for_grants(pending.sets.get_active()) { self.backlog } else { 0 },
+                backlog: if asks_for_grants(pending.sets.get_active()) {
+                    self.backlog
+                } else {
+                    0
+                },
                 since: self.since,
             },
         }
