@@ -2,5 +2,7 @@
 #![tactic(auto)]
 
 mod flow;
+mod flows;
 
 pub use flow::{Flow, Pending};
+pub use flows::Flows;

@@ -1,0 +1,5 @@
+use Rattle.std.proofs.Common.{◌≡◌, ◌++◌}
+use Rattle.flow_table.proofs.flows.Flows.to_vec.Given as goal
+
+abbrev pub invariant-loop-sfid : goal.invariant-loop-sfid
+invariant-loop-sfid l = l.flows.items ++ l.sfid-iterator ≡ l.self.flows

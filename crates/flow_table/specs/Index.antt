@@ -1,0 +1,43 @@
+-- What the flows of one operator keep inside: the index by SID, and the rows of the ledger (own).
+use Rattle.std.specs.Prelude.{◌≡◌, ℕ, ◌≤◌, ◌↔◌, cond, List, length, map, Option, Some, None}
+use Rattle.std.specs.List.Sorted.{IsStrictlySortedBy}
+use Rattle.std.specs.Ordering.{nat_cmp}
+use Rattle.std.specs.Map.{keys_of, lookup, remove_entry}
+use Rattle.std.specs.BTreeMap.{is_at, insert_entry}
+use Rattle.admission.specs.declared.budget.Budget.{Budget}
+use Rattle.admission.specs.Ledger.{Committed}
+use Rattle.param_sets.specs.Units.{UnitSizes}
+use Rattle.flow_table.specs.declared.flow.Flow.{Flow}
+use Rattle.flow_table.specs.Flow.{committed_of}
+use Rattle.flow_table.specs.Table.{flow_at, sid_if, is_sid}
+
+-- the row of each flow: its SFID, and what it has committed
+abbrev pub rows_of : UnitSizes → List (ℕ × Flow) → List (ℕ × Budget)
+rows_of units flows = map (λ entry. (entry.0, committed_of units entry.1)) flows
+
+-- the SFID that the index gives for a SID
+abbrev pub sfid_at : ℕ → List (ℕ × ℕ) → Option ℕ
+sfid_at sid index = lookup (is_at (nat_cmp sid)) index
+
+-- the flows ascend by SFID and the index by SID, and the index gives for each SID that a flow has this flow's SFID
+pub record IsIndex (flows : List (ℕ × Flow)) (index : List (ℕ × ℕ)) : Type 0 where
+  pub ascending : IsStrictlySortedBy nat_cmp (keys_of flows)
+  pub sids_ascend : IsStrictlySortedBy nat_cmp (keys_of index)
+  pub finds : (sid sfid : ℕ) → (sfid_at sid index ≡ Some sfid) ↔ (sid_if (flow_at sfid flows) ≡ Some sid)
+
+-- what the flows of one operator keep: there is room for each, the index is theirs, and so are the rows of the ledger
+pub record IsFlowTable (capacity : ℕ) (units : UnitSizes) (flows : List (ℕ × Flow)) (index : List (ℕ × ℕ)) (ledger : Committed) : Type 0 where
+  pub within : length flows ≤ capacity
+  pub indexed : IsIndex flows index
+  pub room : ledger.room ≡ capacity
+  pub rows : ledger.rows ≡ rows_of units flows
+
+-- the index with this SFID for this SID, where there is one
+abbrev pub with_sid_of : Option ℕ → ℕ → List (ℕ × ℕ) → List (ℕ × ℕ)
+with_sid_of None sfid index = index
+with_sid_of (Some sid) sfid index = insert_entry nat_cmp index sid sfid
+
+-- the index without the SID that a flow had, where it has it no more
+abbrev pub without_sid_of : Option ℕ → Option ℕ → List (ℕ × ℕ) → List (ℕ × ℕ)
+without_sid_of None has index = index
+without_sid_of (Some sid) has index = cond (is_sid sid has) index (remove_entry (is_at (nat_cmp sid)) index)

@@ -1,0 +1,324 @@
+//! The flows of one operator.
+
+ghost use Rattle.std.specs.Prelude.{◌≡◌, ◌<◌, ◌≤◌, ◌↔◌, [], length, IsOk, IsSome, IsNone, IfOk, IfSome, OnOk, OnErr};
+ghost use Rattle.std.specs.List.Sorted.{IsStrictlySortedBy};
+ghost use Rattle.std.specs.Ordering.{nat_cmp};
+ghost use Rattle.std.specs.Map.{keys_of, lookup, remove_entry};
+ghost use Rattle.std.specs.BTreeMap.{insert_entry, is_at};
+ghost use Rattle.admission.specs.Free.{least_free_of};
+ghost use Rattle.flow_table.specs.Table.{flow_at, flow_with, sid_if, sfids_of, sids_of, with_flow, committed_minislots, committed_elements, MayStand, HaveOwnSids, flowing_in, flowing_of_set};
+ghost use Rattle.flow_table.specs.Index.{with_sid_of, without_sid_of};
+
+use crate::flow::Flow;
+use admission::{Budget, IdRange, Ledger, Over};
+use param_sets::Units;
+use slice_scheduler::Flowing;
+use std::alloc::{AllocError, Global};
+use std::collections::BTreeMap;
+use std::collections::btree_map::Entry;
+use std::marker::Model;
+
+/// The flows of one operator: found by SFID, and by SID through an index that is kept equal to them, with what all of them
+/// have committed. Contracts see a `FlowTable`.
+#[derive(Drop)]
+pub struct Flows {
+    capacity: u32,
+    units: Units,
+    by_sfid: BTreeMap<u32, Flow>,
+    by_sid: BTreeMap<u16, u32>,
+    ledger: Ledger,
+}
+
+impl Model for Flows {
+    ghost use Rattle.flow_table.specs.Table.{FlowTable};
+    ghost use Rattle.flow_table.specs.Index.{IsFlowTable};
+
+    ghost Value = { FlowTable };
+
+    ghost view = { λ f. record { capacity = f.capacity; units = f.units; flows = f.by_sfid.entries } };
+
+    ghost invariant = { λ f. IsFlowTable f.capacity f.units f.by_sfid.entries f.by_sid.entries f.ledger };
+}
+
+impl Flows {
+    /// No flows, and room for `capacity` of them.
+    pub fn new(alloc: Global, capacity: u32, units: Units) -> Result<Flows, AllocError>
+        ensures { IfOk result (λ flows. flows ≡ record { capacity = capacity; units = units; flows = [] }) }
+    {
+        let ledger = Ledger::new(alloc, capacity)?;
+        Ok(Flows {
+            capacity,
+            units,
+            by_sfid: BTreeMap::new(alloc),
+            by_sid: BTreeMap::new(alloc),
+            ledger,
+        })
+    }
+
+    /// How many flows there are.
+    pub fn len(&self) -> usize
+        ensures { result ≡ length self.now.flows }
+    {
+        self.by_sfid.len()
+    }
+
+    /// The flow of an SFID. Takes no memory.
+    pub fn get(&self, sfid: u32) -> Option<Flow>
+        ensures { result ≡ flow_at sfid self.now.flows }
+    {
+        self.by_sfid.get(&sfid).copied()
+    }
+
+    /// The flow that has this SID, with its SFID. Takes no memory.
+    pub fn with_sid(&self, sid: u16) -> Option<(u32, Flow)>
+        ensures { result ≡ flow_with sid self.now.flows }
+    {
+        let sfid = self.by_sid.get(&sid).copied()?;
+        let flow = self.by_sfid.get(&sfid).copied()?;
+        Some((sfid, flow))
+    }
+
+    /// The least SFID of a range that no flow has.
+    pub fn free_sfid(&self, alloc: Global, range: &IdRange) -> Result<Option<u32>, AllocError>
+        ensures { IfOk result (λ sfid. sfid ≡ least_free_of range.now (sfids_of self.now.flows)) }
+    {
+        let used = sfids_in(alloc, &self.by_sfid)?;
+        Ok(range.least_free(used.as_slice()))
+    }
+
+    /// The least SID of a range that no flow has.
+    pub fn free_sid(&self, alloc: Global, range: &IdRange) -> Result<Option<u32>, AllocError>
+        ensures { IfOk result (λ sid. sid ≡ least_free_of range.now (sids_of self.now.flows)) }
+    {
+        let used = sids_in(alloc, &self.by_sfid)?;
+        Ok(range.least_free(used.as_slice()))
+    }
+
+    /// Whether the totals of what is committed, with this flow under this SFID, stay within a limit; elements are tried
+    /// first. Takes no memory.
+    pub fn fits(&self, limit: Budget, sfid: u32, flow: &Flow) -> Result<(), Over>
+        ensures elements { (result ≡ Err Over.Elements) ↔ (limit.elements < committed_elements self.now.units (with_flow sfid flow.now self.now.flows)) }
+        ensures minislots { (result ≡ Err Over.Minislots) ↔ ((committed_elements self.now.units (with_flow sfid flow.now self.now.flows) ≤ limit.elements) × (limit.minislots < committed_minislots self.now.units (with_flow sfid flow.now self.now.flows))) }
+        ensures ok { IsOk result ↔ ((committed_elements self.now.units (with_flow sfid flow.now self.now.flows) ≤ limit.elements) × (committed_minislots self.now.units (with_flow sfid flow.now self.now.flows) ≤ limit.minislots)) }
+    {
+        self.ledger.fits(limit, sfid, flow.committed(self.units))
+    }
+
+    /// What all flows have committed, in minislots of a frame.
+    pub fn committed_minislots(&self) -> u64
+        ensures { result ≡ committed_minislots self.now.units self.now.flows }
+    {
+        self.ledger.total_minislots()
+    }
+
+    /// Puts a flow under an SFID, in place of the one that is there. At `AllocError` nothing has changed.
+    pub fn put(&mut self, sfid: u32, flow: Flow) -> Result<(), AllocError>
+        requires { MayStand self.old sfid flow }
+        ensures ok { OnOk result (self.new ≡ record self.old { flows = with_flow sfid flow self.old.flows }) }
+        ensures err { OnErr result (self.new ≡ self.old) }
+    {
+        let committed = flow.committed(self.units);
+        let had = sid_at(&self.by_sfid, sfid);
+        grow(&mut self.by_sfid, &mut self.by_sid, sfid, flow)?;
+        free(&mut self.by_sid, had, flow.sid);
+        commit(&mut self.ledger, sfid, committed);
+        Ok(())
+    }
+
+    /// Puts another flow in place of the one that is under an SFID; it has the SID of that one, or none. Takes no memory.
+    pub fn change(&mut self, sfid: u32, flow: Flow)
+        requires there { IsSome (flow_at sfid self.old.flows) }
+        requires sid { IfSome flow.sid (λ sid. sid_if (flow_at sfid self.old.flows) ≡ Some sid) }
+        ensures { self.new ≡ record self.old { flows = with_flow sfid flow self.old.flows } }
+    {
+        let committed = flow.committed(self.units);
+        let had = sid_at(&self.by_sfid, sfid);
+        replace(&mut self.by_sfid, sfid, flow);
+        free(&mut self.by_sid, had, flow.sid);
+        commit(&mut self.ledger, sfid, committed);
+    }
+
+    /// Removes the flow of an SFID, if there is one. Takes no memory.
+    pub fn remove(&mut self, sfid: u32)
+        ensures { self.new ≡ record self.old { flows = remove_entry (is_at (nat_cmp sfid)) self.old.flows } }
+    {
+        let had = sid_at(&self.by_sfid, sfid);
+        let _flow = self.by_sfid.remove(&sfid);
+        free(&mut self.by_sid, had, None);
+        release(&mut self.ledger, sfid);
+    }
+
+    /// The flows with an active set, by SFID, as they are scheduled.
+    pub fn flowing(&self, alloc: Global) -> Result<Vec<Flowing>, AllocError>
+        ensures { IfOk result (λ flowing. flowing.items ≡ flowing_in self.now.flows) }
+    {
+        let mut all = Vec::new(alloc);
+        for (sfid, flow) in &self.by_sfid {
+            if let Some(flowing) = flowing_of(*sfid, flow) {
+                all.push(flowing)?;
+            }
+        }
+        Ok(all)
+    }
+
+    /// The flows under their SFIDs, ascending: a copy.
+    pub fn to_vec(&self, alloc: Global) -> Result<Vec<(u32, Flow)>, AllocError>
+        ensures { IfOk result (λ flows. flows.items ≡ self.now.flows) }
+    {
+        let mut flows = Vec::with_capacity(alloc, self.by_sfid.len())?;
+        for (sfid, flow) in &self.by_sfid {
+            flows.push((*sfid, *flow))?;
+        }
+        Ok(flows)
+    }
+
+    /// What every table keeps, for a caller's proof. Does nothing.
+    pub fn kept(&self)
+        ensures ascending { IsStrictlySortedBy nat_cmp (keys_of self.now.flows) }
+        ensures within { length self.now.flows ≤ self.now.capacity }
+        ensures own_sids { HaveOwnSids self.now.flows }
+    {
+        let _ = &self.capacity;
+    }
+}
+
+/// The SID of the flow of an SFID.
+fn sid_at(flows: &BTreeMap<u32, Flow>, sfid: u32) -> Option<u16>
+    ensures { result ≡ sid_if (flow_at sfid flows.now.entries) }
+{
+    match flows.get(&sfid) {
+        None => None,
+        Some(flow) => flow.sid,
+    }
+}
+
+/// The SFIDs that are used.
+fn sfids_in(alloc: Global, flows: &BTreeMap<u32, Flow>) -> Result<Vec<u32>, AllocError>
+    ensures { IfOk result (λ sfids. sfids.items ≡ sfids_of flows.now.entries) }
+{
+    let mut sfids = Vec::with_capacity(alloc, flows.len())?;
+    for (sfid, _flow) in flows {
+        sfids.push(*sfid)?;
+    }
+    Ok(sfids)
+}
+
+/// The SIDs that are used.
+fn sids_in(alloc: Global, flows: &BTreeMap<u32, Flow>) -> Result<Vec<u32>, AllocError>
+    ensures { IfOk result (λ sids. sids.items ≡ sids_of flows.now.entries) }
+{
+    let mut sids = Vec::with_capacity(alloc, flows.len())?;
+    for (_sfid, flow) in flows {
+        if let Some(sid) = flow.sid {
+            sids.push(u32::from(sid))?;
+        }
+    }
+    Ok(sids)
+}
+
+/// A flow as it is scheduled, where it has an active set.
+fn flowing_of(sfid: u32, flow: &Flow) -> Option<Flowing>
+    ensures { result ≡ flowing_of_set sfid flow.now flow.now.sets.active }
+{
+    let set = flow.sets.get_active()?;
+    Some(Flowing {
+        sfid,
+        sid: flow.sid.unwrap_or(0),
+        set,
+        start: flow.start,
+        backlog: flow.backlog,
+        since: flow.since,
+    })
+}
+
+/// Puts a flow under its SFID and, where it has a SID, its SFID under that: both or neither.
+fn grow(
+    by_sfid: &mut BTreeMap<u32, Flow>,
+    by_sid: &mut BTreeMap<u16, u32>,
+    sfid: u32,
+    flow: Flow,
+) -> Result<(), AllocError>
+    ensures flows { OnOk result (by_sfid.new.entries ≡ with_flow sfid flow by_sfid.old.entries) }
+    ensures index { OnOk result (by_sid.new.entries ≡ with_sid_of flow.sid sfid by_sid.old.entries) }
+    ensures err { OnErr result ((by_sfid.new.entries ≡ by_sfid.old.entries) × (by_sid.new.entries ≡ by_sid.old.entries)) }
+{
+    // Read before the match, so that the check knows the type of this part of the flow.
+    let _pending = flow.pending;
+    match by_sfid.entry(sfid)? {
+        Entry::Vacant(place) => {
+            list(by_sid, flow.sid, sfid)?;
+            let _flow = place.insert(flow);
+        }
+        Entry::Occupied(place) => {
+            list(by_sid, flow.sid, sfid)?;
+            *place.into_mut() = flow;
+        }
+    }
+    Ok(())
+}
+
+/// Puts an SFID under a SID, where there is one.
+fn list(by_sid: &mut BTreeMap<u16, u32>, sid: Option<u16>, sfid: u32) -> Result<(), AllocError>
+    ensures ok { OnOk result (by_sid.new.entries ≡ with_sid_of sid sfid by_sid.old.entries) }
+    ensures err { OnErr result (by_sid.new.entries ≡ by_sid.old.entries) }
+{
+    if let Some(sid) = sid {
+        let _old = by_sid.insert(sid, sfid)?;
+    }
+    Ok(())
+}
+
+/// Removes the SID that a flow had, where it has it no more.
+fn free(by_sid: &mut BTreeMap<u16, u32>, had: Option<u16>, has: Option<u16>)
+    ensures { by_sid.new.entries ≡ without_sid_of had has by_sid.old.entries }
+{
+    if let Some(sid) = had {
+        if has != Some(sid) {
+            let _sfid = by_sid.remove(&sid);
+        }
+    }
+}
+
+/// Puts a flow in place of the one of its SFID.
+fn replace(by_sfid: &mut BTreeMap<u32, Flow>, sfid: u32, flow: Flow)
+    requires { IsSome (flow_at sfid by_sfid.old.entries) }
+    ensures { by_sfid.new.entries ≡ with_flow sfid flow by_sfid.old.entries }
+{
+    if let Some(place) = by_sfid.get_mut(&sfid) {
+        *place = flow;
+    }
+}
+
+/// Puts the row of a flow, in place of the one that is there.
+fn commit(ledger: &mut Ledger, sfid: u32, budget: Budget)
+    requires { length (insert_entry nat_cmp ledger.old.rows sfid budget) ≤ ledger.old.room }
+    ensures { ledger.new ≡ record ledger.old { rows = insert_entry nat_cmp ledger.old.rows sfid budget } }
+{
+    match ledger.change(sfid, budget) {
+        Ok(()) => {}
+        Err(_) => add(ledger, sfid, budget),
+    }
+}
+
+/// Adds the row of a flow that has none.
+fn add(ledger: &mut Ledger, sfid: u32, budget: Budget)
+    requires room { length ledger.old.rows < ledger.old.room }
+    requires absent { IsNone (lookup (is_at (nat_cmp sfid)) ledger.old.rows) }
+    ensures { ledger.new ≡ record ledger.old { rows = insert_entry nat_cmp ledger.old.rows sfid budget } }
+{
+    match ledger.add(sfid, budget) {
+        Ok(()) => {}
+        Err(_) => unreachable!(),
+    }
+}
+
+/// Removes the row of a flow, if there is one.
+fn release(ledger: &mut Ledger, sfid: u32)
+    ensures { ledger.new ≡ record ledger.old { rows = remove_entry (is_at (nat_cmp sfid)) ledger.old.rows } }
+{
+    match ledger.remove(sfid) {
+        Ok(()) => {}
+        // No row stands.
+        Err(_) => {}
+    }
+}
