@@ -1,6 +1,6 @@
 //! A service flow.
 
-ghost use Rattle.std.specs.Prelude.{◌≡◌, ◌<◌};
+ghost use Rattle.std.specs.Prelude.{◌≡◌, ◌<◌, IfSome, Some};
 ghost use Rattle.param_sets.specs.Need.{need_if};
 ghost use Rattle.flow_table.specs.Flow.{committed_of, asks_for_grants, acknowledged, taken_back, requested, granted};
 
@@ -83,7 +83,8 @@ impl Flow {
     /// The flow once its pending sets are acknowledged in this frame: they are its sets, its intervals count from this
     /// frame, its SID is free where none is admitted, and its backlog is cleared where it may not ask.
     pub fn acknowledged(&self, frame: u32) -> Flow
-        ensures { result ≡ acknowledged frame self.now }
+        ensures value { result ≡ acknowledged frame self.now }
+        ensures sid { IfSome result.sid (λ sid. self.now.sid ≡ Some sid) }
     {
         match self.pending {
             None => *self,
@@ -109,7 +110,8 @@ impl Flow {
 
     /// The flow once its pending sets are taken back, and its SID where it came with them.
     pub fn taken_back(&self) -> Flow
-        ensures { result ≡ taken_back self.now }
+        ensures value { result ≡ taken_back self.now }
+        ensures sid { IfSome result.sid (λ sid. self.now.sid ≡ Some sid) }
     {
         match self.pending {
             None => *self,
@@ -124,7 +126,8 @@ impl Flow {
     /// The flow once its modem has asked for so many minislots in this frame: they are its backlog from now on, which waits
     /// since this frame where there was none.
     pub fn requested(&self, minislots: u16, frame: u32) -> Flow
-        ensures { result ≡ requested minislots frame self.now }
+        ensures value { result ≡ requested minislots frame self.now }
+        ensures sid { IfSome result.sid (λ sid. self.now.sid ≡ Some sid) }
     {
         Flow {
             backlog: minislots,
@@ -137,7 +140,8 @@ impl Flow {
     /// the next frame.
     pub fn granted(&self, minislots: u16, frame: u32) -> Flow
         requires { frame < 4294967295 }
-        ensures { result ≡ granted minislots frame self.now }
+        ensures value { result ≡ granted minislots frame self.now }
+        ensures sid { result.sid ≡ self.now.sid }
     {
         let left = self.backlog.saturating_sub(minislots);
         Flow {
