@@ -1,3 +1,3 @@
 mod EntryLemmas
-mod IndexLemmas
+pub mod IndexLemmas
 mod RowLemmas

@@ -1,2 +1,3 @@
-pub mod Faults
-pub mod Replays
+pub mod Replies
+pub mod Nested
+pub mod Room

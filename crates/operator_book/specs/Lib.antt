@@ -1,10 +1,2 @@
-pub mod Row
-pub mod Mine
-pub mod State
-pub mod Verdict
-pub mod Machine
-pub mod Replay
-pub use Rattle.tlv24.specs.Flow
-pub use Rattle.dsx_messages.specs.Reading
-pub use Rattle.dsx_messages.specs.Spelling
-pub use Rattle.admission.specs.Free
+pub mod Over
+pub mod Held

@@ -1,351 +1,300 @@
-//! How a message is judged: the table of checks.
+//! What becomes of a request: the checks that ask for room.
 
-ghost use Rattle.std.specs.Prelude.{◌≡◌, ◌≤◌, ℕ, List, length, map, IfOk, IfSome, Option, Some, Result, Ok, Err};
-ghost use Rattle.dsx_messages.specs.WellFormed.{GoesWith, Names};
-ghost use Rattle.dsx_messages.specs.declared.kind.Kind.TheVariants.{Dsa};
-ghost use Rattle.dsx_messages.specs.Reading.{Fails};
-ghost use Rattle.dsx_messages.specs.declared.message.Message.{Message};
-ghost use Rattle.dsx_messages.specs.declared.fault.MessageFault.{MessageFault};
-ghost use Rattle.operator_book.specs.Row.{IsRow};
-ghost use Rattle.operator_book.specs.declared.state.Flow.{Flow};
-ghost use Rattle.operator_book.specs.Verdict.{place_of, sfids_of, sids_of, refused, is_of_cmts, added, room_verdict, is_best_effort, set_verdict, identified_verdict, encodings_verdict, fault_verdict, early_verdict, ack_verdict, verdict_of, verdict, HasRightId};
+ghost use Rattle.std.specs.Prelude.{◌≡◌, ◌<◌, ◌≤◌, IfOk, IfSome, Some, All, length};
+ghost use Rattle.admission.specs.Free.{IsIn, IsLeastFree};
+ghost use Rattle.dsx_messages.specs.declared.kind.Kind.TheVariants.{Dsd};
+ghost use Rattle.flow_table.specs.Table.{flow_at, with_flow, sids_of, MayStand};
+ghost use Rattle.operator_machine.specs.Asked.{free_flow, addition_of, change_of};
+ghost use Rattle.operator_machine.specs.Verdict.{limit_of, within_limit, no_room, new_flow, added_reply, added_under, added, changed_flow, changed_reply, changed_with, changed_with_new, wants_sid, changed, addition_verdict, change_verdict, deletion_verdict, verdict};
+ghost use Rattle.operator_machine.specs.declared.verdict.Verdict.TheVariants.{Put};
+ghost use Rattle.operator_book.specs.Held.{table_of, MayPut};
 
-use crate::output::Cause;
-use crate::row::RowFields;
-use crate::state::{Flow, Waiting};
-use dsx_messages::{
-    Code, Detail, FlowId, Kind, Message, MessageFault, Modem, Reply, ReplyFields, Request, read,
-};
+use crate::asked::{addition_of, change_of, free_flow};
+use crate::machine::Machine;
+use crate::refusal::refusal;
+use admission::Budget;
+use dsx_messages::{Code, Detail, Kind, Modem, Reply, ReplyFields, Request};
+use flow_table::{Flow, Pending};
+use operator_machine::{Addition, Change, Verdict};
+use param_sets::Sets;
 use std::alloc::{AllocError, Global};
-use std::collections::BTreeMap;
-use tlv24::{FlowTlv, TlvFault};
+use tlv24::FlowTlv;
 
-/// What becomes of a message.
-#[derive(Clone, Copy, Debug)]
-pub enum Verdict {
-    /// Nothing is answered, and nothing changes.
-    Silent(Cause),
-    /// It is refused with this reply, and nothing changes.
-    Refused(Reply),
-    /// A flow is added, and waits for its acknowledgement.
-    Added {
-        tid: u16,
-        sfid: u32,
-        sid: u16,
-        reply: Reply,
-    },
-    /// The request at this place of those that wait is acknowledged: its flow stays where the code was 0, else it goes.
-    Acknowledged {
-        place: usize,
-        okay: bool,
-    },
+/// There is no room for what is asked.
+fn no_room(kind: Kind, tid: u16) -> Verdict
+    ensures { result ≡ no_room kind tid }
+{
+    Verdict::Refused {
+        reply: refusal(kind, tid, Code::RejectTemporary),
+    }
 }
 
-/// An addition is refused.
-fn refused(tid: u16, code: Code, detail: Detail) -> Verdict
-    requires { GoesWith Dsa code detail }
-    ensures { result ≡ refused tid code detail }
+/// A flow that was added in this frame, and waits.
+fn new_flow(modem: Modem, frame: u32, sets: Sets, sid: u16) -> Flow
+    ensures { result ≡ new_flow modem frame sets sid }
 {
-    Verdict::Refused(Reply::new(ReplyFields {
+    Flow {
+        modem,
+        sid: Some(sid),
+        sets: Sets::dynamic(),
+        pending: Some(Pending {
+            sets,
+            sid_is_new: true,
+        }),
+        start: frame,
+        backlog: 0,
+        since: frame,
+    }
+}
+
+/// The reply to an addition that is accepted.
+fn added_reply(tid: u16, reference: u16, sfid: u32, sid: u16) -> Reply
+    requires { sid ≤ 8191 }
+    ensures { result ≡ added_reply tid reference sfid sid }
+{
+    Reply::new(ReplyFields {
         kind: Kind::Dsa,
         tid,
-        code,
-        detail,
-    }))
+        code: Code::Okay,
+        detail: Detail::Given {
+            reference: Some(reference),
+            sfid,
+            sid: Some(sid),
+        },
+    })
 }
 
-/// The place of the request that waits under a transaction ID of a modem.
-fn place_of(waiting: &[Waiting], modem: Modem, tid: u16) -> Option<usize>
-    ensures { result ≡ place_of waiting.now modem tid }
+/// A flow of which a change waits.
+fn changed_flow(change: &Change, sid: Option<u16>, sid_is_new: bool) -> Flow
+    ensures { result ≡ changed_flow change.now sid sid_is_new }
 {
-    waiting
-        .iter()
-        .position(|w| w.modem == modem && w.tid == tid)
-}
-
-fn sfids_of(alloc: Global, flows: &BTreeMap<u32, Flow>) -> Result<Vec<u32>, AllocError>
-    ensures { IfOk result (λ sfids. sfids.items ≡ sfids_of flows.now.entries) }
-{
-    let mut sfids = Vec::with_capacity(alloc, flows.len())?;
-    for (sfid, _flow) in flows {
-        sfids.push(*sfid)?;
+    Flow {
+        sid,
+        pending: Some(Pending {
+            sets: change.sets,
+            sid_is_new,
+        }),
+        ..change.flow
     }
-    Ok(sfids)
 }
 
-fn sids_of(alloc: Global, flows: &BTreeMap<u32, Flow>) -> Result<Vec<u32>, AllocError>
-    ensures { IfOk result (λ sids. sids.items ≡ sids_of flows.now.entries) }
+/// The reply to a change that is accepted.
+fn changed_reply(tid: u16, sfid: u32, sets: Sets, sid: Option<u16>) -> Reply
+    requires { IfSome sid (λ n. n ≤ 8191) }
+    ensures { result ≡ changed_reply tid sfid sets sid }
 {
-    let mut sids = Vec::with_capacity(alloc, flows.len())?;
-    for (_sfid, flow) in flows {
-        sids.push(u32::from(flow.sid))?;
+    let sid = if sets.get_admitted().is_some() {
+        sid
+    } else {
+        None
+    };
+    Reply::new(ReplyFields {
+        kind: Kind::Dsc,
+        tid,
+        code: Code::Okay,
+        detail: Detail::Given {
+            reference: None,
+            sfid,
+            sid,
+        },
+    })
+}
+
+/// Whether a change needs a SID that the flow has not.
+fn wants_sid(change: &Change) -> bool
+    ensures { result ≡ wants_sid change.now }
+{
+    change.sets.get_admitted().is_some() && change.flow.sid.is_none()
+}
+
+impl Machine {
+    /// What may be committed: the budget in force, and while another waits the smaller of the two; and the quota of elements.
+    fn limit(&self) -> Budget
+        ensures { result ≡ limit_of self.now.row self.now.state }
+    {
+        let budget = match self.next {
+            None => self.share.budget,
+            Some(next) => self.share.budget.min(next.share.budget),
+        };
+        Budget {
+            minislots: u32::from(budget),
+            elements: u32::from(self.row.get_fields().elements),
+        }
     }
-    Ok(sids)
-}
 
-/// A flow with the identifiers that are free.
-fn added(tid: u16, reference: u16, sfid: Option<u32>, sid: Option<u32>) -> Verdict
-    requires { IfSome sid (λ sid. sid ≤ 8191) }
-    ensures { result ≡ added tid reference sfid sid }
-{
-    match (sfid, sid) {
-        (Some(sfid), Some(sid)) => {
-            let sid = sid as u16;
-            let reply = Reply::new(ReplyFields {
-                kind: Kind::Dsa,
-                tid,
-                code: Code::Okay,
-                detail: Detail::Given {
-                    reference: Some(reference),
-                    sfid,
-                    sid: Some(sid),
-                },
-            });
-            Verdict::Added {
-                tid,
-                sfid,
-                sid,
-                reply,
+    /// A number of the row's range as a SID.
+    fn sid_of(&self, number: u32) -> u16
+        requires { number ≤ self.now.row.sids.last }
+        ensures value { result ≡ number }
+        ensures range { result ≤ 8191 }
+    {
+        let _row = self.row.get_fields();
+        number as u16
+    }
+
+    /// A flow that is put under an SFID, unless more would be committed with it than may be.
+    fn put_within_limit(&self, kind: Kind, tid: u16, sfid: u32, flow: Flow, reply: Reply) -> Verdict
+        requires { MayStand (table_of self.now) sfid flow }
+        ensures value { result ≡ within_limit kind tid self.now.consts.units (limit_of self.now.row self.now.state) (with_flow sfid flow self.now.state.flows) (Put sfid flow reply) }
+        ensures puts { MayPut (table_of self.now) result }
+    {
+        match self.flows.fits(self.limit(), sfid, &flow) {
+            Ok(()) => Verdict::Put { sfid, flow, reply },
+            Err(_) => no_room(kind, tid),
+        }
+    }
+
+    /// An addition, where there is room for it.
+    #[tactic(auto, unfolding(operator_machine::specs::Verdict::added))]
+    fn added(
+        &self,
+        alloc: Global,
+        modem: Modem,
+        tid: u16,
+        addition: &Addition,
+    ) -> Result<Verdict, AllocError>
+        ensures value { IfOk result (λ v. v ≡ added self.now.consts self.now.row self.now.state modem tid addition.now) }
+        ensures puts { IfOk result (MayPut (table_of self.now)) }
+    {
+        let row = self.row.get_fields();
+        if self.flows.len() >= usize::from(row.flows) {
+            return Ok(no_room(Kind::Dsa, tid));
+        }
+        let sfid = self.flows.free_sfid(alloc, &row.sfids)?;
+        let sid = self.flows.free_sid(alloc, &row.sids)?;
+        Ok(self.added_under(modem, tid, addition, sfid, sid))
+    }
+
+    /// An addition under identifiers that are free.
+    fn added_under(
+        &self,
+        modem: Modem,
+        tid: u16,
+        addition: &Addition,
+        sfid: Option<u32>,
+        sid: Option<u32>,
+    ) -> Verdict
+        requires room { length self.now.state.flows < self.now.row.flows }
+        requires free { IfSome sid (IsLeastFree self.now.row.sids (sids_of self.now.state.flows)) }
+        ensures puts { MayPut (table_of self.now) result }
+        ensures value { result ≡ added_under self.now.consts self.now.row self.now.state modem tid addition.now sfid sid }
+    {
+        let (Some(sfid), Some(sid)) = (sfid, sid) else {
+            return no_room(Kind::Dsa, tid);
+        };
+        self.flows.kept();
+        let sid = self.sid_of(sid);
+        let flow = new_flow(modem, self.frame, addition.sets, sid);
+        let reply = added_reply(tid, addition.reference, sfid, sid);
+        self.put_within_limit(Kind::Dsa, tid, sfid, flow, reply)
+    }
+
+    /// A change of a flow to this SID, where there is room for it.
+    fn changed_with(&self, tid: u16, change: &Change, sid: Option<u16>, sid_is_new: bool) -> Verdict
+        requires stands { MayStand (table_of self.now) change.now.sfid (changed_flow change.now sid sid_is_new) }
+        requires range { IfSome sid (λ n. n ≤ 8191) }
+        ensures puts { MayPut (table_of self.now) result }
+        ensures value { result ≡ changed_with self.now.consts self.now.row self.now.state tid change.now sid sid_is_new }
+    {
+        let flow = changed_flow(change, sid, sid_is_new);
+        let reply = changed_reply(tid, change.sfid, change.sets, sid);
+        self.put_within_limit(Kind::Dsc, tid, change.sfid, flow, reply)
+    }
+
+    /// A change, where there is room for it.
+    #[tactic(auto, unfolding(operator_machine::specs::Verdict::changed))]
+    fn changed(&self, alloc: Global, tid: u16, change: &Change) -> Result<Verdict, AllocError>
+        requires there { flow_at change.now.sfid self.now.state.flows ≡ Some change.now.flow }
+        requires range { IfSome change.now.flow.sid (λ n. n ≤ 8191) }
+        ensures value { IfOk result (λ v. v ≡ changed self.now.consts self.now.row self.now.state tid change.now) }
+        ensures puts { IfOk result (MayPut (table_of self.now)) }
+    {
+        self.flows.kept();
+        if !wants_sid(change) {
+            return Ok(self.changed_with(tid, change, change.flow.sid, false));
+        }
+        match self.flows.free_sid(alloc, &self.row.get_fields().sids)? {
+            None => Ok(no_room(Kind::Dsc, tid)),
+            Some(sid) => Ok(self.changed_with(tid, change, Some(self.sid_of(sid)), true)),
+        }
+    }
+
+    /// What becomes of an addition.
+    fn addition_verdict(
+        &self,
+        alloc: Global,
+        modem: Modem,
+        tid: u16,
+        encodings: &[FlowTlv],
+    ) -> Result<Verdict, AllocError>
+        ensures value { IfOk result (λ v. v ≡ addition_verdict self.now.consts self.now.row self.now.state modem tid (addition_of self.now.consts tid encodings.now)) }
+        ensures puts { IfOk result (MayPut (table_of self.now)) }
+    {
+        match addition_of(&self.consts, tid, encodings) {
+            Err(reply) => Ok(Verdict::Refused { reply }),
+            Ok(addition) => self.added(alloc, modem, tid, &addition),
+        }
+    }
+
+    /// What becomes of a change.
+    fn change_verdict(
+        &self,
+        alloc: Global,
+        modem: Modem,
+        tid: u16,
+        encodings: &[FlowTlv],
+    ) -> Result<Verdict, AllocError>
+        requires { All (IsIn self.now.row.sids) (sids_of self.now.state.flows) }
+        ensures value { IfOk result (λ v. v ≡ change_verdict self.now.consts self.now.row self.now.state tid (change_of self.now.consts self.now.state.flows modem tid encodings.now)) }
+        ensures puts { IfOk result (MayPut (table_of self.now)) }
+    {
+        match change_of(&self.consts, &self.flows, modem, tid, encodings) {
+            Err(reply) => Ok(Verdict::Refused { reply }),
+            Ok(change) => {
+                let _row = self.row.get_fields();
+                self.changed(alloc, tid, &change)
             }
         }
-        _ => refused(tid, Code::RejectTemporary, Detail::Nothing),
     }
-}
 
-/// A flow with the least free identifiers, where the row allows one more.
-fn room_verdict(
-    alloc: Global,
-    row: &RowFields,
-    flows: &BTreeMap<u32, Flow>,
-    tid: u16,
-    reference: u16,
-) -> Result<Verdict, AllocError>
-    requires { IsRow row.now }
-    ensures { IfOk result (λ v. v ≡ room_verdict row.now flows.now.entries tid reference) }
-{
-    if flows.len() >= usize::from(row.flows) {
-        return Ok(refused(tid, Code::RejectTemporary, Detail::Nothing));
-    }
-    let sfids = sfids_of(alloc, flows)?;
-    let sids = sids_of(alloc, flows)?;
-    let sfid = row.sfids.least_free(sfids.as_slice());
-    let sid = row.sids.least_free(sids.as_slice());
-    Ok(added(tid, reference, sfid, sid))
-}
-
-fn is_best_effort(scheduling: Option<u8>) -> bool
-    ensures { result ≡ is_best_effort scheduling }
-{
-    match scheduling {
-        None => true,
-        Some(scheduling) => scheduling == 2,
-    }
-}
-
-/// The set type and the scheduling type.
-fn set_verdict(
-    alloc: Global,
-    row: &RowFields,
-    flows: &BTreeMap<u32, Flow>,
-    tid: u16,
-    reference: u16,
-    flow: &FlowTlv,
-) -> Result<Verdict, AllocError>
-    requires { IsRow row.now }
-    ensures { IfOk result (λ v. v ≡ set_verdict row.now flows.now.entries tid reference flow.now.set_type flow.now.scheduling_type) }
-{
-    let id = Some(FlowId::Reference(reference));
-    let Some(set_type) = flow.get_set_type() else {
-        return Ok(refused(
-            tid,
-            Code::RejectRequiredParameterNotPresent,
-            Detail::Errored { id, subtype: 6 },
-        ));
-    };
-    if set_type != 6 {
-        return Ok(refused(
-            tid,
-            Code::RejectInvalidForContext,
-            Detail::Errored { id, subtype: 6 },
-        ));
-    }
-    if !is_best_effort(flow.get_scheduling_type()) {
-        return Ok(refused(
-            tid,
-            Code::RejectInvalidForContext,
-            Detail::Errored { id, subtype: 15 },
-        ));
-    }
-    room_verdict(alloc, row, flows, tid, reference)
-}
-
-/// The encodings of an addition: one, with a reference.
-fn encodings_verdict(
-    alloc: Global,
-    row: &RowFields,
-    flows: &BTreeMap<u32, Flow>,
-    tid: u16,
-    encodings: &[FlowTlv],
-) -> Result<Verdict, AllocError>
-    requires { IsRow row.now }
-    ensures { IfOk result (λ v. v ≡ encodings_verdict row.now flows.now.entries tid encodings.now) }
-{
-    match encodings {
-        [] => Ok(refused(
-            tid,
-            Code::RejectRequiredParameterNotPresent,
-            Detail::Nothing,
-        )),
-        [flow] => match flow.get_reference() {
-            None => Ok(refused(
-                tid,
-                Code::RejectRequiredParameterNotPresent,
-                Detail::Errored {
-                    id: None,
-                    subtype: 1,
-                },
-            )),
-            Some(reference) => set_verdict(alloc, row, flows, tid, reference, flow),
-        },
-        _ => Ok(refused(tid, Code::RejectMultipleUpstreamFlows, Detail::Nothing)),
-    }
-}
-
-/// What could not be read.
-fn fault_verdict(tid: u16, id: Option<FlowId>, fault: TlvFault) -> Verdict
-    requires { IfSome id (Names Dsa) }
-    ensures { result ≡ fault_verdict tid id fault }
-{
-    match fault {
-        TlvFault::Cut { at: _ } | TlvFault::NoMemory => {
-            refused(tid, Code::RejectOther, Detail::Nothing)
-        }
-        TlvFault::WrongLength { subtype } => refused(
-            tid,
-            Code::RejectUnrecognizedSetting,
-            Detail::Errored { id, subtype },
-        ),
-        TlvFault::Twice { subtype } | TlvFault::Range { subtype } => refused(
-            tid,
-            Code::RejectInvalidForContext,
-            Detail::Errored { id, subtype },
-        ),
-    }
-}
-
-/// An acknowledgement of the request that waits at this place, if one does.
-fn ack_verdict(code: u8, place: Option<usize>) -> Verdict
-    ensures { result ≡ ack_verdict code place }
-{
-    match place {
-        None => Verdict::Silent(Cause::UnknownAck),
-        Some(place) => Verdict::Acknowledged {
-            place,
-            okay: code == 0,
-        },
-    }
-}
-
-/// Why a request is not read further, if so: its transaction ID is of the CMTS's half or in use, or no more can be kept.
-fn early_verdict(row: &RowFields, waiting: &[Waiting], modem: Modem, tid: u16) -> Option<Verdict>
-    ensures { result ≡ early_verdict row.now waiting.now modem tid }
-{
-    if tid >= 0x8000 {
-        return Some(refused(tid, Code::RejectUnknownTransaction, Detail::Nothing));
-    }
-    if place_of(waiting, modem, tid).is_some() {
-        return Some(Verdict::Silent(Cause::TidInUse));
-    }
-    if waiting.len() >= usize::from(row.transactions) {
-        return Some(refused(tid, Code::RejectTemporary, Detail::Nothing));
-    }
-    None
-}
-
-/// What becomes of a message: the first check of the table that holds decides.
-#[tactic(auto, unfolding(crate::specs::Verdict::verdict))]
-pub(crate) fn verdict_of(
-    alloc: Global,
-    row: &RowFields,
-    flows: &BTreeMap<u32, Flow>,
-    waiting: &[Waiting],
-    modem: Modem,
-    bytes: &[u8],
-) -> Result<Verdict, AllocError>
-    requires { IsRow row.now }
-    ensures { IfOk result (λ v. v ≡ verdict row.now flows.now.entries waiting.now modem bytes.now) }
-{
-    match read(alloc, bytes) {
-        Ok(message) => message_verdict(alloc, row, flows, waiting, modem, &message),
-        Err(fault) => unread_verdict(row, waiting, modem, fault),
-    }
-}
-
-/// What becomes of a message that was read.
-fn message_verdict(
-    alloc: Global,
-    row: &RowFields,
-    flows: &BTreeMap<u32, Flow>,
-    waiting: &[Waiting],
-    modem: Modem,
-    message: &Message,
-) -> Result<Verdict, AllocError>
-    requires { IsRow row.now }
-    ensures { IfOk result (λ v. v ≡ verdict_of row.now flows.now.entries waiting.now modem (Ok message.now)) }
-{
-    match message {
-        Message::Request(
-            Request::Dsa {
-                tid,
-                flows: encodings,
+    /// What becomes of a deletion.
+    fn deletion_verdict(&self, modem: Modem, tid: u16, sfid: u32) -> Verdict
+        ensures { result ≡ deletion_verdict tid sfid (free_flow Dsd tid modem (flow_at sfid self.now.state.flows)) }
+    {
+        match free_flow(Kind::Dsd, tid, modem, self.flows.get(sfid)) {
+            Err(reply) => Verdict::Refused { reply },
+            Ok(_) => Verdict::Deleted {
+                sfid,
+                reply: Reply::new(ReplyFields {
+                    kind: Kind::Dsd,
+                    tid,
+                    code: Code::Okay,
+                    detail: Detail::Nothing,
+                }),
             },
-        ) => match early_verdict(row, waiting, modem, *tid) {
-            Some(verdict) => Ok(verdict),
-            None => encodings_verdict(alloc, row, flows, *tid, encodings.as_slice()),
-        },
-        Message::Ack {
-            kind: Kind::Dsa,
-            tid,
-            code,
-        } => Ok(ack_verdict(*code, place_of(waiting, modem, *tid))),
-        _ => Ok(Verdict::Silent(Cause::NotOurs)),
+        }
     }
-}
 
-/// What becomes of a message that could not be read.
-fn unread_verdict(
-    row: &RowFields,
-    waiting: &[Waiting],
-    modem: Modem,
-    fault: MessageFault,
-) -> Result<Verdict, AllocError>
-    requires { HasRightId fault }
-    ensures verdict { (flows : List (ℕ × Flow)) → IfOk result (λ v. v ≡ verdict_of row.now flows waiting.now modem (Err fault)) }
-    ensures told { IfOk result (λ _. (read : Result Message MessageFault) → Fails fault read → read ≡ Err fault) }
-{
-    match fault {
-        MessageFault::NoMemory => Err(AllocError),
-        MessageFault::Empty => Ok(Verdict::Silent(Cause::Empty)),
-        MessageFault::Short => Ok(Verdict::Silent(Cause::Short)),
-        MessageFault::Tlv {
-            tid,
-            kind: Kind::Dsa,
-            id,
-            fault,
-        } => Ok(match early_verdict(row, waiting, modem, tid) {
-            Some(verdict) => verdict,
-            None => fault_verdict(tid, id, fault),
-        }),
-        MessageFault::LeftOut {
-            tid,
-            kind: Kind::Dsa,
-            found: _,
-        } => Ok(match early_verdict(row, waiting, modem, tid) {
-            Some(verdict) => verdict,
-            None => refused(tid, Code::RejectUnrecognizedSetting, Detail::Nothing),
-        }),
-        MessageFault::NotOurs { mtype: _ }
-        | MessageFault::Tlv { .. }
-        | MessageFault::LeftOut { .. } => Ok(Verdict::Silent(Cause::NotOurs)),
+    /// What becomes of a request whose transaction is new: the first check of the table that holds decides.
+    #[tactic(auto, unfolding(operator_machine::specs::Verdict::verdict))]
+    pub(crate) fn verdict(
+        &self,
+        alloc: Global,
+        modem: Modem,
+        request: &Request,
+    ) -> Result<Verdict, AllocError>
+        requires { All (IsIn self.now.row.sids) (sids_of self.now.state.flows) }
+        ensures value { IfOk result (λ v. v ≡ verdict self.now.consts self.now.row self.now.state modem request.now) }
+        ensures puts { IfOk result (MayPut (table_of self.now)) }
+    {
+        match request {
+            Request::Dsa { tid, flows } => {
+                self.addition_verdict(alloc, modem, *tid, flows.as_slice())
+            }
+            Request::Dsc { tid, flows } => {
+                self.change_verdict(alloc, modem, *tid, flows.as_slice())
+            }
+            Request::Dsd { tid, sfid } => Ok(self.deletion_verdict(modem, *tid, *sfid)),
+        }
     }
 }

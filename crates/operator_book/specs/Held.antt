@@ -1,0 +1,37 @@
+-- What a book's machine holds beside its state (own).
+use Rattle.std.specs.Prelude.{◌≡◌, List}
+use Rattle.flow_table.specs.Table.{FlowTable, MayStand}
+use Rattle.slice_table.specs.declared.consts.ConstsFields.{ConstsFields}
+use Rattle.slice_table.specs.declared.operator_row.RowFields.{RowFields}
+use Rattle.transactions.specs.Keeping.{Keeping}
+use Rattle.operator_machine.specs.declared.verdict.Verdict.{Verdict}
+use Rattle.operator_machine.specs.declared.verdict.Verdict.TheVariants.{Refused, Put, Deleted}
+use Rattle.operator_machine.specs.State.{OperatorState}
+use Rattle.operator_machine.specs.Handle.{Ran}
+
+-- a machine: what all operators share, the operator's row, and the state
+pub record MachineView : Type 0 where
+  pub consts : ConstsFields
+  pub row : RowFields
+  pub state : OperatorState
+
+-- the flows and the kept responses have the row's room, the plant's measures and its timers
+pub record IsMachine (consts : ConstsFields) (row : RowFields) (flows : FlowTable) (kept : Keeping) : Type 0 where
+  pub flows_room : flows.capacity ≡ row.flows
+  pub units : flows.units ≡ consts.units
+  pub kept_room : kept.capacity ≡ row.transactions
+  pub timers : kept.waits ≡ consts.timers
+
+-- the machine's flows as a table
+abbrev pub table_of : MachineView → FlowTable
+table_of m = record { capacity = m.row.flows; units = m.consts.units; flows = m.state.flows }
+
+-- a flow that is to be put may stand
+abbrev pub MayPut : FlowTable → Verdict → Type 0
+MayPut table (Refused reply) = Unit {0}
+MayPut table (Put sfid flow reply) = MayStand table sfid flow
+MayPut table (Deleted sfid reply) = Unit {0}
+
+-- what has run, and what it put out
+abbrev pub with_state : MachineView → Ran → MachineView
+with_state m ran = record m { state = ran.state }

@@ -1,0 +1,14 @@
+-- The sets of a flow with those that a request asks for (own).
+use Rattle.std.specs.Prelude.{ℕ, Option, Some, None, Result}
+use Rattle.dsx_messages.specs.declared.code.Code.TheVariants.{RejectAuthorizationFailure}
+use Rattle.param_sets.specs.Sets.{sets_unless}
+use Rattle.param_sets.specs.declared.sets.SetsFields.{SetsFields}
+use Rattle.param_sets.specs.declared.refusal.Refusal.{Refusal}
+use Rattle.operator_machine.specs.declared.verdict.AskedSets.{AskedSets}
+use Rattle.operator_machine.specs.Asked.{failing_admitted}
+
+-- refused where the admitted set is not within the provisioned one
+abbrev pub asked_over : SetsFields → AskedSets → Result SetsFields Refusal
+asked_over sets asked =
+    sets_unless (failing_admitted asked.admitted sets.provisioned) RejectAuthorizationFailure
+    (record { provisioned = sets.provisioned; admitted = asked.admitted; active = asked.active })

@@ -1,0 +1,387 @@
+//! What the encodings of a request ask for: the checks that ask for no room.
+
+ghost use Rattle.std.specs.Prelude.{◌≡◌, ◌≢◌, find, Some, None, IfOk};
+ghost use Rattle.std.specs.Option.{option_copied};
+ghost use Rattle.std.specs.List.{list_all};
+ghost use Rattle.dsx_messages.specs.declared.kind.Kind.TheVariants.{Dsa, Dsc, Dsd};
+ghost use Rattle.flow_table.specs.Table.{flow_at};
+ghost use Rattle.operator_book.specs.Over.{asked_over};
+ghost use Rattle.operator_machine.specs.Asked.{stand_together, is_unclassed, number_in, is_same, has_set_type, first_of, first_encoding, free_flow, set_of, is_change, asked_by_type, asked_by_one, in_order, asked_by_two, asked_sets, failing_active, failing_admitted, nested_sets, addition_of, change_of};
+
+use crate::refusal::{refusal, refusal_naming};
+use dsx_messages::{Code, Kind, Modem, Reply};
+use flow_table::{Flow, Flows};
+use operator_machine::{Addition, AskedSets, Change};
+use param_sets::{ParamSet, Refusal, Sets, from_tlv, within};
+use slice_table::Consts;
+use tlv24::FlowTlv;
+
+/// The identifier of an encoding as a number.
+fn number_in(kind: Kind, flow: &FlowTlv) -> Option<u32>
+    ensures { result ≡ number_in kind flow.now }
+{
+    match kind {
+        Kind::Dsa => Some(u32::from(flow.get_reference()?)),
+        Kind::Dsc => flow.get_sfid(),
+        Kind::Dsd => None,
+    }
+}
+
+/// Whether two numbers are the same: two absent ones are.
+fn is_same(a: Option<u32>, b: Option<u32>) -> bool
+    ensures { result ≡ is_same a b }
+{
+    match (a, b) {
+        (None, None) => true,
+        (Some(a), Some(b)) => a == b,
+        _ => false,
+    }
+}
+
+fn has_set_type(number: u8, flow: &FlowTlv) -> bool
+    ensures { result ≡ has_set_type number flow.now }
+{
+    match flow.get_set_type() {
+        None => false,
+        Some(set_type) => set_type == number,
+    }
+}
+
+/// Whether encodings may stand in one request: one alone, or two of which one admits and the other activates.
+fn stand_together(encodings: &[FlowTlv]) -> bool
+    ensures { result ≡ stand_together encodings.now }
+{
+    match encodings {
+        [_] => true,
+        [a, b] => {
+            has_set_type(2, a) && has_set_type(4, b) || has_set_type(4, a) && has_set_type(2, b)
+        }
+        _ => false,
+    }
+}
+
+/// Whether each encoding has the identifier of this one.
+fn all_name(kind: Kind, first: &FlowTlv, others: &[FlowTlv]) -> bool
+    ensures { result ≡ list_all (λ other. is_same (number_in kind first.now) (number_in kind other)) others.now }
+{
+    let number = number_in(kind, first);
+    others
+        .iter()
+        .all(|other| is_same(number, number_in(kind, other)))
+}
+
+/// The first of the encodings, where they stand together.
+fn first_of(kind: Kind, tid: u16, encodings: &[FlowTlv]) -> Result<FlowTlv, Reply>
+    ensures { result ≡ first_of kind tid encodings.now }
+{
+    let Some((first, others)) = encodings.split_first() else {
+        return Err(refusal(
+            kind,
+            tid,
+            Code::RejectRequiredParameterNotPresent,
+        ));
+    };
+    if !all_name(kind, first, others) {
+        return Err(refusal(kind, tid, Code::RejectMultipleUpstreamFlows));
+    }
+    if !stand_together(encodings) {
+        return Err(refusal(kind, tid, Code::RejectDuplicateReference));
+    }
+    Ok(*first)
+}
+
+/// The first encoding that names a class that the plant has not.
+fn first_unclassed<'a>(consts: &Consts, encodings: &'a [FlowTlv]) -> Option<&'a FlowTlv>
+    ensures { option_copied result ≡ find (is_unclassed consts.now.classes) encodings.now }
+{
+    encodings.iter().find(|flow| consts.asked(flow).is_none())
+}
+
+/// The first of the encodings, where they stand together and none names a class that the plant has not.
+#[tactic(auto, unfolding(operator_machine::specs::Asked::first_encoding))]
+fn first_encoding(
+    kind: Kind,
+    tid: u16,
+    consts: &Consts,
+    encodings: &[FlowTlv],
+) -> Result<FlowTlv, Reply>
+    requires { kind ≢ Dsd }
+    ensures { result ≡ first_encoding kind tid consts.now.classes encodings.now }
+{
+    match first_unclassed(consts, encodings) {
+        Some(flow) => Err(refusal_naming(kind, tid, Code::RejectPermanent, flow, 4)),
+        None => first_of(kind, tid, encodings),
+    }
+}
+
+/// The flow of an SFID, where this modem may change or delete it now.
+pub(crate) fn free_flow(
+    kind: Kind,
+    tid: u16,
+    modem: Modem,
+    flow: Option<Flow>,
+) -> Result<Flow, Reply>
+    ensures { result ≡ free_flow kind tid modem flow }
+{
+    let Some(flow) = flow else {
+        return Err(refusal(kind, tid, Code::RejectFlowNotFound));
+    };
+    if flow.modem != modem {
+        return Err(refusal(kind, tid, Code::RejectNotOwner));
+    }
+    if flow.pending.is_some() {
+        return Err(refusal(kind, tid, Code::RejectTemporary));
+    }
+    Ok(flow)
+}
+
+/// The parameter set of an encoding, over its class.
+#[tactic(auto, unfolding(operator_machine::specs::Asked::set_of), using(crate::proofs::Replies::set_is_refused))]
+fn set_of(kind: Kind, tid: u16, consts: &Consts, flow: &FlowTlv) -> Result<ParamSet, Reply>
+    requires { kind ≢ Dsd }
+    ensures { result ≡ set_of kind tid consts.now flow.now }
+{
+    let Some(asked) = consts.asked(flow) else {
+        return Err(refusal_naming(kind, tid, Code::RejectPermanent, flow, 4));
+    };
+    match from_tlv(&asked, &consts.get_fields().units) {
+        Ok(set) => Ok(set),
+        Err(refused) => Err(refusal_naming(
+            kind,
+            tid,
+            refused.code,
+            flow,
+            refused.subtype,
+        )),
+    }
+}
+
+fn is_change(kind: Kind) -> bool
+    ensures { result ≡ is_change kind }
+{
+    kind == Kind::Dsc
+}
+
+/// The sets that one encoding of this set type asks for.
+fn asked_by_type(
+    kind: Kind,
+    tid: u16,
+    consts: &Consts,
+    flow: &FlowTlv,
+    set_type: u8,
+) -> Result<AskedSets, Reply>
+    requires { kind ≢ Dsd }
+    ensures { result ≡ asked_by_type kind tid consts.now flow.now set_type }
+{
+    match set_type {
+        2 => {
+            let set = set_of(kind, tid, consts, flow)?;
+            Ok(AskedSets {
+                admitted: Some(set),
+                active: None,
+            })
+        }
+        6 => {
+            let set = set_of(kind, tid, consts, flow)?;
+            Ok(AskedSets {
+                admitted: Some(set),
+                active: Some(set),
+            })
+        }
+        0 if is_change(kind) => Ok(AskedSets {
+            admitted: None,
+            active: None,
+        }),
+        _ => Err(refusal_naming(
+            kind,
+            tid,
+            Code::RejectInvalidForContext,
+            flow,
+            6,
+        )),
+    }
+}
+
+/// The sets that one encoding asks for.
+fn asked_by_one(
+    kind: Kind,
+    tid: u16,
+    consts: &Consts,
+    flow: &FlowTlv,
+) -> Result<AskedSets, Reply>
+    requires { kind ≢ Dsd }
+    ensures { result ≡ asked_by_one kind tid consts.now flow.now flow.now.set_type }
+{
+    match flow.get_set_type() {
+        None => Err(refusal_naming(
+            kind,
+            tid,
+            Code::RejectRequiredParameterNotPresent,
+            flow,
+            6,
+        )),
+        Some(set_type) => asked_by_type(kind, tid, consts, flow, set_type),
+    }
+}
+
+/// Two sets, of which one is admitted and the other active.
+fn in_order(first: &FlowTlv, a: ParamSet, b: ParamSet) -> AskedSets
+    ensures { result ≡ in_order first.now a b }
+{
+    if has_set_type(2, first) {
+        AskedSets {
+            admitted: Some(a),
+            active: Some(b),
+        }
+    } else {
+        AskedSets {
+            admitted: Some(b),
+            active: Some(a),
+        }
+    }
+}
+
+/// The sets that two encodings ask for.
+fn asked_by_two(
+    kind: Kind,
+    tid: u16,
+    consts: &Consts,
+    first: &FlowTlv,
+    second: &FlowTlv,
+) -> Result<AskedSets, Reply>
+    requires { kind ≢ Dsd }
+    ensures { result ≡ asked_by_two kind tid consts.now first.now second.now }
+{
+    let a = set_of(kind, tid, consts, first)?;
+    let b = set_of(kind, tid, consts, second)?;
+    Ok(in_order(first, a, b))
+}
+
+/// The sets that the encodings of a request ask for.
+#[tactic(auto, unfolding(operator_machine::specs::Asked::asked_sets))]
+fn asked_sets(
+    kind: Kind,
+    tid: u16,
+    consts: &Consts,
+    encodings: &[FlowTlv],
+) -> Result<AskedSets, Reply>
+    requires { kind ≢ Dsd }
+    ensures { result ≡ asked_sets kind tid consts.now encodings.now }
+{
+    match encodings {
+        [flow] => asked_by_one(kind, tid, consts, flow),
+        [first, second] => asked_by_two(kind, tid, consts, first, second),
+        _ => Err(refusal(kind, tid, Code::RejectDuplicateReference)),
+    }
+}
+
+/// The first subtype in which the active set is not within the admitted one.
+fn failing_active(asked: &AskedSets) -> Option<u8>
+    ensures { result ≡ failing_active asked.now.active asked.now.admitted }
+{
+    let active = asked.active?;
+    match asked.admitted {
+        None => Some(15),
+        Some(admitted) => within(&active, &admitted).err(),
+    }
+}
+
+/// The flow's sets with those that are asked for.
+#[tactic(auto, unfolding(operator_machine::specs::Asked::nested_sets))]
+fn nested_sets(
+    kind: Kind,
+    tid: u16,
+    first: &FlowTlv,
+    sets: Sets,
+    asked: &AskedSets,
+) -> Result<Sets, Reply>
+    requires { kind ≢ Dsd }
+    ensures { result ≡ nested_sets kind tid first.now sets.provisioned asked.now }
+{
+    if let Some(subtype) = failing_active(asked) {
+        return Err(refusal_naming(
+            kind,
+            tid,
+            Code::RejectInvalidForContext,
+            first,
+            subtype,
+        ));
+    }
+    match with_asked(sets, asked) {
+        Ok(sets) => Ok(sets),
+        Err(refused) => Err(refusal_naming(
+            kind,
+            tid,
+            Code::RejectAuthorizationFailure,
+            first,
+            refused.subtype,
+        )),
+    }
+}
+
+/// These sets with those that are asked for.
+fn with_asked(sets: Sets, asked: &AskedSets) -> Result<Sets, Refusal>
+    requires { failing_active asked.now.active asked.now.admitted ≡ None }
+    ensures { result ≡ asked_over sets asked.now }
+{
+    let Some(admitted) = asked.admitted else {
+        return Ok(sets.clear());
+    };
+    let sets = sets.admit(admitted)?;
+    match asked.active {
+        None => Ok(sets),
+        Some(active) => sets.activate(active),
+    }
+}
+
+/// What an addition asks for.
+#[tactic(auto, unfolding(operator_machine::specs::Asked::addition_of))]
+pub(crate) fn addition_of(
+    consts: &Consts,
+    tid: u16,
+    encodings: &[FlowTlv],
+) -> Result<Addition, Reply>
+    ensures { result ≡ addition_of consts.now tid encodings.now }
+{
+    let first = first_encoding(Kind::Dsa, tid, consts, encodings)?;
+    let Some(reference) = first.get_reference() else {
+        return Err(refusal_naming(
+            Kind::Dsa,
+            tid,
+            Code::RejectRequiredParameterNotPresent,
+            &first,
+            1,
+        ));
+    };
+    let asked = asked_sets(Kind::Dsa, tid, consts, encodings)?;
+    let sets = nested_sets(Kind::Dsa, tid, &first, Sets::dynamic(), &asked)?;
+    Ok(Addition { reference, sets })
+}
+
+/// What a change asks for of the flow of its SFID.
+#[tactic(auto, unfolding(operator_machine::specs::Asked::change_of))]
+pub(crate) fn change_of(
+    consts: &Consts,
+    flows: &Flows,
+    modem: Modem,
+    tid: u16,
+    encodings: &[FlowTlv],
+) -> Result<Change, Reply>
+    ensures value { result ≡ change_of consts.now flows.now.flows modem tid encodings.now }
+    ensures there { IfOk result (λ change. flow_at change.sfid flows.now.flows ≡ Some change.flow) }
+{
+    let first = first_encoding(Kind::Dsc, tid, consts, encodings)?;
+    let Some(sfid) = first.get_sfid() else {
+        return Err(refusal_naming(
+            Kind::Dsc,
+            tid,
+            Code::RejectRequiredParameterNotPresent,
+            &first,
+            2,
+        ));
+    };
+    let flow = free_flow(Kind::Dsc, tid, modem, flows.get(sfid))?;
+    let asked = asked_sets(Kind::Dsc, tid, consts, encodings)?;
+    let sets = nested_sets(Kind::Dsc, tid, &first, flow.sets, &asked)?;
+    Ok(Change { sfid, flow, sets })
+}
