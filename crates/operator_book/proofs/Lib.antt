@@ -1,3 +1,5 @@
 pub mod Replies
+pub mod Faults
+pub mod Inbox
 pub mod Nested
 pub mod Room

@@ -83,3 +83,10 @@ sid_in_range flows range sfid flow all there =
 pub few_sids : (o : Option ℕ) (last : ℕ) → last ≤ 8191 → IfSome o (λ sid. sid ≤ last) → IfSome o (λ sid. sid ≤ 8191)
 few_sids None last few in_range = tt
 few_sids (Some sid) last few in_range = omega arith
+
+-- a table of the same flows and the same room
+pub may_stand_same : (t u : FlowTable) (sfid : ℕ) (flow : Flow) → t.flows ≡ u.flows → t.capacity ≡ u.capacity → MayStand t sfid flow → MayStand u sfid flow
+may_stand_same t u sfid flow flows capacity h = record {
+  sid = subst (λ (fs : List (ℕ × Flow)). IfSome flow.sid (λ sid. (¬ Contains (sids_of fs) sid) ⊎ (sid_if (flow_at sfid fs) ≡ Some sid))) flows h.sid;
+  room = subst (λ (n : ℕ). length (with_flow sfid flow u.flows) ≤ n) capacity (subst (λ (fs : List (ℕ × Flow)). length (with_flow sfid flow fs) ≤ t.capacity) flows h.room);
+}

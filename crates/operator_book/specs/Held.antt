@@ -1,5 +1,9 @@
 -- What a book's machine holds beside its state (own).
-use Rattle.std.specs.Prelude.{◌≡◌, List}
+use Rattle.std.specs.Prelude.{◌≡◌, ◌≢◌, IfSome}
+use Rattle.dsx_messages.specs.declared.kind.Kind.TheVariants.{Dsd}
+use Rattle.dsx_messages.specs.declared.fault.MessageFault.{MessageFault}
+use Rattle.dsx_messages.specs.declared.fault.MessageFault.TheVariants as faults
+use Rattle.dsx_messages.specs.WellFormed.{Names}
 use Rattle.flow_table.specs.Table.{FlowTable, MayStand}
 use Rattle.slice_table.specs.declared.consts.ConstsFields.{ConstsFields}
 use Rattle.slice_table.specs.declared.operator_row.RowFields.{RowFields}
@@ -35,3 +39,8 @@ MayPut table (Deleted sfid reply) = Unit {0}
 -- what has run, and what it put out
 abbrev pub with_state : MachineView → Ran → MachineView
 with_state m ran = record m { state = ran.state }
+
+-- of a request at fault: it is an addition or a change, and the identifier that is told is of its kind
+abbrev pub HasRightId : MessageFault → Type 0
+HasRightId (faults.Tlv tid kind id fault) = (kind ≢ Dsd) × IfSome id (Names kind)
+HasRightId fault = Unit {0}

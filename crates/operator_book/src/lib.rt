@@ -2,6 +2,7 @@
 #![tactic(auto)]
 
 mod asked;
+mod handling;
 mod machine;
 mod refusal;
 mod verdict;

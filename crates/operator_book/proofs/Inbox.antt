@@ -1,0 +1,99 @@
+-- No handling looks at the inbox or changes it.
+use Rattle.std.proofs.Common.{◌≡◌, ℕ, Bool, true, false, List, [], ◌∷◌, Option, Some, None, Result, Ok, Err, refl, sym, ap, subst, ◌∙◌}
+use Rattle.std.specs.Prelude.{not, find, length, nat_le, slice_get, drop, if◌then◌else◌}
+use Rattle.std.specs.Option.{option_map}
+use Rattle.flow_table.specs.Table.{flow_with}
+use Rattle.std.proofs.lemmas.Option.{same_Some, none-some}
+use Rattle.dsx_messages.specs.declared.modem.Modem.{Modem}
+use Rattle.dsx_messages.specs.declared.kind.Kind.{Kind}
+use Rattle.dsx_messages.specs.declared.code.Code.TheVariants as codes
+use Rattle.dsx_messages.specs.declared.message.Message.{Message}
+use Rattle.dsx_messages.specs.declared.message.Message.TheVariants as messages
+use Rattle.dsx_messages.specs.declared.fault.MessageFault.{MessageFault}
+use Rattle.dsx_messages.specs.declared.fault.MessageFault.TheVariants as faults
+use Rattle.dsx_messages.specs.Reading.{message_of}
+use Rattle.dsx_messages.specs.Spelling.{spell_reply}
+use Rattle.transactions.specs.declared.entry.KeptEntry.{KeptEntry}
+use Rattle.transactions.specs.Entry.{same_kind, is_of, waits_for}
+use Rattle.slice_table.specs.declared.consts.ConstsFields.{ConstsFields}
+use Rattle.slice_table.specs.declared.operator_row.RowFields.{RowFields}
+use Rattle.slice_table.specs.Row.{same_modem}
+use Rattle.flow_table.specs.declared.flow.Flow.{Flow}
+use Rattle.flow_table.specs.Flow.{asks_for_grants, requested}
+use Rattle.flow_table.specs.Table.{with_flow}
+use Rattle.operator_machine.specs.declared.heard.Arrival.{Arrival}
+use Rattle.operator_machine.specs.declared.output.Cause.TheVariants as causes
+use Rattle.operator_machine.specs.declared.verdict.Verdict.{Verdict}
+use Rattle.operator_machine.specs.declared.verdict.Verdict.TheVariants.{Refused}
+use Rattle.operator_machine.specs.declared.heard.Heard.{Heard}
+use Rattle.operator_machine.specs.declared.heard.Heard.TheVariants as heards
+use Rattle.operator_machine.specs.Verdict.{verdict, errored}
+use Rattle.operator_machine.specs.Machine.{taken_out, worked}
+use Rattle.operator_machine.specs.State.{OperatorState}
+use Rattle.operator_machine.specs.Asked.{refusal}
+use Rattle.operator_machine.specs.Handle.{Ran, told, silent, carried_out, is_of_cmts, repeated, new_unless, transacted, acked_if, kind_of, tid_of, message_handled, asked_of_flow, handle}
+
+module _ (consts : ConstsFields) (row : RowFields) (state : OperatorState) (modem : Modem) where
+  again : (kind : Kind) (entry : KeptEntry) (b : Bool) → (if b then told state modem entry.reply else silent state modem causes.TidInUse).state.inbox ≡ state.inbox
+  again kind entry true = refl
+  again kind entry false = refl
+
+  room : (kind : Kind) (tid : ℕ) (v : Verdict) (b : Bool)
+      → (if b then told state modem (spell_reply (refusal kind tid codes.RejectTemporary)) else carried_out consts state modem kind tid v).state.inbox ≡ state.inbox
+  room kind tid v true = refl
+  room kind tid v false = refl
+
+  new : (kind : Kind) (tid : ℕ) (v : Verdict) (o : Option KeptEntry) → (new_unless consts row state modem kind tid v o).state.inbox ≡ state.inbox
+  new kind tid v (Some entry) = again kind entry (same_kind entry.kind kind)
+  new kind tid v None = room kind tid v (nat_le row.transactions (length state.kept))
+
+  first : (kind : Kind) (tid : ℕ) (v : Verdict) (b : Bool)
+      → (if b then told state modem (spell_reply (refusal kind tid codes.RejectUnknownTransaction)) else new_unless consts row state modem kind tid v (find (is_of modem tid) state.kept)).state.inbox ≡ state.inbox
+  first kind tid v true = refl
+  first kind tid v false = new kind tid v (find (is_of modem tid) state.kept)
+
+  transacted_keeps : (kind : Kind) (tid : ℕ) (v : Verdict) → (transacted consts row state modem kind tid v).state.inbox ≡ state.inbox
+  transacted_keeps kind tid v = first kind tid v (is_of_cmts tid)
+
+  acked_keeps : (tid : ℕ) (kind : Kind) (code : ℕ) (o : Option ℕ) → (acked_if consts state modem tid kind code o).state.inbox ≡ state.inbox
+  acked_keeps tid kind code None = refl
+  acked_keeps tid kind code (Some sfid) = refl
+
+  message_keeps : (read : Result Message MessageFault) → (message_handled consts row state modem read).state.inbox ≡ state.inbox
+  message_keeps (Err faults.Empty) = refl
+  message_keeps (Err (faults.NotOurs mtype)) = refl
+  message_keeps (Err faults.Short) = refl
+  message_keeps (Err (faults.Tlv tid kind id fault)) = transacted_keeps kind tid (Refused (errored kind tid id fault))
+  message_keeps (Err (faults.LeftOut tid kind found)) = transacted_keeps kind tid (Refused (refusal kind tid codes.RejectUnrecognizedSetting))
+  message_keeps (Err faults.NoMemory) = refl
+  message_keeps (Ok (messages.Ack kind tid code)) = acked_keeps tid kind code (option_map (λ entry. entry.sfid) (find (waits_for modem tid kind) state.kept))
+  message_keeps (Ok (messages.Request request)) = transacted_keeps (kind_of request) (tid_of request) (verdict consts row state modem request)
+
+  asking : (minislots : ℕ) (entry : ℕ × Flow) (mine asks : Bool)
+      → (if not mine then silent state modem causes.NoSuchSid else if not asks then silent state modem causes.NotRequesting else
+        record { state = record state { flows = with_flow entry.0 (requested minislots state.frame entry.1) state.flows }; outputs = [] }).state.inbox ≡ state.inbox
+  asking minislots entry false asks = refl
+  asking minislots entry true false = refl
+  asking minislots entry true true = refl
+
+  asked_keeps : (minislots : ℕ) (o : Option (ℕ × Flow)) → (asked_of_flow state modem minislots o).state.inbox ≡ state.inbox
+  asked_keeps minislots None = refl
+  asked_keeps minislots (Some entry) = asking minislots entry (same_modem entry.1.modem modem) (asks_for_grants entry.1.sets.active)
+
+  handle_keeps : (from : Modem) (heard : Heard) → from ≡ modem → (handle consts row state modem heard).state.inbox ≡ state.inbox
+  handle_keeps from (heards.Message bytes) same = message_keeps (message_of bytes)
+  handle_keeps from (heards.Request sid minislots) same = asked_keeps minislots (flow_with sid state.flows)
+
+-- ---- what was handled first is taken out
+
+of_first : (consts : ConstsFields) (row : RowFields) (state : OperatorState) (first : Arrival) (inbox : List Arrival) → slice_get inbox 0 ≡ Some first
+    → worked consts row state inbox ≡ taken_out (drop 1 inbox) (handle consts row state first.modem first.heard)
+of_first consts row state first [] e = absurd (none-some first e)
+of_first consts row state first (x ∷ xs) e = ap (λ (f : Arrival). taken_out xs (handle consts row state f.modem f.heard)) (same_Some x first e)
+
+pub worked_is : (consts : ConstsFields) (row : RowFields) (state : OperatorState) (first : Arrival) (heard : Heard) → slice_get state.inbox 0 ≡ Some first → first.heard ≡ heard
+    → record (handle consts row state first.modem heard).state { inbox = drop 1 (handle consts row state first.modem heard).state.inbox } ≡ (worked consts row state state.inbox).state
+worked_is consts row state first heard e is =
+    ap (λ (xs : List Arrival). record (handle consts row state first.modem heard).state { inbox = drop 1 xs }) (handle_keeps consts row state first.modem first.modem heard refl)
+    ∙ ap (λ (h : Heard). record (handle consts row state first.modem h).state { inbox = drop 1 state.inbox }) (sym is)
+    ∙ sym (ap (λ (r : Ran). r.state) (of_first consts row state first state.inbox e))

@@ -1,0 +1,447 @@
+//! How what was heard is handled.
+
+ghost use Rattle.std.specs.Prelude.{◌≡◌, ◌≢◌, ◌<◌, [], ◌∷◌, ◌++◌, None, IsNone, All, Result, Ok, Err, IfOk, IfErr, IfSome, OnOk, OnErr, length, find, drop};
+ghost use Rattle.dsx_messages.specs.declared.code.Code.TheVariants.{Okay};
+ghost use Rattle.dsx_messages.specs.Spelling.{spell_reply};
+ghost use Rattle.dsx_messages.specs.declared.message.Message.{Message};
+ghost use Rattle.dsx_messages.specs.declared.message.Message.TheVariants as messages;
+ghost use Rattle.dsx_messages.specs.declared.fault.MessageFault.{MessageFault};
+ghost use Rattle.dsx_messages.specs.Reading.{Fails, Gives};
+ghost use Rattle.transactions.specs.Entry.{is_of};
+ghost use Rattle.transactions.specs.Keeping.{begun};
+ghost use Rattle.flow_table.specs.Flow.{acknowledged, taken_back};
+ghost use Rattle.flow_table.specs.Table.{flow_with, sids_of, MayStand};
+ghost use Rattle.admission.specs.Free.{IsIn};
+ghost use Rattle.operator_machine.specs.declared.verdict.Verdict.{Verdict};
+ghost use Rattle.operator_machine.specs.declared.verdict.Verdict.TheVariants.{Refused, Put, Deleted};
+ghost use Rattle.operator_machine.specs.declared.output.Output.TheVariants as outputs;
+ghost use Rattle.operator_machine.specs.Asked.{refusal};
+ghost use Rattle.operator_machine.specs.Handle.{change_at, undone, carried_out, transacted, acked, tid_of, kind_of, message_handled, asked_of_flow};
+ghost use Rattle.operator_machine.specs.Machine.{arrived, worked};
+ghost use Rattle.operator_book.specs.Held.{table_of, MayPut, HasRightId, with_state};
+
+use crate::machine::{Both, Machine, answer, nothing, silent};
+use crate::refusal::{errored, refusal};
+use flow_table::Flow;
+use dsx_messages::{Code, Kind, Message, MessageFault, Modem, Reply, Request, read, write_reply};
+use operator_machine::{Arrival, Cause, Heard, Verdict};
+use std::alloc::{AllocError, Global};
+use tlv24::Bytes;
+
+fn kind_of(request: &Request) -> Kind
+    ensures { result ≡ kind_of request.now }
+{
+    match request {
+        Request::Dsa { tid: _, flows: _ } => Kind::Dsa,
+        Request::Dsc { tid: _, flows: _ } => Kind::Dsc,
+        Request::Dsd { tid: _, sfid: _ } => Kind::Dsd,
+    }
+}
+
+fn tid_of(request: &Request) -> u16
+    ensures { result ≡ tid_of request.now }
+{
+    match request {
+        Request::Dsa { tid, flows: _ }
+        | Request::Dsc { tid, flows: _ }
+        | Request::Dsd { tid, sfid: _ } => *tid,
+    }
+}
+
+/// A refusal that is not kept.
+fn unkept(
+    alloc: Global,
+    modem: Modem,
+    kind: Kind,
+    tid: u16,
+    code: Code,
+) -> Result<Both, AllocError>
+    requires { code ≢ Okay }
+    ensures { IfOk result (λ both. both.told.items ≡ outputs.Reply modem (spell_reply (refusal kind tid code)) ∷ []) }
+{
+    let reply = Bytes::from_vec(write_reply(alloc, &refusal(kind, tid, code))?);
+    answer(alloc, modem, &reply)
+}
+
+impl Machine {
+    /// A reply is kept.
+    fn keep(&mut self, modem: Modem, kind: Kind, tid: u16, reply: Bytes, sfid: u32, waits: bool)
+        requires free { IsNone (find (is_of modem tid) self.old.state.kept) }
+        requires room { length self.old.state.kept < self.old.row.transactions }
+        ensures { self.new ≡ record self.old { state = record self.old.state { kept = self.old.state.kept ++ begun self.old.consts.timers modem tid kind reply sfid waits ∷ [] } } }
+    {
+        match self.kept.begin(modem, tid, kind, reply, sfid, waits) {
+            Ok(()) => {}
+            Err(_) => unreachable!(),
+        }
+    }
+
+    /// A refusal is told and kept.
+    fn refused_out(
+        &mut self,
+        alloc: Global,
+        modem: Modem,
+        kind: Kind,
+        tid: u16,
+        reply: Reply,
+    ) -> Result<Both, AllocError>
+        requires free { IsNone (find (is_of modem tid) self.old.state.kept) }
+        requires room { length self.old.state.kept < self.old.row.transactions }
+        ensures state { OnOk result (self.new ≡ with_state self.old (carried_out self.old.consts self.old.state modem kind tid (Refused reply))) }
+        ensures outputs { IfOk result (λ both. both.told.items ≡ (carried_out self.old.consts self.old.state modem kind tid (Refused reply)).outputs) }
+        ensures err { OnErr result (self.new ≡ self.old) }
+    {
+        let bytes = Bytes::from_vec(write_reply(alloc, &reply)?);
+        let both = answer(alloc, modem, &bytes)?;
+        self.keep(modem, kind, tid, bytes, 0, false);
+        Ok(both)
+    }
+
+    /// A flow is put under its SFID, and the reply is told and kept.
+    fn put_out(
+        &mut self,
+        alloc: Global,
+        modem: Modem,
+        kind: Kind,
+        tid: u16,
+        sfid: u32,
+        flow: Flow,
+        reply: Reply,
+    ) -> Result<Both, AllocError>
+        requires stands { MayStand (table_of self.old) sfid flow }
+        requires free { IsNone (find (is_of modem tid) self.old.state.kept) }
+        requires room { length self.old.state.kept < self.old.row.transactions }
+        ensures state { OnOk result (self.new ≡ with_state self.old (carried_out self.old.consts self.old.state modem kind tid (Put sfid flow reply))) }
+        ensures outputs { IfOk result (λ both. both.told.items ≡ (carried_out self.old.consts self.old.state modem kind tid (Put sfid flow reply)).outputs) }
+        ensures err { OnErr result (self.new ≡ self.old) }
+    {
+        let bytes = Bytes::from_vec(write_reply(alloc, &reply)?);
+        let both = answer(alloc, modem, &bytes)?;
+        self.flows.put(sfid, flow)?;
+        self.keep(modem, kind, tid, bytes, sfid, true);
+        Ok(both)
+    }
+
+    /// A flow goes, and the reply is told and kept.
+    fn deleted_out(
+        &mut self,
+        alloc: Global,
+        modem: Modem,
+        kind: Kind,
+        tid: u16,
+        sfid: u32,
+        reply: Reply,
+    ) -> Result<Both, AllocError>
+        requires free { IsNone (find (is_of modem tid) self.old.state.kept) }
+        requires room { length self.old.state.kept < self.old.row.transactions }
+        ensures state { OnOk result (self.new ≡ with_state self.old (carried_out self.old.consts self.old.state modem kind tid (Deleted sfid reply))) }
+        ensures outputs { IfOk result (λ both. both.told.items ≡ (carried_out self.old.consts self.old.state modem kind tid (Deleted sfid reply)).outputs) }
+        ensures err { OnErr result (self.new ≡ self.old) }
+    {
+        let bytes = Bytes::from_vec(write_reply(alloc, &reply)?);
+        let both = answer(alloc, modem, &bytes)?;
+        self.flows.remove(sfid);
+        self.keep(modem, kind, tid, bytes, sfid, false);
+        Ok(both)
+    }
+
+    /// A verdict is carried out, and its reply is told and kept.
+    fn carried_out(
+        &mut self,
+        alloc: Global,
+        modem: Modem,
+        kind: Kind,
+        tid: u16,
+        verdict: Verdict,
+    ) -> Result<Both, AllocError>
+        requires puts { MayPut (table_of self.old) verdict }
+        requires free { IsNone (find (is_of modem tid) self.old.state.kept) }
+        requires room { length self.old.state.kept < self.old.row.transactions }
+        ensures state { OnOk result (self.new ≡ with_state self.old (carried_out self.old.consts self.old.state modem kind tid verdict)) }
+        ensures outputs { IfOk result (λ both. both.told.items ≡ (carried_out self.old.consts self.old.state modem kind tid verdict).outputs) }
+        ensures err { OnErr result (self.new ≡ self.old) }
+    {
+        match verdict {
+            Verdict::Refused { reply } => self.refused_out(alloc, modem, kind, tid, reply),
+            Verdict::Put { sfid, flow, reply } => {
+                self.put_out(alloc, modem, kind, tid, sfid, flow, reply)
+            }
+            Verdict::Deleted { sfid, reply } => {
+                self.deleted_out(alloc, modem, kind, tid, sfid, reply)
+            }
+        }
+    }
+
+    /// The answer to a request that is not judged: its transaction ID is of the CMTS's half, it is kept already, or as many
+    /// are kept as the row allows. None where its transaction is new.
+    fn early_answer(
+        &self,
+        alloc: Global,
+        modem: Modem,
+        kind: Kind,
+        tid: u16,
+    ) -> Result<Option<Both>, AllocError>
+        ensures told { IfOk result (λ early. IfSome early (λ both. (v : Verdict) → transacted self.now.consts self.now.row self.now.state modem kind tid v ≡ record { state = self.now.state; outputs = both.told.items })) }
+        ensures new { IfOk result (λ early. early ≡ None → (v : Verdict) → transacted self.now.consts self.now.row self.now.state modem kind tid v ≡ carried_out self.now.consts self.now.state modem kind tid v) }
+        ensures free { IfOk result (λ early. early ≡ None → IsNone (find (is_of modem tid) self.now.state.kept)) }
+        ensures room { IfOk result (λ early. early ≡ None → length self.now.state.kept < self.now.row.transactions) }
+    {
+        if tid >= 0x8000 {
+            let both = unkept(alloc, modem, kind, tid, Code::RejectUnknownTransaction)?;
+            return Ok(Some(both));
+        }
+        if let Some(entry) = self.kept.find(modem, tid) {
+            let both = if entry.kind == kind {
+                answer(alloc, modem, &entry.reply)?
+            } else {
+                silent(alloc, Some(modem), Cause::TidInUse)?
+            };
+            return Ok(Some(both));
+        }
+        if self.kept.len() >= usize::from(self.row.get_fields().transactions) {
+            let both = unkept(alloc, modem, kind, tid, Code::RejectTemporary)?;
+            return Ok(Some(both));
+        }
+        Ok(None)
+    }
+
+    /// A request that was read is handled.
+    fn request_handled(
+        &mut self,
+        alloc: Global,
+        modem: Modem,
+        request: &Request,
+    ) -> Result<Both, AllocError>
+        requires { All (IsIn self.old.row.sids) (sids_of self.old.state.flows) }
+        ensures state { OnOk result (self.new ≡ with_state self.old (message_handled self.old.consts self.old.row self.old.state modem (Ok (messages.Request request.now)))) }
+        ensures outputs { IfOk result (λ both. both.told.items ≡ (message_handled self.old.consts self.old.row self.old.state modem (Ok (messages.Request request.now))).outputs) }
+        ensures err { OnErr result (self.new ≡ self.old) }
+    {
+        let kind = kind_of(request);
+        let tid = tid_of(request);
+        if let Some(both) = self.early_answer(alloc, modem, kind, tid)? {
+            return Ok(both);
+        }
+        match self.verdict(alloc, modem, request) {
+            Ok(verdict) => self.carried_out(alloc, modem, kind, tid, verdict),
+            Err(AllocError) => Err(AllocError),
+        }
+    }
+
+    /// A request that could not be read is refused with this reply.
+    fn fault_handled(
+        &mut self,
+        alloc: Global,
+        modem: Modem,
+        kind: Kind,
+        tid: u16,
+        reply: Reply,
+    ) -> Result<Both, AllocError>
+        ensures state { OnOk result (self.new ≡ with_state self.old (transacted self.old.consts self.old.row self.old.state modem kind tid (Refused reply))) }
+        ensures outputs { IfOk result (λ both. both.told.items ≡ (transacted self.old.consts self.old.row self.old.state modem kind tid (Refused reply)).outputs) }
+        ensures err { OnErr result (self.new ≡ self.old) }
+    {
+        if let Some(both) = self.early_answer(alloc, modem, kind, tid)? {
+            return Ok(both);
+        }
+        self.refused_out(alloc, modem, kind, tid, reply)
+    }
+
+    /// The pending sets of a flow become its sets.
+    fn commit(&mut self, sfid: u32)
+        ensures { self.new ≡ record self.old { state = record self.old.state { flows = change_at sfid (acknowledged self.old.state.frame) self.old.state.flows } } }
+    {
+        if let Some(flow) = self.flows.get(sfid) {
+            self.flows.change(sfid, flow.acknowledged(self.frame));
+        }
+    }
+
+    /// What a transaction asked for is undone.
+    pub(crate) fn undo(&mut self, kind: Kind, sfid: u32)
+        ensures { self.new ≡ record self.old { state = record self.old.state { flows = undone kind sfid self.old.state.flows } } }
+    {
+        match kind {
+            Kind::Dsa => self.flows.remove(sfid),
+            Kind::Dsc => {
+                if let Some(flow) = self.flows.get(sfid) {
+                    self.flows.change(sfid, flow.taken_back());
+                }
+            }
+            Kind::Dsd => {}
+        }
+    }
+
+    /// An acknowledgement: code 0 commits, another takes back.
+    fn acked(
+        &mut self,
+        alloc: Global,
+        modem: Modem,
+        tid: u16,
+        kind: Kind,
+        code: u8,
+    ) -> Result<Both, AllocError>
+        ensures state { OnOk result (self.new ≡ with_state self.old (acked self.old.consts self.old.state modem tid kind code)) }
+        ensures outputs { IfOk result (λ both. both.told.items ≡ (acked self.old.consts self.old.state modem tid kind code).outputs) }
+        ensures err { OnErr result (self.new ≡ self.old) }
+    {
+        let Some(sfid) = self.kept.acked(modem, tid, kind) else {
+            return silent(alloc, Some(modem), Cause::UnknownAck);
+        };
+        if code == 0 {
+            self.commit(sfid);
+        } else {
+            self.undo(kind, sfid);
+        }
+        Ok(nothing(alloc))
+    }
+
+    /// A request for minislots.
+    fn asked_of_flow(
+        &mut self,
+        alloc: Global,
+        modem: Modem,
+        sid: u16,
+        minislots: u16,
+    ) -> Result<Both, AllocError>
+        ensures state { OnOk result (self.new ≡ with_state self.old (asked_of_flow self.old.state modem minislots (flow_with sid self.old.state.flows))) }
+        ensures outputs { IfOk result (λ both. both.told.items ≡ (asked_of_flow self.old.state modem minislots (flow_with sid self.old.state.flows)).outputs) }
+        ensures err { OnErr result (self.new ≡ self.old) }
+    {
+        let Some((sfid, flow)) = self.flows.with_sid(sid) else {
+            return silent(alloc, Some(modem), Cause::NoSuchSid);
+        };
+        if flow.modem != modem {
+            return silent(alloc, Some(modem), Cause::NoSuchSid);
+        }
+        if !flow.asks_for_grants() {
+            return silent(alloc, Some(modem), Cause::NotRequesting);
+        }
+        self.flows.change(sfid, flow.requested(minislots, self.frame));
+        Ok(nothing(alloc))
+    }
+
+    /// A message that could not be read is handled.
+    fn unread_handled(
+        &mut self,
+        alloc: Global,
+        modem: Modem,
+        fault: MessageFault,
+    ) -> Result<Both, AllocError>
+        requires { HasRightId fault }
+        ensures state { OnOk result (self.new ≡ with_state self.old (message_handled self.old.consts self.old.row self.old.state modem (Err fault))) }
+        ensures outputs { IfOk result (λ both. both.told.items ≡ (message_handled self.old.consts self.old.row self.old.state modem (Err fault)).outputs) }
+        ensures told { IfOk result (λ _. (read : Result Message MessageFault) → Fails fault read → read ≡ Err fault) }
+        ensures err { OnErr result (self.new ≡ self.old) }
+    {
+        match fault {
+            MessageFault::NoMemory => Err(AllocError),
+            MessageFault::Empty => silent(alloc, Some(modem), Cause::Empty),
+            MessageFault::NotOurs { mtype: _ } => silent(alloc, Some(modem), Cause::NotOurs),
+            MessageFault::Short => silent(alloc, Some(modem), Cause::Short),
+            MessageFault::Tlv {
+                tid,
+                kind,
+                id,
+                fault,
+            } => self.fault_handled(alloc, modem, kind, tid, errored(kind, tid, id, fault)),
+            MessageFault::LeftOut {
+                tid,
+                kind,
+                found: _,
+            } => {
+                let reply = refusal(kind, tid, Code::RejectUnrecognizedSetting);
+                self.fault_handled(alloc, modem, kind, tid, reply)
+            }
+        }
+    }
+
+    /// What a message says is handled.
+    fn message_handled(
+        &mut self,
+        alloc: Global,
+        modem: Modem,
+        message: &Message,
+    ) -> Result<Both, AllocError>
+        requires { All (IsIn self.old.row.sids) (sids_of self.old.state.flows) }
+        ensures state { OnOk result (self.new ≡ with_state self.old (message_handled self.old.consts self.old.row self.old.state modem (Ok message.now))) }
+        ensures outputs { IfOk result (λ both. both.told.items ≡ (message_handled self.old.consts self.old.row self.old.state modem (Ok message.now)).outputs) }
+        ensures err { OnErr result (self.new ≡ self.old) }
+    {
+        match message {
+            Message::Request(request) => self.request_handled(alloc, modem, request),
+            Message::Ack { kind, tid, code } => self.acked(alloc, modem, *tid, *kind, *code),
+        }
+    }
+
+    /// Bytes that were read are handled.
+    fn read_handled(
+        &mut self,
+        alloc: Global,
+        modem: Modem,
+        said: Result<Message, MessageFault>,
+    ) -> Result<Both, AllocError>
+        requires sids { All (IsIn self.old.row.sids) (sids_of self.old.state.flows) }
+        requires right { IfErr said HasRightId }
+        ensures state { OnOk result ((read : Result Message MessageFault) → Gives (λ m. m) said read → self.new ≡ with_state self.old (message_handled self.old.consts self.old.row self.old.state modem read)) }
+        ensures outputs { IfOk result (λ both. (read : Result Message MessageFault) → Gives (λ m. m) said read → both.told.items ≡ (message_handled self.old.consts self.old.row self.old.state modem read).outputs) }
+        ensures err { OnErr result (self.new ≡ self.old) }
+    {
+        match said {
+            Ok(message) => self.message_handled(alloc, modem, &message),
+            Err(fault) => self.unread_handled(alloc, modem, fault),
+        }
+    }
+
+    /// What was heard first is taken out of the inbox.
+    fn take_first(&mut self)
+        ensures { self.new ≡ record self.old { state = record self.old.state { inbox = drop 1 self.old.state.inbox } } }
+    {
+        let _first = self.inbox.pop_front();
+    }
+
+    /// What was heard first is handled, and taken out of the inbox.
+    pub(crate) fn work(&mut self, alloc: Global) -> Result<Both, AllocError>
+        requires { All (IsIn self.old.row.sids) (sids_of self.old.state.flows) }
+        ensures state { OnOk result (self.new ≡ with_state self.old (worked self.old.consts self.old.row self.old.state self.old.state.inbox)) }
+        ensures outputs { IfOk result (λ both. both.told.items ≡ (worked self.old.consts self.old.row self.old.state self.old.state.inbox).outputs) }
+        ensures err { OnErr result (self.new ≡ self.old) }
+    {
+        let Some(first) = self.inbox.front() else {
+            return silent(alloc, None, Cause::Idle);
+        };
+        let modem = first.modem;
+        match &first.heard {
+            Heard::Message(bytes) => {
+                let said = read(alloc, bytes.as_slice());
+                let both = self.read_handled(alloc, modem, said)?;
+                self.take_first();
+                Ok(both)
+            }
+            Heard::Request { sid, minislots } => {
+                let (sid, minislots) = (*sid, *minislots);
+                let both = self.asked_of_flow(alloc, modem, sid, minislots)?;
+                self.take_first();
+                Ok(both)
+            }
+        }
+    }
+
+    /// What was heard goes to the end of the inbox.
+    pub(crate) fn arrive(
+        &mut self,
+        alloc: Global,
+        modem: Modem,
+        heard: &Heard,
+    ) -> Result<Both, AllocError>
+        ensures state { OnOk result (self.new ≡ with_state self.old (arrived self.old.row self.old.state modem heard.now)) }
+        ensures outputs { IfOk result (λ both. both.told.items ≡ (arrived self.old.row self.old.state modem heard.now).outputs) }
+        ensures err { OnErr result (self.new ≡ self.old) }
+    {
+        if self.inbox.len() >= usize::from(self.row.get_fields().inbox) {
+            return silent(alloc, Some(modem), Cause::InboxFull);
+        }
+        let heard = heard.copy(alloc)?;
+        self.inbox.push_back(Arrival { modem, heard })?;
+        Ok(nothing(alloc))
+    }
+}
