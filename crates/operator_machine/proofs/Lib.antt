@@ -1,0 +1,3 @@
+pub mod MapLemmas
+pub mod NeedLemmas
+pub mod ServeLemmas
