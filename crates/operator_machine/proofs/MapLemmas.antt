@@ -35,7 +35,7 @@ is_at_other q k apart = by (cases_order q k)
     by (inr (inr above)) = ap is_eq (nat_cmp_greater q k above)
 
 -- what is above a number is above a smaller one
-lower : (k m : ℕ) (ks : List ℕ) → k < m → AllByRecursion (λ y. nat_cmp m y ≡ Less) ks → AllByRecursion (λ y. nat_cmp k y ≡ Less) ks
+pub lower : (k m : ℕ) (ks : List ℕ) → k < m → AllByRecursion (λ y. nat_cmp m y ≡ Less) ks → AllByRecursion (λ y. nat_cmp k y ≡ Less) ks
 lower k m [] below a = tt
 lower k m (x ∷ xs) below a =
     let lt : m < x = ranked m x Less (sym a.0) in
@@ -47,7 +47,7 @@ Ascends es = IsStrictlySortedBy nat_cmp (keys_of es)
 
 module _ {X : Type 0} where
   -- what is found under a number
-  abbrev at : ℕ → List (ℕ × X) → Option X
+  abbrev pub at : ℕ → List (ℕ × X) → Option X
   at q es = lookup (is_at (nat_cmp q)) es
 
   -- ---- one step of each word, at the first entry
@@ -102,7 +102,7 @@ module _ {X : Type 0} where
             ∙ ap (λ (rest : Option X). cond (is_at (nat_cmp q) e.0) (Some e.1) rest) more
 
   -- nothing is found below the first number
-  at-above : (es : List (ℕ × X)) (k : ℕ) → AllByRecursion (λ y. nat_cmp k y ≡ Less) (keys_of es) → at k es ≡ None
+  pub at-above : (es : List (ℕ × X)) (k : ℕ) → AllByRecursion (λ y. nat_cmp k y ≡ Less) (keys_of es) → at k es ≡ None
   at-above [] k above = refl
   at-above (e ∷ es) k above = found_as e es k false (ap is_eq above.0) ∙ at-above es k above.1
 

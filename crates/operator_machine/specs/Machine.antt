@@ -26,10 +26,14 @@ arrived row state modem heard =
     if nat_le row.inbox (length state.inbox) then record { state = state; outputs = outputs.Silent (Some modem) InboxFull ∷ [] }
     else record { state = record state { inbox = state.inbox ++ record { modem = modem; heard = heard } ∷ [] }; outputs = [] }
 
--- the first of the inbox is taken out and handled
+-- what was handled is taken out of the inbox
+abbrev pub taken_out : List Arrival → Ran → Ran
+taken_out others ran = record { state = record ran.state { inbox = others }; outputs = ran.outputs }
+
+-- the first of the inbox is handled and taken out; no handling looks at the inbox
 abbrev pub worked : ConstsFields → RowFields → OperatorState → List Arrival → Ran
 worked consts row state [] = record { state = state; outputs = outputs.Silent None Idle ∷ [] }
-worked consts row state (first ∷ others) = handle consts row (record state { inbox = others }) first.modem first.heard
+worked consts row state (first ∷ others) = taken_out others (handle consts row state first.modem first.heard)
 
 -- the share that waits for its frame
 abbrev pub resliced : OperatorState → ℕ → SliceRow → Ran
