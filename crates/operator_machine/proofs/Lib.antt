@@ -6,3 +6,6 @@ pub mod FlowsLemmas
 pub mod ChangeLemmas
 pub mod UndoLemmas
 pub mod KeptLemmas
+pub mod RoomLemmas
+pub mod FreshLemmas
+pub mod OpenedLemmas

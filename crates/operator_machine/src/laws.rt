@@ -4,8 +4,9 @@ ghost use Rattle.std.specs.Prelude.{◌≡◌, ◌≤◌, All};
 ghost use Rattle.slice_scheduler.specs.Servable.{SfidsAscend, IsPast, needed};
 ghost use Rattle.slice_table.specs.declared.consts.ConstsFields.{ConstsFields};
 ghost use Rattle.slice_table.specs.declared.operator_row.RowFields.{RowFields};
+ghost use Rattle.slice_table.specs.Row.{IsRowOf};
 ghost use Rattle.flow_table.specs.Table.{flowing_in};
-ghost use Rattle.operator_machine.specs.State.{OperatorState};
+ghost use Rattle.operator_machine.specs.State.{OperatorState, opened};
 ghost use Rattle.operator_machine.specs.Frame.{at_frame, flows_left};
 ghost use Rattle.operator_machine.specs.Sound.{IsSound};
 
@@ -21,4 +22,10 @@ pub fn schedule_can_serve()
 /// change is taken back keeps its sets, and its SID where a set is admitted.
 pub fn given_up_have_no_grants()
     ensures { (consts : ConstsFields) (row : RowFields) (state : OperatorState) → IsSound consts row state → flowing_in (flows_left state) ≡ flowing_in state.flows }
+{}
+
+/// A machine is opened sound: its provisioned flows have identifiers of their own in the row's ranges, fit its limits, and
+/// have committed no more than its quota and its budget. That the slice has a minislot is what each `Slice` has.
+pub fn opened_is_sound()
+    ensures { (consts : ConstsFields) (row : RowFields) → IsRowOf consts row → 1 ≤ row.slice.length → IsSound consts row (opened consts row) }
 {}
