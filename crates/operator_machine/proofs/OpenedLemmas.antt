@@ -27,7 +27,7 @@ use Rattle.slice_table.specs.declared.consts.ConstsFields.{ConstsFields}
 use Rattle.slice_table.specs.declared.provision.Provision.{Provision}
 use Rattle.slice_table.specs.declared.operator_row.RowFields.{RowFields}
 use Rattle.slice_table.specs.Classes.{asked_of}
-use Rattle.slice_table.specs.Provisioned.{sets_of_type, sets_of_set, sets_over_class, sets_of_flow, sets_of_encoding, Opened, opened_sfids, opened_sids, opened_sid, and_under, and_opened, all_opened}
+use Rattle.slice_table.specs.Provisioned.{sets_of_type, sets_of_set, sets_over_class, sets_of_flow, sets_of_encoding, Opened, opened_sfids, opened_sids, opened_sid, and_under, and_opened, all_opened, opened_flows}
 use Rattle.slice_table.specs.Row.{need_of_sets, need_of_provision, admits, count_of, IsRowOf}
 use Rattle.flow_table.specs.declared.flow.Flow.{Flow}
 use Rattle.flow_table.specs.Table.{sfids_of, sids_of, with_flow, committed_minislots, committed_elements}
