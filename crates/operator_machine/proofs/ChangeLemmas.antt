@@ -1,7 +1,7 @@
 -- What a change of one flow keeps.
-use Rattle.std.proofs.Common.{◌≡◌, ℕ, ◌+◌, ◌-◌, ◌==◌, ◌≤◌, Bool, true, false, cond, List, Option, Some, None, IfSome, IsSome, is_some, refl, sym, ap, ◌∙◌, subst, arith}
+use Rattle.std.proofs.Common.{◌<◌, ◌⊎◌, inl, inr, ◌≡◌, ℕ, ◌+◌, ◌-◌, ◌==◌, ◌≤◌, Bool, true, false, cond, List, Option, Some, None, IfSome, IsSome, is_some, refl, sym, ap, ◌∙◌, subst, arith}
 use Rattle.std.proofs.lemmas.Option.{none-some, IfSome_then}
-use Rattle.std.proofs.lemmas.Bool.{true≢false, cond_both}
+use Rattle.std.proofs.lemmas.Bool.{true≢false, cond_both, cases_eq}
 use Rattle.param_sets.specs.Units.{UnitSizes}
 use Rattle.param_sets.specs.Need.{need_if}
 use Rattle.param_sets.specs.declared.sets.SetsFields.{SetsFields}
@@ -14,7 +14,7 @@ use Rattle.flow_table.specs.Flow.{pending_admitted, with_pending, acknowledged, 
 use Rattle.flow_table.specs.Table.{flow_at, with_flow}
 use Rattle.operator_machine.specs.Handle.{put_if, change_at, without_flow, undone}
 use Rattle.operator_machine.specs.Sound.{IsSoundFlow, IsSoundPending}
-use Rattle.operator_machine.proofs.MapLemmas.{at-insert_other, at-remove_other}
+use Rattle.operator_machine.proofs.MapLemmas.{at-insert_same, at-insert_other, at-remove_other}
 use Rattle.operator_machine.proofs.FlowsLemmas.{AreFlows, MayPut-again, put-AreFlows, sound-there, without-AreFlows, CommitLess, CommitsLess, same-CommitLess, without-CommitLess, put-CommitLess}
 
 -- a flow in another's place: its SID is the other's or none, it is sound, and it has committed no more
@@ -99,10 +99,10 @@ module _ (units : UnitSizes) (frame : ℕ) (old : Flow) (sound : IsSoundFlow fra
     less = record { minislots = omega arith; elements = omega arith };
   }
 
-  pub follow-granted : (minislots : ℕ) → MayFollow units (frame + 1) old (granted minislots frame old)
-  follow-granted minislots = record {
+  pub follow-granted : (minislots earlier : ℕ) → earlier < frame → MayFollow units frame old (granted minislots earlier old)
+  follow-granted minislots earlier lt = record {
     sid = λ n is. is;
-    sound = record { nested = sound.nested; has_sid = sound.has_sid; start = omega (arith, sound.start); since = cond_both (old.backlog - minislots == 0) old.since (frame + 1) (λ n. n ≤ frame + 1) (λ _. omega (arith, sound.since)) (λ _. omega arith); pending = as_before (granted minislots frame old) refl refl };
+    sound = record { nested = sound.nested; has_sid = sound.has_sid; start = sound.start; since = cond_both (old.backlog - minislots == 0) old.since (earlier + 1) (λ n. n ≤ frame) (λ _. sound.since) (λ _. omega arith); pending = as_before (granted minislots earlier old) refl refl };
     less = record { minislots = omega arith; elements = omega arith };
   }
 
@@ -147,3 +147,16 @@ module _ (q k : ℕ) (apart : q ≡ k → ⊥) (flows : List (ℕ × Flow)) wher
   at-undone_other Dsa = at-remove_other q k apart flows
   at-undone_other Dsc = at-change_other taken_back
   at-undone_other Dsd = refl
+
+-- what holds of the flow of an SFID, and is kept by the change, holds of it after the change
+pub kept-change : (P : Flow → Type 0) (q k : ℕ) (change : Flow → Flow) (flows : List (ℕ × Flow)) → ((old : Flow) → P old → P (change old))
+    → IsSome (flow_at q flows) × IfSome (flow_at q flows) P → IsSome (flow_at q (change_at k change flows)) × IfSome (flow_at q (change_at k change flows)) P
+kept-change P q k change flows keeps has = by (cases_eq q k)
+  where
+    here : (o : Option Flow) → flow_at k flows ≡ o → IsSome o × IfSome o P → IsSome (flow_at k (put_if k change flows o)) × IfSome (flow_at k (put_if k change flows o)) P
+    here None is h = subst (λ (o : Option Flow). IsSome o × IfSome o P) (sym is) h
+    here (Some old) is h = subst (λ (o : Option Flow). IsSome o × IfSome o P) (sym (at-insert_same flows k (change old))) (refl, keeps old h.1)
+    by : (q ≡ k) ⊎ (q ≡ k → ⊥) → IsSome (flow_at q (change_at k change flows)) × IfSome (flow_at q (change_at k change flows)) P
+    by (inl same) = subst (λ (n : ℕ). IsSome (flow_at n (change_at k change flows)) × IfSome (flow_at n (change_at k change flows)) P) (sym same)
+        (here (flow_at k flows) refl (subst (λ (n : ℕ). IsSome (flow_at n flows) × IfSome (flow_at n flows) P) same has))
+    by (inr apart) = subst (λ (o : Option Flow). IsSome o × IfSome o P) (sym (at-change_other q k apart flows change)) has

@@ -9,3 +9,5 @@ pub mod KeptLemmas
 pub mod RoomLemmas
 pub mod FreshLemmas
 pub mod OpenedLemmas
+pub mod SoundLemmas
+pub mod HandleLemmas
