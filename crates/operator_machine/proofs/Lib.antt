@@ -1,0 +1,13 @@
+pub mod MapLemmas
+pub mod EntryLemmas
+pub mod NeedLemmas
+pub mod ServeLemmas
+pub mod FlowsLemmas
+pub mod ChangeLemmas
+pub mod UndoLemmas
+pub mod KeptLemmas
+pub mod RoomLemmas
+pub mod FreshLemmas
+pub mod OpenedLemmas
+pub mod SoundLemmas
+pub mod HandleLemmas

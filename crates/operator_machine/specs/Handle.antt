@@ -19,7 +19,6 @@ use Rattle.dsx_messages.specs.Reading.{message_of}
 use Rattle.dsx_messages.specs.Spelling.{spell_reply}
 use Rattle.transactions.specs.declared.entry.KeptEntry.{KeptEntry}
 use Rattle.transactions.specs.Entry.{same_kind, is_of, waits_for}
-use Rattle.transactions.specs.Waits.{Waits}
 use Rattle.transactions.specs.Keeping.{begun}
 use Rattle.transactions.specs.Keeping as keeping
 use Rattle.slice_table.specs.declared.consts.ConstsFields.{ConstsFields}
@@ -30,7 +29,6 @@ use Rattle.flow_table.specs.Flow.{asks_for_grants, acknowledged, taken_back, req
 use Rattle.flow_table.specs.Table.{flow_at, flow_with, with_flow}
 use Rattle.operator_machine.specs.declared.heard.Heard.{Heard}
 use Rattle.operator_machine.specs.declared.heard.Heard.TheVariants as heards
-use Rattle.operator_machine.specs.declared.heard.Arrival.{Arrival}
 use Rattle.operator_machine.specs.declared.output.Cause.{Cause}
 use Rattle.operator_machine.specs.declared.output.Cause.TheVariants as causes
 use Rattle.operator_machine.specs.declared.output.Output.{Output}

@@ -13,7 +13,6 @@ use Rattle.operator_machine.specs.declared.action.Action.TheVariants.{Arrive, Wo
 use Rattle.operator_machine.specs.declared.action.Unfit.{Unfit}
 use Rattle.operator_machine.specs.declared.action.Unfit.TheVariants.{NotPast, Unfinished, OffFrame, BudgetOverSlice, OverBudget}
 use Rattle.operator_machine.specs.declared.output.Cause.TheVariants.{InboxFull, Idle}
-use Rattle.operator_machine.specs.declared.output.Output.{Output}
 use Rattle.operator_machine.specs.declared.output.Output.TheVariants as outputs
 use Rattle.operator_machine.specs.State.{OperatorState}
 use Rattle.operator_machine.specs.Handle.{Ran, handle}

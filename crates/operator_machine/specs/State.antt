@@ -1,6 +1,5 @@
 -- What an operator's machine keeps (CM-SP-MULPIv3.1, 7.5 and 11.2; the tables are own).
 use Rattle.std.specs.Prelude.{ℕ, List, [], map, Option, None}
-use Rattle.dsx_messages.specs.declared.modem.Modem.{Modem}
 use Rattle.transactions.specs.declared.entry.KeptEntry.{KeptEntry}
 use Rattle.slice_table.specs.declared.consts.ConstsFields.{ConstsFields}
 use Rattle.slice_table.specs.declared.operator_row.RowFields.{RowFields}

@@ -3,7 +3,6 @@
 use Rattle.std.specs.Prelude.{◌&&◌, ℕ, Bool, true, false, List, length, min, nat_le, nat_lt, Option, Some, None, Result, Ok, Err, is_some, is_none, if◌then◌else◌}
 use Rattle.tlv24.specs.declared.tlv.TlvFault.{TlvFault}
 use Rattle.tlv24.specs.declared.tlv.TlvFault.TheVariants as tlv_faults
-use Rattle.tlv24.specs.declared.fields.FlowFields.{FlowFields}
 use Rattle.dsx_messages.specs.declared.modem.Modem.{Modem}
 use Rattle.dsx_messages.specs.declared.kind.Kind.{Kind}
 use Rattle.dsx_messages.specs.declared.kind.Kind.TheVariants.{Dsa, Dsc, Dsd}

@@ -1,0 +1,99 @@
+-- What is handled leaves a sound state: an acknowledgement, a request for minislots, and a verdict that is carried out.
+use Rattle.std.proofs.Common.{◌≡◌, ◌≢◌, ℕ, ◌+◌, ◌==◌, ◌&&◌, ◌<◌, ◌≤◌, not, Bool, true, false, cond, List, [], ◌∷◌, ◌++◌, length, get_or, Option, Some, None, IfSome, IsSome, is_some, option_map, All, AllPairs, find, map, refl, sym, ap, ◌∙◌, subst, arith, nat_le}
+use Rattle.std.proofs.lemmas.Bool.{and_parts, cond_both, true≢false, false≢true}
+use Rattle.std.proofs.lemmas.Option.{none-some}
+use Rattle.std.proofs.lemmas.List.{length-map}
+use Rattle.std.proofs.lemmas.List.Elements.{All-map, All-push, All-weaker}
+use Rattle.dsx_messages.specs.declared.modem.Modem.{Modem}
+use Rattle.dsx_messages.specs.declared.kind.Kind.{Kind}
+use Rattle.dsx_messages.specs.declared.kind.Kind.TheVariants.{Dsa, Dsc, Dsd}
+use Rattle.transactions.specs.declared.entry.KeptEntry.{KeptEntry}
+use Rattle.transactions.specs.Waits.{Waits}
+use Rattle.transactions.specs.Entry.{same_kind, is_waiting, is_of, waits_for}
+use Rattle.transactions.specs.Keeping.{held_entry, acknowledged}
+use Rattle.slice_table.specs.declared.consts.ConstsFields.{ConstsFields}
+use Rattle.slice_table.specs.declared.operator_row.RowFields.{RowFields}
+use Rattle.slice_table.specs.Row.{same_modem}
+use Rattle.flow_table.specs.declared.flow.Flow.{Flow}
+use Rattle.flow_table.specs.Flow.{asks_for_grants, requested}
+use Rattle.flow_table.specs.Flow as flows
+use Rattle.flow_table.specs.Table.{flow_at, flow_with, is_sid, with_flow}
+use Rattle.operator_machine.specs.State.{OperatorState}
+use Rattle.operator_machine.specs.Handle.{Ran, put_if, change_at, flows_acked, acked_if, acked, asked_of_flow}
+use Rattle.operator_machine.specs.Sound.{IsWaitingOf, HasItsFlow, HaveOwnFlows, IsSound}
+use Rattle.operator_machine.proofs.MapLemmas.{at-insert_same, at-insert_other}
+use Rattle.operator_machine.proofs.EntryLemmas.{at-find}
+use Rattle.operator_machine.proofs.FlowsLemmas.{AreFlows, sound-there}
+use Rattle.operator_machine.proofs.ChangeLemmas.{MayStep, put-MayStep, change-MayStep, undone-MayStep, follow-acknowledged, follow-requested, kept-change, at-change_other, at-undone_other}
+use Rattle.operator_machine.proofs.KeptLemmas.{AreApart, still-waiting, pairs-map, find-apart}
+use Rattle.operator_machine.proofs.SoundLemmas.{sound-AreFlows, step_on}
+
+-- a flow with the same sets, of which the same is pending, waits as before
+pub waits_still : (kind : Kind) (old v : Flow) → v.sets ≡ old.sets → v.pending ≡ old.pending → IsWaitingOf kind old → IsWaitingOf kind v
+waits_still Dsa old v sets pending waits = (ap is_some pending ∙ waits.0, sets ∙ waits.1)
+waits_still Dsc old v sets pending waits = ap is_some pending ∙ waits
+waits_still Dsd old v sets pending waits = absurd waits
+
+-- ---- an acknowledgement
+
+waits_for_waits : (modem : Modem) (tid : ℕ) (kind : Kind) (e : KeptEntry) → waits_for modem tid kind e ≡ true → is_waiting e ≡ true
+waits_for_waits modem tid kind e is = (and_parts (is_of modem tid e) (is_waiting e) (and_parts (is_of modem tid e && is_waiting e) (same_kind e.kind kind) is).0).1
+
+module _ (waits : Waits) (modem : Modem) (tid : ℕ) (kind : Kind) where
+  -- an entry that still waits is as it was, and not the one that is acknowledged
+  after_ack : (e : KeptEntry) (b : Bool) → is_waiting (cond b (held_entry waits e) e) ≡ true → b ≡ false
+  after_ack e true waiting = absurd (false≢true waiting)
+  after_ack e false waiting = refl
+
+  has_flow : (flows : List (ℕ × Flow)) (e : KeptEntry) (b : Bool) → (b ≡ false → HasItsFlow flows e) → HasItsFlow flows (cond b (held_entry waits e) e)
+  has_flow flows e true has waiting = absurd (false≢true waiting)
+  has_flow flows e false has waiting = has refl waiting
+
+  ack_apart : (a b : KeptEntry) (s t : Bool) → AreApart a b → AreApart (cond s (held_entry waits a) a) (cond t (held_entry waits b) b)
+  ack_apart a b true t apart waits_a waits_b = absurd (false≢true waits_a)
+  ack_apart a b false true apart waits_a waits_b = absurd (false≢true waits_b)
+  ack_apart a b false false apart waits_a waits_b = apart waits_a waits_b
+
+module _ (consts : ConstsFields) (row : RowFields) (state : OperatorState) (sound : IsSound consts row state) where
+  acked_step : (kind : Kind) (code sfid : ℕ) → MayStep row consts.units state.frame state.flows (flows_acked kind code state.frame sfid state.flows)
+  acked_step kind code sfid = cond_both (code == 0) _ _ (MayStep row consts.units state.frame state.flows)
+      (λ _. change-MayStep (sound-AreFlows sound) sfid (flows.acknowledged state.frame) (follow-acknowledged consts.units state.frame))
+      (λ _. undone-MayStep (sound-AreFlows sound) kind sfid)
+
+  acked_other : (kind : Kind) (code sfid q : ℕ) → q ≢ sfid → flow_at q (flows_acked kind code state.frame sfid state.flows) ≡ flow_at q state.flows
+  acked_other kind code sfid q apart = cond_both (code == 0) _ _ (λ (fs : List (ℕ × Flow)). flow_at q fs ≡ flow_at q state.flows)
+      (λ _. at-change_other q sfid apart state.flows (flows.acknowledged state.frame))
+      (λ _. at-undone_other q sfid apart state.flows kind)
+
+  pub acked_sound : (modem : Modem) (tid : ℕ) (kind : Kind) (code : ℕ) → IsSound consts row (acked consts state modem tid kind code).state
+  acked_sound modem tid kind code = by (find (waits_for modem tid kind) state.kept) refl
+    where
+      by : (o : Option KeptEntry) → find (waits_for modem tid kind) state.kept ≡ o → IsSound consts row (acked_if consts state modem tid kind code (option_map (λ entry. entry.sfid) o)).state
+      by None is = sound
+      by (Some x) is =
+          let apart = find-apart (waits_for modem tid kind) (waits_for_waits modem tid kind) state.kept x sound.own_flows is in
+          step_on sound (flows_acked kind code state.frame x.sfid state.flows) (map (acknowledged consts.timers modem tid kind) state.kept) (acked_step kind code x.sfid)
+          (simp length-map sound.few_kept)
+          (All-map (HasItsFlow (flows_acked kind code state.frame x.sfid state.flows)) (acknowledged consts.timers modem tid kind) state.kept
+              (λ k d lt. has_flow consts.timers modem tid kind (flows_acked kind code state.frame x.sfid state.flows) (get_or state.kept k d) (waits_for modem tid kind (get_or state.kept k d))
+                  (λ fails waiting. subst (λ (o : Option Flow). IsSome o × IfSome o (IsWaitingOf (get_or state.kept k d).kind)) (sym (acked_other kind code x.sfid (get_or state.kept k d).sfid (apart k d lt fails waiting))) (sound.waiting k d lt waiting))))
+          (pairs-map AreApart AreApart (acknowledged consts.timers modem tid kind) (λ a b apart. ack_apart consts.timers modem tid kind a b (waits_for modem tid kind a) (waits_for modem tid kind b) apart) state.kept sound.own_flows)
+
+  -- ---- a request for minislots
+
+  pub asked_sound : (modem : Modem) (sid minislots : ℕ) → IsSound consts row (asked_of_flow state modem minislots (flow_with sid state.flows)).state
+  asked_sound modem sid minislots = by (flow_with sid state.flows) refl
+    where
+      by : (o : Option (ℕ × Flow)) → flow_with sid state.flows ≡ o → IsSound consts row (asked_of_flow state modem minislots o).state
+      by None is = sound
+      by (Some entry) is =
+          let there = at-find (λ (e : ℕ × Flow). is_sid sid e.1.sid) state.flows entry sound.ascending is in
+          let follow = follow-requested consts.units state.frame entry.1 (sound-there (sound-AreFlows sound) entry.0 entry.1 there) minislots in
+          let change : Flow → Flow = requested minislots state.frame in
+          let waiting : All (HasItsFlow (with_flow entry.0 (change entry.1) state.flows)) state.kept = λ k d lt waits.
+              subst (λ (fs : List (ℕ × Flow)). IsSome (flow_at (get_or state.kept k d).sfid fs) × IfSome (flow_at (get_or state.kept k d).sfid fs) (IsWaitingOf (get_or state.kept k d).kind))
+              (ap (put_if entry.0 change state.flows) there)
+              (kept-change (IsWaitingOf (get_or state.kept k d).kind) (get_or state.kept k d).sfid entry.0 change state.flows (λ old h. waits_still (get_or state.kept k d).kind old (change old) refl refl h) (sound.waiting k d lt waits)) in
+          cond_both (not (same_modem entry.1.modem modem)) _ _ (λ (ran : Ran). IsSound consts row ran.state) (λ _. sound)
+          (λ _. cond_both (not (asks_for_grants entry.1.sets.active)) _ _ (λ (ran : Ran). IsSound consts row ran.state) (λ _. sound)
+          (λ _. step_on sound (with_flow entry.0 (change entry.1) state.flows) state.kept (put-MayStep (sound-AreFlows sound) entry.0 entry.1 (change entry.1) there follow) sound.few_kept waiting sound.own_flows))

@@ -1,0 +1,92 @@
+-- The flows that are scheduled, of flows that are sound.
+use Rattle.std.proofs.Common.{◌≡◌, ℕ, ◌+◌, ◌<◌, ◌≤◌, List, [], ◌∷◌, Option, Some, None, unwrap_or, All, sym, arith}
+use Rattle.std.specs.List.{AllByRecursion, cons_option}
+use Rattle.std.specs.List.Sorted.{IsStrictlySortedBy}
+use Rattle.std.specs.declared.cmp.Ordering.TheVariants.{Less}
+use Rattle.std.specs.Ordering.{nat_cmp}
+use Rattle.std.specs.Map.{keys_of, values_of}
+use Rattle.std.proofs.lemmas.Cmp.{ranked}
+use Rattle.std.proofs.lemmas.List.Elements.{All-nil, All-cons, All-head, All-tail}
+use Rattle.std.proofs.lemmas.List.Sums.{sum_by-cons}
+use Rattle.param_sets.specs.Units.{UnitSizes}
+use Rattle.param_sets.specs.Need.{need_if}
+use Rattle.param_sets.specs.declared.param_set.ParamFields.{ParamFields}
+use Rattle.slice_scheduler.specs.declared.flowing.At.{At}
+use Rattle.slice_scheduler.specs.declared.flowing.Flowing.{Flowing}
+use Rattle.slice_scheduler.specs.Servable.{SfidsAscend, IsPast, need_at, needed}
+use Rattle.slice_table.specs.declared.consts.ConstsFields.{ConstsFields}
+use Rattle.slice_table.specs.declared.operator_row.RowFields.{RowFields}
+use Rattle.flow_table.specs.declared.flow.Flow.{Flow}
+use Rattle.flow_table.specs.Flow.{committed_of}
+use Rattle.flow_table.specs.Table.{flowing_of_set, flowing_in, committed_minislots}
+use Rattle.operator_machine.specs.State.{OperatorState}
+use Rattle.operator_machine.specs.Frame.{at_frame}
+use Rattle.operator_machine.specs.Sound.{IsSoundFlow, IsSound}
+use Rattle.operator_machine.proofs.MapLemmas.{Ascends}
+use Rattle.operator_machine.proofs.NeedLemmas.{need_if-le}
+
+-- a flow as it is scheduled with this set
+abbrev served : ℕ × Flow → ParamFields → Flowing
+served e set = record { sfid = e.0; sid = unwrap_or e.1.sid 0; set = set; start = e.1.start; backlog = e.1.backlog; since = e.1.since }
+
+-- ---- by SFID
+
+-- flows above an SFID are scheduled above it
+above : (n : ℕ) (flows : List (ℕ × Flow)) → AllByRecursion (λ y. nat_cmp n y ≡ Less) (keys_of flows) → AllByRecursion (λ (f : Flowing). n < f.sfid) (flowing_in flows)
+above n [] a = tt
+above n (e ∷ flows) a = by e.1.sets.active (ranked n e.0 Less (sym a.0)) (above n flows a.1)
+  where
+    by : (active : Option ParamFields) → n < e.0 → AllByRecursion (λ (f : Flowing). n < f.sfid) (flowing_in flows) → AllByRecursion (λ (f : Flowing). n < f.sfid) (cons_option (flowing_of_set e.0 e.1 active) (flowing_in flows))
+    by None lt rest = rest
+    by (Some set) lt rest = (lt, rest)
+
+ascend : (flows : List (ℕ × Flow)) → Ascends flows → SfidsAscend (flowing_in flows)
+unfolding IsStrictlySortedBy
+ascend [] s = tt
+ascend (e ∷ flows) s = by e.1.sets.active (above e.0 flows s.0) (ascend flows s.1)
+  where
+    by : (active : Option ParamFields) → AllByRecursion (λ (f : Flowing). e.0 < f.sfid) (flowing_in flows) → SfidsAscend (flowing_in flows) → SfidsAscend (cons_option (flowing_of_set e.0 e.1 active) (flowing_in flows))
+    by None higher rest = rest
+    by (Some set) higher rest = (higher, rest)
+
+-- ---- not of a later frame
+
+past : (frame : ℕ) (flows : List (ℕ × Flow)) → All (IsSoundFlow frame) (values_of flows) → All (IsPast frame) (flowing_in flows)
+past frame [] a = All-nil (IsPast frame)
+past frame (e ∷ flows) a = by e.1.sets.active (All-head (IsSoundFlow frame) e.1 (values_of flows) a) (past frame flows (All-tail (IsSoundFlow frame) e.1 (values_of flows) a))
+  where
+    by : (active : Option ParamFields) → IsSoundFlow frame e.1 → All (IsPast frame) (flowing_in flows) → All (IsPast frame) (cons_option (flowing_of_set e.0 e.1 active) (flowing_in flows))
+    by None sound rest = rest
+    by (Some set) sound rest = All-cons (IsPast frame) _ _ (record { start = sound.start; since = sound.since }) rest
+
+-- ---- within what is committed
+
+-- the active set needs no more than is committed
+needs_less : (units : UnitSizes) (frame : ℕ) (flow : Flow) → IsSoundFlow frame flow → (need_if units flow.sets.active).minislots ≤ (committed_of units flow).minislots
+needs_less units frame flow sound = omega (arith, need_if-le units flow.sets.active flow.sets.admitted sound.nested.active)
+
+within : (at : At) (flows : List (ℕ × Flow)) → All (IsSoundFlow at.frame) (values_of flows) → needed at (flowing_in flows) ≤ committed_minislots at.units flows
+within at [] a = omega arith
+within at (e ∷ flows) a =
+    let sound = All-head (IsSoundFlow at.frame) e.1 (values_of flows) a in
+    let rest = within at flows (All-tail (IsSoundFlow at.frame) e.1 (values_of flows) a) in
+    let sum = sum_by-cons (λ (entry : ℕ × Flow). (committed_of at.units entry.1).minislots) e flows in
+    let first = needs_less at.units at.frame e.1 sound in
+    let more = by e.1.sets.active in
+    omega (arith, sum, first, more, rest)
+  where
+    by : (active : Option ParamFields) → needed at (cons_option (flowing_of_set e.0 e.1 active) (flowing_in flows)) ≡ (need_if at.units active).minislots + needed at (flowing_in flows)
+    by None = omega arith
+    by (Some set) = sum_by-cons (need_at at) (served e set) (flowing_in flows)
+
+-- ---- what a schedule asks for
+
+module _ (consts : ConstsFields) (row : RowFields) (state : OperatorState) (sound : IsSound consts row state) where
+  pub can_ascend : SfidsAscend (flowing_in state.flows)
+  can_ascend = ascend state.flows sound.ascending
+
+  pub can_pass : All (IsPast state.frame) (flowing_in state.flows)
+  can_pass = past state.frame state.flows sound.flows
+
+  pub can_fit : needed (at_frame consts state) (flowing_in state.flows) ≤ state.share.slice.length
+  can_fit = omega (arith, within (at_frame consts state) state.flows sound.flows, sound.minislots, sound.share.budget)

@@ -1,0 +1,31 @@
+//! Laws of the machine.
+
+ghost use Rattle.std.specs.Prelude.{◌≡◌, ◌≤◌, All};
+ghost use Rattle.slice_scheduler.specs.Servable.{SfidsAscend, IsPast, needed};
+ghost use Rattle.slice_table.specs.declared.consts.ConstsFields.{ConstsFields};
+ghost use Rattle.slice_table.specs.declared.operator_row.RowFields.{RowFields};
+ghost use Rattle.slice_table.specs.Row.{IsRowOf};
+ghost use Rattle.flow_table.specs.Table.{flowing_in};
+ghost use Rattle.operator_machine.specs.State.{OperatorState, opened};
+ghost use Rattle.operator_machine.specs.Frame.{at_frame, flows_left};
+ghost use Rattle.operator_machine.specs.Sound.{IsSound};
+
+/// The slice in force can serve the flows: they stand by SFID, none is of a later frame, and what their active sets need
+/// fits the slice.
+pub fn schedule_can_serve()
+    ensures ascending { (consts : ConstsFields) (row : RowFields) (state : OperatorState) → IsSound consts row state → SfidsAscend (flowing_in state.flows) }
+    ensures past { (consts : ConstsFields) (row : RowFields) (state : OperatorState) → IsSound consts row state → All (IsPast state.frame) (flowing_in state.flows) }
+    ensures within { (consts : ConstsFields) (row : RowFields) (state : OperatorState) → IsSound consts row state → needed (at_frame consts state) (flowing_in state.flows) ≤ state.share.slice.length }
+{}
+
+/// What a tick gives up is not scheduled, and leaves all that is scheduled: a new flow has no set, and a flow of which a
+/// change is taken back keeps its sets, and its SID where a set is admitted.
+pub fn given_up_have_no_grants()
+    ensures { (consts : ConstsFields) (row : RowFields) (state : OperatorState) → IsSound consts row state → flowing_in (flows_left state) ≡ flowing_in state.flows }
+{}
+
+/// A machine is opened sound: its provisioned flows have identifiers of their own in the row's ranges, fit its limits, and
+/// have committed no more than its quota and its budget. That the slice has a minislot is what each `Slice` has.
+pub fn opened_is_sound()
+    ensures { (consts : ConstsFields) (row : RowFields) → IsRowOf consts row → 1 ≤ row.slice.length → IsSound consts row (opened consts row) }
+{}
