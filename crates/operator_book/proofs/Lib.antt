@@ -3,3 +3,4 @@ pub mod Faults
 pub mod Inbox
 pub mod Nested
 pub mod Room
+pub mod Serving

@@ -5,4 +5,6 @@ mod asked;
 mod handling;
 mod machine;
 mod refusal;
+mod reslicing;
+mod ticking;
 mod verdict;

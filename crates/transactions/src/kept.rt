@@ -1,6 +1,6 @@
 //! The kept entries of all transactions.
 
-ghost use Rattle.std.specs.Prelude.{◌≡◌, ◌≤◌, ◌<◌, ◌↔◌, [], ◌∷◌, ◌++◌, length, All, find, position, map, count_by, option_map, IsTrue, IsSome, IsNone, IsOk, IfOk, OnOk, OnErr};
+ghost use Rattle.std.specs.Prelude.{◌≡◌, ◌≢◌, ◌≤◌, ◌<◌, ◌↔◌, [], ◌∷◌, ◌++◌, length, All, find, position, map, count_by, option_map, IsTrue, IsSome, IsNone, IsOk, IfOk, OnOk, OnErr};
 ghost use Rattle.std.specs.Option.{option_copied};
 ghost use Rattle.transactions.specs.Waits.{IsLasting};
 ghost use Rattle.transactions.specs.Entry.{is_of, waits_for};
@@ -8,7 +8,7 @@ ghost use Rattle.transactions.specs.Timers.{is_resent, resent_in, given_up_in, k
 ghost use Rattle.transactions.specs.Keeping.{begun, acknowledged, OneEach, HasTicks, IsHeldUnsent};
 
 use crate::entry::KeptEntry;
-use crate::tick::{Ticked, count_down, given_ups_in, resends_in};
+use crate::tick::{Resends, Ticked, count_down, given_ups_in, resends_in};
 use crate::timers::Timers;
 use dsx_messages::{Kind, Modem};
 use std::alloc::{AllocError, Global};
@@ -125,9 +125,19 @@ impl Kept {
         Ok(Ticked { resend, given_up })
     }
 
+    /// What the next tick sends again: copies, for a caller that wants them before the tick changes anything. Takes no
+    /// memory where there is nothing.
+    pub fn resends(&self, alloc: Global) -> Result<Resends, AllocError>
+        ensures ok { IfOk result (λ resend. resend ≡ resent_in self.now.entries) }
+        ensures err { OnErr result (resent_in self.now.entries ≢ []) }
+    {
+        resends_in(alloc, self.entries.as_slice())
+    }
+
     /// How many responses the next tick sends again.
     pub fn resend_count(&self) -> usize
-        ensures { result ≡ length (resent_in self.now.entries) }
+        ensures value { result ≡ length (resent_in self.now.entries) }
+        ensures few { result ≤ self.now.capacity }
     {
         resent_count(&self.entries)
     }
@@ -177,7 +187,8 @@ fn waiting_place(entries: &[KeptEntry], modem: Modem, tid: u16, kind: Kind) -> O
 
 /// How many of these entries the next tick sends again.
 fn resent_count(entries: &[KeptEntry]) -> usize
-    ensures { result ≡ count_by is_resent entries.now }
+    ensures value { result ≡ count_by is_resent entries.now }
+    ensures few { result ≤ length entries.now }
 {
     entries.iter().filter(|entry| entry.is_resent()).count()
 }

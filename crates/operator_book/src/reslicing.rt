@@ -1,0 +1,58 @@
+//! Another slice and budget from a later frame on.
+
+ghost use Rattle.std.specs.Prelude.{◌≡◌, None};
+ghost use Rattle.operator_machine.specs.Machine.{is_off_frame, unfit_from, resliced};
+ghost use Rattle.operator_book.specs.Held.{with_state};
+
+use crate::machine::Machine;
+use operator_machine::{NextShare, Share, SliceRow, Unfit};
+use slice_scheduler::Slice;
+
+impl Machine {
+    /// Whether an offered slice has no minislot, begins within the head, or ends behind the frame.
+    fn is_off_frame(&self, row: SliceRow) -> bool
+        ensures { result ≡ is_off_frame self.now.consts row }
+    {
+        let consts = self.consts.get_fields();
+        row.length == 0
+            || row.start < consts.head
+            || u32::from(row.start) + u32::from(row.length) > u32::from(consts.frame_minislots)
+    }
+
+    /// Why an offered slice cannot be taken from this frame on.
+    pub(crate) fn unfit_from(&self, from: u32, row: SliceRow) -> Option<Unfit>
+        ensures { result ≡ unfit_from self.now.consts self.now.state from row }
+    {
+        if from <= self.frame {
+            return Some(Unfit::NotPast);
+        }
+        if self.next.is_some() {
+            return Some(Unfit::Unfinished);
+        }
+        if self.is_off_frame(row) {
+            return Some(Unfit::OffFrame);
+        }
+        if row.budget > row.length {
+            return Some(Unfit::BudgetOverSlice);
+        }
+        if self.flows.committed_minislots() > u64::from(row.budget) {
+            return Some(Unfit::OverBudget);
+        }
+        None
+    }
+
+    /// Takes another slice and budget from a later frame on. Takes no memory.
+    pub(crate) fn reslice(&mut self, from: u32, row: SliceRow)
+        requires { unfit_from self.old.consts self.old.state from row ≡ None }
+        ensures { self.new ≡ with_state self.old (resliced self.old.state from row) }
+    {
+        let _consts = self.consts.get_fields();
+        self.next = Some(NextShare {
+            from,
+            share: Share {
+                slice: Slice::new(row.start, row.length),
+                budget: row.budget,
+            },
+        });
+    }
+}

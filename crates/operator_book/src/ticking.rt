@@ -1,0 +1,144 @@
+//! A tick: the timers, the frame, and the next frame's share.
+
+ghost use Rattle.std.specs.Prelude.{◌≡◌, ◌<◌, ◌≤◌, ◌+◌, [], ◌∷◌, ◌++◌, map, length, IfOk, OnOk, OnErr, vec_len, vec_capacity};
+ghost use Rattle.transactions.specs.Timers.{resent_in, given_up_in};
+ghost use Rattle.flow_table.specs.Table.{flowing_in};
+ghost use Rattle.slice_scheduler.specs.Schedule.{elements_of, granted_of};
+ghost use Rattle.operator_machine.specs.declared.output.Output.TheVariants as outputs;
+ghost use Rattle.operator_machine.specs.Handle.{change_at};
+ghost use Rattle.flow_table.specs.Flow.{granted};
+ghost use Rattle.operator_machine.specs.Frame.{resent, all_undone, at_frame, all_granted, share_at, next_at, flows_left, ticked};
+ghost use Rattle.operator_machine.specs.Sound.{IsSound};
+ghost use Rattle.operator_book.specs.Held.{with_state};
+
+use crate::machine::{Both, Machine};
+use grant_policy::Ranking;
+use operator_machine::{Output, given_up_have_no_grants, schedule_can_serve};
+use slice_scheduler::{At, Elements, Served, schedule};
+use std::alloc::{AllocError, Global};
+use transactions::{GivenUp, Resends};
+
+/// Room for so many outputs and one more.
+fn room_for(alloc: Global, count: usize) -> Result<Vec<Output>, AllocError>
+    requires { count ≤ 4294967295 }
+    ensures { IfOk result (λ room. (room.items ≡ []) × (count + 1 ≤ vec_capacity room)) }
+{
+    Vec::with_capacity(alloc, count + 1)
+}
+
+/// The outputs of a tick, in room that is there: what is sent again, then the frame.
+fn frame_outputs(
+    room: Vec<Output>,
+    resends: Resends,
+    number: u32,
+    elements: Elements,
+) -> Vec<Output>
+    requires empty { room.items ≡ [] }
+    requires fits { length resends + 1 ≤ vec_capacity room }
+    ensures { result.items ≡ map resent resends ++ outputs.Frame number elements ∷ [] }
+{
+    let mut told = room;
+    for resend in resends.into_vec() {
+        told.push_reserved(Output::Reply {
+            modem: resend.modem,
+            bytes: resend.reply,
+        });
+    }
+    told.push_reserved(Output::Frame { number, elements });
+    told
+}
+
+impl Machine {
+    /// The schedule of the frame. What is given up has no grants, so that it may be scheduled before anything is undone.
+    fn served(&self, alloc: Global, ranking: &Ranking) -> Result<Served, AllocError>
+        requires sound { IsSound self.now.consts self.now.row self.now.state }
+        requires policy { ranking.now.policy ≡ self.now.row.policy }
+        ensures elements { IfOk result (λ served. served.elements ≡ elements_of self.now.row.policy (at_frame self.now.consts self.now.state) (flowing_in (flows_left self.now.state))) }
+        ensures granted { IfOk result (λ served. served.granted ≡ granted_of self.now.row.policy (at_frame self.now.consts self.now.state) (flowing_in (flows_left self.now.state))) }
+    {
+        schedule_can_serve();
+        given_up_have_no_grants();
+        let consts = self.consts.get_fields();
+        let flowing = self.flows.flowing(alloc)?;
+        let at = At {
+            slice: self.share.slice,
+            frame: self.frame,
+            short_max: consts.short_max,
+            units: consts.units,
+        };
+        let served = schedule(alloc, flowing.as_slice(), &at, ranking)?;
+        Ok(served)
+    }
+
+    /// What is given up is undone, in order.
+    fn undo_all(&mut self, given_up: &[GivenUp])
+        ensures { self.new ≡ record self.old { state = record self.old.state { flows = all_undone given_up.now self.old.state.flows } } }
+    {
+        for gone in given_up {
+            self.undo(gone.kind, gone.sfid);
+        }
+    }
+
+    /// A grant of this frame lowers its flow's backlog.
+    fn grant(&mut self, frame: u32, sfid: u32, minislots: u16)
+        requires { frame < 4294967295 }
+        ensures { self.new ≡ record self.old { state = record self.old.state { flows = change_at sfid (granted minislots frame) self.old.state.flows } } }
+    {
+        if let Some(flow) = self.flows.get(sfid) {
+            self.flows.change(sfid, flow.granted(minislots, frame));
+        }
+    }
+
+    /// Each grant of this frame lowers its flow's backlog.
+    fn grant_all(&mut self, frame: u32, grants: &[(u32, u16)])
+        requires { frame < 4294967295 }
+        ensures { self.new ≡ record self.old { state = record self.old.state { flows = all_granted frame grants.now self.old.state.flows } } }
+    {
+        for granted in grants {
+            self.grant(frame, granted.0, granted.1);
+        }
+    }
+
+    /// The next frame, and the share that waits for it.
+    fn go_on(&mut self)
+        requires { self.old.state.frame < 4294967295 }
+        ensures { self.new ≡ record self.old { state = record self.old.state {
+            frame = self.old.state.frame + 1;
+            share = share_at (self.old.state.frame + 1) self.old.state.share self.old.state.next;
+            next = next_at (self.old.state.frame + 1) self.old.state.next;
+        } } }
+    {
+        self.frame += 1;
+        if let Some(next) = self.next {
+            if next.from == self.frame {
+                self.share = next.share;
+                self.next = None;
+            }
+        }
+    }
+
+    /// Counts the timers one tick on, gives out the frame, and goes on to the next.
+    pub(crate) fn tick(&mut self, alloc: Global, ranking: &Ranking) -> Result<Both, AllocError>
+        requires sound { IsSound self.old.consts self.old.row self.old.state }
+        requires policy { ranking.now.policy ≡ self.old.row.policy }
+        requires not_spent { self.old.state.frame < 4294967295 }
+        ensures state { OnOk result (self.new ≡ with_state self.old (ticked self.old.consts self.old.row self.old.state)) }
+        ensures outputs { IfOk result (λ both. both.told.items ≡ (ticked self.old.consts self.old.row self.old.state).outputs) }
+        ensures err { OnErr result (self.new ≡ self.old) }
+    {
+        let Served { elements, granted } = self.served(alloc, ranking)?;
+        let copied = elements.copy(alloc)?;
+        let _row = self.row.get_fields();
+        let kept_room = room_for(alloc, self.kept.resend_count())?;
+        let told_room = room_for(alloc, self.kept.resend_count())?;
+        let resends = self.kept.resends(alloc)?;
+        let ticked = self.kept.tick(alloc)?;
+        let number = self.frame;
+        self.undo_all(ticked.given_up.as_slice());
+        self.grant_all(number, granted.as_slice());
+        self.go_on();
+        let kept = frame_outputs(kept_room, resends, number, copied);
+        let told = frame_outputs(told_room, ticked.resend, number, elements);
+        Ok(Both { kept, told })
+    }
+}
