@@ -11,3 +11,5 @@ pub mod FreshLemmas
 pub mod OpenedLemmas
 pub mod SoundLemmas
 pub mod HandleLemmas
+pub mod AskedLemmas
+pub mod VerdictLemmas
