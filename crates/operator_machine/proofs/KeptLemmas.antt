@@ -38,7 +38,7 @@ abbrev pub HaveFlows : List (ℕ × Flow) → List GivenUp → Type 0
 HaveFlows flows [] = Unit {0}
 HaveFlows flows (g ∷ given_up) = HasFlow flows g × AllByRecursion (λ (h : GivenUp). g.sfid ≢ h.sfid) given_up × HaveFlows flows given_up
 
-given_up_waits : (e : KeptEntry) → is_given_up e ≡ true → is_waiting e ≡ true
+pub given_up_waits : (e : KeptEntry) → is_given_up e ≡ true → is_waiting e ≡ true
 given_up_waits e given_up = (and_parts (is_due e) (is_waiting e) (and_parts (is_due e && is_waiting e) (e.resends_left == 0) given_up).0).1
 
 -- an SFID that no waiting entry has is none of what is given up

@@ -13,3 +13,5 @@ pub mod SoundLemmas
 pub mod HandleLemmas
 pub mod AskedLemmas
 pub mod VerdictLemmas
+pub mod CarryLemmas
+pub mod TickLemmas
