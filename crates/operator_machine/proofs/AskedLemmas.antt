@@ -1,14 +1,14 @@
 -- What is asked for is nested, and of a flow that waits for nothing.
-use Rattle.std.proofs.Common.{◌≡◌, ℕ, not, Bool, true, false, cond, List, [], ◌∷◌, Option, Some, None, Result, Ok, Err, IfOk, IsSome, is_some, refl, sym, ap, ◌∙◌, subst, arith, find}
-use Rattle.std.proofs.lemmas.Bool.{cond_both, false_from_ne_true}
+use Rattle.std.proofs.Common.{◌≡◌, ℕ, not, false, List, Option, Some, None, Result, Ok, Err, IfOk, is_some, refl}
+use Rattle.std.proofs.lemmas.Bool.{cond_both}
 use Rattle.tlv24.specs.declared.fields.FlowFields.{FlowFields}
 use Rattle.dsx_messages.specs.declared.modem.Modem.{Modem}
 use Rattle.dsx_messages.specs.declared.kind.Kind.{Kind}
-use Rattle.dsx_messages.specs.declared.kind.Kind.TheVariants.{Dsa, Dsc, Dsd}
+use Rattle.dsx_messages.specs.declared.kind.Kind.TheVariants.{Dsa, Dsc}
 use Rattle.dsx_messages.specs.declared.code.Code.TheVariants as codes
 use Rattle.dsx_messages.specs.declared.reply.ReplyFields.{ReplyFields}
-use Rattle.param_sets.specs.Within.{IsWithinOrNull, first_failing}
-use Rattle.param_sets.specs.Sets.{AreNested, IsWithinProvisioned, failing_in_provisioned}
+use Rattle.param_sets.specs.Within.{IsWithinOrNull}
+use Rattle.param_sets.specs.Sets.{AreNested, IsWithinProvisioned}
 use Rattle.param_sets.specs.declared.param_set.ParamFields.{ParamFields}
 use Rattle.param_sets.specs.declared.sets.SetsFields.{SetsFields}
 use Rattle.param_sets.proofs.WithinLemmas.{is_within}
@@ -20,7 +20,7 @@ use Rattle.flow_table.specs.Table.{flow_at}
 use Rattle.operator_machine.specs.declared.verdict.AskedSets.{AskedSets}
 use Rattle.operator_machine.specs.declared.verdict.Addition.{Addition}
 use Rattle.operator_machine.specs.declared.verdict.Change.{Change}
-use Rattle.operator_machine.specs.Asked.{◌>>=◌, refusal, stated, refusal_naming, first_encoding, free_flow, asked_sets, failing_active, failing_admitted, nested_unless, nested_sets, addition_of, change_of}
+use Rattle.operator_machine.specs.Asked.{◌>>=◌, stated, refusal_naming, first_encoding, free_flow, asked_sets, failing_active, failing_admitted, nested_unless, nested_sets, addition_of, change_of}
 
 -- what one check gives the next one takes over
 and_then : {A B : Type 0} (Q : A → Type 0) (P : B → Type 0) (r : Result A ReplyFields) (f : A → Result B ReplyFields) → IfOk r Q → ((x : A) → Q x → IfOk (f x) P) → IfOk (r >>= f) P

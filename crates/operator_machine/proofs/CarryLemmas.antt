@@ -1,8 +1,8 @@
 -- A verdict that is carried out leaves a sound state, and so does all that is heard.
-use Rattle.std.proofs.Common.{◌≡◌, ◌≢◌, ℕ, ◌+◌, ◌<◌, ◌≤◌, Bool, true, false, List, [], ◌∷◌, ◌++◌, length, get_or, Option, Some, None, Result, Ok, Err, IfSome, IsSome, All, find, refl, sym, ap, ◌∙◌, subst, arith, nat_le}
-use Rattle.std.proofs.lemmas.Bool.{cond_both, leb-false, true≢false, false≢true}
+use Rattle.std.proofs.Common.{◌≡◌, ◌≢◌, ℕ, ◌<◌, ◌≤◌, true, false, List, [], ◌∷◌, ◌++◌, length, get_or, Option, Some, None, Result, Ok, Err, IfSome, IsSome, All, find, refl, sym, ap, ◌∙◌, subst, arith, nat_le}
+use Rattle.std.proofs.lemmas.Bool.{cond_both, leb-false, true≢false}
 use Rattle.std.proofs.lemmas.List.{length_push}
-use Rattle.std.proofs.lemmas.List.Elements.{All-push, All-weaker}
+use Rattle.std.proofs.lemmas.List.Elements.{All-push}
 use Rattle.std.proofs.lemmas.List.Quantifiers.{all_pairs_push}
 use Rattle.dsx_messages.specs.declared.modem.Modem.{Modem}
 use Rattle.dsx_messages.specs.declared.kind.Kind.{Kind}
@@ -27,15 +27,15 @@ use Rattle.operator_machine.specs.declared.verdict.Verdict.TheVariants.{Refused,
 use Rattle.operator_machine.specs.State.{OperatorState}
 use Rattle.operator_machine.specs.Asked.{refusal}
 use Rattle.operator_machine.specs.Verdict.{verdict, errored}
-use Rattle.operator_machine.specs.Handle.{Ran, without_flow, flows_after, reply_of, sfid_of, does_wait, carried_out, is_of_cmts, repeated, new_unless, transacted, kind_of, tid_of, message_handled, handle}
+use Rattle.operator_machine.specs.Handle.{Ran, without_flow, carried_out, is_of_cmts, new_unless, transacted, kind_of, tid_of, message_handled, handle}
 use Rattle.operator_machine.specs.Sound.{IsWaitingOf, HasItsFlow, HaveOwnFlows, IsSound}
 use Rattle.operator_machine.proofs.MapLemmas.{at-insert_same, at-insert_other, at-remove_other}
-use Rattle.operator_machine.proofs.FlowsLemmas.{put-AreFlows, without-AreFlows}
+use Rattle.operator_machine.proofs.FlowsLemmas.{put-AreFlows}
 use Rattle.operator_machine.proofs.ChangeLemmas.{MayStep, stay-MayStep, without-MayStep}
 use Rattle.operator_machine.proofs.KeptLemmas.{AreApart, IsIdle, idle-apart, still-waiting}
-use Rattle.operator_machine.proofs.SoundLemmas.{MayGoOn, sound-AreFlows, go_on, step_on}
+use Rattle.operator_machine.proofs.SoundLemmas.{sound-AreFlows, go_on, step_on}
 use Rattle.operator_machine.proofs.HandleLemmas.{acked_sound, asked_sound}
-use Rattle.operator_machine.proofs.VerdictLemmas.{AreAllowed, IsRightPut, IsRight, right}
+use Rattle.operator_machine.proofs.VerdictLemmas.{IsRightPut, IsRight, right}
 
 -- ---- one entry more
 

@@ -15,3 +15,4 @@ pub mod AskedLemmas
 pub mod VerdictLemmas
 pub mod CarryLemmas
 pub mod TickLemmas
+pub mod StepLemmas

@@ -1,10 +1,10 @@
 -- A tick leaves a sound state.
-use Rattle.std.proofs.Common.{◌≡◌, ◌≢◌, ℕ, ◌+◌, ◌-◌, ◌==◌, ◌&&◌, ◌||◌, ◌<◌, ◌≤◌, not, Bool, true, false, cond, List, [], ◌∷◌, ◌++◌, length, get_or, Option, Some, None, IfSome, IsSome, All, AllPairs, map, filter, refl, sym, ap, ◌∙◌, subst, arith}
+use Rattle.std.proofs.Common.{◌≡◌, ◌≢◌, ℕ, ◌+◌, ◌==◌, ◌&&◌, ◌≤◌, not, Bool, true, false, cond, List, [], ◌∷◌, length, get_or, Option, Some, None, IfSome, IsSome, All, map, filter, refl, sym, ◌∙◌, subst, arith}
 use Rattle.std.specs.List.{AllByRecursion}
 use Rattle.std.specs.Map.{values_of}
-use Rattle.std.proofs.lemmas.Bool.{cond_both, eqb-false, eqb-true, not-true, or_parts, true≢false, false≢true}
+use Rattle.std.proofs.lemmas.Bool.{cond_both, eqb-false, not-true, or_parts}
 use Rattle.std.proofs.lemmas.List.{length-map}
-use Rattle.std.proofs.lemmas.List.Elements.{All-map, All-cons, All-head, All-tail, All-weaker, All-nil, All-filter, filter_passes}
+use Rattle.std.proofs.lemmas.List.Elements.{All-map, All-cons, All-weaker, All-nil, All-filter, filter_passes}
 use Rattle.std.proofs.lemmas.List.Kept.{AllPairs-filter}
 use Rattle.std.proofs.lemmas.List.Sums.{length-filter, count_by-le-length}
 use Rattle.dsx_messages.specs.declared.kind.Kind.{Kind}
@@ -24,7 +24,7 @@ use Rattle.flow_table.specs.Table.{flow_at, flowing_in, committed_minislots}
 use Rattle.operator_machine.specs.declared.share.Share.{Share}
 use Rattle.operator_machine.specs.declared.share.NextShare.{NextShare}
 use Rattle.operator_machine.specs.State.{OperatorState}
-use Rattle.operator_machine.specs.Handle.{Ran, change_at, undone}
+use Rattle.operator_machine.specs.Handle.{change_at, undone}
 use Rattle.operator_machine.specs.Frame.{all_undone, at_frame, all_granted, share_at, next_at, flows_left, ticked}
 use Rattle.operator_machine.specs.Sound.{IsSoundFlow, IsWaitingOf, HasItsFlow, HaveOwnFlows, IsShare, IsNextShare, IsSound}
 use Rattle.operator_machine.proofs.FlowsLemmas.{AreFlows, then-CommitLess, same-CommitLess}

@@ -1,20 +1,17 @@
 -- A verdict is right: the flow that it puts is sound, has identifiers of its own, and what is committed with it is allowed.
-use Rattle.std.proofs.Common.{◌≡◌, ℕ, ◌+◌, ◌&&◌, ◌<◌, ◌≤◌, Bool, true, false, cond, List, length, Option, Some, None, Result, Ok, Err, IfOk, IfSome, IsSome, is_some, is_none, refl, sym, ap, ◌∙◌, subst, arith, nat_le, nat_lt}
-use Rattle.std.proofs.lemmas.Bool.{cond_both, leb-false, ltb-false, and_parts, and_cases, true≢false, false≢true}
-use Rattle.tlv24.specs.declared.fields.FlowFields.{FlowFields}
+use Rattle.std.proofs.Common.{◌≡◌, ℕ, ◌&&◌, ◌<◌, ◌≤◌, Bool, true, false, List, length, Option, Some, None, Result, Ok, Err, IfOk, IfSome, IsSome, is_some, is_none, refl, sym, subst, arith, nat_le, nat_lt}
+use Rattle.std.proofs.lemmas.Bool.{cond_both, leb-false, ltb-false, and_parts, true≢false, false≢true}
 use Rattle.dsx_messages.specs.declared.modem.Modem.{Modem}
 use Rattle.dsx_messages.specs.declared.kind.Kind.{Kind}
 use Rattle.dsx_messages.specs.declared.kind.Kind.TheVariants.{Dsa, Dsc, Dsd}
 use Rattle.dsx_messages.specs.declared.reply.ReplyFields.{ReplyFields}
 use Rattle.dsx_messages.specs.declared.message.Request.{Request}
 use Rattle.dsx_messages.specs.declared.message.Request.TheVariants as requests
-use Rattle.admission.specs.Free.{IsIn, IsFree, least_free_of}
-use Rattle.param_sets.specs.Sets.{AreNested}
-use Rattle.param_sets.specs.declared.sets.SetsFields.{SetsFields}
+use Rattle.admission.specs.Free.{IsIn, least_free_of}
 use Rattle.slice_table.specs.declared.consts.ConstsFields.{ConstsFields}
 use Rattle.slice_table.specs.declared.operator_row.RowFields.{RowFields}
 use Rattle.flow_table.specs.declared.flow.Flow.{Flow}
-use Rattle.flow_table.specs.Table.{sfids_of, sids_of, flow_at, sid_if, with_flow, committed_minislots, committed_elements}
+use Rattle.flow_table.specs.Table.{sfids_of, sids_of, flow_at, with_flow, committed_minislots, committed_elements}
 use Rattle.operator_machine.specs.declared.verdict.Addition.{Addition}
 use Rattle.operator_machine.specs.declared.verdict.Change.{Change}
 use Rattle.operator_machine.specs.declared.verdict.Verdict.{Verdict}
@@ -23,15 +20,15 @@ use Rattle.operator_machine.specs.State.{OperatorState}
 use Rattle.operator_machine.specs.Asked.{free_flow, addition_of, change_of}
 use Rattle.operator_machine.specs.Verdict.{limit_of, minislots_allowed, within_limit, new_flow, added_reply, added_under, added, changed_flow, changed_reply, changed_with, changed_with_new, wants_sid, changed, addition_verdict, change_verdict, deletion_verdict, verdict}
 use Rattle.operator_machine.specs.Handle.{kind_of}
-use Rattle.operator_machine.specs.Sound.{IsSoundPending, IsSoundFlow, IsWaitingOf, IsSound}
+use Rattle.operator_machine.specs.Sound.{IsSoundFlow, IsWaitingOf, IsSound}
 use Rattle.operator_machine.proofs.MapLemmas.{length-insert, length-insert_there}
 use Rattle.operator_machine.proofs.EntryLemmas.{All-at}
-use Rattle.operator_machine.proofs.FlowsLemmas.{AreFlows, MayPut, MayPut-again, sound-there}
+use Rattle.operator_machine.proofs.FlowsLemmas.{MayPut, MayPut-again, sound-there}
 use Rattle.operator_machine.proofs.FreshLemmas.{MayPut-fresh, none-there}
 use Rattle.operator_machine.proofs.RoomLemmas.{given-free}
 use Rattle.operator_machine.proofs.KeptLemmas.{IsIdle}
 use Rattle.operator_machine.proofs.SoundLemmas.{sound-AreFlows}
-use Rattle.operator_machine.proofs.AskedLemmas.{AreAsked, IsFreeFlow, free-IsFreeFlow, IsAddition, addition-IsAddition, IsChange, change-IsChange}
+use Rattle.operator_machine.proofs.AskedLemmas.{IsFreeFlow, free-IsFreeFlow, IsAddition, addition-IsAddition, IsChange, change-IsChange}
 
 -- what is committed with these flows is allowed
 pub record AreAllowed (consts : ConstsFields) (row : RowFields) (state : OperatorState) (flows : List (ℕ × Flow)) : Type 0 where
