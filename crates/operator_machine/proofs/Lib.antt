@@ -16,3 +16,4 @@ pub mod VerdictLemmas
 pub mod CarryLemmas
 pub mod TickLemmas
 pub mod StepLemmas
+pub mod FrameLemmas
