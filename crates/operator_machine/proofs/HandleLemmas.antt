@@ -1,9 +1,8 @@
 -- What is handled leaves a sound state: an acknowledgement, a request for minislots, and a verdict that is carried out.
-use Rattle.std.proofs.Common.{◌≡◌, ◌≢◌, ℕ, ◌+◌, ◌==◌, ◌&&◌, ◌<◌, ◌≤◌, not, Bool, true, false, cond, List, [], ◌∷◌, ◌++◌, length, get_or, Option, Some, None, IfSome, IsSome, is_some, option_map, All, AllPairs, find, map, refl, sym, ap, ◌∙◌, subst, arith, nat_le}
-use Rattle.std.proofs.lemmas.Bool.{and_parts, cond_both, true≢false, false≢true}
-use Rattle.std.proofs.lemmas.Option.{none-some}
+use Rattle.std.proofs.Common.{◌≡◌, ◌≢◌, ℕ, ◌==◌, ◌&&◌, not, Bool, true, false, cond, List, get_or, Option, Some, None, IfSome, IsSome, is_some, option_map, All, find, map, refl, sym, ap, ◌∙◌, subst}
+use Rattle.std.proofs.lemmas.Bool.{and_parts, cond_both, false≢true}
 use Rattle.std.proofs.lemmas.List.{length-map}
-use Rattle.std.proofs.lemmas.List.Elements.{All-map, All-push, All-weaker}
+use Rattle.std.proofs.lemmas.List.Elements.{All-map}
 use Rattle.dsx_messages.specs.declared.modem.Modem.{Modem}
 use Rattle.dsx_messages.specs.declared.kind.Kind.{Kind}
 use Rattle.dsx_messages.specs.declared.kind.Kind.TheVariants.{Dsa, Dsc, Dsd}
@@ -19,13 +18,12 @@ use Rattle.flow_table.specs.Flow.{asks_for_grants, requested}
 use Rattle.flow_table.specs.Flow as flows
 use Rattle.flow_table.specs.Table.{flow_at, flow_with, is_sid, with_flow}
 use Rattle.operator_machine.specs.State.{OperatorState}
-use Rattle.operator_machine.specs.Handle.{Ran, put_if, change_at, flows_acked, acked_if, acked, asked_of_flow}
-use Rattle.operator_machine.specs.Sound.{IsWaitingOf, HasItsFlow, HaveOwnFlows, IsSound}
-use Rattle.operator_machine.proofs.MapLemmas.{at-insert_same, at-insert_other}
+use Rattle.operator_machine.specs.Handle.{Ran, put_if, flows_acked, acked_if, acked, asked_of_flow}
+use Rattle.operator_machine.specs.Sound.{IsWaitingOf, HasItsFlow, IsSound}
 use Rattle.operator_machine.proofs.EntryLemmas.{at-find}
-use Rattle.operator_machine.proofs.FlowsLemmas.{AreFlows, sound-there}
+use Rattle.operator_machine.proofs.FlowsLemmas.{sound-there}
 use Rattle.operator_machine.proofs.ChangeLemmas.{MayStep, put-MayStep, change-MayStep, undone-MayStep, follow-acknowledged, follow-requested, kept-change, at-change_other, at-undone_other}
-use Rattle.operator_machine.proofs.KeptLemmas.{AreApart, still-waiting, pairs-map, find-apart}
+use Rattle.operator_machine.proofs.KeptLemmas.{AreApart, pairs-map, find-apart}
 use Rattle.operator_machine.proofs.SoundLemmas.{sound-AreFlows, step_on}
 
 -- a flow with the same sets, of which the same is pending, waits as before

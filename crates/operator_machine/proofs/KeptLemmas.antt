@@ -1,5 +1,5 @@
 -- The kept entries: each that waits has a flow of its own.
-use Rattle.std.proofs.Common.{◌≡◌, ◌≢◌, ◌==◌, ◌&&◌, Option, Some, None, IsSome, IfSome, is_some, ℕ, zero, suc, ◌<◌, Bool, true, false, cond, List, [], ◌∷◌, get_or, length, All, AllPairs, find, map, filter, refl, sym, ap, subst, ◌∙◌, arith}
+use Rattle.std.proofs.Common.{◌≡◌, ◌≢◌, ◌==◌, ◌&&◌, Option, Some, None, IsSome, IfSome, is_some, ℕ, suc, Bool, true, false, cond, List, [], ◌∷◌, get_or, All, AllPairs, find, map, filter, refl, sym, ap, subst, ◌∙◌, arith}
 use Rattle.std.specs.List.{AllByRecursion}
 use Rattle.std.proofs.lemmas.Bool.{and_parts, true≢false}
 use Rattle.std.proofs.lemmas.List.Elements.{All-head, All-tail, All-cons, All-map, All-weaker}
@@ -38,7 +38,7 @@ abbrev pub HaveFlows : List (ℕ × Flow) → List GivenUp → Type 0
 HaveFlows flows [] = Unit {0}
 HaveFlows flows (g ∷ given_up) = HasFlow flows g × AllByRecursion (λ (h : GivenUp). g.sfid ≢ h.sfid) given_up × HaveFlows flows given_up
 
-given_up_waits : (e : KeptEntry) → is_given_up e ≡ true → is_waiting e ≡ true
+pub given_up_waits : (e : KeptEntry) → is_given_up e ≡ true → is_waiting e ≡ true
 given_up_waits e given_up = (and_parts (is_due e) (is_waiting e) (and_parts (is_due e && is_waiting e) (e.resends_left == 0) given_up).0).1
 
 -- an SFID that no waiting entry has is none of what is given up

@@ -11,3 +11,9 @@ pub mod FreshLemmas
 pub mod OpenedLemmas
 pub mod SoundLemmas
 pub mod HandleLemmas
+pub mod AskedLemmas
+pub mod VerdictLemmas
+pub mod CarryLemmas
+pub mod TickLemmas
+pub mod StepLemmas
+pub mod FrameLemmas

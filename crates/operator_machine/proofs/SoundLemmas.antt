@@ -1,6 +1,5 @@
 -- What a state may go on with, and stay sound.
-use Rattle.std.proofs.Common.{◌≡◌, ℕ, ◌≤◌, min, List, length, Option, Some, None, IfSome, All, arith}
-use Rattle.std.specs.Map.{values_of}
+use Rattle.std.proofs.Common.{ℕ, ◌≤◌, List, length, Option, Some, None, IfSome, All, arith}
 use Rattle.transactions.specs.declared.entry.KeptEntry.{KeptEntry}
 use Rattle.slice_table.specs.declared.consts.ConstsFields.{ConstsFields}
 use Rattle.slice_table.specs.declared.operator_row.RowFields.{RowFields}

@@ -6,3 +6,4 @@ pub mod Frame
 pub mod Machine
 pub mod Replay
 pub mod Sound
+pub mod Frames

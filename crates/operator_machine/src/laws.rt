@@ -1,13 +1,26 @@
 //! Laws of the machine.
 
-ghost use Rattle.std.specs.Prelude.{◌≡◌, ◌≤◌, All};
+ghost use Rattle.std.specs.Prelude.{◌≡◌, ℕ, ◌+◌, ◌<◌, ◌≤◌, true, List, [], ◌∷◌, All, count_by, find, Some};
+ghost use Rattle.std.specs.List.{range_with_len};
+ghost use Rattle.dsx_messages.specs.declared.modem.Modem.{Modem};
+ghost use Rattle.dsx_messages.specs.declared.kind.Kind.{Kind};
+ghost use Rattle.transactions.specs.declared.entry.KeptEntry.{KeptEntry};
+ghost use Rattle.transactions.specs.Entry.{same_kind, is_of};
 ghost use Rattle.slice_scheduler.specs.Servable.{SfidsAscend, IsPast, needed};
 ghost use Rattle.slice_table.specs.declared.consts.ConstsFields.{ConstsFields};
 ghost use Rattle.slice_table.specs.declared.operator_row.RowFields.{RowFields};
 ghost use Rattle.slice_table.specs.Row.{IsRowOf};
 ghost use Rattle.flow_table.specs.Table.{flowing_in};
+ghost use Rattle.operator_machine.specs.declared.action.Action.{Action};
+ghost use Rattle.operator_machine.specs.declared.action.Entry.{Entry};
 ghost use Rattle.operator_machine.specs.State.{OperatorState, opened};
 ghost use Rattle.operator_machine.specs.Frame.{at_frame, flows_left};
+ghost use Rattle.operator_machine.specs.declared.output.Output.TheVariants.{Reply};
+ghost use Rattle.operator_machine.specs.declared.verdict.Verdict.{Verdict};
+ghost use Rattle.operator_machine.specs.Handle.{transacted};
+ghost use Rattle.operator_machine.specs.Frames.{frames_in, is_tick};
+ghost use Rattle.operator_machine.specs.Machine.{own_step, own_run, IsAllowed};
+ghost use Rattle.operator_machine.specs.Replay.{IsReplay};
 ghost use Rattle.operator_machine.specs.Sound.{IsSound};
 
 /// The slice in force can serve the flows: they stand by SFID, none is of a later frame, and what their active sets need
@@ -28,4 +41,30 @@ pub fn given_up_have_no_grants()
 /// have committed no more than its quota and its budget. That the slice has a minislot is what each `Slice` has.
 pub fn opened_is_sound()
     ensures { (consts : ConstsFields) (row : RowFields) → IsRowOf consts row → 1 ≤ row.slice.length → IsSound consts row (opened consts row) }
+{}
+
+/// An action that is not refused leaves a sound state: no limit of the row is passed, no SFID or SID is given twice, no more
+/// is committed than the quota and the budgets allow, and each transaction that waits has a flow of its own.
+pub fn step_keeps_sound()
+    ensures { (consts : ConstsFields) (row : RowFields) (state : OperatorState) (action : Action) → IsSound consts row state → IsAllowed consts row state action → IsSound consts row (own_step consts row state action).state }
+{}
+
+/// The replay of a history is sound, whatever was done.
+pub fn replay_is_sound()
+    ensures { (consts : ConstsFields) (row : RowFields) (history : List Entry) (state : OperatorState) → IsRowOf consts row → 1 ≤ row.slice.length → IsReplay consts row history state → IsSound consts row state }
+{}
+
+/// The frames of a run are numbered from the state's frame number on, one for each tick, in order and with no gap; the next
+/// one follows them.
+pub fn frames_have_no_gap()
+    ensures numbers { (consts : ConstsFields) (row : RowFields) (state : OperatorState) (actions : List Action) → frames_in (own_run consts row state actions).outputs ≡ range_with_len state.frame (count_by is_tick actions) }
+    ensures next { (consts : ConstsFields) (row : RowFields) (state : OperatorState) (actions : List Action) → (own_run consts row state actions).state.frame ≡ state.frame + count_by is_tick actions }
+{}
+
+/// A request that is repeated changes nothing, and gets the kept reply again, whatever it says now.
+pub fn repeat_changes_nothing()
+    ensures state { (consts : ConstsFields) (row : RowFields) (state : OperatorState) (modem : Modem) (kind : Kind) (tid : ℕ) (v : Verdict) (entry : KeptEntry)
+        → find (is_of modem tid) state.kept ≡ Some entry → same_kind entry.kind kind ≡ true → tid < 32768 → (transacted consts row state modem kind tid v).state ≡ state }
+    ensures outputs { (consts : ConstsFields) (row : RowFields) (state : OperatorState) (modem : Modem) (kind : Kind) (tid : ℕ) (v : Verdict) (entry : KeptEntry)
+        → find (is_of modem tid) state.kept ≡ Some entry → same_kind entry.kind kind ≡ true → tid < 32768 → (transacted consts row state modem kind tid v).outputs ≡ Reply modem entry.reply ∷ [] }
 {}

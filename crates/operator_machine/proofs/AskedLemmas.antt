@@ -1,0 +1,106 @@
+-- What is asked for is nested, and of a flow that waits for nothing.
+use Rattle.std.proofs.Common.{◌≡◌, ℕ, not, false, List, Option, Some, None, Result, Ok, Err, IfOk, is_some, refl}
+use Rattle.std.proofs.lemmas.Bool.{cond_both}
+use Rattle.tlv24.specs.declared.fields.FlowFields.{FlowFields}
+use Rattle.dsx_messages.specs.declared.modem.Modem.{Modem}
+use Rattle.dsx_messages.specs.declared.kind.Kind.{Kind}
+use Rattle.dsx_messages.specs.declared.kind.Kind.TheVariants.{Dsa, Dsc}
+use Rattle.dsx_messages.specs.declared.code.Code.TheVariants as codes
+use Rattle.dsx_messages.specs.declared.reply.ReplyFields.{ReplyFields}
+use Rattle.param_sets.specs.Within.{IsWithinOrNull}
+use Rattle.param_sets.specs.Sets.{AreNested, IsWithinProvisioned}
+use Rattle.param_sets.specs.declared.param_set.ParamFields.{ParamFields}
+use Rattle.param_sets.specs.declared.sets.SetsFields.{SetsFields}
+use Rattle.param_sets.proofs.WithinLemmas.{is_within}
+use Rattle.slice_table.specs.declared.consts.ConstsFields.{ConstsFields}
+use Rattle.slice_table.specs.Row.{same_modem}
+use Rattle.flow_table.specs.declared.flow.Flow.{Flow}
+use Rattle.flow_table.specs.declared.flow.Pending.{Pending}
+use Rattle.flow_table.specs.Table.{flow_at}
+use Rattle.operator_machine.specs.declared.verdict.AskedSets.{AskedSets}
+use Rattle.operator_machine.specs.declared.verdict.Addition.{Addition}
+use Rattle.operator_machine.specs.declared.verdict.Change.{Change}
+use Rattle.operator_machine.specs.Asked.{◌>>=◌, stated, refusal_naming, first_encoding, free_flow, asked_sets, failing_active, failing_admitted, nested_unless, nested_sets, addition_of, change_of}
+
+-- what one check gives the next one takes over
+and_then : {A B : Type 0} (Q : A → Type 0) (P : B → Type 0) (r : Result A ReplyFields) (f : A → Result B ReplyFields) → IfOk r Q → ((x : A) → Q x → IfOk (f x) P) → IfOk (r >>= f) P
+and_then Q P (Ok x) f h next = next x h
+and_then Q P (Err reply) f h next = tt
+
+anything : {A : Type 0} (r : Result A ReplyFields) → IfOk r (λ _. Unit {0})
+anything (Ok x) = tt
+anything (Err reply) = tt
+
+-- ---- the sets
+
+active_within : (active admitted : Option ParamFields) → failing_active active admitted ≡ None → IsWithinOrNull active admitted
+active_within None admitted none = tt
+active_within (Some active) None none = cc
+active_within (Some active) (Some admitted) none = is_within active admitted none
+
+admitted_within : (admitted provisioned : Option ParamFields) → failing_admitted admitted provisioned ≡ None → IsWithinProvisioned admitted provisioned
+admitted_within None None none = tt
+admitted_within None (Some provisioned) none = tt
+admitted_within (Some admitted) None none = tt
+admitted_within (Some admitted) (Some provisioned) none = is_within admitted provisioned none
+
+-- sets that are asked for are nested, beside the same provisioned set
+pub record AreAsked (provisioned : Option ParamFields) (sets : SetsFields) : Type 0 where
+  pub nested : AreNested sets
+  pub same : sets.provisioned ≡ provisioned
+
+nested-AreAsked : (kind : Kind) (tid : ℕ) (first : FlowFields) (provisioned : Option ParamFields) (asked : AskedSets) → IfOk (nested_sets kind tid first provisioned asked) (AreAsked provisioned)
+unfolding nested_sets
+nested-AreAsked kind tid first provisioned asked = by (failing_active asked.active asked.admitted) (failing_admitted asked.admitted provisioned) refl refl
+  where
+    by : (a b : Option ℕ) → failing_active asked.active asked.admitted ≡ a → failing_admitted asked.admitted provisioned ≡ b → IfOk (nested_unless kind tid first provisioned asked a b) (AreAsked provisioned)
+    by (Some subtype) b is_a is_b = tt
+    by None (Some subtype) is_a is_b = tt
+    by None None is_a is_b = record {
+      nested = record { active = active_within asked.active asked.admitted is_a; admitted = admitted_within asked.admitted provisioned is_b };
+      same = refl;
+    }
+
+-- ---- the flow
+
+-- the flow of this SFID, which waits for nothing
+pub record IsFreeFlow (o : Option Flow) (flow : Flow) : Type 0 where
+  pub there : o ≡ Some flow
+  pub free : flow.pending ≡ None
+
+no_pending : (o : Option Pending) → is_some o ≡ false → o ≡ None
+no_pending None is = refl
+no_pending (Some pending) is = cc
+
+pub free-IsFreeFlow : (kind : Kind) (tid : ℕ) (modem : Modem) (o : Option Flow) → IfOk (free_flow kind tid modem o) (IsFreeFlow o)
+free-IsFreeFlow kind tid modem None = tt
+free-IsFreeFlow kind tid modem (Some flow) =
+    cond_both (not (same_modem flow.modem modem)) _ _ (λ (r : Result Flow ReplyFields). IfOk r (IsFreeFlow (Some flow))) (λ _. tt)
+    (λ _. cond_both (is_some flow.pending) _ _ (λ (r : Result Flow ReplyFields). IfOk r (IsFreeFlow (Some flow))) (λ _. tt)
+    (λ none. record { there = refl; free = no_pending flow.pending none }))
+
+-- ---- the checks in their order
+
+abbrev pub IsAddition : Addition → Type 0
+IsAddition addition = AreAsked None addition.sets
+
+pub addition-IsAddition : (consts : ConstsFields) (tid : ℕ) (encodings : List FlowFields) → IfOk (addition_of consts tid encodings) IsAddition
+unfolding addition_of
+addition-IsAddition consts tid encodings =
+    and_then (λ _. Unit {0}) IsAddition (first_encoding Dsa tid consts.classes encodings) _ (anything (first_encoding Dsa tid consts.classes encodings)) (λ first _.
+    and_then (λ _. Unit {0}) IsAddition (stated first.reference (refusal_naming Dsa tid codes.RejectRequiredParameterNotPresent first 1)) _ (anything (stated first.reference (refusal_naming Dsa tid codes.RejectRequiredParameterNotPresent first 1))) (λ reference _.
+    and_then (λ _. Unit {0}) IsAddition (asked_sets Dsa tid consts encodings) _ (anything (asked_sets Dsa tid consts encodings)) (λ asked _.
+    and_then (AreAsked None) IsAddition (nested_sets Dsa tid first None asked) _ (nested-AreAsked Dsa tid first None asked) (λ sets h. h))))
+
+pub record IsChange (flows : List (ℕ × Flow)) (change : Change) : Type 0 where
+  pub flow : IsFreeFlow (flow_at change.sfid flows) change.flow
+  pub sets : AreAsked change.flow.sets.provisioned change.sets
+
+pub change-IsChange : (consts : ConstsFields) (flows : List (ℕ × Flow)) (modem : Modem) (tid : ℕ) (encodings : List FlowFields) → IfOk (change_of consts flows modem tid encodings) (IsChange flows)
+unfolding change_of
+change-IsChange consts flows modem tid encodings =
+    and_then (λ _. Unit {0}) (IsChange flows) (first_encoding Dsc tid consts.classes encodings) _ (anything (first_encoding Dsc tid consts.classes encodings)) (λ first _.
+    and_then (λ _. Unit {0}) (IsChange flows) (stated first.sfid (refusal_naming Dsc tid codes.RejectRequiredParameterNotPresent first 2)) _ (anything (stated first.sfid (refusal_naming Dsc tid codes.RejectRequiredParameterNotPresent first 2))) (λ sfid _.
+    and_then (IsFreeFlow (flow_at sfid flows)) (IsChange flows) (free_flow Dsc tid modem (flow_at sfid flows)) _ (free-IsFreeFlow Dsc tid modem (flow_at sfid flows)) (λ flow free.
+    and_then (λ _. Unit {0}) (IsChange flows) (asked_sets Dsc tid consts encodings) _ (anything (asked_sets Dsc tid consts encodings)) (λ asked _.
+    and_then (AreAsked flow.sets.provisioned) (IsChange flows) (nested_sets Dsc tid first flow.sets.provisioned asked) _ (nested-AreAsked Dsc tid first flow.sets.provisioned asked) (λ sets h. record { flow = free; sets = h })))))

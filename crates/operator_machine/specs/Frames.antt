@@ -1,0 +1,22 @@
+-- The frames that are put out, by their numbers (own).
+use Rattle.std.specs.Prelude.{ℕ, Bool, true, false, List, filter_map, Option, Some, None}
+use Rattle.operator_machine.specs.declared.action.Action.{Action}
+use Rattle.operator_machine.specs.declared.action.Action.TheVariants.{Arrive, Work, Tick, Reslice}
+use Rattle.operator_machine.specs.declared.output.Output.{Output}
+use Rattle.operator_machine.specs.declared.output.Output.TheVariants as outputs
+
+-- the number of a frame
+abbrev pub frame_of : Output → Option ℕ
+frame_of (outputs.Reply modem bytes) = None
+frame_of (outputs.Silent modem cause) = None
+frame_of (outputs.Frame number elements) = Some number
+
+-- the numbers of the frames that are put out, in order
+abbrev pub frames_in : List Output → List ℕ
+frames_in outputs = filter_map frame_of outputs
+
+abbrev pub is_tick : Action → Bool
+is_tick (Arrive modem heard) = false
+is_tick Work = false
+is_tick Tick = true
+is_tick (Reslice from slice_row) = false
