@@ -25,7 +25,7 @@ ones : {X : Type 0} → (es : List (ℕ × X)) → sum_by one (values_of es) ≡
 ones [] = refl
 ones (e ∷ es) = omega (arith, sum_by-cons one e.1 (values_of es), ones es)
 
-longer : {X : Type 0} → (es : List (ℕ × X)) (k : ℕ) (v : X) → IsStrictlySortedBy nat_cmp (keys_of es) → length (insert_entry nat_cmp es k v) ≤ suc (length es)
+pub longer : {X : Type 0} → (es : List (ℕ × X)) (k : ℕ) (v : X) → IsStrictlySortedBy nat_cmp (keys_of es) → length (insert_entry nat_cmp es k v) ≤ suc (length es)
 longer es k v sorted =
     let sums : sum_by one (values_of (insert_entry nat_cmp es k v)) + unwrap_or (option_map one (lookup (is_at (nat_cmp k)) es)) 0 ≡ sum_by one (values_of es) + 1 = sum_by-insert_entry one nat_cmp_total es k v sorted in
     omega (arith, sums, ones es, ones (insert_entry nat_cmp es k v))
@@ -90,3 +90,15 @@ may_stand_same t u sfid flow flows capacity h = record {
   sid = subst (λ (fs : List (ℕ × Flow)). IfSome flow.sid (λ sid. (¬ Contains (sids_of fs) sid) ⊎ (sid_if (flow_at sfid fs) ≡ Some sid))) flows h.sid;
   room = subst (λ (n : ℕ). length (with_flow sfid flow u.flows) ≤ n) capacity (subst (λ (fs : List (ℕ × Flow)). length (with_flow sfid flow fs) ≤ t.capacity) flows h.room);
 }
+
+-- a flow that is opened
+pub opened_may_stand : (table : FlowTable) (sfid : ℕ) (range : Numbers) (flow : Flow) → IsStrictlySortedBy nat_cmp (keys_of table.flows)
+    → length table.flows < table.capacity → IfSome flow.sid (IsLeastFree range (sids_of table.flows)) → MayStand table sfid flow
+opened_may_stand table sfid range flow sorted room free = record {
+  sid = unused_sid flow.sid free;
+  room = omega (arith, room, longer table.flows sfid flow sorted);
+}
+  where
+    unused_sid : (o : Option ℕ) → IfSome o (IsLeastFree range (sids_of table.flows)) → IfSome o (λ sid. (¬ Contains (sids_of table.flows) sid) ⊎ (sid_if (flow_at sfid table.flows) ≡ Some sid))
+    unused_sid None h = tt
+    unused_sid (Some sid) h = inl h.free.unused

@@ -1,2 +1,4 @@
 pub mod Over
 pub mod Held
+pub mod Opening
+pub mod Kept

@@ -2,9 +2,19 @@
 #![tactic(auto)]
 
 mod asked;
+mod book;
 mod handling;
+mod logged;
 mod machine;
+mod opening;
 mod refusal;
 mod reslicing;
+mod step;
 mod ticking;
 mod verdict;
+
+pub use book::{Book, BookFault, OpenFault};
+pub use logged::Logged;
+pub use operator_machine::{
+    Action, Arrival, Cause, Entry, Heard, Output, Outputs, Share, NextShare, SliceRow, Unfit,
+};

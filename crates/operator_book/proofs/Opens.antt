@@ -1,0 +1,74 @@
+-- The provisioned flows that are put are those that the plant file opens.
+use Rattle.std.proofs.Common.{◌≡◌, ℕ, Bool, true, false, List, [], ◌∷◌, map, Option, Some, None, refl, sym, ap, ◌∙◌}
+use Rattle.std.specs.Prelude.{is_some, if◌then◌else◌}
+use Rattle.std.specs.List.{cons_option}
+use Rattle.std.specs.declared.cmp.Ordering.{Ordering}
+use Rattle.std.specs.declared.cmp.Ordering.TheVariants.{Less, Equal, Greater}
+use Rattle.std.specs.Ordering.{nat_cmp, match_ordering}
+use Rattle.std.specs.BTreeMap.{insert_entry}
+use Rattle.admission.specs.Free.{least_free_of}
+use Rattle.dsx_messages.specs.declared.modem.Modem.{Modem}
+use Rattle.param_sets.specs.declared.sets.SetsFields.{SetsFields}
+use Rattle.slice_table.specs.declared.consts.ConstsFields.{ConstsFields}
+use Rattle.slice_table.specs.declared.operator_row.RowFields.{RowFields}
+use Rattle.slice_table.specs.declared.provision.Provision.{Provision}
+use Rattle.slice_table.specs.Provisioned.{Opened, sets_of_encoding, opened_sfids, opened_sids, opened_sid, and_under, and_opened, all_opened}
+use Rattle.flow_table.specs.declared.flow.Flow.{Flow}
+use Rattle.flow_table.specs.Table.{sfids_of, sids_of, with_flow}
+use Rattle.operator_machine.specs.State.{opened_flow, opened}
+use Rattle.operator_book.specs.Opening.{sid_for, put_under, put_opened, put_provision, put_provisions}
+
+-- the flows as they are opened in this frame
+abbrev as_flow : ℕ → (ℕ × Opened) → ℕ × Flow
+as_flow frame entry = (entry.0, opened_flow frame entry.1)
+
+abbrev as_flows : ℕ → List (ℕ × Opened) → List (ℕ × Flow)
+as_flows frame os = map (as_flow frame) os
+
+same_sfids : (frame : ℕ) (os : List (ℕ × Opened)) → sfids_of (as_flows frame os) ≡ opened_sfids os
+same_sfids frame [] = refl
+same_sfids frame (o ∷ os) = ap (λ (xs : List ℕ). o.0 ∷ xs) (same_sfids frame os)
+
+same_sids : (frame : ℕ) (os : List (ℕ × Opened)) → sids_of (as_flows frame os) ≡ opened_sids os
+same_sids frame [] = refl
+same_sids frame (o ∷ os) = ap (λ (xs : List ℕ). cons_option o.1.sid xs) (same_sids frame os)
+
+by_order : (frame sfid : ℕ) (o : Opened) (e : ℕ × Opened) (os : List (ℕ × Opened)) (order : Ordering)
+    → insert_entry nat_cmp (as_flows frame os) sfid (opened_flow frame o) ≡ as_flows frame (insert_entry nat_cmp os sfid o)
+    → match_ordering order ((sfid, opened_flow frame o) ∷ as_flows frame (e ∷ os)) ((e.0, opened_flow frame o) ∷ as_flows frame os) (as_flow frame e ∷ insert_entry nat_cmp (as_flows frame os) sfid (opened_flow frame o))
+    ≡ as_flows frame (match_ordering order ((sfid, o) ∷ e ∷ os) ((e.0, o) ∷ os) (e ∷ insert_entry nat_cmp os sfid o))
+by_order frame sfid o e os Less rest = refl
+by_order frame sfid o e os Equal rest = refl
+by_order frame sfid o e os Greater rest = ap (λ (xs : List (ℕ × Flow)). as_flow frame e ∷ xs) rest
+
+put_map : (frame sfid : ℕ) (o : Opened) (os : List (ℕ × Opened)) → insert_entry nat_cmp (as_flows frame os) sfid (opened_flow frame o) ≡ as_flows frame (insert_entry nat_cmp os sfid o)
+put_map frame sfid o [] = refl
+put_map frame sfid o (e ∷ os) = by_order frame sfid o e os (nat_cmp sfid e.0) (put_map frame sfid o os)
+
+same_sid : (frame : ℕ) (row : RowFields) (os : List (ℕ × Opened)) (sets : SetsFields) → sid_for row (as_flows frame os) sets ≡ opened_sid row os sets
+same_sid frame row os sets = ap (λ (sids : List ℕ). if is_some sets.admitted then least_free_of row.sids sids else None) (same_sids frame os)
+
+under : (frame : ℕ) (row : RowFields) (os : List (ℕ × Opened)) (modem : Modem) (sets : SetsFields) (sfid : Option ℕ)
+    → put_under frame row (as_flows frame os) modem sets sfid ≡ as_flows frame (and_under row os modem sets sfid)
+under frame row os modem sets None = refl
+under frame row os modem sets (Some sfid) =
+    ap (λ (sid : Option ℕ). with_flow sfid (opened_flow frame (record { modem = modem; sid = sid; sets = sets })) (as_flows frame os)) (same_sid frame row os sets)
+    ∙ put_map frame sfid (record { modem = modem; sid = opened_sid row os sets; sets = sets }) os
+
+one_opened : (frame : ℕ) (row : RowFields) (os : List (ℕ × Opened)) (modem : Modem) (sets : Option SetsFields)
+    → put_opened frame row (as_flows frame os) modem sets ≡ as_flows frame (and_opened row os modem sets)
+one_opened frame row os modem None = refl
+one_opened frame row os modem (Some sets) =
+    ap (λ (sfids : List ℕ). put_under frame row (as_flows frame os) modem sets (least_free_of row.sfids sfids)) (same_sfids frame os)
+    ∙ under frame row os modem sets (least_free_of row.sfids (opened_sfids os))
+
+all_put : (consts : ConstsFields) (row : RowFields) (os : List (ℕ × Opened)) (provisions : List Provision)
+    → put_provisions consts row (as_flows consts.first_frame os) provisions ≡ as_flows consts.first_frame (all_opened consts row os provisions)
+unfolding put_provision
+all_put consts row os [] = refl
+all_put consts row os (p ∷ provisions) =
+    ap (λ (flows : List (ℕ × Flow)). put_provisions consts row flows provisions) (one_opened consts.first_frame row os p.modem (sets_of_encoding consts p.encoding))
+    ∙ all_put consts row (and_opened row os p.modem (sets_of_encoding consts p.encoding)) provisions
+
+pub provisions_open : (consts : ConstsFields) (row : RowFields) → put_provisions consts row [] row.provisions ≡ (opened consts row).flows
+provisions_open consts row = all_put consts row [] row.provisions

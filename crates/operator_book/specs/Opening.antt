@@ -1,0 +1,32 @@
+-- Provisioned flows, put one after the other (own).
+use Rattle.std.specs.Prelude.{◌≡◌, ℕ, List, [], ◌∷◌, Option, Some, None, is_some, if◌then◌else◌}
+use Rattle.admission.specs.Free.{least_free_of}
+use Rattle.param_sets.specs.declared.sets.SetsFields.{SetsFields}
+use Rattle.dsx_messages.specs.declared.modem.Modem.{Modem}
+use Rattle.slice_table.specs.declared.consts.ConstsFields.{ConstsFields}
+use Rattle.slice_table.specs.declared.operator_row.RowFields.{RowFields}
+use Rattle.slice_table.specs.declared.provision.Provision.{Provision}
+use Rattle.slice_table.specs.Provisioned.{sets_of_encoding}
+use Rattle.flow_table.specs.declared.flow.Flow.{Flow}
+use Rattle.flow_table.specs.Table.{sfids_of, sids_of, with_flow}
+use Rattle.operator_machine.specs.State.{opened_flow}
+
+-- the least free SID, where a set is admitted
+abbrev pub sid_for : RowFields → List (ℕ × Flow) → SetsFields → Option ℕ
+sid_for row flows sets = if is_some sets.admitted then least_free_of row.sids (sids_of flows) else None
+
+abbrev pub put_under : ℕ → RowFields → List (ℕ × Flow) → Modem → SetsFields → Option ℕ → List (ℕ × Flow)
+put_under frame row flows modem sets None = flows
+put_under frame row flows modem sets (Some sfid) = with_flow sfid (opened_flow frame (record { modem = modem; sid = sid_for row flows sets; sets = sets })) flows
+
+abbrev pub put_opened : ℕ → RowFields → List (ℕ × Flow) → Modem → Option SetsFields → List (ℕ × Flow)
+put_opened frame row flows modem None = flows
+put_opened frame row flows modem (Some sets) = put_under frame row flows modem sets (least_free_of row.sfids (sfids_of flows))
+
+-- one provisioned flow more
+unfoldable pub put_provision : ConstsFields → RowFields → List (ℕ × Flow) → Provision → List (ℕ × Flow)
+put_provision consts row flows p = put_opened consts.first_frame row flows p.modem (sets_of_encoding consts p.encoding)
+
+abbrev pub put_provisions : ConstsFields → RowFields → List (ℕ × Flow) → List Provision → List (ℕ × Flow)
+put_provisions consts row flows [] = flows
+put_provisions consts row flows (p ∷ provisions) = put_provisions consts row (put_provision consts row flows p) provisions

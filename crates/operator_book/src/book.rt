@@ -1,0 +1,196 @@
+//! The book: one operator's machine, its history, and the ranking of its flows.
+
+ghost use Rattle.std.specs.Prelude.{◌≡◌, ◌≢◌, ◌↔◌, true, [], Err, Some, IfOk, OnOk, OnErr};
+ghost use Rattle.dsx_messages.specs.declared.modem.Modem.{Modem};
+ghost use Rattle.slice_table.specs.Row.{IsRowOf};
+ghost use Rattle.operator_machine.specs.declared.action.Unfit.{Unfit};
+ghost use Rattle.operator_machine.specs.State.{opened};
+ghost use Rattle.operator_machine.specs.Machine.{own_step, stranger_of, is_spent, unfit_from, unfit_of, IsAllowed};
+ghost use Rattle.operator_machine.specs.Replay.{IsReplay, acted};
+ghost use Rattle.operator_machine.specs.Sound.{IsSound};
+ghost use Rattle.operator_book.specs.declared.book.OpenFault.TheVariants as open_faults;
+ghost use Rattle.operator_book.specs.declared.book.BookFault.TheVariants.{NoMemory};
+
+use crate::logged::Logged;
+use dsx_messages::Modem;
+use grant_policy::Ranking;
+use operator_machine::{Action, Entry, Output, SliceRow, Unfit};
+use slice_table::{Consts, OperatorRow};
+use std::alloc::{AllocError, Global};
+
+/// Why a book was not opened, in the order tried.
+#[derive(Clone, Copy, Debug, PartialEq, Eq)]
+pub enum OpenFault {
+    /// The ranking follows another policy than the row's.
+    PolicyMismatch,
+    /// No memory was left.
+    NoMemory,
+}
+
+impl From<AllocError> for OpenFault {
+    ghost from_gives = { λ _ fault. fault ≡ open_faults.NoMemory };
+
+    fn from(_error: AllocError) -> OpenFault {
+        OpenFault::NoMemory
+    }
+}
+
+/// Why an action was refused, in the order tried.
+#[derive(Clone, Copy, Debug, PartialEq, Eq)]
+pub enum BookFault {
+    /// The modem is not of this operator.
+    NotMine { modem: Modem },
+    /// The frame number is the last one: no tick follows it.
+    FramesSpent,
+    /// A slice that was offered cannot be taken.
+    Unfit(Unfit),
+    /// No memory was left.
+    NoMemory,
+}
+
+impl From<AllocError> for BookFault {
+    ghost from_gives = { λ _ fault. fault ≡ NoMemory };
+
+    fn from(_error: AllocError) -> BookFault {
+        BookFault::NoMemory
+    }
+}
+
+/// One operator's book. What contracts say of it they say of `kept`: its row, what all operators share, its state and its
+/// history. The type keeps that the state is the replay of the history from the opened state, and that the ranking follows
+/// the row's policy.
+#[derive(Drop)]
+pub struct Book {
+    pub kept: Logged,
+    ranking: Ranking,
+    ghost same_policy: { ranking.policy ≡ kept.row.policy },
+}
+
+impl Book {
+    /// The book of an operator with nothing done: its provisioned flows stand, and nothing else. The caller knows that the
+    /// row is one of a plant with these constants.
+    pub fn open(
+        alloc: Global,
+        row: &OperatorRow,
+        consts: &Consts,
+        ranking: Ranking,
+    ) -> Result<Book, OpenFault>
+        requires { IsRowOf consts.now row.now }
+        ensures ok { IfOk result (λ book. book.kept ≡ record { row = row.now; consts = consts.now; state = opened consts.now row.now; history = [] }) }
+        ensures mismatch { (result ≡ Err OpenFault.PolicyMismatch) ↔ (ranking.policy ≢ row.now.policy) }
+    {
+        if ranking.policy() != row.get_fields().policy {
+            return Err(OpenFault::PolicyMismatch);
+        }
+        let kept = Logged::open(alloc, row, consts)?;
+        Ok(Book { kept, ranking })
+    }
+
+    /// Does an action, and tells what it puts out. A refused action changes nothing.
+    pub fn act(&mut self, alloc: Global, action: Action) -> Result<Vec<Output>, BookFault>
+        ensures state { OnOk result (self.new.kept ≡ acted self.old.kept action) }
+        ensures outputs { IfOk result (λ outputs. outputs.items ≡ (own_step self.old.kept.consts self.old.kept.row self.old.kept.state action).outputs) }
+
+        // A stranger is refused first, then a tick past the last frame, then a slice that does not fit, and only these are;
+        // else only memory can be wanting.
+        ensures not_mine { (modem : Modem) → (result ≡ Err (BookFault.NotMine modem)) ↔ (stranger_of self.old.kept.row action ≡ Some modem) }
+        ensures spent { (result ≡ Err BookFault.FramesSpent) ↔ (is_spent self.old.kept.state action ≡ true) }
+        ensures unfit { (u : Unfit) → (result ≡ Err (BookFault.Unfit u)) ↔ (unfit_of self.old.kept.consts self.old.kept.state action ≡ Some u) }
+        ensures allowed { OnOk result (IsAllowed self.old.kept.consts self.old.kept.row self.old.kept.state action) }
+        ensures err { OnErr result (self.new.kept ≡ self.old.kept) }
+    {
+        if let Some(modem) = self.stranger_of(&action) {
+            return Err(BookFault::NotMine { modem });
+        }
+        if self.is_spent(&action) {
+            return Err(BookFault::FramesSpent);
+        }
+        if let Some(unfit) = self.unfit_of(&action) {
+            return Err(BookFault::Unfit(unfit));
+        }
+        Ok(self.kept.act(alloc, &self.ranking, action)?)
+    }
+
+    /// Whether a slice and a budget can be taken from this frame on. Takes no memory.
+    pub fn offer(&self, from: u32, row: SliceRow) -> Result<(), Unfit>
+        ensures unfit { (u : Unfit) → (result ≡ Err u) ↔ (unfit_from self.now.kept.consts self.now.kept.state from row ≡ Some u) }
+    {
+        match self.kept.machine.unfit_from(from, row) {
+            Some(unfit) => Err(unfit),
+            None => Ok(()),
+        }
+    }
+
+    /// The modem of an Arrive, where it is not of this row.
+    fn stranger_of(&self, action: &Action) -> Option<Modem>
+        ensures { result ≡ stranger_of self.now.kept.row action.now }
+    {
+        match action {
+            Action::Arrive { modem, heard: _ } => {
+                if self.row().get_fields().modems.contains(*modem) {
+                    None
+                } else {
+                    Some(*modem)
+                }
+            }
+            Action::Work | Action::Tick | Action::Reslice { from: _, row: _ } => None,
+        }
+    }
+
+    /// Whether this is a tick past the last frame.
+    fn is_spent(&self, action: &Action) -> bool
+        ensures { result ≡ is_spent self.now.kept.state action.now }
+    {
+        match action {
+            Action::Tick => self.kept.machine.frame == u32::MAX,
+            Action::Arrive { modem: _, heard: _ } | Action::Work | Action::Reslice { from: _, row: _ } => false,
+        }
+    }
+
+    /// Why a slice that is offered cannot be taken.
+    fn unfit_of(&self, action: &Action) -> Option<Unfit>
+        ensures { result ≡ unfit_of self.now.kept.consts self.now.kept.state action.now }
+    {
+        match action {
+            Action::Reslice { from, row } => self.kept.machine.unfit_from(*from, *row),
+            Action::Arrive { modem: _, heard: _ } | Action::Work | Action::Tick => None,
+        }
+    }
+
+    /// All that was done, in order.
+    pub fn history(&self) -> &[Entry]
+        ensures { result.now ≡ self.now.kept.history }
+    {
+        self.kept.history.as_slice()
+    }
+
+    /// The operator's row, as the book was opened with it.
+    pub fn row(&self) -> &OperatorRow
+        ensures { result.now ≡ self.now.kept.row }
+    {
+        &self.kept.machine.row
+    }
+
+    /// What all operators of the plant share.
+    pub fn consts(&self) -> &Consts
+        ensures { result.now ≡ self.now.kept.consts }
+    {
+        &self.kept.machine.consts
+    }
+
+    /// A law: the state is the replay of the history, and each entry's outputs are the run's.
+    pub fn replay(&self)
+        ensures { IsReplay self.now.kept.consts self.now.kept.row self.now.kept.history self.now.kept.state }
+    {
+        self.kept.kept();
+    }
+
+    /// A law: the state is sound. A flow's SFID and SID lie in the row's ranges and are its own; flows, kept responses and
+    /// inbox never pass the row's limits; what is committed never passes the quota, nor the budget in force, nor one that
+    /// waits for its frame.
+    pub fn sound(&self)
+        ensures { IsSound self.now.kept.consts self.now.kept.row self.now.kept.state }
+    {
+        self.kept.kept();
+    }
+}

@@ -1,0 +1,126 @@
+//! A machine as it is opened.
+
+ghost use Rattle.std.specs.Prelude.{◌≡◌, ◌<◌, ◌≤◌, ◌+◌, [], IfOk, IfSome, OnOk, length};
+ghost use Rattle.admission.specs.Free.{IsLeastFree};
+ghost use Rattle.flow_table.specs.Table.{sids_of};
+ghost use Rattle.slice_table.specs.Row.{IsRowOf};
+ghost use Rattle.operator_machine.specs.State.{opened_flow, opened};
+ghost use Rattle.operator_book.specs.Opening.{sid_for, put_provision, put_provisions};
+
+use crate::machine::Machine;
+use dsx_messages::Modem;
+use flow_table::{Flow, Flows};
+use operator_machine::Share;
+use param_sets::Sets;
+use slice_table::{Consts, OperatorRow, Provision};
+use std::alloc::{AllocError, Global};
+use std::collections::VecDeque;
+use transactions::Kept;
+
+/// The SID of a flow that is opened with these sets: the least free one where a set is admitted.
+fn sid_for(
+    alloc: Global,
+    row: &OperatorRow,
+    flows: &Flows,
+    sets: Sets,
+) -> Result<Option<u16>, AllocError>
+    ensures value { IfOk result (λ sid. sid ≡ sid_for row.now flows.now.flows sets) }
+    ensures free { IfOk result (λ sid. IfSome sid (IsLeastFree row.now.sids (sids_of flows.now.flows))) }
+{
+    if sets.get_admitted().is_none() {
+        return Ok(None);
+    }
+    match flows.free_sid(alloc, &row.get_fields().sids)? {
+        None => Ok(None),
+        Some(sid) => Ok(Some(sid as u16)),
+    }
+}
+
+/// A provisioned flow as it is opened in this frame.
+fn opened_flow(frame: u32, modem: Modem, sid: Option<u16>, sets: Sets) -> Flow
+    ensures { result ≡ opened_flow frame (record { modem = modem; sid = sid; sets = sets }) }
+{
+    Flow {
+        modem,
+        sid,
+        sets,
+        pending: None,
+        start: frame,
+        backlog: 0,
+        since: frame,
+    }
+}
+
+/// One provisioned flow more, under the least free SFID.
+#[tactic(auto, using(crate::proofs::Room::longer), unfolding(crate::specs::Opening::put_provision))]
+fn put_provision(
+    alloc: Global,
+    consts: &Consts,
+    row: &OperatorRow,
+    flows: &mut Flows,
+    provision: &Provision,
+) -> Result<(), AllocError>
+    requires { length flows.old.flows < flows.old.capacity }
+    ensures few { OnOk result (length flows.new.flows ≤ length flows.old.flows + 1) }
+    ensures ok { OnOk result (flows.new ≡ record flows.old { flows = put_provision consts.now row.now flows.old.flows provision.now }) }
+{
+    let Some(sets) = provision.sets(consts) else {
+        return Ok(());
+    };
+    let Some(sfid) = flows.free_sfid(alloc, &row.get_fields().sfids)? else {
+        return Ok(());
+    };
+    let sid = sid_for(alloc, row, flows, sets)?;
+    flows.kept();
+    let flow = opened_flow(consts.get_fields().first_frame, provision.modem, sid, sets);
+    flows.put(sfid, flow)?;
+    Ok(())
+}
+
+/// The provisioned flows, in the file's order.
+fn put_provisions(
+    alloc: Global,
+    consts: &Consts,
+    row: &OperatorRow,
+    flows: &mut Flows,
+) -> Result<(), AllocError>
+    requires none { flows.old.flows ≡ [] }
+    requires fits { length row.now.provisions ≤ flows.old.capacity }
+    ensures ok { OnOk result (flows.new ≡ record flows.old { flows = put_provisions consts.now row.now [] row.now.provisions }) }
+{
+    for provision in row.get_fields().provisions.as_slice() {
+        put_provision(alloc, consts, row, flows, provision)?;
+    }
+    Ok(())
+}
+
+impl Machine {
+    /// The machine of an operator as it is opened: its provisioned flows, and nothing else.
+    #[tactic(auto, using(crate::proofs::Opens::provisions_open))]
+    pub(crate) fn open(
+        alloc: Global,
+        row: &OperatorRow,
+        consts: &Consts,
+    ) -> Result<Machine, AllocError>
+        requires { IsRowOf consts.now row.now }
+        ensures { IfOk result (λ machine. machine ≡ record { consts = consts.now; row = row.now; state = opened consts.now row.now }) }
+    {
+        let keys = row.get_fields();
+        let shared = consts.get_fields();
+        let mut flows = Flows::new(alloc, u32::from(keys.flows), shared.units)?;
+        put_provisions(alloc, consts, row, &mut flows)?;
+        Ok(Machine {
+            consts: consts.copy(alloc)?,
+            row: row.copy(alloc)?,
+            flows,
+            kept: Kept::new(alloc, u32::from(keys.transactions), shared.timers)?,
+            inbox: VecDeque::new(alloc),
+            frame: shared.first_frame,
+            share: Share {
+                slice: keys.slice,
+                budget: keys.budget,
+            },
+            next: None,
+        })
+    }
+}

@@ -1,0 +1,43 @@
+//! One step of a machine.
+
+ghost use Rattle.std.specs.Prelude.{◌≡◌, false, None, IfOk, OnOk, OnErr};
+ghost use Rattle.operator_machine.specs.Machine.{is_spent, unfit_of, own_step};
+ghost use Rattle.operator_machine.specs.Sound.{IsSound};
+ghost use Rattle.operator_book.specs.Held.{with_state};
+
+use crate::machine::{Both, Machine, nothing};
+use grant_policy::Ranking;
+use operator_machine::Action;
+use std::alloc::{AllocError, Global};
+
+impl Machine {
+    /// Does an action that is not refused.
+    #[tactic(auto, unfolding(operator_machine::specs::Machine::own_step))]
+    pub(crate) fn step(
+        &mut self,
+        alloc: Global,
+        ranking: &Ranking,
+        action: &Action,
+    ) -> Result<Both, AllocError>
+        requires sound { IsSound self.old.consts self.old.row self.old.state }
+        requires policy { ranking.now.policy ≡ self.old.row.policy }
+        requires not_spent { is_spent self.old.state action.now ≡ false }
+        requires fit { unfit_of self.old.consts self.old.state action.now ≡ None }
+        ensures state { OnOk result (self.new ≡ with_state self.old (own_step self.old.consts self.old.row self.old.state action.now)) }
+        ensures outputs { IfOk result (λ both. both.told.items ≡ (own_step self.old.consts self.old.row self.old.state action.now).outputs) }
+        ensures err { OnErr result (self.new ≡ self.old) }
+    {
+        match action {
+            Action::Arrive { modem, heard } => self.arrive(alloc, *modem, heard),
+            Action::Work => self.work(alloc),
+            Action::Tick => {
+                let _frame = self.frame;
+                self.tick(alloc, ranking)
+            }
+            Action::Reslice { from, row } => {
+                self.reslice(*from, *row);
+                Ok(nothing(alloc))
+            }
+        }
+    }
+}
