@@ -1,3 +1,4 @@
-mod EntryLemmas
-mod IndexLemmas
-mod RowLemmas
+pub mod EntryLemmas
+pub mod RowLemmas
+pub mod IndexLemmas
+pub mod StandLemmas
