@@ -48,6 +48,35 @@ known_may_stand_anew table sids sfid flow ascending within there free = record {
   room = omega (arith, length_put_there table.flows sfid flow ascending there);
 }
 
+-- the same, with premises that a search by these lemmas meets from what a caller has
+unused_or : (o : Option ℕ) (flows : List (ℕ × Flow)) (sfid : ℕ) → IfSome o (λ n. ¬ Contains (sids_of flows) n) → IfSome o (λ n. (¬ Contains (sids_of flows) n) ⊎ (sid_if (flow_at sfid flows) ≡ Some n))
+unused_or None flows sfid h = tt
+unused_or (Some sid) flows sfid h = inl h
+
+same_or : (o : Option ℕ) (flows : List (ℕ × Flow)) (sfid : ℕ) → sid_if (flow_at sfid flows) ≡ o → IfSome o (λ n. (¬ Contains (sids_of flows) n) ⊎ (sid_if (flow_at sfid flows) ≡ Some n))
+same_or None flows sfid e = tt
+same_or (Some sid) flows sfid e = inr e
+
+pub new_with_unused_sid : (table : FlowTable) (sfid : ℕ) (flow : Flow) → IfSome flow.sid (λ n. ¬ Contains (sids_of table.flows) n) → length table.flows < table.capacity → MayStand table sfid flow
+new_with_unused_sid table sfid flow unused room = record {
+  sid = unused_or flow.sid table.flows sfid unused;
+  room = omega (arith, length_put table.flows sfid flow);
+}
+
+pub known_with_unused_sid : (table : FlowTable) (sfid : ℕ) (flow : Flow) → IfSome flow.sid (λ n. ¬ Contains (sids_of table.flows) n) → IsSome (flow_at sfid table.flows)
+    → IsStrictlySortedBy nat_cmp (keys_of table.flows) → length table.flows ≤ table.capacity → MayStand table sfid flow
+known_with_unused_sid table sfid flow unused there ascending within = record {
+  sid = unused_or flow.sid table.flows sfid unused;
+  room = omega (arith, length_put_there table.flows sfid flow ascending there);
+}
+
+pub known_with_its_sid : (table : FlowTable) (sfid : ℕ) (flow : Flow) → sid_if (flow_at sfid table.flows) ≡ flow.sid → IsSome (flow_at sfid table.flows)
+    → IsStrictlySortedBy nat_cmp (keys_of table.flows) → length table.flows ≤ table.capacity → MayStand table sfid flow
+known_with_its_sid table sfid flow same there ascending within = record {
+  sid = same_or flow.sid table.flows sfid same;
+  room = omega (arith, length_put_there table.flows sfid flow ascending there);
+}
+
 -- ---- what is found
 
 pub flow_put : (flows : List (ℕ × Flow)) (sfid : ℕ) (flow : Flow) → flow_at sfid (with_flow sfid flow flows) ≡ Some flow
