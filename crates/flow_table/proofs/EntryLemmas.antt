@@ -160,6 +160,15 @@ module _ {X : Type 0} where
         ap length (put_as e es k v Greater (nat_cmp_greater k e.0 above)) ∙ (omega arith)
   ]
 
+  pub length_put : (es : List (ℕ × X)) (k : ℕ) (v : X) → length (insert_entry nat_cmp es k v) ≤ length es + 1
+  length_put [] k v = omega arith
+  length_put (e ∷ es) k v =
+      elim (nat_cmp k e.0) as (λ (o : Ordering). length (match_ordering o ((k, v) ∷ e ∷ es) ((e.0, v) ∷ es) (e ∷ insert_entry nat_cmp es k v)) ≤ length (e ∷ es) + 1) [
+        | Less ↦ omega arith
+        | Equal ↦ omega arith
+        | Greater ↦ omega (arith, length_put es k v)
+      ]
+
   pub length_taken : (es : List (ℕ × X)) (k : ℕ) → length (remove_entry (is_at (nat_cmp k)) es) ≤ length es
   length_taken [] k = omega arith
   length_taken (e ∷ es) k =

@@ -20,14 +20,14 @@ use Rattle.flow_table.proofs.RowLemmas.{rows_put, rows_taken, length_rows, minis
 
 -- ---- a SID
 
-cases_sid : (sid : ℕ) (o : Option ℕ) → (o ≡ Some sid) ⊎ (o ≢ Some sid)
+pub cases_sid : (sid : ℕ) (o : Option ℕ) → (o ≡ Some sid) ⊎ (o ≢ Some sid)
 cases_sid sid None = inr (λ e. none-some sid e)
 cases_sid sid (Some n) = elim (cases_eq n sid) [ inl e ↦ inl (ap (λ (m : ℕ). Some m) e) | inr d ↦ inr (λ e. d (same_Some n sid e)) ]
 
-is_sid_yes : (sid : ℕ) (o : Option ℕ) → o ≡ Some sid → is_sid sid o ≡ true
+pub is_sid_yes : (sid : ℕ) (o : Option ℕ) → o ≡ Some sid → is_sid sid o ≡ true
 is_sid_yes sid o e = ap (is_sid sid) e ∙ eq-eqb sid sid refl
 
-is_sid_no : (sid : ℕ) (o : Option ℕ) → o ≢ Some sid → is_sid sid o ≡ false
+pub is_sid_no : (sid : ℕ) (o : Option ℕ) → o ≢ Some sid → is_sid sid o ≡ false
 is_sid_no sid None d = refl
 is_sid_no sid (Some n) d = ne_eqb n sid (λ e. d (ap (λ (m : ℕ). Some m) e))
 
@@ -54,7 +54,7 @@ sid_used (e ∷ es) sfid sid h = elim (cases_eq sfid e.0) [
 none_of : (e : ℕ × Flow) (es : List (ℕ × Flow)) (sid b : ℕ) → IsStrictlySortedBy nat_cmp (keys_of (e ∷ es)) → b ≡ e.0 → sid_if (flow_at b es) ≢ Some sid
 none_of e es sid b s same h = none-some sid (sym (ap sid_if (ap (λ (n : ℕ). flow_at n es) same ∙ none_later e es s)) ∙ h)
 
-found : (sid : ℕ) (flows : List (ℕ × Flow)) (sfid : ℕ) (flow : Flow) → IsStrictlySortedBy nat_cmp (keys_of flows) → flow_at sfid flows ≡ Some flow → flow.sid ≡ Some sid
+pub found : (sid : ℕ) (flows : List (ℕ × Flow)) (sfid : ℕ) (flow : Flow) → IsStrictlySortedBy nat_cmp (keys_of flows) → flow_at sfid flows ≡ Some flow → flow.sid ≡ Some sid
     → ((b : ℕ) → sid_if (flow_at b flows) ≡ Some sid → b ≡ sfid) → flow_with sid flows ≡ Some (sfid, flow)
 found sid [] sfid flow s at has own = absurd (none-some flow at)
 found sid (e ∷ es) sfid flow s at has own = elim (cases_eq e.0 sfid) [

@@ -1,3 +1,4 @@
-mod EntryLemmas
+pub mod EntryLemmas
+pub mod RowLemmas
 pub mod IndexLemmas
-mod RowLemmas
+pub mod StandLemmas

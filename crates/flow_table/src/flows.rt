@@ -5,7 +5,7 @@ ghost use Rattle.std.specs.List.Sorted.{IsStrictlySortedBy};
 ghost use Rattle.std.specs.Ordering.{nat_cmp};
 ghost use Rattle.std.specs.Map.{keys_of, lookup, remove_entry};
 ghost use Rattle.std.specs.BTreeMap.{insert_entry, is_at};
-ghost use Rattle.admission.specs.Free.{least_free_of, IsLeastFree};
+ghost use Rattle.admission.specs.Free.{IsLeastFree, least_free_of};
 ghost use Rattle.flow_table.specs.Table.{flow_at, flow_with, sid_if, sfids_of, sids_of, with_flow, committed_minislots, committed_elements, MayStand, HaveOwnSids, flowing_in, flowing_of_set};
 ghost use Rattle.flow_table.specs.Index.{with_sid_of, without_sid_of};
 
@@ -81,7 +81,7 @@ impl Flows {
 
     /// The least SFID of a range that no flow has.
     pub fn free_sfid(&self, alloc: Global, range: &IdRange) -> Result<Option<u32>, AllocError>
-        ensures value { IfOk result (λ sfid. sfid ≡ least_free_of range.now (sfids_of self.now.flows)) }
+        ensures exact { IfOk result (λ sfid. sfid ≡ least_free_of range.now (sfids_of self.now.flows)) }
         ensures found { IfOk result (λ sfid. IfSome sfid (IsLeastFree range.now (sfids_of self.now.flows))) }
     {
         let used = sfids_in(alloc, &self.by_sfid)?;
@@ -90,7 +90,7 @@ impl Flows {
 
     /// The least SID of a range that no flow has.
     pub fn free_sid(&self, alloc: Global, range: &IdRange) -> Result<Option<u32>, AllocError>
-        ensures value { IfOk result (λ sid. sid ≡ least_free_of range.now (sids_of self.now.flows)) }
+        ensures exact { IfOk result (λ sid. sid ≡ least_free_of range.now (sids_of self.now.flows)) }
         ensures found { IfOk result (λ sid. IfSome sid (IsLeastFree range.now (sids_of self.now.flows))) }
     {
         let used = sids_in(alloc, &self.by_sfid)?;

@@ -1,0 +1,71 @@
+//! Laws of a table of flows, for the layers above.
+
+ghost use Rattle.std.specs.Prelude.{◌≡◌, ◌≢◌, ℕ, ◌<◌, ◌≤◌, ◌↔◌, List, length, Some, IsSome, IfSome};
+ghost use Rattle.std.specs.List.Sorted.{IsStrictlySortedBy};
+ghost use Rattle.std.specs.Ordering.{nat_cmp};
+ghost use Rattle.std.specs.Map.{keys_of};
+ghost use Rattle.admission.specs.Free.{Numbers, least_free_of};
+ghost use Rattle.flow_table.specs.declared.flow.Flow.{Flow};
+ghost use Rattle.flow_table.specs.Flow.{acknowledged, taken_back, requested, granted};
+ghost use Rattle.flow_table.specs.Table.{FlowTable, MayStand, HaveOwnSids, flow_at, flow_with, sid_if, sids_of, with_flow};
+
+/// Where there is room for one more flow, it may stand under any SFID with the least free SID, or with none.
+pub fn new_flow_may_stand()
+    ensures { (table : FlowTable) (sids : Numbers) (sfid : ℕ) (flow : Flow)
+        → length table.flows < table.capacity
+        → IfSome flow.sid (λ sid. least_free_of sids (sids_of table.flows) ≡ Some sid)
+        → MayStand table sfid flow }
+{}
+
+/// A flow may stand in place of another with the SID of that one, or with none.
+#[tactic(auto, using(crate::proofs::StandLemmas::known_may_stand))]
+pub fn known_flow_may_stand()
+    ensures { (table : FlowTable) (sfid : ℕ) (flow : Flow)
+        → IsStrictlySortedBy nat_cmp (keys_of table.flows)
+        → length table.flows ≤ table.capacity
+        → IsSome (flow_at sfid table.flows)
+        → IfSome flow.sid (λ sid. sid_if (flow_at sfid table.flows) ≡ Some sid)
+        → MayStand table sfid flow }
+{}
+
+/// A flow may stand in place of another with the least free SID, or with none.
+pub fn known_flow_may_stand_anew()
+    ensures { (table : FlowTable) (sids : Numbers) (sfid : ℕ) (flow : Flow)
+        → IsStrictlySortedBy nat_cmp (keys_of table.flows)
+        → length table.flows ≤ table.capacity
+        → IsSome (flow_at sfid table.flows)
+        → IfSome flow.sid (λ sid. least_free_of sids (sids_of table.flows) ≡ Some sid)
+        → MayStand table sfid flow }
+{}
+
+/// A flow that is put under an SFID is the flow there, and the flows of the other SFIDs stay.
+#[tactic(auto, using(crate::proofs::StandLemmas::flow_put, crate::proofs::StandLemmas::flow_elsewhere))]
+pub fn put_flow_is_there()
+    ensures there { (flows : List (ℕ × Flow)) (sfid : ℕ) (flow : Flow) → flow_at sfid (with_flow sfid flow flows) ≡ Some flow }
+    ensures others { (flows : List (ℕ × Flow)) (sfid : ℕ) (flow : Flow) (other : ℕ) → other ≢ sfid → flow_at other (with_flow sfid flow flows) ≡ flow_at other flows }
+{}
+
+/// What is found by a SID is the flow that has this SID, with its SFID.
+pub fn sid_finds_its_flow()
+    ensures { (flows : List (ℕ × Flow)) (sid sfid : ℕ) (flow : Flow)
+        → IsStrictlySortedBy nat_cmp (keys_of flows)
+        → HaveOwnSids flows
+        → (flow_with sid flows ≡ Some (sfid, flow)) ↔ ((flow_at sfid flows ≡ Some flow) × (flow.sid ≡ Some sid)) }
+{}
+
+/// What becomes of a flow keeps its SID or frees it, as `Flows::change` requires.
+#[tactic(auto, using(crate::proofs::StandLemmas::acknowledged_keeps, crate::proofs::StandLemmas::taken_back_keeps, crate::proofs::StandLemmas::requested_keeps, crate::proofs::StandLemmas::granted_keeps))]
+pub fn flow_keeps_its_sid()
+    ensures acknowledged { (flows : List (ℕ × Flow)) (sfid : ℕ) (flow : Flow) (frame : ℕ)
+        → flow_at sfid flows ≡ Some flow
+        → IfSome (acknowledged frame flow).sid (λ sid. sid_if (flow_at sfid flows) ≡ Some sid) }
+    ensures taken_back { (flows : List (ℕ × Flow)) (sfid : ℕ) (flow : Flow)
+        → flow_at sfid flows ≡ Some flow
+        → IfSome (taken_back flow).sid (λ sid. sid_if (flow_at sfid flows) ≡ Some sid) }
+    ensures requested { (flows : List (ℕ × Flow)) (sfid : ℕ) (flow : Flow) (minislots frame : ℕ)
+        → flow_at sfid flows ≡ Some flow
+        → IfSome (requested minislots frame flow).sid (λ sid. sid_if (flow_at sfid flows) ≡ Some sid) }
+    ensures granted { (flows : List (ℕ × Flow)) (sfid : ℕ) (flow : Flow) (minislots frame : ℕ)
+        → flow_at sfid flows ≡ Some flow
+        → IfSome (granted minislots frame flow).sid (λ sid. sid_if (flow_at sfid flows) ≡ Some sid) }
+{}
