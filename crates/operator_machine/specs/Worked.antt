@@ -1,7 +1,9 @@
 -- A plant with one operator, worked through (own).
-use Rattle.std.specs.Prelude.{codes, ℕ, ◌+◌, ◌-◌, ◌*◌, List, [], ◌∷◌, nat_lt, Some, if◌then◌else◌}
+use Rattle.std.specs.Prelude.{codes, ℕ, ◌+◌, ◌-◌, ◌*◌, List, [], ◌∷◌, nat_lt, Some, None, if◌then◌else◌}
+use Rattle.tlv24.specs.declared.fields.FlowFields.{FlowFields}
 use Rattle.dsx_messages.specs.declared.modem.Modem.{Modem}
 use Rattle.grant_policy.specs.declared.policy.Policy.TheVariants.{Strict}
+use Rattle.slice_scheduler.specs.Minislots.{Minislots}
 use Rattle.slice_scheduler.specs.declared.span.Iuc.{Iuc}
 use Rattle.slice_scheduler.specs.declared.span.Span.{Span}
 use Rattle.slice_table.specs.declared.consts.ConstsFields.{ConstsFields}
@@ -29,6 +31,33 @@ worked_consts = record {
   first_frame = 0;
   classes = [];
 }
+
+-- best effort, of priority 5
+abbrev pub gold : FlowFields
+gold = record {
+  reference = None;
+  sfid = None;
+  sid = None;
+  class_name = None;
+  errored = None;
+  set_type = None;
+  traffic_priority = Some 5;
+  max_sustained_rate = None;
+  max_burst = None;
+  min_reserved_rate = None;
+  scheduling_type = Some 2;
+  request_policy = None;
+  polling_interval = None;
+  poll_jitter = None;
+  grant_size = None;
+  grant_interval = None;
+  grant_jitter = None;
+  grants_per_interval = None;
+}
+
+-- the same, and a class of this name
+abbrev pub classed_consts : ConstsFields
+classed_consts = record worked_consts { classes = record { name = codes "gold"; encoding = gold } ∷ [] }
 
 abbrev pub first_modem : Modem
 first_modem = record { 0 = 2 ∷ 0 ∷ 0 ∷ 0 ∷ 0 ∷ 1 ∷ [] }
@@ -105,8 +134,11 @@ abbrev pub silent : Modem → Cause → Output
 silent modem cause = Silent (Some modem) cause
 
 -- the operator's part of a frame
+abbrev pub frame_within : Minislots → ℕ → List Span → List ℕ → Output
+frame_within slice number spans pending = Frame number (record { slice = slice; spans = spans; pending = pending })
+
 abbrev pub frame : ℕ → List Span → List ℕ → Output
-frame number spans pending = Frame number (record { slice = worked_row.slice; spans = spans; pending = pending })
+frame number spans pending = frame_within worked_row.slice number spans pending
 
 abbrev pub span : ℕ → Iuc → ℕ → ℕ → Span
 span sid iuc start len = record { sid = sid; iuc = iuc; start = start; len = len }
