@@ -16,7 +16,8 @@ use Rattle.flow_table.specs.Flow.{committed_of}
 use Rattle.flow_table.specs.Table.{sfids_of, sids_of, flow_at, sid_if, with_flow, committed_minislots, committed_elements, HaveOwnSids}
 use Rattle.operator_machine.specs.Handle.{without_flow}
 use Rattle.operator_machine.specs.Sound.{IsSoundFlow}
-use Rattle.operator_machine.proofs.MapLemmas.{Ascends, at-insert_same, at-insert_other, at-remove_same, at-remove_other, ascending-insert, ascending-remove, length-insert_there, length-remove}
+use Rattle.operator_machine.proofs.MapLemmas.{Ascends, at-insert_same, at-insert_other, at-remove_same, at-remove_other}
+use Rattle.operator_machine.proofs.OrderLemmas.{ascending-insert, ascending-remove, length-insert_there, length-remove}
 use Rattle.operator_machine.proofs.EntryLemmas.{sum-insert, sum-remove, All-at}
 
 -- the flows that a row may have at a frame
@@ -68,8 +69,10 @@ module _ {row : RowFields} {frame : ℕ} {flows : List (ℕ × Flow)} (are : Are
       where
         here : (c : ℕ) → c ≡ k → sid_if (flow_at c (with_flow k v flows)) ≡ Some sid → v.sid ≡ Some sid
         here c same is = sym (ap (λ (n : ℕ). sid_if (flow_at n (with_flow k v flows))) same ∙ ap sid_if (at-insert_same flows k v)) ∙ is
+
         there : (c : ℕ) → (c ≡ k → ⊥) → sid_if (flow_at c (with_flow k v flows)) ≡ Some sid → sid_if (flow_at c flows) ≡ Some sid
         there c apart is = ap sid_if (sym (at-insert_other c k apart flows v)) ∙ is
+
         by : (a ≡ k) ⊎ (a ≡ k → ⊥) → (b ≡ k) ⊎ (b ≡ k → ⊥) → a ≡ b
         by (inl x) (inl y) = x ∙ sym y
         by (inl x) (inr y) = x ∙ sym (may.own sid b (here a x at_a) (there b y at_b))

@@ -22,7 +22,8 @@ use Rattle.operator_machine.specs.Handle.{Ran, put_if, flows_acked, acked_if, ac
 use Rattle.operator_machine.specs.Sound.{IsWaitingOf, HasItsFlow, IsSound}
 use Rattle.operator_machine.proofs.EntryLemmas.{at-find}
 use Rattle.operator_machine.proofs.FlowsLemmas.{sound-there}
-use Rattle.operator_machine.proofs.ChangeLemmas.{MayStep, put-MayStep, change-MayStep, undone-MayStep, follow-acknowledged, follow-requested, kept-change, at-change_other, at-undone_other}
+use Rattle.operator_machine.proofs.ChangeLemmas.{MayStep, put-MayStep, change-MayStep, undone-MayStep, kept-change, at-change_other, at-undone_other}
+use Rattle.operator_machine.proofs.FollowLemmas.{follow-acknowledged, follow-requested}
 use Rattle.operator_machine.proofs.KeptLemmas.{AreApart, pairs-map, find-apart}
 use Rattle.operator_machine.proofs.SoundLemmas.{sound-AreFlows, step_on}
 
@@ -73,8 +74,8 @@ module _ (consts : ConstsFields) (row : RowFields) (state : OperatorState) (soun
           step_on sound (flows_acked kind code state.frame x.sfid state.flows) (map (acknowledged consts.timers modem tid kind) state.kept) (acked_step kind code x.sfid)
           (simp length-map sound.few_kept)
           (All-map (HasItsFlow (flows_acked kind code state.frame x.sfid state.flows)) (acknowledged consts.timers modem tid kind) state.kept
-              (λ k d lt. has_flow consts.timers modem tid kind (flows_acked kind code state.frame x.sfid state.flows) (get_or state.kept k d) (waits_for modem tid kind (get_or state.kept k d))
-                  (λ fails waiting. subst (λ (o : Option Flow). IsSome o × IfSome o (IsWaitingOf (get_or state.kept k d).kind)) (sym (acked_other kind code x.sfid (get_or state.kept k d).sfid (apart k d lt fails waiting))) (sound.waiting k d lt waiting))))
+          (λ k d lt. has_flow consts.timers modem tid kind (flows_acked kind code state.frame x.sfid state.flows) (get_or state.kept k d) (waits_for modem tid kind (get_or state.kept k d))
+          (λ fails waiting. subst (λ (o : Option Flow). IsSome o × IfSome o (IsWaitingOf (get_or state.kept k d).kind)) (sym (acked_other kind code x.sfid (get_or state.kept k d).sfid (apart k d lt fails waiting))) (sound.waiting k d lt waiting))))
           (pairs-map AreApart AreApart (acknowledged consts.timers modem tid kind) (λ a b apart. ack_apart consts.timers modem tid kind a b (waits_for modem tid kind a) (waits_for modem tid kind b) apart) state.kept sound.own_flows)
 
   -- ---- a request for minislots
@@ -89,9 +90,9 @@ module _ (consts : ConstsFields) (row : RowFields) (state : OperatorState) (soun
           let follow = follow-requested consts.units state.frame entry.1 (sound-there (sound-AreFlows sound) entry.0 entry.1 there) minislots in
           let change : Flow → Flow = requested minislots state.frame in
           let waiting : All (HasItsFlow (with_flow entry.0 (change entry.1) state.flows)) state.kept = λ k d lt waits.
-              subst (λ (fs : List (ℕ × Flow)). IsSome (flow_at (get_or state.kept k d).sfid fs) × IfSome (flow_at (get_or state.kept k d).sfid fs) (IsWaitingOf (get_or state.kept k d).kind))
-              (ap (put_if entry.0 change state.flows) there)
-              (kept-change (IsWaitingOf (get_or state.kept k d).kind) (get_or state.kept k d).sfid entry.0 change state.flows (λ old h. waits_still (get_or state.kept k d).kind old (change old) refl refl h) (sound.waiting k d lt waits)) in
+          subst (λ (fs : List (ℕ × Flow)). IsSome (flow_at (get_or state.kept k d).sfid fs) × IfSome (flow_at (get_or state.kept k d).sfid fs) (IsWaitingOf (get_or state.kept k d).kind))
+          (ap (put_if entry.0 change state.flows) there)
+          (kept-change (IsWaitingOf (get_or state.kept k d).kind) (get_or state.kept k d).sfid entry.0 change state.flows (λ old h. waits_still (get_or state.kept k d).kind old (change old) refl refl h) (sound.waiting k d lt waits)) in
           cond_both (not (same_modem entry.1.modem modem)) _ _ (λ (ran : Ran). IsSound consts row ran.state) (λ _. sound)
           (λ _. cond_both (not (asks_for_grants entry.1.sets.active)) _ _ (λ (ran : Ran). IsSound consts row ran.state) (λ _. sound)
           (λ _. step_on sound (with_flow entry.0 (change entry.1) state.flows) state.kept (put-MayStep (sound-AreFlows sound) entry.0 entry.1 (change entry.1) there follow) sound.few_kept waiting sound.own_flows))

@@ -48,6 +48,7 @@ none_given_up n (e ∷ kept) a = by (is_given_up e) refl (none_given_up n kept (
   where
     Other : KeptEntry → Type 0
     Other e = is_waiting e ≡ true → n ≢ e.sfid
+
     by : (b : Bool) → is_given_up e ≡ b → AllByRecursion (λ (h : GivenUp). n ≢ h.sfid) (given_up_in kept) → AllByRecursion (λ (h : GivenUp). n ≢ h.sfid) (map given_up_of (cond b (e ∷ filter is_given_up kept) (filter is_given_up kept)))
     by true is rest = (All-head Other e kept a (given_up_waits e is), rest)
     by false is rest = rest
@@ -82,8 +83,8 @@ waiting-pending Dsd flow waits = absurd waits
 -- none that waits has it
 pub idle-apart : (flows : List (ℕ × Flow)) (k : ℕ) (kept : List KeptEntry) → IsIdle flows k → All (HasItsFlow flows) kept → All (λ e. is_waiting e ≡ true → e.sfid ≢ k) kept
 idle-apart flows k kept idle = All-weaker (HasItsFlow flows) (λ e. is_waiting e ≡ true → e.sfid ≢ k) (λ e has waits same.
-      let h = has waits in
-      by e.kind (flow_at e.sfid flows) h.0 h.1 (subst (λ (n : ℕ). IfSome (flow_at n flows) (λ (flow : Flow). flow.pending ≡ None)) (sym same) idle)) kept
+    let h = has waits in
+    by e.kind (flow_at e.sfid flows) h.0 h.1 (subst (λ (n : ℕ). IfSome (flow_at n flows) (λ (flow : Flow). flow.pending ≡ None)) (sym same) idle)) kept
   where
     by : (kind : Kind) (o : Option Flow) → IsSome o → IfSome o (IsWaitingOf kind) → IfSome o (λ (flow : Flow). flow.pending ≡ None) → ⊥
     by kind None some waits none = true≢false (sym some)
@@ -123,6 +124,7 @@ find-apart p waits (y ∷ kept) x own found = by (find-apart p waits kept x (pai
   where
     Apart : KeptEntry → Type 0
     Apart e = p e ≡ false → is_waiting e ≡ true → e.sfid ≢ x.sfid
+
     by : (find p kept ≡ Some x → All Apart kept) → (b : Bool) → p y ≡ b → cond b (Some y) (find p kept) ≡ Some x → All Apart (y ∷ kept)
     by more true is here =
         let same : y ≡ x = same_Some y x here in

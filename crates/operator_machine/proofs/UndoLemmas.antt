@@ -25,6 +25,7 @@ use Rattle.operator_machine.proofs.EntryLemmas.{read-insert, read-remove}
 use Rattle.operator_machine.proofs.FlowsLemmas.{AreFlows, sound-there}
 use Rattle.operator_machine.proofs.ChangeLemmas.{MayStep, undone-MayStep, at-undone_other}
 use Rattle.operator_machine.proofs.KeptLemmas.{HasFlow, HaveFlows, given_up-HaveFlows}
+use Rattle.operator_machine.proofs.SoundLemmas.{sound-AreFlows}
 
 -- the entry of a flow as it is scheduled
 abbrev flowing_of : ℕ × Flow → Option Flowing
@@ -42,13 +43,16 @@ taken_back_same k frame flow sound = by flow.pending sound.pending
     gone : (active : Option ParamFields) → IsWithinOrNull active None → flowing_of_set k (record flow { sid = None; pending = None }) active ≡ flowing_of_set k flow active
     gone None within = refl
     gone (Some set) within = absurd within
+
     stays : (active : Option ParamFields) → flowing_of_set k (record flow { pending = None }) active ≡ flowing_of_set k flow active
     stays None = refl
     stays (Some set) = refl
+
     by_sid : (pending : Pending) → IsSoundPending flow pending → (b : Bool) → pending.sid_is_new ≡ b
         → flowing_of_set k (record flow { sid = cond b None flow.sid; pending = None }) flow.sets.active ≡ flowing_of_set k flow flow.sets.active
     by_sid pending h true new = gone flow.sets.active (subst (IsWithinOrNull flow.sets.active) (h.new_sid new) sound.nested.active)
     by_sid pending h false new = stays flow.sets.active
+
     by : (o : Option Pending) → IfSome o (IsSoundPending flow) → flowing_of (k, without_pending flow o) ≡ flowing_of (k, flow)
     by None h = refl
     by (Some pending) h = by_sid pending h pending.sid_is_new refl
@@ -78,16 +82,6 @@ all_undone_same {row} {frame} units (g ∷ given_up) flows are have =
     all_undone_same units given_up (undone g.kind g.sfid flows) step.are (still-HaveFlows flows g.kind g.sfid given_up have.1 have.2) ∙ undone_same are g have.0
 
 module _ (consts : ConstsFields) (row : RowFields) (state : OperatorState) (sound : IsSound consts row state) where
-  pub are_flows : AreFlows row state.frame state.flows
-  are_flows = record {
-    ascending = sound.ascending;
-    sfids = sound.sfids;
-    sids = sound.sids;
-    own_sids = sound.own_sids;
-    each = sound.flows;
-    few = sound.few_flows;
-  }
-
   -- what is given up leaves those that are scheduled
   pub flows_left_same : flowing_in (flows_left state) ≡ flowing_in state.flows
-  flows_left_same = all_undone_same consts.units (given_up_in state.kept) state.flows are_flows (given_up-HaveFlows state.flows state.kept sound.waiting sound.own_flows)
+  flows_left_same = all_undone_same consts.units (given_up_in state.kept) state.flows (sound-AreFlows sound) (given_up-HaveFlows state.flows state.kept sound.waiting sound.own_flows)

@@ -21,7 +21,7 @@ use Rattle.operator_machine.specs.Asked.{free_flow, addition_of, change_of}
 use Rattle.operator_machine.specs.Verdict.{limit_of, minislots_allowed, within_limit, new_flow, added_reply, added_under, added, changed_flow, changed_reply, changed_with, changed_with_new, wants_sid, changed, addition_verdict, change_verdict, deletion_verdict, verdict}
 use Rattle.operator_machine.specs.Handle.{kind_of}
 use Rattle.operator_machine.specs.Sound.{IsSoundFlow, IsWaitingOf, IsSound}
-use Rattle.operator_machine.proofs.MapLemmas.{length-insert, length-insert_there}
+use Rattle.operator_machine.proofs.OrderLemmas.{length-insert, length-insert_there}
 use Rattle.operator_machine.proofs.EntryLemmas.{All-at}
 use Rattle.operator_machine.proofs.FlowsLemmas.{MayPut, MayPut-again, sound-there}
 use Rattle.operator_machine.proofs.FreshLemmas.{MayPut-fresh, none-there}
@@ -129,17 +129,17 @@ module _ (consts : ConstsFields) (row : RowFields) (state : OperatorState) (soun
         let flow : Flow = changed_flow change (Some sid) true in
         let none = none_admitted change.flow.sets.admitted change.flow.sid old_sound.has_sid (and_parts (is_some change.sets.admitted) (is_none change.flow.sid) wants).1 in
         right-changed_with (Some sid) true (MayPut-fresh row state.frame state.flows change.sfid flow
-            (All-at (IsIn row.sfids) state.flows change.sfid change.flow sound.sfids is.flow.there)
-            (given-free row.sids (sids_of state.flows) sid is_o)
-            (changed_sound (Some sid) true (λ _. refl) (λ _. refl) (λ _. none))
-            (omega (arith, length-insert_there state.flows change.sfid flow change.flow sound.ascending is.flow.there, sound.few_flows)))
+        (All-at (IsIn row.sfids) state.flows change.sfid change.flow sound.sfids is.flow.there)
+        (given-free row.sids (sids_of state.flows) sid is_o)
+        (changed_sound (Some sid) true (λ _. refl) (λ _. refl) (λ _. none))
+        (omega (arith, length-insert_there state.flows change.sfid flow change.flow sound.ascending is.flow.there, sound.few_flows)))
 
     right-changed : Right Dsc (changed consts row state tid change)
     unfolding changed
     right-changed = cond_both (wants_sid change) _ _ (Right Dsc)
         (λ wants. right-changed_with_new wants (least_free_of row.sids (sids_of state.flows)) refl)
         (λ content. right-changed_with change.flow.sid false (MayPut-again (sound-AreFlows sound) change.sfid change.flow is.flow.there (changed_flow change change.flow.sid false) (λ n same. same)
-            (changed_sound change.flow.sid false old_sound.has_sid (sid_wanted change.sets.admitted change.flow.sid content) (λ no. absurd (false≢true no)))))
+        (changed_sound change.flow.sid false old_sound.has_sid (sid_wanted change.sets.admitted change.flow.sid content) (λ no. absurd (false≢true no)))))
 
   -- ---- requests
 

@@ -7,3 +7,4 @@ pub mod Machine
 pub mod Replay
 pub mod Sound
 pub mod Frames
+pub mod Worked

@@ -8,6 +8,7 @@ mod laws;
 mod output;
 mod share;
 mod verdict;
+mod worked;
 
 pub use action::{Action, Entry, SliceRow, Unfit};
 pub use heard::{Arrival, Heard};
@@ -18,3 +19,7 @@ pub use laws::{
 pub use output::{Cause, Output, Outputs};
 pub use share::{NextShare, Share};
 pub use verdict::{Addition, AskedSets, Change, Verdict};
+pub use worked::{
+    worked_additions_compute, worked_changes_compute, worked_classes_compute,
+    worked_frames_compute, worked_shares_compute,
+};
