@@ -1,3 +1,5 @@
+pub mod Keys
+pub mod Tree
 pub mod Name
 pub mod Padding
 pub mod Classes

@@ -6,11 +6,16 @@ mod consts;
 mod name;
 mod operator_row;
 mod plant;
+mod plant_fault;
+mod plant_key;
 mod provision;
+mod tree;
 
 pub use class_table::{Class, Classes};
 pub use consts::{Backoffs, Consts, ConstsFields};
 pub use name::OperatorName;
 pub use operator_row::{Modems, OperatorRow, RowFields};
 pub use plant::{Op, Plant, PlantFields, Rows};
+pub use plant_fault::PlantFault;
+pub use plant_key::{Field, Key, Place};
 pub use provision::{Provision, Provisions};
