@@ -1,0 +1,5 @@
+pub mod Trees
+pub mod Parsed
+pub mod Values
+pub mod ClassReading
+pub mod RowReading

@@ -7,3 +7,5 @@ pub mod Consts
 pub mod Provisioned
 pub mod Row
 pub mod Plant
+pub mod ReadConsts
+pub mod ReadRows

@@ -9,6 +9,8 @@ mod plant;
 mod plant_fault;
 mod plant_key;
 mod provision;
+mod read_consts;
+mod read_rows;
 mod tree;
 
 pub use class_table::{Class, Classes};
