@@ -3,3 +3,4 @@ pub mod Parsed
 pub mod Values
 pub mod ClassReading
 pub mod RowReading
+pub mod Places

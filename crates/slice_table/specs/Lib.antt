@@ -9,3 +9,5 @@ pub mod Row
 pub mod Plant
 pub mod ReadConsts
 pub mod ReadRows
+pub mod Checks
+pub mod Roster

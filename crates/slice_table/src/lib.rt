@@ -1,8 +1,10 @@
 //! The plant file: what all operators share, what each operator is provisioned with, and that a plant is valid.
 #![tactic(auto)]
 
+mod checks;
 mod class_table;
 mod consts;
+mod fits;
 mod name;
 mod operator_row;
 mod plant;
@@ -11,6 +13,7 @@ mod plant_key;
 mod provision;
 mod read_consts;
 mod read_rows;
+mod roster;
 mod tree;
 
 pub use class_table::{Class, Classes};
