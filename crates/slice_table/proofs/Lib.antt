@@ -4,3 +4,4 @@ pub mod Values
 pub mod ClassReading
 pub mod RowReading
 pub mod Places
+pub mod PlantReading

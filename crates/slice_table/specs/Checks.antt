@@ -99,3 +99,11 @@ provisioned_fault consts rows = option_map ProvisionedOver (first_named (is_over
 abbrev pub unless : {A : Type 0} → Option PlantFault → A → Read A
 unless None x = Ok x
 unless (Some fault) x = Err fault
+
+-- faults 8 to 10
+unfoldable pub late_fault : ConstsFields → List RowFields → Option PlantFault
+late_fault consts rows = option_or (elements_fault rows) (option_or (budget_fault rows) (provisioned_fault consts rows))
+
+-- faults 4 to 10
+unfoldable pub rows_fault : ConstsFields → List RowFields → Option PlantFault
+rows_fault consts rows = option_or (meeting_fault rows) (option_or (twice_fault rows) (late_fault consts rows))

@@ -11,3 +11,4 @@ pub mod ReadConsts
 pub mod ReadRows
 pub mod Checks
 pub mod Roster
+pub mod ReadPlant

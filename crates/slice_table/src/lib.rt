@@ -13,6 +13,7 @@ mod plant_key;
 mod provision;
 mod read_consts;
 mod read_rows;
+mod reading;
 mod roster;
 mod tree;
 
@@ -24,3 +25,4 @@ pub use plant::{Op, Plant, PlantFields, Rows};
 pub use plant_fault::PlantFault;
 pub use plant_key::{Field, Key, Place};
 pub use provision::{Provision, Provisions};
+pub use reading::read_plant;
