@@ -29,9 +29,10 @@ unfolding class_name_at
 name_read classes place ms name h =
     let text = bind_ok (text_at place field.Name ms) (λ t. checked (Entry place field.Name) (is_class_name t && not (list_any (is_named t) classes)) t) name h in
     let test = checked_ok (Entry place field.Name) (is_class_name text.0 && not (list_any (is_named text.0) classes)) text.0 name text.2 in
-    let parts = and_parts (is_class_name text.0) (not (list_any (is_named text.0) classes)) test.0 in
-    (subst (λ (n : List ℕ). is_class_name n ≡ true) test.1 parts.0,
-        subst (λ (n : List ℕ). list_any (is_named n) classes ≡ false) test.1 (not-true (list_any (is_named text.0) classes) parts.1))
+    let parts = and_parts (is_class_name text.0) (not (list_any (is_named text.0) classes)) test.0 in (
+      subst (λ (n : List ℕ). is_class_name n ≡ true) test.1 parts.0,
+      subst (λ (n : List ℕ). list_any (is_named n) classes ≡ false) test.1 (not-true (list_any (is_named text.0) classes) parts.1),
+    )
 
 class_name_letters : (name : List ℕ) → is_class_name name ≡ true → list_all is_ascii_alphanumeric name ≡ true
 unfolding is_class_name
@@ -78,17 +79,18 @@ one_class classes d class h =
     let named = name_read classes place table.0 name.0 name.1 in
     let made : record { name = name.0; encoding = encoding.0 } ≡ class = cc in
     subst (λ (c : Class). IsClass c × (list_any (is_named c.name) classes ≡ false)) made
-        (record { letters = class_name_letters name.0 named.0; parameters = encoding_read place table.0 encoding.0 encoding.1 }, named.1)
+    (record { letters = class_name_letters name.0 named.0; parameters = encoding_read place table.0 encoding.0 encoding.1 }, named.1)
 
 abbrev AreNamed : List Class → Type 0
 AreNamed classes = All IsClass classes × AllPairs (λ a b. a.name ≢ b.name) classes
 
 one_more : (classes : List Class) (d : Data) (class : Class) → AreNamed classes → class_read classes d ≡ Ok class → AreNamed (classes ++ class ∷ [])
 one_more classes d class h read =
-    let one = one_class classes d class read in
-    (All-push IsClass classes class h.0 one.0,
-        all_pairs_push (λ a b. a.name ≢ b.name) classes class h.1 (λ k e lt.
-            told_apart (get_or classes k e).name class.name (none_passes (is_named class.name) classes k e one.1 lt)))
+    let one = one_class classes d class read in (
+      All-push IsClass classes class h.0 one.0,
+      all_pairs_push (λ a b. a.name ≢ b.name) classes class h.1 (λ k e lt.
+          told_apart (get_or classes k e).name class.name (none_passes (is_named class.name) classes k e one.1 lt)),
+    )
 
 in_array : (d : Data) (classes : List Class) → classes_in d ≡ Ok classes → AreClasses classes
 unfolding classes_in

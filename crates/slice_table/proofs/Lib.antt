@@ -5,3 +5,4 @@ pub mod ClassReading
 pub mod RowReading
 pub mod Places
 pub mod PlantReading
+pub mod SaidKeys

@@ -49,10 +49,10 @@ pub adds_one : (old mid new : Places) (place : ℕ) (ms : List Modem) (m : Modem
     → ((q : Modem) → place_of new q ≡ cond (same_modem m q) (Some place) (place_of mid q)) → Adds old place (ms ++ m ∷ []) new
 adds_one old mid new place ms m added absent updated q =
     updated q ∙ rw (listed_push q ms m) (elim (cases_Bool (same_modem m q)) [
-      inl same ↦
-        let is : m ≡ q = same_is_equal m q same in
-        let none : place_of mid q ≡ None = subst (λ (k : Modem). place_of mid k ≡ None) is absent in
-        rw same (pick_new (place_of old q) (place_of mid q) place (is_listed q ms) (added q) none true)
+      | inl same ↦
+          let is : m ≡ q = same_is_equal m q same in
+          let none : place_of mid q ≡ None = subst (λ (k : Modem). place_of mid k ≡ None) is absent in
+          rw same (pick_new (place_of old q) (place_of mid q) place (is_listed q ms) (added q) none true)
       | inr other ↦ rw (other, or_false (is_listed q ms)) (added q)
     ])
 
@@ -78,7 +78,7 @@ again_more before ms i d lt new =
 again_append : (before xs ys : List Modem) → first_again before (xs ++ ys) ≡ option_or (first_again before xs) (first_again (before ++ xs) ys)
 again_append before [] ys = ap (λ (front : List Modem). first_again front ys) (sym (append-nil before))
 again_append before (x ∷ xs) ys = elim (cases_Bool (is_listed x before)) [
-    inl known ↦ rw known refl
+  | inl known ↦ rw known refl
   | inr new ↦ rw new (again_append (before ++ x ∷ []) xs ys ∙ ap (λ (front : List Modem). option_or (first_again (before ++ x ∷ []) xs) (first_again front ys)) (append_assoc before (x ∷ []) xs))
 ]
 
@@ -92,7 +92,7 @@ modems_more rows i d lt = ap all_modems (take_more rows i d lt)
 -- the first that is listed again: in this row, or behind it
 pub again_row : (rows : List RowFields) (i : ℕ) (d : RowFields) → i < length rows
     → first_again (all_modems (take i rows)) (all_modems (drop i rows))
-        ≡ option_or (first_again (all_modems (take i rows)) (get_or rows i d).modems) (first_again (all_modems (take (i + 1) rows)) (all_modems (drop (i + 1) rows)))
+    ≡ option_or (first_again (all_modems (take i rows)) (get_or rows i d).modems) (first_again (all_modems (take (i + 1) rows)) (all_modems (drop (i + 1) rows)))
 again_row rows i d lt = rw (drop_more rows i d lt, modems_more rows i d lt)
     (again_append (all_modems (take i rows)) (get_or rows i d).modems (all_modems (drop (i + 1) rows)))
 
@@ -100,7 +100,7 @@ position_push : (t : RowFields → Bool) (n : ℕ) (rows : List RowFields) (row 
     → position_from t n (rows ++ row ∷ []) ≡ option_or (position_from t n rows) (if t row then Some (n + length rows) else None)
 position_push t n [] row = rw (let e : n + 0 ≡ n = omega arith in e) refl
 position_push t n (x ∷ rows) row = elim (cases_Bool (t x)) [
-    inl passes ↦ rw passes refl
+  | inl passes ↦ rw passes refl
   | inr other ↦ rw other (position_push t (n + 1) rows row ∙ ap (λ (k : ℕ). option_or (position_from t (n + 1) rows) (if t row then Some k else None)) (let e : (n + 1) + length rows ≡ n + length (x ∷ rows) = omega arith in e))
 ]
 
@@ -110,14 +110,14 @@ pub finds_more : (rows : List RowFields) (i : ℕ) (d : RowFields) (old new : Pl
 finds_more rows i d old new lt found added m =
     added m ∙ ap (λ (o : Option ℕ). option_or o (if is_listed m (get_or rows i d).modems then Some i else None)) (found m)
     ∙ sym (ap (λ (rs : List RowFields). holder rs m) (take_more rows i d lt)
-        ∙ position_push (λ row. is_listed m row.modems) 0 (take i rows) (get_or rows i d)
-        ∙ ap (λ (k : ℕ). option_or (holder (take i rows) m) (if is_listed m (get_or rows i d).modems then Some k else None))
-            (let e : 0 + length (take i rows) ≡ i = omega (arith, length-take i rows) in e))
+    ∙ position_push (λ row. is_listed m row.modems) 0 (take i rows) (get_or rows i d)
+    ∙ ap (λ (k : ℕ). option_or (holder (take i rows) m) (if is_listed m (get_or rows i d).modems then Some k else None))
+    (let e : 0 + length (take i rows) ≡ i = omega (arith, length-take i rows) in e))
 
 some_holder : (m : Modem) (n : ℕ) (rows : List RowFields) → is_some (position_from (λ row. is_listed m row.modems) n rows) ≡ is_listed m (all_modems rows)
 some_holder m n [] = refl
 some_holder m n (row ∷ rows) = elim (cases_Bool (is_listed m row.modems)) [
-    inl listed ↦ rw (listed_append m row.modems (all_modems rows), listed) refl
+  | inl listed ↦ rw (listed_append m row.modems (all_modems rows), listed) refl
   | inr other ↦ rw (listed_append m row.modems (all_modems rows), other) (some_holder m (n + 1) rows)
 ]
 

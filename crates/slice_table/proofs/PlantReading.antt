@@ -33,7 +33,7 @@ map_none f (Some x) h = cc
 
 find_first : {A : Type 0} (test : A → Bool) (x : A) (xs : List A) → find test (x ∷ xs) ≡ None → (test x ≡ false) × (find test xs ≡ None)
 find_first test x xs h = elim (cases_Bool (test x)) [
-    inl passes ↦ let e : Some x ≡ None = rw passes at h in cc
+  | inl passes ↦ let e : Some x ≡ None = rw passes at h in cc
   | inr other ↦ (other, rw other at h)
 ]
 
@@ -55,7 +55,7 @@ told_modems a b h e = false≢true (sym h ∙ subst (λ (m : Modem). same_modem 
 
 passed : (before ms : List Modem) (m : Modem) → first_again before (m ∷ ms) ≡ None → (is_listed m before ≡ false) × (first_again (before ++ m ∷ []) ms ≡ None)
 passed before ms m h = elim (cases_Bool (is_listed m before)) [
-    inl known ↦ let e : Some m ≡ None = rw known at h in cc
+  | inl known ↦ let e : Some m ≡ None = rw known at h in cc
   | inr new ↦ (new, rw new at h)
 ]
 
@@ -64,7 +64,7 @@ none_twice before [] apart h = rw (append-nil before) apart
 none_twice before (m ∷ ms) apart h =
     let step = passed before ms m h in
     let more : AllPairs (λ a b. a ≢ b) (before ++ m ∷ []) = all_pairs_push (λ a b. a ≢ b) before m apart (λ k d lt.
-        told_modems (get_or before k d) m (none_passes (λ x. same_modem x m) before k d step.0 lt)) in
+    told_modems (get_or before k d) m (none_passes (λ x. same_modem x m) before k d step.0 lt)) in
     subst (AllPairs (λ a b. a ≢ b)) (append_assoc before (m ∷ []) ms) (none_twice (before ++ m ∷ []) ms more step.1)
 
 -- ---- what is asked of all keys together
@@ -74,10 +74,11 @@ pub meeting_none : (rows : List RowFields) → meeting_fault rows ≡ None
 unfolding meeting_fault
 meeting_none rows h =
     let one = or_none (option_map (λ names. SlicesMeet names.0 names.1) (first_meeting Slices rows)) _ h in
-    let two = or_none (option_map (λ names. SidsMeet names.0 names.1) (first_meeting Sids rows)) _ one.1 in
-    (map_none (λ names. SlicesMeet names.0 names.1) (first_meeting Slices rows) one.0,
-        map_none (λ names. SidsMeet names.0 names.1) (first_meeting Sids rows) two.0,
-        map_none (λ names. SfidsMeet names.0 names.1) (first_meeting Sfids rows) two.1)
+    let two = or_none (option_map (λ names. SidsMeet names.0 names.1) (first_meeting Sids rows)) _ one.1 in (
+      map_none (λ names. SlicesMeet names.0 names.1) (first_meeting Slices rows) one.0,
+      map_none (λ names. SidsMeet names.0 names.1) (first_meeting Sids rows) two.0,
+      map_none (λ names. SfidsMeet names.0 names.1) (first_meeting Sfids rows) two.1,
+    )
 
 pub none_meet : (apart : Apart) (rows : List RowFields) → first_meeting apart rows ≡ None → AllPairs (λ a b. meets apart a b ≡ false) rows
 unfolding first_meeting
@@ -90,7 +91,7 @@ twice_none rows h = none_twice [] (all_modems rows) (λ i j d lt more. absurd (o
 pub elements_none : (rows : List RowFields) → elements_fault rows ≡ None → most_elements rows ≤ 240
 unfolding elements_fault
 elements_none rows h = elim (cases_Bool (nat_le (most_elements rows) 240)) [
-    inl few ↦ at_most (most_elements rows) 240 few
+  | inl few ↦ at_most (most_elements rows) 240 few
   | inr many ↦ let e : Some (TooManyElements (most_elements rows)) ≡ None = rw many at h in cc
 ]
 
@@ -147,8 +148,12 @@ valid consts rows shared read none =
       some = read.some;
       few = read.few;
       rows = λ k d lt. let row = read.each k d lt in record {
-        keys = row.keys; behind_head = row.behind_head; within_frame = row.within_frame; provisions = row.provisions;
-        budget = budgets k d lt; fits = fit k d lt;
+        keys = row.keys;
+        behind_head = row.behind_head;
+        within_frame = row.within_frame;
+        provisions = row.provisions;
+        budget = budgets k d lt;
+        fits = fit k d lt;
       };
       names = read.names;
       slices = none_meet Slices rows apart.0;

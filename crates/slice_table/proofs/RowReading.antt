@@ -123,7 +123,7 @@ unfolding provisions_in
 provisions_there consts operator modems d ps h =
     let ds = bind_ok (expected (Entry (place.Operator operator) field.Flow) (as_array d)) _ ps h in
     each_keeps (All (IsOwn consts modems)) (provision_read consts operator modems) (own_read consts operator modems) [] ds.0 ps
-        (λ k e lt. absurd (omega (arith, lt))) ds.2
+    (λ k e lt. absurd (omega (arith, lt))) ds.2
 
 provisions_read : (consts : ConstsFields) (operator : ℕ) (modems : List Modem) (o : Option Data) (ps : List Provision)
     → provisions_if consts operator modems o ≡ Ok ps → All (IsOwn consts modems) ps
@@ -158,8 +158,18 @@ one_at consts rows operator ms row h =
     let modems = bind_ok (modems_at place ms) _ row policy.2 in
     let provisions = bind_ok (provisions_if consts operator modems.0 (at_field field.Flow ms)) _ row modems.2 in
     let made : RowFields = record {
-      name = name.0; slice = slice.0; sfids = sfids.0; sids = sids.0; flows = flows.0; transactions = transactions.0; inbox = inbox.0;
-      budget = budget.0; elements = elements.0; policy = policy.0; modems = modems.0; provisions = provisions.0;
+      name = name.0;
+      slice = slice.0;
+      sfids = sfids.0;
+      sids = sids.0;
+      flows = flows.0;
+      transactions = transactions.0;
+      inbox = inbox.0;
+      budget = budget.0;
+      elements = elements.0;
+      policy = policy.0;
+      modems = modems.0;
+      provisions = provisions.0;
     } in
     let is : made ≡ row = ok_same made row provisions.2 in
     let sliced = slice_read consts place ms slice.0 slice.1 in
@@ -171,19 +181,25 @@ one_at consts rows operator ms row h =
     let budget_in = number_read place field.Budget 0 4096 ms budget.0 budget.1 in
     let elements_in = number_read place field.Elements 0 235 ms elements.0 elements.1 in
     let own = provisions_read consts operator modems.0 (at_field field.Flow ms) provisions.0 provisions.1 in
-    subst (λ (r : RowFields). IsReadRow consts r × (list_any (is_called r.name) rows ≡ false)) is (record {
-      keys = record {
-        sfids = sfids_in.0; sids_low = sids_in.0; sids_high = sids_in.1;
-        flows = record { low = flows_in.0; high = flows_in.1 };
-        transactions = record { low = transactions_in.0; high = transactions_in.1 };
-        inbox = record { low = inbox_in.0; high = inbox_in.1 };
-        budget = budget_in.1; elements = elements_in.1;
-        modems = modems_read place ms modems.0 modems.1;
-      };
-      behind_head = sliced.behind_head;
-      within_frame = sliced.within_frame;
-      provisions = λ k e lt. record { mine = (own k e lt).mine; sets = (own k e lt).sets };
-    }, name_read rows place ms name.0 name.1)
+    subst (λ (r : RowFields). IsReadRow consts r × (list_any (is_called r.name) rows ≡ false)) is (
+      record {
+        keys = record {
+          sfids = sfids_in.0;
+          sids_low = sids_in.0;
+          sids_high = sids_in.1;
+          flows = record { low = flows_in.0; high = flows_in.1 };
+          transactions = record { low = transactions_in.0; high = transactions_in.1 };
+          inbox = record { low = inbox_in.0; high = inbox_in.1 };
+          budget = budget_in.1;
+          elements = elements_in.1;
+          modems = modems_read place ms modems.0 modems.1;
+        };
+        behind_head = sliced.behind_head;
+        within_frame = sliced.within_frame;
+        provisions = λ k e lt. record { mine = (own k e lt).mine; sets = (own k e lt).sets };
+      },
+      name_read rows place ms name.0 name.1,
+    )
 
 -- ---- all rows
 
@@ -195,10 +211,11 @@ one_more : (consts : ConstsFields) (rows : List RowFields) (d : Data) (row : Row
 unfolding row_read
 one_more consts rows d row held h =
     let table = bind_ok (table_of (place.Operator (length rows)) d) _ row h in
-    let one = one_at consts rows (length rows) table.0 row table.2 in
-    (All-push (IsReadRow consts) rows row held.0 one.0,
-        all_pairs_push (λ a b. a.name ≢ b.name) rows row held.1 (λ k e lt.
-            told_apart (get_or rows k e).name row.name (none_passes (is_called row.name) rows k e one.1 lt)))
+    let one = one_at consts rows (length rows) table.0 row table.2 in (
+      All-push (IsReadRow consts) rows row held.0 one.0,
+      all_pairs_push (λ a b. a.name ≢ b.name) rows row held.1 (λ k e lt.
+          told_apart (get_or rows k e).name row.name (none_passes (is_called row.name) rows k e one.1 lt)),
+    )
 
 -- 1 to 32 rows, each as it is read, no two of one name
 pub record AreRows (consts : ConstsFields) (rows : List RowFields) : Type 0 where
@@ -217,7 +234,7 @@ rows_read consts ms rows h =
     let parts = and_parts (nat_le 1 (items_len ds.0)) (nat_le (items_len ds.0) 32) test.0 in
     let count : items_len ds.0 ≡ length rows = ap items_len test.1 ∙ (let e = each_len (row_read consts) [] few.0 rows few.2 in omega (arith, e)) in
     let kept = each_keeps (AreReadRows consts) (row_read consts) (one_more consts) [] few.0 rows
-        (λ k e lt. absurd (omega (arith, lt)), λ i j e lt more. absurd (omega (arith, more))) few.2 in
+    (λ k e lt. absurd (omega (arith, lt)), λ i j e lt more. absurd (omega (arith, more))) few.2 in
     record {
       some = omega (arith, at_most 1 (items_len ds.0) parts.0, count);
       few = omega (arith, at_most (items_len ds.0) 32 parts.1, count);

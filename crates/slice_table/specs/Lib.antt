@@ -12,3 +12,4 @@ pub mod ReadRows
 pub mod Checks
 pub mod Roster
 pub mod ReadPlant
+pub mod Says

@@ -58,8 +58,15 @@ plant_keys_at ms = do
   timers ← timers_at ms
   first_frame ← number_or place.Plant field.FirstFrame 0 4294967295 0 ms
   Ok (record {
-    frame_minislots = frame_minislots; head = head; units = units; short_max = short_max; channel = channel; ucd_count = ucd_count;
-    backoffs = backoffs; timers = timers; first_frame = first_frame;
+    frame_minislots = frame_minislots;
+    head = head;
+    units = units;
+    short_max = short_max;
+    channel = channel;
+    ucd_count = ucd_count;
+    backoffs = backoffs;
+    timers = timers;
+    first_frame = first_frame;
   })
 
 -- where there is no table `plant`, its first key is missing
@@ -120,8 +127,16 @@ classes_if (Some d) = classes_in d
 
 abbrev pub with_classes : PlantKeys → List Class → ConstsFields
 with_classes keys classes = record {
-  frame_minislots = keys.frame_minislots; head = keys.head; units = keys.units; short_max = keys.short_max; channel = keys.channel;
-  ucd_count = keys.ucd_count; backoffs = keys.backoffs; timers = keys.timers; first_frame = keys.first_frame; classes = classes;
+  frame_minislots = keys.frame_minislots;
+  head = keys.head;
+  units = keys.units;
+  short_max = keys.short_max;
+  channel = keys.channel;
+  ucd_count = keys.ucd_count;
+  backoffs = keys.backoffs;
+  timers = keys.timers;
+  first_frame = keys.first_frame;
+  classes = classes;
 }
 
 unfoldable pub consts_of : Members → Read ConstsFields

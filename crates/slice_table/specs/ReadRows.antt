@@ -136,8 +136,18 @@ row_at consts rows operator ms = do
   modems ← modems_at (place.Operator operator) ms
   provisions ← provisions_if consts operator modems (at_field field.Flow ms)
   Ok (record {
-    name = name; slice = slice; sfids = sfids; sids = sids; flows = flows; transactions = transactions; inbox = inbox; budget = budget;
-    elements = elements; policy = policy; modems = modems; provisions = provisions;
+    name = name;
+    slice = slice;
+    sfids = sfids;
+    sids = sids;
+    flows = flows;
+    transactions = transactions;
+    inbox = inbox;
+    budget = budget;
+    elements = elements;
+    policy = policy;
+    modems = modems;
+    provisions = provisions;
   })
 
 -- an operator behind those before it

@@ -63,7 +63,11 @@ impl OperatorRow {
 }
 
 /// The first operator that has this in common with one.
-fn first_met<'a>(apart: Apart, row: &OperatorRow, others: &'a [OperatorRow]) -> Option<&'a OperatorRow>
+fn first_met<'a>(
+    apart: Apart,
+    row: &OperatorRow,
+    others: &'a [OperatorRow],
+) -> Option<&'a OperatorRow>
     ensures { option_copied result ≡ find (meets apart row.now) others.now }
 {
     others.iter().find(|other| row.meets(apart, other))

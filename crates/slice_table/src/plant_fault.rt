@@ -22,13 +22,13 @@ pub enum PlantFault {
     #[error("the key {key} has a wrong value")]
     BadValue { key: Key },
     /// The slices of two operators have a minislot in common.
-    #[error("two slices meet")]
+    #[error("the slices of {a} and {b} meet")]
     SlicesMeet { a: OperatorName, b: OperatorName },
     /// The SIDs of two operators have one in common.
-    #[error("two ranges of SIDs meet")]
+    #[error("the SIDs of {a} and {b} meet")]
     SidsMeet { a: OperatorName, b: OperatorName },
     /// The SFIDs of two operators have one in common.
-    #[error("two ranges of SFIDs meet")]
+    #[error("the SFIDs of {a} and {b} meet")]
     SfidsMeet { a: OperatorName, b: OperatorName },
     /// An address is listed twice.
     #[error("the modem {modem} is listed twice")]
@@ -37,10 +37,10 @@ pub enum PlantFault {
     #[error("a MAP could need {total} elements")]
     TooManyElements { total: usize },
     /// An operator's budget is more than its slice.
-    #[error("a budget is more than its slice")]
+    #[error("the budget of {operator} is more than its slice")]
     BudgetOverSlice { operator: OperatorName },
     /// The flows that an operator is provisioned with do not fit.
-    #[error("an operator is provisioned with too much")]
+    #[error("the provisioned flows of {operator} do not fit")]
     ProvisionedOver { operator: OperatorName },
     /// There was no memory.
     #[error("out of memory")]

@@ -15,7 +15,9 @@ use crate::operator_row::{Modems, OperatorRow, RowFields};
 use crate::plant_fault::PlantFault;
 use crate::plant_key::{Field, Key, Place};
 use crate::provision::{Provision, Provisions};
-use crate::tree::{array_at, array_of, bytes_at, entry, modem_at, modem_of, number_at, pair_at, table_of, text_at};
+use crate::tree::{
+    array_at, array_of, bytes_at, entry, modem_at, modem_of, number_at, pair_at, table_of, text_at,
+};
 use admission::IdRange;
 use dsx_messages::Modem;
 use grant_policy::Policy;
@@ -191,7 +193,13 @@ fn has_sets(consts: &Consts, provision: &Provision) -> bool
 
 /// A provisioned flow.
 #[tactic(auto, unfolding(crate::specs::ReadRows::provision_at))]
-fn provision_at(alloc: Global, consts: &Consts, modems: &Modems, table: &Table, place: Place) -> Result<Provision, PlantFault>
+fn provision_at(
+    alloc: Global,
+    consts: &Consts,
+    modems: &Modems,
+    table: &Table,
+    place: Place,
+) -> Result<Provision, PlantFault>
     ensures { Gives (λ provision. provision) result (provision_at consts.now modems.now place (table_view table.now)) }
 {
     let modem = own_modem_at(modems, table, place)?;
@@ -208,7 +216,13 @@ fn provision_at(alloc: Global, consts: &Consts, modems: &Modems, table: &Table, 
 
 /// The provisioned flows one after the other.
 #[tactic(auto, unfolding(crate::specs::ReadRows::provision_read))]
-fn provisions_each(alloc: Global, consts: &Consts, operator: usize, modems: &Modems, values: &[Value]) -> Result<Vec<Provision>, PlantFault>
+fn provisions_each(
+    alloc: Global,
+    consts: &Consts,
+    operator: usize,
+    modems: &Modems,
+    values: &[Value],
+) -> Result<Vec<Provision>, PlantFault>
     ensures { Gives (λ provisions. provisions.items) result (each (provision_read consts.now operator modems.now) [] (items_view values.now)) }
 {
     let mut provisions = Vec::with_capacity(alloc, values.len())?;
@@ -222,7 +236,13 @@ fn provisions_each(alloc: Global, consts: &Consts, operator: usize, modems: &Mod
 
 /// The provisioned flows of an array.
 #[tactic(auto, unfolding(crate::specs::ReadRows::provisions_in))]
-fn provisions_in(alloc: Global, consts: &Consts, operator: usize, modems: &Modems, value: &Value) -> Result<Provisions, PlantFault>
+fn provisions_in(
+    alloc: Global,
+    consts: &Consts,
+    operator: usize,
+    modems: &Modems,
+    value: &Value,
+) -> Result<Provisions, PlantFault>
     ensures { Gives (λ provisions. provisions) result (provisions_in consts.now operator modems.now (view value.now)) }
 {
     let values = array_of(value, Key::Entry(Place::Operator(operator), Field::Flow))?;
@@ -230,7 +250,13 @@ fn provisions_in(alloc: Global, consts: &Consts, operator: usize, modems: &Modem
 }
 
 /// The provisioned flows of an operator.
-fn provisions_of(alloc: Global, consts: &Consts, operator: usize, modems: &Modems, table: &Table) -> Result<Provisions, PlantFault>
+fn provisions_of(
+    alloc: Global,
+    consts: &Consts,
+    operator: usize,
+    modems: &Modems,
+    table: &Table,
+) -> Result<Provisions, PlantFault>
     ensures { Gives (λ provisions. provisions) result (provisions_if consts.now operator modems.now (at_field FlowField (table_view table.now))) }
 {
     match entry(table, Field::Flow.text()) {
@@ -241,7 +267,12 @@ fn provisions_of(alloc: Global, consts: &Consts, operator: usize, modems: &Modem
 
 /// An operator.
 #[tactic(auto, unfolding(crate::specs::ReadRows::row_at))]
-fn row_at(alloc: Global, consts: &Consts, rows: &[OperatorRow], table: &Table) -> Result<OperatorRow, PlantFault>
+fn row_at(
+    alloc: Global,
+    consts: &Consts,
+    rows: &[OperatorRow],
+    table: &Table,
+) -> Result<OperatorRow, PlantFault>
     ensures { Gives (λ row. row) result (row_at consts.now rows.now (length rows.now) (table_view table.now)) }
 {
     let operator = rows.len();
@@ -276,7 +307,12 @@ fn row_at(alloc: Global, consts: &Consts, rows: &[OperatorRow], table: &Table) -
 
 /// An operator that comes behind others.
 #[tactic(auto, unfolding(crate::specs::ReadRows::row_read))]
-fn row_read(alloc: Global, consts: &Consts, rows: &[OperatorRow], value: &Value) -> Result<OperatorRow, PlantFault>
+fn row_read(
+    alloc: Global,
+    consts: &Consts,
+    rows: &[OperatorRow],
+    value: &Value,
+) -> Result<OperatorRow, PlantFault>
     ensures { Gives (λ row. row) result (row_read consts.now rows.now (view value.now)) }
 {
     let table = table_of(value, Place::Operator(rows.len()))?;
@@ -284,7 +320,11 @@ fn row_read(alloc: Global, consts: &Consts, rows: &[OperatorRow], value: &Value)
 }
 
 /// The operators one after the other.
-fn rows_each(alloc: Global, consts: &Consts, values: &[Value]) -> Result<Vec<OperatorRow>, PlantFault>
+fn rows_each(
+    alloc: Global,
+    consts: &Consts,
+    values: &[Value],
+) -> Result<Vec<OperatorRow>, PlantFault>
     ensures { Gives (λ rows. rows.items) result (each (row_read consts.now) [] (items_view values.now)) }
 {
     let mut rows = Vec::with_capacity(alloc, values.len())?;
@@ -297,15 +337,23 @@ fn rows_each(alloc: Global, consts: &Consts, values: &[Value]) -> Result<Vec<Ope
 
 /// The operators of a document.
 #[tactic(auto, unfolding(crate::specs::ReadRows::rows_of), using(crate::proofs::Trees::items_len_view))]
-pub(crate) fn rows_of(alloc: Global, consts: &Consts, document: &Table) -> Result<Vec<OperatorRow>, PlantFault>
+pub(crate) fn rows_of(
+    alloc: Global,
+    consts: &Consts,
+    document: &Table,
+) -> Result<Vec<OperatorRow>, PlantFault>
     ensures { Gives (λ rows. rows.items) result (rows_of consts.now (table_view document.now)) }
 {
     let Some(value) = entry(document, "operator") else {
-        return Err(PlantFault::Missing { key: Key::Operators });
+        return Err(PlantFault::Missing {
+            key: Key::Operators,
+        });
     };
     let values = array_of(value, Key::Operators)?;
     if values.is_empty() || values.len() > 32 {
-        return Err(PlantFault::BadValue { key: Key::Operators });
+        return Err(PlantFault::BadValue {
+            key: Key::Operators,
+        });
     }
     rows_each(alloc, consts, values)
 }

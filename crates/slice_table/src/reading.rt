@@ -40,7 +40,11 @@ fn late_fault(consts: &Consts, rows: &[OperatorRow]) -> Option<PlantFault>
 
 /// Each operator's modems by their addresses, where none of faults 4 to 10 is there.
 #[tactic(auto, unfolding(crate::specs::Checks::rows_fault))]
-fn judged(alloc: Global, consts: &Consts, rows: &[OperatorRow]) -> Result<IndexMap<Modem, usize>, PlantFault>
+fn judged(
+    alloc: Global,
+    consts: &Consts,
+    rows: &[OperatorRow],
+) -> Result<IndexMap<Modem, usize>, PlantFault>
     requires { length rows.now ≤ 32 }
     ensures fault { Gives (λ _. tt {0}) result (unless (rows_fault consts.now rows.now) (tt {0})) }
     ensures found { IfOk result (Finds rows.now) }

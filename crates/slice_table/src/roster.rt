@@ -14,7 +14,11 @@ use indexmap::IndexMap;
 use std::alloc::Global;
 
 /// Adds the modems of the operator at this place; the first that is there already is the fault.
-fn add_modems(places: &mut IndexMap<Modem, usize>, modems: &[Modem], place: usize) -> Result<(), PlantFault>
+fn add_modems(
+    places: &mut IndexMap<Modem, usize>,
+    modems: &[Modem],
+    place: usize,
+) -> Result<(), PlantFault>
     ensures fault { (before : List Modem) → Lists places.old before → Gives (λ x. x) result (unless (repeated (first_again before modems.now)) (tt {0})) }
     ensures added { OnOk result (Adds places.old place modems.now places.new) }
 {
@@ -29,7 +33,10 @@ fn add_modems(places: &mut IndexMap<Modem, usize>, modems: &[Modem], place: usiz
 
 /// Each operator's modems, by their addresses.
 #[tactic(auto, unfolding(crate::specs::Checks::twice_fault))]
-pub(crate) fn places_of(alloc: Global, rows: &[OperatorRow]) -> Result<IndexMap<Modem, usize>, PlantFault>
+pub(crate) fn places_of(
+    alloc: Global,
+    rows: &[OperatorRow],
+) -> Result<IndexMap<Modem, usize>, PlantFault>
     ensures fault { Gives (λ _. tt {0}) result (unless (twice_fault rows.now) (tt {0})) }
     ensures found { IfOk result (Finds rows.now) }
 {

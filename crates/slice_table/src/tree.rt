@@ -56,7 +56,13 @@ fn number_of(value: &Value, key: Key, low: u32, high: u32) -> Result<u32, PlantF
 
 /// The number from `low` to `high` under a key that is required.
 #[tactic(auto, unfolding(crate::specs::Tree::number_at))]
-pub(crate) fn number_at(table: &Table, place: Place, field: Field, low: u32, high: u32) -> Result<u32, PlantFault>
+pub(crate) fn number_at(
+    table: &Table,
+    place: Place,
+    field: Field,
+    low: u32,
+    high: u32,
+) -> Result<u32, PlantFault>
     ensures value { result ≡ number_at place field low high (table_view table.now) }
     ensures in_range { IfOk result (λ n. (low ≤ n) × (n ≤ high)) }
 {
@@ -66,7 +72,14 @@ pub(crate) fn number_at(table: &Table, place: Place, field: Field, low: u32, hig
 
 /// The number from `low` to `high` under a key, and a default where it is not there.
 #[tactic(auto, unfolding(crate::specs::Tree::number_or))]
-pub(crate) fn number_or(table: &Table, place: Place, field: Field, low: u32, high: u32, default: u32) -> Result<u32, PlantFault>
+pub(crate) fn number_or(
+    table: &Table,
+    place: Place,
+    field: Field,
+    low: u32,
+    high: u32,
+    default: u32,
+) -> Result<u32, PlantFault>
     requires low { low ≤ default }
     requires high { default ≤ high }
     ensures value { result ≡ number_or place field low high default (table_view table.now) }
@@ -141,7 +154,12 @@ pub(crate) fn text_at(table: &Table, place: Place, field: Field) -> Result<&str,
 
 /// The bytes under a key that is required, which stand in hexadecimal.
 #[tactic(auto, unfolding(crate::specs::Tree::bytes_at))]
-pub(crate) fn bytes_at(alloc: Global, table: &Table, place: Place, field: Field) -> Result<Vec<u8>, PlantFault>
+pub(crate) fn bytes_at(
+    alloc: Global,
+    table: &Table,
+    place: Place,
+    field: Field,
+) -> Result<Vec<u8>, PlantFault>
     ensures { Gives (λ v. v.items) result (bytes_at place field (table_view table.now)) }
 {
     let text = text_at(table, place, field)?;

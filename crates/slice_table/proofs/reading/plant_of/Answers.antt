@@ -20,6 +20,6 @@ new-requires-clause-valid c =
     let rows = c.in_ok-rows.rows.items in
     let shared : AreConsts consts = subst AreConsts c.consts.view_is c.consts.invariant in
     let none : rows_fault consts rows ≡ None =
-        subst (λ (rs : List RowFields). rows_fault consts rs ≡ None) c.as_slice.ensures.value (no_fault (rows_fault consts c.as_slice.result.now) (tt {0}) (tt {0}) c.in_ok-places.ensures.fault) in
+    subst (λ (rs : List RowFields). rows_fault consts rs ≡ None) c.as_slice.ensures.value (no_fault (rows_fault consts c.as_slice.result.now) (tt {0}) (tt {0}) c.in_ok-places.ensures.fault) in
     subst (λ (rs : List RowFields). IsPlant (record { consts = consts; rows = rs })) (sym c.from_vec-rows.ensures)
-        (valid consts rows shared (rows_read consts (table_view c.args.document.now) rows c.in_ok-rows.ensures) none)
+    (valid consts rows shared (rows_read consts (table_view c.args.document.now) rows c.in_ok-rows.ensures) none)

@@ -18,6 +18,6 @@ loop-modem-preserved c =
           (adds_one c.args.places.now here.places c.insert.new.self c.args.place (take here.modem-index ms) modem here.invariant.added absent c.in_ok-insert.ensures.updates.0);
       left = λ before there.
           again_more before ms here.modem-index none c.loop-modem-test.true
-              (sym (lists_added c.args.places.now here.places c.args.place before (take here.modem-index ms) there here.invariant.added modem) ∙ ap is_some absent)
+          (sym (lists_added c.args.places.now here.places c.args.place before (take here.modem-index ms) there here.invariant.added modem) ∙ ap is_some absent)
           ∙ here.invariant.left before there;
     }
