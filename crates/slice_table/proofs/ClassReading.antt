@@ -38,7 +38,7 @@ class_name_letters : (name : List ℕ) → is_class_name name ≡ true → list_
 unfolding is_class_name
 class_name_letters name h = (and_parts (nat_le 1 (length name) && nat_le (length name) 15) (list_all is_ascii_alphanumeric name) h).1
 
-parameters : (flow : FlowFields) → states_parameters flow ≡ true → StatesParameters flow
+pub parameters : (flow : FlowFields) → states_parameters flow ≡ true → StatesParameters flow
 unfolding states_parameters
 parameters flow h =
     let all = and_parts ((is_none flow.reference && is_none flow.sfid) && (is_none flow.sid && is_none flow.class_name)) (is_none flow.errored && is_none flow.set_type) h in

@@ -6,3 +6,7 @@ pub mod RowReading
 pub mod Places
 pub mod PlantReading
 pub mod SaidKeys
+pub mod SaidRows
+pub mod SaidConsts
+pub mod SaidPlant
+pub mod FirstLaws

@@ -31,16 +31,16 @@ pub map_none : {A B : Type 0} (f : A → B) (o : Option A) → option_map f o �
 map_none f None h = refl
 map_none f (Some x) h = cc
 
-find_first : {A : Type 0} (test : A → Bool) (x : A) (xs : List A) → find test (x ∷ xs) ≡ None → (test x ≡ false) × (find test xs ≡ None)
-find_first test x xs h = elim (cases_Bool (test x)) [
+pub none_step : {A : Type 0} (test : A → Bool) (x : A) (xs : List A) → find test (x ∷ xs) ≡ None → (test x ≡ false) × (find test xs ≡ None)
+none_step test x xs h = elim (cases_Bool (test x)) [
   | inl passes ↦ let e : Some x ≡ None = rw passes at h in cc
   | inr other ↦ (other, rw other at h)
 ]
 
 pub find_none : {A : Type 0} (test : A → Bool) (xs : List A) → find test xs ≡ None → All (λ x. test x ≡ false) xs
 find_none test [] h k d lt = absurd (omega (arith, lt))
-find_none test (x ∷ xs) h zero d lt = (find_first test x xs h).0
-find_none test (x ∷ xs) h (suc k) d lt = find_none test xs (find_first test x xs h).1 k d (omega (arith, lt))
+find_none test (x ∷ xs) h zero d lt = (none_step test x xs h).0
+find_none test (x ∷ xs) h (suc k) d lt = find_none test xs (none_step test x xs h).1 k d (omega (arith, lt))
 
 pub no_pair : {A : Type 0} (test : A → A → Bool) (xs : List A) → first_pair test xs ≡ None → AllPairs (λ a b. test a b ≡ false) xs
 no_pair test [] h = λ i j d lt more. absurd (omega (arith, more))
@@ -50,10 +50,10 @@ no_pair test (x ∷ xs) h =
 
 -- ---- the addresses
 
-told_modems : (a b : Modem) → same_modem a b ≡ false → a ≢ b
+pub told_modems : (a b : Modem) → same_modem a b ≡ false → a ≢ b
 told_modems a b h e = false≢true (sym h ∙ subst (λ (m : Modem). same_modem a m ≡ true) e (modem_itself a))
 
-passed : (before ms : List Modem) (m : Modem) → first_again before (m ∷ ms) ≡ None → (is_listed m before ≡ false) × (first_again (before ++ m ∷ []) ms ≡ None)
+pub passed : (before ms : List Modem) (m : Modem) → first_again before (m ∷ ms) ≡ None → (is_listed m before ≡ false) × (first_again (before ++ m ∷ []) ms ≡ None)
 passed before ms m h = elim (cases_Bool (is_listed m before)) [
   | inl known ↦ let e : Some m ≡ None = rw known at h in cc
   | inr new ↦ (new, rw new at h)

@@ -13,3 +13,4 @@ pub mod Checks
 pub mod Roster
 pub mod ReadPlant
 pub mod Says
+pub mod First
