@@ -1,5 +1,5 @@
 -- Which of several is the first.
-use Rattle.std.proofs.Common.{◌≡◌, ◌≢◌, ℕ, zero, suc, ◌+◌, ◌<◌, ◌≤◌, ◌⊎◌, ◌↔◌, inl, inr, Bool, true, false, ◌||◌, List, [], ◌∷◌, ◌++◌, append-nil, append_assoc, length, length-append, get_or, AllPairs, find, option_map, Option, Some, None, IsTrue, refl, sym, subst, ap, ◌∙◌, arith, rules}
+use Rattle.std.proofs.Common.{◌≡◌, ◌≢◌, ℕ, zero, suc, ◌+◌, ◌<◌, ◌≤◌, ◌⊎◌, ◌↔◌, inl, inr, Bool, true, false, ◌||◌, List, [], ◌∷◌, ◌++◌, append-nil, append_assoc, length, length-append, get_or, AllPairs, find, option_map, Option, Some, None, is_some, IsTrue, refl, sym, subst, ap, ◌∙◌, arith, rules}
 use Rattle.std.specs.Prelude.{slice_get}
 use Rattle.std.specs.Option.{option_or}
 use Rattle.std.specs.List.{position_from, list_any}
@@ -12,10 +12,11 @@ use Rattle.slice_table.specs.declared.plant.PlantFields.{PlantFields}
 use Rattle.slice_table.specs.Row.{is_listed, same_modem}
 use Rattle.slice_table.specs.Plant.{IsPlant, all_modems}
 use Rattle.slice_table.specs.Roster.{holder}
-use Rattle.slice_table.specs.Checks.{first_pair, first_again}
+use Rattle.slice_table.specs.declared.checks.Apart.{Apart}
+use Rattle.slice_table.specs.Checks.{meets, first_pair, first_meeting, first_named, first_again}
 use Rattle.slice_table.specs.First.{IsLeastPair, IsFirst, StandsAgain, Holds}
 use Rattle.slice_table.proofs.Values.{none_passes}
-use Rattle.slice_table.proofs.Places.{same_is_equal, listed_append, modem_itself}
+use Rattle.slice_table.proofs.Places.{same_is_equal, listed_append, some_holder}
 use Rattle.slice_table.proofs.PlantReading.{told_modems, none_step, passed}
 use Rattle.slice_table.proofs.SaidPlant.{is_new, none_again}
 
@@ -192,3 +193,35 @@ one_lists (r ∷ rows) m (suc i) zero a b apart e f g h =
     absurd (both_list r.modems (all_modems rows) m (none_again r.modems (all_modems rows) apart)
         (subst (λ (x : RowFields). is_listed m x.modems ≡ true) (sym (same_some r b f)) h) (listed_in_row rows i a m e g))
 one_lists (r ∷ rows) m (suc i) (suc j) a b apart e f g h = ap suc (one_lists rows m i j a b (apart_behind r.modems (all_modems rows) apart) e f g h)
+
+by_holder : (rows : List RowFields) (m : Modem) (i : ℕ) (o : Option ℕ) → holder rows m ≡ o → Holds rows m i → holder rows m ≡ Some i
+by_holder rows m i None e s =
+    let listed = listed_in_row rows i s.row m s.here s.listed in
+    absurd (false≢true (ap (is_some {T = ℕ}) (sym e) ∙ some_holder m 0 rows ∙ listed))
+by_holder rows m i (Some k) e s =
+    let there = holder_holds rows m k e in
+    let low = s.first k there.row there.here there.listed in
+    let high = there.first i s.row s.here s.listed in
+    e ∙ ap (λ (n : ℕ). Some n) (let same : k ≡ i = omega (arith, low, high) in same)
+
+pub holder_is : (rows : List RowFields) (m : Modem) (i : ℕ) → (holder rows m ≡ Some i) ↔ Holds rows m i
+holder_is rows m i = (holder_holds rows m i, by_holder rows m i (holder rows m) refl)
+
+-- ---- their names
+
+map_some : {A B : Type 0} (f : A → B) (o : Option A) (y : B) → option_map f o ≡ Some y → (x : A) × (o ≡ Some x) × (f x ≡ y)
+map_some f None y h = cc
+map_some f (Some x) y h = (x, refl, same_some (f x) y h)
+
+pub meeting_least : (apart : Apart) (rows : List RowFields) (a b : List ℕ) → first_meeting apart rows ≡ Some (a, b)
+    → (p : RowFields) × (q : RowFields) × IsLeastPair (meets apart) rows p q × (p.name ≡ a) × (q.name ≡ b)
+unfolding first_meeting
+meeting_least apart rows a b h =
+    let pair = map_some (λ pair. (pair.0.name, pair.1.name)) (first_pair (meets apart) rows) (a, b) h in
+    (pair.0.0, pair.0.1, first_pair_least (meets apart) rows pair.0.0 pair.0.1 pair.1, ap (λ (n : List ℕ × List ℕ). n.0) pair.2, ap (λ (n : List ℕ × List ℕ). n.1) pair.2)
+
+pub named_first : (test : RowFields → Bool) (rows : List RowFields) (name : List ℕ) → first_named test rows ≡ Some name
+    → (row : RowFields) × IsFirst test rows row × (row.name ≡ name)
+named_first test rows name h =
+    let found = map_some (λ row. row.name) (find test rows) name h in
+    (found.0, find_first test rows found.0 found.1, found.2)

@@ -114,7 +114,7 @@ finds_more rows i d old new lt found added m =
     ∙ ap (λ (k : ℕ). option_or (holder (take i rows) m) (if is_listed m (get_or rows i d).modems then Some k else None))
     (let e : 0 + length (take i rows) ≡ i = omega (arith, length-take i rows) in e))
 
-some_holder : (m : Modem) (n : ℕ) (rows : List RowFields) → is_some (position_from (λ row. is_listed m row.modems) n rows) ≡ is_listed m (all_modems rows)
+pub some_holder : (m : Modem) (n : ℕ) (rows : List RowFields) → is_some (position_from (λ row. is_listed m row.modems) n rows) ≡ is_listed m (all_modems rows)
 some_holder m n [] = refl
 some_holder m n (row ∷ rows) = elim (cases_Bool (is_listed m row.modems)) [
   | inl listed ↦ rw (listed_append m row.modems (all_modems rows), listed) refl

@@ -1,9 +1,12 @@
 //! Reading of a plant file.
 
-ghost use Rattle.std.specs.Prelude.{◌≡◌, ◌≤◌, length, IfOk};
+ghost use Rattle.std.specs.Prelude.{◌≡◌, ◌≤◌, length, IfOk, Some, Ok};
+ghost use Rattle.toml.specs.Data.{Members};
 ghost use Rattle.toml.specs.Parse.{parse_document};
 ghost use Rattle.toml.specs.View.{table_view};
+ghost use Rattle.slice_table.specs.declared.plant.PlantFields.{PlantFields};
 ghost use Rattle.slice_table.specs.Plant.{IsPlant};
+ghost use Rattle.slice_table.specs.Says.{SaysPlant};
 ghost use Rattle.slice_table.specs.Roster.{Finds};
 ghost use Rattle.slice_table.specs.Tree.{Gives};
 ghost use Rattle.slice_table.specs.Checks.{late_fault, rows_fault, unless};
@@ -71,6 +74,17 @@ fn plant_of(alloc: Global, document: &Table) -> Result<Plant, PlantFault>
     Ok(Plant::new(PlantFields { consts, rows }, places))
 }
 
+/// The plant of a text.
+fn plant_of_text(alloc: Global, text: &str) -> Result<Plant, PlantFault>
+    ensures { Gives (λ plant. plant) result (text_plant (parse_document text.now)) }
+{
+    match toml::table_from_str(alloc, text) {
+        Ok(document) => plant_of(alloc, &document),
+        Err(error) if error.is_memory() => Err(PlantFault::NoMemory),
+        Err(_) => Err(PlantFault::NotToml),
+    }
+}
+
 /// The plant that a text says, or the first fault of it.
 ///
 /// The text is TOML: a table `plant`, an array of tables `class` that may be absent, and an array of tables `operator`. A
@@ -79,12 +93,13 @@ fn plant_of(alloc: Global, document: &Table) -> Result<Plant, PlantFault>
 /// each of the least pair or the first operator. `NoMemory` comes only where memory was refused, and says nothing of the
 /// text.
 pub fn read_plant(alloc: Global, text: &str) -> Result<Plant, PlantFault>
+    // What is read is a plant that the text says.
+    ensures found { IfOk result (λ plant. (document : Members) × (parse_document text.now ≡ Some document) × SaysPlant document plant) }
+    // A plant that the text says is read, unless memory runs out.
+    ensures only { (document : Members) (plant : PlantFields) → parse_document text.now ≡ Some document → SaysPlant document plant → Gives (λ p. p) result (Ok plant) }
+    // Which fault it is.
     ensures exact { Gives (λ plant. plant) result (text_plant (parse_document text.now)) }
     ensures valid { IfOk result IsPlant }
 {
-    match toml::table_from_str(alloc, text) {
-        Ok(document) => plant_of(alloc, &document),
-        Err(error) if error.is_memory() => Err(PlantFault::NoMemory),
-        Err(_) => Err(PlantFault::NotToml),
-    }
+    plant_of_text(alloc, text)
 }
