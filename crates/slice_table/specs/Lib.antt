@@ -1,3 +1,5 @@
+pub mod Keys
+pub mod Tree
 pub mod Name
 pub mod Padding
 pub mod Classes
@@ -5,3 +7,10 @@ pub mod Consts
 pub mod Provisioned
 pub mod Row
 pub mod Plant
+pub mod ReadConsts
+pub mod ReadRows
+pub mod Checks
+pub mod Roster
+pub mod ReadPlant
+pub mod Says
+pub mod First

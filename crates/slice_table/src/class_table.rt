@@ -20,7 +20,7 @@ pub struct Class {
 
 impl Class {
     /// Whether this is the class of that name.
-    fn is_named(&self, name: &ClassName) -> bool
+    pub(crate) fn is_named(&self, name: &ClassName) -> bool
         ensures { result ≡ is_named name.now self.now }
     {
         self.name.as_slice() == name.as_slice()

@@ -1,10 +1,11 @@
 //! Names of operators.
 
-ghost use Rattle.std.specs.Prelude.{◌≡◌, ◌↔◌, IsSome, IfSome};
+ghost use Rattle.std.specs.Prelude.{◌≡◌, ◌↔◌, Some, IsSome, IfSome};
 ghost use Rattle.std.specs.Char.{is_ascii_alphanumeric};
 ghost use Rattle.std.specs.List.{list_all};
 ghost use Rattle.slice_table.specs.Name.{IsOperatorName};
 
+use std::fmt::{self, Display};
 use std::marker::Model;
 
 /// The most characters that an operator's name has.
@@ -56,6 +57,17 @@ impl OperatorName {
         ensures valid { IsOperatorName result.now }
     {
         &self.bytes[..self.len]
+    }
+}
+
+impl Display for OperatorName {
+    ghost output = { λ name. Some name };
+
+    fn fmt<W: fmt::Write>(&self, f: &mut fmt::Formatter<W>) -> fmt::Result {
+        match str::from_utf8(self.as_slice()) {
+            Ok(text) => write!(f, "{text}"),
+            Err(_) => Err(fmt::Error),
+        }
     }
 }
 

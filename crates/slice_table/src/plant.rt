@@ -2,11 +2,14 @@
 
 ghost use Rattle.std.specs.Prelude.{◌≡◌, IfOk};
 ghost use Rattle.slice_table.specs.Plant.{IsPlant};
+ghost use Rattle.slice_table.specs.Roster.{Finds, holder};
 ghost use Rattle.slice_table.specs.declared.operator_row.RowFields.{RowFields};
 ghost use Rattle.slice_table.specs.declared.plant.PlantFields.{PlantFields};
 
 use crate::consts::Consts;
 use crate::operator_row::OperatorRow;
+use dsx_messages::Modem;
+use indexmap::IndexMap;
 use std::alloc::{AllocError, Global};
 use std::marker::Model;
 
@@ -64,10 +67,18 @@ pub struct PlantFields {
     pub rows: Rows,
 }
 
-/// A valid plant. Contracts see what it is made of.
+/// An equal map with memory of its own.
+fn copy_places(places: &IndexMap<Modem, Op>) -> Result<IndexMap<Modem, Op>, AllocError>
+    ensures { IfOk result (λ copy. copy.entries ≡ places.now.entries) }
+{
+    places.clone()
+}
+
+/// A valid plant. Contracts see what it is made of. The operator of a modem is found by the modem's address.
 #[derive(Debug, Drop)]
 pub struct Plant {
     fields: PlantFields,
+    places: IndexMap<Modem, Op>,
 }
 
 impl Model for Plant {
@@ -75,10 +86,26 @@ impl Model for Plant {
 
     ghost view = { λ p. p.fields };
 
-    ghost invariant = { λ p. IsPlant p.fields };
+    ghost invariant = { λ p. IsPlant p.fields × Finds p.fields.rows p.places };
 }
 
 impl Plant {
+    /// The plant of these fields, with each operator's modems by their addresses.
+    pub(crate) fn new(fields: PlantFields, places: IndexMap<Modem, Op>) -> Plant
+        requires valid { IsPlant fields }
+        requires found { Finds fields.rows places }
+        ensures { result ≡ fields }
+    {
+        Plant { fields, places }
+    }
+
+    /// The operator that lists this modem, if one does: at most one does. Takes no memory.
+    pub fn operator_of(&self, modem: Modem) -> Option<Op>
+        ensures { result ≡ holder self.now.rows modem }
+    {
+        self.places.get(&modem).copied()
+    }
+
     /// Each operator's row, in the file's order: an operator is told by its place in it.
     pub fn rows(&self) -> &[OperatorRow]
         ensures value { result.now ≡ self.now.rows }
@@ -104,6 +131,7 @@ impl Plant {
                 consts: self.fields.consts.copy(alloc)?,
                 rows: self.fields.rows.copy(alloc)?,
             },
+            places: copy_places(&self.places)?,
         })
     }
 }

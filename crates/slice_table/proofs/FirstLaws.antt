@@ -1,0 +1,227 @@
+-- Which of several is the first.
+use Rattle.std.proofs.Common.{◌≡◌, ◌≢◌, ℕ, zero, suc, ◌+◌, ◌<◌, ◌≤◌, ◌⊎◌, ◌↔◌, inl, inr, Bool, true, false, ◌||◌, List, [], ◌∷◌, ◌++◌, append-nil, append_assoc, length, length-append, get_or, AllPairs, find, option_map, Option, Some, None, is_some, IsTrue, refl, sym, subst, ap, ◌∙◌, arith, rules}
+use Rattle.std.specs.Prelude.{slice_get}
+use Rattle.std.specs.Option.{option_or}
+use Rattle.std.specs.List.{position_from, list_any}
+use Rattle.std.proofs.lemmas.Bool.{cases_Bool, false≢true}
+use Rattle.std.proofs.lemmas.List.{get_or-append-add}
+use Rattle.std.proofs.lemmas.List.Quantifiers.{all_pairs_push}
+use Rattle.dsx_messages.specs.declared.modem.Modem.{Modem}
+use Rattle.slice_table.specs.declared.operator_row.RowFields.{RowFields}
+use Rattle.slice_table.specs.declared.plant.PlantFields.{PlantFields}
+use Rattle.slice_table.specs.Row.{is_listed, same_modem}
+use Rattle.slice_table.specs.Plant.{IsPlant, all_modems}
+use Rattle.slice_table.specs.Roster.{holder}
+use Rattle.slice_table.specs.declared.checks.Apart.{Apart}
+use Rattle.slice_table.specs.Checks.{meets, first_pair, first_meeting, first_named, first_again}
+use Rattle.slice_table.specs.First.{IsLeastPair, IsFirst, StandsAgain, Holds}
+use Rattle.slice_table.proofs.Values.{none_passes}
+use Rattle.slice_table.proofs.Places.{same_is_equal, listed_append, some_holder}
+use Rattle.slice_table.proofs.PlantReading.{told_modems, none_step, passed}
+use Rattle.slice_table.proofs.SaidPlant.{is_new, none_again}
+
+same_some : {A : Type 0} (x y : A) → ◌≡◌ {A = Option A} (Some x) (Some y) → x ≡ y
+same_some x y h = cc
+
+true_false : (b : Bool) → b ≡ true → b ≡ false → ⊥
+true_false b h k = false≢true (sym k ∙ h)
+
+-- ---- the first that passes
+
+first_least : {A : Type 0} (test : A → Bool) (x : A) (xs : List A) → test x ≡ false → (place : ℕ) → ((i : ℕ) (c : A) → slice_get xs i ≡ Some c → test c ≡ true → place ≤ i)
+    → (i : ℕ) (c : A) → slice_get (x ∷ xs) i ≡ Some c → test c ≡ true → suc place ≤ i
+first_least test x xs other place least zero c is passes = absurd (true_false (test c) passes (subst (λ y. test y ≡ false) (same_some x c is) other))
+first_least test x xs other place least (suc i) c is passes = let h = least i c is passes in omega (arith, h)
+
+pub find_first : {A : Type 0} (test : A → Bool) (xs : List A) (a : A) → find test xs ≡ Some a → IsFirst test xs a
+find_first test [] a h = cc
+find_first test (x ∷ xs) a h = elim (cases_Bool (test x)) [
+    inl passes ↦
+        let is : x ≡ a = same_some x a (rw passes at h) in
+        subst (IsFirst test (x ∷ xs)) is (record { place = 0; here = refl; passes = passes; least = λ i c e p. omega arith })
+  | inr other ↦
+        let rest = find_first test xs a (rw other at h) in
+        record { place = suc rest.place; here = rest.here; passes = rest.passes; least = first_least test x xs other rest.place rest.least }
+]
+
+nowhere : {A : Type 0} (test : A → Bool) (xs : List A) (i : ℕ) (c : A) → find test xs ≡ None → slice_get xs i ≡ Some c → test c ≡ true → ⊥
+nowhere test [] i c h e p = let f : ◌≡◌ {A = Option _} None (Some c) = e in cc
+nowhere test (x ∷ xs) zero c h e p = true_false (test c) p (subst (λ y. test y ≡ false) (same_some x c e) (none_step test x xs h).0)
+nowhere test (x ∷ xs) (suc i) c h e p = nowhere test xs i c (none_step test x xs h).1 e p
+
+-- ---- the first pair
+
+here_least : {A : Type 0} (test : A → A → Bool) (x : A) (xs : List A) (y : A) (s : IsFirst (test x) xs y)
+    → (i j : ℕ) (c d : A) → i < j → slice_get (x ∷ xs) i ≡ Some c → slice_get (x ∷ xs) j ≡ Some d → test c d ≡ true → (0 < i) ⊎ ((0 ≡ i) × (suc s.place ≤ j))
+here_least test x xs y s (suc i) j c d lt e f p = inl (omega arith)
+here_least test x xs y s zero zero c d lt e f p = absurd (omega (arith, lt))
+here_least test x xs y s zero (suc j) c d lt e f p =
+    let h = s.least j d f (subst (λ z. test z d ≡ true) (sym (same_some x c e)) p) in
+    inr (refl, omega (arith, h))
+
+behind_least : {A : Type 0} (test : A → A → Bool) (x : A) (xs : List A) (a b : A) → find (test x) xs ≡ None → (s : IsLeastPair test xs a b)
+    → (i j : ℕ) (c d : A) → i < j → slice_get (x ∷ xs) i ≡ Some c → slice_get (x ∷ xs) j ≡ Some d → test c d ≡ true → (suc s.first < i) ⊎ ((suc s.first ≡ i) × (suc s.second ≤ j))
+behind_least test x xs a b none s zero zero c d lt e f p = absurd (omega (arith, lt))
+behind_least test x xs a b none s zero (suc j) c d lt e f p = absurd (nowhere (test x) xs j d none f (subst (λ z. test z d ≡ true) (sym (same_some x c e)) p))
+behind_least test x xs a b none s (suc i) zero c d lt e f p = absurd (omega (arith, lt))
+behind_least test x xs a b none s (suc i) (suc j) c d lt e f p = elim (s.least i j c d (omega (arith, lt)) e f p) [
+    inl below ↦ inl (omega (arith, below))
+  | inr same ↦ inr (ap suc same.0, omega (arith, same.1))
+]
+
+-- the first element with the first behind it, where there is one
+pair_here : {A : Type 0} (test : A → A → Bool) (x : A) (xs : List A) (y : A) → IsFirst (test x) xs y → IsLeastPair test (x ∷ xs) x y
+pair_here test x xs y s = record {
+  first = 0;
+  second = suc s.place;
+  ordered = omega arith;
+  here = refl;
+  there = s.here;
+  joined = s.passes;
+  least = here_least test x xs y s;
+}
+
+-- else the first pair of those behind it
+pair_behind : {A : Type 0} (test : A → A → Bool) (x : A) (xs : List A) (a b : A) → find (test x) xs ≡ None → IsLeastPair test xs a b → IsLeastPair test (x ∷ xs) a b
+pair_behind test x xs a b none s = record {
+  first = suc s.first;
+  second = suc s.second;
+  ordered = let h = s.ordered in omega (arith, h);
+  here = s.here;
+  there = s.there;
+  joined = s.joined;
+  least = behind_least test x xs a b none s;
+}
+
+pair_by : {A : Type 0} (test : A → A → Bool) (x : A) (xs : List A) (a b : A) → (first_pair test xs ≡ Some (a, b) → IsLeastPair test xs a b) → (o : Option A)
+    → find (test x) xs ≡ o → option_or (option_map (λ y. (x, y)) o) (first_pair test xs) ≡ Some (a, b) → IsLeastPair test (x ∷ xs) a b
+pair_by test x xs a b rest None none h = pair_behind test x xs a b none (rest h)
+pair_by test x xs a b rest (Some y) found h =
+    let is : (x, y) ≡ (a, b) = same_some (x, y) (a, b) h in
+    subst (λ (p : _ × _). IsLeastPair test (x ∷ xs) p.0 p.1) is (pair_here test x xs y (find_first (test x) xs y found))
+
+pub first_pair_least : {A : Type 0} (test : A → A → Bool) (xs : List A) (a b : A) → first_pair test xs ≡ Some (a, b) → IsLeastPair test xs a b
+first_pair_least test [] a b h = cc
+first_pair_least test (x ∷ xs) a b h = pair_by test x xs a b (first_pair_least test xs a b) (find (test x) xs) refl h
+
+-- ---- the first address that stood before
+
+again_from : (before ms : List Modem) (m : Modem) → AllPairs (λ a b. a ≢ b) before → first_again before ms ≡ Some m → StandsAgain (before ++ ms) m
+again_from before [] m apart h = cc
+again_from before (x ∷ ms) m apart h = elim (cases_Bool (is_listed x before)) [
+    inl known ↦
+        let is : x ≡ m = same_some x m (rw known at h) in
+        subst (StandsAgain (before ++ x ∷ ms)) is (record { before = before; behind = ms; is = refl; stood = known; distinct = apart })
+  | inr new ↦
+        let more : AllPairs (λ a b. a ≢ b) (before ++ x ∷ []) = all_pairs_push (λ a b. a ≢ b) before x apart (λ k d lt.
+            told_modems (get_or before k d) x (none_passes (λ y. same_modem y x) before k d new lt)) in
+        subst (λ (all : List Modem). StandsAgain all m) (append_assoc before (x ∷ []) ms) (again_from (before ++ x ∷ []) ms m more (rw new at h))
+]
+
+again_at : (front before behind : List Modem) (m : Modem) → AllPairs (λ a b. a ≢ b) (front ++ before) → is_listed m (front ++ before) ≡ true
+    → first_again front (before ++ m ∷ behind) ≡ Some m
+again_at front [] behind m apart stood = let e : is_listed m front ≡ true = rw (append-nil front) at stood in rw e refl
+again_at front (x ∷ before) behind m apart stood =
+    rw (is_new front before x apart)
+        (again_at (front ++ x ∷ []) before behind m (subst (AllPairs (λ a b. a ≢ b)) (sym (append_assoc front (x ∷ []) before)) apart)
+            (subst (λ (all : List Modem). is_listed m all ≡ true) (sym (append_assoc front (x ∷ []) before)) stood))
+
+pub again_is : (modems : List Modem) (m : Modem) → (first_again [] modems ≡ Some m) ↔ StandsAgain modems m
+again_is modems m = (
+    again_from [] modems m (λ i j d lt more. absurd (omega (arith, more))),
+    λ s. ap (first_again []) s.is ∙ again_at [] s.before s.behind m s.distinct s.stood,
+)
+
+-- ---- whose modem a modem is
+
+holder_from : (m : Modem) (n : ℕ) (rows : List RowFields) (i : ℕ) → position_from (λ row. is_listed m row.modems) n rows ≡ Some i
+    → (k : ℕ) × (i ≡ n + k) × Holds rows m k
+holder_from m n [] i h = cc
+holder_from m n (row ∷ rows) i h = elim (cases_Bool (is_listed m row.modems)) [
+    inl listed ↦
+        let is : n ≡ i = same_some n i (rw listed at h) in
+        (0, omega (arith, is), record { row = row; here = refl; listed = listed; first = λ j other e l. omega arith })
+  | inr none ↦
+        let rest = holder_from m (n + 1) rows i (rw none at h) in
+        (suc rest.0, omega (arith, rest.1), record {
+          row = rest.2.row; here = rest.2.here; listed = rest.2.listed;
+          first = first_least (λ r. is_listed m r.modems) row rows none rest.0 rest.2.first;
+        })
+]
+
+pub holder_holds : (rows : List RowFields) (m : Modem) (i : ℕ) → holder rows m ≡ Some i → Holds rows m i
+holder_holds rows m i h =
+    let found = holder_from m 0 rows i h in
+    subst (Holds rows m) (let e : found.0 ≡ i = omega (arith, found.1) in e) found.2
+
+-- ---- at most one
+
+both_list : (xs ys : List Modem) (m : Modem) → first_again xs ys ≡ None → is_listed m xs ≡ true → is_listed m ys ≡ true → ⊥
+both_list xs [] m h a b = false≢true b
+both_list xs (y ∷ ys) m h a b = elim (cases_Bool (same_modem y m)) [
+    inl same ↦
+        let is : y ≡ m = same_is_equal y m same in
+        true_false (is_listed m xs) a (subst (λ (k : Modem). is_listed k xs ≡ false) is (passed xs ys y h).0)
+  | inr other ↦ both_list (xs ++ y ∷ []) ys m (passed xs ys y h).1 (listed_append m xs (y ∷ []) ∙ rw a refl) (rw other at b)
+]
+
+or_true : (b : Bool) → (b || true) ≡ true
+or_true true = refl
+or_true false = refl
+
+listed_in_row : (rows : List RowFields) (i : ℕ) (row : RowFields) (m : Modem) → slice_get rows i ≡ Some row → is_listed m row.modems ≡ true → is_listed m (all_modems rows) ≡ true
+listed_in_row [] i row m e h = let f : ◌≡◌ {A = Option RowFields} None (Some row) = e in cc
+listed_in_row (r ∷ rows) zero row m e h =
+    let here : is_listed m r.modems ≡ true = subst (λ (x : RowFields). is_listed m x.modems ≡ true) (sym (same_some r row e)) h in
+    listed_append m r.modems (all_modems rows) ∙ rw here refl
+listed_in_row (r ∷ rows) (suc i) row m e h =
+    listed_append m r.modems (all_modems rows) ∙ (let rest = listed_in_row rows i row m e h in rw rest (or_true (is_listed m r.modems)))
+
+apart_behind : (xs ys : List Modem) → AllPairs (λ a b. a ≢ b) (xs ++ ys) → AllPairs (λ a b. a ≢ b) ys
+apart_behind xs ys h i j d lt more e =
+    h (length xs + i) (length xs + j) d (omega (arith, lt)) (omega (arith, more, length-append xs ys))
+        (get_or-append-add xs ys i d ∙ e ∙ sym (get_or-append-add xs ys j d))
+
+pub one_lists : (rows : List RowFields) (m : Modem) (i j : ℕ) (a b : RowFields) → AllPairs (λ a b. a ≢ b) (all_modems rows)
+    → slice_get rows i ≡ Some a → slice_get rows j ≡ Some b → is_listed m a.modems ≡ true → is_listed m b.modems ≡ true → i ≡ j
+one_lists [] m i j a b apart e f g h = let x : ◌≡◌ {A = Option RowFields} None (Some a) = e in cc
+one_lists (r ∷ rows) m zero zero a b apart e f g h = refl
+one_lists (r ∷ rows) m zero (suc j) a b apart e f g h =
+    absurd (both_list r.modems (all_modems rows) m (none_again r.modems (all_modems rows) apart)
+        (subst (λ (x : RowFields). is_listed m x.modems ≡ true) (sym (same_some r a e)) g) (listed_in_row rows j b m f h))
+one_lists (r ∷ rows) m (suc i) zero a b apart e f g h =
+    absurd (both_list r.modems (all_modems rows) m (none_again r.modems (all_modems rows) apart)
+        (subst (λ (x : RowFields). is_listed m x.modems ≡ true) (sym (same_some r b f)) h) (listed_in_row rows i a m e g))
+one_lists (r ∷ rows) m (suc i) (suc j) a b apart e f g h = ap suc (one_lists rows m i j a b (apart_behind r.modems (all_modems rows) apart) e f g h)
+
+by_holder : (rows : List RowFields) (m : Modem) (i : ℕ) (o : Option ℕ) → holder rows m ≡ o → Holds rows m i → holder rows m ≡ Some i
+by_holder rows m i None e s =
+    let listed = listed_in_row rows i s.row m s.here s.listed in
+    absurd (false≢true (ap (is_some {T = ℕ}) (sym e) ∙ some_holder m 0 rows ∙ listed))
+by_holder rows m i (Some k) e s =
+    let there = holder_holds rows m k e in
+    let low = s.first k there.row there.here there.listed in
+    let high = there.first i s.row s.here s.listed in
+    e ∙ ap (λ (n : ℕ). Some n) (let same : k ≡ i = omega (arith, low, high) in same)
+
+pub holder_is : (rows : List RowFields) (m : Modem) (i : ℕ) → (holder rows m ≡ Some i) ↔ Holds rows m i
+holder_is rows m i = (holder_holds rows m i, by_holder rows m i (holder rows m) refl)
+
+-- ---- their names
+
+map_some : {A B : Type 0} (f : A → B) (o : Option A) (y : B) → option_map f o ≡ Some y → (x : A) × (o ≡ Some x) × (f x ≡ y)
+map_some f None y h = cc
+map_some f (Some x) y h = (x, refl, same_some (f x) y h)
+
+pub meeting_least : (apart : Apart) (rows : List RowFields) (a b : List ℕ) → first_meeting apart rows ≡ Some (a, b)
+    → (p : RowFields) × (q : RowFields) × IsLeastPair (meets apart) rows p q × (p.name ≡ a) × (q.name ≡ b)
+unfolding first_meeting
+meeting_least apart rows a b h =
+    let pair = map_some (λ pair. (pair.0.name, pair.1.name)) (first_pair (meets apart) rows) (a, b) h in
+    (pair.0.0, pair.0.1, first_pair_least (meets apart) rows pair.0.0 pair.0.1 pair.1, ap (λ (n : List ℕ × List ℕ). n.0) pair.2, ap (λ (n : List ℕ × List ℕ). n.1) pair.2)
+
+pub named_first : (test : RowFields → Bool) (rows : List RowFields) (name : List ℕ) → first_named test rows ≡ Some name
+    → (row : RowFields) × IsFirst test rows row × (row.name ≡ name)
+named_first test rows name h =
+    let found = map_some (λ row. row.name) (find test rows) name h in
+    (found.0, find_first test rows found.0 found.1, found.2)

@@ -1,0 +1,5 @@
+use Rattle.slice_table.proofs.SaidRows.{rows_are}
+use Rattle.slice_table.proofs.laws.rows_are_said.Goals as goal
+
+pub returns : goal.returns
+returns c = rows_are

@@ -1,0 +1,17 @@
+use Rattle.std.proofs.Common.{codes}
+use Rattle.toml.specs.Data.{get_member}
+use Rattle.toml.specs.View.{table_view}
+use Rattle.slice_table.proofs.ClassReading.{classes_read}
+use Rattle.slice_table.proofs.read_consts.consts_of.Goals as goal
+
+pub new-requires : goal.new-requires
+new-requires c =
+    let keys = c.in_ok-keys.ensures.in_range in
+    record {
+      some_frame = keys.some_frame;
+      frame = keys.frame;
+      head = keys.head;
+      short_max = keys.short_max;
+      backoffs = keys.backoffs;
+      classes = classes_read (get_member (codes "class") (table_view c.args.document.now)) c.in_ok-classes.classes c.in_ok-classes.ensures;
+    }

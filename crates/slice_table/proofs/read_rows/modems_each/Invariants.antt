@@ -1,0 +1,8 @@
+use Rattle.std.proofs.Common.{◌≡◌, [], drop}
+use Rattle.toml.specs.View.{items_view}
+use Rattle.slice_table.specs.Tree.{each}
+use Rattle.slice_table.specs.ReadRows.{modem_read}
+use Rattle.slice_table.proofs.read_rows.modems_each.Given as goal
+
+abbrev pub invariant-loop-value : goal.invariant-loop-value
+invariant-loop-value l = each (modem_read l.place) l.modems.items (items_view (drop l.value-index l.values)) ≡ each (modem_read l.place) [] (items_view l.values)

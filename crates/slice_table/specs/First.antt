@@ -1,0 +1,37 @@
+-- Which of several faults is named, and whose modem a modem is (own).
+use Rattle.std.specs.Prelude.{◌≡◌, ◌≢◌, ℕ, ◌<◌, ◌≤◌, ◌⊎◌, Bool, true, false, IsTrue, List, ◌∷◌, ◌++◌, AllPairs, Some, slice_get}
+use Rattle.dsx_messages.specs.declared.modem.Modem.{Modem}
+use Rattle.slice_table.specs.declared.operator_row.RowFields.{RowFields}
+use Rattle.slice_table.specs.Row.{is_listed}
+
+-- a and b stand at the least pair of places of which the test holds: the first counts before the second
+pub record IsLeastPair {A : Type 0} (test : A → A → Bool) (xs : List A) (a b : A) : Type 0 where
+  pub first : ℕ
+  pub second : ℕ
+  pub ordered : first < second
+  pub here : slice_get xs first ≡ Some a
+  pub there : slice_get xs second ≡ Some b
+  pub joined : test a b ≡ true
+  pub least : (i j : ℕ) (c d : A) → i < j → slice_get xs i ≡ Some c → slice_get xs j ≡ Some d → test c d ≡ true → (first < i) ⊎ ((first ≡ i) × (second ≤ j))
+
+-- a stands at the least place at which the test holds
+pub record IsFirst {A : Type 0} (test : A → Bool) (xs : List A) (a : A) : Type 0 where
+  pub place : ℕ
+  pub here : slice_get xs place ≡ Some a
+  pub passes : test a ≡ true
+  pub least : (i : ℕ) (c : A) → slice_get xs i ≡ Some c → test c ≡ true → place ≤ i
+
+-- the address is the first that stood before
+pub record StandsAgain (modems : List Modem) (modem : Modem) : Type 0 where
+  pub before : List Modem
+  pub behind : List Modem
+  pub is : modems ≡ before ++ modem ∷ behind
+  pub stood : IsTrue (is_listed modem before)
+  pub distinct : AllPairs (λ a b. a ≢ b) before
+
+-- the operator at this place lists the modem, and none before it does
+pub record Holds (rows : List RowFields) (modem : Modem) (operator : ℕ) : Type 0 where
+  pub row : RowFields
+  pub here : slice_get rows operator ≡ Some row
+  pub listed : IsTrue (is_listed modem row.modems)
+  pub first : (i : ℕ) (other : RowFields) → slice_get rows i ≡ Some other → IsTrue (is_listed modem other.modems) → operator ≤ i

@@ -1,0 +1,154 @@
+-- What a plant file says of what all operators share: its keys in their order, and the first fault (own).
+use Rattle.std.specs.Prelude.{codes, ℕ, ◌≤◌, ◌&&◌, nat_le, Bool, not, List, [], length, Option, Some, None, is_none, Result, Ok, Err, if◌then◌else◌}
+use Rattle.std.specs.Char.{is_ascii_alphanumeric}
+use Rattle.std.specs.List.{list_all, list_any}
+use Rattle.toml.specs.Data.{Data, Items, Members, get_member, as_array}
+use Rattle.tlv24.specs.declared.fields.FlowFields.{FlowFields}
+use Rattle.tlv24.specs.declared.fault.FlowFault.{FlowFault}
+use Rattle.tlv24.specs.Flow.{flow_of}
+use Rattle.param_sets.specs.Units.{UnitSizes}
+use Rattle.transactions.specs.Waits.{Waits}
+use Rattle.slice_table.specs.declared.class_table.Class.{Class}
+use Rattle.slice_table.specs.declared.consts.Backoffs.{Backoffs}
+use Rattle.slice_table.specs.declared.consts.ConstsFields.{ConstsFields}
+use Rattle.slice_table.specs.declared.read_consts.PlantKeys.{PlantKeys}
+use Rattle.slice_table.specs.declared.plant_fault.PlantFault.{PlantFault}
+use Rattle.slice_table.specs.declared.plant_fault.PlantFault.TheVariants.{BadValue}
+use Rattle.slice_table.specs.declared.plant_key.Key.{Key}
+use Rattle.slice_table.specs.declared.plant_key.Key.TheVariants.{Classes, Entry}
+use Rattle.slice_table.specs.declared.plant_key.Place.{Place}
+use Rattle.slice_table.specs.declared.plant_key.Place.TheVariants as place
+use Rattle.slice_table.specs.declared.plant_key.Field.TheVariants as field
+use Rattle.slice_table.specs.Classes.{is_named}
+use Rattle.slice_table.specs.Consts.{AreBackoffs}
+use Rattle.slice_table.specs.Tree.{Read, ◌>>=◌, each, items_len, required, expected, checked, number_at, number_or, text_at, bytes_at, table_of}
+
+-- ---- the table `plant`
+
+unfoldable pub units_at : Members → Read UnitSizes
+units_at ms = do
+  frame_us ← number_at place.Plant field.FrameUs 1 1000000 ms
+  bytes_per_minislot ← number_at place.Plant field.BytesPerMinislot 1 65535 ms
+  Ok (record { frame_us = frame_us; bytes_per_minislot = bytes_per_minislot })
+
+unfoldable pub backoffs_at : Members → Read Backoffs
+backoffs_at ms = do
+  ranging_start ← number_or place.Plant field.RangingStart 0 15 0 ms
+  ranging_end ← number_or place.Plant field.RangingEnd 0 15 0 ms
+  data_start ← number_or place.Plant field.DataStart 0 15 0 ms
+  data_end ← number_or place.Plant field.DataEnd 0 15 0 ms
+  Ok (record { ranging_start = ranging_start; ranging_end = ranging_end; data_start = data_start; data_end = data_end })
+
+unfoldable pub timers_at : Members → Read Waits
+timers_at ms = do
+  ack_wait ← number_or place.Plant field.AckWait 1 65535 150 ms
+  resends ← number_or place.Plant field.Resends 0 255 3 ms
+  hold ← number_or place.Plant field.Hold 1 65535 1500 ms
+  Ok (record { ack_wait = ack_wait; resends = resends; hold = hold })
+
+unfoldable pub plant_keys_at : Members → Read PlantKeys
+plant_keys_at ms = do
+  frame_minislots ← number_at place.Plant field.FrameMinislots 1 4096 ms
+  head ← number_at place.Plant field.Head 0 frame_minislots ms
+  units ← units_at ms
+  short_max ← number_at place.Plant field.ShortMax 0 4096 ms
+  channel ← number_at place.Plant field.Channel 0 255 ms
+  ucd_count ← number_at place.Plant field.UcdCount 0 255 ms
+  backoffs ← backoffs_at ms
+  timers ← timers_at ms
+  first_frame ← number_or place.Plant field.FirstFrame 0 4294967295 0 ms
+  Ok (record {
+    frame_minislots = frame_minislots;
+    head = head;
+    units = units;
+    short_max = short_max;
+    channel = channel;
+    ucd_count = ucd_count;
+    backoffs = backoffs;
+    timers = timers;
+    first_frame = first_frame;
+  })
+
+-- where there is no table `plant`, its first key is missing
+unfoldable pub plant_keys_of : Members → Read PlantKeys
+plant_keys_of ms = do
+  d ← required (Entry place.Plant field.FrameMinislots) (get_member (codes "plant") ms)
+  table ← table_of place.Plant d
+  plant_keys_at table
+
+-- ---- the array `class`
+
+-- 1 to 15 ASCII letters or digits
+unfoldable pub is_class_name : List ℕ → Bool
+is_class_name text = (nat_le 1 (length text) && nat_le (length text) 15) && list_all is_ascii_alphanumeric text
+
+-- the name of a class: no earlier class has it
+unfoldable pub class_name_at : List Class → Place → Members → Read (List ℕ)
+class_name_at classes place ms = do
+  text ← text_at place field.Name ms
+  checked (Entry place field.Name) (is_class_name text && not (list_any (is_named text) classes)) text
+
+-- whether it states none of the subtypes 1 to 6
+unfoldable pub states_parameters : FlowFields → Bool
+states_parameters flow = ((is_none flow.reference && is_none flow.sfid) && (is_none flow.sid && is_none flow.class_name))
+    && (is_none flow.errored && is_none flow.set_type)
+
+-- the encoding of a class
+abbrev pub parameters_in : Key → Result FlowFields FlowFault → Read FlowFields
+parameters_in key (Ok flow) = checked key (states_parameters flow) flow
+parameters_in key (Err fault) = Err (BadValue key)
+
+unfoldable pub class_encoding_at : Place → Members → Read FlowFields
+class_encoding_at place ms = do
+  bytes ← bytes_at place field.Encoding ms
+  parameters_in (Entry place field.Encoding) (flow_of bytes)
+
+-- a class behind those before it
+unfoldable pub class_read : List Class → Data → Read Class
+class_read classes d = do
+  table ← table_of (place.Class (length classes)) d
+  name ← class_name_at classes (place.Class (length classes)) table
+  encoding ← class_encoding_at (place.Class (length classes)) table
+  Ok (record { name = name; encoding = encoding })
+
+-- at most 64
+unfoldable pub classes_in : Data → Read (List Class)
+classes_in d = do
+  ds ← expected Classes (as_array d)
+  few ← checked Classes (nat_le (items_len ds) 64) ds
+  each class_read [] few
+
+-- none where there is no such array
+abbrev pub classes_if : Option Data → Read (List Class)
+classes_if None = Ok []
+classes_if (Some d) = classes_in d
+
+-- ---- what all operators share
+
+abbrev pub with_classes : PlantKeys → List Class → ConstsFields
+with_classes keys classes = record {
+  frame_minislots = keys.frame_minislots;
+  head = keys.head;
+  units = keys.units;
+  short_max = keys.short_max;
+  channel = keys.channel;
+  ucd_count = keys.ucd_count;
+  backoffs = keys.backoffs;
+  timers = keys.timers;
+  first_frame = keys.first_frame;
+  classes = classes;
+}
+
+unfoldable pub consts_of : Members → Read ConstsFields
+consts_of ms = do
+  keys ← plant_keys_of ms
+  classes ← classes_if (get_member (codes "class") ms)
+  Ok (with_classes keys classes)
+
+-- the keys of the table `plant`, each in its range
+pub record AreKeys (keys : PlantKeys) : Type 0 where
+  pub some_frame : 1 ≤ keys.frame_minislots
+  pub frame : keys.frame_minislots ≤ 4096
+  pub head : keys.head ≤ keys.frame_minislots
+  pub short_max : keys.short_max ≤ 4096
+  pub backoffs : AreBackoffs keys.backoffs

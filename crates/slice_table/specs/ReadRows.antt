@@ -1,0 +1,165 @@
+-- What a plant file says of its operators: the keys of each in their order, and the first fault (own).
+use Rattle.std.specs.Prelude.{codes, ℕ, ◌+◌, ◌&&◌, nat_le, Bool, not, List, [], length, Option, Some, None, is_some, if◌then◌else◌, Ok, Err}
+use Rattle.std.specs.Char.{is_ascii_alphanumeric}
+use Rattle.std.specs.List.{list_all, list_any}
+use Rattle.std.specs.Str.{bytes_eq}
+use Rattle.toml.specs.Data.{Data, Items, Members, get_member, as_array}
+use Rattle.dsx_messages.specs.declared.modem.Modem.{Modem}
+use Rattle.admission.specs.Free.{Numbers}
+use Rattle.grant_policy.specs.declared.policy.Policy.{Policy}
+use Rattle.grant_policy.specs.declared.policy.Policy.TheVariants.{Strict, Aged, Short}
+use Rattle.slice_scheduler.specs.Minislots.{Minislots}
+use Rattle.slice_table.specs.declared.consts.ConstsFields.{ConstsFields}
+use Rattle.slice_table.specs.declared.operator_row.RowFields.{RowFields}
+use Rattle.slice_table.specs.declared.provision.Provision.{Provision}
+use Rattle.slice_table.specs.declared.plant_fault.PlantFault.TheVariants.{BadValue}
+use Rattle.slice_table.specs.declared.plant_key.Field.{Field}
+use Rattle.slice_table.specs.declared.plant_key.Field.TheVariants as field
+use Rattle.slice_table.specs.declared.plant_key.Place.{Place}
+use Rattle.slice_table.specs.declared.plant_key.Place.TheVariants as place
+use Rattle.slice_table.specs.declared.plant_key.Key.{Key}
+use Rattle.slice_table.specs.declared.plant_key.Key.TheVariants.{Operators, Entry}
+use Rattle.slice_table.specs.Provisioned.{sets_of_encoding}
+use Rattle.slice_table.specs.Row.{is_listed}
+use Rattle.slice_table.specs.Tree.{Read, ◌>>=◌, each, items_len, required, expected, checked, at_field, number_at, pair_at, text_at, bytes_at, array_at, modem_of, modem_at, table_of}
+
+-- ---- an operator's own keys
+
+-- 1 to 16 ASCII letters or digits
+unfoldable pub is_operator_name : List ℕ → Bool
+is_operator_name text = (nat_le 1 (length text) && nat_le (length text) 16) && list_all is_ascii_alphanumeric text
+
+-- an operator of that name
+abbrev pub is_called : List ℕ → RowFields → Bool
+is_called name row = bytes_eq row.name name
+
+-- the name of an operator: no earlier operator has it
+unfoldable pub name_at : List RowFields → Place → Members → Read (List ℕ)
+name_at rows place ms = do
+  text ← text_at place field.Name ms
+  checked (Entry place field.Name) (is_operator_name text && not (list_any (is_called text) rows)) text
+
+-- minislots behind the head and within the frame
+unfoldable pub is_within : ConstsFields → ℕ → ℕ → Bool
+is_within consts start length = (nat_le consts.head start && nat_le 1 length) && nat_le (start + length) consts.frame_minislots
+
+unfoldable pub slice_at : ConstsFields → Place → Members → Read Minislots
+slice_at consts place ms = do
+  pair ← pair_at place field.Slice ms
+  checked (Entry place field.Slice) (is_within consts pair.0 pair.1) (record { start = pair.0; length = pair.1 })
+
+-- numbers from 1 to high
+unfoldable pub is_range : ℕ → ℕ → ℕ → Bool
+is_range high first last = (nat_le 1 first && nat_le first last) && nat_le last high
+
+unfoldable pub range_at : Place → Field → ℕ → Members → Read Numbers
+range_at place field high ms = do
+  pair ← pair_at place field ms
+  checked (Entry place field) (is_range high pair.0 pair.1) (record { first = pair.0; last = pair.1 })
+
+-- the policy "aged" has a step
+unfoldable pub aged_at : Place → Members → Read Policy
+aged_at place ms = do
+  step ← number_at place field.Step 1 255 ms
+  Ok (Aged step)
+
+unfoldable pub policy_named : List ℕ → Place → Members → Read Policy
+policy_named text place ms =
+    if bytes_eq text (codes "strict") then Ok Strict else
+    if bytes_eq text (codes "aged") then aged_at place ms else
+    if bytes_eq text (codes "short") then Ok Short else
+    Err (BadValue (Entry place field.Policy))
+
+unfoldable pub policy_at : Place → Members → Read Policy
+policy_at place ms = do
+  text ← text_at place field.Policy ms
+  policy_named text place ms
+
+-- 1 to 1,024 modems
+abbrev pub modem_read : Place → List Modem → Data → Read Modem
+modem_read place done d = modem_of (Entry place field.Modems) d
+
+unfoldable pub modems_at : Place → Members → Read (List Modem)
+modems_at place ms = do
+  ds ← array_at place field.Modems ms
+  few ← checked (Entry place field.Modems) (nat_le 1 (items_len ds) && nat_le (items_len ds) 1024) ds
+  each (modem_read place) [] few
+
+-- ---- its provisioned flows
+
+-- one of the operator's modems
+unfoldable pub own_modem_at : List Modem → Place → Members → Read Modem
+own_modem_at modems place ms = do
+  modem ← modem_at place field.Modem ms
+  checked (Entry place field.Modem) (is_listed modem modems) modem
+
+-- whether a flow is given sets by its encoding
+unfoldable pub has_sets : ConstsFields → Provision → Bool
+has_sets consts p = is_some (sets_of_encoding consts p.encoding)
+
+unfoldable pub provision_at : ConstsFields → List Modem → Place → Members → Read Provision
+provision_at consts modems place ms = do
+  modem ← own_modem_at modems place ms
+  encoding ← bytes_at place field.Encoding ms
+  checked (Entry place field.Encoding) (has_sets consts (record { modem = modem; encoding = encoding })) (record { modem = modem; encoding = encoding })
+
+-- a provisioned flow behind those before it
+unfoldable pub provision_read : ConstsFields → ℕ → List Modem → List Provision → Data → Read Provision
+provision_read consts operator modems done d = do
+  table ← table_of (place.Flow operator (length done)) d
+  provision_at consts modems (place.Flow operator (length done)) table
+
+unfoldable pub provisions_in : ConstsFields → ℕ → List Modem → Data → Read (List Provision)
+provisions_in consts operator modems d = do
+  ds ← expected (Entry (place.Operator operator) field.Flow) (as_array d)
+  each (provision_read consts operator modems) [] ds
+
+-- none where there is no such array
+abbrev pub provisions_if : ConstsFields → ℕ → List Modem → Option Data → Read (List Provision)
+provisions_if consts operator modems None = Ok []
+provisions_if consts operator modems (Some d) = provisions_in consts operator modems d
+
+-- ---- an operator, and all of them
+
+unfoldable pub row_at : ConstsFields → List RowFields → ℕ → Members → Read RowFields
+row_at consts rows operator ms = do
+  name ← name_at rows (place.Operator operator) ms
+  slice ← slice_at consts (place.Operator operator) ms
+  sfids ← range_at (place.Operator operator) field.Sfids 4294967295 ms
+  sids ← range_at (place.Operator operator) field.Sids 8191 ms
+  flows ← number_at (place.Operator operator) field.Flows 1 1024 ms
+  transactions ← number_at (place.Operator operator) field.Transactions 1 256 ms
+  inbox ← number_at (place.Operator operator) field.Inbox 1 256 ms
+  budget ← number_at (place.Operator operator) field.Budget 0 4096 ms
+  elements ← number_at (place.Operator operator) field.Elements 0 235 ms
+  policy ← policy_at (place.Operator operator) ms
+  modems ← modems_at (place.Operator operator) ms
+  provisions ← provisions_if consts operator modems (at_field field.Flow ms)
+  Ok (record {
+    name = name;
+    slice = slice;
+    sfids = sfids;
+    sids = sids;
+    flows = flows;
+    transactions = transactions;
+    inbox = inbox;
+    budget = budget;
+    elements = elements;
+    policy = policy;
+    modems = modems;
+    provisions = provisions;
+  })
+
+-- an operator behind those before it
+unfoldable pub row_read : ConstsFields → List RowFields → Data → Read RowFields
+row_read consts rows d = do
+  table ← table_of (place.Operator (length rows)) d
+  row_at consts rows (length rows) table
+
+-- 1 to 32
+unfoldable pub rows_of : ConstsFields → Members → Read (List RowFields)
+rows_of consts ms = do
+  d ← required Operators (get_member (codes "operator") ms)
+  ds ← expected Operators (as_array d)
+  few ← checked Operators (nat_le 1 (items_len ds) && nat_le (items_len ds) 32) ds
+  each (row_read consts) [] few

@@ -1,0 +1,147 @@
+-- What stands under a key of a TOML table: a value, or the first fault (own).
+use Rattle.std.specs.Prelude.{◌≡◌, ℕ, suc, ◌++◌, [], ◌∷◌, pos, ◌&&◌, nat_le, Bool, List, Option, Some, None, Result, Ok, Err, if◌then◌else◌}
+use Rattle.toml.specs.Data.{Data, integer, Items, no_items, item, Members, get_member, as_str, as_array, as_table}
+use Rattle.hex.specs.Hex.{decode_of, decode_sized}
+use Rattle.hex.specs.declared.error.FromHexError.{FromHexError}
+use Rattle.dsx_messages.specs.declared.modem.Modem.{Modem}
+use Rattle.slice_table.specs.declared.plant_fault.PlantFault.{PlantFault}
+use Rattle.slice_table.specs.declared.plant_fault.PlantFault.TheVariants.{Missing, BadValue, NoMemory}
+use Rattle.slice_table.specs.declared.plant_key.Field.{Field}
+use Rattle.slice_table.specs.declared.plant_key.Place.{Place}
+use Rattle.slice_table.specs.declared.plant_key.Key.{Key}
+use Rattle.slice_table.specs.declared.plant_key.Key.TheVariants.{Table, Entry}
+use Rattle.slice_table.specs.Keys.{field_text}
+
+-- ---- a value, or the first fault
+
+abbrev pub Read : Type 0 → Type 0
+Read A = Result A PlantFault
+
+-- one reading after another
+infixl 10 ◌>>=◌
+abbrev pub ◌>>=◌ : {A B : Type 0} → Read A → (A → Read B) → Read B
+(Ok x) >>= f = f x
+(Err fault) >>= f = Err fault
+
+-- what a call answered, seen by view, is what is read, unless there was no memory
+abbrev pub Fails : {B : Type 0} → PlantFault → Read B → Type 0
+Fails NoMemory read = Unit {0}
+Fails fault read = read ≡ Err fault
+
+abbrev pub Gives : {A B : Type 0} → (A → B) → Read A → Read B → Type 0
+Gives view (Ok x) read = read ≡ Ok (view x)
+Gives view (Err fault) read = Fails fault read
+
+-- a call's answer, seen by view
+abbrev pub seen : {A B : Type 0} → (A → B) → Read A → Read B
+seen view (Ok x) = Ok (view x)
+seen view (Err fault) = Err fault
+
+-- the items of an array one after the other, each with those read before it
+abbrev pub each : {A : Type 0} → (List A → Data → Read A) → List A → Items → Read (List A)
+each read done no_items = Ok done
+each read done (item d ds) = read done d >>= λ x. each read (done ++ x ∷ []) ds
+
+abbrev pub items_len : Items → ℕ
+items_len no_items = 0
+items_len (item d ds) = suc (items_len ds)
+
+-- ---- faults
+
+-- the key is missing where there is none
+abbrev pub required : {A : Type 0} → Key → Option A → Read A
+required key None = Err (Missing key)
+required key (Some x) = Ok x
+
+-- what stands under the key is not what is wanted where there is none
+abbrev pub expected : {A : Type 0} → Key → Option A → Read A
+expected key None = Err (BadValue key)
+expected key (Some x) = Ok x
+
+-- the same where a test fails
+abbrev pub checked : {A : Type 0} → Key → Bool → A → Read A
+checked key passes x = if passes then Ok x else Err (BadValue key)
+
+-- ---- values
+
+abbrev pub at_field : Field → Members → Option Data
+at_field field ms = get_member (field_text field) ms
+
+abbrev pub natural : Data → Option ℕ
+natural (integer (pos n)) = Some n
+natural d = None
+
+-- a number from low to high
+unfoldable pub number_of : Key → ℕ → ℕ → Data → Read ℕ
+number_of key low high d = do
+  n ← expected key (natural d)
+  checked key (nat_le low n && nat_le n high) n
+
+unfoldable pub number_at : Place → Field → ℕ → ℕ → Members → Read ℕ
+number_at place field low high ms = do
+  d ← required (Entry place field) (at_field field ms)
+  number_of (Entry place field) low high d
+
+-- a number from low to high; the default where the key is not there
+abbrev pub number_if : Key → ℕ → ℕ → ℕ → Option Data → Read ℕ
+number_if key low high default None = Ok default
+number_if key low high default (Some d) = number_of key low high d
+
+unfoldable pub number_or : Place → Field → ℕ → ℕ → ℕ → Members → Read ℕ
+number_or place field low high default ms = number_if (Entry place field) low high default (at_field field ms)
+
+-- two numbers
+abbrev pub both : Option ℕ → Option ℕ → Option (ℕ × ℕ)
+both (Some a) (Some b) = Some (a, b)
+both (Some a) None = None
+both None b = None
+
+abbrev pub pair_in : Items → Option (ℕ × ℕ)
+pair_in (item a (item b no_items)) = both (natural a) (natural b)
+pair_in ds = None
+
+-- the items of an array
+unfoldable pub array_at : Place → Field → Members → Read Items
+array_at place field ms = do
+  d ← required (Entry place field) (at_field field ms)
+  expected (Entry place field) (as_array d)
+
+unfoldable pub pair_at : Place → Field → Members → Read (ℕ × ℕ)
+pair_at place field ms = do
+  ds ← array_at place field ms
+  expected (Entry place field) (pair_in ds)
+
+-- a text
+unfoldable pub text_at : Place → Field → Members → Read (List ℕ)
+text_at place field ms = do
+  d ← required (Entry place field) (at_field field ms)
+  expected (Entry place field) (as_str d)
+
+-- bytes in hexadecimal
+abbrev pub decoded : Result (List ℕ) FromHexError → Option (List ℕ)
+decoded (Ok bytes) = Some bytes
+decoded (Err e) = None
+
+unfoldable pub bytes_at : Place → Field → Members → Read (List ℕ)
+bytes_at place field ms = do
+  text ← text_at place field ms
+  expected (Entry place field) (decoded (decode_of text))
+
+-- the address of a modem: six bytes in hexadecimal
+abbrev pub modem_in : Result (List ℕ) FromHexError → Option Modem
+modem_in (Ok bytes) = Some (record { 0 = bytes })
+modem_in (Err e) = None
+
+unfoldable pub modem_of : Key → Data → Read Modem
+modem_of key d = do
+  text ← expected key (as_str d)
+  expected key (modem_in (decode_sized text 6))
+
+unfoldable pub modem_at : Place → Field → Members → Read Modem
+modem_at place field ms = do
+  d ← required (Entry place field) (at_field field ms)
+  modem_of (Entry place field) d
+
+-- a table
+unfoldable pub table_of : Place → Data → Read Members
+table_of place d = expected (Table place) (as_table d)

@@ -1,0 +1,148 @@
+//! What is asked of all keys of a plant file together.
+
+ghost use Rattle.std.specs.Prelude.{◌≡◌, ◌≤◌, length, find, option_map, option_copied};
+ghost use Rattle.slice_table.specs.Plant.{slices_meet, ranges_meet, most_elements};
+ghost use Rattle.slice_table.specs.Checks.{meets, first_meeting, is_over_slice, do_fit, first_named, is_overfull, meeting_fault, elements_fault, budget_fault, provisioned_fault};
+
+use crate::consts::Consts;
+use crate::name::OperatorName;
+use crate::operator_row::OperatorRow;
+use crate::plant_fault::PlantFault;
+use admission::IdRange;
+use slice_scheduler::Slice;
+
+/// What no two operators may have in common.
+#[derive(Clone, Copy)]
+pub enum Apart {
+    Slices,
+    Sids,
+    Sfids,
+}
+
+/// Whether two slices have a minislot in common.
+fn slices_meet(a: &Slice, b: &Slice) -> bool
+    ensures { result ≡ slices_meet a.now b.now }
+{
+    a.get_start() < b.get_start() + b.get_length() && b.get_start() < a.get_start() + a.get_length()
+}
+
+/// Whether two ranges have a number in common.
+fn ranges_meet(a: &IdRange, b: &IdRange) -> bool
+    ensures { result ≡ ranges_meet a.now b.now }
+{
+    a.get_first() <= b.get_last() && b.get_first() <= a.get_last()
+}
+
+impl OperatorRow {
+    /// The operator's name.
+    fn name(&self) -> OperatorName
+        ensures { result ≡ self.now.name }
+    {
+        self.get_fields().name
+    }
+
+    /// Whether two operators have this in common.
+    fn meets(&self, apart: Apart, other: &OperatorRow) -> bool
+        ensures { result ≡ meets apart self.now other.now }
+    {
+        let (a, b) = (self.get_fields(), other.get_fields());
+        match apart {
+            Apart::Slices => slices_meet(&a.slice, &b.slice),
+            Apart::Sids => ranges_meet(&a.sids, &b.sids),
+            Apart::Sfids => ranges_meet(&a.sfids, &b.sfids),
+        }
+    }
+
+    /// Whether the budget is more than the slice.
+    fn is_over_slice(&self) -> bool
+        ensures { result ≡ is_over_slice self.now }
+    {
+        let row = self.get_fields();
+        row.slice.get_length() < row.budget
+    }
+}
+
+/// The first operator that has this in common with one.
+fn first_met<'a>(
+    apart: Apart,
+    row: &OperatorRow,
+    others: &'a [OperatorRow],
+) -> Option<&'a OperatorRow>
+    ensures { option_copied result ≡ find (meets apart row.now) others.now }
+{
+    others.iter().find(|other| row.meets(apart, other))
+}
+
+/// The names of the first two operators that have this in common.
+#[tactic(auto, unfolding(crate::specs::Checks::first_meeting))]
+fn first_meeting(apart: Apart, rows: &[OperatorRow]) -> Option<(OperatorName, OperatorName)>
+    ensures { result ≡ first_meeting apart rows.now }
+{
+    for (place, row) in rows.iter().enumerate() {
+        if let Some(other) = first_met(apart, row, &rows[place + 1..]) {
+            return Some((row.name(), other.name()));
+        }
+    }
+    None
+}
+
+/// The first of the faults that two operators have something in common.
+#[tactic(auto, unfolding(crate::specs::Checks::meeting_fault))]
+pub(crate) fn meeting_fault(rows: &[OperatorRow]) -> Option<PlantFault>
+    ensures { result ≡ meeting_fault rows.now }
+{
+    if let Some((a, b)) = first_meeting(Apart::Slices, rows) {
+        return Some(PlantFault::SlicesMeet { a, b });
+    }
+    if let Some((a, b)) = first_meeting(Apart::Sids, rows) {
+        return Some(PlantFault::SidsMeet { a, b });
+    }
+    let (a, b) = first_meeting(Apart::Sfids, rows)?;
+    Some(PlantFault::SfidsMeet { a, b })
+}
+
+/// The most elements that a MAP can need.
+fn most_elements(rows: &[OperatorRow]) -> usize
+    requires { length rows.now ≤ 32 }
+    ensures { result ≡ most_elements rows.now }
+{
+    let mut quotas = 0;
+    for row in rows {
+        quotas += usize::from(row.get_fields().elements);
+    }
+    quotas + 2 * rows.len() + 3
+}
+
+/// The fault that a MAP could need more than 240 elements.
+#[tactic(auto, unfolding(crate::specs::Checks::elements_fault))]
+pub(crate) fn elements_fault(rows: &[OperatorRow]) -> Option<PlantFault>
+    requires { length rows.now ≤ 32 }
+    ensures { result ≡ elements_fault rows.now }
+{
+    let total = most_elements(rows);
+    if total <= 240 {
+        None
+    } else {
+        Some(PlantFault::TooManyElements { total })
+    }
+}
+
+/// The first operator whose budget is more than its slice.
+fn first_over_slice(rows: &[OperatorRow]) -> Option<&OperatorRow>
+    ensures { option_copied result ≡ find is_over_slice rows.now }
+{
+    rows.iter().find(|row| row.is_over_slice())
+}
+
+/// The fault that a budget is more than its slice.
+#[tactic(auto, unfolding(crate::specs::Checks::budget_fault))]
+pub(crate) fn budget_fault(rows: &[OperatorRow]) -> Option<PlantFault>
+    ensures { result ≡ budget_fault rows.now }
+{
+    match first_over_slice(rows) {
+        Some(row) => Some(PlantFault::BudgetOverSlice {
+            operator: row.name(),
+        }),
+        None => None,
+    }
+}

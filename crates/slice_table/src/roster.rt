@@ -1,0 +1,48 @@
+//! Which operator lists a modem.
+
+ghost use Rattle.std.specs.Prelude.{◌≡◌, List, IfOk, OnOk};
+ghost use Rattle.dsx_messages.specs.declared.modem.Modem.{Modem};
+ghost use Rattle.slice_table.specs.Plant.{all_modems};
+ghost use Rattle.slice_table.specs.Roster.{Finds, Lists, Adds, place_of, holder};
+ghost use Rattle.slice_table.specs.Tree.{Gives};
+ghost use Rattle.slice_table.specs.Checks.{first_again, repeated, twice_fault, unless};
+
+use crate::operator_row::OperatorRow;
+use crate::plant_fault::PlantFault;
+use dsx_messages::Modem;
+use indexmap::IndexMap;
+use std::alloc::Global;
+
+/// Adds the modems of the operator at this place; the first that is there already is the fault.
+fn add_modems(
+    places: &mut IndexMap<Modem, usize>,
+    modems: &[Modem],
+    place: usize,
+) -> Result<(), PlantFault>
+    ensures fault { (before : List Modem) → Lists places.old before → Gives (λ x. x) result (unless (repeated (first_again before modems.now)) (tt {0})) }
+    ensures added { OnOk result (Adds places.old place modems.now places.new) }
+{
+    for modem in modems {
+        if places.get(modem).is_some() {
+            return Err(PlantFault::ModemTwice { modem: *modem });
+        }
+        places.insert(*modem, place)?;
+    }
+    Ok(())
+}
+
+/// Each operator's modems, by their addresses.
+#[tactic(auto, unfolding(crate::specs::Checks::twice_fault))]
+pub(crate) fn places_of(
+    alloc: Global,
+    rows: &[OperatorRow],
+) -> Result<IndexMap<Modem, usize>, PlantFault>
+    ensures fault { Gives (λ _. tt {0}) result (unless (twice_fault rows.now) (tt {0})) }
+    ensures found { IfOk result (Finds rows.now) }
+{
+    let mut places = IndexMap::new(alloc);
+    for (place, row) in rows.iter().enumerate() {
+        add_modems(&mut places, row.get_fields().modems.as_slice(), place)?;
+    }
+    Ok(places)
+}
