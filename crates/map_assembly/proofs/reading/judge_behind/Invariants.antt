@@ -1,0 +1,14 @@
+use Rattle.std.proofs.Common.{◌≡◌, ◌+◌, ◌*◌, ◌≤◌, ◌<◌, ◌++◌, List, map, length, ap}
+use Rattle.map_assembly.specs.declared.element.MapElement.{MapElement}
+use Rattle.map_assembly.specs.Element.{elements_in}
+use Rattle.map_assembly.specs.Judging.{judged, judged_behind, next_offset, spans_in, behind_null, pending_in}
+use Rattle.map_assembly.proofs.reading.judge_behind.Given as goal
+
+abbrev pub invariant-loop-first : goal.invariant-loop-first
+invariant-loop-first l = record {
+  same : judged_behind l.spans l.end l.at (elements_in l.rest) ≡ judged_behind l.spans l.end (l.spans + 1) (elements_in l.fn.bytes);
+  place : l.at + length l.rest ≤ 1276;
+}
+
+abbrev pub decreases-loop-first : goal.decreases-loop-first
+decreases-loop-first l = length l.rest

@@ -1,0 +1,10 @@
+//! The MAP of a frame: put together of the operators' parts, and read (CM-SP-MULPIv3.1, 6.4.4; the layout is own).
+#![tactic(auto)]
+
+mod element;
+mod reading;
+mod view;
+
+pub use element::MapElement;
+
+pub use view::{MapFault, MapHeader, MapSpan, MapSpans, MapView};
