@@ -1,1 +1,3 @@
-
+pub mod SayLemmas
+pub mod FaultLemmas
+pub mod ReadLemmas

@@ -1,5 +1,5 @@
 -- What the bytes of a MAP say (own layout, after CM-SP-MULPIv3.1, 6.4.4).
-use Rattle.std.specs.Prelude.{◌≡◌, ◌≢◌, ℕ, ◌+◌, ◌*◌, ◌<◌, ◌≤◌, Bool, true, false, IsTrue, ◌==◌, ◌&&◌, ◌||◌, List, [], ◌∷◌, ◌++◌, length, map, drop, slice_index, slice_range}
+use Rattle.std.specs.Prelude.{◌≡◌, ◌≢◌, ℕ, ◌+◌, ◌*◌, ◌<◌, ◌≤◌, Bool, true, false, IsTrue, ◌==◌, ◌&&◌, ◌||◌, List, [], ◌∷◌, ◌++◌, length, map, drop, slice_index, slice_range, Result, Ok, Err}
 use Rattle.std.specs.List.{AllByRecursion}
 use Rattle.std.specs.Int.{w32, from_be_bytes}
 use Rattle.map_assembly.specs.declared.element.MapElement.{MapElement}
@@ -134,3 +134,8 @@ IsFirstMapFault bytes Short = length bytes < 16
 IsFirstMapFault bytes Count = (16 ≤ length bytes) × (length bytes ≢ 16 + 4 * slice_index bytes 2)
 IsFirstMapFault bytes NoMemory = ⊥
 IsFirstMapFault bytes fault = IsCounted bytes × ElementsFault (elements_behind bytes) fault
+
+-- this view, unless memory ran out
+abbrev pub IsOkUnlessMemory : Result MapView MapFault → MapView → Type 0
+IsOkUnlessMemory (Ok read) view = read ≡ view
+IsOkUnlessMemory (Err fault) view = fault ≡ NoMemory

@@ -6,5 +6,5 @@ mod reading;
 mod view;
 
 pub use element::MapElement;
-
+pub use reading::read_map;
 pub use view::{MapFault, MapHeader, MapSpan, MapSpans, MapView};

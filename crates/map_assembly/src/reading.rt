@@ -1,15 +1,22 @@
 //! Reading a MAP.
 
-ghost use Rattle.std.specs.Prelude.{◌≡◌, ◌+◌, ◌++◌, [], ℕ, ◌≤◌, ◌<◌, ◌==◌, length, map, drop, slice_range, Result, MatchOption, MatchResult, Ok, Err, IfOk, IfErr, OnOk};
+ghost use Rattle.std.specs.Prelude.{◌≡◌, ◌≢◌, ◌↔◌, ◌+◌, ◌++◌, [], ℕ, ◌≤◌, ◌<◌, ◌==◌, length, map, drop, slice_range, Result, MatchOption, MatchResult, Ok, Err, IfOk, IfErr, OnOk};
 ghost use Rattle.std.specs.Int.{w32, from_be_bytes};
 ghost use Rattle.map_assembly.specs.Element.{is_null, elements_in};
 ghost use Rattle.map_assembly.specs.Judging.{judged, judged_behind, next_offset, spans_in, behind_null, pending_in};
-ghost use Rattle.map_assembly.specs.Reading.{is_pending, header_in};
+ghost use Rattle.map_assembly.specs.Reading.{is_pending, header_in, elements_behind, IsCounted, MapReads, IsOkUnlessMemory, IsFirstMapFault};
+ghost use Rattle.map_assembly.specs.declared.view.MapView.{MapView};
+ghost use Rattle.map_assembly.specs.declared.view.MapFault.{MapFault};
+ghost use Rattle.map_assembly.specs.declared.view.MapFault.TheVariants.{NoMemory};
 
 use crate::element::{MapElement, first_element};
-use crate::view::{MapFault, MapHeader, MapSpan};
+use crate::view::{MapFault, MapHeader, MapSpan, MapSpans, MapView};
+use slice_scheduler::Sids;
 use slice_table::Backoffs;
 use std::alloc::{AllocError, Global};
+
+/// The bytes of a header.
+const HEADER: usize = 16;
 
 /// Whether an element is a grant pending: IUC 5 or 6 at the Null's offset.
 fn is_pending(element: MapElement, end: u16) -> bool
@@ -144,4 +151,63 @@ fn header_in(bytes: &[u8]) -> MapHeader
             data_end: bytes[15],
         },
     }
+}
+
+/// The bytes behind the header.
+fn body_of(bytes: &[u8]) -> &[u8]
+    requires { 16 ≤ length bytes.now }
+    ensures { result.now ≡ drop 16 bytes.now }
+{
+    let (_header, body) = bytes.split_at(HEADER);
+    body
+}
+
+/// How many spans the bytes of a MAP say.
+fn count_spans(bytes: &[u8]) -> Result<usize, MapFault>
+    ensures counted { IfOk result (λ _. IsCounted bytes.now) }
+    ensures judged { IfOk result (λ count. judged 0 0 (elements_behind bytes.now) ≡ Ok count) }
+    ensures fault { IfErr result (λ told. (fault : MapFault) → (told ≡ fault) ↔ IsFirstMapFault bytes.now fault) }
+{
+    if bytes.len() < HEADER {
+        return Err(MapFault::Short);
+    }
+    let body = body_of(bytes);
+    if body.len() != 4 * bytes[2] as usize {
+        return Err(MapFault::Count);
+    }
+    judge(body)
+}
+
+/// What the bytes of a MAP with so many spans say.
+fn view_in(alloc: Global, bytes: &[u8], count: usize) -> Result<MapView, AllocError>
+    requires { 16 ≤ length bytes.now }
+    ensures header { IfOk result (λ view. view.header ≡ header_in bytes.now) }
+    ensures spans { IfOk result (λ view. view.spans ≡ spans_in (elements_behind bytes.now)) }
+    ensures pending { IfOk result (λ view. view.pending ≡ pending_in (elements_behind bytes.now)) }
+{
+    let body = body_of(bytes);
+    let behind = behind_null(body);
+    let spans = spans_in(alloc, body, count)?;
+    let pending = sids_in(alloc, behind, behind.len() / 4)?;
+    Ok(MapView {
+        header: header_in(bytes),
+        spans: MapSpans::from_vec(spans),
+        pending: Sids::from_vec(pending),
+    })
+}
+
+/// Reads a MAP of this profile.
+///
+/// Faults: `Short` and `Count` first; then `Backward` or `AfterNull` at the first element at fault, or `NoNull` where none is
+/// at fault and none is the Null. `NoMemory` comes last.
+pub fn read_map(alloc: Global, bytes: &[u8]) -> Result<MapView, MapFault>
+    ensures found { IfOk result (MapReads bytes.now) }
+    ensures only { (view : MapView) → MapReads bytes.now view → IsOkUnlessMemory result view }
+
+    ensures fault { (fault : MapFault) → fault ≢ NoMemory → ((result ≡ Err fault) ↔ IsFirstMapFault bytes.now fault) }
+    ensures memory { result ≡ Err NoMemory → (view : MapView) × MapReads bytes.now view }
+{
+    let count = count_spans(bytes)?;
+    let view = view_in(alloc, bytes, count)?;
+    Ok(view)
 }
