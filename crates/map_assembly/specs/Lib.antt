@@ -1,3 +1,6 @@
 pub mod Element
 pub mod Reading
 pub mod Judging
+pub mod Sorted
+pub mod Map
+pub mod Writing

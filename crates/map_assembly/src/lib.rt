@@ -2,9 +2,12 @@
 #![tactic(auto)]
 
 mod element;
+mod layout;
 mod reading;
 mod view;
+mod writing;
 
 pub use element::MapElement;
+pub use layout::MapLayout;
 pub use reading::read_map;
 pub use view::{MapFault, MapHeader, MapSpan, MapSpans, MapView};
