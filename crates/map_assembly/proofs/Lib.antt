@@ -1,3 +1,4 @@
 pub mod SayLemmas
 pub mod FaultLemmas
 pub mod ReadLemmas
+pub mod BackLemmas
