@@ -4,3 +4,5 @@ pub mod Judging
 pub mod Sorted
 pub mod Map
 pub mod Writing
+pub mod Part
+pub mod Tiled

@@ -4,10 +4,12 @@
 mod element;
 mod layout;
 mod reading;
+mod share;
 mod view;
 mod writing;
 
 pub use element::MapElement;
 pub use layout::MapLayout;
 pub use reading::read_map;
+pub use share::Share;
 pub use view::{MapFault, MapHeader, MapSpan, MapSpans, MapView};
