@@ -3,3 +3,5 @@ pub mod FaultLemmas
 pub mod ReadLemmas
 pub mod BackLemmas
 pub mod TilingLemmas
+pub mod OrderLemmas
+pub mod PartLemmas

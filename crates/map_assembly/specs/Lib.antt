@@ -6,3 +6,4 @@ pub mod Map
 pub mod Writing
 pub mod Part
 pub mod Tiled
+pub mod Plan

@@ -1,10 +1,12 @@
 -- That a MAP gives no minislot twice, and each operator its own (own).
-use Rattle.std.specs.Prelude.{◌≡◌, ℕ, ◌+◌, ◌<◌, ◌≤◌, nat_lt, nat_le, ◌&&◌, Bool, true, List, All, count_by, filter, slice_get, Some}
+use Rattle.std.specs.Prelude.{◌≡◌, ℕ, ◌+◌, ◌<◌, ◌≤◌, nat_lt, nat_le, ◌&&◌, Bool, true, not, ◌==◌, List, map, All, count_by, filter, slice_get, Some}
 use Rattle.admission.specs.Free.{Numbers}
 use Rattle.slice_scheduler.specs.Minislots.{Minislots}
 use Rattle.map_assembly.specs.declared.share.Share.{Share}
 use Rattle.map_assembly.specs.declared.view.MapSpan.{MapSpan}
 use Rattle.map_assembly.specs.declared.view.MapView.{MapView}
+use Rattle.slice_scheduler.specs.declared.elements.ElementsFields.{ElementsFields}
+use Rattle.map_assembly.specs.Map.{map_span}
 use Rattle.map_assembly.specs.Part.{is_within}
 
 -- the minislot is one of the span
@@ -40,3 +42,7 @@ pub record MapPart : Type 0 where
 -- the spans and the grants pending with a SID of the range
 abbrev pub part_of : Numbers → MapView → MapPart
 part_of range view = record { spans = filter (λ span. is_within range span.sid) view.spans; pending = filter (λ sid. is_within range sid) view.pending }
+
+-- what an operator put, as its part of the MAP: the spans with a SID, and the grants pending with one
+abbrev pub own_part : ElementsFields → MapPart
+own_part part = record { spans = map map_span (filter (λ span. not (span.sid == 0)) part.spans); pending = filter (λ sid. not (sid == 0)) part.pending }
