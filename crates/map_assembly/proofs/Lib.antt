@@ -5,3 +5,4 @@ pub mod BackLemmas
 pub mod TilingLemmas
 pub mod OrderLemmas
 pub mod PartLemmas
+pub mod OwnLemmas
