@@ -6,3 +6,4 @@ pub mod TilingLemmas
 pub mod OrderLemmas
 pub mod PartLemmas
 pub mod OwnLemmas
+pub mod MapLemmas
