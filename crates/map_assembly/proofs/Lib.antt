@@ -7,3 +7,4 @@ pub mod OrderLemmas
 pub mod PartLemmas
 pub mod OwnLemmas
 pub mod MapLemmas
+pub mod SortLemmas

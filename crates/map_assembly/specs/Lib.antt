@@ -7,3 +7,4 @@ pub mod Writing
 pub mod Part
 pub mod Tiled
 pub mod Plan
+pub mod Gathering

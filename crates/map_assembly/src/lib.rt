@@ -3,13 +3,18 @@
 
 mod element;
 mod layout;
+mod queue;
 mod reading;
+mod refused;
 mod share;
+mod slicing;
 mod view;
 mod writing;
 
 pub use element::MapElement;
 pub use layout::MapLayout;
 pub use reading::read_map;
+pub use refused::{GatherFault, Refused};
 pub use share::Share;
+pub use slicing::{Reslicing, Slicing};
 pub use view::{MapFault, MapHeader, MapSpan, MapSpans, MapView};
