@@ -8,3 +8,4 @@ pub mod Part
 pub mod Tiled
 pub mod Plan
 pub mod Gathering
+pub mod Assembled

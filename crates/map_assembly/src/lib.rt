@@ -1,8 +1,10 @@
 //! The MAP of a frame: put together of the operators' parts, and read (CM-SP-MULPIv3.1, 6.4.4; the layout is own).
 #![tactic(auto)]
 
+mod assembling;
 mod element;
 mod layout;
+mod map_bytes;
 mod queue;
 mod reading;
 mod refused;
@@ -13,6 +15,7 @@ mod writing;
 
 pub use element::MapElement;
 pub use layout::MapLayout;
+pub use map_bytes::MapBytes;
 pub use reading::read_map;
 pub use refused::{GatherFault, Refused};
 pub use share::Share;
