@@ -8,3 +8,5 @@ pub mod PartLemmas
 pub mod OwnLemmas
 pub mod MapLemmas
 pub mod SortLemmas
+pub mod LastLemmas
+pub mod StateLemmas

@@ -3,6 +3,7 @@
 
 mod assembling;
 mod element;
+mod gather;
 mod layout;
 mod map_bytes;
 mod queue;
@@ -14,6 +15,7 @@ mod view;
 mod writing;
 
 pub use element::MapElement;
+pub use gather::Gather;
 pub use layout::MapLayout;
 pub use map_bytes::MapBytes;
 pub use reading::read_map;

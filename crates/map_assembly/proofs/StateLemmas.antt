@@ -1,0 +1,252 @@
+-- What is gathered stays as it always is.
+use Rattle.std.proofs.Common.{◌≡◌, ◌≢◌, ℕ, zero, suc, ◌-◌, ◌+◌, ◌<◌, ◌≤◌, List, [], ◌∷◌, ◌++◌, length, map, take, drop, get_or, reverse, Bool, true, false, not, cond, ◌&&◌, ◌⊎◌, inl, inr, refl, sym, ap, ◌∙◌, subst, arith, ltb, leb, eqb, Option, Some, None}
+use Rattle.std.specs.List.{AllByRecursion, All, list_all, slice_get, slice_set, slice_index_or, filter_map, find}
+use Rattle.std.specs.Option.{option_map}
+use Rattle.std.proofs.lemmas.List.{length-set, length-map, reverse-append, set-get_or}
+use Rattle.std.proofs.lemmas.List.Elements.{recursion_from_All, All-push}
+use Rattle.std.proofs.lemmas.Option.{same_Some, slice_get-get_or, slice_get-map, slice_get_within}
+use Rattle.std.proofs.lemmas.Bool.{and_parts, both_ways, cases_eq, cases_Bool, cases_lt, leb-true, leb-false, ltb-true, ltb-false, lt-leb, cond-false}
+use Rattle.slice_scheduler.specs.Minislots.{Minislots}
+use Rattle.slice_scheduler.specs.Tiles.{IsTiled}
+use Rattle.slice_scheduler.specs.declared.elements.ElementsFields.{ElementsFields}
+use Rattle.map_assembly.specs.declared.layout.MapLayout.{MapLayout}
+use Rattle.map_assembly.specs.declared.share.Share.{Share}
+use Rattle.map_assembly.specs.declared.slicing.Reslicing.{Reslicing}
+use Rattle.map_assembly.specs.declared.refused.GatherFault.{GatherFault}
+use Rattle.map_assembly.specs.declared.refused.GatherFault.TheVariants.{Stranger, Old, PutTwice, Early, WrongSlice}
+use Rattle.map_assembly.specs.Part.{is_fitting, IsPartOf, ArePartsOf}
+use Rattle.map_assembly.specs.Plan.{AreSlices, IsInFrame}
+use Rattle.map_assembly.specs.Gathering.{Gathering, slices_or, slices_at, frame_slices, queue_of, next_of, fits_at, is_part, put_fault, with_part, is_whole, fronts, is_last, frame_parts, after_put, IsPartAt, AreQueued, AreAllQueued, IsGathering}
+use Rattle.map_assembly.proofs.LastLemmas.{empty_before_last, length-fronts}
+use Rattle.map_assembly.proofs.MapLemmas.{AreFrame}
+
+-- ---- a part that is not refused
+
+pub record IsPut (g : Gathering) (op frame : ℕ) (part : ElementsFields) : Type 0 where
+  pub op_is : op < length g.shares
+  pub frame_is : frame ≡ next_of g op
+  pub part_is : is_part g op frame part ≡ true
+
+no_fault : (f : GatherFault) (o : Option GatherFault) → o ≡ Some f → o ≡ None → ⊥
+no_fault f o p q = cc
+
+pub is_put : (g : Gathering) (op frame : ℕ) (part : ElementsFields) → put_fault g op frame part ≡ None → IsPut g op frame part
+is_put g op frame part h = by (leb (length g.shares) op) (ltb frame g.next) (ltb frame (next_of g op)) (ltb (next_of g op) frame) (is_part g op frame part) refl refl refl refl refl
+  where
+    by : (a b c d e : Bool) → leb (length g.shares) op ≡ a → ltb frame g.next ≡ b → ltb frame (next_of g op) ≡ c → ltb (next_of g op) frame ≡ d → is_part g op frame part ≡ e → IsPut g op frame part
+    by true b c d e p q r s t = absurd (no_fault Stranger (put_fault g op frame part) (rw p) h)
+    by false true c d e p q r s t = absurd (no_fault (Old frame) (put_fault g op frame part) (rw (p, q)) h)
+    by false false true d e p q r s t = absurd (no_fault PutTwice (put_fault g op frame part) (rw (p, q, r)) h)
+    by false false false true e p q r s t = absurd (no_fault (Early frame) (put_fault g op frame part) (rw (p, q, r, s)) h)
+    by false false false false false p q r s t = absurd (no_fault WrongSlice (put_fault g op frame part) (rw (p, q, r, s, t)) h)
+    by false false false false true p q r s t = record {
+      op_is = leb-false (length g.shares) op p;
+      frame_is = omega (arith, ltb-false frame (next_of g op) r, ltb-false (next_of g op) frame s);
+      part_is = t;
+    }
+
+part_at_fits : (share : Share) (o : Option Share) (m : Option Minislots) (part : ElementsFields) → o ≡ Some share → fits_at o m part ≡ true → IsTiled part → IsPartAt m share part
+part_at_fits share None m part e h t = absurd (cc)
+part_at_fits share (Some s) None part e h t = let wrong : false ≡ true = h in absurd (cc)
+part_at_fits share (Some s) (Some m) part e h t = record {
+  minislots = m;
+  slice_is = refl;
+  part_is = record { fits = subst (λ (x : Share). is_fitting x m part ≡ true) (same_Some s share e) h; tiled = t };
+}
+
+-- ---- lists of queues
+
+get-set_other : {X : Type 0} (xs : List X) (i k : ℕ) (x : X) → (k ≡ i → ⊥) → slice_get (slice_set xs i x) k ≡ slice_get xs k
+get-set_other [] i k x ne = refl
+get-set_other (y ∷ ys) zero zero x ne = absurd (ne refl)
+get-set_other (y ∷ ys) zero (suc k) x ne = refl
+get-set_other (y ∷ ys) (suc i) zero x ne = refl
+get-set_other (y ∷ ys) (suc i) (suc k) x ne = get-set_other ys i k x (λ e. ne (ap suc e))
+
+get-set_same : {X : Type 0} (xs : List X) (i : ℕ) (x : X) → i < length xs → slice_get (slice_set xs i x) i ≡ Some x
+get-set_same [] i x lt = absurd (omega arith)
+get-set_same (y ∷ ys) zero x lt = refl
+get-set_same (y ∷ ys) (suc i) x lt = get-set_same ys i x (omega arith)
+
+queued-push : (slice_at : ℕ → Option Minislots) (share : Share) (n : ℕ) (queue : List ElementsFields) (part : ElementsFields) → AreQueued slice_at share n queue → IsPartAt (slice_at (n + length queue)) share part
+    → AreQueued slice_at share n (queue ++ part ∷ [])
+queued-push slice_at share n [] part h p = let e : n + 0 ≡ n = omega arith in (subst (λ (m : ℕ). IsPartAt (slice_at m) share part) e p, tt)
+queued-push slice_at share n (q ∷ queue) part h p =
+    let e : n + suc (length queue) ≡ n + 1 + length queue = omega arith in
+    (h.0, queued-push slice_at share (n + 1) queue part h.1 (subst (λ (m : ℕ). IsPartAt (slice_at m) share part) e p))
+
+queued-drop : (slice_at : ℕ → Option Minislots) (share : Share) (n : ℕ) (queue : List ElementsFields) → AreQueued slice_at share n queue → AreQueued slice_at share (n + 1) (drop 1 queue)
+queued-drop slice_at share n [] h = tt
+queued-drop slice_at share n (q ∷ queue) h = h.1
+
+abbrev slice_for : Gathering → ℕ → ℕ → Option Minislots
+slice_for g k n = slice_get (frame_slices g n) k
+
+-- one part more
+with_part_queued : (g : Gathering) (op frame : ℕ) (part : ElementsFields) → IsGathering g → IsPut g op frame part → IsTiled part → AreAllQueued g.slices g.reslicings g.shares (with_part g.queues op part) g.next
+with_part_queued g op frame part is put tiled k share queue e f = by (cases_eq k op)
+  where
+    by : (k ≡ op) ⊎ (k ≡ op → ⊥) → AreQueued (slice_for g k) share g.next queue
+    by (inl same) =
+        let within : op < length g.queues = omega (arith, is.one_each, put.op_is) in
+        let there : slice_get g.queues k ≡ Some (queue_of g.queues op) =
+            ap (λ (i : ℕ). slice_get g.queues i) same ∙ slice_get-get_or g.queues op [] within in
+        let new : queue_of g.queues op ++ part ∷ [] ≡ queue =
+            same_Some (queue_of g.queues op ++ part ∷ []) queue (sym (get-set_same g.queues op (queue_of g.queues op ++ part ∷ []) within) ∙ (ap (λ (i : ℕ). slice_get (with_part g.queues op part) i) (sym same) ∙ f)) in
+        let share_is : slice_get g.shares op ≡ Some share = ap (λ (i : ℕ). slice_get g.shares i) (sym same) ∙ e in
+        let here : IsPartAt (slice_for g op frame) share part = part_at_fits share (slice_get g.shares op) (slice_for g op frame) part share_is put.part_is tiled in
+        let moved : IsPartAt (slice_for g k (g.next + length (queue_of g.queues op))) share part =
+            subst (λ (i : ℕ). IsPartAt (slice_for g i (g.next + length (queue_of g.queues op))) share part) (sym same)
+            (subst (λ (n : ℕ). IsPartAt (slice_for g op n) share part) put.frame_is here) in
+        subst (λ (q : List ElementsFields). AreQueued (slice_for g k) share g.next q) new
+        (queued-push (slice_for g k) share g.next (queue_of g.queues op) part (is.queued k share (queue_of g.queues op) e there) moved)
+    by (inr other) = is.queued k share queue e (sym (get-set_other g.queues op k (queue_of g.queues op ++ part ∷ []) other) ∙ f)
+
+dropped_queued : (slices : List Minislots) (reslicings : List Reslicing) (shares : List Share) (queues : List (List ElementsFields)) (next : ℕ) → AreAllQueued slices reslicings shares queues next
+    → AreAllQueued slices reslicings shares (map (λ (queue : List ElementsFields). drop 1 queue) queues) (next + 1)
+dropped_queued slices reslicings shares queues next h k share queue e f = by (slice_get queues k) refl
+  where
+    by : (o : Option (List ElementsFields)) → slice_get queues k ≡ o → AreQueued (λ n. slice_get (slices_at slices reslicings n) k) share (next + 1) queue
+    by None g =
+        let wrong : None ≡ Some queue = sym (slice_get-map (λ (q : List ElementsFields). drop 1 q) queues k ∙ ap (λ (o : Option (List ElementsFields)). option_map (λ (q : List ElementsFields). drop 1 q) o) g) ∙ f in
+        absurd (cc)
+    by (Some q) g =
+        let same : Some (drop 1 q) ≡ Some queue = sym (slice_get-map (λ (x : List ElementsFields). drop 1 x) queues k ∙ ap (λ (o : Option (List ElementsFields)). option_map (λ (x : List ElementsFields). drop 1 x) o) g) ∙ f in
+        subst (λ (x : List ElementsFields). AreQueued (λ n. slice_get (slices_at slices reslicings n) k) share (next + 1) x) (same_Some (drop 1 q) queue same)
+        (queued-drop (λ n. slice_get (slices_at slices reslicings n) k) share next q (h k share q e g))
+
+-- ---- a part is kept
+
+pub kept : (g : Gathering) (op frame : ℕ) (part : ElementsFields) → IsGathering g → put_fault g op frame part ≡ None → IsTiled part → is_last g op part ≡ false → IsGathering (record g { queues = with_part g.queues op part })
+kept g op frame part is put tiled waits = record {
+  layout_is = is.layout_is;
+  shares_are = is.shares_are;
+  slices_are = is.slices_are;
+  reslicings_are = is.reslicings_are;
+  one_each = length-set g.queues op (queue_of g.queues op ++ part ∷ []) ∙ is.one_each;
+  waiting = waits;
+  started = is.started;
+  queued = with_part_queued g op frame part is (is_put g op frame part put) tiled;
+}
+
+-- ---- a frame is made
+
+empty_waits : (queues : List (List ElementsFields)) (op : ℕ) → op < length queues → queue_of queues op ≡ [] → is_whole (map (λ (queue : List ElementsFields). drop 1 queue) queues) ≡ false
+empty_waits [] op lt e = absurd (omega arith)
+empty_waits (q ∷ queues) zero lt e = ap (λ (x : List ElementsFields). ltb 0 (length (drop 1 x)) && is_whole (map (λ (queue : List ElementsFields). drop 1 queue) queues)) e
+empty_waits (q ∷ queues) (suc op) lt e =
+    ap (λ (b : Bool). ltb 0 (length (drop 1 q)) && b) (empty_waits queues op (omega arith) e) ∙ and_false (ltb 0 (length (drop 1 q)))
+  where
+    and_false : (b : Bool) → (b && false) ≡ false
+    and_false true = refl
+    and_false false = refl
+
+pub last_is_first : (g : Gathering) (op : ℕ) (part : ElementsFields) → IsGathering g → op < length g.shares → is_last g op part ≡ true → queue_of g.queues op ≡ []
+last_is_first g op part is lt whole = empty_before_last g.queues op part (omega (arith, is.one_each)) is.waiting whole
+
+dropped_with : (queues : List (List ElementsFields)) (op : ℕ) (part : ElementsFields) → op < length queues → queue_of queues op ≡ [] → map (λ (queue : List ElementsFields). drop 1 queue) (with_part queues op part) ≡ map (λ (queue : List ElementsFields). drop 1 queue) queues
+dropped_with [] op part lt e = absurd (omega arith)
+dropped_with (q ∷ queues) zero part lt e =
+    ap (λ (x : List ElementsFields). drop 1 (x ++ part ∷ []) ∷ map (λ (queue : List ElementsFields). drop 1 queue) queues) e
+    ∙ ap (λ (x : List ElementsFields). drop 1 x ∷ map (λ (queue : List ElementsFields). drop 1 queue) queues) (sym e)
+dropped_with (q ∷ queues) (suc op) part lt e = ap (λ (xs : List (List ElementsFields)). drop 1 q ∷ xs) (dropped_with queues op part (omega arith) e)
+
+pub made : (g : Gathering) (op frame : ℕ) (part : ElementsFields) → IsGathering g → put_fault g op frame part ≡ None → is_last g op part ≡ true
+    → IsGathering (record g { queues = map (λ (queue : List ElementsFields). drop 1 queue) g.queues; next = g.next + 1 })
+made g op frame part is put whole =
+    let at : op < length g.shares = (is_put g op frame part put).op_is in
+    record {
+      layout_is = is.layout_is;
+      shares_are = is.shares_are;
+      slices_are = is.slices_are;
+      reslicings_are = is.reslicings_are;
+      one_each = length-map g.queues (λ (queue : List ElementsFields). drop 1 queue) ∙ is.one_each;
+      waiting = empty_waits g.queues op (omega (arith, is.one_each)) (last_is_first g op part is at whole);
+      started = omega (arith, is.started);
+      queued = dropped_queued g.slices g.reslicings g.shares g.queues g.next is.queued;
+    }
+
+pub after_last : (g : Gathering) (op frame : ℕ) (part : ElementsFields) → IsGathering g → put_fault g op frame part ≡ None → is_last g op part ≡ true
+    → record g { queues = map (λ (queue : List ElementsFields). drop 1 queue) g.queues; next = g.next + 1 } ≡ after_put g op part
+after_last g op frame part is put whole =
+    let at : op < length g.shares = (is_put g op frame part put).op_is in
+    sym (ap (λ (b : Bool). cond b (record g { queues = map (λ (queue : List ElementsFields). drop 1 queue) (with_part g.queues op part); next = g.next + 1 }) (record g { queues = with_part g.queues op part })) whole
+    ∙ ap (λ (qs : List (List ElementsFields)). let h : Gathering = record g { queues = qs; next = g.next + 1 } in h) (dropped_with g.queues op part (omega (arith, is.one_each)) (last_is_first g op part is at whole)))
+
+pub after_other : (g : Gathering) (op : ℕ) (part : ElementsFields) → is_last g op part ≡ false → record g { queues = with_part g.queues op part } ≡ after_put g op part
+after_other g op part waits =
+    sym (ap (λ (b : Bool). cond b (record g { queues = map (λ (queue : List ElementsFields). drop 1 queue) (with_part g.queues op part); next = g.next + 1 }) (record g { queues = with_part g.queues op part })) waits)
+
+-- ---- the slices of a frame are valid
+
+all-append : {X : Type 0} (P : X → Type 0) (xs ys : List X) → AllByRecursion P xs → AllByRecursion P ys → AllByRecursion P (xs ++ ys)
+all-append P [] ys p q = q
+all-append P (x ∷ xs) ys p q = (p.0, all-append P xs ys p.1 q)
+
+all-reverse : {X : Type 0} (P : X → Type 0) (xs : List X) → AllByRecursion P xs → AllByRecursion P (reverse xs)
+all-reverse P [] h = tt
+all-reverse {X} P (x ∷ xs) h =
+    let e : reverse (x ∷ xs) ≡ reverse xs ++ x ∷ [] = reverse-append (x ∷ []) xs in
+    subst (λ (ys : List X). AllByRecursion P ys) (sym e) (all-append P (reverse xs) (x ∷ []) (all-reverse P xs h.1) (h.0, tt))
+
+all-find : {X : Type 0} (P : X → Type 0) (t : X → Bool) (xs : List X) (x : X) → AllByRecursion P xs → find t xs ≡ Some x → P x
+all-find P t [] x h e = absurd (cc)
+all-find {X} P t (y ∷ ys) x h e = by (t y) refl (λ f. all-find P t ys x h.1 f)
+  where
+    by : (b : Bool) → t y ≡ b → (find t ys ≡ Some x → P x) → P x
+    by true p more = let same : Some y ≡ Some x = rw p at e in subst P (same_Some y x same) h.0
+    by false p more = more (rw p at e)
+
+pub slices_valid : (layout : MapLayout) (count : ℕ) (slices : List Minislots) (reslicings : List Reslicing) (frame : ℕ) → AreSlices layout count slices → All (λ r. AreSlices layout count r.slicing) reslicings
+    → AreSlices layout count (slices_at slices reslicings frame)
+slices_valid layout count slices reslicings frame first later = by (find (λ (r : Reslicing). leb r.from frame) (reverse reslicings)) refl
+  where
+    by : (o : Option Reslicing) → find (λ (r : Reslicing). leb r.from frame) (reverse reslicings) ≡ o → AreSlices layout count (slices_or slices o)
+    by None e = first
+    by (Some r) e =
+        all-find (λ (x : Reslicing). AreSlices layout count x.slicing) (λ (x : Reslicing). leb x.from frame) (reverse reslicings) r
+        (all-reverse (λ (x : Reslicing). AreSlices layout count x.slicing) reslicings (recursion_from_All (λ (x : Reslicing). AreSlices layout count x.slicing) reslicings later)) e
+
+-- ---- the parts of the next frame
+
+abbrev IsFrontOf : Option Minislots → Share → List ElementsFields → Type 0
+IsFrontOf m share [] = Unit {0}
+IsFrontOf m share (part ∷ parts) = IsPartAt m share part
+
+front_queued : (slice_at : ℕ → Option Minislots) (share : Share) (n : ℕ) (queue : List ElementsFields) → AreQueued slice_at share n queue → IsFrontOf (slice_at n) share queue
+front_queued slice_at share n [] h = tt
+front_queued slice_at share n (q ∷ queue) h = h.0
+
+part_of_front : (m : Minislots) (share : Share) (part : ElementsFields) → IsPartAt (Some m) share part → IsPartOf share m part
+part_of_front m share part h = subst (λ (x : Minislots). IsPartOf share x part) (sym (same_Some m h.minislots h.slice_is)) h.part_is
+
+fronts_are : (shares : List Share) (slices : List Minislots) (queues : List (List ElementsFields)) → length slices ≡ length shares → length queues ≡ length shares → is_whole queues ≡ true
+    → ((k : ℕ) (share : Share) (queue : List ElementsFields) → slice_get shares k ≡ Some share → slice_get queues k ≡ Some queue → IsFrontOf (slice_get slices k) share queue)
+    → ArePartsOf shares slices (fronts queues)
+fronts_are [] [] [] a b whole h = tt
+fronts_are [] [] (q ∷ queues) a b whole h = absurd (omega arith)
+fronts_are [] (m ∷ slices) queues a b whole h = absurd (omega arith)
+fronts_are (s ∷ shares) [] queues a b whole h = absurd (omega arith)
+fronts_are (s ∷ shares) (m ∷ slices) [] a b whole h = absurd (omega arith)
+fronts_are (s ∷ shares) (m ∷ slices) ([] ∷ queues) a b whole h = let wrong : false ≡ true = whole in absurd (cc)
+fronts_are (s ∷ shares) (m ∷ slices) ((p ∷ ps) ∷ queues) a b whole h =
+    (part_of_front m s p (h 0 s (p ∷ ps) refl refl),
+     fronts_are shares slices queues (omega arith) (omega arith) (and_parts (ltb 0 (length (p ∷ ps))) (is_whole queues) whole).1 (λ k share queue e f. h (suc k) share queue e f))
+
+pub frame_is_whole : (g : Gathering) (op frame : ℕ) (part : ElementsFields) → IsGathering g → put_fault g op frame part ≡ None → IsTiled part → is_last g op part ≡ true
+    → AreFrame g.layout g.shares (frame_slices g g.next) (frame_parts g op part)
+frame_is_whole g op frame part is put tiled whole =
+    let valid : AreSlices g.layout (length g.shares) (frame_slices g g.next) = slices_valid g.layout (length g.shares) g.slices g.reslicings g.next is.slices_are is.reslicings_are in
+    record {
+      layout_is = is.layout_is;
+      shares_are = is.shares_are;
+      slices_are = valid;
+      parts_are = fronts_are g.shares (frame_slices g g.next) (with_part g.queues op part) valid.one_each
+          (length-set g.queues op (queue_of g.queues op ++ part ∷ []) ∙ is.one_each) whole
+          (λ k share queue e f. front_queued (slice_for g k) share g.next queue (with_part_queued g op frame part is (is_put g op frame part put) tiled k share queue e f));
+    }
+
+pub last_frame : (g : Gathering) (op frame : ℕ) (part : ElementsFields) → IsGathering g → put_fault g op frame part ≡ None → is_last g op part ≡ true → frame ≡ g.next
+last_frame g op frame part is put whole =
+    let h : IsPut g op frame part = is_put g op frame part put in
+    omega (arith, h.frame_is, ap length (last_is_first g op part is h.op_is whole))
