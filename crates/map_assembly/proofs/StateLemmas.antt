@@ -2,7 +2,7 @@
 use Rattle.std.proofs.Common.{◌≡◌, ◌≢◌, ℕ, zero, suc, ◌-◌, ◌+◌, ◌<◌, ◌≤◌, List, [], ◌∷◌, ◌++◌, length, map, take, drop, get_or, reverse, Bool, true, false, not, cond, ◌&&◌, ◌⊎◌, inl, inr, refl, sym, ap, ◌∙◌, subst, arith, ltb, leb, eqb, Option, Some, None}
 use Rattle.std.specs.List.{AllByRecursion, All, list_all, slice_get, slice_set, slice_index_or, filter_map, find}
 use Rattle.std.specs.Option.{option_map}
-use Rattle.std.proofs.lemmas.List.{length-set, length-map, reverse-append, set-get_or}
+use Rattle.std.proofs.lemmas.List.{length-set, length-map, reverse-append, take_at}
 use Rattle.std.proofs.lemmas.List.Elements.{recursion_from_All, All-push}
 use Rattle.std.proofs.lemmas.Option.{same_Some, slice_get-get_or, slice_get-map, slice_get_within}
 use Rattle.std.proofs.lemmas.Bool.{and_parts, both_ways, cases_eq, cases_Bool, cases_lt, leb-true, leb-false, ltb-true, ltb-false, lt-leb, cond-false}
@@ -250,3 +250,33 @@ pub last_frame : (g : Gathering) (op frame : ℕ) (part : ElementsFields) → Is
 last_frame g op frame part is put whole =
     let h : IsPut g op frame part = is_put g op frame part put in
     omega (arith, h.frame_is, ap length (last_is_first g op part is h.op_is whole))
+
+-- ---- the same of a value that is seen as another
+
+pub kept_is : (g now : Gathering) (op frame : ℕ) (part : ElementsFields) (queues : List (List ElementsFields)) → g ≡ now → IsGathering g → put_fault now op frame part ≡ None → IsTiled part → is_last now op part ≡ false
+    → queues ≡ with_part g.queues op part → IsGathering (record g { queues = queues })
+kept_is g now op frame part queues e is put tiled waits same =
+    subst (λ (qs : List (List ElementsFields)). IsGathering (record g { queues = qs })) (sym same)
+    (kept g op frame part is (subst (λ (h : Gathering). put_fault h op frame part ≡ None) (sym e) put) tiled (subst (λ (h : Gathering). is_last h op part ≡ false) (sym e) waits))
+
+pub dropped_items : (items new : List (List ElementsFields)) (len : ℕ) → len ≡ length items → new ≡ map (λ (queue : List ElementsFields). drop 1 queue) items
+    → take len (new ++ drop (length new) items) ≡ map (λ (queue : List ElementsFields). drop 1 queue) items
+dropped_items items new len e f =
+    take_at new (drop (length new) items) len (omega (arith, e, ap length f, length-map items (λ (queue : List ElementsFields). drop 1 queue))) ∙ f
+
+pub made_is : (g now : Gathering) (op frame : ℕ) (part : ElementsFields) (queues : List (List ElementsFields)) → g ≡ now → IsGathering g → put_fault now op frame part ≡ None → is_last now op part ≡ true
+    → queues ≡ map (λ (queue : List ElementsFields). drop 1 queue) g.queues → IsGathering (record g { queues = queues; next = frame + 1 })
+made_is g now op frame part queues e is put whole same =
+    let put' : put_fault g op frame part ≡ None = subst (λ (h : Gathering). put_fault h op frame part ≡ None) (sym e) put in
+    let whole' : is_last g op part ≡ true = subst (λ (h : Gathering). is_last h op part ≡ true) (sym e) whole in
+    subst (λ (n : ℕ). IsGathering (record g { queues = queues; next = n + 1 })) (sym (last_frame g op frame part is put' whole'))
+    (subst (λ (qs : List (List ElementsFields)). IsGathering (record g { queues = qs; next = g.next + 1 })) (sym same) (made g op frame part is put' whole'))
+
+pub made_view : (g now : Gathering) (op frame : ℕ) (part : ElementsFields) (queues : List (List ElementsFields)) → g ≡ now → IsGathering g → put_fault now op frame part ≡ None → is_last now op part ≡ true
+    → queues ≡ map (λ (queue : List ElementsFields). drop 1 queue) g.queues → record g { queues = queues; next = frame + 1 } ≡ after_put now op part
+made_view g now op frame part queues e is put whole same =
+    let put' : put_fault g op frame part ≡ None = subst (λ (h : Gathering). put_fault h op frame part ≡ None) (sym e) put in
+    let whole' : is_last g op part ≡ true = subst (λ (h : Gathering). is_last h op part ≡ true) (sym e) whole in
+    ap (λ (qs : List (List ElementsFields)). let h : Gathering = record g { queues = qs; next = frame + 1 } in h) same
+    ∙ (ap (λ (n : ℕ). let h : Gathering = record g { queues = map (λ (queue : List ElementsFields). drop 1 queue) g.queues; next = n + 1 } in h) (last_frame g op frame part is put' whole')
+    ∙ (after_last g op frame part is put' whole' ∙ ap (λ (h : Gathering). after_put h op part) e))

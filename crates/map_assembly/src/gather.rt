@@ -108,4 +108,101 @@ impl Gather {
             Some(GatherFault::WrongSlice)
         }
     }
+
+    /// Keeps a part that is not the last one of its frame. Where no memory is left, hands it back, and nothing has changed.
+    fn keep(&mut self, op: Op, frame: u32, elements: Elements) -> Result<(), Elements>
+        requires put { put_fault self.old op frame elements ≡ None }
+        requires waits { is_last self.old op elements ≡ false }
+        ensures ok { OnOk result (self.new ≡ after_put self.old op elements) }
+        ensures err { IfErr result (λ back. (back ≡ elements) × (self.new ≡ self.old)) }
+    {
+        elements.kept();
+        let queue = &mut self.queues[op];
+        match queue.push(elements) {
+            Ok(()) => Ok(()),
+            Err(elements) => Err(elements),
+        }
+    }
+
+    /// The bytes of the MAP whose last part is this one.
+    fn map_of(
+        &self,
+        alloc: Global,
+        op: Op,
+        frame: u32,
+        part: &Elements,
+    ) -> Result<Vec<u8>, AllocError>
+        requires put { put_fault self.now op frame part.now ≡ None }
+        requires last { is_last self.now op part.now ≡ true }
+        ensures { IfOk result (λ bytes. IsMapOf self.now.layout frame self.now.shares (frame_slices self.now frame) (frame_parts self.now op part.now) bytes.items) }
+    {
+        part.kept();
+        let slicing = slices_at(&self.slices, self.reslicings.as_slice(), frame);
+        let queues = self.queues.as_slice();
+        map_bytes(alloc, self.layout, frame, slicing.order(), queues, op, part)
+    }
+
+    /// Takes the parts of a frame out once its MAP is made, whose last part is this one.
+    fn finish(&mut self, op: Op, frame: u32, part: &Elements)
+        requires put { put_fault self.old op frame part.now ≡ None }
+        requires last { is_last self.old op part.now ≡ true }
+        ensures { self.new ≡ after_put self.old op part.now }
+    {
+        drop_fronts(self.queues.as_mut_slice());
+        self.next = frame as u64 + 1;
+    }
+
+    /// Whether a part of this operator is the last one of its frame.
+    fn is_last(&self, op: Op) -> bool
+        requires { op < length self.now.shares }
+        ensures { (part : ElementsFields) → result ≡ is_last self.now op part }
+    {
+        is_last(self.queues.as_slice(), op)
+    }
+
+    /// Puts an operator's part of a frame. The last part of a frame gives its MAP; each other one nothing.
+    ///
+    /// Faults, in this order: `Stranger`, `Old`, `PutTwice`, `Early`, `WrongSlice`, `NoMemory`. Each hands the elements back,
+    /// and nothing has changed.
+    pub fn put(
+        &mut self,
+        alloc: Global,
+        op: Op,
+        frame: u32,
+        elements: Elements,
+    ) -> Result<Option<MapBytes>, Refused>
+        ensures state { OnOk result (self.new ≡ after_put self.old op elements) }
+        ensures map { IfOk result (IsAnswer self.old op frame elements) }
+
+        ensures fault { (fault : GatherFault) → fault ≢ NoMemory → ((result ≡ Err (record { fault = fault; elements = elements })) ↔ (put_fault self.old op frame elements ≡ Some fault)) }
+        ensures refused { IfErr result (λ refused. refused.elements ≡ elements) }
+        ensures memory { IfErr result (λ refused. refused.fault ≡ NoMemory → put_fault self.old op frame elements ≡ None) }
+        ensures err { OnErr result (self.new ≡ self.old) }
+    {
+        if let Some(fault) = self.fault_of(op, frame, &elements) {
+            return Err(Refused { fault, elements });
+        }
+        if !self.is_last(op) {
+            return match self.keep(op, frame, elements) {
+                Ok(()) => Ok(None),
+                Err(elements) => Err(Refused {
+                    fault: GatherFault::NoMemory,
+                    elements,
+                }),
+            };
+        }
+        match self.map_of(alloc, op, frame, &elements) {
+            Ok(bytes) => {
+                self.finish(op, frame, &elements);
+                Ok(Some(MapBytes {
+                    frame,
+                    bytes: Bytes::from_vec(bytes),
+                }))
+            }
+            Err(_) => Err(Refused {
+                fault: GatherFault::NoMemory,
+                elements,
+            }),
+        }
+    }
 }
