@@ -2,8 +2,8 @@
 use Rattle.std.proofs.Common.{◌≡◌, ◌≢◌, ℕ, zero, suc, ◌-◌, ◌+◌, ◌<◌, ◌≤◌, List, [], ◌∷◌, ◌++◌, length, map, take, drop, get_or, reverse, Bool, true, false, not, cond, ◌&&◌, ◌⊎◌, inl, inr, refl, sym, ap, ◌∙◌, subst, arith, ltb, leb, eqb, Option, Some, None}
 use Rattle.std.specs.List.{AllByRecursion, All, list_all, slice_get, slice_set, slice_index_or, filter_map, find}
 use Rattle.std.specs.Option.{option_map}
-use Rattle.std.proofs.lemmas.List.{length-set, length-map, reverse-append, take_at}
-use Rattle.std.proofs.lemmas.List.Elements.{recursion_from_All, All-push}
+use Rattle.std.proofs.lemmas.List.{length-set, length-map, reverse-append, take_at, set-get_or, get_or_default}
+use Rattle.std.proofs.lemmas.List.Elements.{recursion_from_All, All-from_recursion, All-push}
 use Rattle.std.proofs.lemmas.Option.{same_Some, slice_get-get_or, slice_get-map, slice_get_within}
 use Rattle.std.proofs.lemmas.Bool.{and_parts, both_ways, cases_eq, cases_Bool, cases_lt, leb-true, leb-false, ltb-true, ltb-false, lt-leb, cond-false}
 use Rattle.slice_scheduler.specs.Minislots.{Minislots}
@@ -18,7 +18,17 @@ use Rattle.map_assembly.specs.Part.{is_fitting, IsPartOf, ArePartsOf}
 use Rattle.map_assembly.specs.Plan.{AreSlices, IsInFrame}
 use Rattle.map_assembly.specs.Gathering.{Gathering, slices_or, slices_at, frame_slices, queue_of, next_of, fits_at, is_part, put_fault, with_part, is_whole, fronts, is_last, frame_parts, after_put, IsPartAt, AreQueued, AreAllQueued, IsGathering}
 use Rattle.map_assembly.proofs.LastLemmas.{empty_before_last, length-fronts}
-use Rattle.map_assembly.proofs.MapLemmas.{AreFrame}
+use Rattle.map_assembly.specs.declared.element.MapElement.{MapElement}
+use Rattle.map_assembly.specs.Element.{FitsElement}
+use Rattle.map_assembly.specs.Reading.{MapReads}
+use Rattle.map_assembly.specs.Sorted.{order_of}
+use Rattle.map_assembly.specs.Map.{in_order, map_of, map_spans, map_pending, map_header, elements_of_map}
+use Rattle.map_assembly.specs.Writing.{spelled_map}
+use Rattle.map_assembly.specs.Gathering.{part_at}
+use Rattle.map_assembly.specs.Assembled.{IsMapOf, ordered_elements}
+use Rattle.map_assembly.proofs.LastLemmas.{part_at_is, ordered_parts}
+use Rattle.map_assembly.proofs.PartLemmas.{slices_of_parts}
+use Rattle.map_assembly.proofs.MapLemmas.{AreFrame, frame_elements, frame_count, frame_fits, frame_reads, frame_tiled, frame_part}
 
 -- ---- a part that is not refused
 
@@ -280,3 +290,67 @@ made_view g now op frame part queues e is put whole same =
     ap (λ (qs : List (List ElementsFields)). let h : Gathering = record g { queues = qs; next = frame + 1 } in h) same
     ∙ (ap (λ (n : ℕ). let h : Gathering = record g { queues = map (λ (queue : List ElementsFields). drop 1 queue) g.queues; next = n + 1 } in h) (last_frame g op frame part is put' whole')
     ∙ (after_last g op frame part is put' whole' ∙ ap (λ (h : Gathering). after_put h op part) e))
+
+-- the queues where a part was kept, and where it was handed back
+pub queue_pushed : (queues : List (List ElementsFields)) (op : ℕ) (part : ElementsFields) (queue new : List ElementsFields) → op < length queues → queue ≡ get_or queues op queue → new ≡ queue ++ part ∷ []
+    → slice_set queues op new ≡ with_part queues op part
+queue_pushed queues op part queue new lt here e =
+    let at : queue ≡ queue_of queues op = here ∙ get_or_default queues op queue [] lt in
+    ap (λ (q : List ElementsFields). slice_set queues op q) (e ∙ ap (λ (q : List ElementsFields). q ++ part ∷ []) at)
+
+pub queue_same : (queues : List (List ElementsFields)) (op : ℕ) (queue new : List ElementsFields) → queue ≡ get_or queues op queue → new ≡ queue → slice_set queues op new ≡ queues
+queue_same queues op queue new here e = ap (λ (q : List ElementsFields). slice_set queues op q) (e ∙ here) ∙ set-get_or queues op queue
+
+pub same_gathering : (g : Gathering) (queues : List (List ElementsFields)) → queues ≡ g.queues → IsGathering g → IsGathering (record g { queues = queues })
+same_gathering g queues e is = subst (λ (qs : List (List ElementsFields)). IsGathering (record g { queues = qs })) (sym e) is
+
+pub op_within : (g now : Gathering) (op frame : ℕ) (part : ElementsFields) → g ≡ now → IsGathering g → put_fault now op frame part ≡ None → op < length g.queues
+op_within g now op frame part e is put =
+    let h : IsPut g op frame part = is_put g op frame part (subst (λ (x : Gathering). put_fault x op frame part ≡ None) (sym e) put) in
+    omega (arith, h.op_is, is.one_each)
+
+-- ---- the elements of the frame's MAP
+
+pub frame_of : (g now : Gathering) (op frame : ℕ) (part : ElementsFields) → g ≡ now → IsGathering g → put_fault now op frame part ≡ None → IsTiled part → is_last now op part ≡ true
+    → AreFrame now.layout now.shares (frame_slices now frame) (frame_parts now op part)
+frame_of g now op frame part e is put tiled whole =
+    let is' : IsGathering now = subst IsGathering e is in
+    subst (λ (n : ℕ). AreFrame now.layout now.shares (frame_slices now n) (frame_parts now op part)) (sym (last_frame now op frame part is' put whole)) (frame_is_whole now op frame part is' put tiled whole)
+
+pub ordered_is : (g now : Gathering) (op frame : ℕ) (part : ElementsFields) (order : List ℕ) (queues : List (List ElementsFields)) (slices : List Minislots) → g ≡ now → IsGathering g → put_fault now op frame part ≡ None → IsTiled part → is_last now op part ≡ true
+    → order ≡ order_of (map (λ slice. slice.start) slices) → slices ≡ slices_at g.slices g.reslicings frame → queues ≡ g.queues → ordered_elements g.layout order queues op part ≡ frame_elements now.layout (frame_parts now op part)
+ordered_is g now op frame part order queues slices e is put tiled whole order_is slices_is queues_are =
+    let is' : IsGathering now = subst IsGathering e is in
+    let at : op < length now.shares = (is_put now op frame part put).op_is in
+    let none : queue_of now.queues op ≡ [] = last_is_first now op part is' at whole in
+    let frame' : AreFrame now.layout now.shares (frame_slices now frame) (frame_parts now op part) = frame_of g now op frame part e is put tiled whole in
+    let parts : map (part_at now.queues op part) (order_of (map (λ (slice : Minislots). slice.start) (frame_slices now frame))) ≡ in_order (frame_parts now op part) =
+        ordered_parts (frame_parts now op part) (frame_slices now frame) (part_at now.queues op part) part (slices_of_parts now.shares (frame_slices now frame) (frame_parts now op part) frame'.parts_are)
+        (part_at_is now.queues op part (omega (arith, is'.one_each)) none whole) in
+    ap (λ (ks : List ℕ). ordered_elements g.layout ks queues op part) (order_is ∙ ap (λ (ms : List Minislots). order_of (map (λ (slice : Minislots). slice.start) ms)) slices_is)
+    ∙ (ap (λ (qs : List (List ElementsFields)). ordered_elements g.layout (order_of (map (λ (slice : Minislots). slice.start) (slices_at g.slices g.reslicings frame))) qs op part) queues_are
+    ∙ (ap (λ (h : Gathering). ordered_elements h.layout (order_of (map (λ (slice : Minislots). slice.start) (frame_slices h frame))) h.queues op part) e
+    ∙ ap (λ (ps : List ElementsFields). elements_of_map now.layout.frame_minislots (map_spans now.layout ps) (map_pending ps)) parts))
+
+pub few_ordered : (layout : MapLayout) (shares : List Share) (slices : List Minislots) (parts : List ElementsFields) (es : List MapElement) → AreFrame layout shares slices parts → es ≡ frame_elements layout parts → length es ≤ 240
+few_ordered layout shares slices parts es h e = subst (λ (xs : List MapElement). length xs ≤ 240) (sym e) (frame_count layout shares slices parts h)
+
+pub fit_ordered : (layout : MapLayout) (shares : List Share) (slices : List Minislots) (parts : List ElementsFields) (es : List MapElement) → AreFrame layout shares slices parts → es ≡ frame_elements layout parts → All FitsElement es
+fit_ordered layout shares slices parts es h e = All-from_recursion FitsElement es (subst (λ (xs : List MapElement). AllByRecursion FitsElement xs) (sym e) (frame_fits layout shares slices parts h))
+
+pub is_map_of : (layout seen : MapLayout) (frame : ℕ) (shares : List Share) (slices : List Minislots) (parts : List ElementsFields) (es : List MapElement) (bytes : List ℕ) → AreFrame layout shares slices parts → seen ≡ layout → es ≡ frame_elements layout parts
+    → bytes ≡ spelled_map (map_header seen frame (length es)) es → IsMapOf layout frame shares slices parts bytes
+is_map_of layout seen frame shares slices parts es bytes h same e b = record {
+  reads =
+      subst (λ (bs : List ℕ). MapReads bs (map_of layout frame parts))
+      (sym (b ∙ (ap (λ (xs : List MapElement). spelled_map (map_header seen frame (length xs)) xs) e ∙ ap (λ (l : MapLayout). spelled_map (map_header l frame (length (frame_elements layout parts))) (frame_elements layout parts)) same)))
+      (frame_reads layout frame shares slices parts h);
+  tiled = frame_tiled layout shares slices parts h;
+  own = λ k share part e f. frame_part layout frame shares slices parts k share part h e f;
+}
+
+pub layout_seen : (g now : Gathering) → g ≡ now → g.layout ≡ now.layout
+layout_seen g now e = ap (λ (h : Gathering). h.layout) e
+
+pub next_of_last : (g now : Gathering) (op frame : ℕ) (part : ElementsFields) → g ≡ now → IsGathering g → put_fault now op frame part ≡ None → is_last now op part ≡ true → frame ≡ now.next
+next_of_last g now op frame part e is put whole = last_frame now op frame part (subst IsGathering e is) put whole

@@ -134,7 +134,8 @@ impl Gather {
     ) -> Result<Vec<u8>, AllocError>
         requires put { put_fault self.now op frame part.now ≡ None }
         requires last { is_last self.now op part.now ≡ true }
-        ensures { IfOk result (λ bytes. IsMapOf self.now.layout frame self.now.shares (frame_slices self.now frame) (frame_parts self.now op part.now) bytes.items) }
+        ensures next { frame ≡ self.now.next }
+        ensures bytes { IfOk result (λ bytes. IsMapOf self.now.layout frame self.now.shares (frame_slices self.now frame) (frame_parts self.now op part.now) bytes.items) }
     {
         part.kept();
         let slicing = slices_at(&self.slices, self.reslicings.as_slice(), frame);
