@@ -10,3 +10,4 @@ pub mod MapLemmas
 pub mod SortLemmas
 pub mod LastLemmas
 pub mod StateLemmas
+pub mod NewLemmas

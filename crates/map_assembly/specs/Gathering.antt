@@ -1,5 +1,5 @@
 -- Parts gathered to MAPs (own).
-use Rattle.std.specs.Prelude.{◌≡◌, ℕ, ◌+◌, ◌≤◌, ◌==◌, ◌&&◌, nat_lt, nat_le, if◌then◌else◌, Bool, true, false, List, [], ◌∷◌, ◌++◌, length, map, drop, reverse, replicate, filter_map, find, All, slice_get, slice_index_or, slice_set, Option, Some, None}
+use Rattle.std.specs.Prelude.{◌≡◌, ℕ, ◌+◌, ◌<◌, ◌≤◌, ◌==◌, ◌&&◌, nat_lt, nat_le, if◌then◌else◌, Bool, true, false, List, [], ◌∷◌, ◌++◌, length, map, drop, reverse, replicate, filter_map, find, All, slice_get, slice_index_or, slice_set, Option, Some, None}
 use Rattle.std.specs.List.{list_all}
 use Rattle.slice_scheduler.specs.Minislots.{Minislots}
 use Rattle.slice_scheduler.specs.declared.elements.ElementsFields.{ElementsFields}
@@ -131,6 +131,22 @@ pub record IsGathering (g : Gathering) : Type 0 where
   pub waiting : is_whole g.queues ≡ false
   pub started : g.layout.first_frame ≤ g.next
   pub queued : AreAllQueued g.slices g.reslicings g.shares g.queues g.next
+
+-- ---- other slices from a frame on
+
+-- an operator with these parts has put none yet, or none of this frame or a later one
+abbrev pub IsPast : Gathering → ℕ → List ElementsFields → Type 0
+IsPast g from queue = g.layout.first_frame < g.next + length queue → g.next + length queue ≤ from
+
+-- other slices may be given from a frame on: they are valid, each earlier re-slicing is from an earlier frame on, and each
+-- part put is of an earlier frame
+pub record MayReslice (g : Gathering) (from : ℕ) (slices : List Minislots) : Type 0 where
+  pub slices_are : AreSlices g.layout (length g.shares) slices
+  pub later : All (λ r. r.from < from) g.reslicings
+  pub past : All (IsPast g from) g.queues
+
+abbrev pub resliced : Gathering → ℕ → List Minislots → Gathering
+resliced g from slices = record g { reslicings = g.reslicings ++ record { from = from; slicing = slices } ∷ [] }
 
 -- ---- the parts by their places
 

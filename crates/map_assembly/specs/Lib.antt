@@ -9,3 +9,4 @@ pub mod Tiled
 pub mod Plan
 pub mod Gathering
 pub mod Assembled
+pub mod Apart

@@ -1,16 +1,17 @@
 //! Gathering the operators' parts of each frame to its MAP.
 
-ghost use Rattle.std.specs.Prelude.{◌≡◌, ◌≢◌, ◌↔◌, ℕ, ◌<◌, ◌≤◌, [], ◌∷◌, ◌++◌, true, false, List, map, drop, length, slice_get, Option, Some, None, Result, Ok, Err, IfOk, IfErr, OnOk, OnErr};
+ghost use Rattle.std.specs.Prelude.{◌≡◌, ◌≢◌, ◌↔◌, ℕ, ◌+◌, ◌<◌, ◌≤◌, [], ◌∷◌, ◌++◌, true, false, List, map, drop, replicate, length, All, IsTrue, slice_get, Option, Some, None, Result, Ok, Err, IfOk, IfErr, OnOk, OnErr};
 ghost use Rattle.slice_scheduler.specs.Minislots.{Minislots};
 ghost use Rattle.slice_scheduler.specs.Tiles.{IsTiled};
 ghost use Rattle.slice_scheduler.specs.declared.elements.ElementsFields.{ElementsFields};
 ghost use Rattle.map_assembly.specs.Part.{share_of};
-ghost use Rattle.map_assembly.specs.Gathering.{gathering_of, fits_at, queue_of, put_fault, with_part, is_whole, is_last, after_put, frame_slices, frame_parts};
+ghost use Rattle.map_assembly.specs.Gathering.{gathering_of, fits_at, queue_of, put_fault, with_part, is_whole, is_last, after_put, frame_slices, frame_parts, MayReslice, resliced};
 ghost use Rattle.map_assembly.specs.Assembled.{IsMapOf, IsAnswer};
 ghost use Rattle.map_assembly.specs.declared.refused.GatherFault.{GatherFault};
 ghost use Rattle.map_assembly.specs.declared.refused.GatherFault.TheVariants.{NoMemory};
 
 use crate::assembling::map_bytes;
+use crate::checking::are_slices;
 use crate::layout::MapLayout;
 use crate::map_bytes::MapBytes;
 use crate::queue::{Queue, is_whole};
@@ -18,7 +19,7 @@ use crate::refused::{GatherFault, Refused};
 use crate::share::Share;
 use crate::slicing::{Reslicing, Slicing, slices_at};
 use slice_scheduler::{Elements, Slice};
-use slice_table::{Op, Plant};
+use slice_table::{Op, OperatorRow, Plant};
 use std::alloc::{AllocError, Global};
 use std::marker::Model;
 use tlv24::Bytes;
@@ -82,7 +83,95 @@ fn drop_fronts(queues: &mut [Queue])
     }
 }
 
+/// What each operator may put.
+fn shares_of(alloc: Global, rows: &[OperatorRow]) -> Result<Vec<Share>, AllocError>
+    ensures { IfOk result (λ shares. shares.items ≡ map share_of rows.now) }
+{
+    rows.iter().map(Share::of).collect(alloc)
+}
+
+/// The slice of an operator.
+fn slice_of(row: &OperatorRow) -> Slice
+    ensures value { result ≡ row.now.slice }
+    ensures some { 1 ≤ result.length }
+{
+    let slice = row.get_fields().slice;
+    let _length = slice.get_length();
+    slice
+}
+
+/// The slice of each operator.
+fn slices_of(alloc: Global, rows: &[OperatorRow]) -> Result<Vec<Slice>, AllocError>
+    ensures value { IfOk result (λ slices. slices.items ≡ map (λ row. row.slice) rows.now) }
+    ensures some { IfOk result (λ slices. All (λ slice. 1 ≤ slice.length) slices.items) }
+{
+    let mut slices = Vec::with_capacity(alloc, rows.len())?;
+    for row in rows {
+        slices.push(slice_of(row))?;
+    }
+    Ok(slices)
+}
+
+/// So many queues without a part.
+fn no_queues(alloc: Global, count: usize) -> Result<Vec<Queue>, AllocError>
+    ensures { IfOk result (λ queues. queues.items ≡ replicate count []) }
+{
+    let mut queues = Vec::with_capacity(alloc, count)?;
+    for _op in 0..count {
+        queues.push(Queue::new(alloc))?;
+    }
+    Ok(queues)
+}
+
+/// Whether each of these re-slicings is from an earlier frame on.
+fn all_earlier(reslicings: &[Reslicing], from: u32) -> bool
+    ensures { IsTrue result ↔ All (λ r. r.from < from) reslicings.now }
+{
+    reslicings.iter().all(|reslicing| reslicing.from < from)
+}
+
+/// Whether an operator with so many parts from the frame `next` on has put none yet, or none of the frame `from` or a later one.
+fn is_past(first: u32, next: u64, parts: usize, from: u32) -> bool
+    requires { first ≤ next }
+    ensures { IsTrue result ↔ (first < next + parts → next + parts ≤ from) }
+{
+    if next == first as u64 && parts == 0 {
+        return true;
+    }
+    next <= from as u64 && parts as u64 <= from as u64 - next
+}
+
+/// Whether each part put is of a frame before `from`, given the parts from the frame `next` on.
+fn all_past(first: u32, next: u64, queues: &[Queue], from: u32) -> bool
+    requires { first ≤ next }
+    ensures { IsTrue result ↔ All (λ queue. first < next + length queue → next + length queue ≤ from) queues.now }
+{
+    queues
+        .iter()
+        .all(|queue| is_past(first, next, queue.len(), from))
+}
+
 impl Gather {
+    /// Nothing is put yet.
+    pub fn new(alloc: Global, plant: &Plant) -> Result<Gather, AllocError>
+        ensures { IfOk result (λ gather. gather ≡ gathering_of plant.now) }
+    {
+        let rows = plant.rows();
+        let consts = plant.consts();
+        let first_frame = consts.get_fields().first_frame;
+        let shares = shares_of(alloc, rows)?;
+        let slices = Slicing::new(alloc, slices_of(alloc, rows)?)?;
+        let queues = no_queues(alloc, rows.len())?;
+        Ok(Gather {
+            layout: MapLayout::of(consts),
+            shares,
+            slices,
+            reslicings: Vec::new(alloc),
+            queues,
+            next: first_frame as u64,
+        })
+    }
+
     /// Why a part is refused, in the order in which this is tried.
     fn fault_of(&self, op: Op, frame: u32, part: &Elements) -> Option<GatherFault>
         ensures { result ≡ put_fault self.now op frame part.now }
@@ -205,5 +294,39 @@ impl Gather {
                 elements,
             }),
         }
+    }
+
+    /// Whether other slices may be given from a frame on: they are valid slices, one for each operator in the plant's order,
+    /// and the frame is after each of which a part is put and after that of each earlier re-slicing. Takes no memory.
+    pub fn may_reslice(&self, from: u32, slices: &[Slice]) -> bool
+        ensures { IsTrue result ↔ MayReslice self.now from slices.now }
+    {
+        are_slices(self.layout, self.shares.len(), slices)
+            && all_earlier(self.reslicings.as_slice(), from)
+            && all_past(
+                self.layout.first_frame,
+                self.next,
+                self.queues.as_slice(),
+                from,
+            )
+    }
+
+    /// Gives the operators other slices from a frame on, in the plant's order. The caller knows that it may.
+    pub fn reslice(
+        &mut self,
+        alloc: Global,
+        from: u32,
+        slices: Vec<Slice>,
+    ) -> Result<(), AllocError>
+        requires { MayReslice self.old from slices.items }
+        ensures state { OnOk result (self.new ≡ resliced self.old from slices.items) }
+        ensures before { OnOk result ((frame : ℕ) → frame < from → frame_slices self.new frame ≡ frame_slices self.old frame) }
+        ensures behind { OnOk result ((frame : ℕ) → from ≤ frame → frame_slices self.new frame ≡ slices.items) }
+        ensures err { OnErr result (self.new ≡ self.old) }
+    {
+        self.reslicings.reserve(1)?;
+        let slicing = Slicing::new(alloc, slices)?;
+        self.reslicings.push_reserved(Reslicing { from, slicing });
+        Ok(())
     }
 }

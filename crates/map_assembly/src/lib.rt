@@ -2,6 +2,7 @@
 #![tactic(auto)]
 
 mod assembling;
+mod checking;
 mod element;
 mod gather;
 mod layout;
