@@ -1,9 +1,9 @@
 -- The last part of a frame, and the parts of that frame.
-use Rattle.std.proofs.Common.{◌≡◌, ◌≢◌, ℕ, zero, suc, ◌-◌, ◌+◌, ◌<◌, ◌≤◌, List, [], ◌∷◌, ◌++◌, length, map, take, drop, get_or, Bool, true, false, not, cond, ◌&&◌, ◌⊎◌, inl, inr, refl, sym, ap, ◌∙◌, subst, arith, ltb, leb, eqb, Option, Some, None, length-append}
-use Rattle.std.specs.List.{AllByRecursion, list_all, slice_get, slice_set, slice_index_or, slice_index, filter_map}
+use Rattle.std.proofs.Common.{◌≡◌, ℕ, zero, suc, ◌-◌, ◌+◌, ◌<◌, ◌≤◌, List, [], ◌∷◌, ◌++◌, length, map, take, drop, get_or, Bool, true, false, cond, ◌&&◌, ◌⊎◌, inl, inr, refl, sym, ap, ◌∙◌, arith, ltb, leb, Some, length-append}
+use Rattle.std.specs.List.{AllByRecursion, slice_get, slice_set, slice_index}
 use Rattle.std.proofs.lemmas.List.{set_split, take_rest}
 use Rattle.std.proofs.lemmas.List.Folds.{list_all-append}
-use Rattle.std.proofs.lemmas.Bool.{lt-ltb, ltb-true, and_parts, and_from, both_ways, eq-eqb, ne_eqb, cases_eq, cases_Bool}
+use Rattle.std.proofs.lemmas.Bool.{lt-ltb, and_parts, and_from, both_ways, eq-eqb, ne_eqb, cases_eq, cases_Bool}
 use Rattle.slice_scheduler.specs.Minislots.{Minislots}
 use Rattle.slice_scheduler.specs.declared.elements.ElementsFields.{ElementsFields}
 use Rattle.map_assembly.specs.Sorted.{placed, sorted_by, numbers_from, order_of}

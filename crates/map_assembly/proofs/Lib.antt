@@ -11,3 +11,4 @@ pub mod SortLemmas
 pub mod LastLemmas
 pub mod StateLemmas
 pub mod NewLemmas
+pub mod ApartLemmas

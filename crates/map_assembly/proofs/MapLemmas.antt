@@ -1,12 +1,11 @@
 -- A MAP's bytes say what the MAP of the frame says, and that gives no minislot twice.
-use Rattle.std.proofs.Common.{◌≡◌, ℕ, zero, suc, ◌-◌, ◌+◌, ◌*◌, ◌%◌, ◌^◌, ◌<◌, ◌≤◌, List, [], ◌∷◌, ◌++◌, length, map, drop, Bool, true, false, not, cond, ◌&&◌, ◌||◌, ◌⊎◌, inl, inr, refl, sym, ap, ◌∙◌, subst, arith, eqb, ltb, leb, Option, Some, None, length-append}
+use Rattle.std.proofs.Common.{◌≡◌, ℕ, zero, suc, ◌+◌, ◌*◌, ◌^◌, ◌<◌, ◌≤◌, List, [], ◌∷◌, ◌++◌, length, map, true, false, cond, ◌⊎◌, inl, inr, refl, sym, ap, ◌∙◌, subst, arith, eqb, leb, Some, length-append}
 use Rattle.std.proofs.lemmas.List.{length-map}
-use Rattle.std.specs.List.{AllByRecursion, All, sum_by, count_by, flat_map, slice_get}
+use Rattle.std.specs.List.{AllByRecursion, sum_by, count_by, slice_get}
 use Rattle.std.proofs.lemmas.List.Sums.{sum_by-cons}
 use Rattle.std.proofs.lemmas.List.Elements.{recursion_from_All, All-from_recursion}
 use Rattle.std.proofs.lemmas.Nat.{mod_below}
 use Rattle.std.proofs.lemmas.Bool.{cases_lt, cases_eq, lt-ltb, le-ltb, eq-eqb, ne_eqb, or_cases, eqb-true, leb-true, and_parts, and_right}
-use Rattle.admission.specs.Free.{Numbers}
 use Rattle.slice_scheduler.specs.Minislots.{Minislots}
 use Rattle.slice_scheduler.specs.Iuc.{number_of}
 use Rattle.slice_scheduler.specs.declared.span.Iuc.{Iuc}
@@ -20,11 +19,11 @@ use Rattle.map_assembly.specs.declared.share.Share.{Share}
 use Rattle.map_assembly.specs.declared.view.MapHeader.{MapHeader}
 use Rattle.map_assembly.specs.declared.view.MapSpan.{MapSpan}
 use Rattle.map_assembly.specs.Element.{is_null, FitsElement, spelled_elements, elements_in}
-use Rattle.map_assembly.specs.Reading.{element_of_span, null_at, is_pending, ElementsSay, MapReads, header_in}
-use Rattle.map_assembly.specs.Map.{idle_span, head_span, map_span, filled, map_spans, map_pending, map_header, frame_start, in_order, ordered_map, map_of, pending_at, elements_of_map}
+use Rattle.map_assembly.specs.Reading.{element_of_span, null_at, is_pending, ElementsSay, MapReads}
+use Rattle.map_assembly.specs.Map.{idle_span, head_span, map_span, filled, map_spans, map_pending, map_header, frame_start, in_order, map_of, pending_at, elements_of_map}
 use Rattle.map_assembly.specs.Writing.{spelled_map}
-use Rattle.map_assembly.specs.Part.{is_within, is_mine, IsPartOf, ArePartsOf}
-use Rattle.map_assembly.specs.Tiled.{touches, holds, IsOwn, GivesNoMinislotTwice, part_of, own_part}
+use Rattle.map_assembly.specs.Part.{is_within, is_mine, ArePartsOf}
+use Rattle.map_assembly.specs.Tiled.{touches, IsOwn, GivesNoMinislotTwice, part_of, own_part}
 use Rattle.map_assembly.specs.Plan.{IsLayout, IsShare, AreShares, AreSlices}
 use Rattle.map_assembly.proofs.OrderLemmas.{pairs_from_AllPairs, sorted-all, sum_by-sorted}
 use Rattle.map_assembly.proofs.TilingLemmas.{InOrder, MapTiles, tiles-map, tiles-joined, tiles-once, tiles-le}

@@ -1,7 +1,7 @@
 -- What is gathered of a plant at first, and after other slices are given.
-use Rattle.std.proofs.Common.{◌≡◌, ℕ, zero, suc, ◌-◌, ◌+◌, ◌*◌, ◌<◌, ◌≤◌, List, [], ◌∷◌, ◌++◌, length, map, get_or, reverse, Bool, true, false, not, cond, ◌&&◌, ◌⊎◌, inl, inr, refl, sym, ap, ◌∙◌, subst, arith, ltb, leb, Option, Some, None}
+use Rattle.std.proofs.Common.{◌≡◌, ℕ, zero, suc, ◌+◌, ◌<◌, ◌≤◌, List, [], ◌∷◌, ◌++◌, length, map, reverse, Bool, false, cond, refl, sym, ap, ◌∙◌, subst, arith, leb, Option, Some}
 use Rattle.std.specs.Prelude.{replicate}
-use Rattle.std.specs.List.{AllByRecursion, All, AllPairs, sum_by, list_all, slice_get, find}
+use Rattle.std.specs.List.{AllByRecursion, All, AllPairs, sum_by, slice_get, find}
 use Rattle.std.proofs.lemmas.List.{length-map, length-replicate, reverse-append}
 use Rattle.std.proofs.lemmas.List.Sums.{sum_by-cons}
 use Rattle.std.proofs.lemmas.List.Elements.{recursion_from_All, All-from_recursion, All-push}
@@ -13,19 +13,18 @@ use Rattle.slice_table.specs.declared.consts.ConstsFields.{ConstsFields}
 use Rattle.slice_table.specs.declared.operator_row.RowFields.{RowFields}
 use Rattle.slice_table.specs.declared.plant.PlantFields.{PlantFields}
 use Rattle.slice_table.specs.Row.{IsRowOf}
-use Rattle.slice_table.specs.Plant.{slices_meet, ranges_meet, most_elements, IsPlant}
-use Rattle.map_assembly.specs.declared.layout.MapLayout.{MapLayout}
+use Rattle.slice_table.specs.Plant.{slices_meet, ranges_meet, IsPlant}
 use Rattle.map_assembly.specs.declared.share.Share.{Share}
 use Rattle.map_assembly.specs.declared.slicing.Reslicing.{Reslicing}
 use Rattle.map_assembly.specs.Map.{layout_of}
-use Rattle.map_assembly.specs.Part.{share_of, IsPartOf}
-use Rattle.map_assembly.specs.Plan.{IsLayout, IsShare, AreShares, IsInFrame, AreSlices}
-use Rattle.map_assembly.specs.Gathering.{Gathering, gathering_of, slices_or, slices_at, frame_slices, is_whole, IsPartAt, AreQueued, AreAllQueued, IsGathering, IsPast, MayReslice, resliced}
+use Rattle.map_assembly.specs.Part.{share_of}
+use Rattle.map_assembly.specs.Plan.{IsShare, AreShares, IsInFrame, AreSlices}
+use Rattle.map_assembly.specs.Gathering.{Gathering, gathering_of, slices_or, slices_at, is_whole, IsPartAt, AreQueued, IsGathering, IsPast, MayReslice, resliced}
 use Rattle.map_assembly.proofs.OrderLemmas.{PairsByRecursion, pairs_from_AllPairs}
 
 -- ---- pairs and sums over a map
 
-AllPairs-from_pairs : {X : Type 0} (R : X → X → Type 0) (xs : List X) → PairsByRecursion R xs → AllPairs R xs
+pub AllPairs-from_pairs : {X : Type 0} (R : X → X → Type 0) (xs : List X) → PairsByRecursion R xs → AllPairs R xs
 AllPairs-from_pairs R [] h i j d lt in' = absurd (omega arith)
 AllPairs-from_pairs R (x ∷ xs) h zero zero d lt in' = absurd (omega arith)
 AllPairs-from_pairs R (x ∷ xs) h zero (suc j) d lt in' = All-from_recursion (R x) xs h.0 j d (omega arith)

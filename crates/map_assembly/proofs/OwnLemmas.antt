@@ -1,26 +1,24 @@
 -- Each operator's part of a MAP is what it put, and lies in its slice.
-use Rattle.std.proofs.Common.{◌≡◌, ℕ, zero, suc, ◌-◌, ◌+◌, ◌*◌, ◌^◌, ◌<◌, ◌≤◌, List, [], ◌∷◌, ◌++◌, length, map, Bool, true, false, not, cond, ◌&&◌, ◌||◌, ◌⊎◌, inl, inr, refl, sym, ap, ◌∙◌, subst, arith, eqb, ltb, leb, Option, Some, None}
-use Rattle.std.specs.List.{AllByRecursion, All, sum_by, count_by, flat_map, filter, slice_get}
-use Rattle.std.proofs.lemmas.List.Sums.{sum_by-cons, sum_by-append}
-use Rattle.std.proofs.lemmas.List.Elements.{filter-append, recursion_from_All}
-use Rattle.std.proofs.lemmas.List.Concat.{flat_map-append}
-use Rattle.std.proofs.lemmas.Bool.{cases_lt, cases_eq, lt-ltb, le-ltb, lt-leb, eq-eqb, ne_eqb, and_left, and_right, ltb-true, ltb-false, both_ways}
+use Rattle.std.proofs.Common.{◌≡◌, ℕ, zero, suc, ◌-◌, ◌+◌, ◌<◌, ◌≤◌, List, [], ◌∷◌, ◌++◌, map, Bool, true, false, not, cond, ◌⊎◌, inl, inr, refl, ap, ◌∙◌, subst, arith, eqb, ltb, leb}
+use Rattle.std.specs.List.{AllByRecursion, sum_by, flat_map, filter}
+use Rattle.std.proofs.lemmas.List.Sums.{sum_by-cons}
+use Rattle.std.proofs.lemmas.List.Elements.{filter-append}
+use Rattle.std.proofs.lemmas.Bool.{cases_lt, cases_eq, lt-ltb, le-ltb, lt-leb, eq-eqb, ne_eqb, and_left, and_right, both_ways}
 use Rattle.admission.specs.Free.{Numbers}
 use Rattle.slice_scheduler.specs.Minislots.{Minislots}
 use Rattle.slice_scheduler.specs.declared.span.Span.{Span}
 use Rattle.slice_scheduler.specs.declared.elements.ElementsFields.{ElementsFields}
-use Rattle.slice_scheduler.specs.Tiles.{Tiles, IsTiled}
-use Rattle.slice_table.specs.Plant.{ranges_meet}
+use Rattle.slice_scheduler.specs.Tiles.{Tiles}
 use Rattle.map_assembly.specs.declared.layout.MapLayout.{MapLayout}
 use Rattle.map_assembly.specs.declared.share.Share.{Share}
 use Rattle.map_assembly.specs.declared.view.MapSpan.{MapSpan}
 use Rattle.map_assembly.specs.Map.{idle_span, head_span, map_span, filled, map_spans, map_pending, in_order, map_of}
-use Rattle.map_assembly.specs.Part.{is_within, is_mine, IsPartOf, ArePartsOf}
+use Rattle.map_assembly.specs.Part.{is_within, is_mine, IsPartOf}
 use Rattle.map_assembly.specs.Tiled.{LiesIn, IsOwn, touches, MapPart, part_of, own_part}
-use Rattle.map_assembly.specs.Plan.{IsShare, AreShares}
-use Rattle.map_assembly.proofs.OrderLemmas.{PairsByRecursion, pairs_from_AllPairs, AloneAt, flat_map_alone, sorted-all}
+use Rattle.map_assembly.specs.Plan.{IsShare}
+use Rattle.map_assembly.proofs.OrderLemmas.{AloneAt, flat_map_alone, sorted-all}
 use Rattle.map_assembly.proofs.TilingLemmas.{InOrder}
-use Rattle.map_assembly.proofs.PartLemmas.{FitsIn, fits_in, within_is_some, own_spans, own_pending, IsStranger, StandsAlone, stands_alone}
+use Rattle.map_assembly.proofs.PartLemmas.{FitsIn, fits_in, within_is_some, own_spans, own_pending, IsStranger, StandsAlone}
 
 -- ---- the idle spans and the head are nobody's
 

@@ -1,24 +1,22 @@
 -- What each operator's part of a frame has.
-use Rattle.std.proofs.Common.{◌≡◌, ℕ, zero, suc, ◌-◌, ◌+◌, ◌*◌, ◌^◌, ◌<◌, ◌≤◌, List, [], ◌∷◌, ◌++◌, length, map, Bool, true, false, not, cond, ◌&&◌, ◌||◌, ◌⊎◌, inl, inr, refl, sym, ap, ◌∙◌, subst, arith, eqb, ltb, leb, Option, Some, None}
-use Rattle.std.specs.List.{AllByRecursion, AllPairs, All, sum_by, flat_map, filter, slice_get, list_all}
-use Rattle.std.proofs.lemmas.List.Sums.{sum_by-cons}
-use Rattle.std.proofs.lemmas.List.Elements.{recursion_from_All, filter-append}
+use Rattle.std.proofs.Common.{◌≡◌, ℕ, zero, suc, ◌+◌, ◌≤◌, List, [], ◌∷◌, length, map, Bool, true, false, not, ◌&&◌, ◌⊎◌, inl, inr, refl, sym, subst, arith, eqb, leb, Some}
+use Rattle.std.specs.List.{AllByRecursion, filter, slice_get, list_all}
+use Rattle.std.proofs.lemmas.List.Elements.{recursion_from_All}
 use Rattle.std.proofs.lemmas.Option.{same_Some}
-use Rattle.std.proofs.lemmas.Bool.{and_parts, and_from, or_cases, eqb-true, eqb-false, leb-true, leb-false, le-leb, lt-leb, and_left, and_right, both_ways, cases_Bool, true_from_ne_false, false_from_ne_true, ne_eqb, eq-eqb}
+use Rattle.std.proofs.lemmas.Bool.{and_parts, and_from, or_cases, eqb-true, leb-true, le-leb, both_ways, false_from_ne_true}
 use Rattle.admission.specs.Free.{Numbers}
 use Rattle.slice_scheduler.specs.Minislots.{Minislots}
 use Rattle.slice_scheduler.specs.declared.span.Span.{Span}
 use Rattle.slice_scheduler.specs.declared.elements.ElementsFields.{ElementsFields}
-use Rattle.slice_scheduler.specs.Tiles.{Tiles, IsTiled}
+use Rattle.slice_scheduler.specs.Tiles.{IsTiled}
 use Rattle.slice_table.specs.Plant.{slices_meet, ranges_meet}
 use Rattle.map_assembly.specs.declared.layout.MapLayout.{MapLayout}
 use Rattle.map_assembly.specs.declared.share.Share.{Share}
 use Rattle.map_assembly.specs.declared.view.MapSpan.{MapSpan}
 use Rattle.map_assembly.specs.Map.{map_span, in_order}
 use Rattle.map_assembly.specs.Part.{is_within, is_mine, is_slice, is_fitting, IsPartOf, ArePartsOf}
-use Rattle.map_assembly.specs.Tiled.{LiesIn, IsOwn}
-use Rattle.map_assembly.specs.Plan.{IsShare, AreShares, IsInFrame, AreSlices, IsLayout}
-use Rattle.map_assembly.proofs.OrderLemmas.{PairsByRecursion, pairs_from_AllPairs, pairs-map, all-map, IsBeside, IsPlaced, sorted_in_order, AloneAt}
+use Rattle.map_assembly.specs.Plan.{IsShare, IsInFrame, AreSlices, IsLayout}
+use Rattle.map_assembly.proofs.OrderLemmas.{PairsByRecursion, pairs_from_AllPairs, pairs-map, all-map, IsPlaced, sorted_in_order}
 use Rattle.map_assembly.proofs.TilingLemmas.{InOrder}
 
 -- ---- what fitting says

@@ -1,12 +1,11 @@
 -- What the bytes of a MAP say, and their first fault, from how their elements are judged.
-use Rattle.std.proofs.Common.{◌≡◌, ◌≢◌, ◌↔◌, ℕ, ◌+◌, ◌*◌, ◌<◌, ◌≤◌, List, length, drop, get_or, IfErr, Result, Ok, Err, refl, sym, ap, ◌∙◌, subst, arith}
-use Rattle.map_assembly.specs.declared.element.MapElement.{MapElement}
+use Rattle.std.proofs.Common.{◌≡◌, ◌≢◌, ◌↔◌, ℕ, List, length, drop, IfErr, Result, Ok, Err, refl, sym, ap, ◌∙◌, subst, arith}
 use Rattle.map_assembly.specs.declared.view.MapView.{MapView}
 use Rattle.map_assembly.specs.declared.view.MapSpan.{MapSpan}
 use Rattle.map_assembly.specs.Element.{elements_in}
 use Rattle.map_assembly.specs.declared.view.MapFault.{MapFault}
 use Rattle.map_assembly.specs.declared.view.MapFault.TheVariants.{Short, Count, Backward, NoNull, AfterNull, NoMemory}
-use Rattle.map_assembly.specs.Reading.{header_in, elements_behind, IsCounted, MapReads, ElementsSay, ElementsFault, IsFirstMapFault, IsOkUnlessMemory}
+use Rattle.map_assembly.specs.Reading.{header_in, elements_behind, IsCounted, MapReads, ElementsSay, IsFirstMapFault, IsOkUnlessMemory}
 use Rattle.map_assembly.specs.Judging.{judged, spans_in, pending_in}
 use Rattle.map_assembly.proofs.SayLemmas.{judged_says, say_judged, say_spans, say_pending}
 use Rattle.map_assembly.proofs.FaultLemmas.{judged_fault, fault_judged}
@@ -69,28 +68,6 @@ judged_badly bytes body (Err f) counted e h =
     let at : judged 0 0 (elements_behind bytes) ≡ Err f = sym (h ∙ ap (λ (b : List ℕ). judged 0 0 (elements_in b)) e) in
     λ fault. (λ p. subst (λ (g : MapFault). IsFirstMapFault bytes g) p (fault_is bytes f counted at),
      λ p. same_fault f fault (judged 0 0 (elements_behind bytes)) at (fault_judges bytes fault counted p))
-
-pub is_short : (bytes : List ℕ) → length bytes < 16 → IsFault bytes Short
-is_short bytes lt fault = (λ p. subst (λ (g : MapFault). IsFirstMapFault bytes g) p lt, by fault)
-  where
-    by : (f : MapFault) → IsFirstMapFault bytes f → Short ≡ f
-    by Short h = refl
-    by Count h = absurd (omega (arith, h.0))
-    by (Backward at) h = absurd (omega (arith, h.0))
-    by NoNull h = absurd (omega (arith, h.0))
-    by (AfterNull at) h = absurd (omega (arith, h.0))
-    by NoMemory h = absurd h
-
-pub is_miscounted : (bytes : List ℕ) → 16 ≤ length bytes → length bytes ≢ 16 + 4 * get_or bytes 2 0 → IsFault bytes Count
-is_miscounted bytes le ne fault = (λ p. subst (λ (g : MapFault). IsFirstMapFault bytes g) p (le, ne), by fault)
-  where
-    by : (f : MapFault) → IsFirstMapFault bytes f → Count ≡ f
-    by Short h = absurd (omega (arith, h))
-    by Count h = refl
-    by (Backward at) h = absurd (ne h.0)
-    by NoNull h = absurd (ne h.0)
-    by (AfterNull at) h = absurd (ne h.0)
-    by NoMemory h = absurd h
 
 -- ---- what is read
 

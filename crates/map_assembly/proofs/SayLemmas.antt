@@ -1,7 +1,7 @@
 -- Elements that are judged well say their spans and their grants pending, and nothing else.
-use Rattle.std.proofs.Common.{◌≡◌, ℕ, ◌-◌, ◌+◌, ◌<◌, ◌≤◌, List, [], ◌∷◌, ◌++◌, length, map, Bool, true, false, Result, Ok, Err, ltb, eqb, refl, sym, ap, ◌∙◌, subst, arith}
+use Rattle.std.proofs.Common.{◌≡◌, ℕ, ◌-◌, ◌+◌, ◌≤◌, List, [], ◌∷◌, ◌++◌, length, map, Bool, true, false, Result, Ok, Err, ltb, eqb, refl, sym, ap, ◌∙◌, arith}
 use Rattle.std.specs.List.{AllByRecursion}
-use Rattle.std.proofs.lemmas.Bool.{and_parts, eqb-true, ltb-true, ltb-false, le-ltb, cases_Bool}
+use Rattle.std.proofs.lemmas.Bool.{and_parts, eqb-true, ltb-false, le-ltb}
 use Rattle.map_assembly.specs.declared.element.MapElement.{MapElement}
 use Rattle.map_assembly.specs.declared.view.MapSpan.{MapSpan}
 use Rattle.map_assembly.specs.declared.view.MapFault.{MapFault}

@@ -1,11 +1,11 @@
 -- What is gathered stays as it always is.
-use Rattle.std.proofs.Common.{◌≡◌, ◌≢◌, ℕ, zero, suc, ◌-◌, ◌+◌, ◌<◌, ◌≤◌, List, [], ◌∷◌, ◌++◌, length, map, take, drop, get_or, reverse, Bool, true, false, not, cond, ◌&&◌, ◌⊎◌, inl, inr, refl, sym, ap, ◌∙◌, subst, arith, ltb, leb, eqb, Option, Some, None}
-use Rattle.std.specs.List.{AllByRecursion, All, list_all, slice_get, slice_set, slice_index_or, filter_map, find}
+use Rattle.std.proofs.Common.{◌≡◌, ℕ, zero, suc, ◌+◌, ◌<◌, ◌≤◌, List, [], ◌∷◌, ◌++◌, length, map, take, drop, get_or, reverse, Bool, true, false, cond, ◌&&◌, ◌⊎◌, inl, inr, refl, sym, ap, ◌∙◌, subst, arith, ltb, leb, Option, Some, None}
+use Rattle.std.specs.List.{AllByRecursion, All, slice_get, slice_set, find}
 use Rattle.std.specs.Option.{option_map}
 use Rattle.std.proofs.lemmas.List.{length-set, length-map, reverse-append, take_at, set-get_or, get_or_default}
-use Rattle.std.proofs.lemmas.List.Elements.{recursion_from_All, All-from_recursion, All-push}
-use Rattle.std.proofs.lemmas.Option.{same_Some, slice_get-get_or, slice_get-map, slice_get_within}
-use Rattle.std.proofs.lemmas.Bool.{and_parts, both_ways, cases_eq, cases_Bool, cases_lt, leb-true, leb-false, ltb-true, ltb-false, lt-leb, cond-false}
+use Rattle.std.proofs.lemmas.List.Elements.{recursion_from_All, All-from_recursion}
+use Rattle.std.proofs.lemmas.Option.{same_Some, slice_get-get_or, slice_get-map}
+use Rattle.std.proofs.lemmas.Bool.{and_parts, cases_eq, leb-false, ltb-false}
 use Rattle.slice_scheduler.specs.Minislots.{Minislots}
 use Rattle.slice_scheduler.specs.Tiles.{IsTiled}
 use Rattle.slice_scheduler.specs.declared.elements.ElementsFields.{ElementsFields}
@@ -15,9 +15,9 @@ use Rattle.map_assembly.specs.declared.slicing.Reslicing.{Reslicing}
 use Rattle.map_assembly.specs.declared.refused.GatherFault.{GatherFault}
 use Rattle.map_assembly.specs.declared.refused.GatherFault.TheVariants.{Stranger, Old, PutTwice, Early, WrongSlice}
 use Rattle.map_assembly.specs.Part.{is_fitting, IsPartOf, ArePartsOf}
-use Rattle.map_assembly.specs.Plan.{AreSlices, IsInFrame}
+use Rattle.map_assembly.specs.Plan.{AreSlices}
 use Rattle.map_assembly.specs.Gathering.{Gathering, slices_or, slices_at, frame_slices, queue_of, next_of, fits_at, is_part, put_fault, with_part, is_whole, fronts, is_last, frame_parts, after_put, IsPartAt, AreQueued, AreAllQueued, IsGathering}
-use Rattle.map_assembly.proofs.LastLemmas.{empty_before_last, length-fronts}
+use Rattle.map_assembly.proofs.LastLemmas.{empty_before_last}
 use Rattle.map_assembly.specs.declared.element.MapElement.{MapElement}
 use Rattle.map_assembly.specs.Element.{FitsElement}
 use Rattle.map_assembly.specs.Reading.{MapReads}

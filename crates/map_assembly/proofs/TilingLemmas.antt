@@ -1,21 +1,18 @@
 -- The spans of a frame are its minislots, each in exactly one.
-use Rattle.std.proofs.Common.{◌≡◌, ℕ, ◌-◌, ◌+◌, ◌*◌, ◌<◌, ◌≤◌, List, [], ◌∷◌, ◌++◌, length, map, Bool, true, false, cond, ◌&&◌, ◌⊎◌, inl, inr, refl, sym, ap, ◌∙◌, subst, arith, eqb, ltb, leb}
-use Rattle.std.specs.List.{AllByRecursion, count_by}
-use Rattle.std.proofs.lemmas.List.Sums.{sum_by-cons, sum_by-append}
-use Rattle.std.proofs.lemmas.Bool.{cases_eq, cases_lt, eq-eqb, ne_eqb, lt-ltb, le-ltb, le-leb, lt-leb, leb-true, leb-false, and_cases, ltb-false, and_from, and_left, and_right}
-use Rattle.slice_scheduler.specs.Minislots.{Minislots}
+use Rattle.std.proofs.Common.{◌≡◌, ℕ, ◌-◌, ◌+◌, ◌<◌, ◌≤◌, List, [], ◌∷◌, ◌++◌, map, Bool, false, cond, ◌⊎◌, inl, inr, refl, sym, ap, subst, arith, eqb, ltb, leb}
+use Rattle.std.specs.List.{count_by}
+use Rattle.std.proofs.lemmas.List.Sums.{sum_by-cons}
+use Rattle.std.proofs.lemmas.Bool.{cases_eq, cases_lt, eq-eqb, ne_eqb, lt-ltb, le-ltb, le-leb, lt-leb, and_left, and_right}
 use Rattle.slice_scheduler.specs.Iuc.{number_of}
 use Rattle.slice_scheduler.specs.declared.span.Iuc.{Iuc}
 use Rattle.slice_scheduler.specs.declared.span.Iuc.TheVariants.{Request, Short, Long}
 use Rattle.slice_scheduler.specs.declared.span.Span.{Span}
 use Rattle.slice_scheduler.specs.declared.elements.ElementsFields.{ElementsFields}
 use Rattle.slice_scheduler.specs.Tiles.{Tiles, IsTiled}
-use Rattle.slice_table.specs.Plant.{slices_meet}
 use Rattle.map_assembly.specs.declared.view.MapSpan.{MapSpan}
-use Rattle.map_assembly.specs.Element.{is_null}
-use Rattle.map_assembly.specs.Reading.{first_start, AreJoined, element_of_span}
+use Rattle.map_assembly.specs.Reading.{first_start, AreJoined}
 use Rattle.map_assembly.specs.Map.{idle_span, head_span, map_span, filled}
-use Rattle.map_assembly.specs.Tiled.{holds, touches}
+use Rattle.map_assembly.specs.Tiled.{holds}
 
 -- ---- spans one after the other
 

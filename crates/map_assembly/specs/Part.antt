@@ -1,5 +1,5 @@
 -- What an operator may put into a MAP (own).
-use Rattle.std.specs.Prelude.{◌≡◌, ℕ, ◌+◌, ◌*◌, ◌≤◌, nat_le, ◌==◌, ◌&&◌, ◌||◌, Bool, true, List, [], ◌∷◌, length, sum_by}
+use Rattle.std.specs.Prelude.{◌≡◌, ℕ, ◌+◌, nat_le, ◌==◌, ◌&&◌, ◌||◌, Bool, true, List, [], ◌∷◌, length}
 use Rattle.std.specs.List.{list_all}
 use Rattle.admission.specs.Free.{Numbers}
 use Rattle.slice_scheduler.specs.Minislots.{Minislots}

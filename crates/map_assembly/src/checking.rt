@@ -1,6 +1,6 @@
 //! Whether slices are valid.
 
-ghost use Rattle.std.specs.Prelude.{◌≡◌, ◌↔◌, not, length, All, IsTrue};
+ghost use Rattle.std.specs.Prelude.{◌≡◌, ◌↔◌, not, false, length, All, AllPairs, IsTrue};
 ghost use Rattle.std.specs.List.{list_all};
 ghost use Rattle.slice_table.specs.Plant.{slices_meet};
 ghost use Rattle.map_assembly.specs.Plan.{IsInFrame, AreSlices};
@@ -37,6 +37,13 @@ fn all_apart(slices: &[Slice]) -> bool
     true
 }
 
+/// Whether no two slices meet.
+fn no_two_meet(slices: &[Slice]) -> bool
+    ensures { IsTrue result ↔ AllPairs (λ a b. slices_meet a b ≡ false) slices.now }
+{
+    all_apart(slices)
+}
+
 /// Whether a slice lies in the frame, behind the head.
 fn is_in_frame(layout: MapLayout, slice: Slice) -> bool
     ensures { IsTrue result ↔ IsInFrame layout slice }
@@ -56,5 +63,5 @@ fn all_in_frame(layout: MapLayout, slices: &[Slice]) -> bool
 pub(crate) fn are_slices(layout: MapLayout, count: usize, slices: &[Slice]) -> bool
     ensures { IsTrue result ↔ AreSlices layout count slices.now }
 {
-    slices.len() == count && all_in_frame(layout, slices) && all_apart(slices)
+    slices.len() == count && all_in_frame(layout, slices) && no_two_meet(slices)
 }

@@ -12,15 +12,13 @@ mod reading;
 mod refused;
 mod share;
 mod slicing;
+#[cfg(test)]
+mod tests;
 mod view;
 mod writing;
 
-pub use element::MapElement;
 pub use gather::Gather;
-pub use layout::MapLayout;
 pub use map_bytes::MapBytes;
 pub use reading::read_map;
 pub use refused::{GatherFault, Refused};
-pub use share::Share;
-pub use slicing::{Reslicing, Slicing};
 pub use view::{MapFault, MapHeader, MapSpan, MapSpans, MapView};

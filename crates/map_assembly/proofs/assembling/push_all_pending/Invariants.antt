@@ -1,6 +1,5 @@
 use Rattle.std.proofs.Common.{◌≡◌, ◌++◌, map, drop}
-use Rattle.map_assembly.specs.Reading.{element_of_span}
-use Rattle.map_assembly.specs.Map.{filled, map_pending, pending_at}
+use Rattle.map_assembly.specs.Map.{map_pending, pending_at}
 use Rattle.map_assembly.specs.Gathering.{part_at}
 use Rattle.map_assembly.proofs.assembling.push_all_pending.Given as goal
 

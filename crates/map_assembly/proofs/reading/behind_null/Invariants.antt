@@ -1,7 +1,6 @@
-use Rattle.std.proofs.Common.{◌≡◌, ◌+◌, ◌*◌, ◌≤◌, ◌<◌, ◌++◌, List, map, length, ap}
-use Rattle.map_assembly.specs.declared.element.MapElement.{MapElement}
+use Rattle.std.proofs.Common.{◌≡◌, length}
 use Rattle.map_assembly.specs.Element.{elements_in}
-use Rattle.map_assembly.specs.Judging.{judged, judged_behind, next_offset, spans_in, behind_null, pending_in}
+use Rattle.map_assembly.specs.Judging.{behind_null}
 use Rattle.map_assembly.proofs.reading.behind_null.Given as goal
 
 abbrev pub invariant-loop-first : goal.invariant-loop-first

@@ -1,4 +1,4 @@
-use Rattle.std.proofs.Common.{◌≡◌, ◌+◌, ◌*◌, length, get_or, drop, arith, ap, length-drop}
+use Rattle.std.proofs.Common.{length, arith, ap, length-drop}
 use Rattle.map_assembly.specs.Reading.{IsCounted}
 use Rattle.map_assembly.proofs.ReadLemmas.{judged_badly}
 use Rattle.map_assembly.proofs.reading.count_spans.Goals as goal

@@ -1,5 +1,4 @@
-use Rattle.std.proofs.Common.{◌≡◌, Err, refl, rules}
-use Rattle.map_assembly.specs.Reading.{MapReads}
+use Rattle.std.proofs.Common.{refl, rules}
 use Rattle.map_assembly.proofs.ReadLemmas.{reads_made, reads_once, fault_reads_nothing, fault_is_no_want, well_says, well_has_no_fault}
 use Rattle.map_assembly.proofs.reading.read_map.Goals as goal
 

@@ -1,8 +1,5 @@
 use Rattle.std.proofs.Common.{◌≡◌, ◌++◌, map, take}
-use Rattle.map_assembly.specs.Element.{spelled_elements}
-use Rattle.map_assembly.specs.Reading.{element_of_span}
-use Rattle.map_assembly.specs.Map.{map_span, pending_at}
-use Rattle.map_assembly.specs.Writing.{spelled_header}
+use Rattle.map_assembly.specs.Map.{pending_at}
 use Rattle.map_assembly.proofs.writing.push_pending.Given as goal
 
 abbrev pub invariant-loop-sid : goal.invariant-loop-sid

@@ -1,7 +1,5 @@
-use Rattle.std.proofs.Common.{◌≡◌, ◌++◌, map, take}
+use Rattle.std.proofs.Common.{◌≡◌, ◌++◌, take}
 use Rattle.map_assembly.specs.Element.{spelled_elements}
-use Rattle.map_assembly.specs.Reading.{element_of_span}
-use Rattle.map_assembly.specs.Map.{map_span, pending_at}
 use Rattle.map_assembly.specs.Writing.{spelled_header}
 use Rattle.map_assembly.proofs.writing.write_map.Given as goal
 

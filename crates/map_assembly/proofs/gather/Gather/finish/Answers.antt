@@ -1,5 +1,4 @@
-use Rattle.std.proofs.Common.{sym, ap, ◌∙◌, map, drop, List, length}
-use Rattle.std.proofs.lemmas.List.{with_items_is}
+use Rattle.std.proofs.Common.{ap, ◌∙◌, map, drop, List}
 use Rattle.slice_scheduler.specs.declared.elements.ElementsFields.{ElementsFields}
 use Rattle.map_assembly.proofs.StateLemmas.{dropped_items, made_is, made_view}
 use Rattle.map_assembly.proofs.gather.Gather.finish.Goals as goal

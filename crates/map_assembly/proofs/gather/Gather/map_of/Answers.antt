@@ -1,9 +1,6 @@
-use Rattle.std.proofs.Common.{ℕ, ◌≡◌, List, length, rules, subst}
+use Rattle.std.proofs.Common.{rules}
 use Rattle.std.proofs.lemmas.Result.{IfOk-weaker}
 use Rattle.map_assembly.specs.Gathering.{frame_slices, frame_parts}
-use Rattle.map_assembly.specs.Map.{map_header}
-use Rattle.map_assembly.specs.Writing.{spelled_map}
-use Rattle.map_assembly.specs.Assembled.{IsMapOf, ordered_elements}
 use Rattle.map_assembly.proofs.StateLemmas.{frame_of, ordered_is, few_ordered, fit_ordered, is_map_of, layout_seen, next_of_last}
 use Rattle.map_assembly.proofs.gather.Gather.map_of.Goals as goal
 
