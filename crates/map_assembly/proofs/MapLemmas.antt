@@ -1,0 +1,286 @@
+-- A MAP's bytes say what the MAP of the frame says, and that gives no minislot twice.
+use Rattle.std.proofs.Common.{◌≡◌, ℕ, zero, suc, ◌+◌, ◌*◌, ◌^◌, ◌<◌, ◌≤◌, List, [], ◌∷◌, ◌++◌, length, map, true, false, cond, ◌⊎◌, inl, inr, refl, sym, ap, ◌∙◌, subst, arith, eqb, leb, Some, length-append}
+use Rattle.std.proofs.lemmas.List.{length-map}
+use Rattle.std.specs.List.{AllByRecursion, sum_by, count_by, slice_get}
+use Rattle.std.proofs.lemmas.List.Sums.{sum_by-cons}
+use Rattle.std.proofs.lemmas.List.Elements.{recursion_from_All, All-from_recursion}
+use Rattle.std.proofs.lemmas.Nat.{mod_below}
+use Rattle.std.proofs.lemmas.Bool.{cases_lt, cases_eq, lt-ltb, le-ltb, eq-eqb, ne_eqb, or_cases, eqb-true, leb-true, and_parts, and_right}
+use Rattle.slice_scheduler.specs.Minislots.{Minislots}
+use Rattle.slice_scheduler.specs.Iuc.{number_of}
+use Rattle.slice_scheduler.specs.declared.span.Iuc.{Iuc}
+use Rattle.slice_scheduler.specs.declared.span.Iuc.TheVariants.{Request, Short, Long}
+use Rattle.slice_scheduler.specs.declared.span.Span.{Span}
+use Rattle.slice_scheduler.specs.declared.elements.ElementsFields.{ElementsFields}
+use Rattle.slice_table.specs.Plant.{ranges_meet}
+use Rattle.map_assembly.specs.declared.element.MapElement.{MapElement}
+use Rattle.map_assembly.specs.declared.layout.MapLayout.{MapLayout}
+use Rattle.map_assembly.specs.declared.share.Share.{Share}
+use Rattle.map_assembly.specs.declared.view.MapHeader.{MapHeader}
+use Rattle.map_assembly.specs.declared.view.MapSpan.{MapSpan}
+use Rattle.map_assembly.specs.Element.{is_null, FitsElement, spelled_elements, elements_in}
+use Rattle.map_assembly.specs.Reading.{element_of_span, null_at, is_pending, ElementsSay, MapReads}
+use Rattle.map_assembly.specs.Map.{idle_span, head_span, map_span, filled, map_spans, map_pending, map_header, frame_start, in_order, map_of, pending_at, elements_of_map}
+use Rattle.map_assembly.specs.Writing.{spelled_map}
+use Rattle.map_assembly.specs.Part.{is_within, is_mine, ArePartsOf}
+use Rattle.map_assembly.specs.Tiled.{touches, IsOwn, GivesNoMinislotTwice, part_of, own_part}
+use Rattle.map_assembly.specs.Plan.{IsLayout, IsShare, AreShares, AreSlices}
+use Rattle.map_assembly.proofs.OrderLemmas.{pairs_from_AllPairs, sorted-all, sum_by-sorted}
+use Rattle.map_assembly.proofs.TilingLemmas.{InOrder, MapTiles, tiles-map, tiles-joined, tiles-once, tiles-le}
+use Rattle.map_assembly.proofs.PartLemmas.{fits_in, slices_of_parts, parts_in_order, StandsAlone, stands_alone, all_at}
+use Rattle.map_assembly.proofs.OwnLemmas.{all-spans, part_alone, own_alone, touches_one_slice}
+use Rattle.map_assembly.proofs.BackLemmas.{elements-back, header-back, counted-back, body-back}
+
+-- ---- the elements of a MAP say its spans and its grants pending
+
+-- a span whose SID has 14 bits, and that is no Null
+record IsSpelled (s : MapSpan) : Type 0 where
+  pub sid : s.sid < 2 ^ 14
+  pub iuc : s.iuc < 7
+
+no_null_of : (spans : List MapSpan) → AllByRecursion IsSpelled spans → AllByRecursion (λ s. is_null (element_of_span s) ≡ false) spans
+no_null_of [] h = tt
+no_null_of (s ∷ spans) h = (and_right (eqb s.sid 0) (eqb s.iuc 7) (ne_eqb s.iuc 7 (λ e. omega (arith, h.0.iuc, e))), no_null_of spans h.1)
+
+pending_of : (end : ℕ) (sids : List ℕ) → AllByRecursion (λ e. is_pending end e ≡ true) (map (pending_at end) sids)
+pending_of end [] = tt
+pending_of end (s ∷ sids) = (eq-eqb end end refl, pending_of end sids)
+
+sids_of : (end : ℕ) (sids : List ℕ) → sids ≡ map (λ (e : MapElement). e.sid) (map (pending_at end) sids)
+sids_of end [] = refl
+sids_of end (s ∷ sids) = ap (λ (xs : List ℕ). s ∷ xs) (sids_of end sids)
+
+elements_say : (a end : ℕ) (spans : List MapSpan) (sids : List ℕ) → MapTiles a end spans → AllByRecursion IsSpelled spans → ElementsSay (elements_of_map end spans sids) spans sids
+elements_say a end spans sids tiles spelled = record {
+  end = end;
+  behind = map (pending_at end) sids;
+  split = refl;
+  joined = tiles-joined a end spans tiles;
+  no_null = no_null_of spans spelled;
+  grants = pending_of end sids;
+  pending = sids_of end sids;
+}
+
+-- ---- each element has its bits
+
+spans_fit : (a end : ℕ) (spans : List MapSpan) → end ≤ 4096 → MapTiles a end spans → AllByRecursion IsSpelled spans → AllByRecursion FitsElement (map element_of_span spans)
+spans_fit a end [] le tiles h = tt
+spans_fit a end (s ∷ spans) le tiles h =
+    (record { sid = h.0.sid; iuc = omega (arith, h.0.iuc); offset = omega (arith, tiles.0, tiles-le (a + s.len) end spans tiles.2) },
+     spans_fit (a + s.len) end spans le tiles.2 h.1)
+
+sids_fit : (end : ℕ) (sids : List ℕ) → end ≤ 4096 → AllByRecursion (λ n. n < 2 ^ 14) sids → AllByRecursion FitsElement (map (pending_at end) sids)
+sids_fit end [] le h = tt
+sids_fit end (s ∷ sids) le h = (record { sid = h.0; iuc = omega arith; offset = omega arith }, sids_fit end sids le h.1)
+
+all-append : {X : Type 0} (P : X → Type 0) (xs ys : List X) → AllByRecursion P xs → AllByRecursion P ys → AllByRecursion P (xs ++ ys)
+all-append P [] ys p q = q
+all-append P (x ∷ xs) ys p q = (p.0, all-append P xs ys p.1 q)
+
+elements_fit : (a end : ℕ) (spans : List MapSpan) (sids : List ℕ) → end ≤ 4096 → MapTiles a end spans → AllByRecursion IsSpelled spans → AllByRecursion (λ n. n < 2 ^ 14) sids → AllByRecursion FitsElement (elements_of_map end spans sids)
+elements_fit a end spans sids le tiles spelled small =
+    all-append FitsElement (map element_of_span spans) (null_at end ∷ map (pending_at end) sids) (spans_fit a end spans le tiles spelled)
+    (record { sid = omega arith; iuc = omega arith; offset = omega arith }, sids_fit end sids le small)
+
+-- ---- what the parts give
+
+small_sid : (share : Share) (sid : ℕ) → IsShare share → is_mine share.sids sid ≡ true → sid < 2 ^ 14
+small_sid share sid is mine = by (or_cases (eqb sid 0) (is_within share.sids sid) mine)
+  where
+    by : (eqb sid 0 ≡ true) ⊎ (is_within share.sids sid ≡ true) → sid < 2 ^ 14
+    by (inl e) = omega (arith, eqb-true sid 0 e)
+    by (inr w) = omega (arith, leb-true sid share.sids.last (and_parts (leb share.sids.first sid) (leb sid share.sids.last) w).1, is.high)
+
+small_iuc : (iuc : Iuc) → number_of iuc < 7
+small_iuc Request = omega arith
+small_iuc Short = omega arith
+small_iuc Long = omega arith
+
+spelled_spans : (share : Share) (spans : List Span) → IsShare share → AllByRecursion (λ s. is_mine share.sids s.sid ≡ true) spans → AllByRecursion IsSpelled (map map_span spans)
+spelled_spans share [] is h = tt
+spelled_spans share (s ∷ spans) is h = (record { sid = small_sid share s.sid is h.0; iuc = small_iuc s.iuc }, spelled_spans share spans is h.1)
+
+small_sids : (share : Share) (sids : List ℕ) → IsShare share → AllByRecursion (λ s. is_mine share.sids s ≡ true) sids → AllByRecursion (λ n. n < 2 ^ 14) sids
+small_sids share [] is h = tt
+small_sids share (s ∷ sids) is h = (small_sid share s is h.0, small_sids share sids is h.1)
+
+-- a part whose SIDs have 14 bits
+record IsSmall (p : ElementsFields) : Type 0 where
+  pub spans : AllByRecursion IsSpelled (map map_span p.spans)
+  pub pending : AllByRecursion (λ n. n < 2 ^ 14) p.pending
+
+small_parts : (shares : List Share) (slices : List Minislots) (parts : List ElementsFields) → AllByRecursion IsShare shares → ArePartsOf shares slices parts → AllByRecursion IsSmall parts
+small_parts [] [] [] each h = tt
+small_parts [] [] (p ∷ parts) each h = absurd h
+small_parts [] (m ∷ slices) parts each h = absurd h
+small_parts (s ∷ shares) [] parts each h = absurd h
+small_parts (s ∷ shares) (m ∷ slices) [] each h = absurd h
+small_parts (s ∷ shares) (m ∷ slices) (p ∷ parts) each h =
+    (record { spans = spelled_spans s p.spans each.0 (fits_in s m p h.0.fits).spans; pending = small_sids s p.pending each.0 (fits_in s m p h.0.fits).pending }, small_parts shares slices parts each.1 h.1)
+
+small-spans : (parts : List ElementsFields) → AllByRecursion IsSmall parts → AllByRecursion (λ p. AllByRecursion IsSpelled (map map_span p.spans)) parts
+small-spans [] h = tt
+small-spans (p ∷ parts) h = (h.0.spans, small-spans parts h.1)
+
+small-pending : (parts : List ElementsFields) → AllByRecursion IsSmall parts → AllByRecursion (λ n. n < 2 ^ 14) (map_pending parts)
+small-pending [] h = tt
+small-pending (p ∷ parts) h = all-append (λ (n : ℕ). n < 2 ^ 14) p.pending (map_pending parts) h.0.pending (small-pending parts h.1)
+
+spelled_map_spans : (layout : MapLayout) (parts : List ElementsFields) → AllByRecursion IsSmall parts → AllByRecursion IsSpelled (map_spans layout parts)
+spelled_map_spans layout parts h =
+    all-spans IsSpelled layout parts (λ head _. record { sid = omega arith; iuc = omega arith }) (λ from to _. record { sid = omega arith; iuc = omega arith }) (small-spans parts h)
+
+-- ---- how many elements there are
+
+abbrev size_of : ElementsFields → ℕ
+size_of p = 1 + (length p.spans + length p.pending)
+
+length-idle : (from to : ℕ) → length (idle_span from to) ≤ 1
+length-idle from to = by (cases_lt from to)
+  where
+    by : (from < to) ⊎ (to ≤ from) → length (idle_span from to) ≤ 1
+    by (inl lt) = rw (lt-ltb from to lt) (omega arith)
+    by (inr le) = rw (le-ltb from to le) (omega arith)
+
+length-head : (head : ℕ) → length (head_span head) ≤ 1
+length-head head = by (cases_eq head 0)
+  where
+    by : (head ≡ 0) ⊎ (head ≡ 0 → ⊥) → length (head_span head) ≤ 1
+    by (inl e) = rw (eq-eqb head 0 e) (omega arith)
+    by (inr ne) = rw (ne_eqb head 0 ne) (omega arith)
+
+length-filled : (from end : ℕ) (parts : List ElementsFields) → length (filled from end parts) + length (map_pending parts) ≤ 1 + sum_by size_of parts
+length-filled from end [] = omega (arith, length-idle from end)
+length-filled from end (p ∷ parts) =
+    omega (arith, length-idle from p.slice.start, length-append (idle_span from p.slice.start) (map map_span p.spans ++ filled (p.slice.start + p.slice.length) end parts),
+      length-append (map map_span p.spans) (filled (p.slice.start + p.slice.length) end parts), length-map p.spans map_span, length-append p.pending (map_pending parts),
+      sum_by-cons size_of p parts, length-filled (p.slice.start + p.slice.length) end parts)
+
+sizes : (shares : List Share) (slices : List Minislots) (parts : List ElementsFields) → ArePartsOf shares slices parts → sum_by size_of parts ≤ sum_by (λ (s : Share). s.elements) shares + 2 * length shares
+sizes [] [] [] h = omega arith
+sizes [] [] (p ∷ parts) h = absurd h
+sizes [] (m ∷ slices) parts h = absurd h
+sizes (s ∷ shares) [] parts h = absurd h
+sizes (s ∷ shares) (m ∷ slices) [] h = absurd h
+sizes (s ∷ shares) (m ∷ slices) (p ∷ parts) h =
+    omega (arith, sum_by-cons size_of p parts, sum_by-cons (λ (x : Share). x.elements) s shares, (fits_in s m p h.0.fits).few, sizes shares slices parts h.1)
+
+few_elements : (layout : MapLayout) (shares : List Share) (slices : List Minislots) (parts : List ElementsFields) → AreShares shares → ArePartsOf shares slices parts
+    → length (map_spans layout (in_order parts)) + 1 + length (map_pending (in_order parts)) ≤ 240
+few_elements layout shares slices parts are h =
+    omega (arith, length-append (head_span layout.head) (filled layout.head layout.frame_minislots (in_order parts)), length-head layout.head,
+      length-filled layout.head layout.frame_minislots (in_order parts), sum_by-sorted size_of (λ (p : ElementsFields). p.slice.start) parts, sizes shares slices parts h, are.few)
+
+length-elements : (end : ℕ) (spans : List MapSpan) (sids : List ℕ) → length (elements_of_map end spans sids) ≡ length spans + 1 + length sids
+length-elements end spans sids =
+    omega (arith, length-append (map element_of_span spans) (null_at end ∷ map (pending_at end) sids), length-map spans element_of_span, length-map sids (pending_at end))
+
+-- ---- the whole
+
+-- the parts of a frame of a plant
+pub record AreFrame (layout : MapLayout) (shares : List Share) (slices : List Minislots) (parts : List ElementsFields) : Type 0 where
+  pub layout_is : IsLayout layout
+  pub shares_are : AreShares shares
+  pub slices_are : AreSlices layout (length shares) slices
+  pub parts_are : ArePartsOf shares slices parts
+
+abbrev pub frame_elements : MapLayout → List ElementsFields → List MapElement
+frame_elements layout parts = elements_of_map layout.frame_minislots (map_spans layout (in_order parts)) (map_pending (in_order parts))
+
+frame_in_order : (layout : MapLayout) (shares : List Share) (slices : List Minislots) (parts : List ElementsFields) → AreFrame layout shares slices parts → InOrder layout.head layout.frame_minislots (in_order parts)
+frame_in_order layout shares slices parts h = parts_in_order layout (length shares) shares slices parts h.layout_is h.slices_are h.parts_are
+
+frame_small : (layout : MapLayout) (shares : List Share) (slices : List Minislots) (parts : List ElementsFields) → AreFrame layout shares slices parts → AllByRecursion IsSmall (in_order parts)
+frame_small layout shares slices parts h =
+    sorted-all IsSmall (λ (p : ElementsFields). p.slice.start) parts (small_parts shares slices parts (recursion_from_All IsShare shares h.shares_are.each) h.parts_are)
+
+frame_tiles : (layout : MapLayout) (shares : List Share) (slices : List Minislots) (parts : List ElementsFields) → AreFrame layout shares slices parts → MapTiles 0 layout.frame_minislots (map_spans layout (in_order parts))
+frame_tiles layout shares slices parts h = tiles-map layout.head layout.frame_minislots (in_order parts) (frame_in_order layout shares slices parts h)
+
+pub frame_count : (layout : MapLayout) (shares : List Share) (slices : List Minislots) (parts : List ElementsFields) → AreFrame layout shares slices parts → length (frame_elements layout parts) ≤ 240
+frame_count layout shares slices parts h =
+    omega (arith, length-elements layout.frame_minislots (map_spans layout (in_order parts)) (map_pending (in_order parts)), few_elements layout shares slices parts h.shares_are h.parts_are)
+
+pub frame_fits : (layout : MapLayout) (shares : List Share) (slices : List Minislots) (parts : List ElementsFields) → AreFrame layout shares slices parts → AllByRecursion FitsElement (frame_elements layout parts)
+frame_fits layout shares slices parts h =
+    elements_fit 0 layout.frame_minislots (map_spans layout (in_order parts)) (map_pending (in_order parts)) h.layout_is.frame (frame_tiles layout shares slices parts h)
+    (spelled_map_spans layout (in_order parts) (frame_small layout shares slices parts h)) (small-pending (in_order parts) (frame_small layout shares slices parts h))
+
+pub frame_reads : (layout : MapLayout) (frame : ℕ) (shares : List Share) (slices : List Minislots) (parts : List ElementsFields) → AreFrame layout shares slices parts
+    → MapReads (spelled_map (map_header layout frame (length (frame_elements layout parts))) (frame_elements layout parts)) (map_of layout frame parts)
+frame_reads layout frame shares slices parts h =
+    let es : List MapElement = frame_elements layout parts in
+    let header : MapHeader = map_header layout frame (length es) in
+    let start : frame_start layout frame < 2 ^ 32 = mod_below (frame * layout.frame_minislots) (2 ^ 32) (omega arith) in
+    record {
+      counted = counted-back header es refl;
+      header =
+          ap (map_header layout frame) (sym (length-elements layout.frame_minislots (map_spans layout (in_order parts)) (map_pending (in_order parts))))
+          ∙ sym (header-back header (spelled_elements es) start start);
+      elements =
+          subst (λ (xs : List MapElement). ElementsSay xs (map_spans layout (in_order parts)) (map_pending (in_order parts)))
+          (sym (ap elements_in (body-back header es) ∙ elements-back es (frame_fits layout shares slices parts h)))
+          (elements_say 0 layout.frame_minislots (map_spans layout (in_order parts)) (map_pending (in_order parts)) (frame_tiles layout shares slices parts h)
+          (spelled_map_spans layout (in_order parts) (frame_small layout shares slices parts h)));
+    }
+
+-- ---- no minislot twice
+
+sum_by-map : {X Y : Type 0} (f : Y → ℕ) (g : X → Y) (xs : List X) → sum_by f (map g xs) ≡ sum_by (λ x. f (g x)) xs
+sum_by-map f g [] = refl
+sum_by-map {X} f g (x ∷ xs) = omega (arith, sum_by-cons f (g x) (map g xs), sum_by-cons (λ (z : X). f (g z)) x xs, sum_by-map f g xs)
+
+touches-slices : (shares : List Share) (slices : List Minislots) (parts : List ElementsFields) (s : MapSpan) → ArePartsOf shares slices parts
+    → count_by (λ slice. touches slice s) slices ≡ sum_by (λ p. cond (touches p.slice s) 1 0) (in_order parts)
+touches-slices shares slices parts s h =
+    ap (λ (ms : List Minislots). count_by (λ (slice : Minislots). touches slice s) ms) (sym (slices_of_parts shares slices parts h))
+    ∙ (sum_by-map (λ (slice : Minislots). cond (touches slice s) 1 0) (λ (p : ElementsFields). p.slice) parts
+    ∙ sym (sum_by-sorted (λ (p : ElementsFields). cond (touches p.slice s) 1 0) (λ (p : ElementsFields). p.slice.start) parts))
+
+few_slices : (shares : List Share) (slices : List Minislots) (parts : List ElementsFields) (spans : List MapSpan) → ArePartsOf shares slices parts
+    → AllByRecursion (λ s. sum_by (λ p. cond (touches p.slice s) 1 0) (in_order parts) ≤ 1) spans → AllByRecursion (λ s. count_by (λ slice. touches slice s) slices ≤ 1) spans
+few_slices shares slices parts [] h few = tt
+few_slices shares slices parts (s ∷ spans) h few = (subst (λ (n : ℕ). n ≤ 1) (sym (touches-slices shares slices parts s h)) few.0, few_slices shares slices parts spans h few.1)
+
+part_there : (shares : List Share) (slices : List Minislots) (parts : List ElementsFields) (k : ℕ) (share : Share) → ArePartsOf shares slices parts → slice_get shares k ≡ Some share → (p : ElementsFields) × (slice_get parts k ≡ Some p)
+part_there [] [] [] k share h e = absurd (cc)
+part_there [] [] (p ∷ parts) k share h e = absurd h
+part_there [] (m ∷ slices) parts k share h e = absurd h
+part_there (s ∷ shares) [] parts k share h e = absurd h
+part_there (s ∷ shares) (m ∷ slices) [] k share h e = absurd h
+part_there (s ∷ shares) (m ∷ slices) (p ∷ parts) zero share h e = (p, refl)
+part_there (s ∷ shares) (m ∷ slices) (p ∷ parts) (suc k) share h e = part_there shares slices parts k share h.1 e
+
+frame_alone : (layout : MapLayout) (shares : List Share) (slices : List Minislots) (parts : List ElementsFields) (k : ℕ) (share : Share) (slice : Minislots) (part : ElementsFields) → AreFrame layout shares slices parts
+    → slice_get shares k ≡ Some share → slice_get slices k ≡ Some slice → slice_get parts k ≡ Some part → StandsAlone share.sids share slice k part parts
+frame_alone layout shares slices parts k share slice part h e f g =
+    stands_alone k share slice part shares slices parts (recursion_from_All IsShare shares h.shares_are.each)
+    (pairs_from_AllPairs (λ (a b : Share). ranges_meet a.sids b.sids ≡ false) shares h.shares_are.apart) h.parts_are e f g
+
+pub frame_tiled : (layout : MapLayout) (shares : List Share) (slices : List Minislots) (parts : List ElementsFields) → AreFrame layout shares slices parts
+    → GivesNoMinislotTwice layout.frame_minislots shares slices (map_spans layout (in_order parts))
+frame_tiled layout shares slices parts h = record {
+  once = λ m lt. tiles-once m 0 layout.frame_minislots (map_spans layout (in_order parts)) (frame_tiles layout shares slices parts h) (omega arith) lt;
+  own = λ k share slice e f.
+      let there : (p : ElementsFields) × (slice_get parts k ≡ Some p) = part_there shares slices parts k share h.parts_are e in
+      All-from_recursion (IsOwn share.sids slice) (map_spans layout (in_order parts))
+      (own_alone layout share slice k there.0 parts (all_at IsShare shares k share (recursion_from_All IsShare shares h.shares_are.each) e) (frame_alone layout shares slices parts k share slice there.0 h e f there.1));
+  apart = All-from_recursion (λ (s : MapSpan). count_by (λ (slice : Minislots). touches slice s) slices ≤ 1) (map_spans layout (in_order parts))
+      (few_slices shares slices parts (map_spans layout (in_order parts)) h.parts_are (touches_one_slice layout (in_order parts) (frame_in_order layout shares slices parts h)));
+}
+
+slice_there : (shares : List Share) (slices : List Minislots) (parts : List ElementsFields) (k : ℕ) (share : Share) → ArePartsOf shares slices parts → slice_get shares k ≡ Some share → (m : Minislots) × (slice_get slices k ≡ Some m)
+slice_there [] [] [] k share h e = absurd (cc)
+slice_there [] [] (p ∷ parts) k share h e = absurd h
+slice_there [] (m ∷ slices) parts k share h e = absurd h
+slice_there (s ∷ shares) [] parts k share h e = absurd h
+slice_there (s ∷ shares) (m ∷ slices) [] k share h e = absurd h
+slice_there (s ∷ shares) (m ∷ slices) (p ∷ parts) zero share h e = (m, refl)
+slice_there (s ∷ shares) (m ∷ slices) (p ∷ parts) (suc k) share h e = slice_there shares slices parts k share h.1 e
+
+pub frame_part : (layout : MapLayout) (frame : ℕ) (shares : List Share) (slices : List Minislots) (parts : List ElementsFields) (k : ℕ) (share : Share) (part : ElementsFields) → AreFrame layout shares slices parts
+    → slice_get shares k ≡ Some share → slice_get parts k ≡ Some part → part_of share.sids (map_of layout frame parts) ≡ own_part part
+frame_part layout frame shares slices parts k share part h e g =
+    let there : (m : Minislots) × (slice_get slices k ≡ Some m) = slice_there shares slices parts k share h.parts_are e in
+    part_alone layout frame share there.0 k part parts (all_at IsShare shares k share (recursion_from_All IsShare shares h.shares_are.each) e)
+    (frame_alone layout shares slices parts k share there.0 part h e there.1 g)

@@ -1,0 +1,158 @@
+-- What is gathered of a plant at first, and after other slices are given.
+use Rattle.std.proofs.Common.{◌≡◌, ℕ, zero, suc, ◌+◌, ◌<◌, ◌≤◌, List, [], ◌∷◌, ◌++◌, length, map, reverse, Bool, false, cond, refl, sym, ap, ◌∙◌, subst, arith, leb, Option, Some}
+use Rattle.std.specs.Prelude.{replicate}
+use Rattle.std.specs.List.{AllByRecursion, All, AllPairs, sum_by, slice_get, find}
+use Rattle.std.proofs.lemmas.List.{length-map, length-replicate, reverse-append}
+use Rattle.std.proofs.lemmas.List.Sums.{sum_by-cons}
+use Rattle.std.proofs.lemmas.List.Elements.{recursion_from_All, All-from_recursion, All-push}
+use Rattle.std.proofs.lemmas.Option.{same_Some}
+use Rattle.std.proofs.lemmas.Bool.{lt-leb, le-leb}
+use Rattle.slice_scheduler.specs.Minislots.{Minislots}
+use Rattle.slice_scheduler.specs.declared.elements.ElementsFields.{ElementsFields}
+use Rattle.slice_table.specs.declared.consts.ConstsFields.{ConstsFields}
+use Rattle.slice_table.specs.declared.operator_row.RowFields.{RowFields}
+use Rattle.slice_table.specs.declared.plant.PlantFields.{PlantFields}
+use Rattle.slice_table.specs.Row.{IsRowOf}
+use Rattle.slice_table.specs.Plant.{slices_meet, ranges_meet, IsPlant}
+use Rattle.map_assembly.specs.declared.share.Share.{Share}
+use Rattle.map_assembly.specs.declared.slicing.Reslicing.{Reslicing}
+use Rattle.map_assembly.specs.Map.{layout_of}
+use Rattle.map_assembly.specs.Part.{share_of}
+use Rattle.map_assembly.specs.Plan.{IsShare, AreShares, IsInFrame, AreSlices}
+use Rattle.map_assembly.specs.Gathering.{Gathering, gathering_of, slices_or, slices_at, is_whole, IsPartAt, AreQueued, IsGathering, IsPast, MayReslice, resliced}
+use Rattle.map_assembly.proofs.OrderLemmas.{PairsByRecursion, pairs_from_AllPairs}
+
+-- ---- pairs and sums over a map
+
+pub AllPairs-from_pairs : {X : Type 0} (R : X → X → Type 0) (xs : List X) → PairsByRecursion R xs → AllPairs R xs
+AllPairs-from_pairs R [] h i j d lt in' = absurd (omega arith)
+AllPairs-from_pairs R (x ∷ xs) h zero zero d lt in' = absurd (omega arith)
+AllPairs-from_pairs R (x ∷ xs) h zero (suc j) d lt in' = All-from_recursion (R x) xs h.0 j d (omega arith)
+AllPairs-from_pairs R (x ∷ xs) h (suc i) zero d lt in' = absurd (omega arith)
+AllPairs-from_pairs R (x ∷ xs) h (suc i) (suc j) d lt in' = AllPairs-from_pairs R xs h.1 i j d (omega arith) (omega arith)
+
+all-over : {X Y : Type 0} (P : Y → Type 0) (f : X → Y) (xs : List X) → AllByRecursion (λ x. P (f x)) xs → AllByRecursion P (map f xs)
+all-over P f [] h = tt
+all-over P f (x ∷ xs) h = (h.0, all-over P f xs h.1)
+
+pairs-over : {X Y : Type 0} (R : Y → Y → Type 0) (f : X → Y) (xs : List X) → PairsByRecursion (λ a b. R (f a) (f b)) xs → PairsByRecursion R (map f xs)
+pairs-over R f [] h = tt
+pairs-over {X} {Y} R f (x ∷ xs) h = (all-over (R (f x)) f xs h.0, pairs-over R f xs h.1)
+
+AllPairs-map : {X Y : Type 0} (R : Y → Y → Type 0) (f : X → Y) (xs : List X) → AllPairs (λ a b. R (f a) (f b)) xs → AllPairs R (map f xs)
+AllPairs-map {X} {Y} R f xs h = AllPairs-from_pairs R (map f xs) (pairs-over R f xs (pairs_from_AllPairs (λ (a b : X). R (f a) (f b)) xs h))
+
+quotas : (rows : List RowFields) → sum_by (λ (s : Share). s.elements) (map share_of rows) ≡ sum_by (λ (r : RowFields). r.elements) rows
+quotas [] = refl
+quotas (r ∷ rows) = omega (arith, sum_by-cons (λ (s : Share). s.elements) (share_of r) (map share_of rows), sum_by-cons (λ (x : RowFields). x.elements) r rows, quotas rows)
+
+-- ---- the rows of a plant
+
+shares_each : (consts : ConstsFields) (rows : List RowFields) → AllByRecursion (IsRowOf consts) rows → AllByRecursion (λ row. IsShare (share_of row)) rows
+shares_each consts [] h = tt
+shares_each consts (r ∷ rows) h = (record { low = h.0.keys.sids_low; high = h.0.keys.sids_high }, shares_each consts rows h.1)
+
+slices_each : (consts : ConstsFields) (rows : List RowFields) → AllByRecursion (IsRowOf consts) rows → AllByRecursion (λ slice. 1 ≤ slice.length) (map (λ row. row.slice) rows)
+    → AllByRecursion (λ row. IsInFrame (layout_of consts) row.slice) rows
+slices_each consts [] h some = tt
+slices_each consts (r ∷ rows) h some = (record { some = some.0; behind_head = h.0.behind_head; within_frame = h.0.within_frame }, slices_each consts rows h.1 some.1)
+
+plant_shares : (plant : PlantFields) → IsPlant plant → AreShares (map share_of plant.rows)
+plant_shares plant is = record {
+  some = omega (arith, is.some, length-map plant.rows share_of);
+  each = All-from_recursion IsShare (map share_of plant.rows) (all-over IsShare share_of plant.rows (shares_each plant.consts plant.rows (recursion_from_All (IsRowOf plant.consts) plant.rows is.rows)));
+  apart = AllPairs-map (λ (a b : Share). ranges_meet a.sids b.sids ≡ false) share_of plant.rows is.sids;
+  few = omega (arith, quotas plant.rows, length-map plant.rows share_of, is.elements);
+}
+
+plant_slices : (plant : PlantFields) → IsPlant plant → All (λ slice. 1 ≤ slice.length) (map (λ row. row.slice) plant.rows) → AreSlices (layout_of plant.consts) (length (map share_of plant.rows)) (map (λ row. row.slice) plant.rows)
+plant_slices plant is some = record {
+  one_each = length-map plant.rows (λ (row : RowFields). row.slice) ∙ sym (length-map plant.rows share_of);
+  each = All-from_recursion (IsInFrame (layout_of plant.consts)) (map (λ (row : RowFields). row.slice) plant.rows)
+      (all-over (IsInFrame (layout_of plant.consts)) (λ (row : RowFields). row.slice) plant.rows
+      (slices_each plant.consts plant.rows (recursion_from_All (IsRowOf plant.consts) plant.rows is.rows) (recursion_from_All (λ (slice : Minislots). 1 ≤ slice.length) (map (λ (row : RowFields). row.slice) plant.rows) some)));
+  apart = AllPairs-map (λ (a b : Minislots). slices_meet a b ≡ false) (λ (row : RowFields). row.slice) plant.rows is.slices;
+}
+
+nobody_waits : (n : ℕ) → 1 ≤ n → is_whole (replicate n []) ≡ false
+nobody_waits zero h = absurd (omega arith)
+nobody_waits (suc n) h = refl
+
+none_queued : (slice_at : ℕ → Option Minislots) (share : Share) (next n k : ℕ) (queue : List ElementsFields) → slice_get (replicate n []) k ≡ Some queue → AreQueued slice_at share next queue
+none_queued slice_at share next zero k queue e = absurd (cc)
+none_queued slice_at share next (suc n) zero queue e =
+    let none : List ElementsFields = [] in
+    subst (λ (q : List ElementsFields). AreQueued slice_at share next q) (same_Some none queue e) tt
+none_queued slice_at share next (suc n) (suc k) queue e = none_queued slice_at share next n k queue e
+
+gathering_is : (plant : PlantFields) → IsPlant plant → All (λ slice. 1 ≤ slice.length) (map (λ row. row.slice) plant.rows) → IsGathering (gathering_of plant)
+gathering_is plant is some = record {
+  layout_is = record { frame = is.consts.frame; head = is.consts.head };
+  shares_are = plant_shares plant is;
+  slices_are = plant_slices plant is some;
+  reslicings_are = All-from_recursion (λ (r : Reslicing). AreSlices (layout_of plant.consts) (length (map share_of plant.rows)) r.slicing) [] tt;
+  one_each = let none : List ElementsFields = [] in length-replicate (length plant.rows) none ∙ sym (length-map plant.rows share_of);
+  waiting = nobody_waits (length plant.rows) is.some;
+  started = omega arith;
+  queued = λ k share queue e f. none_queued (λ (n : ℕ). slice_get (slices_at (map (λ (row : RowFields). row.slice) plant.rows) [] n) k) share plant.consts.first_frame (length plant.rows) k queue f;
+}
+
+pub gathering_made : (plant : PlantFields) (g : Gathering) → IsPlant plant → (slices : List Minislots) → slices ≡ map (λ row. row.slice) plant.rows → All (λ slice. 1 ≤ slice.length) slices → g ≡ gathering_of plant → IsGathering g
+gathering_made plant g is slices e some same =
+    subst IsGathering (sym same) (gathering_is plant is (subst (λ (ms : List Minislots). All (λ (slice : Minislots). 1 ≤ slice.length) ms) e some))
+
+pub same_new : (g h : Gathering) → g.layout ≡ h.layout → g.shares ≡ h.shares → g.slices ≡ h.slices → g.reslicings ≡ h.reslicings → g.queues ≡ h.queues → g.next ≡ h.next → g ≡ h
+same_new g h a b c d e f = λ i. record { layout = a i; shares = b i; slices = c i; reslicings = d i; queues = e i; next = f i }
+
+-- ---- other slices from a frame on
+
+newest-first : (reslicings : List Reslicing) (r : Reslicing) → reverse (reslicings ++ r ∷ []) ≡ r ∷ reverse reslicings
+newest-first reslicings r = reverse-append reslicings (r ∷ [])
+
+pub slices_before : (slices : List Minislots) (reslicings : List Reslicing) (r : Reslicing) (frame : ℕ) → frame < r.from → slices_at slices (reslicings ++ r ∷ []) frame ≡ slices_at slices reslicings frame
+slices_before slices reslicings r frame lt =
+    ap (λ (rs : List Reslicing). slices_or slices (find (λ (x : Reslicing). leb x.from frame) rs)) (newest-first reslicings r)
+    ∙ ap (λ (b : Bool). slices_or slices (cond b (Some r) (find (λ (x : Reslicing). leb x.from frame) (reverse reslicings)))) (lt-leb r.from frame lt)
+
+pub slices_behind : (slices : List Minislots) (reslicings : List Reslicing) (r : Reslicing) (frame : ℕ) → r.from ≤ frame → slices_at slices (reslicings ++ r ∷ []) frame ≡ r.slicing
+slices_behind slices reslicings r frame le =
+    ap (λ (rs : List Reslicing). slices_or slices (find (λ (x : Reslicing). leb x.from frame) rs)) (newest-first reslicings r)
+    ∙ ap (λ (b : Bool). slices_or slices (cond b (Some r) (find (λ (x : Reslicing). leb x.from frame) (reverse reslicings)))) (le-leb r.from frame le)
+
+queued-agree : (f g : ℕ → Option Minislots) (share : Share) (n : ℕ) (queue : List ElementsFields) → ((m : ℕ) → n ≤ m → m < n + length queue → f m ≡ g m) → AreQueued f share n queue → AreQueued g share n queue
+queued-agree f g share n [] agree h = tt
+queued-agree f g share n (q ∷ queue) agree h =
+    (subst (λ (o : Option Minislots). IsPartAt o share q) (agree n (omega arith) (omega arith)) h.0,
+     queued-agree f g share (n + 1) queue (λ m le lt. agree m (omega arith) (omega arith)) h.1)
+
+queue_past : (g : Gathering) (from : ℕ) (queue : List ElementsFields) (m : ℕ) → g.layout.first_frame ≤ g.next → IsPast g from queue → g.next ≤ m → m < g.next + length queue → m < from
+queue_past g from queue m started past le lt = let p : g.next + length queue ≤ from = past (omega arith) in omega arith
+
+all_at_queue : (P : List ElementsFields → Type 0) (queues : List (List ElementsFields)) (k : ℕ) (queue : List ElementsFields) → AllByRecursion P queues → slice_get queues k ≡ Some queue → P queue
+all_at_queue P [] k queue h e = absurd (cc)
+all_at_queue P (q ∷ queues) zero queue h e = subst P (same_Some q queue e) h.0
+all_at_queue P (q ∷ queues) (suc k) queue h e = all_at_queue P queues k queue h.1 e
+
+resliced_is : (g : Gathering) (from : ℕ) (slices : List Minislots) → IsGathering g → MayReslice g from slices → IsGathering (resliced g from slices)
+resliced_is g from slices is may =
+    let r : Reslicing = record { from = from; slicing = slices } in
+    record {
+      layout_is = is.layout_is;
+      shares_are = is.shares_are;
+      slices_are = is.slices_are;
+      reslicings_are = All-push (λ (x : Reslicing). AreSlices g.layout (length g.shares) x.slicing) g.reslicings r is.reslicings_are may.slices_are;
+      one_each = is.one_each;
+      waiting = is.waiting;
+      started = is.started;
+      queued = λ k share queue e f.
+          let past : IsPast g from queue = all_at_queue (IsPast g from) g.queues k queue (recursion_from_All (IsPast g from) g.queues may.past) f in
+          queued-agree (λ (n : ℕ). slice_get (slices_at g.slices g.reslicings n) k) (λ (n : ℕ). slice_get (slices_at g.slices (g.reslicings ++ r ∷ []) n) k) share g.next queue
+          (λ m le lt. ap (λ (ms : List Minislots). slice_get ms k) (sym (slices_before g.slices g.reslicings r m (queue_past g from queue m is.started past le lt))))
+          (is.queued k share queue e f);
+    }
+
+pub resliced_seen : (g now : Gathering) (from : ℕ) (slices : List Minislots) (reslicings : List Reslicing) → g ≡ now → IsGathering g → MayReslice now from slices → reslicings ≡ g.reslicings ++ record { from = from; slicing = slices } ∷ []
+    → IsGathering (record g { reslicings = reslicings })
+resliced_seen g now from slices reslicings e is may same =
+    subst (λ (rs : List Reslicing). IsGathering (record g { reslicings = rs })) (sym same)
+    (resliced_is g from slices is (subst (λ (h : Gathering). MayReslice h from slices) (sym e) may))

@@ -1,0 +1,8 @@
+use Rattle.std.proofs.Common.{◌≡◌, ◌++◌, map, drop}
+use Rattle.map_assembly.specs.Reading.{element_of_span}
+use Rattle.map_assembly.specs.Map.{filled}
+use Rattle.map_assembly.specs.Gathering.{part_at}
+use Rattle.map_assembly.proofs.assembling.push_filled.Given as goal
+
+abbrev pub invariant-loop-k : goal.invariant-loop-k
+invariant-loop-k l = l.list.items ++ map element_of_span (filled l.from l.layout.frame_minislots (map (part_at l.queues l.op l.part) (drop l.k-index l.order))) ≡ l.fn.list.items ++ map element_of_span (filled l.layout.head l.layout.frame_minislots (map (part_at l.queues l.op l.part) l.order))

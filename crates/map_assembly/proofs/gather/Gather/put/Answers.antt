@@ -1,0 +1,5 @@
+use Rattle.std.proofs.Common.{refl, rules}
+use Rattle.map_assembly.proofs.gather.Gather.put.Goals as goal
+
+pub returns-in-Ok-map_of-clause-map : goal.returns-in-Ok-map_of-clause-map
+returns-in-Ok-map_of-clause-map c = (search (rules, c.is_last.ensures c.args.elements), c.map_of.ensures.next, refl, search (rules, c.in-Ok-map_of.ensures.bytes))

@@ -1,0 +1,10 @@
+use Rattle.std.proofs.Common.{◌≡◌, length}
+use Rattle.map_assembly.specs.Element.{elements_in}
+use Rattle.map_assembly.specs.Judging.{behind_null}
+use Rattle.map_assembly.proofs.reading.behind_null.Given as goal
+
+abbrev pub invariant-loop-first : goal.invariant-loop-first
+invariant-loop-first l = behind_null (elements_in l.rest) ≡ behind_null (elements_in l.fn.bytes)
+
+abbrev pub decreases-loop-first : goal.decreases-loop-first
+decreases-loop-first l = length l.rest

@@ -1,0 +1,13 @@
+use Rattle.std.proofs.Common.{◌≡◌, ◌+◌, ◌*◌, ◌≤◌, length}
+use Rattle.map_assembly.specs.Element.{elements_in}
+use Rattle.map_assembly.specs.Judging.{judged}
+use Rattle.map_assembly.proofs.reading.judge.Given as goal
+
+abbrev pub invariant-loop-first : goal.invariant-loop-first
+invariant-loop-first l = record {
+  same : judged l.at l.least (elements_in l.rest) ≡ judged 0 0 (elements_in l.fn.bytes);
+  place : 4 * l.at + length l.rest ≤ 1020;
+}
+
+abbrev pub decreases-loop-first : goal.decreases-loop-first
+decreases-loop-first l = length l.rest

@@ -1,0 +1,10 @@
+-- Tests of slices (own).
+use Rattle.std.specs.Prelude.{not, ◌&&◌, Bool, true, List, [], ◌∷◌}
+use Rattle.std.specs.List.{list_all}
+use Rattle.slice_scheduler.specs.Minislots.{Minislots}
+use Rattle.slice_table.specs.Plant.{slices_meet}
+
+-- no two of these slices meet
+abbrev pub all_apart : List Minislots → Bool
+all_apart [] = true
+all_apart (slice ∷ slices) = list_all (λ other. not (slices_meet slice other)) slices && all_apart slices

@@ -1,0 +1,31 @@
+-- The MAP that the last part of a frame gives (own).
+use Rattle.std.specs.Prelude.{◌≡◌, ℕ, true, false, List, slice_get, Option, Some, None, map}
+use Rattle.slice_scheduler.specs.Minislots.{Minislots}
+use Rattle.slice_scheduler.specs.declared.elements.ElementsFields.{ElementsFields}
+use Rattle.map_assembly.specs.declared.element.MapElement.{MapElement}
+use Rattle.map_assembly.specs.declared.layout.MapLayout.{MapLayout}
+use Rattle.map_assembly.specs.declared.map_bytes.MapBytes.{MapBytes}
+use Rattle.map_assembly.specs.declared.share.Share.{Share}
+use Rattle.map_assembly.specs.Reading.{MapReads}
+use Rattle.map_assembly.specs.Map.{map_of, map_spans, map_pending, elements_of_map}
+use Rattle.map_assembly.specs.Tiled.{GivesNoMinislotTwice, part_of, own_part}
+use Rattle.map_assembly.specs.Gathering.{Gathering, frame_slices, is_last, frame_parts, part_at}
+
+-- the bytes are the MAP of a frame with these parts: they say what that MAP says, it gives no minislot twice, and each
+-- operator's part of it is what that operator put
+pub record IsMapOf (layout : MapLayout) (frame : ℕ) (shares : List Share) (slices : List Minislots) (parts : List ElementsFields) (bytes : List ℕ) : Type 0 where
+  pub reads : MapReads bytes (map_of layout frame parts)
+  pub tiled : GivesNoMinislotTwice layout.frame_minislots shares slices (map_of layout frame parts).spans
+  pub own : (k : ℕ) (share : Share) (part : ElementsFields) → slice_get shares k ≡ Some share → slice_get parts k ≡ Some part → part_of share.sids (map_of layout frame parts) ≡ own_part part
+
+-- what putting a part answers: nothing where it is not the last one of its frame, else that frame's MAP
+abbrev pub IsAnswer : Gathering → ℕ → ℕ → ElementsFields → Option MapBytes → Type 0
+IsAnswer g op frame part None = is_last g op part ≡ false
+IsAnswer g op frame part (Some made) =
+    (is_last g op part ≡ true) × (frame ≡ g.next) × (made.frame ≡ frame)
+    × IsMapOf g.layout frame g.shares (frame_slices g frame) (frame_parts g op part) made.bytes
+
+-- the elements of a frame's MAP, whose last part is this one of `op`, the operators going in this order
+abbrev pub ordered_elements : MapLayout → List ℕ → List (List ElementsFields) → ℕ → ElementsFields → List MapElement
+ordered_elements layout order queues op part =
+    elements_of_map layout.frame_minislots (map_spans layout (map (part_at queues op part) order)) (map_pending (map (part_at queues op part) order))

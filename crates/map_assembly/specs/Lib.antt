@@ -1,0 +1,12 @@
+pub mod Element
+pub mod Reading
+pub mod Judging
+pub mod Sorted
+pub mod Map
+pub mod Writing
+pub mod Part
+pub mod Tiled
+pub mod Plan
+pub mod Gathering
+pub mod Assembled
+pub mod Apart

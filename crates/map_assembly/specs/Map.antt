@@ -1,0 +1,100 @@
+-- What the MAP of a frame says (own layout, after CM-SP-MULPIv3.1, 6.4.4).
+use Rattle.std.specs.Prelude.{ℕ, ◌+◌, ◌-◌, ◌*◌, ◌%◌, ◌^◌, ◌==◌, nat_lt, if◌then◌else◌, List, [], ◌∷◌, ◌++◌, length, map}
+use Rattle.std.specs.List.{flat_map}
+use Rattle.slice_scheduler.specs.Iuc.{number_of}
+use Rattle.slice_scheduler.specs.declared.span.Span.{Span}
+use Rattle.slice_scheduler.specs.declared.elements.ElementsFields.{ElementsFields}
+use Rattle.slice_table.specs.declared.consts.ConstsFields.{ConstsFields}
+use Rattle.map_assembly.specs.declared.element.MapElement.{MapElement}
+use Rattle.map_assembly.specs.declared.layout.MapLayout.{MapLayout}
+use Rattle.map_assembly.specs.declared.view.MapHeader.{MapHeader}
+use Rattle.map_assembly.specs.declared.view.MapSpan.{MapSpan}
+use Rattle.map_assembly.specs.declared.view.MapView.{MapView}
+use Rattle.map_assembly.specs.Reading.{element_of_span, null_at}
+use Rattle.map_assembly.specs.Sorted.{sorted_by}
+
+-- what the MAPs of a plant have in common
+abbrev pub layout_of : ConstsFields → MapLayout
+layout_of consts = record {
+  frame_minislots = consts.frame_minislots;
+  head = consts.head;
+  channel = consts.channel;
+  ucd_count = consts.ucd_count;
+  backoffs = consts.backoffs;
+  first_frame = consts.first_frame;
+}
+
+-- ---- the spans
+
+-- the minislots from one up to another, granted to nobody: none where there are none
+abbrev pub idle_span : ℕ → ℕ → List MapSpan
+idle_span from to = if nat_lt from to then record { sid = 0; iuc = 6; start = from; len = to - from } ∷ [] else []
+
+-- the head of a frame, in which every modem may ask: SID 0x3FFF
+abbrev pub head_span : ℕ → List MapSpan
+head_span head = if head == 0 then [] else record { sid = 16383; iuc = 1; start = 0; len = head } ∷ []
+
+-- a span of an operator's part
+abbrev pub map_span : Span → MapSpan
+map_span s = record { sid = s.sid; iuc = number_of s.iuc; start = s.start; len = s.len }
+
+-- the minislots from `from` up to `end`: the spans of these parts, and one idle span for each run of minislots before,
+-- between and behind them
+abbrev pub filled : ℕ → ℕ → List ElementsFields → List MapSpan
+filled from end [] = idle_span from end
+filled from end (part ∷ parts) =
+    idle_span from part.slice.start ++ (map map_span part.spans ++ filled (part.slice.start + part.slice.length) end parts)
+
+-- the spans of a frame with these parts, in the order of their slices
+abbrev pub map_spans : MapLayout → List ElementsFields → List MapSpan
+map_spans layout parts = head_span layout.head ++ filled layout.head layout.frame_minislots parts
+
+-- ---- the header
+
+-- when a frame begins: the low 32 bits of the minislots before it
+abbrev pub frame_start : MapLayout → ℕ → ℕ
+frame_start layout frame = frame * layout.frame_minislots % 2 ^ 32
+
+-- the header of a frame's MAP with so many elements: it answers the requests up to its own beginning
+abbrev pub map_header : MapLayout → ℕ → ℕ → MapHeader
+map_header layout frame count = record {
+  channel = layout.channel;
+  ucd_count = layout.ucd_count;
+  elements = count;
+  alloc_start = frame_start layout frame;
+  ack_time = frame_start layout frame;
+  backoffs = layout.backoffs;
+}
+
+-- ---- the whole
+
+-- the SIDs of grants pending, part after part
+abbrev pub map_pending : List ElementsFields → List ℕ
+map_pending parts = flat_map (λ part. part.pending) parts
+
+-- the parts of a frame in the order of their slices
+abbrev pub in_order : List ElementsFields → List ElementsFields
+in_order parts = sorted_by (λ part. part.slice.start) parts
+
+-- the view of a frame's MAP with these parts in the order of their slices; its elements are the spans, the Null and the
+-- grants pending
+abbrev pub ordered_map : MapLayout → ℕ → List ElementsFields → MapView
+ordered_map layout frame parts = record {
+  header = map_header layout frame (length (map_spans layout parts) + 1 + length (map_pending parts));
+  spans = map_spans layout parts;
+  pending = map_pending parts;
+}
+
+-- what the MAP of a frame says, given the part of each operator
+abbrev pub map_of : MapLayout → ℕ → List ElementsFields → MapView
+map_of layout frame parts = ordered_map layout frame (in_order parts)
+
+-- ---- its elements
+
+-- a grant pending: IUC 5 at the Null's offset
+abbrev pub pending_at : ℕ → ℕ → MapElement
+pending_at end sid = record { sid = sid; iuc = 5; offset = end }
+
+-- the elements that say these spans and grants pending
+abbrev pub elements_of_map : ℕ → List MapSpan → List ℕ → List MapElement
+elements_of_map end spans sids = map element_of_span spans ++ null_at end ∷ map (pending_at end) sids

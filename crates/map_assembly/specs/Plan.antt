@@ -1,0 +1,35 @@
+-- What the assembly of MAPs knows of a plant (own).
+use Rattle.std.specs.Prelude.{◌≡◌, ℕ, ◌+◌, ◌*◌, ◌≤◌, false, List, length, All, AllPairs, sum_by}
+use Rattle.slice_scheduler.specs.Minislots.{Minislots}
+use Rattle.slice_table.specs.Plant.{slices_meet, ranges_meet}
+use Rattle.map_assembly.specs.declared.layout.MapLayout.{MapLayout}
+use Rattle.map_assembly.specs.declared.share.Share.{Share}
+
+-- a frame has at most 4,096 minislots, its head among them
+pub record IsLayout (layout : MapLayout) : Type 0 where
+  pub frame : layout.frame_minislots ≤ 4096
+  pub head : layout.head ≤ layout.frame_minislots
+
+-- a share has SIDs, which are 1 to 8,191
+pub record IsShare (share : Share) : Type 0 where
+  pub low : 1 ≤ share.sids.first
+  pub high : share.sids.last ≤ 8191
+
+-- there is an operator, no two share a SID, and a MAP of all their quotas has at most 240 elements
+pub record AreShares (shares : List Share) : Type 0 where
+  pub some : 1 ≤ length shares
+  pub each : All IsShare shares
+  pub apart : AllPairs (λ a b. ranges_meet a.sids b.sids ≡ false) shares
+  pub few : sum_by (λ share. share.elements) shares + 2 * length shares + 3 ≤ 240
+
+-- a slice has a minislot, and lies in the frame, behind the head
+pub record IsInFrame (layout : MapLayout) (slice : Minislots) : Type 0 where
+  pub some : 1 ≤ slice.length
+  pub behind_head : layout.head ≤ slice.start
+  pub within_frame : slice.start + slice.length ≤ layout.frame_minislots
+
+-- the slices of so many operators are valid: each lies in the frame, and no two meet
+pub record AreSlices (layout : MapLayout) (count : ℕ) (slices : List Minislots) : Type 0 where
+  pub one_each : length slices ≡ count
+  pub each : All (IsInFrame layout) slices
+  pub apart : AllPairs (λ a b. slices_meet a b ≡ false) slices

@@ -1,0 +1,141 @@
+-- What the bytes of a MAP say (own layout, after CM-SP-MULPIv3.1, 6.4.4).
+use Rattle.std.specs.Prelude.{◌≡◌, ◌≢◌, ℕ, ◌+◌, ◌*◌, ◌<◌, ◌≤◌, Bool, true, false, ◌==◌, ◌&&◌, ◌||◌, List, [], ◌∷◌, ◌++◌, length, map, drop, slice_index, slice_range, Result, Ok, Err}
+use Rattle.std.specs.List.{AllByRecursion}
+use Rattle.std.specs.Int.{w32, from_be_bytes}
+use Rattle.map_assembly.specs.declared.element.MapElement.{MapElement}
+use Rattle.map_assembly.specs.declared.view.MapHeader.{MapHeader}
+use Rattle.map_assembly.specs.declared.view.MapSpan.{MapSpan}
+use Rattle.map_assembly.specs.declared.view.MapView.{MapView}
+use Rattle.map_assembly.specs.declared.view.MapFault.{MapFault}
+use Rattle.map_assembly.specs.declared.view.MapFault.TheVariants.{Short, Count, Backward, NoNull, AfterNull, NoMemory}
+use Rattle.map_assembly.specs.Element.{is_null, elements_in}
+
+-- ---- the elements
+
+-- a span as an element: its length is not there
+abbrev pub element_of_span : MapSpan → MapElement
+element_of_span s = record { sid = s.sid; iuc = s.iuc; offset = s.start }
+
+-- the Null at this offset
+abbrev pub null_at : ℕ → MapElement
+null_at end = record { sid = 0; iuc = 7; offset = end }
+
+-- where the first of these spans begins: at `end` where there is none
+abbrev pub first_start : ℕ → List MapSpan → ℕ
+first_start end [] = end
+first_start end (s ∷ spans) = s.start
+
+-- each span has at least one minislot and goes up to the next one, the last up to `end`
+abbrev pub AreJoined : ℕ → List MapSpan → Type 0
+AreJoined end [] = Unit {0}
+AreJoined end (s ∷ spans) = (0 < s.len) × (s.start + s.len ≡ first_start end spans) × AreJoined end spans
+
+-- a grant pending: IUC 5 or 6 at the Null's offset
+abbrev pub is_pending : ℕ → MapElement → Bool
+is_pending end e = (e.iuc == 5 || e.iuc == 6) && e.offset == end
+
+-- elements say these spans and these SIDs of grants pending: first the spans, none of which is the Null, then the Null at
+-- the end of the last, and behind it the grants pending
+pub record ElementsSay (elements : List MapElement) (spans : List MapSpan) (sids : List ℕ) : Type 0 where
+  pub end : ℕ
+  pub behind : List MapElement
+  pub split : elements ≡ map element_of_span spans ++ null_at end ∷ behind
+  pub joined : AreJoined end spans
+  pub no_null : AllByRecursion (λ s. is_null (element_of_span s) ≡ false) spans
+  pub grants : AllByRecursion (λ e. is_pending end e ≡ true) behind
+  pub pending : sids ≡ map (λ e. e.sid) behind
+
+-- ---- the header
+
+-- the 16 bytes of a header: the fourth is reserved and not read
+abbrev pub header_in : List ℕ → MapHeader
+header_in bytes = record {
+  channel = slice_index bytes 0;
+  ucd_count = slice_index bytes 1;
+  elements = slice_index bytes 2;
+  alloc_start = from_be_bytes w32 (slice_range bytes 4 8);
+  ack_time = from_be_bytes w32 (slice_range bytes 8 12);
+  backoffs = record {
+    ranging_start = slice_index bytes 12;
+    ranging_end = slice_index bytes 13;
+    data_start = slice_index bytes 14;
+    data_end = slice_index bytes 15;
+  };
+}
+
+-- the elements behind a header
+abbrev pub elements_behind : List ℕ → List MapElement
+elements_behind bytes = elements_in (drop 16 bytes)
+
+-- the bytes are a header and as many elements as it counts, four bytes each
+abbrev pub IsCounted : List ℕ → Type 0
+IsCounted bytes = length bytes ≡ 16 + 4 * slice_index bytes 2
+
+-- bytes say what a MAP says: a header, spans and grants pending
+pub record MapReads (bytes : List ℕ) (view : MapView) : Type 0 where
+  pub counted : IsCounted bytes
+  pub header : view.header ≡ header_in bytes
+  pub elements : ElementsSay (elements_behind bytes) view.spans view.pending
+
+-- ---- what is wrong with bytes that say nothing
+
+-- the elements ascend: the first is not before `least`, each further one behind the one before, and none is the Null
+abbrev pub AreAscending : ℕ → List MapElement → Type 0
+AreAscending least [] = Unit {0}
+AreAscending least (e ∷ elements) = (least ≤ e.offset) × (is_null e ≡ false) × AreAscending (e.offset + 1) elements
+
+-- the least offset of an element behind these
+abbrev pub least_behind : ℕ → List MapElement → ℕ
+least_behind least [] = least
+least_behind least (e ∷ elements) = least_behind (e.offset + 1) elements
+
+-- the element at this place is the first that does not ascend; the Null is not before it
+pub record GoesBackward (least : ℕ) (elements : List MapElement) (at : ℕ) : Type 0 where
+  pub before : List MapElement
+  pub element : MapElement
+  pub after : List MapElement
+  pub split : elements ≡ before ++ element ∷ after
+  pub place : length before ≡ at
+  pub ascending : AreAscending least before
+  pub backward : element.offset < least_behind least before
+
+-- the element at this place is the first behind the Null that is no grant pending
+pub record IsNoGrant (end : ℕ) (behind : List MapElement) (at : ℕ) : Type 0 where
+  pub before : List MapElement
+  pub element : MapElement
+  pub after : List MapElement
+  pub split : behind ≡ before ++ element ∷ after
+  pub place : length before ≡ at
+  pub grants : AllByRecursion (λ e. is_pending end e ≡ true) before
+  pub no_grant : is_pending end element ≡ false
+
+pub record FollowsNull (least : ℕ) (elements : List MapElement) (at : ℕ) : Type 0 where
+  pub before : List MapElement
+  pub null : MapElement
+  pub behind : List MapElement
+  pub place : ℕ
+  pub split : elements ≡ before ++ null ∷ behind
+  pub ascending : AreAscending least before
+  pub ascends : least_behind least before ≤ null.offset
+  pub is_the_null : is_null null ≡ true
+  pub no_grant : IsNoGrant null.offset behind place
+  pub behind_them : at ≡ length before + 1 + place
+
+-- the first fault of elements
+abbrev pub ElementsFault : List MapElement → MapFault → Type 0
+ElementsFault elements (Backward at) = GoesBackward 0 elements at
+ElementsFault elements NoNull = AreAscending 0 elements
+ElementsFault elements (AfterNull at) = FollowsNull 0 elements at
+ElementsFault elements fault = ⊥
+
+-- the first fault of bytes
+abbrev pub IsFirstMapFault : List ℕ → MapFault → Type 0
+IsFirstMapFault bytes Short = length bytes < 16
+IsFirstMapFault bytes Count = (16 ≤ length bytes) × (length bytes ≢ 16 + 4 * slice_index bytes 2)
+IsFirstMapFault bytes NoMemory = ⊥
+IsFirstMapFault bytes fault = IsCounted bytes × ElementsFault (elements_behind bytes) fault
+
+-- this view, unless memory ran out
+abbrev pub IsOkUnlessMemory : Result MapView MapFault → MapView → Type 0
+IsOkUnlessMemory (Ok read) view = read ≡ view
+IsOkUnlessMemory (Err fault) view = fault ≡ NoMemory

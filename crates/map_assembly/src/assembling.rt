@@ -1,0 +1,98 @@
+//! Putting the parts of a frame together.
+
+ghost use Rattle.std.specs.Prelude.{◌≡◌, ℕ, ◌≤◌, [], ◌∷◌, ◌++◌, map, length, All, IfOk, OnOk};
+ghost use Rattle.slice_scheduler.specs.declared.elements.ElementsFields.{ElementsFields};
+ghost use Rattle.map_assembly.specs.Element.{FitsElement};
+ghost use Rattle.map_assembly.specs.Reading.{element_of_span, null_at};
+ghost use Rattle.map_assembly.specs.Map.{filled, map_pending, pending_at, map_header};
+ghost use Rattle.map_assembly.specs.Writing.{spelled_map};
+ghost use Rattle.map_assembly.specs.Gathering.{part_at};
+ghost use Rattle.map_assembly.specs.Assembled.{ordered_elements};
+
+use crate::element::MapElement;
+use crate::layout::MapLayout;
+use crate::queue::{Queue, part_at};
+use crate::writing::{push_head, push_idle, push_null, push_pending, push_spans, write_map};
+use slice_scheduler::Elements;
+use slice_table::Op;
+use std::alloc::{AllocError, Global};
+
+/// The most elements that a MAP has.
+const MOST: usize = 240;
+
+/// Adds the spans behind the head: those of each operator in this order, and the minislots that no slice holds.
+fn push_filled(
+    list: &mut Vec<MapElement>,
+    layout: MapLayout,
+    order: &[usize],
+    queues: &[Queue],
+    op: Op,
+    part: &Elements,
+) -> Result<(), AllocError>
+    ensures { OnOk result (list.new.items ≡ list.old.items ++ map element_of_span (filled layout.head layout.frame_minislots (map (part_at queues.now op part.now) order.now))) }
+{
+    let mut from = layout.head;
+    for k in order {
+        let elements = part_at(queues, op, part, *k);
+        let slice = elements.get_slice();
+        push_idle(list, from, slice.get_start())?;
+        push_spans(list, elements)?;
+        from = slice.get_start() + slice.get_length();
+    }
+    push_idle(list, from, layout.frame_minislots)
+}
+
+/// Adds the grants pending of each operator in this order.
+fn push_all_pending(
+    list: &mut Vec<MapElement>,
+    end: u16,
+    order: &[usize],
+    queues: &[Queue],
+    op: Op,
+    part: &Elements,
+) -> Result<(), AllocError>
+    ensures { OnOk result (list.new.items ≡ list.old.items ++ map (pending_at end) (map_pending (map (part_at queues.now op part.now) order.now))) }
+{
+    for k in order {
+        push_pending(list, part_at(queues, op, part, *k), end)?;
+    }
+    Ok(())
+}
+
+/// The elements of the MAP whose last part is this one of `op`, the operators going in this order.
+fn ordered_elements(
+    alloc: Global,
+    layout: MapLayout,
+    order: &[usize],
+    queues: &[Queue],
+    op: Op,
+    part: &Elements,
+) -> Result<Vec<MapElement>, AllocError>
+    ensures { IfOk result (λ list. list.items ≡ ordered_elements layout order.now queues.now op part.now) }
+{
+    let mut list = Vec::with_capacity(alloc, MOST)?;
+    push_head(&mut list, layout.head)?;
+    push_filled(&mut list, layout, order, queues, op, part)?;
+    push_null(&mut list, layout.frame_minislots)?;
+    push_all_pending(&mut list, layout.frame_minislots, order, queues, op, part)?;
+    Ok(list)
+}
+
+/// The bytes of a frame's MAP whose last part is this one of `op`, the operators going in this order.
+pub(crate) fn map_bytes(
+    alloc: Global,
+    layout: MapLayout,
+    frame: u32,
+    order: &[usize],
+    queues: &[Queue],
+    op: Op,
+    part: &Elements,
+) -> Result<Vec<u8>, AllocError>
+    requires few { length (ordered_elements layout order.now queues.now op part.now) ≤ 240 }
+    requires fit { All FitsElement (ordered_elements layout order.now queues.now op part.now) }
+    ensures { IfOk result (λ bytes. bytes.items ≡ spelled_map (map_header layout frame (length (ordered_elements layout order.now queues.now op part.now))) (ordered_elements layout order.now queues.now op part.now)) }
+{
+    let list = ordered_elements(alloc, layout, order, queues, op, part)?;
+    let header = layout.header(frame, list.len() as u8);
+    write_map(alloc, header, list.as_slice())
+}

@@ -1,0 +1,67 @@
+//! Whether slices are valid.
+
+ghost use Rattle.std.specs.Prelude.{◌≡◌, ◌↔◌, not, false, length, All, AllPairs, IsTrue};
+ghost use Rattle.std.specs.List.{list_all};
+ghost use Rattle.slice_table.specs.Plant.{slices_meet};
+ghost use Rattle.map_assembly.specs.Plan.{IsInFrame, AreSlices};
+ghost use Rattle.map_assembly.specs.Apart.{all_apart};
+
+use crate::layout::MapLayout;
+use slice_scheduler::Slice;
+
+/// Whether two slices have a minislot in common.
+fn meet(a: Slice, b: Slice) -> bool
+    ensures { result ≡ slices_meet a b }
+{
+    a.get_start() < b.get_start() + b.get_length() && b.get_start() < a.get_start() + a.get_length()
+}
+
+/// Whether a slice meets none of others.
+fn is_apart(slice: Slice, others: &[Slice]) -> bool
+    ensures { result ≡ list_all (λ other. not (slices_meet slice other)) others.now }
+{
+    others.iter().all(|other| !meet(slice, *other))
+}
+
+/// Whether no two slices meet: each pair is looked at, of at most 32 operators.
+fn all_apart(slices: &[Slice]) -> bool
+    ensures { result ≡ all_apart slices.now }
+{
+    let mut rest = slices;
+    while let [slice, others @ ..] = rest {
+        if !is_apart(*slice, others) {
+            return false;
+        }
+        rest = others;
+    }
+    true
+}
+
+/// Whether no two slices meet.
+fn no_two_meet(slices: &[Slice]) -> bool
+    ensures { IsTrue result ↔ AllPairs (λ a b. slices_meet a b ≡ false) slices.now }
+{
+    all_apart(slices)
+}
+
+/// Whether a slice lies in the frame, behind the head.
+fn is_in_frame(layout: MapLayout, slice: Slice) -> bool
+    ensures { IsTrue result ↔ IsInFrame layout slice }
+{
+    let end = slice.get_start() + slice.get_length();
+    layout.head <= slice.get_start() && end <= layout.frame_minislots
+}
+
+/// Whether each slice lies in the frame, behind the head.
+fn all_in_frame(layout: MapLayout, slices: &[Slice]) -> bool
+    ensures { IsTrue result ↔ All (IsInFrame layout) slices.now }
+{
+    slices.iter().all(|slice| is_in_frame(layout, *slice))
+}
+
+/// Whether these are valid slices of so many operators.
+pub(crate) fn are_slices(layout: MapLayout, count: usize, slices: &[Slice]) -> bool
+    ensures { IsTrue result ↔ AreSlices layout count slices.now }
+{
+    slices.len() == count && all_in_frame(layout, slices) && no_two_meet(slices)
+}

@@ -1,0 +1,332 @@
+//! Gathering the operators' parts of each frame to its MAP.
+
+ghost use Rattle.std.specs.Prelude.{◌≡◌, ◌≢◌, ◌↔◌, ℕ, ◌+◌, ◌<◌, ◌≤◌, [], ◌∷◌, ◌++◌, true, false, List, map, drop, replicate, length, All, IsTrue, slice_get, Option, Some, None, Result, Ok, Err, IfOk, IfErr, OnOk, OnErr};
+ghost use Rattle.slice_scheduler.specs.Minislots.{Minislots};
+ghost use Rattle.slice_scheduler.specs.Tiles.{IsTiled};
+ghost use Rattle.slice_scheduler.specs.declared.elements.ElementsFields.{ElementsFields};
+ghost use Rattle.map_assembly.specs.Part.{share_of};
+ghost use Rattle.map_assembly.specs.Gathering.{gathering_of, fits_at, queue_of, put_fault, with_part, is_whole, is_last, after_put, frame_slices, frame_parts, MayReslice, resliced};
+ghost use Rattle.map_assembly.specs.Assembled.{IsMapOf, IsAnswer};
+ghost use Rattle.map_assembly.specs.declared.refused.GatherFault.{GatherFault};
+ghost use Rattle.map_assembly.specs.declared.refused.GatherFault.TheVariants.{NoMemory};
+
+use crate::assembling::map_bytes;
+use crate::checking::are_slices;
+use crate::layout::MapLayout;
+use crate::map_bytes::MapBytes;
+use crate::queue::{Queue, is_whole};
+use crate::refused::{GatherFault, Refused};
+use crate::share::Share;
+use crate::slicing::{Reslicing, Slicing, slices_at};
+use slice_scheduler::{Elements, Slice};
+use slice_table::{Op, OperatorRow, Plant};
+use std::alloc::{AllocError, Global};
+use std::marker::Model;
+use tlv24::Bytes;
+
+/// The operators' parts of frames, gathered to MAPs. Each operator puts its parts frame by frame, from the plant's first
+/// frame on. Contracts see what is gathered.
+#[derive(Debug, Drop)]
+pub struct Gather {
+    layout: MapLayout,
+    shares: Vec<Share>,
+    slices: Slicing,
+    reslicings: Vec<Reslicing>,
+    queues: Vec<Queue>,
+    next: u64,
+}
+
+impl Model for Gather {
+    ghost use Rattle.map_assembly.specs.Gathering.{Gathering, IsGathering};
+
+    ghost Value = { Gathering };
+
+    ghost view = { λ g. record { layout = g.layout; shares = g.shares.items; slices = g.slices; reslicings = g.reslicings.items; queues = g.queues.items; next = g.next } };
+
+    ghost invariant = { λ g. IsGathering (record { layout = g.layout; shares = g.shares.items; slices = g.slices; reslicings = g.reslicings.items; queues = g.queues.items; next = g.next }) };
+}
+
+/// Whether an operator with these shares may put a part where these are the slices.
+fn fits_at(shares: &[Share], slices: &[Slice], op: Op, part: &Elements) -> bool
+    ensures { result ≡ fits_at (slice_get shares.now op) (slice_get slices.now op) part.now }
+{
+    match (shares.get(op), slices.get(op)) {
+        (Some(share), Some(slice)) => share.fits(*slice, part),
+        _ => false,
+    }
+}
+
+/// How many parts of an operator are in no MAP yet.
+fn queue_len(queues: &[Queue], op: Op) -> usize
+    ensures { result ≡ length (queue_of queues.now op) }
+{
+    match queues.get(op) {
+        Some(queue) => queue.len(),
+        None => 0,
+    }
+}
+
+/// Whether a part of `op` is the last one of its frame: each other operator has put one.
+fn is_last(queues: &[Queue], op: Op) -> bool
+    requires { op < length queues.now }
+    ensures { (part : ElementsFields) → result ≡ is_whole (with_part queues.now op part) }
+{
+    is_whole(&queues[..op]) && is_whole(&queues[op + 1..])
+}
+
+/// Takes the first part of each operator out.
+fn drop_fronts(queues: &mut [Queue])
+    ensures { queues.new ≡ map (λ queue. drop 1 queue) queues.old }
+{
+    for queue in queues.iter_mut() {
+        queue.drop_front();
+    }
+}
+
+/// What each operator may put.
+fn shares_of(alloc: Global, rows: &[OperatorRow]) -> Result<Vec<Share>, AllocError>
+    ensures { IfOk result (λ shares. shares.items ≡ map share_of rows.now) }
+{
+    rows.iter().map(Share::of).collect(alloc)
+}
+
+/// The slice of an operator.
+fn slice_of(row: &OperatorRow) -> Slice
+    ensures value { result ≡ row.now.slice }
+    ensures some { 1 ≤ result.length }
+{
+    let slice = row.get_fields().slice;
+    let _length = slice.get_length();
+    slice
+}
+
+/// The slice of each operator.
+fn slices_of(alloc: Global, rows: &[OperatorRow]) -> Result<Vec<Slice>, AllocError>
+    ensures value { IfOk result (λ slices. slices.items ≡ map (λ row. row.slice) rows.now) }
+    ensures some { IfOk result (λ slices. All (λ slice. 1 ≤ slice.length) slices.items) }
+{
+    let mut slices = Vec::with_capacity(alloc, rows.len())?;
+    for row in rows {
+        slices.push(slice_of(row))?;
+    }
+    Ok(slices)
+}
+
+/// So many queues without a part.
+fn no_queues(alloc: Global, count: usize) -> Result<Vec<Queue>, AllocError>
+    ensures { IfOk result (λ queues. queues.items ≡ replicate count []) }
+{
+    let mut queues = Vec::with_capacity(alloc, count)?;
+    for _op in 0..count {
+        queues.push(Queue::new(alloc))?;
+    }
+    Ok(queues)
+}
+
+/// Whether each of these re-slicings is from an earlier frame on.
+fn all_earlier(reslicings: &[Reslicing], from: u32) -> bool
+    ensures { IsTrue result ↔ All (λ r. r.from < from) reslicings.now }
+{
+    reslicings.iter().all(|reslicing| reslicing.from < from)
+}
+
+/// Whether an operator with so many parts from the frame `next` on has put none yet, or none of the frame `from` or a later one.
+fn is_past(first: u32, next: u64, parts: usize, from: u32) -> bool
+    requires { first ≤ next }
+    ensures { IsTrue result ↔ (first < next + parts → next + parts ≤ from) }
+{
+    if next == first as u64 && parts == 0 {
+        return true;
+    }
+    next <= from as u64 && parts as u64 <= from as u64 - next
+}
+
+/// Whether each part put is of a frame before `from`, given the parts from the frame `next` on.
+fn all_past(first: u32, next: u64, queues: &[Queue], from: u32) -> bool
+    requires { first ≤ next }
+    ensures { IsTrue result ↔ All (λ queue. first < next + length queue → next + length queue ≤ from) queues.now }
+{
+    queues
+        .iter()
+        .all(|queue| is_past(first, next, queue.len(), from))
+}
+
+impl Gather {
+    /// Nothing is put yet.
+    pub fn new(alloc: Global, plant: &Plant) -> Result<Gather, AllocError>
+        ensures { IfOk result (λ gather. gather ≡ gathering_of plant.now) }
+    {
+        let rows = plant.rows();
+        let consts = plant.consts();
+        let first_frame = consts.get_fields().first_frame;
+        let shares = shares_of(alloc, rows)?;
+        let slices = Slicing::new(alloc, slices_of(alloc, rows)?)?;
+        let queues = no_queues(alloc, rows.len())?;
+        Ok(Gather {
+            layout: MapLayout::of(consts),
+            shares,
+            slices,
+            reslicings: Vec::new(alloc),
+            queues,
+            next: first_frame as u64,
+        })
+    }
+
+    /// Why a part is refused, in the order in which this is tried.
+    fn fault_of(&self, op: Op, frame: u32, part: &Elements) -> Option<GatherFault>
+        ensures { result ≡ put_fault self.now op frame part.now }
+    {
+        if op >= self.shares.len() {
+            return Some(GatherFault::Stranger);
+        }
+        if (frame as u64) < self.next {
+            return Some(GatherFault::Old { frame });
+        }
+        let ahead = frame as u64 - self.next;
+        let put = queue_len(self.queues.as_slice(), op) as u64;
+        if ahead < put {
+            return Some(GatherFault::PutTwice);
+        }
+        if put < ahead {
+            return Some(GatherFault::Early { frame });
+        }
+        let slicing = slices_at(&self.slices, self.reslicings.as_slice(), frame);
+        if fits_at(self.shares.as_slice(), slicing.as_slice(), op, part) {
+            None
+        } else {
+            Some(GatherFault::WrongSlice)
+        }
+    }
+
+    /// Keeps a part that is not the last one of its frame. Where no memory is left, hands it back, and nothing has changed.
+    fn keep(&mut self, op: Op, frame: u32, elements: Elements) -> Result<(), Elements>
+        requires put { put_fault self.old op frame elements ≡ None }
+        requires waits { is_last self.old op elements ≡ false }
+        ensures ok { OnOk result (self.new ≡ after_put self.old op elements) }
+        ensures err { IfErr result (λ back. (back ≡ elements) × (self.new ≡ self.old)) }
+    {
+        elements.kept();
+        let queue = &mut self.queues[op];
+        match queue.push(elements) {
+            Ok(()) => Ok(()),
+            Err(elements) => Err(elements),
+        }
+    }
+
+    /// The bytes of the MAP whose last part is this one.
+    fn map_of(
+        &self,
+        alloc: Global,
+        op: Op,
+        frame: u32,
+        part: &Elements,
+    ) -> Result<Vec<u8>, AllocError>
+        requires put { put_fault self.now op frame part.now ≡ None }
+        requires last { is_last self.now op part.now ≡ true }
+        ensures next { frame ≡ self.now.next }
+        ensures bytes { IfOk result (λ bytes. IsMapOf self.now.layout frame self.now.shares (frame_slices self.now frame) (frame_parts self.now op part.now) bytes.items) }
+    {
+        part.kept();
+        let slicing = slices_at(&self.slices, self.reslicings.as_slice(), frame);
+        let queues = self.queues.as_slice();
+        map_bytes(alloc, self.layout, frame, slicing.order(), queues, op, part)
+    }
+
+    /// Takes the parts of a frame out once its MAP is made, whose last part is this one.
+    fn finish(&mut self, op: Op, frame: u32, part: &Elements)
+        requires put { put_fault self.old op frame part.now ≡ None }
+        requires last { is_last self.old op part.now ≡ true }
+        ensures { self.new ≡ after_put self.old op part.now }
+    {
+        drop_fronts(self.queues.as_mut_slice());
+        self.next = frame as u64 + 1;
+    }
+
+    /// Whether a part of this operator is the last one of its frame.
+    fn is_last(&self, op: Op) -> bool
+        requires { op < length self.now.shares }
+        ensures { (part : ElementsFields) → result ≡ is_last self.now op part }
+    {
+        is_last(self.queues.as_slice(), op)
+    }
+
+    /// Puts an operator's part of a frame. The last part of a frame gives its MAP; each other one nothing.
+    ///
+    /// Faults, in this order: `Stranger`, `Old`, `PutTwice`, `Early`, `WrongSlice`, `NoMemory`. Each hands the elements back,
+    /// and nothing has changed.
+    pub fn put(
+        &mut self,
+        alloc: Global,
+        op: Op,
+        frame: u32,
+        elements: Elements,
+    ) -> Result<Option<MapBytes>, Refused>
+        ensures state { OnOk result (self.new ≡ after_put self.old op elements) }
+        ensures map { IfOk result (IsAnswer self.old op frame elements) }
+
+        ensures fault { (fault : GatherFault) → fault ≢ NoMemory → ((result ≡ Err (record { fault = fault; elements = elements })) ↔ (put_fault self.old op frame elements ≡ Some fault)) }
+        ensures refused { IfErr result (λ refused. refused.elements ≡ elements) }
+        ensures memory { IfErr result (λ refused. refused.fault ≡ NoMemory → put_fault self.old op frame elements ≡ None) }
+        ensures err { OnErr result (self.new ≡ self.old) }
+    {
+        if let Some(fault) = self.fault_of(op, frame, &elements) {
+            return Err(Refused { fault, elements });
+        }
+        if !self.is_last(op) {
+            return match self.keep(op, frame, elements) {
+                Ok(()) => Ok(None),
+                Err(elements) => Err(Refused {
+                    fault: GatherFault::NoMemory,
+                    elements,
+                }),
+            };
+        }
+        match self.map_of(alloc, op, frame, &elements) {
+            Ok(bytes) => {
+                self.finish(op, frame, &elements);
+                Ok(Some(MapBytes {
+                    frame,
+                    bytes: Bytes::from_vec(bytes),
+                }))
+            }
+            Err(_) => Err(Refused {
+                fault: GatherFault::NoMemory,
+                elements,
+            }),
+        }
+    }
+
+    /// Whether other slices may be given from a frame on: they are valid slices, one for each operator in the plant's order,
+    /// and the frame is after each of which a part is put and after that of each earlier re-slicing. Takes no memory.
+    pub fn may_reslice(&self, from: u32, slices: &[Slice]) -> bool
+        ensures { IsTrue result ↔ MayReslice self.now from slices.now }
+    {
+        are_slices(self.layout, self.shares.len(), slices)
+            && all_earlier(self.reslicings.as_slice(), from)
+            && all_past(
+                self.layout.first_frame,
+                self.next,
+                self.queues.as_slice(),
+                from,
+            )
+    }
+
+    /// Gives the operators other slices from a frame on, in the plant's order. The caller knows that it may.
+    pub fn reslice(
+        &mut self,
+        alloc: Global,
+        from: u32,
+        slices: Vec<Slice>,
+    ) -> Result<(), AllocError>
+        requires { MayReslice self.old from slices.items }
+        ensures state { OnOk result (self.new ≡ resliced self.old from slices.items) }
+        ensures before { OnOk result ((frame : ℕ) → frame < from → frame_slices self.new frame ≡ frame_slices self.old frame) }
+        ensures behind { OnOk result ((frame : ℕ) → from ≤ frame → frame_slices self.new frame ≡ slices.items) }
+        ensures err { OnErr result (self.new ≡ self.old) }
+    {
+        self.reslicings.reserve(1)?;
+        let slicing = Slicing::new(alloc, slices)?;
+        self.reslicings.push_reserved(Reslicing { from, slicing });
+        Ok(())
+    }
+}

@@ -1,0 +1,24 @@
+//! The MAP of a frame: put together of the operators' parts, and read (CM-SP-MULPIv3.1, 6.4.4; the layout is own).
+#![tactic(auto)]
+
+mod assembling;
+mod checking;
+mod element;
+mod gather;
+mod layout;
+mod map_bytes;
+mod queue;
+mod reading;
+mod refused;
+mod share;
+mod slicing;
+#[cfg(test)]
+mod tests;
+mod view;
+mod writing;
+
+pub use gather::Gather;
+pub use map_bytes::MapBytes;
+pub use reading::read_map;
+pub use refused::{GatherFault, Refused};
+pub use view::{MapFault, MapHeader, MapSpan, MapSpans, MapView};

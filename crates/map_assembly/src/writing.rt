@@ -1,0 +1,116 @@
+//! Writing a MAP.
+
+ghost use Rattle.std.specs.Prelude.{◌≡◌, ℕ, ◌<◌, ◌≤◌, [], ◌∷◌, ◌++◌, map, length, All, IfOk, OnOk};
+ghost use Rattle.std.specs.Int.{w32, to_be_bytes};
+ghost use Rattle.slice_scheduler.specs.declared.elements.ElementsFields.{ElementsFields};
+ghost use Rattle.map_assembly.specs.Element.{FitsElement, spelled_element, spelled_elements};
+ghost use Rattle.map_assembly.specs.Reading.{element_of_span, null_at};
+ghost use Rattle.map_assembly.specs.Map.{idle_span, head_span, map_span, pending_at};
+ghost use Rattle.map_assembly.specs.Writing.{spelled_header, spelled_map};
+
+use crate::element::MapElement;
+use crate::view::MapHeader;
+use slice_scheduler::Elements;
+use std::alloc::{AllocError, Global};
+
+/// Adds the head, in which every modem may ask.
+pub(crate) fn push_head(elements: &mut Vec<MapElement>, head: u16) -> Result<(), AllocError>
+    ensures { OnOk result (elements.new.items ≡ elements.old.items ++ map element_of_span (head_span head)) }
+{
+    if head > 0 {
+        elements.push(MapElement {
+            sid: 0x3FFF,
+            iuc: 1,
+            offset: 0,
+        })?;
+    }
+    Ok(())
+}
+
+/// Adds the minislots from one up to another, granted to nobody.
+pub(crate) fn push_idle(
+    elements: &mut Vec<MapElement>,
+    from: u16,
+    to: u16,
+) -> Result<(), AllocError>
+    ensures { OnOk result (elements.new.items ≡ elements.old.items ++ map element_of_span (idle_span from to)) }
+{
+    if from < to {
+        elements.push(MapElement {
+            sid: 0,
+            iuc: 6,
+            offset: from,
+        })?;
+    }
+    Ok(())
+}
+
+/// Adds the spans of an operator's part.
+pub(crate) fn push_spans(elements: &mut Vec<MapElement>, part: &Elements) -> Result<(), AllocError>
+    ensures { OnOk result (elements.new.items ≡ elements.old.items ++ map element_of_span (map map_span part.now.spans)) }
+{
+    for span in part.get_spans() {
+        elements.push(MapElement {
+            sid: span.sid,
+            iuc: span.iuc.number(),
+            offset: span.start,
+        })?;
+    }
+    Ok(())
+}
+
+/// Adds the Null.
+pub(crate) fn push_null(elements: &mut Vec<MapElement>, end: u16) -> Result<(), AllocError>
+    ensures { OnOk result (elements.new.items ≡ elements.old.items ++ null_at end ∷ []) }
+{
+    elements.push(MapElement {
+        sid: 0,
+        iuc: 7,
+        offset: end,
+    })?;
+    Ok(())
+}
+
+/// Adds the grants pending of an operator's part.
+pub(crate) fn push_pending(
+    elements: &mut Vec<MapElement>,
+    part: &Elements,
+    end: u16,
+) -> Result<(), AllocError>
+    ensures { OnOk result (elements.new.items ≡ elements.old.items ++ map (pending_at end) part.now.pending) }
+{
+    for sid in part.get_pending() {
+        elements.push(MapElement {
+            sid: *sid,
+            iuc: 5,
+            offset: end,
+        })?;
+    }
+    Ok(())
+}
+
+/// The bytes of a MAP.
+pub(crate) fn write_map(
+    alloc: Global,
+    header: MapHeader,
+    elements: &[MapElement],
+) -> Result<Vec<u8>, AllocError>
+    requires few { length elements.now < 256 }
+    requires fit { All FitsElement elements.now }
+    ensures { IfOk result (λ bytes. bytes.items ≡ spelled_map header elements.now) }
+{
+    let mut bytes = Vec::with_capacity(alloc, 16 + 4 * elements.len())?;
+    bytes.extend_from_slice(&[header.channel, header.ucd_count, header.elements, 0])?;
+    bytes.extend_from_slice(&header.alloc_start.to_be_bytes())?;
+    bytes.extend_from_slice(&header.ack_time.to_be_bytes())?;
+    bytes.extend_from_slice(&[
+        header.backoffs.ranging_start,
+        header.backoffs.ranging_end,
+        header.backoffs.data_start,
+        header.backoffs.data_end,
+    ])?;
+    for element in elements {
+        bytes.extend_from_slice(&element.word().to_be_bytes())?;
+    }
+    Ok(bytes)
+}
