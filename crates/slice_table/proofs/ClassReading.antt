@@ -1,6 +1,5 @@
 -- The classes that are read are those of a plant.
-use Rattle.std.proofs.Common.{◌≡◌, ◌≢◌, ℕ, ◌<◌, ◌≤◌, nat_le, le-leb, ◌&&◌, Bool, true, false, not, List, [], ◌∷◌, ◌++◌, length, get_or, All, AllPairs, Option, Some, None, Result, Ok, Err, is_none, refl, sym, subst, ap, ◌∙◌, arith, rules}
-use Rattle.std.specs.Str.{bytes_eq}
+use Rattle.std.proofs.Common.{◌≡◌, ◌≢◌, ℕ, ◌≤◌, nat_le, ◌&&◌, true, false, not, List, [], ◌∷◌, ◌++◌, length, get_or, All, AllPairs, Option, Some, None, Result, Ok, Err, is_none, subst, arith}
 use Rattle.std.specs.Char.{is_ascii_alphanumeric}
 use Rattle.std.specs.List.{list_all, list_any}
 use Rattle.std.proofs.lemmas.Bool.{and_parts, not-true}
@@ -17,9 +16,9 @@ use Rattle.slice_table.specs.declared.plant_key.Place.{Place}
 use Rattle.slice_table.specs.declared.plant_key.Place.TheVariants as place
 use Rattle.slice_table.specs.declared.plant_key.Field.TheVariants as field
 use Rattle.slice_table.specs.Classes.{is_named, StatesParameters, IsClass, AreClasses}
-use Rattle.slice_table.specs.Tree.{Read, ◌>>=◌, each, items_len, expected, checked, text_at, bytes_at, table_of}
+use Rattle.slice_table.specs.Tree.{items_len, expected, checked, text_at, bytes_at, table_of}
 use Rattle.slice_table.specs.ReadConsts.{is_class_name, class_name_at, states_parameters, parameters_in, class_encoding_at, class_read, classes_in, classes_if}
-use Rattle.slice_table.proofs.Parsed.{bind_ok, expected_ok, checked_ok, each_keeps, each_len}
+use Rattle.slice_table.proofs.Parsed.{bind_ok, checked_ok, each_keeps, each_len}
 use Rattle.slice_table.proofs.Values.{none_passes, told_apart, is_none_none}
 
 -- a name that is read: its letters, and that no earlier class has it

@@ -1,16 +1,15 @@
 -- Which of several is the first.
-use Rattle.std.proofs.Common.{◌≡◌, ◌≢◌, ℕ, zero, suc, ◌+◌, ◌<◌, ◌≤◌, ◌⊎◌, ◌↔◌, inl, inr, Bool, true, false, ◌||◌, List, [], ◌∷◌, ◌++◌, append-nil, append_assoc, length, length-append, get_or, AllPairs, find, option_map, Option, Some, None, is_some, IsTrue, refl, sym, subst, ap, ◌∙◌, arith, rules}
+use Rattle.std.proofs.Common.{◌≡◌, ◌≢◌, ℕ, zero, suc, ◌+◌, ◌<◌, ◌≤◌, ◌⊎◌, ◌↔◌, inl, inr, Bool, true, false, ◌||◌, List, [], ◌∷◌, ◌++◌, append-nil, append_assoc, length, length-append, get_or, AllPairs, find, option_map, Option, Some, None, is_some, refl, sym, subst, ap, ◌∙◌, arith}
 use Rattle.std.specs.Prelude.{slice_get}
 use Rattle.std.specs.Option.{option_or}
-use Rattle.std.specs.List.{position_from, list_any}
+use Rattle.std.specs.List.{position_from}
 use Rattle.std.proofs.lemmas.Bool.{cases_Bool, false≢true}
 use Rattle.std.proofs.lemmas.List.{get_or-append-add}
 use Rattle.std.proofs.lemmas.List.Quantifiers.{all_pairs_push}
 use Rattle.dsx_messages.specs.declared.modem.Modem.{Modem}
 use Rattle.slice_table.specs.declared.operator_row.RowFields.{RowFields}
-use Rattle.slice_table.specs.declared.plant.PlantFields.{PlantFields}
 use Rattle.slice_table.specs.Row.{is_listed, same_modem}
-use Rattle.slice_table.specs.Plant.{IsPlant, all_modems}
+use Rattle.slice_table.specs.Plant.{all_modems}
 use Rattle.slice_table.specs.Roster.{holder}
 use Rattle.slice_table.specs.declared.checks.Apart.{Apart}
 use Rattle.slice_table.specs.Checks.{meets, first_pair, first_meeting, first_named, first_again}
@@ -36,12 +35,12 @@ first_least test x xs other place least (suc i) c is passes = let h = least i c 
 pub find_first : {A : Type 0} (test : A → Bool) (xs : List A) (a : A) → find test xs ≡ Some a → IsFirst test xs a
 find_first test [] a h = cc
 find_first test (x ∷ xs) a h = elim (cases_Bool (test x)) [
-    inl passes ↦
-        let is : x ≡ a = same_some x a (rw passes at h) in
-        subst (IsFirst test (x ∷ xs)) is (record { place = 0; here = refl; passes = passes; least = λ i c e p. omega arith })
+  | inl passes ↦
+      let is : x ≡ a = same_some x a (rw passes at h) in
+      subst (IsFirst test (x ∷ xs)) is (record { place = 0; here = refl; passes = passes; least = λ i c e p. omega arith })
   | inr other ↦
-        let rest = find_first test xs a (rw other at h) in
-        record { place = suc rest.place; here = rest.here; passes = rest.passes; least = first_least test x xs other rest.place rest.least }
+      let rest = find_first test xs a (rw other at h) in
+      record { place = suc rest.place; here = rest.here; passes = rest.passes; least = first_least test x xs other rest.place rest.least }
 ]
 
 nowhere : {A : Type 0} (test : A → Bool) (xs : List A) (i : ℕ) (c : A) → find test xs ≡ None → slice_get xs i ≡ Some c → test c ≡ true → ⊥
@@ -65,7 +64,7 @@ behind_least test x xs a b none s zero zero c d lt e f p = absurd (omega (arith,
 behind_least test x xs a b none s zero (suc j) c d lt e f p = absurd (nowhere (test x) xs j d none f (subst (λ z. test z d ≡ true) (sym (same_some x c e)) p))
 behind_least test x xs a b none s (suc i) zero c d lt e f p = absurd (omega (arith, lt))
 behind_least test x xs a b none s (suc i) (suc j) c d lt e f p = elim (s.least i j c d (omega (arith, lt)) e f p) [
-    inl below ↦ inl (omega (arith, below))
+  | inl below ↦ inl (omega (arith, below))
   | inr same ↦ inr (ap suc same.0, omega (arith, same.1))
 ]
 
@@ -109,13 +108,13 @@ first_pair_least test (x ∷ xs) a b h = pair_by test x xs a b (first_pair_least
 again_from : (before ms : List Modem) (m : Modem) → AllPairs (λ a b. a ≢ b) before → first_again before ms ≡ Some m → StandsAgain (before ++ ms) m
 again_from before [] m apart h = cc
 again_from before (x ∷ ms) m apart h = elim (cases_Bool (is_listed x before)) [
-    inl known ↦
-        let is : x ≡ m = same_some x m (rw known at h) in
-        subst (StandsAgain (before ++ x ∷ ms)) is (record { before = before; behind = ms; is = refl; stood = known; distinct = apart })
+  | inl known ↦
+      let is : x ≡ m = same_some x m (rw known at h) in
+      subst (StandsAgain (before ++ x ∷ ms)) is (record { before = before; behind = ms; is = refl; stood = known; distinct = apart })
   | inr new ↦
-        let more : AllPairs (λ a b. a ≢ b) (before ++ x ∷ []) = all_pairs_push (λ a b. a ≢ b) before x apart (λ k d lt.
-            told_modems (get_or before k d) x (none_passes (λ y. same_modem y x) before k d new lt)) in
-        subst (λ (all : List Modem). StandsAgain all m) (append_assoc before (x ∷ []) ms) (again_from (before ++ x ∷ []) ms m more (rw new at h))
+      let more : AllPairs (λ a b. a ≢ b) (before ++ x ∷ []) = all_pairs_push (λ a b. a ≢ b) before x apart (λ k d lt.
+      told_modems (get_or before k d) x (none_passes (λ y. same_modem y x) before k d new lt)) in
+      subst (λ (all : List Modem). StandsAgain all m) (append_assoc before (x ∷ []) ms) (again_from (before ++ x ∷ []) ms m more (rw new at h))
 ]
 
 again_at : (front before behind : List Modem) (m : Modem) → AllPairs (λ a b. a ≢ b) (front ++ before) → is_listed m (front ++ before) ≡ true
@@ -123,13 +122,13 @@ again_at : (front before behind : List Modem) (m : Modem) → AllPairs (λ a b. 
 again_at front [] behind m apart stood = let e : is_listed m front ≡ true = rw (append-nil front) at stood in rw e refl
 again_at front (x ∷ before) behind m apart stood =
     rw (is_new front before x apart)
-        (again_at (front ++ x ∷ []) before behind m (subst (AllPairs (λ a b. a ≢ b)) (sym (append_assoc front (x ∷ []) before)) apart)
-            (subst (λ (all : List Modem). is_listed m all ≡ true) (sym (append_assoc front (x ∷ []) before)) stood))
+    (again_at (front ++ x ∷ []) before behind m (subst (AllPairs (λ a b. a ≢ b)) (sym (append_assoc front (x ∷ []) before)) apart)
+    (subst (λ (all : List Modem). is_listed m all ≡ true) (sym (append_assoc front (x ∷ []) before)) stood))
 
 pub again_is : (modems : List Modem) (m : Modem) → (first_again [] modems ≡ Some m) ↔ StandsAgain modems m
 again_is modems m = (
-    again_from [] modems m (λ i j d lt more. absurd (omega (arith, more))),
-    λ s. ap (first_again []) s.is ∙ again_at [] s.before s.behind m s.distinct s.stood,
+  again_from [] modems m (λ i j d lt more. absurd (omega (arith, more))),
+  λ s. ap (first_again []) s.is ∙ again_at [] s.before s.behind m s.distinct s.stood,
 )
 
 -- ---- whose modem a modem is
@@ -138,15 +137,20 @@ holder_from : (m : Modem) (n : ℕ) (rows : List RowFields) (i : ℕ) → positi
     → (k : ℕ) × (i ≡ n + k) × Holds rows m k
 holder_from m n [] i h = cc
 holder_from m n (row ∷ rows) i h = elim (cases_Bool (is_listed m row.modems)) [
-    inl listed ↦
-        let is : n ≡ i = same_some n i (rw listed at h) in
-        (0, omega (arith, is), record { row = row; here = refl; listed = listed; first = λ j other e l. omega arith })
+  | inl listed ↦
+      let is : n ≡ i = same_some n i (rw listed at h) in
+      (0, omega (arith, is), record { row = row; here = refl; listed = listed; first = λ j other e l. omega arith })
   | inr none ↦
-        let rest = holder_from m (n + 1) rows i (rw none at h) in
-        (suc rest.0, omega (arith, rest.1), record {
-          row = rest.2.row; here = rest.2.here; listed = rest.2.listed;
+      let rest = holder_from m (n + 1) rows i (rw none at h) in (
+        suc rest.0,
+        omega (arith, rest.1),
+        record {
+          row = rest.2.row;
+          here = rest.2.here;
+          listed = rest.2.listed;
           first = first_least (λ r. is_listed m r.modems) row rows none rest.0 rest.2.first;
-        })
+        },
+      )
 ]
 
 pub holder_holds : (rows : List RowFields) (m : Modem) (i : ℕ) → holder rows m ≡ Some i → Holds rows m i
@@ -159,9 +163,9 @@ holder_holds rows m i h =
 both_list : (xs ys : List Modem) (m : Modem) → first_again xs ys ≡ None → is_listed m xs ≡ true → is_listed m ys ≡ true → ⊥
 both_list xs [] m h a b = false≢true b
 both_list xs (y ∷ ys) m h a b = elim (cases_Bool (same_modem y m)) [
-    inl same ↦
-        let is : y ≡ m = same_is_equal y m same in
-        true_false (is_listed m xs) a (subst (λ (k : Modem). is_listed k xs ≡ false) is (passed xs ys y h).0)
+  | inl same ↦
+      let is : y ≡ m = same_is_equal y m same in
+      true_false (is_listed m xs) a (subst (λ (k : Modem). is_listed k xs ≡ false) is (passed xs ys y h).0)
   | inr other ↦ both_list (xs ++ y ∷ []) ys m (passed xs ys y h).1 (listed_append m xs (y ∷ []) ∙ rw a refl) (rw other at b)
 ]
 
@@ -180,7 +184,7 @@ listed_in_row (r ∷ rows) (suc i) row m e h =
 apart_behind : (xs ys : List Modem) → AllPairs (λ a b. a ≢ b) (xs ++ ys) → AllPairs (λ a b. a ≢ b) ys
 apart_behind xs ys h i j d lt more e =
     h (length xs + i) (length xs + j) d (omega (arith, lt)) (omega (arith, more, length-append xs ys))
-        (get_or-append-add xs ys i d ∙ e ∙ sym (get_or-append-add xs ys j d))
+    (get_or-append-add xs ys i d ∙ e ∙ sym (get_or-append-add xs ys j d))
 
 pub one_lists : (rows : List RowFields) (m : Modem) (i j : ℕ) (a b : RowFields) → AllPairs (λ a b. a ≢ b) (all_modems rows)
     → slice_get rows i ≡ Some a → slice_get rows j ≡ Some b → is_listed m a.modems ≡ true → is_listed m b.modems ≡ true → i ≡ j
@@ -188,10 +192,10 @@ one_lists [] m i j a b apart e f g h = let x : ◌≡◌ {A = Option RowFields} 
 one_lists (r ∷ rows) m zero zero a b apart e f g h = refl
 one_lists (r ∷ rows) m zero (suc j) a b apart e f g h =
     absurd (both_list r.modems (all_modems rows) m (none_again r.modems (all_modems rows) apart)
-        (subst (λ (x : RowFields). is_listed m x.modems ≡ true) (sym (same_some r a e)) g) (listed_in_row rows j b m f h))
+    (subst (λ (x : RowFields). is_listed m x.modems ≡ true) (sym (same_some r a e)) g) (listed_in_row rows j b m f h))
 one_lists (r ∷ rows) m (suc i) zero a b apart e f g h =
     absurd (both_list r.modems (all_modems rows) m (none_again r.modems (all_modems rows) apart)
-        (subst (λ (x : RowFields). is_listed m x.modems ≡ true) (sym (same_some r b f)) h) (listed_in_row rows i a m e g))
+    (subst (λ (x : RowFields). is_listed m x.modems ≡ true) (sym (same_some r b f)) h) (listed_in_row rows i a m e g))
 one_lists (r ∷ rows) m (suc i) (suc j) a b apart e f g h = ap suc (one_lists rows m i j a b (apart_behind r.modems (all_modems rows) apart) e f g h)
 
 by_holder : (rows : List RowFields) (m : Modem) (i : ℕ) (o : Option ℕ) → holder rows m ≡ o → Holds rows m i → holder rows m ≡ Some i

@@ -1,7 +1,6 @@
 -- A plant that is read is valid.
-use Rattle.std.proofs.Common.{◌≡◌, ◌≢◌, ℕ, ◌+◌, ◌<◌, ◌≤◌, nat_le, nat_lt, ◌&&◌, Bool, true, false, not, List, [], ◌∷◌, ◌++◌, append-nil, append_assoc, length, get_or, All, AllPairs, find, option_map, Option, Some, None, Result, Ok, Err, inl, inr, zero, suc, refl, sym, subst, ap, ◌∙◌, arith, rules}
+use Rattle.std.proofs.Common.{◌≡◌, ◌≢◌, ℕ, ◌≤◌, nat_le, nat_lt, ◌&&◌, Bool, true, false, not, List, [], ◌∷◌, ◌++◌, append-nil, append_assoc, length, get_or, All, AllPairs, find, option_map, Option, Some, None, Ok, inl, inr, zero, suc, refl, sym, subst, ◌∙◌, arith}
 use Rattle.std.specs.Option.{option_or}
-use Rattle.std.specs.List.{list_any}
 use Rattle.std.proofs.lemmas.Bool.{and_parts, cases_Bool, false≢true}
 use Rattle.std.proofs.lemmas.List.Quantifiers.{all_pairs_push}
 use Rattle.std.proofs.lemmas.List.Kept.{AllPairs-cons}
@@ -10,16 +9,15 @@ use Rattle.slice_table.specs.declared.checks.Apart.{Apart}
 use Rattle.slice_table.specs.declared.checks.Apart.TheVariants.{Slices, Sids, Sfids}
 use Rattle.slice_table.specs.declared.consts.ConstsFields.{ConstsFields}
 use Rattle.slice_table.specs.declared.operator_row.RowFields.{RowFields}
-use Rattle.slice_table.specs.declared.plant.PlantFields.{PlantFields}
 use Rattle.slice_table.specs.declared.plant_fault.PlantFault.{PlantFault}
 use Rattle.slice_table.specs.declared.plant_fault.PlantFault.TheVariants.{SlicesMeet, SidsMeet, SfidsMeet, ModemTwice, TooManyElements, BudgetOverSlice, ProvisionedOver}
 use Rattle.slice_table.specs.Consts.{AreConsts}
-use Rattle.slice_table.specs.Row.{is_listed, same_modem, IsRowOf, DoesFit, count_of}
-use Rattle.slice_table.specs.Plant.{IsPlant, slices_meet, ranges_meet, all_modems, most_elements}
-use Rattle.slice_table.specs.Checks.{meets, first_pair, first_meeting, first_again, repeated, is_over_slice, is_overfull, sids_needed, minislots_needed, elements_needed, counts_fit, needs_fit, do_fit, first_named, meeting_fault, twice_fault, elements_fault, budget_fault, provisioned_fault, late_fault, rows_fault, unless}
+use Rattle.slice_table.specs.Row.{is_listed, same_modem, DoesFit, count_of}
+use Rattle.slice_table.specs.Plant.{IsPlant, all_modems, most_elements}
+use Rattle.slice_table.specs.Checks.{meets, first_pair, first_meeting, first_again, is_over_slice, is_overfull, sids_needed, minislots_needed, elements_needed, counts_fit, needs_fit, do_fit, first_named, meeting_fault, twice_fault, elements_fault, budget_fault, provisioned_fault, late_fault, rows_fault, unless}
 use Rattle.slice_table.proofs.Values.{at_most, none_passes}
 use Rattle.slice_table.proofs.Places.{modem_itself}
-use Rattle.slice_table.proofs.RowReading.{IsReadRow, AreRows}
+use Rattle.slice_table.proofs.RowReading.{AreRows}
 
 -- ---- where there is none
 

@@ -1,18 +1,16 @@
 -- The rows that are read are those of a plant, but for what is asked of all keys together.
-use Rattle.std.proofs.Common.{◌≡◌, ◌≢◌, ℕ, ◌+◌, ◌<◌, ◌≤◌, nat_le, le-leb, ◌&&◌, Bool, true, false, not, List, [], ◌∷◌, ◌++◌, length, get_or, All, AllPairs, Option, Some, None, Result, Ok, Err, is_some, IsSome, IsTrue, codes, refl, sym, subst, ap, ◌∙◌, arith, rules}
-use Rattle.std.specs.Str.{bytes_eq}
-use Rattle.std.specs.List.{list_all, list_any}
+use Rattle.std.proofs.Common.{◌≡◌, ◌≢◌, ℕ, ◌+◌, ◌≤◌, nat_le, ◌&&◌, true, false, not, List, [], ◌∷◌, ◌++◌, length, get_or, All, AllPairs, Option, Some, None, Ok, IsSome, IsTrue, codes, subst, ap, ◌∙◌, arith}
+use Rattle.std.specs.List.{list_any}
 use Rattle.std.proofs.lemmas.Bool.{and_parts, not-true}
 use Rattle.std.proofs.lemmas.List.Elements.{All-push}
 use Rattle.std.proofs.lemmas.List.Quantifiers.{all_pairs_push}
-use Rattle.toml.specs.Data.{Data, Items, Members, get_member, as_array}
+use Rattle.toml.specs.Data.{Data, Members, get_member, as_array}
 use Rattle.dsx_messages.specs.declared.modem.Modem.{Modem}
 use Rattle.admission.specs.Free.{Numbers}
 use Rattle.slice_scheduler.specs.Minislots.{Minislots}
 use Rattle.slice_table.specs.declared.consts.ConstsFields.{ConstsFields}
 use Rattle.slice_table.specs.declared.operator_row.RowFields.{RowFields}
 use Rattle.slice_table.specs.declared.provision.Provision.{Provision}
-use Rattle.slice_table.specs.declared.plant_key.Key.{Key}
 use Rattle.slice_table.specs.declared.plant_key.Key.TheVariants.{Operators, Entry}
 use Rattle.slice_table.specs.declared.plant_key.Field.{Field}
 use Rattle.slice_table.specs.declared.plant_key.Field.TheVariants as field
@@ -20,9 +18,9 @@ use Rattle.slice_table.specs.declared.plant_key.Place.{Place}
 use Rattle.slice_table.specs.declared.plant_key.Place.TheVariants as place
 use Rattle.slice_table.specs.Provisioned.{sets_of_encoding}
 use Rattle.slice_table.specs.Row.{is_listed, IsFrom, IsRow, IsProvision}
-use Rattle.slice_table.specs.Tree.{Read, ◌>>=◌, each, items_len, required, expected, checked, at_field, natural, number_of, modem_at, number_at, pair_at, text_at, bytes_at, array_at, table_of}
+use Rattle.slice_table.specs.Tree.{items_len, required, expected, checked, at_field, natural, number_of, modem_at, number_at, pair_at, text_at, bytes_at, array_at, table_of}
 use Rattle.slice_table.specs.ReadRows.{is_operator_name, is_called, name_at, is_within, slice_at, is_range, range_at, policy_at, modem_read, modems_at, own_modem_at, has_sets, provision_at, provision_read, provisions_in, provisions_if, row_at, row_read, rows_of}
-use Rattle.slice_table.proofs.Parsed.{bind_ok, ok_same, expected_ok, checked_ok, each_keeps, each_len}
+use Rattle.slice_table.proofs.Parsed.{bind_ok, ok_same, checked_ok, each_keeps, each_len}
 use Rattle.slice_table.proofs.Values.{none_passes, told_apart, at_most}
 
 -- ---- one key

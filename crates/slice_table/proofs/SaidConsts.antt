@@ -1,11 +1,10 @@
 -- A reading of what all operators share answers it exactly where the keys say it.
-use Rattle.std.proofs.Common.{◌≡◌, ◌≢◌, ℕ, ◌<◌, ◌≤◌, ◌↔◌, inl, inr, nat_le, ◌&&◌, Bool, true, false, not, List, [], ◌∷◌, ◌++◌, length, get_or, All, Option, Some, None, Result, Ok, Err, codes, is_none, IsTrue, refl, sym, subst, ap, ◌∙◌, arith, rules}
-use Rattle.std.specs.Str.{bytes_eq}
+use Rattle.std.proofs.Common.{◌≡◌, ℕ, ◌≤◌, ◌↔◌, inl, inr, nat_le, ◌&&◌, true, false, not, List, [], length, get_or, Option, Some, None, Result, Ok, Err, codes, refl, sym, subst, ap, ◌∙◌}
 use Rattle.std.specs.Char.{is_ascii_alphanumeric}
 use Rattle.std.specs.List.{list_all, list_any}
 use Rattle.std.proofs.lemmas.Bool.{and_parts, not-true}
 use Rattle.std.proofs.lemmas.List.Folds.{list_any_none}
-use Rattle.toml.specs.Data.{Data, string, array, table, Items, Members, get_member, as_array}
+use Rattle.toml.specs.Data.{Data, array, table, Items, Members, get_member, as_array}
 use Rattle.tlv24.specs.Flow.{flow_of}
 use Rattle.tlv24.specs.declared.fields.FlowFields.{FlowFields}
 use Rattle.tlv24.specs.declared.fault.FlowFault.{FlowFault}
@@ -21,13 +20,13 @@ use Rattle.slice_table.specs.declared.plant_key.Field.TheVariants as field
 use Rattle.slice_table.specs.declared.plant_key.Place.{Place}
 use Rattle.slice_table.specs.declared.plant_key.Place.TheVariants as place
 use Rattle.slice_table.specs.Classes.{is_named, StatesParameters}
-use Rattle.slice_table.specs.Tree.{Read, ◌>>=◌, each, items_len, required, expected, checked, at_field, number_at, number_or, text_at, bytes_at, table_of}
+use Rattle.slice_table.specs.Tree.{items_len, required, expected, checked, number_at, number_or, text_at, bytes_at, table_of}
 use Rattle.slice_table.specs.ReadConsts.{units_at, backoffs_at, timers_at, plant_keys_at, plant_keys_of, is_class_name, class_name_at, states_parameters, parameters_in, class_encoding_at, class_read, classes_in, classes_if, with_classes, consts_of}
-use Rattle.slice_table.specs.Says.{SaysNumber, SaysNumberOr, SayInTurn, SaysUnits, SaysBackoffs, SaysTimers, SaysKeys, SaysClassName, SaysParameters, SaysClass, SaysClasses, SaysConsts}
+use Rattle.slice_table.specs.Says.{SayInTurn, SaysUnits, SaysBackoffs, SaysTimers, SaysKeys, SaysClassName, SaysParameters, SaysClass, SaysClasses, SaysConsts}
 use Rattle.slice_table.proofs.Parsed.{ok_same, bind_ok, required_ok, expected_ok, checked_ok}
 use Rattle.slice_table.proofs.Values.{at_most, none_passes, told_apart}
 use Rattle.slice_table.proofs.ClassReading.{parameters}
-use Rattle.slice_table.proofs.SaidKeys.{bind_both, required_said, expected_said, checked_said, both_true, le_true, array_is, under, number_is, number_or_is, text_said, text_again, bytes_is, turn_is, table_said, table_again}
+use Rattle.slice_table.proofs.SaidKeys.{bind_both, required_said, checked_said, both_true, le_true, array_is, under, number_is, number_or_is, text_said, text_again, bytes_is, turn_is, table_said, table_again}
 use Rattle.slice_table.proofs.SaidRows.{differ, not_again}
 
 -- ---- the table `plant`
@@ -35,58 +34,58 @@ use Rattle.slice_table.proofs.SaidRows.{differ, not_again}
 units_are : (ms : Members) (units : UnitSizes) → (units_at ms ≡ Ok units) ↔ SaysUnits ms units
 unfolding units_at
 units_are ms units = (
-    λ h.
-        let frame_us = bind_ok (number_at place.Plant field.FrameUs 1 1000000 ms) _ units h in
-        let bytes = bind_ok (number_at place.Plant field.BytesPerMinislot 1 65535 ms) _ units frame_us.2 in
-        let made : UnitSizes = record { frame_us = frame_us.0; bytes_per_minislot = bytes.0 } in
-        subst (SaysUnits ms) (ok_same made units bytes.2) (record {
-          frame_us = (number_is place.Plant field.FrameUs 1 1000000 ms frame_us.0).0 frame_us.1;
-          bytes_per_minislot = (number_is place.Plant field.BytesPerMinislot 1 65535 ms bytes.0).0 bytes.1;
-        }),
-    λ s.
-        bind_both (number_at place.Plant field.FrameUs 1 1000000 ms) _ units.frame_us units ((number_is place.Plant field.FrameUs 1 1000000 ms units.frame_us).1 s.frame_us)
-        (bind_both (number_at place.Plant field.BytesPerMinislot 1 65535 ms) _ units.bytes_per_minislot units ((number_is place.Plant field.BytesPerMinislot 1 65535 ms units.bytes_per_minislot).1 s.bytes_per_minislot) refl),
+  λ h.
+      let frame_us = bind_ok (number_at place.Plant field.FrameUs 1 1000000 ms) _ units h in
+      let bytes = bind_ok (number_at place.Plant field.BytesPerMinislot 1 65535 ms) _ units frame_us.2 in
+      let made : UnitSizes = record { frame_us = frame_us.0; bytes_per_minislot = bytes.0 } in
+      subst (SaysUnits ms) (ok_same made units bytes.2) (record {
+        frame_us = (number_is place.Plant field.FrameUs 1 1000000 ms frame_us.0).0 frame_us.1;
+        bytes_per_minislot = (number_is place.Plant field.BytesPerMinislot 1 65535 ms bytes.0).0 bytes.1;
+      }),
+  λ s.
+      bind_both (number_at place.Plant field.FrameUs 1 1000000 ms) _ units.frame_us units ((number_is place.Plant field.FrameUs 1 1000000 ms units.frame_us).1 s.frame_us)
+      (bind_both (number_at place.Plant field.BytesPerMinislot 1 65535 ms) _ units.bytes_per_minislot units ((number_is place.Plant field.BytesPerMinislot 1 65535 ms units.bytes_per_minislot).1 s.bytes_per_minislot) refl),
 )
 
 backoffs_are : (ms : Members) (backoffs : Backoffs) → (backoffs_at ms ≡ Ok backoffs) ↔ SaysBackoffs ms backoffs
 unfolding backoffs_at
 backoffs_are ms backoffs = (
-    λ h.
-        let one = bind_ok (number_or place.Plant field.RangingStart 0 15 0 ms) _ backoffs h in
-        let two = bind_ok (number_or place.Plant field.RangingEnd 0 15 0 ms) _ backoffs one.2 in
-        let three = bind_ok (number_or place.Plant field.DataStart 0 15 0 ms) _ backoffs two.2 in
-        let four = bind_ok (number_or place.Plant field.DataEnd 0 15 0 ms) _ backoffs three.2 in
-        let made : Backoffs = record { ranging_start = one.0; ranging_end = two.0; data_start = three.0; data_end = four.0 } in
-        subst (SaysBackoffs ms) (ok_same made backoffs four.2) (record {
-          ranging_start = (number_or_is place.Plant field.RangingStart 0 15 0 ms one.0).0 one.1;
-          ranging_end = (number_or_is place.Plant field.RangingEnd 0 15 0 ms two.0).0 two.1;
-          data_start = (number_or_is place.Plant field.DataStart 0 15 0 ms three.0).0 three.1;
-          data_end = (number_or_is place.Plant field.DataEnd 0 15 0 ms four.0).0 four.1;
-        }),
-    λ s.
-        bind_both (number_or place.Plant field.RangingStart 0 15 0 ms) _ backoffs.ranging_start backoffs ((number_or_is place.Plant field.RangingStart 0 15 0 ms backoffs.ranging_start).1 s.ranging_start)
-        (bind_both (number_or place.Plant field.RangingEnd 0 15 0 ms) _ backoffs.ranging_end backoffs ((number_or_is place.Plant field.RangingEnd 0 15 0 ms backoffs.ranging_end).1 s.ranging_end)
-        (bind_both (number_or place.Plant field.DataStart 0 15 0 ms) _ backoffs.data_start backoffs ((number_or_is place.Plant field.DataStart 0 15 0 ms backoffs.data_start).1 s.data_start)
-        (bind_both (number_or place.Plant field.DataEnd 0 15 0 ms) _ backoffs.data_end backoffs ((number_or_is place.Plant field.DataEnd 0 15 0 ms backoffs.data_end).1 s.data_end) refl))),
+  λ h.
+      let one = bind_ok (number_or place.Plant field.RangingStart 0 15 0 ms) _ backoffs h in
+      let two = bind_ok (number_or place.Plant field.RangingEnd 0 15 0 ms) _ backoffs one.2 in
+      let three = bind_ok (number_or place.Plant field.DataStart 0 15 0 ms) _ backoffs two.2 in
+      let four = bind_ok (number_or place.Plant field.DataEnd 0 15 0 ms) _ backoffs three.2 in
+      let made : Backoffs = record { ranging_start = one.0; ranging_end = two.0; data_start = three.0; data_end = four.0 } in
+      subst (SaysBackoffs ms) (ok_same made backoffs four.2) (record {
+        ranging_start = (number_or_is place.Plant field.RangingStart 0 15 0 ms one.0).0 one.1;
+        ranging_end = (number_or_is place.Plant field.RangingEnd 0 15 0 ms two.0).0 two.1;
+        data_start = (number_or_is place.Plant field.DataStart 0 15 0 ms three.0).0 three.1;
+        data_end = (number_or_is place.Plant field.DataEnd 0 15 0 ms four.0).0 four.1;
+      }),
+  λ s.
+      bind_both (number_or place.Plant field.RangingStart 0 15 0 ms) _ backoffs.ranging_start backoffs ((number_or_is place.Plant field.RangingStart 0 15 0 ms backoffs.ranging_start).1 s.ranging_start)
+      (bind_both (number_or place.Plant field.RangingEnd 0 15 0 ms) _ backoffs.ranging_end backoffs ((number_or_is place.Plant field.RangingEnd 0 15 0 ms backoffs.ranging_end).1 s.ranging_end)
+      (bind_both (number_or place.Plant field.DataStart 0 15 0 ms) _ backoffs.data_start backoffs ((number_or_is place.Plant field.DataStart 0 15 0 ms backoffs.data_start).1 s.data_start)
+      (bind_both (number_or place.Plant field.DataEnd 0 15 0 ms) _ backoffs.data_end backoffs ((number_or_is place.Plant field.DataEnd 0 15 0 ms backoffs.data_end).1 s.data_end) refl))),
 )
 
 timers_are : (ms : Members) (timers : Waits) → (timers_at ms ≡ Ok timers) ↔ SaysTimers ms timers
 unfolding timers_at
 timers_are ms timers = (
-    λ h.
-        let one = bind_ok (number_or place.Plant field.AckWait 1 65535 150 ms) _ timers h in
-        let two = bind_ok (number_or place.Plant field.Resends 0 255 3 ms) _ timers one.2 in
-        let three = bind_ok (number_or place.Plant field.Hold 1 65535 1500 ms) _ timers two.2 in
-        let made : Waits = record { ack_wait = one.0; resends = two.0; hold = three.0 } in
-        subst (SaysTimers ms) (ok_same made timers three.2) (record {
-          ack_wait = (number_or_is place.Plant field.AckWait 1 65535 150 ms one.0).0 one.1;
-          resends = (number_or_is place.Plant field.Resends 0 255 3 ms two.0).0 two.1;
-          hold = (number_or_is place.Plant field.Hold 1 65535 1500 ms three.0).0 three.1;
-        }),
-    λ s.
-        bind_both (number_or place.Plant field.AckWait 1 65535 150 ms) _ timers.ack_wait timers ((number_or_is place.Plant field.AckWait 1 65535 150 ms timers.ack_wait).1 s.ack_wait)
-        (bind_both (number_or place.Plant field.Resends 0 255 3 ms) _ timers.resends timers ((number_or_is place.Plant field.Resends 0 255 3 ms timers.resends).1 s.resends)
-        (bind_both (number_or place.Plant field.Hold 1 65535 1500 ms) _ timers.hold timers ((number_or_is place.Plant field.Hold 1 65535 1500 ms timers.hold).1 s.hold) refl)),
+  λ h.
+      let one = bind_ok (number_or place.Plant field.AckWait 1 65535 150 ms) _ timers h in
+      let two = bind_ok (number_or place.Plant field.Resends 0 255 3 ms) _ timers one.2 in
+      let three = bind_ok (number_or place.Plant field.Hold 1 65535 1500 ms) _ timers two.2 in
+      let made : Waits = record { ack_wait = one.0; resends = two.0; hold = three.0 } in
+      subst (SaysTimers ms) (ok_same made timers three.2) (record {
+        ack_wait = (number_or_is place.Plant field.AckWait 1 65535 150 ms one.0).0 one.1;
+        resends = (number_or_is place.Plant field.Resends 0 255 3 ms two.0).0 two.1;
+        hold = (number_or_is place.Plant field.Hold 1 65535 1500 ms three.0).0 three.1;
+      }),
+  λ s.
+      bind_both (number_or place.Plant field.AckWait 1 65535 150 ms) _ timers.ack_wait timers ((number_or_is place.Plant field.AckWait 1 65535 150 ms timers.ack_wait).1 s.ack_wait)
+      (bind_both (number_or place.Plant field.Resends 0 255 3 ms) _ timers.resends timers ((number_or_is place.Plant field.Resends 0 255 3 ms timers.resends).1 s.resends)
+      (bind_both (number_or place.Plant field.Hold 1 65535 1500 ms) _ timers.hold timers ((number_or_is place.Plant field.Hold 1 65535 1500 ms timers.hold).1 s.hold) refl)),
 )
 
 -- the keys, whatever the classes are
@@ -103,8 +102,15 @@ keys_said ms keys classes h =
     let timers = bind_ok (timers_at ms) _ keys backoffs.2 in
     let first_frame = bind_ok (number_or place.Plant field.FirstFrame 0 4294967295 0 ms) _ keys timers.2 in
     let made : PlantKeys = record {
-      frame_minislots = frame.0; head = head.0; units = units.0; short_max = short_max.0; channel = channel.0; ucd_count = ucd_count.0;
-      backoffs = backoffs.0; timers = timers.0; first_frame = first_frame.0;
+      frame_minislots = frame.0;
+      head = head.0;
+      units = units.0;
+      short_max = short_max.0;
+      channel = channel.0;
+      ucd_count = ucd_count.0;
+      backoffs = backoffs.0;
+      timers = timers.0;
+      first_frame = first_frame.0;
     } in
     subst (λ (k : PlantKeys). SaysKeys ms (with_classes k classes)) (ok_same made keys first_frame.2) (record {
       frame_minislots = (number_is place.Plant field.FrameMinislots 1 4096 ms frame.0).0 frame.1;
@@ -136,44 +142,45 @@ keys_of_said : (document : Members) (keys : PlantKeys) (classes : List Class) �
 unfolding plant_keys_of
 keys_of_said document keys classes h =
     let d = bind_ok (required (Entry place.Plant field.FrameMinislots) (get_member (codes "plant") document)) _ keys h in
-    let ms = bind_ok (table_of place.Plant d.0) _ keys d.2 in
-    (ms.0,
-        under (get_member (codes "plant") document) d.0 (table ms.0) (required_ok (Entry place.Plant field.FrameMinislots) (get_member (codes "plant") document) d.0 d.1) (table_said place.Plant d.0 ms.0 ms.1),
-        keys_said ms.0 keys classes ms.2)
+    let ms = bind_ok (table_of place.Plant d.0) _ keys d.2 in (
+      ms.0,
+      under (get_member (codes "plant") document) d.0 (table ms.0) (required_ok (Entry place.Plant field.FrameMinislots) (get_member (codes "plant") document) d.0 d.1) (table_said place.Plant d.0 ms.0 ms.1),
+      keys_said ms.0 keys classes ms.2,
+    )
 
 keys_of_again : (document ms : Members) (consts : ConstsFields) (keys : PlantKeys) → get_member (codes "plant") document ≡ Some (table ms)
     → plant_keys_at ms ≡ Ok keys → plant_keys_of document ≡ Ok keys
 unfolding plant_keys_of
 keys_of_again document ms consts keys held h =
     bind_both (required (Entry place.Plant field.FrameMinislots) (get_member (codes "plant") document)) _ (table ms) keys
-        (required_said (Entry place.Plant field.FrameMinislots) (get_member (codes "plant") document) (table ms) held)
-        (bind_both (table_of place.Plant (table ms)) _ ms keys (table_again place.Plant (table ms) ms refl) h)
+    (required_said (Entry place.Plant field.FrameMinislots) (get_member (codes "plant") document) (table ms) held)
+    (bind_both (table_of place.Plant (table ms)) _ ms keys (table_again place.Plant (table ms) ms refl) h)
 
 -- ---- the classes
 
 class_name_is : (classes : List Class) (place : Place) (ms : Members) (name : List ℕ) → (class_name_at classes place ms ≡ Ok name) ↔ SaysClassName classes ms name
 unfolding class_name_at is_class_name
 class_name_is classes place ms name = (
-    λ h.
-        let text = bind_ok (text_at place field.Name ms) _ name h in
-        let test = checked_ok (Entry place field.Name) (is_class_name text.0 && not (list_any (is_named text.0) classes)) text.0 name text.2 in
-        let parts = and_parts (is_class_name text.0) (not (list_any (is_named text.0) classes)) test.0 in
-        let valid = and_parts (nat_le 1 (length text.0) && nat_le (length text.0) 15) (list_all is_ascii_alphanumeric text.0) parts.0 in
-        let sizes = and_parts (nat_le 1 (length text.0)) (nat_le (length text.0) 15) valid.0 in
-        subst (SaysClassName classes ms) test.1 (record {
-          held = text_said place field.Name ms text.0 text.1;
-          some = at_most 1 (length text.0) sizes.0;
-          few = at_most (length text.0) 15 sizes.1;
-          letters = valid.1;
-          new = λ k d lt. told_apart (get_or classes k d).name text.0 (none_passes (is_named text.0) classes k d (not-true (list_any (is_named text.0) classes) parts.1) lt);
-        }),
-    λ s.
-        let new : list_any (is_named name) classes ≡ false = list_any_none (is_named name) classes (λ k d lt. differ (get_or classes k d).name name (s.new k d lt)) in
-        let valid = both_true (nat_le 1 (length name) && nat_le (length name) 15) (list_all is_ascii_alphanumeric name)
-            (both_true (nat_le 1 (length name)) (nat_le (length name) 15) (le_true 1 (length name) s.some) (le_true (length name) 15 s.few)) s.letters in
-        bind_both (text_at place field.Name ms) _ name name (text_again place field.Name ms name s.held)
-            (checked_said (Entry place field.Name) (is_class_name name && not (list_any (is_named name) classes)) name
-                (both_true (is_class_name name) (not (list_any (is_named name) classes)) valid (not_again (list_any (is_named name) classes) new))),
+  λ h.
+      let text = bind_ok (text_at place field.Name ms) _ name h in
+      let test = checked_ok (Entry place field.Name) (is_class_name text.0 && not (list_any (is_named text.0) classes)) text.0 name text.2 in
+      let parts = and_parts (is_class_name text.0) (not (list_any (is_named text.0) classes)) test.0 in
+      let valid = and_parts (nat_le 1 (length text.0) && nat_le (length text.0) 15) (list_all is_ascii_alphanumeric text.0) parts.0 in
+      let sizes = and_parts (nat_le 1 (length text.0)) (nat_le (length text.0) 15) valid.0 in
+      subst (SaysClassName classes ms) test.1 (record {
+        held = text_said place field.Name ms text.0 text.1;
+        some = at_most 1 (length text.0) sizes.0;
+        few = at_most (length text.0) 15 sizes.1;
+        letters = valid.1;
+        new = λ k d lt. told_apart (get_or classes k d).name text.0 (none_passes (is_named text.0) classes k d (not-true (list_any (is_named text.0) classes) parts.1) lt);
+      }),
+  λ s.
+      let new : list_any (is_named name) classes ≡ false = list_any_none (is_named name) classes (λ k d lt. differ (get_or classes k d).name name (s.new k d lt)) in
+      let valid = both_true (nat_le 1 (length name) && nat_le (length name) 15) (list_all is_ascii_alphanumeric name)
+      (both_true (nat_le 1 (length name)) (nat_le (length name) 15) (le_true 1 (length name) s.some) (le_true (length name) 15 s.few)) s.letters in
+      bind_both (text_at place field.Name ms) _ name name (text_again place field.Name ms name s.held)
+      (checked_said (Entry place field.Name) (is_class_name name && not (list_any (is_named name) classes)) name
+      (both_true (is_class_name name) (not (list_any (is_named name) classes)) valid (not_again (list_any (is_named name) classes) new))),
 )
 
 parameters_again : (flow : FlowFields) → StatesParameters flow → states_parameters flow ≡ true
@@ -189,35 +196,35 @@ stated_said key (Err fault) flow h = cc
 encoding_is : (place : Place) (ms : Members) (flow : FlowFields) → (class_encoding_at place ms ≡ Ok flow) ↔ SaysParameters ms flow
 unfolding class_encoding_at
 encoding_is place ms flow = (
-    λ h.
-        let bytes = bind_ok (bytes_at place field.Encoding ms) (λ b. parameters_in (Entry place field.Encoding) (flow_of b)) flow h in
-        let said = stated_said (Entry place field.Encoding) (flow_of bytes.0) flow bytes.2 in
-        record { bytes = bytes.0; held = (bytes_is place field.Encoding ms bytes.0).0 bytes.1; stated = said.0; parameters = said.1 },
-    λ s.
-        bind_both (bytes_at place field.Encoding ms) (λ b. parameters_in (Entry place field.Encoding) (flow_of b)) s.bytes flow ((bytes_is place field.Encoding ms s.bytes).1 s.held)
-            (ap (parameters_in (Entry place field.Encoding)) s.stated ∙ checked_said (Entry place field.Encoding) (states_parameters flow) flow (parameters_again flow s.parameters)),
+  λ h.
+      let bytes = bind_ok (bytes_at place field.Encoding ms) (λ b. parameters_in (Entry place field.Encoding) (flow_of b)) flow h in
+      let said = stated_said (Entry place field.Encoding) (flow_of bytes.0) flow bytes.2 in
+      record { bytes = bytes.0; held = (bytes_is place field.Encoding ms bytes.0).0 bytes.1; stated = said.0; parameters = said.1 },
+  λ s.
+      bind_both (bytes_at place field.Encoding ms) (λ b. parameters_in (Entry place field.Encoding) (flow_of b)) s.bytes flow ((bytes_is place field.Encoding ms s.bytes).1 s.held)
+      (ap (parameters_in (Entry place field.Encoding)) s.stated ∙ checked_said (Entry place field.Encoding) (states_parameters flow) flow (parameters_again flow s.parameters)),
 )
 
 class_is : (classes : List Class) (d : Data) (class : Class) → (class_read classes d ≡ Ok class) ↔ SaysClass classes d class
 unfolding class_read
 class_is classes d class = (
-    λ h.
-        let place : Place = place.Class (length classes) in
-        let ms = bind_ok (table_of place d) _ class h in
-        let name = bind_ok (class_name_at classes place ms.0) _ class ms.2 in
-        let encoding = bind_ok (class_encoding_at place ms.0) _ class name.2 in
-        let made : Class = record { name = name.0; encoding = encoding.0 } in
-        subst (SaysClass classes d) (ok_same made class encoding.2) (record {
-          ms = ms.0;
-          is = table_said place d ms.0 ms.1;
-          name = (class_name_is classes place ms.0 name.0).0 name.1;
-          encoding = (encoding_is place ms.0 encoding.0).0 encoding.1;
-        }),
-    λ s.
-        let place : Place = place.Class (length classes) in
-        bind_both (table_of place d) _ s.ms class (table_again place d s.ms s.is)
-        (bind_both (class_name_at classes place s.ms) _ class.name class ((class_name_is classes place s.ms class.name).1 s.name)
-        (bind_both (class_encoding_at place s.ms) _ class.encoding class ((encoding_is place s.ms class.encoding).1 s.encoding) refl)),
+  λ h.
+      let place : Place = place.Class (length classes) in
+      let ms = bind_ok (table_of place d) _ class h in
+      let name = bind_ok (class_name_at classes place ms.0) _ class ms.2 in
+      let encoding = bind_ok (class_encoding_at place ms.0) _ class name.2 in
+      let made : Class = record { name = name.0; encoding = encoding.0 } in
+      subst (SaysClass classes d) (ok_same made class encoding.2) (record {
+        ms = ms.0;
+        is = table_said place d ms.0 ms.1;
+        name = (class_name_is classes place ms.0 name.0).0 name.1;
+        encoding = (encoding_is place ms.0 encoding.0).0 encoding.1;
+      }),
+  λ s.
+      let place : Place = place.Class (length classes) in
+      bind_both (table_of place d) _ s.ms class (table_again place d s.ms s.is)
+      (bind_both (class_name_at classes place s.ms) _ class.name class ((class_name_is classes place s.ms class.name).1 s.name)
+      (bind_both (class_encoding_at place s.ms) _ class.encoding class ((encoding_is place s.ms class.encoding).1 s.encoding) refl)),
 )
 
 classes_said : (d : Data) (classes : List Class) → classes_in d ≡ Ok classes → (ds : Items) × (d ≡ array ds) × (items_len ds ≤ 64) × SayInTurn SaysClass [] ds classes
@@ -225,15 +232,18 @@ unfolding classes_in
 classes_said d classes h =
     let ds = bind_ok (expected Classes (as_array d)) _ classes h in
     let few = bind_ok (checked Classes (nat_le (items_len ds.0) 64) ds.0) _ classes ds.2 in
-    let test = checked_ok Classes (nat_le (items_len ds.0) 64) ds.0 few.0 few.1 in
-    (ds.0, array_is d ds.0 (expected_ok Classes (as_array d) ds.0 ds.1), at_most (items_len ds.0) 64 test.0,
-        subst (λ (items : Items). SayInTurn SaysClass [] items classes) (sym test.1) ((turn_is class_read SaysClass class_is [] few.0 classes).0 few.2))
+    let test = checked_ok Classes (nat_le (items_len ds.0) 64) ds.0 few.0 few.1 in (
+      ds.0,
+      array_is d ds.0 (expected_ok Classes (as_array d) ds.0 ds.1),
+      at_most (items_len ds.0) 64 test.0,
+      subst (λ (items : Items). SayInTurn SaysClass [] items classes) (sym test.1) ((turn_is class_read SaysClass class_is [] few.0 classes).0 few.2),
+    )
 
 classes_again : (ds : Items) (classes : List Class) → items_len ds ≤ 64 → SayInTurn SaysClass [] ds classes → classes_in (array ds) ≡ Ok classes
 unfolding classes_in
 classes_again ds classes few h =
     bind_both (checked Classes (nat_le (items_len ds) 64) ds) _ ds classes (checked_said Classes (nat_le (items_len ds) 64) ds (le_true (items_len ds) 64 few))
-        ((turn_is class_read SaysClass class_is [] ds classes).1 h)
+    ((turn_is class_read SaysClass class_is [] ds classes).1 h)
 
 classes_if_said : (document : Members) (o : Option Data) (classes : List Class) → get_member (codes "class") document ≡ o → classes_if o ≡ Ok classes → SaysClasses document classes
 classes_if_said document None classes at h = inl (at, ok_same [] classes h)
@@ -243,11 +253,11 @@ classes_if_said document (Some d) classes at h =
 
 pub classes_are : (document : Members) (classes : List Class) → (classes_if (get_member (codes "class") document) ≡ Ok classes) ↔ SaysClasses document classes
 classes_are document classes = (
-    λ h. classes_if_said document (get_member (codes "class") document) classes refl h,
-    λ s. elim s [
-      inl none ↦ ap classes_if none.0 ∙ ap (λ (cs : List Class). Ok cs) none.1
+  λ h. classes_if_said document (get_member (codes "class") document) classes refl h,
+  λ s. elim s [
+    | inl none ↦ ap classes_if none.0 ∙ ap (λ (cs : List Class). Ok cs) none.1
     | inr some ↦ ap classes_if some.1 ∙ classes_again some.0 classes some.2 some.3
-    ],
+  ],
 )
 
 -- ---- what all operators share
@@ -255,20 +265,27 @@ classes_are document classes = (
 -- the keys of the table `plant` among all of them
 keys_among : ConstsFields → PlantKeys
 keys_among consts = record {
-  frame_minislots = consts.frame_minislots; head = consts.head; units = consts.units; short_max = consts.short_max; channel = consts.channel;
-  ucd_count = consts.ucd_count; backoffs = consts.backoffs; timers = consts.timers; first_frame = consts.first_frame;
+  frame_minislots = consts.frame_minislots;
+  head = consts.head;
+  units = consts.units;
+  short_max = consts.short_max;
+  channel = consts.channel;
+  ucd_count = consts.ucd_count;
+  backoffs = consts.backoffs;
+  timers = consts.timers;
+  first_frame = consts.first_frame;
 }
 
 pub consts_are : (document : Members) (consts : ConstsFields) → (consts_of document ≡ Ok consts) ↔ SaysConsts document consts
 unfolding consts_of keys_among
 consts_are document consts = (
-    λ h.
-        let keys = bind_ok (plant_keys_of document) _ consts h in
-        let classes = bind_ok (classes_if (get_member (codes "class") document)) _ consts keys.2 in
-        let said = keys_of_said document keys.0 classes.0 keys.1 in
-        subst (SaysConsts document) (ok_same (with_classes keys.0 classes.0) consts classes.2)
-            (record { ms = said.0; held = said.1; keys = said.2; classes = (classes_are document classes.0).0 classes.1 }),
-    λ s.
-        bind_both (plant_keys_of document) _ (keys_among consts) consts (keys_of_again document s.ms consts (keys_among consts) s.held (keys_again s.ms consts (keys_among consts) refl s.keys))
-            (bind_both (classes_if (get_member (codes "class") document)) _ consts.classes consts ((classes_are document consts.classes).1 s.classes) refl),
+  λ h.
+      let keys = bind_ok (plant_keys_of document) _ consts h in
+      let classes = bind_ok (classes_if (get_member (codes "class") document)) _ consts keys.2 in
+      let said = keys_of_said document keys.0 classes.0 keys.1 in
+      subst (SaysConsts document) (ok_same (with_classes keys.0 classes.0) consts classes.2)
+      (record { ms = said.0; held = said.1; keys = said.2; classes = (classes_are document classes.0).0 classes.1 }),
+  λ s.
+      bind_both (plant_keys_of document) _ (keys_among consts) consts (keys_of_again document s.ms consts (keys_among consts) s.held (keys_again s.ms consts (keys_among consts) refl s.keys))
+      (bind_both (classes_if (get_member (codes "class") document)) _ consts.classes consts ((classes_are document consts.classes).1 s.classes) refl),
 )

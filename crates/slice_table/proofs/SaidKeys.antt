@@ -1,12 +1,9 @@
 -- A reading of one key answers a value exactly where the key says it.
-use Rattle.std.proofs.Common.{◌≡◌, ◌≢◌, ℕ, zero, suc, pos, negsuc, ◌+◌, ◌<◌, ◌≤◌, ◌↔◌, ◌⊎◌, inl, inr, nat_le, le-leb, ◌&&◌, Bool, true, false, not, List, [], ◌∷◌, ◌++◌, length, get_or, All, Option, Some, None, Result, Ok, Err, codes, is_none, is_some, IsTrue, IsSome, refl, sym, subst, ap, ◌∙◌, arith, rules}
+use Rattle.std.proofs.Common.{◌≡◌, ℕ, pos, negsuc, ◌+◌, ◌≤◌, ◌↔◌, inl, inr, nat_le, le-leb, ◌&&◌, Bool, true, List, [], ◌∷◌, ◌++◌, Option, Some, None, Result, Ok, Err, codes, refl, sym, subst, ap, ◌∙◌}
 use Rattle.std.specs.Str.{bytes_eq}
-use Rattle.std.specs.Char.{is_ascii_alphanumeric}
-use Rattle.std.specs.List.{list_all, list_any}
-use Rattle.std.proofs.lemmas.Bool.{and_parts, not-true, cases_Bool, false≢true, false_from_ne_true}
-use Rattle.std.proofs.lemmas.List.Folds.{list_any_none}
+use Rattle.std.proofs.lemmas.Bool.{and_parts, cases_Bool}
 use Rattle.std.proofs.lemmas.Slice.Eq.{bytes_eq-Decides}
-use Rattle.toml.specs.Data.{Data, string, integer, float, boolean, datetime, array, table, Items, no_items, item, Members, get_member, as_str, as_array, as_table}
+use Rattle.toml.specs.Data.{Data, string, integer, float, boolean, datetime, array, table, Items, no_items, item, Members, as_str, as_array, as_table}
 use Rattle.hex.specs.Hex.{decode_of, decode_sized}
 use Rattle.hex.specs.declared.error.FromHexError.{FromHexError}
 use Rattle.dsx_messages.specs.declared.modem.Modem.{Modem}
@@ -20,7 +17,7 @@ use Rattle.slice_table.specs.declared.plant_key.Field.TheVariants as field
 use Rattle.slice_table.specs.declared.plant_key.Place.{Place}
 use Rattle.slice_table.specs.declared.plant_key.Key.{Key}
 use Rattle.slice_table.specs.declared.plant_key.Key.TheVariants.{Table, Entry}
-use Rattle.slice_table.specs.Tree.{Read, ◌>>=◌, each, required, expected, checked, at_field, natural, number_of, number_if, number_at, number_or, both, pair_in, array_at, pair_at, text_at, decoded, bytes_at, modem_in, modem_of, modem_at, table_of}
+use Rattle.slice_table.specs.Tree.{Read, ◌>>=◌, each, required, expected, checked, at_field, natural, number_of, number_if, number_at, number_or, both, pair_in, array_at, pair_at, text_at, decoded, bytes_at, modem_in, modem_of, table_of}
 use Rattle.slice_table.specs.ReadRows.{is_within, slice_at, is_range, range_at, aged_at, policy_named, policy_at}
 use Rattle.slice_table.specs.Says.{SaysNumber, SaysNumberOr, two, SaysBytes, IsAddress, SayInTurn, SaysSlice, SaysRange, SaysPolicy}
 use Rattle.slice_table.proofs.Parsed.{ok_same, bind_ok, required_ok, expected_ok, checked_ok}
@@ -112,7 +109,7 @@ number_said key low high d n h =
     let test = checked_ok key (nat_le low m.0 && nat_le m.0 high) m.0 n m.2 in
     let parts = and_parts (nat_le low m.0) (nat_le m.0 high) test.0 in
     subst (λ (k : ℕ). (d ≡ integer (pos k)) × (low ≤ k) × (k ≤ high)) test.1
-        (natural_is d m.0 (expected_ok key (natural d) m.0 m.1), at_most low m.0 parts.0, at_most m.0 high parts.1)
+    (natural_is d m.0 (expected_ok key (natural d) m.0 m.1), at_most low m.0 parts.0, at_most m.0 high parts.1)
 
 number_again : (key : Key) (low high n : ℕ) → low ≤ n → n ≤ high → number_of key low high (integer (pos n)) ≡ Ok n
 unfolding number_of
@@ -121,12 +118,12 @@ number_again key low high n l h = checked_said key (nat_le low n && nat_le n hig
 pub number_is : (place : Place) (f : Field) (low high : ℕ) (ms : Members) (n : ℕ) → (number_at place f low high ms ≡ Ok n) ↔ SaysNumber ms f low high n
 unfolding number_at
 number_is place f low high ms n = (
-    λ h.
-        let d = bind_ok (required (Entry place f) (at_field f ms)) _ n h in
-        let said = number_said (Entry place f) low high d.0 n d.2 in
-        record { held = under (at_field f ms) d.0 (integer (pos n)) (required_ok (Entry place f) (at_field f ms) d.0 d.1) said.0; low_enough = said.1; high_enough = said.2 },
-    λ s. bind_both (required (Entry place f) (at_field f ms)) _ (integer (pos n)) n (required_said (Entry place f) (at_field f ms) (integer (pos n)) s.held)
-        (number_again (Entry place f) low high n s.low_enough s.high_enough),
+  λ h.
+      let d = bind_ok (required (Entry place f) (at_field f ms)) _ n h in
+      let said = number_said (Entry place f) low high d.0 n d.2 in
+      record { held = under (at_field f ms) d.0 (integer (pos n)) (required_ok (Entry place f) (at_field f ms) d.0 d.1) said.0; low_enough = said.1; high_enough = said.2 },
+  λ s. bind_both (required (Entry place f) (at_field f ms)) _ (integer (pos n)) n (required_said (Entry place f) (at_field f ms) (integer (pos n)) s.held)
+      (number_again (Entry place f) low high n s.low_enough s.high_enough),
 )
 
 number_if_said : (place : Place) (f : Field) (low high default : ℕ) (ms : Members) (o : Option Data) (n : ℕ) → at_field f ms ≡ o
@@ -140,11 +137,11 @@ pub number_or_is : (place : Place) (f : Field) (low high default : ℕ) (ms : Me
     → (number_or place f low high default ms ≡ Ok n) ↔ SaysNumberOr ms f low high default n
 unfolding number_or
 number_or_is place f low high default ms n = (
-    λ h. number_if_said place f low high default ms (at_field f ms) n refl h,
-    λ s. elim s [
-      inl none ↦ ap (number_if (Entry place f) low high default) none.0 ∙ ap (λ (k : ℕ). Ok k) (sym none.1)
+  λ h. number_if_said place f low high default ms (at_field f ms) n refl h,
+  λ s. elim s [
+    | inl none ↦ ap (number_if (Entry place f) low high default) none.0 ∙ ap (λ (k : ℕ). Ok k) (sym none.1)
     | inr some ↦ ap (number_if (Entry place f) low high default) some.held ∙ number_again (Entry place f) low high n some.low_enough some.high_enough
-    ],
+  ],
 )
 
 -- ---- pairs, slices and ranges
@@ -162,51 +159,51 @@ pair_again : (place : Place) (f : Field) (ms : Members) (a b : ℕ) → at_field
 unfolding pair_at array_at
 pair_again place f ms a b h =
     bind_both (array_at place f ms) _ (item (integer (pos a)) (item (integer (pos b)) no_items)) (a, b)
-        (bind_both (required (Entry place f) (at_field f ms)) _ (two a b) (item (integer (pos a)) (item (integer (pos b)) no_items)) (required_said (Entry place f) (at_field f ms) (two a b) h) refl) refl
+    (bind_both (required (Entry place f) (at_field f ms)) _ (two a b) (item (integer (pos a)) (item (integer (pos b)) no_items)) (required_said (Entry place f) (at_field f ms) (two a b) h) refl) refl
 
 pub slice_is : (consts : ConstsFields) (place : Place) (ms : Members) (slice : Minislots) → (slice_at consts place ms ≡ Ok slice) ↔ SaysSlice consts ms slice
 unfolding slice_at is_within
 slice_is consts place ms slice = (
-    λ h.
-        let pair = bind_ok (pair_at place field.Slice ms) _ slice h in
-        let made : Minislots = record { start = pair.0.0; length = pair.0.1 } in
-        let test = checked_ok (Entry place field.Slice) (is_within consts pair.0.0 pair.0.1) made slice pair.2 in
-        let parts = and_parts (nat_le consts.head pair.0.0 && nat_le 1 pair.0.1) (nat_le (pair.0.0 + pair.0.1) consts.frame_minislots) test.0 in
-        let low = and_parts (nat_le consts.head pair.0.0) (nat_le 1 pair.0.1) parts.0 in
-        subst (SaysSlice consts ms) test.1 (record {
-          held = pair_said place field.Slice ms pair.0.0 pair.0.1 pair.1;
-          behind_head = at_most consts.head pair.0.0 low.0;
-          some = at_most 1 pair.0.1 low.1;
-          within_frame = at_most (pair.0.0 + pair.0.1) consts.frame_minislots parts.1;
-        }),
-    λ s.
-        let low = both_true (nat_le consts.head slice.start) (nat_le 1 slice.length) (le_true consts.head slice.start s.behind_head) (le_true 1 slice.length s.some) in
-        bind_both (pair_at place field.Slice ms) _ (slice.start, slice.length) slice (pair_again place field.Slice ms slice.start slice.length s.held)
-            (checked_said (Entry place field.Slice) (is_within consts slice.start slice.length) slice
-                (both_true (nat_le consts.head slice.start && nat_le 1 slice.length) (nat_le (slice.start + slice.length) consts.frame_minislots) low
-                    (le_true (slice.start + slice.length) consts.frame_minislots s.within_frame))),
+  λ h.
+      let pair = bind_ok (pair_at place field.Slice ms) _ slice h in
+      let made : Minislots = record { start = pair.0.0; length = pair.0.1 } in
+      let test = checked_ok (Entry place field.Slice) (is_within consts pair.0.0 pair.0.1) made slice pair.2 in
+      let parts = and_parts (nat_le consts.head pair.0.0 && nat_le 1 pair.0.1) (nat_le (pair.0.0 + pair.0.1) consts.frame_minislots) test.0 in
+      let low = and_parts (nat_le consts.head pair.0.0) (nat_le 1 pair.0.1) parts.0 in
+      subst (SaysSlice consts ms) test.1 (record {
+        held = pair_said place field.Slice ms pair.0.0 pair.0.1 pair.1;
+        behind_head = at_most consts.head pair.0.0 low.0;
+        some = at_most 1 pair.0.1 low.1;
+        within_frame = at_most (pair.0.0 + pair.0.1) consts.frame_minislots parts.1;
+      }),
+  λ s.
+      let low = both_true (nat_le consts.head slice.start) (nat_le 1 slice.length) (le_true consts.head slice.start s.behind_head) (le_true 1 slice.length s.some) in
+      bind_both (pair_at place field.Slice ms) _ (slice.start, slice.length) slice (pair_again place field.Slice ms slice.start slice.length s.held)
+      (checked_said (Entry place field.Slice) (is_within consts slice.start slice.length) slice
+      (both_true (nat_le consts.head slice.start && nat_le 1 slice.length) (nat_le (slice.start + slice.length) consts.frame_minislots) low
+      (le_true (slice.start + slice.length) consts.frame_minislots s.within_frame))),
 )
 
 pub range_is : (place : Place) (f : Field) (high : ℕ) (ms : Members) (range : Numbers) → (range_at place f high ms ≡ Ok range) ↔ SaysRange ms f high range
 unfolding range_at is_range
 range_is place f high ms range = (
-    λ h.
-        let pair = bind_ok (pair_at place f ms) _ range h in
-        let made : Numbers = record { first = pair.0.0; last = pair.0.1 } in
-        let test = checked_ok (Entry place f) (is_range high pair.0.0 pair.0.1) made range pair.2 in
-        let parts = and_parts (nat_le 1 pair.0.0 && nat_le pair.0.0 pair.0.1) (nat_le pair.0.1 high) test.0 in
-        let low = and_parts (nat_le 1 pair.0.0) (nat_le pair.0.0 pair.0.1) parts.0 in
-        subst (SaysRange ms f high) test.1 (record {
-          held = pair_said place f ms pair.0.0 pair.0.1 pair.1;
-          low = at_most 1 pair.0.0 low.0;
-          ordered = at_most pair.0.0 pair.0.1 low.1;
-          most = at_most pair.0.1 high parts.1;
-        }),
-    λ s.
-        let low = both_true (nat_le 1 range.first) (nat_le range.first range.last) (le_true 1 range.first s.low) (le_true range.first range.last s.ordered) in
-        bind_both (pair_at place f ms) _ (range.first, range.last) range (pair_again place f ms range.first range.last s.held)
-            (checked_said (Entry place f) (is_range high range.first range.last) range
-                (both_true (nat_le 1 range.first && nat_le range.first range.last) (nat_le range.last high) low (le_true range.last high s.most))),
+  λ h.
+      let pair = bind_ok (pair_at place f ms) _ range h in
+      let made : Numbers = record { first = pair.0.0; last = pair.0.1 } in
+      let test = checked_ok (Entry place f) (is_range high pair.0.0 pair.0.1) made range pair.2 in
+      let parts = and_parts (nat_le 1 pair.0.0 && nat_le pair.0.0 pair.0.1) (nat_le pair.0.1 high) test.0 in
+      let low = and_parts (nat_le 1 pair.0.0) (nat_le pair.0.0 pair.0.1) parts.0 in
+      subst (SaysRange ms f high) test.1 (record {
+        held = pair_said place f ms pair.0.0 pair.0.1 pair.1;
+        low = at_most 1 pair.0.0 low.0;
+        ordered = at_most pair.0.0 pair.0.1 low.1;
+        most = at_most pair.0.1 high parts.1;
+      }),
+  λ s.
+      let low = both_true (nat_le 1 range.first) (nat_le range.first range.last) (le_true 1 range.first s.low) (le_true range.first range.last s.ordered) in
+      bind_both (pair_at place f ms) _ (range.first, range.last) range (pair_again place f ms range.first range.last s.held)
+      (checked_said (Entry place f) (is_range high range.first range.last) range
+      (both_true (nat_le 1 range.first && nat_le range.first range.last) (nat_le range.last high) low (le_true range.last high s.most))),
 )
 
 -- ---- texts
@@ -228,10 +225,10 @@ decoded_is (Err e) bytes h = cc
 pub bytes_is : (place : Place) (f : Field) (ms : Members) (bytes : List ℕ) → (bytes_at place f ms ≡ Ok bytes) ↔ SaysBytes ms f bytes
 unfolding bytes_at
 bytes_is place f ms bytes = (
-    λ h.
-        let text = bind_ok (text_at place f ms) _ bytes h in
-        (text.0, text_said place f ms text.0 text.1, decoded_is (decode_of text.0) bytes (expected_ok (Entry place f) (decoded (decode_of text.0)) bytes text.2)),
-    λ s. bind_both (text_at place f ms) _ s.0 bytes (text_again place f ms s.0 s.1) (expected_said (Entry place f) (decoded (decode_of s.0)) bytes (ap decoded s.2)),
+  λ h.
+      let text = bind_ok (text_at place f ms) _ bytes h in
+      (text.0, text_said place f ms text.0 text.1, decoded_is (decode_of text.0) bytes (expected_ok (Entry place f) (decoded (decode_of text.0)) bytes text.2)),
+  λ s. bind_both (text_at place f ms) _ s.0 bytes (text_again place f ms s.0 s.1) (expected_said (Entry place f) (decoded (decode_of s.0)) bytes (ap decoded s.2)),
 )
 
 modem_decoded : (r : Result (List ℕ) FromHexError) (modem : Modem) → modem_in r ≡ Some modem → r ≡ Ok modem.0
@@ -241,10 +238,10 @@ modem_decoded (Err e) modem h = cc
 pub address_is : (key : Key) (d : Data) (modem : Modem) → (modem_of key d ≡ Ok modem) ↔ IsAddress d modem
 unfolding modem_of
 address_is key d modem = (
-    λ h.
-        let text = bind_ok (expected key (as_str d)) _ modem h in
-        (text.0, string_is d text.0 (expected_ok key (as_str d) text.0 text.1), modem_decoded (decode_sized text.0 6) modem (expected_ok key (modem_in (decode_sized text.0 6)) modem text.2)),
-    λ s. bind_both (expected key (as_str d)) _ s.0 modem (expected_said key (as_str d) s.0 (ap as_str s.1)) (expected_said key (modem_in (decode_sized s.0 6)) modem (ap modem_in s.2)),
+  λ h.
+      let text = bind_ok (expected key (as_str d)) _ modem h in
+      (text.0, string_is d text.0 (expected_ok key (as_str d) text.0 text.1), modem_decoded (decode_sized text.0 6) modem (expected_ok key (modem_in (decode_sized text.0 6)) modem text.2)),
+  λ s. bind_both (expected key (as_str d)) _ s.0 modem (expected_said key (as_str d) s.0 (ap as_str s.1)) (expected_said key (modem_in (decode_sized s.0 6)) modem (ap modem_in s.2)),
 )
 
 -- ---- the policy
@@ -266,20 +263,20 @@ policy_said : (place : Place) (ms : Members) (text : List ℕ) (policy : Policy)
     → policy_named text place ms ≡ Ok policy → SaysPolicy ms policy
 unfolding policy_named
 policy_said place ms text policy held h = elim (cases_Bool (bytes_eq text (codes "strict"))) [
-    inl strict ↦
-        let is : Strict ≡ policy = ok_same Strict policy (rw strict at h) in
-        subst (SaysPolicy ms) is (under (at_field field.Policy ms) (string text) (string (codes "strict")) held (ap string (same_text text (codes "strict") strict)))
+  | inl strict ↦
+      let is : Strict ≡ policy = ok_same Strict policy (rw strict at h) in
+      subst (SaysPolicy ms) is (under (at_field field.Policy ms) (string text) (string (codes "strict")) held (ap string (same_text text (codes "strict") strict)))
   | inr other ↦ elim (cases_Bool (bytes_eq text (codes "aged"))) [
-      inl aged ↦
-          let said = aged_said place ms policy (rw (other, aged) at h) in
-          subst (SaysPolicy ms) (sym said.1) (under (at_field field.Policy ms) (string text) (string (codes "aged")) held (ap string (same_text text (codes "aged") aged)), said.2)
+    | inl aged ↦
+        let said = aged_said place ms policy (rw (other, aged) at h) in
+        subst (SaysPolicy ms) (sym said.1) (under (at_field field.Policy ms) (string text) (string (codes "aged")) held (ap string (same_text text (codes "aged") aged)), said.2)
     | inr another ↦ elim (cases_Bool (bytes_eq text (codes "short"))) [
-        inl short ↦
-            let is : Short ≡ policy = ok_same Short policy (rw (other, another, short) at h) in
-            subst (SaysPolicy ms) is (under (at_field field.Policy ms) (string text) (string (codes "short")) held (ap string (same_text text (codes "short") short)))
+      | inl short ↦
+          let is : Short ≡ policy = ok_same Short policy (rw (other, another, short) at h) in
+          subst (SaysPolicy ms) is (under (at_field field.Policy ms) (string text) (string (codes "short")) held (ap string (same_text text (codes "short") short)))
       | inr none ↦ let e = rw (other, another, none) at h in cc
-      ]
     ]
+  ]
 ]
 
 policy_again : (place : Place) (ms : Members) (policy : Policy) → SaysPolicy ms policy → policy_at place ms ≡ Ok policy
@@ -291,10 +288,10 @@ policy_again place ms Short s = bind_both (text_at place field.Policy ms) _ (cod
 pub policy_is : (place : Place) (ms : Members) (policy : Policy) → (policy_at place ms ≡ Ok policy) ↔ SaysPolicy ms policy
 unfolding policy_at
 policy_is place ms policy = (
-    λ h.
-        let text = bind_ok (text_at place field.Policy ms) _ policy h in
-        policy_said place ms text.0 policy (text_said place field.Policy ms text.0 text.1) text.2,
-    policy_again place ms policy,
+  λ h.
+      let text = bind_ok (text_at place field.Policy ms) _ policy h in
+      policy_said place ms text.0 policy (text_said place field.Policy ms text.0 text.1) text.2,
+  policy_again place ms policy,
 )
 
 -- ---- arrays

@@ -1,7 +1,5 @@
 -- A document is read as a plant exactly where its keys say it and it is valid.
-use Rattle.std.proofs.Common.{◌≡◌, ◌≢◌, ℕ, zero, suc, ◌+◌, ◌-◌, ◌<◌, ◌≤◌, ◌↔◌, inl, inr, nat_le, nat_lt, ◌&&◌, Bool, true, false, not, List, [], ◌∷◌, ◌++◌, append-nil, append_assoc, length, length-append, get_or, All, AllPairs, find, option_map, Option, Some, None, Ok, codes, refl, sym, subst, ap, ◌∙◌, arith, rules}
-use Rattle.std.specs.Option.{option_or}
-use Rattle.std.specs.List.{list_any}
+use Rattle.std.proofs.Common.{◌≡◌, ◌≢◌, ℕ, zero, suc, ◌-◌, ◌≤◌, ◌↔◌, inl, inr, nat_le, nat_lt, ◌&&◌, Bool, true, false, not, List, [], ◌∷◌, ◌++◌, append_assoc, length, length-append, get_or, All, AllPairs, find, option_map, Option, Some, None, Ok, codes, refl, sym, subst, ap, ◌∙◌, arith}
 use Rattle.std.proofs.lemmas.Bool.{false_from_ne_true}
 use Rattle.std.proofs.lemmas.List.{get_or_append_left, get_or-append_right}
 use Rattle.std.proofs.lemmas.List.Folds.{list_any_none}
@@ -13,18 +11,16 @@ use Rattle.slice_table.specs.declared.consts.ConstsFields.{ConstsFields}
 use Rattle.slice_table.specs.declared.operator_row.RowFields.{RowFields}
 use Rattle.slice_table.specs.declared.plant.PlantFields.{PlantFields}
 use Rattle.slice_table.specs.declared.plant_fault.PlantFault.{PlantFault}
-use Rattle.slice_table.specs.declared.plant_fault.PlantFault.TheVariants.{SlicesMeet, SidsMeet, SfidsMeet, ModemTwice, TooManyElements, BudgetOverSlice, ProvisionedOver}
 use Rattle.slice_table.specs.declared.plant_key.Field.{Field}
 use Rattle.slice_table.specs.declared.plant_key.Field.TheVariants as field
 use Rattle.slice_table.specs.Consts.{AreConsts}
 use Rattle.slice_table.specs.Row.{is_listed, same_modem, DoesFit, count_of}
 use Rattle.slice_table.specs.Plant.{IsPlant, all_modems, most_elements}
-use Rattle.slice_table.specs.Tree.{Read, ◌>>=◌}
-use Rattle.slice_table.specs.ReadConsts.{consts_of, classes_if}
+use Rattle.slice_table.specs.ReadConsts.{consts_of}
 use Rattle.slice_table.specs.ReadRows.{rows_of}
-use Rattle.slice_table.specs.Checks.{meets, first_pair, first_meeting, first_again, repeated, is_over_slice, is_overfull, sids_needed, minislots_needed, elements_needed, counts_fit, needs_fit, do_fit, first_named, meeting_fault, twice_fault, elements_fault, budget_fault, provisioned_fault, late_fault, rows_fault, unless}
+use Rattle.slice_table.specs.Checks.{meets, first_pair, first_meeting, first_again, is_over_slice, is_overfull, sids_needed, minislots_needed, elements_needed, counts_fit, needs_fit, do_fit, meeting_fault, twice_fault, elements_fault, budget_fault, provisioned_fault, late_fault, rows_fault, unless}
 use Rattle.slice_table.specs.ReadPlant.{plant_of}
-use Rattle.slice_table.specs.Says.{SaysNumberOr, SaysConsts, SaysRows, SaysPlant}
+use Rattle.slice_table.specs.Says.{SaysNumberOr, SaysConsts, SaysPlant}
 use Rattle.slice_table.proofs.Parsed.{ok_same, bind_ok}
 use Rattle.slice_table.proofs.Places.{same_is_equal}
 use Rattle.slice_table.proofs.ClassReading.{classes_read}
@@ -59,7 +55,7 @@ is_new before ms m h = list_any_none (λ x. same_modem x m) before (λ k d lt.
     let here : get_or (before ++ m ∷ ms) k d ≡ get_or before k d = get_or_append_left before (m ∷ ms) d k lt in
     let zeroth : length before - length before ≡ 0 = omega arith in
     let there : get_or (before ++ m ∷ ms) (length before) d ≡ m =
-        get_or-append_right before (m ∷ ms) (length before) (length before) d refl (omega arith) ∙ ap (λ (i : ℕ). get_or (m ∷ ms) i d) zeroth in
+    get_or-append_right before (m ∷ ms) (length before) (length before) d refl (omega arith) ∙ ap (λ (i : ℕ). get_or (m ∷ ms) i d) zeroth in
     told_again (get_or before k d) m (λ e. h k (length before) d lt (omega (arith, length-append before (m ∷ ms))) (here ∙ e ∙ sym there)))
 
 pub none_again : (before ms : List Modem) → AllPairs (λ a b. a ≢ b) (before ++ ms) → first_again before ms ≡ None
@@ -71,12 +67,12 @@ fits_again : (consts : ConstsFields) (row : RowFields) → DoesFit consts row �
 unfolding do_fit counts_fit needs_fit sids_needed minislots_needed elements_needed
 fits_again consts row h =
     both_true (counts_fit row) (needs_fit consts row)
-        (both_true (nat_le (length row.provisions) row.flows) (nat_le (length row.provisions) (count_of row.sfids))
-            (le_true (length row.provisions) row.flows h.flows) (le_true (length row.provisions) (count_of row.sfids) h.sfids))
-        (both_true (nat_le (sids_needed consts row.provisions) (count_of row.sids) && nat_le (minislots_needed consts row.provisions) row.budget) (nat_le (elements_needed consts row.provisions) row.elements)
-            (both_true (nat_le (sids_needed consts row.provisions) (count_of row.sids)) (nat_le (minislots_needed consts row.provisions) row.budget)
-                (le_true (sids_needed consts row.provisions) (count_of row.sids) h.sids) (le_true (minislots_needed consts row.provisions) row.budget h.minislots))
-            (le_true (elements_needed consts row.provisions) row.elements h.elements))
+    (both_true (nat_le (length row.provisions) row.flows) (nat_le (length row.provisions) (count_of row.sfids))
+    (le_true (length row.provisions) row.flows h.flows) (le_true (length row.provisions) (count_of row.sfids) h.sfids))
+    (both_true (nat_le (sids_needed consts row.provisions) (count_of row.sids) && nat_le (minislots_needed consts row.provisions) row.budget) (nat_le (elements_needed consts row.provisions) row.elements)
+    (both_true (nat_le (sids_needed consts row.provisions) (count_of row.sids)) (nat_le (minislots_needed consts row.provisions) row.budget)
+    (le_true (sids_needed consts row.provisions) (count_of row.sids) h.sids) (le_true (minislots_needed consts row.provisions) row.budget h.minislots))
+    (le_true (elements_needed consts row.provisions) row.elements h.elements))
 
 not_over : (a b : ℕ) → b ≤ a → nat_lt a b ≡ false
 not_over a b h = grind arith
@@ -104,7 +100,7 @@ valid_again consts rows h =
 
 from_default : (ms : Members) (f : Field) (low high default n : ℕ) → default ≤ high → SaysNumberOr ms f low high default n → n ≤ high
 from_default ms f low high default n h s = elim s [
-    inl none ↦ omega (arith, h, none.1)
+  | inl none ↦ omega (arith, h, none.1)
   | inr some ↦ some.high_enough
 ]
 
@@ -133,20 +129,20 @@ unless_is (Some fault) x y h = cc
 pub plant_is : (document : Members) (plant : PlantFields) → (plant_of document ≡ Ok plant) ↔ SaysPlant document plant
 unfolding plant_of
 plant_is document plant = (
-    λ h.
-        let consts = bind_ok (consts_of document) _ plant h in
-        let rows = bind_ok (rows_of consts.0 document) _ plant consts.2 in
-        let made : PlantFields = record { consts = consts.0; rows = rows.0 } in
-        let none : rows_fault consts.0 rows.0 ≡ None = no_fault (rows_fault consts.0 rows.0) made plant rows.2 in
-        let said = (consts_are document consts.0).0 consts.1 in
-        let is : made ≡ plant = unless_is (rows_fault consts.0 rows.0) made plant rows.2 in
-        subst (SaysPlant document) is (record {
-          consts = said;
-          rows = (rows_are consts.0 document rows.0).0 rows.1;
-          valid = valid consts.0 rows.0 (consts_valid document consts.0 said) (rows_read consts.0 document rows.0 rows.1) none;
-        }),
-    λ s.
-        bind_both (consts_of document) _ plant.consts plant ((consts_are document plant.consts).1 s.consts)
-            (bind_both (rows_of plant.consts document) _ plant.rows plant ((rows_are plant.consts document plant.rows).1 s.rows)
-                (ap (λ (o : Option PlantFault). unless o plant) (valid_again plant.consts plant.rows s.valid))),
+  λ h.
+      let consts = bind_ok (consts_of document) _ plant h in
+      let rows = bind_ok (rows_of consts.0 document) _ plant consts.2 in
+      let made : PlantFields = record { consts = consts.0; rows = rows.0 } in
+      let none : rows_fault consts.0 rows.0 ≡ None = no_fault (rows_fault consts.0 rows.0) made plant rows.2 in
+      let said = (consts_are document consts.0).0 consts.1 in
+      let is : made ≡ plant = unless_is (rows_fault consts.0 rows.0) made plant rows.2 in
+      subst (SaysPlant document) is (record {
+        consts = said;
+        rows = (rows_are consts.0 document rows.0).0 rows.1;
+        valid = valid consts.0 rows.0 (consts_valid document consts.0 said) (rows_read consts.0 document rows.0 rows.1) none;
+      }),
+  λ s.
+      bind_both (consts_of document) _ plant.consts plant ((consts_are document plant.consts).1 s.consts)
+      (bind_both (rows_of plant.consts document) _ plant.rows plant ((rows_are plant.consts document plant.rows).1 s.rows)
+      (ap (λ (o : Option PlantFault). unless o plant) (valid_again plant.consts plant.rows s.valid))),
 )

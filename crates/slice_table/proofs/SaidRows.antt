@@ -1,12 +1,12 @@
 -- A reading of the operators answers rows exactly where the keys say them.
-use Rattle.std.proofs.Common.{◌≡◌, ◌≢◌, ℕ, ◌<◌, ◌≤◌, ◌↔◌, inl, inr, nat_le, ◌&&◌, Bool, true, false, not, List, [], ◌∷◌, ◌++◌, length, get_or, All, Option, Some, None, Ok, codes, is_some, IsTrue, IsSome, refl, sym, subst, ap, ◌∙◌, arith, rules}
+use Rattle.std.proofs.Common.{◌≡◌, ◌≢◌, ℕ, ◌↔◌, inl, inr, nat_le, ◌&&◌, Bool, true, false, not, List, [], length, get_or, Option, Some, None, Ok, codes, IsSome, refl, sym, subst, ap, ◌∙◌}
 use Rattle.std.specs.Str.{bytes_eq}
 use Rattle.std.specs.Char.{is_ascii_alphanumeric}
 use Rattle.std.specs.List.{list_all, list_any}
-use Rattle.std.proofs.lemmas.Bool.{and_parts, not-true, false≢true, false_from_ne_true}
+use Rattle.std.proofs.lemmas.Bool.{and_parts, not-true, false_from_ne_true}
 use Rattle.std.proofs.lemmas.List.Folds.{list_any_none}
 use Rattle.std.proofs.lemmas.Slice.Eq.{bytes_eq-Decides}
-use Rattle.toml.specs.Data.{Data, string, array, table, Items, Members, get_member, as_array}
+use Rattle.toml.specs.Data.{Data, array, table, Items, Members, get_member, as_array}
 use Rattle.dsx_messages.specs.declared.modem.Modem.{Modem}
 use Rattle.slice_table.specs.declared.consts.ConstsFields.{ConstsFields}
 use Rattle.slice_table.specs.declared.operator_row.RowFields.{RowFields}
@@ -14,17 +14,16 @@ use Rattle.slice_table.specs.declared.provision.Provision.{Provision}
 use Rattle.slice_table.specs.declared.plant_key.Field.TheVariants as field
 use Rattle.slice_table.specs.declared.plant_key.Place.{Place}
 use Rattle.slice_table.specs.declared.plant_key.Place.TheVariants as place
-use Rattle.slice_table.specs.declared.plant_key.Key.{Key}
 use Rattle.slice_table.specs.declared.plant_key.Key.TheVariants.{Operators, Entry}
 use Rattle.slice_table.specs.Name.{IsOperatorName}
 use Rattle.slice_table.specs.Provisioned.{sets_of_encoding}
-use Rattle.slice_table.specs.Row.{is_listed, IsFrom}
-use Rattle.slice_table.specs.Tree.{Read, ◌>>=◌, each, items_len, required, expected, checked, at_field, number_at, text_at, bytes_at, array_at, modem_of, modem_at, table_of}
+use Rattle.slice_table.specs.Row.{is_listed}
+use Rattle.slice_table.specs.Tree.{items_len, required, expected, checked, at_field, number_at, text_at, bytes_at, array_at, modem_at, table_of}
 use Rattle.slice_table.specs.ReadRows.{is_operator_name, is_called, name_at, slice_at, range_at, policy_at, modem_read, modems_at, own_modem_at, has_sets, provision_at, provision_read, provisions_in, provisions_if, row_at, row_read, rows_of}
-use Rattle.slice_table.specs.Says.{SaysNumber, SaysBytes, IsAddress, SayInTurn, SaysName, SaysModems, SaysProvision, SaysProvisions, SaysRow, SaysRows}
+use Rattle.slice_table.specs.Says.{IsAddress, SayInTurn, SaysName, SaysModems, SaysProvision, SaysProvisions, SaysRow, SaysRows}
 use Rattle.slice_table.proofs.Parsed.{ok_same, bind_ok, required_ok, expected_ok, checked_ok}
 use Rattle.slice_table.proofs.Values.{at_most, none_passes, told_apart}
-use Rattle.slice_table.proofs.SaidKeys.{bind_both, required_said, expected_said, checked_said, both_true, le_true, array_is, under, number_is, slice_is, range_is, text_said, text_again, bytes_is, address_is, policy_is, turn_is, array_said, array_again, table_said, table_again}
+use Rattle.slice_table.proofs.SaidKeys.{bind_both, required_said, checked_said, both_true, le_true, array_is, under, number_is, slice_is, range_is, text_said, text_again, bytes_is, address_is, policy_is, turn_is, array_said, array_again, table_said, table_again}
 
 -- ---- the name
 
@@ -39,7 +38,7 @@ pub named_again : (text : List ℕ) → IsOperatorName text → is_operator_name
 unfolding is_operator_name
 named_again text h =
     both_true (nat_le 1 (length text) && nat_le (length text) 16) (list_all is_ascii_alphanumeric text)
-        (both_true (nat_le 1 (length text)) (nat_le (length text) 16) (le_true 1 (length text) h.some) (le_true (length text) 16 h.few)) h.letters
+    (both_true (nat_le 1 (length text)) (nat_le (length text) 16) (le_true 1 (length text) h.some) (le_true (length text) 16 h.few)) h.letters
 
 -- bytes that differ are told apart
 pub differ : (a b : List ℕ) → a ≢ b → bytes_eq a b ≡ false
@@ -51,20 +50,20 @@ not_again b h = ap not h
 pub name_is : (rows : List RowFields) (place : Place) (ms : Members) (name : List ℕ) → (name_at rows place ms ≡ Ok name) ↔ SaysName rows ms name
 unfolding name_at
 name_is rows place ms name = (
-    λ h.
-        let text = bind_ok (text_at place field.Name ms) _ name h in
-        let test = checked_ok (Entry place field.Name) (is_operator_name text.0 && not (list_any (is_called text.0) rows)) text.0 name text.2 in
-        let parts = and_parts (is_operator_name text.0) (not (list_any (is_called text.0) rows)) test.0 in
-        subst (SaysName rows ms) test.1 (record {
-          held = text_said place field.Name ms text.0 text.1;
-          valid = named text.0 parts.0;
-          new = λ k d lt. told_apart (get_or rows k d).name text.0 (none_passes (is_called text.0) rows k d (not-true (list_any (is_called text.0) rows) parts.1) lt);
-        }),
-    λ s.
-        let new : list_any (is_called name) rows ≡ false = list_any_none (is_called name) rows (λ k d lt. differ (get_or rows k d).name name (s.new k d lt)) in
-        bind_both (text_at place field.Name ms) _ name name (text_again place field.Name ms name s.held)
-            (checked_said (Entry place field.Name) (is_operator_name name && not (list_any (is_called name) rows)) name
-                (both_true (is_operator_name name) (not (list_any (is_called name) rows)) (named_again name s.valid) (not_again (list_any (is_called name) rows) new))),
+  λ h.
+      let text = bind_ok (text_at place field.Name ms) _ name h in
+      let test = checked_ok (Entry place field.Name) (is_operator_name text.0 && not (list_any (is_called text.0) rows)) text.0 name text.2 in
+      let parts = and_parts (is_operator_name text.0) (not (list_any (is_called text.0) rows)) test.0 in
+      subst (SaysName rows ms) test.1 (record {
+        held = text_said place field.Name ms text.0 text.1;
+        valid = named text.0 parts.0;
+        new = λ k d lt. told_apart (get_or rows k d).name text.0 (none_passes (is_called text.0) rows k d (not-true (list_any (is_called text.0) rows) parts.1) lt);
+      }),
+  λ s.
+      let new : list_any (is_called name) rows ≡ false = list_any_none (is_called name) rows (λ k d lt. differ (get_or rows k d).name name (s.new k d lt)) in
+      bind_both (text_at place field.Name ms) _ name name (text_again place field.Name ms name s.held)
+      (checked_said (Entry place field.Name) (is_operator_name name && not (list_any (is_called name) rows)) name
+      (both_true (is_operator_name name) (not (list_any (is_called name) rows)) (named_again name s.valid) (not_again (list_any (is_called name) rows) new))),
 )
 
 -- ---- the modems
@@ -72,24 +71,24 @@ name_is rows place ms name = (
 pub modems_are : (place : Place) (ms : Members) (modems : List Modem) → (modems_at place ms ≡ Ok modems) ↔ SaysModems ms modems
 unfolding modems_at
 modems_are place ms modems = (
-    λ h.
-        let ds = bind_ok (array_at place field.Modems ms) _ modems h in
-        let few = bind_ok (checked (Entry place field.Modems) (nat_le 1 (items_len ds.0) && nat_le (items_len ds.0) 1024) ds.0) _ modems ds.2 in
-        let test = checked_ok (Entry place field.Modems) (nat_le 1 (items_len ds.0) && nat_le (items_len ds.0) 1024) ds.0 few.0 few.1 in
-        let parts = and_parts (nat_le 1 (items_len ds.0)) (nat_le (items_len ds.0) 1024) test.0 in
-        let said = (turn_is (modem_read place) (λ before. IsAddress) (λ done d x. address_is (Entry place field.Modems) d x) [] few.0 modems).0 few.2 in
-        record {
-          ds = ds.0;
-          held = array_said place field.Modems ms ds.0 ds.1;
-          count = record { low = at_most 1 (items_len ds.0) parts.0; high = at_most (items_len ds.0) 1024 parts.1 };
-          addresses = subst (λ (items : Items). SayInTurn (λ before. IsAddress) [] items modems) (sym test.1) said;
-        },
-    λ s.
-        let count = both_true (nat_le 1 (items_len s.ds)) (nat_le (items_len s.ds) 1024) (le_true 1 (items_len s.ds) s.count.low) (le_true (items_len s.ds) 1024 s.count.high) in
-        bind_both (array_at place field.Modems ms) _ s.ds modems (array_again place field.Modems ms s.ds s.held)
-            (bind_both (checked (Entry place field.Modems) (nat_le 1 (items_len s.ds) && nat_le (items_len s.ds) 1024) s.ds) _ s.ds modems
-                (checked_said (Entry place field.Modems) (nat_le 1 (items_len s.ds) && nat_le (items_len s.ds) 1024) s.ds count)
-                ((turn_is (modem_read place) (λ before. IsAddress) (λ done d x. address_is (Entry place field.Modems) d x) [] s.ds modems).1 s.addresses)),
+  λ h.
+      let ds = bind_ok (array_at place field.Modems ms) _ modems h in
+      let few = bind_ok (checked (Entry place field.Modems) (nat_le 1 (items_len ds.0) && nat_le (items_len ds.0) 1024) ds.0) _ modems ds.2 in
+      let test = checked_ok (Entry place field.Modems) (nat_le 1 (items_len ds.0) && nat_le (items_len ds.0) 1024) ds.0 few.0 few.1 in
+      let parts = and_parts (nat_le 1 (items_len ds.0)) (nat_le (items_len ds.0) 1024) test.0 in
+      let said = (turn_is (modem_read place) (λ before. IsAddress) (λ done d x. address_is (Entry place field.Modems) d x) [] few.0 modems).0 few.2 in
+      record {
+        ds = ds.0;
+        held = array_said place field.Modems ms ds.0 ds.1;
+        count = record { low = at_most 1 (items_len ds.0) parts.0; high = at_most (items_len ds.0) 1024 parts.1 };
+        addresses = subst (λ (items : Items). SayInTurn (λ before. IsAddress) [] items modems) (sym test.1) said;
+      },
+  λ s.
+      let count = both_true (nat_le 1 (items_len s.ds)) (nat_le (items_len s.ds) 1024) (le_true 1 (items_len s.ds) s.count.low) (le_true (items_len s.ds) 1024 s.count.high) in
+      bind_both (array_at place field.Modems ms) _ s.ds modems (array_again place field.Modems ms s.ds s.held)
+      (bind_both (checked (Entry place field.Modems) (nat_le 1 (items_len s.ds) && nat_le (items_len s.ds) 1024) s.ds) _ s.ds modems
+      (checked_said (Entry place field.Modems) (nat_le 1 (items_len s.ds) && nat_le (items_len s.ds) 1024) s.ds count)
+      ((turn_is (modem_read place) (λ before. IsAddress) (λ done d x. address_is (Entry place field.Modems) d x) [] s.ds modems).1 s.addresses)),
 )
 
 -- ---- the provisioned flows
@@ -125,33 +124,35 @@ provision_again : (consts : ConstsFields) (modems : List Modem) (place : Place) 
 unfolding provision_at own_modem_at modem_at
 provision_again consts modems place p d s =
     let modem : modem_at place field.Modem s.ms ≡ Ok p.modem =
-        bind_both (required (Entry place field.Modem) (at_field field.Modem s.ms)) _ s.whose p.modem (required_said (Entry place field.Modem) (at_field field.Modem s.ms) s.whose s.held)
-            ((address_is (Entry place field.Modem) s.whose p.modem).1 s.modem) in
+    bind_both (required (Entry place field.Modem) (at_field field.Modem s.ms)) _ s.whose p.modem (required_said (Entry place field.Modem) (at_field field.Modem s.ms) s.whose s.held)
+    ((address_is (Entry place field.Modem) s.whose p.modem).1 s.modem) in
     let own : own_modem_at modems place s.ms ≡ Ok p.modem =
-        bind_both (modem_at place field.Modem s.ms) _ p.modem p.modem modem (checked_said (Entry place field.Modem) (is_listed p.modem modems) p.modem s.mine) in
+    bind_both (modem_at place field.Modem s.ms) _ p.modem p.modem modem (checked_said (Entry place field.Modem) (is_listed p.modem modems) p.modem s.mine) in
     bind_both (own_modem_at modems place s.ms) _ p.modem p own
-        (bind_both (bytes_at place field.Encoding s.ms) _ p.encoding p ((bytes_is place field.Encoding s.ms p.encoding).1 s.encoding)
-            (checked_said (Entry place field.Encoding) (has_sets consts p) p ((sets_there consts p).1 s.sets)))
+    (bind_both (bytes_at place field.Encoding s.ms) _ p.encoding p ((bytes_is place field.Encoding s.ms p.encoding).1 s.encoding)
+    (checked_said (Entry place field.Encoding) (has_sets consts p) p ((sets_there consts p).1 s.sets)))
 
 pub provision_is : (consts : ConstsFields) (operator : ℕ) (modems : List Modem) (done : List Provision) (d : Data) (p : Provision)
     → (provision_read consts operator modems done d ≡ Ok p) ↔ SaysProvision consts modems d p
 unfolding provision_read
 provision_is consts operator modems done d p = (
-    λ h.
-        let ms = bind_ok (table_of (place.Flow operator (length done)) d) _ p h in
-        subst (λ (e : Data). SaysProvision consts modems e p) (sym (table_said (place.Flow operator (length done)) d ms.0 ms.1))
-            (provision_said consts modems (place.Flow operator (length done)) ms.0 p ms.2),
-    λ s. bind_both (table_of (place.Flow operator (length done)) d) _ s.ms p (table_again (place.Flow operator (length done)) d s.ms s.is)
-        (provision_again consts modems (place.Flow operator (length done)) p d s),
+  λ h.
+      let ms = bind_ok (table_of (place.Flow operator (length done)) d) _ p h in
+      subst (λ (e : Data). SaysProvision consts modems e p) (sym (table_said (place.Flow operator (length done)) d ms.0 ms.1))
+      (provision_said consts modems (place.Flow operator (length done)) ms.0 p ms.2),
+  λ s. bind_both (table_of (place.Flow operator (length done)) d) _ s.ms p (table_again (place.Flow operator (length done)) d s.ms s.is)
+      (provision_again consts modems (place.Flow operator (length done)) p d s),
 )
 
 provisions_said : (consts : ConstsFields) (operator : ℕ) (modems : List Modem) (d : Data) (ps : List Provision) → provisions_in consts operator modems d ≡ Ok ps
     → (ds : Items) × (d ≡ array ds) × SayInTurn (λ before. SaysProvision consts modems) [] ds ps
 unfolding provisions_in
 provisions_said consts operator modems d ps h =
-    let ds = bind_ok (expected (Entry (place.Operator operator) field.Flow) (as_array d)) _ ps h in
-    (ds.0, array_is d ds.0 (expected_ok (Entry (place.Operator operator) field.Flow) (as_array d) ds.0 ds.1),
-        (turn_is (provision_read consts operator modems) (λ before. SaysProvision consts modems) (λ done e x. provision_is consts operator modems done e x) [] ds.0 ps).0 ds.2)
+    let ds = bind_ok (expected (Entry (place.Operator operator) field.Flow) (as_array d)) _ ps h in (
+      ds.0,
+      array_is d ds.0 (expected_ok (Entry (place.Operator operator) field.Flow) (as_array d) ds.0 ds.1),
+      (turn_is (provision_read consts operator modems) (λ before. SaysProvision consts modems) (λ done e x. provision_is consts operator modems done e x) [] ds.0 ps).0 ds.2,
+    )
 
 provisions_again : (consts : ConstsFields) (operator : ℕ) (modems : List Modem) (ds : Items) (ps : List Provision)
     → SayInTurn (λ before. SaysProvision consts modems) [] ds ps → provisions_in consts operator modems (array ds) ≡ Ok ps
@@ -169,11 +170,11 @@ provisions_if_said consts operator modems ms (Some d) ps at h =
 pub provisions_are : (consts : ConstsFields) (operator : ℕ) (modems : List Modem) (ms : Members) (ps : List Provision)
     → (provisions_if consts operator modems (at_field field.Flow ms) ≡ Ok ps) ↔ SaysProvisions consts modems ms ps
 provisions_are consts operator modems ms ps = (
-    λ h. provisions_if_said consts operator modems ms (at_field field.Flow ms) ps refl h,
-    λ s. elim s [
-      inl none ↦ ap (provisions_if consts operator modems) none.0 ∙ ap (λ (qs : List Provision). Ok qs) none.1
+  λ h. provisions_if_said consts operator modems ms (at_field field.Flow ms) ps refl h,
+  λ s. elim s [
+    | inl none ↦ ap (provisions_if consts operator modems) none.0 ∙ ap (λ (qs : List Provision). Ok qs) none.1
     | inr some ↦ ap (provisions_if consts operator modems) some.1 ∙ provisions_again consts operator modems some.0 ps some.2
-    ],
+  ],
 )
 
 -- ---- a row
@@ -196,8 +197,18 @@ row_said consts rows operator ms row h =
     let modems = bind_ok (modems_at place ms) _ row policy.2 in
     let provisions = bind_ok (provisions_if consts operator modems.0 (at_field field.Flow ms)) _ row modems.2 in
     let made : RowFields = record {
-      name = name.0; slice = slice.0; sfids = sfids.0; sids = sids.0; flows = flows.0; transactions = transactions.0; inbox = inbox.0;
-      budget = budget.0; elements = elements.0; policy = policy.0; modems = modems.0; provisions = provisions.0;
+      name = name.0;
+      slice = slice.0;
+      sfids = sfids.0;
+      sids = sids.0;
+      flows = flows.0;
+      transactions = transactions.0;
+      inbox = inbox.0;
+      budget = budget.0;
+      elements = elements.0;
+      policy = policy.0;
+      modems = modems.0;
+      provisions = provisions.0;
     } in
     subst (SaysRow consts rows (table ms)) (ok_same made row provisions.2) (record {
       ms = ms;
@@ -238,10 +249,10 @@ row_again consts rows operator d row s =
 pub row_is : (consts : ConstsFields) (rows : List RowFields) (d : Data) (row : RowFields) → (row_read consts rows d ≡ Ok row) ↔ SaysRow consts rows d row
 unfolding row_read
 row_is consts rows d row = (
-    λ h.
-        let ms = bind_ok (table_of (place.Operator (length rows)) d) _ row h in
-        subst (λ (e : Data). SaysRow consts rows e row) (sym (table_said (place.Operator (length rows)) d ms.0 ms.1)) (row_said consts rows (length rows) ms.0 row ms.2),
-    λ s. bind_both (table_of (place.Operator (length rows)) d) _ s.ms row (table_again (place.Operator (length rows)) d s.ms s.is) (row_again consts rows (length rows) d row s),
+  λ h.
+      let ms = bind_ok (table_of (place.Operator (length rows)) d) _ row h in
+      subst (λ (e : Data). SaysRow consts rows e row) (sym (table_said (place.Operator (length rows)) d ms.0 ms.1)) (row_said consts rows (length rows) ms.0 row ms.2),
+  λ s. bind_both (table_of (place.Operator (length rows)) d) _ s.ms row (table_again (place.Operator (length rows)) d s.ms s.is) (row_again consts rows (length rows) d row s),
 )
 
 -- ---- all rows
@@ -249,24 +260,24 @@ row_is consts rows d row = (
 pub rows_are : (consts : ConstsFields) (document : Members) (rows : List RowFields) → (rows_of consts document ≡ Ok rows) ↔ SaysRows consts document rows
 unfolding rows_of
 rows_are consts document rows = (
-    λ h.
-        let d = bind_ok (required Operators (get_member (codes "operator") document)) _ rows h in
-        let ds = bind_ok (expected Operators (as_array d.0)) _ rows d.2 in
-        let few = bind_ok (checked Operators (nat_le 1 (items_len ds.0) && nat_le (items_len ds.0) 32) ds.0) _ rows ds.2 in
-        let test = checked_ok Operators (nat_le 1 (items_len ds.0) && nat_le (items_len ds.0) 32) ds.0 few.0 few.1 in
-        let parts = and_parts (nat_le 1 (items_len ds.0)) (nat_le (items_len ds.0) 32) test.0 in
-        let said = (turn_is (row_read consts) (SaysRow consts) (row_is consts) [] few.0 rows).0 few.2 in
-        record {
-          ds = ds.0;
-          held = under (get_member (codes "operator") document) d.0 (array ds.0) (required_ok Operators (get_member (codes "operator") document) d.0 d.1)
-              (array_is d.0 ds.0 (expected_ok Operators (as_array d.0) ds.0 ds.1));
-          count = record { low = at_most 1 (items_len ds.0) parts.0; high = at_most (items_len ds.0) 32 parts.1 };
-          each = subst (λ (items : Items). SayInTurn (SaysRow consts) [] items rows) (sym test.1) said;
-        },
-    λ s.
-        let count = both_true (nat_le 1 (items_len s.ds)) (nat_le (items_len s.ds) 32) (le_true 1 (items_len s.ds) s.count.low) (le_true (items_len s.ds) 32 s.count.high) in
-        bind_both (required Operators (get_member (codes "operator") document)) _ (array s.ds) rows (required_said Operators (get_member (codes "operator") document) (array s.ds) s.held)
-            (bind_both (checked Operators (nat_le 1 (items_len s.ds) && nat_le (items_len s.ds) 32) s.ds) _ s.ds rows
-                (checked_said Operators (nat_le 1 (items_len s.ds) && nat_le (items_len s.ds) 32) s.ds count)
-                ((turn_is (row_read consts) (SaysRow consts) (row_is consts) [] s.ds rows).1 s.each)),
+  λ h.
+      let d = bind_ok (required Operators (get_member (codes "operator") document)) _ rows h in
+      let ds = bind_ok (expected Operators (as_array d.0)) _ rows d.2 in
+      let few = bind_ok (checked Operators (nat_le 1 (items_len ds.0) && nat_le (items_len ds.0) 32) ds.0) _ rows ds.2 in
+      let test = checked_ok Operators (nat_le 1 (items_len ds.0) && nat_le (items_len ds.0) 32) ds.0 few.0 few.1 in
+      let parts = and_parts (nat_le 1 (items_len ds.0)) (nat_le (items_len ds.0) 32) test.0 in
+      let said = (turn_is (row_read consts) (SaysRow consts) (row_is consts) [] few.0 rows).0 few.2 in
+      record {
+        ds = ds.0;
+        held = under (get_member (codes "operator") document) d.0 (array ds.0) (required_ok Operators (get_member (codes "operator") document) d.0 d.1)
+            (array_is d.0 ds.0 (expected_ok Operators (as_array d.0) ds.0 ds.1));
+        count = record { low = at_most 1 (items_len ds.0) parts.0; high = at_most (items_len ds.0) 32 parts.1 };
+        each = subst (λ (items : Items). SayInTurn (SaysRow consts) [] items rows) (sym test.1) said;
+      },
+  λ s.
+      let count = both_true (nat_le 1 (items_len s.ds)) (nat_le (items_len s.ds) 32) (le_true 1 (items_len s.ds) s.count.low) (le_true (items_len s.ds) 32 s.count.high) in
+      bind_both (required Operators (get_member (codes "operator") document)) _ (array s.ds) rows (required_said Operators (get_member (codes "operator") document) (array s.ds) s.held)
+      (bind_both (checked Operators (nat_le 1 (items_len s.ds) && nat_le (items_len s.ds) 32) s.ds) _ s.ds rows
+      (checked_said Operators (nat_le 1 (items_len s.ds) && nat_le (items_len s.ds) 32) s.ds count)
+      ((turn_is (row_read consts) (SaysRow consts) (row_is consts) [] s.ds rows).1 s.each)),
 )

@@ -1,5 +1,5 @@
 -- What is asked of all keys of a plant file together, and the first fault (own).
-use Rattle.std.specs.Prelude.{◌≡◌, ℕ, ◌+◌, ◌≤◌, ◌&&◌, nat_le, nat_lt, Bool, not, List, [], ◌∷◌, ◌++◌, length, count_by, sum_by, find, option_map, Option, Some, None, if◌then◌else◌, Ok, Err}
+use Rattle.std.specs.Prelude.{ℕ, ◌&&◌, nat_le, nat_lt, Bool, not, List, [], ◌∷◌, ◌++◌, length, count_by, sum_by, find, option_map, Option, Some, None, if◌then◌else◌, Ok, Err}
 use Rattle.std.specs.Option.{option_or}
 use Rattle.dsx_messages.specs.declared.modem.Modem.{Modem}
 use Rattle.slice_table.specs.declared.checks.Apart.{Apart}

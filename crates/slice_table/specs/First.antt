@@ -1,5 +1,5 @@
 -- Which of several faults is named, and whose modem a modem is (own).
-use Rattle.std.specs.Prelude.{◌≡◌, ◌≢◌, ℕ, ◌<◌, ◌≤◌, ◌⊎◌, Bool, true, false, IsTrue, List, ◌∷◌, ◌++◌, AllPairs, Some, slice_get}
+use Rattle.std.specs.Prelude.{◌≡◌, ◌≢◌, ℕ, ◌<◌, ◌≤◌, ◌⊎◌, Bool, true, IsTrue, List, ◌∷◌, ◌++◌, AllPairs, Some, slice_get}
 use Rattle.dsx_messages.specs.declared.modem.Modem.{Modem}
 use Rattle.slice_table.specs.declared.operator_row.RowFields.{RowFields}
 use Rattle.slice_table.specs.Row.{is_listed}

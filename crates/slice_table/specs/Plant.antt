@@ -4,7 +4,6 @@ use Rattle.std.specs.List.{flat_map}
 use Rattle.dsx_messages.specs.declared.modem.Modem.{Modem}
 use Rattle.admission.specs.Free.{Numbers}
 use Rattle.slice_scheduler.specs.Minislots.{Minislots}
-use Rattle.slice_table.specs.declared.consts.ConstsFields.{ConstsFields}
 use Rattle.slice_table.specs.declared.operator_row.RowFields.{RowFields}
 use Rattle.slice_table.specs.declared.plant.PlantFields.{PlantFields}
 use Rattle.slice_table.specs.Consts.{AreConsts}

@@ -3,7 +3,7 @@ use Rattle.std.specs.Prelude.{codes, ℕ, ◌+◌, ◌&&◌, nat_le, Bool, not, 
 use Rattle.std.specs.Char.{is_ascii_alphanumeric}
 use Rattle.std.specs.List.{list_all, list_any}
 use Rattle.std.specs.Str.{bytes_eq}
-use Rattle.toml.specs.Data.{Data, Items, Members, get_member, as_array}
+use Rattle.toml.specs.Data.{Data, Members, get_member, as_array}
 use Rattle.dsx_messages.specs.declared.modem.Modem.{Modem}
 use Rattle.admission.specs.Free.{Numbers}
 use Rattle.grant_policy.specs.declared.policy.Policy.{Policy}
@@ -17,7 +17,6 @@ use Rattle.slice_table.specs.declared.plant_key.Field.{Field}
 use Rattle.slice_table.specs.declared.plant_key.Field.TheVariants as field
 use Rattle.slice_table.specs.declared.plant_key.Place.{Place}
 use Rattle.slice_table.specs.declared.plant_key.Place.TheVariants as place
-use Rattle.slice_table.specs.declared.plant_key.Key.{Key}
 use Rattle.slice_table.specs.declared.plant_key.Key.TheVariants.{Operators, Entry}
 use Rattle.slice_table.specs.Provisioned.{sets_of_encoding}
 use Rattle.slice_table.specs.Row.{is_listed}

@@ -1,5 +1,5 @@
 -- What a plant file says, key by key, apart from the order in which it is read (own).
-use Rattle.std.specs.Prelude.{◌≡◌, ◌≢◌, ℕ, ◌+◌, ◌≤◌, ◌⊎◌, pos, codes, IsTrue, IsSome, List, [], ◌∷◌, ◌++◌, length, All, Option, Some, None, Ok}
+use Rattle.std.specs.Prelude.{◌≡◌, ◌≢◌, ℕ, ◌+◌, ◌≤◌, ◌⊎◌, pos, codes, IsTrue, IsSome, List, [], ◌∷◌, ◌++◌, length, All, Some, None, Ok}
 use Rattle.std.specs.List.{list_all}
 use Rattle.std.specs.Char.{is_ascii_alphanumeric}
 use Rattle.toml.specs.Data.{Data, string, integer, array, table, Items, no_items, item, Members, get_member}

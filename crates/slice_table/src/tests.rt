@@ -67,12 +67,17 @@ fn told(alloc: Global, fault: PlantFault) -> Result<String, AllocError> {
     }
 }
 
+/// What is said of a text.
+fn verdict_of(alloc: Global, text: &str) -> Result<String, AllocError> {
+    match read_plant(alloc, text).err() {
+        Some(fault) => told(alloc, fault),
+        None => String::from_str(alloc, "ok"),
+    }
+}
+
 /// Checks what is said of a text.
 fn check_text(rt: &impl Abort, alloc: Global, text: &str, verdict: &str) -> Result<(), Fail> {
-    let told = match read_plant(alloc, text) {
-        Ok(_) => String::from_str(alloc, "ok")?,
-        Err(fault) => told(alloc, fault)?,
-    };
+    let told = verdict_of(alloc, text)?;
     assert_eq!(rt; told.as_str(), verdict);
     Ok(())
 }

@@ -3,7 +3,7 @@ use Rattle.toml.specs.Data.{Members}
 use Rattle.toml.specs.Parse.{parse_document}
 use Rattle.slice_table.specs.declared.plant.PlantFields.{PlantFields}
 use Rattle.slice_table.specs.Tree.{Read, Gives}
-use Rattle.slice_table.specs.ReadPlant.{plant_of, text_plant}
+use Rattle.slice_table.specs.ReadPlant.{text_plant}
 use Rattle.slice_table.specs.Says.{SaysPlant}
 use Rattle.slice_table.proofs.SaidPlant.{plant_is}
 use Rattle.slice_table.proofs.reading.read_plant.Goals as goal
