@@ -26,6 +26,7 @@ is_null e = e.sid == 0 && e.iuc == 7
 abbrev pub spelled_element : MapElement → List ℕ
 spelled_element e = to_be_bytes w32 (word_of e)
 
+-- the bytes of elements, one after the other
 abbrev pub spelled_elements : List MapElement → List ℕ
 spelled_elements elements = flat_map spelled_element elements
 

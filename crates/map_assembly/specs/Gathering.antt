@@ -36,6 +36,7 @@ gathering_of plant = record {
 
 -- ---- the slices of a frame
 
+-- the slices of a re-slicing, else these
 abbrev pub slices_or : List Minislots → Option Reslicing → List Minislots
 slices_or first None = first
 slices_or first (Some reslicing) = reslicing.slicing
@@ -44,6 +45,7 @@ slices_or first (Some reslicing) = reslicing.slicing
 abbrev pub slices_at : List Minislots → List Reslicing → ℕ → List Minislots
 slices_at first reslicings frame = slices_or first (find (λ r. nat_le r.from frame) (reverse reslicings))
 
+-- the slices of a frame, by what is gathered
 abbrev pub frame_slices : Gathering → ℕ → List Minislots
 frame_slices g frame = slices_at g.slices g.reslicings frame
 
@@ -57,6 +59,7 @@ queue_of queues op = slice_index_or queues op []
 abbrev pub next_of : Gathering → ℕ → ℕ
 next_of g op = g.next + length (queue_of g.queues op)
 
+-- whether an operator with this share may put this part for this slice, where there is such an operator
 abbrev pub fits_at : Option Share → Option Minislots → ElementsFields → Bool
 fits_at (Some share) (Some slice) part = is_fitting share slice part
 fits_at share slice part = false
@@ -122,6 +125,8 @@ AreAllQueued slices reslicings shares queues next =
     (k : ℕ) (share : Share) (queue : List ElementsFields) → slice_get shares k ≡ Some share → slice_get queues k ≡ Some queue
     → AreQueued (λ n. slice_get (slices_at slices reslicings n) k) share next queue
 
+-- what is gathered is valid: its shares and slices are, somebody's part of the next frame is missing, and each operator's parts
+-- are for the frames from that one on
 pub record IsGathering (g : Gathering) : Type 0 where
   pub layout_is : IsLayout g.layout
   pub shares_are : AreShares g.shares
@@ -145,11 +150,13 @@ pub record MayReslice (g : Gathering) (from : ℕ) (slices : List Minislots) : T
   pub later : All (λ r. r.from < from) g.reslicings
   pub past : All (IsPast g from) g.queues
 
+-- these slices stand beside the earlier ones
 abbrev pub resliced : Gathering → ℕ → List Minislots → Gathering
 resliced g from slices = record g { reslicings = g.reslicings ++ record { from = from; slicing = slices } ∷ [] }
 
 -- ---- the parts by their places
 
+-- the first part, else this one
 abbrev pub front_or : ElementsFields → List ElementsFields → ElementsFields
 front_or part [] = part
 front_or part (first ∷ rest) = first

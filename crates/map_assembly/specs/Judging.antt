@@ -39,5 +39,6 @@ abbrev pub behind_null : List MapElement → List MapElement
 behind_null [] = []
 behind_null (e ∷ elements) = if is_null e then elements else behind_null elements
 
+-- their SIDs
 abbrev pub pending_in : List MapElement → List ℕ
 pending_in elements = map (λ e. e.sid) (behind_null elements)

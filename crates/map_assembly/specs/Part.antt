@@ -20,6 +20,7 @@ is_within range n = nat_le range.first n && nat_le n range.last
 abbrev pub is_mine : Numbers → ℕ → Bool
 is_mine range sid = sid == 0 || is_within range sid
 
+-- the two slices are the same
 abbrev pub is_slice : Minislots → Minislots → Bool
 is_slice slice other = slice.start == other.start && slice.length == other.length
 

@@ -99,7 +99,7 @@ pub record GoesBackward (least : ℕ) (elements : List MapElement) (at : ℕ) : 
   pub ascending : AreAscending least before
   pub backward : element.offset < least_behind least before
 
--- the element at this place is the first behind the Null that is no grant pending
+-- of the elements behind a Null at `end`, the one at this place is the first that is no grant pending
 pub record IsNoGrant (end : ℕ) (behind : List MapElement) (at : ℕ) : Type 0 where
   pub before : List MapElement
   pub element : MapElement
@@ -109,6 +109,7 @@ pub record IsNoGrant (end : ℕ) (behind : List MapElement) (at : ℕ) : Type 0 
   pub grants : AllByRecursion (λ e. is_pending end e ≡ true) before
   pub no_grant : is_pending end element ≡ false
 
+-- the elements ascend up to the Null, and the element at this place is the first behind it that is no grant pending
 pub record FollowsNull (least : ℕ) (elements : List MapElement) (at : ℕ) : Type 0 where
   pub before : List MapElement
   pub null : MapElement

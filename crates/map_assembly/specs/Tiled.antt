@@ -35,6 +35,7 @@ pub record GivesNoMinislotTwice (frame_minislots : ℕ) (shares : List Share) (s
 
 -- ---- an operator's part of a MAP
 
+-- the spans of an operator and its grants pending
 pub record MapPart : Type 0 where
   pub spans : List MapSpan
   pub pending : List ℕ

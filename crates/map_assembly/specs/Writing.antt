@@ -5,10 +5,12 @@ use Rattle.map_assembly.specs.declared.element.MapElement.{MapElement}
 use Rattle.map_assembly.specs.declared.view.MapHeader.{MapHeader}
 use Rattle.map_assembly.specs.Element.{spelled_elements}
 
+-- the 16 bytes of a header: the fourth is reserved, and 0
 abbrev pub spelled_header : MapHeader → List ℕ
 spelled_header h =
     (h.channel ∷ h.ucd_count ∷ h.elements ∷ 0 ∷ []) ++ to_be_bytes w32 h.alloc_start ++ to_be_bytes w32 h.ack_time
     ++ (h.backoffs.ranging_start ∷ h.backoffs.ranging_end ∷ h.backoffs.data_start ∷ h.backoffs.data_end ∷ [])
 
+-- a header and its elements
 abbrev pub spelled_map : MapHeader → List MapElement → List ℕ
 spelled_map header elements = spelled_header header ++ spelled_elements elements

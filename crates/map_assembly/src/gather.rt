@@ -5,7 +5,7 @@ ghost use Rattle.slice_scheduler.specs.Minislots.{Minislots};
 ghost use Rattle.slice_scheduler.specs.Tiles.{IsTiled};
 ghost use Rattle.slice_scheduler.specs.declared.elements.ElementsFields.{ElementsFields};
 ghost use Rattle.map_assembly.specs.Part.{share_of};
-ghost use Rattle.map_assembly.specs.Gathering.{gathering_of, fits_at, queue_of, put_fault, with_part, is_whole, is_last, after_put, frame_slices, frame_parts, MayReslice, resliced};
+ghost use Rattle.map_assembly.specs.Gathering.{gathering_of, fits_at, queue_of, put_fault, with_part, is_whole, is_last, after_put, frame_slices, frame_parts, MayReslice, resliced, IsGathering};
 ghost use Rattle.map_assembly.specs.Assembled.{IsMapOf, IsAnswer};
 ghost use Rattle.map_assembly.specs.declared.refused.GatherFault.{GatherFault};
 ghost use Rattle.map_assembly.specs.declared.refused.GatherFault.TheVariants.{NoMemory};
@@ -263,6 +263,7 @@ impl Gather {
     ) -> Result<Option<MapBytes>, Refused>
         ensures state { OnOk result (self.new ≡ after_put self.old op elements) }
         ensures map { IfOk result (IsAnswer self.old op frame elements) }
+        ensures goes { OnOk result (put_fault self.old op frame elements ≡ None) }
 
         ensures fault { (fault : GatherFault) → fault ≢ NoMemory → ((result ≡ Err (record { fault = fault; elements = elements })) ↔ (put_fault self.old op frame elements ≡ Some fault)) }
         ensures refused { IfErr result (λ refused. refused.elements ≡ elements) }
@@ -294,6 +295,13 @@ impl Gather {
                 elements,
             }),
         }
+    }
+
+    /// What always holds of what is gathered, for a caller's proof. Does nothing.
+    pub fn kept(&self)
+        ensures { IsGathering self.now }
+    {
+        let _ = &self.layout;
     }
 
     /// Whether other slices may be given from a frame on: they are valid slices, one for each operator in the plant's order,
