@@ -15,6 +15,7 @@ ghost use Rattle.operator_book.specs.declared.book.OpenFault.TheVariants as open
 ghost use Rattle.operator_book.specs.declared.book.BookFault.TheVariants.{NoMemory};
 
 use crate::logged::Logged;
+use crate::state_view::StateView;
 use dsx_messages::Modem;
 use grant_policy::Ranking;
 use operator_machine::{Action, Entry, Output, SliceRow, Unfit};
@@ -187,6 +188,13 @@ impl Book {
             Action::Reslice { from, row } => self.kept.machine.unfit_from(*from, *row),
             Action::Arrive { modem: _, heard: _ } | Action::Work | Action::Tick => None,
         }
+    }
+
+    /// A copy of the state.
+    pub fn state_view(&self, alloc: Global) -> Result<StateView, AllocError>
+        ensures { IfOk result (λ view. view ≡ self.now.kept.book.state) }
+    {
+        self.kept.machine.state_view(alloc)
     }
 
     /// All that was done, in order.
