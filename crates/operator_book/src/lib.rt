@@ -9,6 +9,7 @@ mod machine;
 mod opening;
 mod refusal;
 mod reslicing;
+mod state_view;
 mod step;
 mod ticking;
 mod verdict;
@@ -16,5 +17,6 @@ mod verdict;
 pub use book::{Book, BookFault, OpenFault};
 pub use logged::Logged;
 pub use operator_machine::{
-    Action, Arrival, Cause, Entry, Heard, Output, Outputs, Share, NextShare, SliceRow, Unfit,
+    Action, Arrival, Cause, Entry, Heard, NextShare, Output, Outputs, Share, SliceRow, Unfit,
 };
+pub use state_view::StateView;

@@ -1,12 +1,13 @@
 //! What is kept of one transaction.
 
-ghost use Rattle.std.specs.Prelude.{◌≡◌, not};
+ghost use Rattle.std.specs.Prelude.{◌≡◌, not, IfOk};
 ghost use Rattle.transactions.specs.Entry.{is_of, waits_for};
 ghost use Rattle.transactions.specs.Timers.{is_due, is_resent, is_given_up, is_forgotten, ticked};
 ghost use Rattle.transactions.specs.Keeping.{begun, held_entry};
 
 use crate::timers::Timers;
 use dsx_messages::{Kind, Modem};
+use std::alloc::{AllocError, Global};
 use tlv24::Bytes;
 
 /// Whether a response waits for its acknowledgement.
@@ -71,6 +72,22 @@ impl KeptEntry {
             ticks_left,
             resends_left,
         }
+    }
+
+    /// An equal value with bytes of its own.
+    pub fn copy(&self, alloc: Global) -> Result<KeptEntry, AllocError>
+        ensures { IfOk result (λ entry. entry ≡ self.now) }
+    {
+        Ok(KeptEntry {
+            modem: self.modem,
+            tid: self.tid,
+            kind: self.kind,
+            reply: self.reply.copy(alloc)?,
+            sfid: self.sfid,
+            standing: self.standing,
+            ticks_left: self.ticks_left,
+            resends_left: self.resends_left,
+        })
     }
 
     /// Whether it is the entry of this modem and transaction ID.

@@ -1,0 +1,115 @@
+//! A copy of a book's state.
+
+ghost use Rattle.std.specs.Prelude.{◌≡◌, IfOk};
+
+use crate::machine::Machine;
+use flow_table::Flow;
+use operator_machine::{Arrival, NextShare, Share};
+use std::alloc::{AllocError, Global};
+use std::collections::VecDeque;
+use std::marker::Model;
+use transactions::KeptEntry;
+
+/// A copy of a book's state. Contracts see it as the state.
+#[derive(Debug, Drop)]
+pub struct StateView {
+    flows: Vec<(u32, Flow)>,
+    kept: Vec<KeptEntry>,
+    inbox: Vec<Arrival>,
+    frame: u32,
+    share: Share,
+    next: Option<NextShare>,
+}
+
+impl Model for StateView {
+    ghost use Rattle.operator_machine.specs.State.{OperatorState};
+
+    ghost Value = { OperatorState };
+
+    ghost view = { λ s. record { flows = s.flows.items; kept = s.kept.items; inbox = s.inbox.items; frame = s.frame; share = s.share; next = s.next } };
+}
+
+/// A copy of what is kept.
+fn kept_copy(alloc: Global, kept: &[KeptEntry]) -> Result<Vec<KeptEntry>, AllocError>
+    ensures { IfOk result (λ copies. copies.items ≡ kept.now) }
+{
+    let mut copies = Vec::with_capacity(alloc, kept.len())?;
+    for entry in kept {
+        copies.push(entry.copy(alloc)?)?;
+    }
+    Ok(copies)
+}
+
+/// A copy of what was heard.
+fn inbox_copy(alloc: Global, inbox: &VecDeque<Arrival>) -> Result<Vec<Arrival>, AllocError>
+    ensures { IfOk result (λ copies. copies.items ≡ inbox.now.items) }
+{
+    let mut copies = Vec::with_capacity(alloc, inbox.len())?;
+    for arrival in inbox {
+        copies.push(arrival.copy(alloc)?)?;
+    }
+    Ok(copies)
+}
+
+impl Machine {
+    /// A copy of the state.
+    pub(crate) fn state_view(&self, alloc: Global) -> Result<StateView, AllocError>
+        ensures { IfOk result (λ view. view ≡ self.now.state) }
+    {
+        let flows = self.flows.to_vec(alloc)?;
+        let kept = kept_copy(alloc, self.kept.entries())?;
+        let inbox = inbox_copy(alloc, &self.inbox)?;
+        Ok(StateView {
+            flows,
+            kept,
+            inbox,
+            frame: self.frame,
+            share: self.share,
+            next: self.next,
+        })
+    }
+}
+
+impl StateView {
+    /// The flows under their SFIDs, ascending.
+    pub fn flows(&self) -> &[(u32, Flow)]
+        ensures { result.now ≡ self.now.flows }
+    {
+        self.flows.as_slice()
+    }
+
+    /// The responses that are kept, in the order in which their transactions began.
+    pub fn kept(&self) -> &[KeptEntry]
+        ensures { result.now ≡ self.now.kept }
+    {
+        self.kept.as_slice()
+    }
+
+    /// What was heard and not handled, in order.
+    pub fn inbox(&self) -> &[Arrival]
+        ensures { result.now ≡ self.now.inbox }
+    {
+        self.inbox.as_slice()
+    }
+
+    /// The number of the next frame.
+    pub fn frame(&self) -> u32
+        ensures { result ≡ self.now.frame }
+    {
+        self.frame
+    }
+
+    /// The slice and the budget in force.
+    pub fn share(&self) -> Share
+        ensures { result ≡ self.now.share }
+    {
+        self.share
+    }
+
+    /// Those that wait for their frame.
+    pub fn next(&self) -> Option<NextShare>
+        ensures { result ≡ self.now.next }
+    {
+        self.next
+    }
+}
