@@ -2,6 +2,7 @@ pub mod Lines
 pub mod OperatorA
 pub mod Words
 pub mod One
+pub mod View
 pub mod LineFault
 pub mod ReadSoFar
 pub mod SplitSoFar

@@ -5,15 +5,15 @@ use Rattle.std.specs.Result.{result_ok}
 use Rattle.std.specs.Str.{bytes_eq, is_utf8}
 use Rattle.std.specs.Fmt.{decimal}
 use Rattle.hex.specs.Hex.{decode_of, encode_upper}
-use Rattle.operator_book.specs.declared.heard.Heard.TheVariants as heards
-use Rattle.operator_book.specs.declared.action.Action.{Action}
-use Rattle.operator_book.specs.declared.action.Action.TheVariants.{Arrive, Work}
-use Rattle.operator_book.specs.declared.output.Cause.{Cause}
-use Rattle.operator_book.specs.declared.output.Cause.TheVariants.{InboxFull, Idle, Empty, NotOurs, Short, TidInUse, UnknownAck}
-use Rattle.operator_book.specs.declared.output.Output.{Output}
-use Rattle.operator_book.specs.declared.output.Output.TheVariants.{Reply, Silent}
-use Rattle.operator_book.specs.State.{opened}
-use Rattle.operator_book.specs.Machine.{own_run}
+use Rattle.operator_machine.specs.declared.heard.Heard.TheVariants as heards
+use Rattle.operator_machine.specs.declared.action.Action.{Action}
+use Rattle.operator_machine.specs.declared.action.Action.TheVariants.{Arrive, Work}
+use Rattle.operator_machine.specs.declared.output.Cause.{Cause}
+use Rattle.operator_machine.specs.declared.output.Cause.TheVariants.{InboxFull, Idle, Empty, NotOurs, Short, TidInUse, UnknownAck, NoSuchSid, NotRequesting}
+use Rattle.operator_machine.specs.declared.output.Output.{Output}
+use Rattle.operator_machine.specs.declared.output.Output.TheVariants.{Reply, Silent, Frame}
+use Rattle.operator_machine.specs.State.{opened}
+use Rattle.operator_machine.specs.Machine.{own_run}
 use Rattle.plant_script.specs.Lines.{lines_of}
 use Rattle.plant_script.specs.OperatorA.{first_modem, row_a, consts_a}
 
@@ -46,7 +46,7 @@ abbrev pub actions_of : List (List ℕ) → List Action
 actions_of messages = flat_map (λ message. Arrive first_modem (heards.Message message) ∷ Work ∷ []) messages
 
 abbrev pub outputs_of : List (List ℕ) → List Output
-outputs_of messages = (own_run row_a (opened row_a consts_a) (actions_of messages)).outputs
+outputs_of messages = (own_run consts_a row_a (opened consts_a row_a) (actions_of messages)).outputs
 
 -- ---- outputs to text
 
@@ -58,11 +58,14 @@ name_of NotOurs = codes "NotOurs"
 name_of Short = codes "Short"
 name_of TidInUse = codes "TidInUse"
 name_of UnknownAck = codes "UnknownAck"
+name_of NoSuchSid = codes "NoSuchSid"
+name_of NotRequesting = codes "NotRequesting"
 
--- a reply in upper-case hexadecimal; or S and the cause
+-- a reply in upper-case hexadecimal; or S and the cause. A frame has no line: nothing ticks here.
 abbrev pub line_of : Output → List ℕ
 line_of (Reply modem bytes) = encode_upper bytes ++ 10 ∷ []
 line_of (Silent modem cause) = codes "S " ++ (name_of cause ++ 10 ∷ [])
+line_of (Frame number elements) = []
 
 abbrev pub text_of : List Output → List ℕ
 text_of outputs = flat_map line_of outputs

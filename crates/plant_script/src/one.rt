@@ -1,15 +1,15 @@
 //! The word `one`: messages to outputs, outputs to text.
 
-ghost use Rattle.std.specs.Prelude.{◌≡◌, ◌++◌, [], ◌∷◌, None, IfOk, OnOk};
-ghost use Rattle.operator_book.specs.State.{opened};
-ghost use Rattle.operator_book.specs.Machine.{own_step, own_run};
-ghost use Rattle.operator_book.specs.Replay.{stranger_of};
+ghost use Rattle.std.specs.Prelude.{◌≡◌, ◌++◌, [], ◌∷◌, IfOk, OnOk};
+ghost use Rattle.operator_machine.specs.Machine.{own_step, own_run, IsAllowed};
 ghost use Rattle.plant_script.specs.OperatorA.{row_a, consts_a};
 ghost use Rattle.plant_script.specs.One.{actions_of, outputs_of, name_of, line_of, text_of};
+ghost use Rattle.plant_script.specs.View.{view_of, IsOfA};
 
 use crate::operator_a::{consts_a, first_modem, row_a};
+use grant_policy::{Policy, RankInput, Ranking, rank_by};
 use hex::encode_upper;
-use operator_book::{Action, Book, BookFault, Cause, Heard, Output};
+use operator_book::{Action, Book, BookFault, Cause, Heard, OpenFault, Output};
 use std::alloc::{AllocError, Global};
 use tlv24::Bytes;
 
@@ -24,6 +24,8 @@ fn name_of(cause: Cause) -> &'static str
         Cause::Short => "Short",
         Cause::TidInUse => "TidInUse",
         Cause::UnknownAck => "UnknownAck",
+        Cause::NoSuchSid => "NoSuchSid",
+        Cause::NotRequesting => "NotRequesting",
     }
 }
 
@@ -40,6 +42,11 @@ fn put_line(alloc: Global, text: &mut Vec<u8>, output: &Output) -> Result<(), Al
             text.extend_from_slice(b"S ")?;
             text.extend_from_slice(name_of(*cause).as_bytes())?;
         }
+        // Nothing ticks here.
+        Output::Frame {
+            number: _,
+            elements: _,
+        } => return Ok(()),
     }
     text.extend_from_slice(b"\n")
 }
@@ -61,16 +68,18 @@ fn put_action(
     text: &mut Vec<u8>,
     action: Action,
 ) -> Result<(), AllocError>
-    requires row { book.old.row ≡ row_a }
-    requires mine { stranger_of row_a action ≡ None }
-    ensures row { OnOk result (book.new.row ≡ row_a) }
-    ensures state { OnOk result (book.new.state ≡ (own_step row_a book.old.state action).state) }
-    ensures text { OnOk result (text.new.items ≡ text.old.items ++ text_of (own_step row_a book.old.state action).outputs) }
+    requires of_a { IsOfA (view_of book.old) }
+    requires allowed { IsAllowed consts_a row_a (view_of book.old).state action }
+    ensures of_a { OnOk result (IsOfA (view_of book.new)) }
+    ensures state { OnOk result ((view_of book.new).state ≡ (own_step consts_a row_a (view_of book.old).state action).state) }
+    ensures text { OnOk result (text.new.items ≡ text.old.items ++ text_of (own_step consts_a row_a (view_of book.old).state action).outputs) }
 {
     match book.act(alloc, action) {
         Ok(outputs) => put_lines(alloc, text, outputs.as_slice()),
         Err(BookFault::NoMemory) => Err(AllocError),
         Err(BookFault::NotMine { modem: _ }) => unreachable!(),
+        Err(BookFault::FramesSpent) => unreachable!(),
+        Err(BookFault::Unfit(_)) => unreachable!(),
     }
 }
 
@@ -81,10 +90,10 @@ fn put_message(
     text: &mut Vec<u8>,
     message: &Bytes,
 ) -> Result<(), AllocError>
-    requires { book.old.row ≡ row_a }
-    ensures row { OnOk result (book.new.row ≡ row_a) }
-    ensures state { OnOk result (book.new.state ≡ (own_run row_a book.old.state (actions_of (message.now ∷ []))).state) }
-    ensures text { OnOk result (text.new.items ≡ text.old.items ++ text_of (own_run row_a book.old.state (actions_of (message.now ∷ []))).outputs) }
+    requires { IsOfA (view_of book.old) }
+    ensures of_a { OnOk result (IsOfA (view_of book.new)) }
+    ensures state { OnOk result ((view_of book.new).state ≡ (own_run consts_a row_a (view_of book.old).state (actions_of (message.now ∷ []))).state) }
+    ensures text { OnOk result (text.new.items ≡ text.old.items ++ text_of (own_run consts_a row_a (view_of book.old).state (actions_of (message.now ∷ []))).outputs) }
 {
     let heard = Heard::Message(message.copy(alloc)?);
     let modem = first_modem();
@@ -96,8 +105,18 @@ fn put_message(
 pub fn text_of(alloc: Global, messages: &[Bytes]) -> Result<Vec<u8>, AllocError>
     ensures { IfOk result (λ text. text.items ≡ text_of (outputs_of messages.now)) }
 {
+    let ranking = Ranking::new(
+        Policy::Strict,
+        Box::new(alloc, |input: RankInput| -> u8 {
+            rank_by(Policy::Strict, &input)
+        })?,
+    );
     let row = row_a(alloc)?;
-    let mut book = Book::open(alloc, &row, &consts_a())?;
+    let mut book = match Book::open(alloc, &row, &consts_a(alloc), ranking) {
+        Ok(book) => book,
+        Err(OpenFault::NoMemory) => return Err(AllocError),
+        Err(OpenFault::PolicyMismatch) => unreachable!(),
+    };
     let mut text = Vec::new(alloc);
     for message in messages {
         put_message(alloc, &mut book, &mut text, message)?;

@@ -1,18 +1,35 @@
 //! The operator that is built in.
 
-ghost use Rattle.std.specs.Prelude.{◌≡◌, IfOk};
+ghost use Rattle.std.specs.Prelude.{◌≡◌, codes, IfOk};
 ghost use Rattle.plant_script.specs.OperatorA.{first_modem, row_a, consts_a};
 
 use admission::IdRange;
 use dsx_messages::Modem;
-use operator_book::{Consts, Modems, OperatorRow, RowFields};
+use grant_policy::Policy;
+use param_sets::Units;
+use slice_scheduler::Slice;
+use slice_table::{
+    Backoffs, Classes, Consts, ConstsFields, Modems, OperatorName, OperatorRow, Provisions,
+    RowFields,
+};
 use std::alloc::{AllocError, Global};
+use transactions::Timers;
 
 /// The modem that `one` speaks for.
 pub fn first_modem() -> Modem
     ensures { result ≡ first_modem }
 {
     Modem([2, 0, 0, 0, 0, 1])
+}
+
+/// The name of operator A.
+fn name_a() -> OperatorName
+    ensures { result ≡ codes "A" }
+{
+    match OperatorName::new(b"A") {
+        Some(name) => name,
+        None => unreachable!(),
+    }
 }
 
 /// The row of operator A.
@@ -23,18 +40,40 @@ pub fn row_a(alloc: Global) -> Result<OperatorRow, AllocError>
     modems.push(first_modem())?;
     modems.push(Modem([2, 0, 0, 0, 0, 2]))?;
     Ok(OperatorRow::new(RowFields {
-        modems: Modems::from_vec(modems),
+        name: name_a(),
+        slice: Slice::new(8, 32),
         sfids: IdRange::new(257, 512),
         sids: IdRange::new(257, 272),
         flows: 4,
         transactions: 4,
         inbox: 4,
+        budget: 32,
+        elements: 8,
+        policy: Policy::Strict,
+        modems: Modems::from_vec(modems),
+        provisions: Provisions::from_vec(Vec::new(alloc)),
     }))
 }
 
 /// What its plant's operators share.
-pub fn consts_a() -> Consts
+pub fn consts_a(alloc: Global) -> Consts
     ensures { result ≡ consts_a }
 {
-    Consts { first_frame: 0 }
+    Consts::new(ConstsFields {
+        frame_minislots: 72,
+        head: 8,
+        units: Units::new(2000, 16),
+        short_max: 4,
+        channel: 1,
+        ucd_count: 1,
+        backoffs: Backoffs {
+            ranging_start: 0,
+            ranging_end: 0,
+            data_start: 0,
+            data_end: 0,
+        },
+        timers: Timers::new(150, 3, 1500),
+        first_frame: 0,
+        classes: Classes::from_vec(Vec::new(alloc)),
+    })
 }

@@ -4,6 +4,7 @@ use crate::program::run_program;
 use std::alloc::Global;
 use std::io;
 use std::io::{Read, Write};
+use std::process::Abort;
 use std::test::Fail;
 
 const ADDITION: &str = "0F0001180A010200010601060F0102\n";
@@ -18,61 +19,99 @@ fn one(alloc: Global, input: &str) -> (u8, Vec<u8>) {
     (status, text)
 }
 
+/// Asserts the status and the text that an input of `one` gets.
+fn check_one(
+    rt: &impl Abort,
+    alloc: Global,
+    input: &str,
+    status: u8,
+    text: &str,
+) -> Result<(), Fail> {
+    let answer = one(alloc, input);
+    assert_eq!(rt; answer.0, status, "at {input}");
+    assert_eq!(rt; answer.1.as_slice(), text.as_bytes(), "at {input}");
+    Ok(())
+}
+
 #[test]
 fn messages_and_their_answers(rt: HostRuntime) -> Result<(), Fail> {
-    let rows = [
+    for (input, text) in [
         // A lone addition.
-        (ADDITION, 0, REPLY),
+        (ADDITION, REPLY),
         // The last line may lack its end; empty lines say nothing; digits may be lower case.
-        ("\n0f0001180a010200010601060f0102", 0, REPLY),
+        ("\n0f0001180a010200010601060f0102", REPLY),
         // A type 24 that says 11 bytes where 10 are.
-        ("0F0003180B010200010601060F0102\n", 0, "10000301\n"),
+        ("0F0003180B010200010601060F0102\n", "10000301\n"),
         // A known subtype of a wrong length beside a skipped one.
         (
             "0F0002180E010200010601066301FF0F020002\n",
-            0,
             "10000202180C01020001050601010F020102\n",
         ),
         // A transaction ID of the CMTS's half, with nothing kept; and the last of the modems' half.
         (
             "0F8000180A010200010601060F0102\n0F8000180A010200010601060F0102\n",
-            0,
             "1080000A\n1080000A\n",
         ),
         (
             "0F7FFF180A010200010601060F0102\n",
-            0,
             "107FFF00180E0102000102040000010103020101\n",
         ),
-        // A repeated request while it waits, its acknowledgement, and an unknown one.
+        // A downstream flow is left out; an unknown type is skipped, and no encoding stands.
+        ("0F00011900\n0F00021B00\n", "10000102\n10000208\n"),
+        // No byte, a short message, a type that is not handled, an acknowledgement for which nothing waits.
+        (
+            "-\n0F00\n10000100\n14000100\n",
+            "S Empty\nS Short\nS NotOurs\nS UnknownAck\n",
+        ),
+        ("", ""),
+    ] {
+        check_one(&rt, rt.alloc(), input, 0, text)?;
+    }
+    Ok(())
+}
+
+#[test]
+fn transactions_one_after_the_other(rt: HostRuntime) -> Result<(), Fail> {
+    for (input, text) in [
+        // A request repeated while it waits, its acknowledgement, and another that nothing waits for.
         (
             "0F0001180A010200010601060F0102\n0F0001180A010200010601060F0102\n11000100\n11000100\n",
-            0,
-            "10000100180E0102000102040000010103020101\nS TidInUse\nS UnknownAck\n",
+            "10000100180E0102000102040000010103020101\n10000100180E0102000102040000010103020101\nS UnknownAck\n",
         ),
-        // A downstream flow is left out; an unknown type is skipped, and no encoding stands.
-        ("0F00011900\n0F00021B00\n", 0, "10000102\n10000208\n"),
-        // No byte, a short message, messages that are not handled.
+        // A deletion under a transaction ID that an addition has in use.
         (
-            "-\n0F00\n10000100\n150001000000000101\n",
-            0,
-            "S Empty\nS Short\nS NotOurs\nS NotOurs\n",
+            "0F0001180A010200010601060F0102\n150001000000000101\n",
+            "10000100180E0102000102040000010103020101\nS TidInUse\n",
         ),
-        ("", 0, ""),
-        // Lines at fault, the first of them told, and no step made.
+        // Grants that fill the budget, the next flow refused until they are deleted.
         (
-            "0F0001180A010200010601060F0102\n\n0F0\n",
-            4,
-            "fault: line 3\n",
+            "0F00011817010200010601060F0106130202001404000007D0160101\n11000100\n\
+             0F00021810010200020601060F01020A0400000001\n150003000000000101\n\
+             0F00041810010200020601060F01020A0400000001\n",
+            "10000100180E0102000102040000010103020101\n10000203\n1600030000\n\
+             10000400180E0102000202040000010103020101\n",
         ),
-        ("11000100\r\n", 4, "fault: line 1\n"),
-        (" \n-\n", 4, "fault: line 1\n"),
-        ("--\n", 4, "fault: line 1\n"),
-    ];
-    for (input, status, text) in rows {
-        let answer = one(rt.alloc(), input);
-        assert_eq!(rt; answer.0, status, "at {input}");
-        assert_eq!(rt; answer.1.as_slice(), text.as_bytes(), "at {input}");
+        // A grant interval under a frame.
+        (
+            "0F00011817010200010601060F0106130202001404000007CF160101\n",
+            "10000117180C010200010506010114020117\n",
+        ),
+    ] {
+        check_one(&rt, rt.alloc(), input, 0, text)?;
+    }
+    Ok(())
+}
+
+#[test]
+fn lines_at_fault(rt: HostRuntime) -> Result<(), Fail> {
+    // The first of them is told, and no step is made.
+    for (input, text) in [
+        ("0F0001180A010200010601060F0102\n\n0F0\n", "fault: line 3\n"),
+        ("11000100\r\n", "fault: line 1\n"),
+        (" \n-\n", "fault: line 1\n"),
+        ("--\n", "fault: line 1\n"),
+    ] {
+        check_one(&rt, rt.alloc(), input, 4, text)?;
     }
     Ok(())
 }

@@ -1,6 +1,5 @@
-use Rattle.std.proofs.Common.{◌≡◌, ◌==◌, ℕ, [], List, true, false, length, map, get_or, arith, sym, ap, ◌∙◌}
+use Rattle.std.proofs.Common.{◌≡◌, ◌==◌, ℕ, [], List, true, false, length, get_or, sym, ◌∙◌}
 use Rattle.std.specs.Borrow.{Bor}
-use Rattle.std.proofs.lemmas.Bool.Decides.{nat_tests}
 use Rattle.plant_script.proofs.Splits.{said_empty, said_message, said_fault, line_at}
 use Rattle.plant_script.proofs.lines.messages_of.Goals as goal
 use Rattle.plant_script.proofs.lines.messages_of.Goals.{then-not-is_empty+in_ok-message+in-Some+in_ok-push, else-not-is_empty}

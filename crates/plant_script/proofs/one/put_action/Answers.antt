@@ -1,15 +1,24 @@
-use Rattle.std.proofs.Common.{◌≡◌, Option, Some, None, Result, Err, sym, ap, ◌∙◌}
-use Rattle.dsx_messages.specs.declared.modem.Modem.{Modem}
-use Rattle.operator_book.specs.declared.row.RowFields.{RowFields}
-use Rattle.operator_book.specs.Replay.{stranger_of}
+use Rattle.std.proofs.Common.{◌≡◌, Option, Some, None, Err, ap, ◌∙◌}
+use Rattle.slice_table.specs.declared.operator_row.RowFields.{RowFields}
+use Rattle.slice_table.specs.declared.consts.ConstsFields.{ConstsFields}
+use Rattle.operator_machine.specs.Machine.{stranger_of, unfit_of}
+use Rattle.plant_script.specs.View.{view_of}
 use Rattle.plant_script.proofs.one.put_action.Goals as goal
 
-no_one : (m : Modem) (o : Option Modem) → o ≡ None → o ≡ Some m → ⊥
-no_one m None p q = cc
-no_one m (Some n) p q = cc
+no_one : {A : Type 0} (o : Option A) (a : A) → o ≡ None → o ≡ Some a → ⊥
+no_one None a p q = cc
+no_one (Some b) a p q = cc
 
 pub unreachable-requires : goal.unreachable-requires
-unreachable-requires c =
-    no_one c.in-Err-NotMine.field-0-0 (stranger_of c.args.book.now.row c.args.action)
-    (ap (λ (r : RowFields). stranger_of r c.args.action) c.requires.row ∙ c.requires.mine)
+unreachable-requires g c =
+    let book = view_of c.args.book.now in
+    no_one (stranger_of book.row c.args.action) c.in-Err-NotMine.field-0-0
+    (ap (λ (row : RowFields). stranger_of row c.args.action) c.requires.of_a.row_is ∙ c.requires.allowed.mine)
     ((c.in-Err-NotMine.ensures.not_mine c.in-Err-NotMine.field-0-0).0 (ap Err c.in-Err-NotMine.field-0-is))
+
+pub unreachable-requires-in-Err-Unfit : goal.unreachable-requires-in-Err-Unfit
+unreachable-requires-in-Err-Unfit g c =
+    let book = view_of c.args.book.now in
+    no_one (unfit_of book.consts book.state c.args.action) c.in-Err-Unfit.field-0-0
+    (ap (λ (consts : ConstsFields). unfit_of consts book.state c.args.action) c.requires.of_a.consts_is ∙ c.requires.allowed.fit)
+    ((c.in-Err-Unfit.ensures.unfit c.in-Err-Unfit.field-0-0).0 (ap Err c.in-Err-Unfit.field-0-is))

@@ -1,5 +1,6 @@
 use Rattle.plant_script.specs.RunSoFar.{IsRunSoFar}
+use Rattle.plant_script.specs.View.{view_of}
 use Rattle.plant_script.proofs.one.text_of.Given as goal
 
 abbrev pub invariant-loop-message : goal.invariant-loop-message
-invariant-loop-message l = IsRunSoFar l.messages l.book l.text.items l.message-index
+invariant-loop-message l = IsRunSoFar l.messages (view_of l.book) l.text.items l.message-index

@@ -1,2 +1,0 @@
--- A run of messages, one after the other.
-use Rattle.std.proofs.Common.{◌≡◌, refl}
