@@ -100,14 +100,14 @@ with_part_queued g op frame part is put tiled k share queue e f = by (cases_eq k
     by (inl same) =
         let within : op < length g.queues = omega (arith, is.one_each, put.op_is) in
         let there : slice_get g.queues k ≡ Some (queue_of g.queues op) =
-            ap (λ (i : ℕ). slice_get g.queues i) same ∙ slice_get-get_or g.queues op [] within in
+        ap (λ (i : ℕ). slice_get g.queues i) same ∙ slice_get-get_or g.queues op [] within in
         let new : queue_of g.queues op ++ part ∷ [] ≡ queue =
-            same_Some (queue_of g.queues op ++ part ∷ []) queue (sym (get-set_same g.queues op (queue_of g.queues op ++ part ∷ []) within) ∙ (ap (λ (i : ℕ). slice_get (with_part g.queues op part) i) (sym same) ∙ f)) in
+        same_Some (queue_of g.queues op ++ part ∷ []) queue (sym (get-set_same g.queues op (queue_of g.queues op ++ part ∷ []) within) ∙ (ap (λ (i : ℕ). slice_get (with_part g.queues op part) i) (sym same) ∙ f)) in
         let share_is : slice_get g.shares op ≡ Some share = ap (λ (i : ℕ). slice_get g.shares i) (sym same) ∙ e in
         let here : IsPartAt (slice_for g op frame) share part = part_at_fits share (slice_get g.shares op) (slice_for g op frame) part share_is put.part_is tiled in
         let moved : IsPartAt (slice_for g k (g.next + length (queue_of g.queues op))) share part =
-            subst (λ (i : ℕ). IsPartAt (slice_for g i (g.next + length (queue_of g.queues op))) share part) (sym same)
-            (subst (λ (n : ℕ). IsPartAt (slice_for g op n) share part) put.frame_is here) in
+        subst (λ (i : ℕ). IsPartAt (slice_for g i (g.next + length (queue_of g.queues op))) share part) (sym same)
+        (subst (λ (n : ℕ). IsPartAt (slice_for g op n) share part) put.frame_is here) in
         subst (λ (q : List ElementsFields). AreQueued (slice_for g k) share g.next q) new
         (queued-push (slice_for g k) share g.next (queue_of g.queues op) part (is.queued k share (queue_of g.queues op) e there) moved)
     by (inr other) = is.queued k share queue e (sym (get-set_other g.queues op k (queue_of g.queues op ++ part ∷ []) other) ∙ f)
@@ -183,10 +183,6 @@ after_last g op frame part is put whole =
     sym (ap (λ (b : Bool). cond b (record g { queues = map (λ (queue : List ElementsFields). drop 1 queue) (with_part g.queues op part); next = g.next + 1 }) (record g { queues = with_part g.queues op part })) whole
     ∙ ap (λ (qs : List (List ElementsFields)). let h : Gathering = record g { queues = qs; next = g.next + 1 } in h) (dropped_with g.queues op part (omega (arith, is.one_each)) (last_is_first g op part is at whole)))
 
-pub after_other : (g : Gathering) (op : ℕ) (part : ElementsFields) → is_last g op part ≡ false → record g { queues = with_part g.queues op part } ≡ after_put g op part
-after_other g op part waits =
-    sym (ap (λ (b : Bool). cond b (record g { queues = map (λ (queue : List ElementsFields). drop 1 queue) (with_part g.queues op part); next = g.next + 1 }) (record g { queues = with_part g.queues op part })) waits)
-
 -- ---- the slices of a frame are valid
 
 all-append : {X : Type 0} (P : X → Type 0) (xs ys : List X) → AllByRecursion P xs → AllByRecursion P ys → AllByRecursion P (xs ++ ys)
@@ -239,9 +235,10 @@ fronts_are [] (m ∷ slices) queues a b whole h = absurd (omega arith)
 fronts_are (s ∷ shares) [] queues a b whole h = absurd (omega arith)
 fronts_are (s ∷ shares) (m ∷ slices) [] a b whole h = absurd (omega arith)
 fronts_are (s ∷ shares) (m ∷ slices) ([] ∷ queues) a b whole h = let wrong : false ≡ true = whole in absurd (cc)
-fronts_are (s ∷ shares) (m ∷ slices) ((p ∷ ps) ∷ queues) a b whole h =
-    (part_of_front m s p (h 0 s (p ∷ ps) refl refl),
-     fronts_are shares slices queues (omega arith) (omega arith) (and_parts (ltb 0 (length (p ∷ ps))) (is_whole queues) whole).1 (λ k share queue e f. h (suc k) share queue e f))
+fronts_are (s ∷ shares) (m ∷ slices) ((p ∷ ps) ∷ queues) a b whole h = (
+  part_of_front m s p (h 0 s (p ∷ ps) refl refl),
+  fronts_are shares slices queues (omega arith) (omega arith) (and_parts (ltb 0 (length (p ∷ ps))) (is_whole queues) whole).1 (λ k share queue e f. h (suc k) share queue e f),
+)
 
 pub frame_is_whole : (g : Gathering) (op frame : ℕ) (part : ElementsFields) → IsGathering g → put_fault g op frame part ≡ None → IsTiled part → is_last g op part ≡ true
     → AreFrame g.layout g.shares (frame_slices g g.next) (frame_parts g op part)
@@ -325,8 +322,8 @@ ordered_is g now op frame part order queues slices e is put tiled whole order_is
     let none : queue_of now.queues op ≡ [] = last_is_first now op part is' at whole in
     let frame' : AreFrame now.layout now.shares (frame_slices now frame) (frame_parts now op part) = frame_of g now op frame part e is put tiled whole in
     let parts : map (part_at now.queues op part) (order_of (map (λ (slice : Minislots). slice.start) (frame_slices now frame))) ≡ in_order (frame_parts now op part) =
-        ordered_parts (frame_parts now op part) (frame_slices now frame) (part_at now.queues op part) part (slices_of_parts now.shares (frame_slices now frame) (frame_parts now op part) frame'.parts_are)
-        (part_at_is now.queues op part (omega (arith, is'.one_each)) none whole) in
+    ordered_parts (frame_parts now op part) (frame_slices now frame) (part_at now.queues op part) part (slices_of_parts now.shares (frame_slices now frame) (frame_parts now op part) frame'.parts_are)
+    (part_at_is now.queues op part (omega (arith, is'.one_each)) none whole) in
     ap (λ (ks : List ℕ). ordered_elements g.layout ks queues op part) (order_is ∙ ap (λ (ms : List Minislots). order_of (map (λ (slice : Minislots). slice.start) ms)) slices_is)
     ∙ (ap (λ (qs : List (List ElementsFields)). ordered_elements g.layout (order_of (map (λ (slice : Minislots). slice.start) (slices_at g.slices g.reslicings frame))) qs op part) queues_are
     ∙ (ap (λ (h : Gathering). ordered_elements h.layout (order_of (map (λ (slice : Minislots). slice.start) (frame_slices h frame))) h.queues op part) e
