@@ -16,7 +16,7 @@ use Rattle.map_assembly.specs.declared.refused.GatherFault.{GatherFault}
 use Rattle.map_assembly.specs.declared.refused.GatherFault.TheVariants.{Stranger, Old, PutTwice, Early, WrongSlice}
 use Rattle.map_assembly.specs.Part.{is_fitting, IsPartOf, ArePartsOf}
 use Rattle.map_assembly.specs.Plan.{AreSlices}
-use Rattle.map_assembly.specs.Gathering.{Gathering, slices_or, slices_at, frame_slices, queue_of, next_of, fits_at, is_part, put_fault, with_part, is_whole, fronts, is_last, frame_parts, after_put, IsPartAt, AreQueued, AreAllQueued, IsGathering}
+use Rattle.map_assembly.specs.Gathering.{Gathering, slices_or, slices_at, frame_slices, queue_of, next_of, fits_at, is_part, put_fault, with_part, is_whole, fronts, is_last, frame_parts, after_put, frame_out, IsPartAt, AreQueued, AreAllQueued, IsGathering}
 use Rattle.map_assembly.proofs.LastLemmas.{empty_before_last}
 use Rattle.map_assembly.specs.declared.element.MapElement.{MapElement}
 use Rattle.map_assembly.specs.Element.{FitsElement}
@@ -351,3 +351,22 @@ layout_seen g now e = ap (λ (h : Gathering). h.layout) e
 
 pub next_of_last : (g now : Gathering) (op frame : ℕ) (part : ElementsFields) → g ≡ now → IsGathering g → put_fault now op frame part ≡ None → is_last now op part ≡ true → frame ≡ now.next
 next_of_last g now op frame part e is put whole = last_frame now op frame part (subst IsGathering e is) put whole
+
+-- ---- what is left once a frame is made
+
+pub out_valid : (g now : Gathering) (op frame : ℕ) (part : ElementsFields) → g ≡ now → IsGathering g → put_fault now op frame part ≡ None → is_last now op part ≡ true → IsGathering (frame_out now frame)
+out_valid g now op frame part e is put whole = made_is now now op frame part (map (λ (queue : List ElementsFields). drop 1 queue) now.queues) refl (subst IsGathering e is) put whole refl
+
+pub out_after : (g now : Gathering) (op frame : ℕ) (part : ElementsFields) → g ≡ now → IsGathering g → put_fault now op frame part ≡ None → is_last now op part ≡ true → frame_out now frame ≡ after_put now op part
+out_after g now op frame part e is put whole = made_view now now op frame part (map (λ (queue : List ElementsFields). drop 1 queue) now.queues) refl (subst IsGathering e is) put whole refl
+
+pub out_view : (g now : Gathering) (frame : ℕ) (queues : List (List ElementsFields)) → g ≡ now → queues ≡ map (λ (queue : List ElementsFields). drop 1 queue) g.queues → record g { queues = queues; next = frame + 1 } ≡ frame_out now frame
+out_view g now frame queues e same =
+    ap (λ (qs : List (List ElementsFields)). let h : Gathering = record g { queues = qs; next = frame + 1 } in h) same ∙ ap (λ (h : Gathering). frame_out h frame) e
+
+pub out_is : (g now : Gathering) (frame : ℕ) (queues : List (List ElementsFields)) → g ≡ now → IsGathering (frame_out now frame) → queues ≡ map (λ (queue : List ElementsFields). drop 1 queue) g.queues → IsGathering (record g { queues = queues; next = frame + 1 })
+out_is g now frame queues e is same = subst IsGathering (sym (out_view g now frame queues e same)) is
+
+-- a part that is not refused is of the operator's next frame
+pub put_at_next : (g : Gathering) (op frame : ℕ) (part : ElementsFields) → put_fault g op frame part ≡ None → put_fault g op (next_of g op) part ≡ None
+put_at_next g op frame part put = subst (λ (n : ℕ). put_fault g op n part ≡ None) (is_put g op frame part put).frame_is put

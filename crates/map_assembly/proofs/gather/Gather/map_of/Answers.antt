@@ -1,7 +1,7 @@
 use Rattle.std.proofs.Common.{rules}
 use Rattle.std.proofs.lemmas.Result.{IfOk-weaker}
 use Rattle.map_assembly.specs.Gathering.{frame_slices, frame_parts}
-use Rattle.map_assembly.proofs.StateLemmas.{frame_of, ordered_is, few_ordered, fit_ordered, is_map_of, layout_seen, next_of_last}
+use Rattle.map_assembly.proofs.StateLemmas.{frame_of, ordered_is, few_ordered, fit_ordered, is_map_of, layout_seen, next_of_last, out_valid, out_after}
 use Rattle.map_assembly.proofs.gather.Gather.map_of.Goals as goal
 
 pub map_bytes-requires-clause-few : goal.map_bytes-requires-clause-few
@@ -20,6 +20,12 @@ map_bytes-requires-clause-fit c =
 
 pub returns-clause-next : goal.returns-clause-next
 returns-clause-next c = next_of_last _ c.args.self.now c.args.op c.args.frame c.args.part.now c.self.view_is c.self.invariant c.requires.put c.requires.last
+
+pub returns-clause-valid : goal.returns-clause-valid
+returns-clause-valid c = out_valid _ c.args.self.now c.args.op c.args.frame c.args.part.now c.self.view_is c.self.invariant c.requires.put c.requires.last
+
+pub returns-clause-after : goal.returns-clause-after
+returns-clause-after c = out_after _ c.args.self.now c.args.op c.args.frame c.args.part.now c.self.view_is c.self.invariant c.requires.put c.requires.last
 
 pub returns-clause-bytes : goal.returns-clause-bytes
 returns-clause-bytes c =
