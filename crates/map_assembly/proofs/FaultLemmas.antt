@@ -33,7 +33,10 @@ more_behind at end e es Short p h = h
 more_behind at end e es Count p h = h
 more_behind at end e es (Backward k) p h = h
 more_behind at end e es NoNull p h = h
-more_behind at end e es (AfterNull k) p h = (h.0 + 1, omega (arith, h.1), record {
+more_behind at end e es (AfterNull k) p h = (
+  h.0 + 1,
+  omega (arith, h.1),
+  record {
     before = e ∷ h.2.before;
     element = h.2.element;
     after = h.2.after;
@@ -41,7 +44,8 @@ more_behind at end e es (AfterNull k) p h = (h.0 + 1, omega (arith, h.1), record
     place = omega (arith, h.2.place);
     grants = (p, h.2.grants);
     no_grant = h.2.no_grant;
-  })
+  },
+)
 more_behind at end e es NoMemory p h = h
 
 fault_behind : (spans end at : ℕ) (es : List MapElement) (f : MapFault) → judged_behind spans end at es ≡ Err f → FaultBehind at end es f
@@ -57,7 +61,10 @@ fault_behind spans end at (e ∷ es) f h = by (is_pending end e) refl (λ k. fau
 more_from : (at least : ℕ) (e : MapElement) (es : List MapElement) (f : MapFault) → least ≤ e.offset → is_null e ≡ false → FaultFrom (at + 1) (e.offset + 1) es f → FaultFrom at least (e ∷ es) f
 more_from at least e es Short p q h = h
 more_from at least e es Count p q h = h
-more_from at least e es (Backward k) p q h = (h.0 + 1, omega (arith, h.1), record {
+more_from at least e es (Backward k) p q h = (
+  h.0 + 1,
+  omega (arith, h.1),
+  record {
     before = e ∷ h.2.before;
     element = h.2.element;
     after = h.2.after;
@@ -65,9 +72,13 @@ more_from at least e es (Backward k) p q h = (h.0 + 1, omega (arith, h.1), recor
     place = omega (arith, h.2.place);
     ascending = (p, q, h.2.ascending);
     backward = h.2.backward;
-  })
+  },
+)
 more_from at least e es NoNull p q h = (p, q, h)
-more_from at least e es (AfterNull k) p q h = (h.0 + 1, omega (arith, h.1), record {
+more_from at least e es (AfterNull k) p q h = (
+  h.0 + 1,
+  omega (arith, h.1),
+  record {
     before = e ∷ h.2.before;
     null = h.2.null;
     behind = h.2.behind;
@@ -78,7 +89,8 @@ more_from at least e es (AfterNull k) p q h = (h.0 + 1, omega (arith, h.1), reco
     is_the_null = h.2.is_the_null;
     no_grant = h.2.no_grant;
     behind_them = omega (arith, h.2.behind_them);
-  })
+  },
+)
 more_from at least e es NoMemory p q h = h
 
 at_null : (at least : ℕ) (e : MapElement) (es : List MapElement) (f : MapFault) → least ≤ e.offset → is_null e ≡ true → FaultBehind (at + 1) e.offset es f → FaultFrom at least (e ∷ es) f
@@ -86,7 +98,10 @@ at_null at least e es Short p q h = h
 at_null at least e es Count p q h = h
 at_null at least e es (Backward k) p q h = absurd h
 at_null at least e es NoNull p q h = absurd h
-at_null at least e es (AfterNull k) p q h = (h.0 + 1, omega (arith, h.1), record {
+at_null at least e es (AfterNull k) p q h = (
+  h.0 + 1,
+  omega (arith, h.1),
+  record {
     before = [];
     null = e;
     behind = es;
@@ -97,7 +112,8 @@ at_null at least e es (AfterNull k) p q h = (h.0 + 1, omega (arith, h.1), record
     is_the_null = q;
     no_grant = h.2;
     behind_them = omega arith;
-  })
+  },
+)
 at_null at least e es NoMemory p q h = h
 
 fault_from : (at least : ℕ) (es : List MapElement) (f : MapFault) → judged at least es ≡ Err f → FaultFrom at least es f

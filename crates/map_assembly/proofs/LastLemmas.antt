@@ -1,6 +1,6 @@
 -- The last part of a frame, and the parts of that frame.
-use Rattle.std.proofs.Common.{◌≡◌, ℕ, zero, suc, ◌-◌, ◌+◌, ◌<◌, ◌≤◌, List, [], ◌∷◌, ◌++◌, length, map, take, drop, get_or, Bool, true, false, cond, ◌&&◌, ◌⊎◌, inl, inr, refl, sym, ap, ◌∙◌, arith, ltb, leb, Some, length-append}
-use Rattle.std.specs.List.{AllByRecursion, slice_get, slice_set, slice_index}
+use Rattle.std.proofs.Common.{◌≡◌, ℕ, zero, suc, ◌-◌, ◌+◌, ◌<◌, ◌≤◌, List, [], ◌∷◌, ◌++◌, length, map, take, drop, get_or, Bool, true, false, cond, ◌&&◌, ◌⊎◌, inl, inr, refl, sym, ap, ◌∙◌, arith, ltb, leb, length-append}
+use Rattle.std.specs.List.{AllByRecursion, slice_set, slice_index}
 use Rattle.std.proofs.lemmas.List.{set_split, take_rest}
 use Rattle.std.proofs.lemmas.List.Folds.{list_all-append}
 use Rattle.std.proofs.lemmas.Bool.{lt-ltb, and_parts, and_from, both_ways, eq-eqb, ne_eqb, cases_eq, cases_Bool}
@@ -57,20 +57,6 @@ empty_before_last (q ∷ queues) (suc op) part lt waits whole =
 
 -- ---- the parts of the frame by their places
 
-one_front : (queue : List ElementsFields) (d : ElementsFields) → some_part queue ≡ true → slice_get queue 0 ≡ Some (front_or d queue)
-one_front [] d h = let wrong : false ≡ true = h in absurd (cc)
-one_front (p ∷ ps) d h = refl
-
--- the fronts of queues that each have a part
-fronts-cons : (queue : List ElementsFields) (queues : List (List ElementsFields)) (d : ElementsFields) → some_part queue ≡ true → fronts (queue ∷ queues) ≡ front_or d queue ∷ fronts queues
-fronts-cons [] queues d h = let wrong : false ≡ true = h in absurd (cc)
-fronts-cons (p ∷ ps) queues d h = refl
-
-pub length-fronts : (queues : List (List ElementsFields)) → is_whole queues ≡ true → length (fronts queues) ≡ length queues
-length-fronts [] h = refl
-length-fronts ([] ∷ queues) h = let wrong : false ≡ true = h in absurd (cc)
-length-fronts ((p ∷ ps) ∷ queues) h = omega (arith, length-fronts queues (and_parts (some_part (p ∷ ps)) (is_whole queues) h).1)
-
 fronts_at : (queues : List (List ElementsFields)) (d : ElementsFields) (k : ℕ) → is_whole queues ≡ true → get_or (fronts queues) k d ≡ front_or d (queue_of queues k)
 fronts_at [] d k h = refl
 fronts_at ([] ∷ queues) d k h = let wrong : false ≡ true = h in absurd (cc)
@@ -98,7 +84,7 @@ part_at_is queues op part lt none whole k = by (cases_eq k op)
         ap (λ (b : Bool). cond b part (front_or part (queue_of queues k))) (eq-eqb k op e)
         ∙ sym (fronts_at (with_part queues op part) part k whole
         ∙ ap (λ (q : List ElementsFields). front_or part q)
-            (ap (λ (i : ℕ). queue_of (with_part queues op part) i) e ∙ (queue-set_same queues op (queue_of queues op ++ part ∷ []) lt ∙ ap (λ (q : List ElementsFields). q ++ part ∷ []) none)))
+        (ap (λ (i : ℕ). queue_of (with_part queues op part) i) e ∙ (queue-set_same queues op (queue_of queues op ++ part ∷ []) lt ∙ ap (λ (q : List ElementsFields). q ++ part ∷ []) none)))
     by (inr ne) =
         ap (λ (b : Bool). cond b part (front_or part (queue_of queues k))) (ne_eqb k op ne)
         ∙ sym (fronts_at (with_part queues op part) part k whole ∙ ap (λ (q : List ElementsFields). front_or part q) (queue-set queues op k (queue_of queues op ++ part ∷ []) ne))
@@ -158,7 +144,7 @@ ordered_parts parts slices f d are at =
     ∙ (ap (λ (ns : List ℕ). map f (order_of ns)) (starts-slices parts)
     ∙ (ap (λ (n : ℕ). map f (sorted_by (λ (k : ℕ). slice_index starts k) (numbers_from 0 n))) (length-starts parts)
     ∙ (ap (λ (ks : List ℕ). map f ks) (sorted-agree (λ (k : ℕ). slice_index starts k) key (numbers_from 0 (length parts))
-        (agree_below (λ (k : ℕ). slice_index starts k) key 0 (length parts) (length parts) (omega arith) (λ k lt. start_at parts d k lt)))
+    (agree_below (λ (k : ℕ). slice_index starts k) key 0 (length parts) (length parts) (omega arith) (λ k lt. start_at parts d k lt)))
     ∙ (ap (λ (g : ℕ → ElementsFields). map g (sorted_by key (numbers_from 0 (length parts)))) (λ i k. at k i)
     ∙ (sorted-map (λ (p : ElementsFields). p.slice.start) (λ (k : ℕ). get_or parts k d) (numbers_from 0 (length parts))
     ∙ ap (λ (ps : List ElementsFields). in_order ps) (all_places parts d))))))

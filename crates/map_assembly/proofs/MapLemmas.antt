@@ -65,9 +65,10 @@ elements_say a end spans sids tiles spelled = record {
 
 spans_fit : (a end : ℕ) (spans : List MapSpan) → end ≤ 4096 → MapTiles a end spans → AllByRecursion IsSpelled spans → AllByRecursion FitsElement (map element_of_span spans)
 spans_fit a end [] le tiles h = tt
-spans_fit a end (s ∷ spans) le tiles h =
-    (record { sid = h.0.sid; iuc = omega (arith, h.0.iuc); offset = omega (arith, tiles.0, tiles-le (a + s.len) end spans tiles.2) },
-     spans_fit (a + s.len) end spans le tiles.2 h.1)
+spans_fit a end (s ∷ spans) le tiles h = (
+  record { sid = h.0.sid; iuc = omega (arith, h.0.iuc); offset = omega (arith, tiles.0, tiles-le (a + s.len) end spans tiles.2) },
+  spans_fit (a + s.len) end spans le tiles.2 h.1,
+)
 
 sids_fit : (end : ℕ) (sids : List ℕ) → end ≤ 4096 → AllByRecursion (λ n. n < 2 ^ 14) sids → AllByRecursion FitsElement (map (pending_at end) sids)
 sids_fit end [] le h = tt
@@ -152,9 +153,16 @@ length-head head = by (cases_eq head 0)
 length-filled : (from end : ℕ) (parts : List ElementsFields) → length (filled from end parts) + length (map_pending parts) ≤ 1 + sum_by size_of parts
 length-filled from end [] = omega (arith, length-idle from end)
 length-filled from end (p ∷ parts) =
-    omega (arith, length-idle from p.slice.start, length-append (idle_span from p.slice.start) (map map_span p.spans ++ filled (p.slice.start + p.slice.length) end parts),
-      length-append (map map_span p.spans) (filled (p.slice.start + p.slice.length) end parts), length-map p.spans map_span, length-append p.pending (map_pending parts),
-      sum_by-cons size_of p parts, length-filled (p.slice.start + p.slice.length) end parts)
+    omega (
+      arith,
+      length-idle from p.slice.start,
+      length-append (idle_span from p.slice.start) (map map_span p.spans ++ filled (p.slice.start + p.slice.length) end parts),
+      length-append (map map_span p.spans) (filled (p.slice.start + p.slice.length) end parts),
+      length-map p.spans map_span,
+      length-append p.pending (map_pending parts),
+      sum_by-cons size_of p parts,
+      length-filled (p.slice.start + p.slice.length) end parts,
+    )
 
 sizes : (shares : List Share) (slices : List Minislots) (parts : List ElementsFields) → ArePartsOf shares slices parts → sum_by size_of parts ≤ sum_by (λ (s : Share). s.elements) shares + 2 * length shares
 sizes [] [] [] h = omega arith
@@ -168,8 +176,15 @@ sizes (s ∷ shares) (m ∷ slices) (p ∷ parts) h =
 few_elements : (layout : MapLayout) (shares : List Share) (slices : List Minislots) (parts : List ElementsFields) → AreShares shares → ArePartsOf shares slices parts
     → length (map_spans layout (in_order parts)) + 1 + length (map_pending (in_order parts)) ≤ 240
 few_elements layout shares slices parts are h =
-    omega (arith, length-append (head_span layout.head) (filled layout.head layout.frame_minislots (in_order parts)), length-head layout.head,
-      length-filled layout.head layout.frame_minislots (in_order parts), sum_by-sorted size_of (λ (p : ElementsFields). p.slice.start) parts, sizes shares slices parts h, are.few)
+    omega (
+      arith,
+      length-append (head_span layout.head) (filled layout.head layout.frame_minislots (in_order parts)),
+      length-head layout.head,
+      length-filled layout.head layout.frame_minislots (in_order parts),
+      sum_by-sorted size_of (λ (p : ElementsFields). p.slice.start) parts,
+      sizes shares slices parts h,
+      are.few,
+    )
 
 length-elements : (end : ℕ) (spans : List MapSpan) (sids : List ℕ) → length (elements_of_map end spans sids) ≡ length spans + 1 + length sids
 length-elements end spans sids =

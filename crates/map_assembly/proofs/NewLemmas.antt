@@ -6,7 +6,7 @@ use Rattle.std.proofs.lemmas.List.{length-map, length-replicate, reverse-append}
 use Rattle.std.proofs.lemmas.List.Sums.{sum_by-cons}
 use Rattle.std.proofs.lemmas.List.Elements.{recursion_from_All, All-from_recursion, All-push}
 use Rattle.std.proofs.lemmas.Option.{same_Some}
-use Rattle.std.proofs.lemmas.Bool.{lt-leb, le-leb}
+use Rattle.std.proofs.lemmas.Bool.{lt-leb}
 use Rattle.slice_scheduler.specs.Minislots.{Minislots}
 use Rattle.slice_scheduler.specs.declared.elements.ElementsFields.{ElementsFields}
 use Rattle.slice_table.specs.declared.consts.ConstsFields.{ConstsFields}
@@ -114,16 +114,12 @@ slices_before slices reslicings r frame lt =
     ap (λ (rs : List Reslicing). slices_or slices (find (λ (x : Reslicing). leb x.from frame) rs)) (newest-first reslicings r)
     ∙ ap (λ (b : Bool). slices_or slices (cond b (Some r) (find (λ (x : Reslicing). leb x.from frame) (reverse reslicings)))) (lt-leb r.from frame lt)
 
-pub slices_behind : (slices : List Minislots) (reslicings : List Reslicing) (r : Reslicing) (frame : ℕ) → r.from ≤ frame → slices_at slices (reslicings ++ r ∷ []) frame ≡ r.slicing
-slices_behind slices reslicings r frame le =
-    ap (λ (rs : List Reslicing). slices_or slices (find (λ (x : Reslicing). leb x.from frame) rs)) (newest-first reslicings r)
-    ∙ ap (λ (b : Bool). slices_or slices (cond b (Some r) (find (λ (x : Reslicing). leb x.from frame) (reverse reslicings)))) (le-leb r.from frame le)
-
 queued-agree : (f g : ℕ → Option Minislots) (share : Share) (n : ℕ) (queue : List ElementsFields) → ((m : ℕ) → n ≤ m → m < n + length queue → f m ≡ g m) → AreQueued f share n queue → AreQueued g share n queue
 queued-agree f g share n [] agree h = tt
-queued-agree f g share n (q ∷ queue) agree h =
-    (subst (λ (o : Option Minislots). IsPartAt o share q) (agree n (omega arith) (omega arith)) h.0,
-     queued-agree f g share (n + 1) queue (λ m le lt. agree m (omega arith) (omega arith)) h.1)
+queued-agree f g share n (q ∷ queue) agree h = (
+  subst (λ (o : Option Minislots). IsPartAt o share q) (agree n (omega arith) (omega arith)) h.0,
+  queued-agree f g share (n + 1) queue (λ m le lt. agree m (omega arith) (omega arith)) h.1,
+)
 
 queue_past : (g : Gathering) (from : ℕ) (queue : List ElementsFields) (m : ℕ) → g.layout.first_frame ≤ g.next → IsPast g from queue → g.next ≤ m → m < g.next + length queue → m < from
 queue_past g from queue m started past le lt = let p : g.next + length queue ≤ from = past (omega arith) in omega arith

@@ -65,7 +65,7 @@ kept_spans range (s ∷ spans) low h = rw (within_is_some range s.sid low h.0) (
   where
     by : (b : Bool) → filter (λ (x : MapSpan). is_within range x.sid) (map map_span spans) ≡ map map_span (filter (λ (x : Span). not (eqb x.sid 0)) spans)
         → cond b (map_span s ∷ filter (λ (x : MapSpan). is_within range x.sid) (map map_span spans)) (filter (λ (x : MapSpan). is_within range x.sid) (map map_span spans))
-          ≡ map map_span (cond b (s ∷ filter (λ (x : Span). not (eqb x.sid 0)) spans) (filter (λ (x : Span). not (eqb x.sid 0)) spans))
+        ≡ map map_span (cond b (s ∷ filter (λ (x : Span). not (eqb x.sid 0)) spans) (filter (λ (x : Span). not (eqb x.sid 0)) spans))
     by true e = ap (λ (xs : List MapSpan). map_span s ∷ xs) e
     by false e = e
 
@@ -81,10 +81,6 @@ no_spans range (s ∷ spans) h = rw h.0 (no_spans range spans h.1)
 no_sids : (range : Numbers) (sids : List ℕ) → AllByRecursion (λ s. is_within range s ≡ false) sids → filter (λ s. is_within range s) sids ≡ []
 no_sids range [] h = refl
 no_sids range (s ∷ sids) h = rw h.0 (no_sids range sids h.1)
-
--- what of a stranger's part has a SID of the range: nothing
-abbrev HasNone : Numbers → ElementsFields → Type 0
-HasNone range part = (own_spans range part ≡ []) × (own_pending range part ≡ [])
 
 none_spans : (range : Numbers) (parts : List ElementsFields) → AllByRecursion (IsStranger range) parts → AllByRecursion (λ p. own_spans range p ≡ []) parts
 none_spans range [] h = tt
@@ -185,9 +181,10 @@ own_in_parts : (range : Numbers) (share : Share) (slice : Minislots) (k : ℕ) (
     → AllByRecursion (λ p. AllByRecursion (IsOwn range slice) (map map_span p.spans)) parts
 own_in_parts range share slice k part [] h = absurd h
 own_in_parts range share slice zero part (p ∷ parts) h =
-    let e : p.slice ≡ slice = (fits_in share slice p h.1.fits).slice_is in
-    (own_if_in range slice (map map_span p.spans) (subst (λ (m : Minislots). AllByRecursion (LiesIn m) (map map_span p.spans)) e (lies_in_slice p.slice p.slice.start (p.slice.start + p.slice.length) p.spans (omega arith) (omega arith) h.1.tiled.tiles)),
-     own_in_strangers range slice parts h.2)
+    let e : p.slice ≡ slice = (fits_in share slice p h.1.fits).slice_is in (
+      own_if_in range slice (map map_span p.spans) (subst (λ (m : Minislots). AllByRecursion (LiesIn m) (map map_span p.spans)) e (lies_in_slice p.slice p.slice.start (p.slice.start + p.slice.length) p.spans (omega arith) (omega arith) h.1.tiled.tiles)),
+      own_in_strangers range slice parts h.2,
+    )
 own_in_parts range share slice (suc k) part (p ∷ parts) h = (own_if_stranger range slice p.spans h.0.spans, own_in_parts range share slice k part parts h.1)
 
 pub own_alone : (layout : MapLayout) (share : Share) (slice : Minislots) (k : ℕ) (part : ElementsFields) (parts : List ElementsFields) → IsShare share → StandsAlone share.sids share slice k part parts
@@ -246,7 +243,7 @@ apart_filled from end [] o = all-idle (IsApart from []) from end (λ lt. record 
 apart_filled from end (p ∷ parts) o =
     all-append (IsApart from (p ∷ parts)) (idle_span from p.slice.start) (map map_span p.spans ++ filled (p.slice.start + p.slice.length) end parts)
     (all-idle (IsApart from (p ∷ parts)) from p.slice.start (λ lt.
-      record { behind = omega arith; few = touches_one (record { sid = 0; iuc = 6; start = from; len = p.slice.start - from }) end p parts (omega arith) o.2 }))
+    record { behind = omega arith; few = touches_one (record { sid = 0; iuc = 6; start = from; len = p.slice.start - from }) end p parts (omega arith) o.2 }))
     (all-append (IsApart from (p ∷ parts)) (map map_span p.spans) (filled (p.slice.start + p.slice.length) end parts)
     (apart_in_slice end p parts from (map map_span p.spans) o.0 o.2 (lies_in_slice p.slice p.slice.start (p.slice.start + p.slice.length) p.spans (omega arith) (omega arith) o.1.tiles))
     (apart_behind p parts from (filled (p.slice.start + p.slice.length) end parts) (omega (arith, o.0)) (apart_filled (p.slice.start + p.slice.length) end parts o.2)))

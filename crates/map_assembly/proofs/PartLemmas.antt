@@ -80,9 +80,9 @@ pub parts_in_order : (layout : MapLayout) (count : ℕ) (shares : List Share) (s
 parts_in_order layout count shares slices parts is valid h =
     let e : map (λ (p : ElementsFields). p.slice) parts ≡ slices = slices_of_parts shares slices parts h in
     let each : AllByRecursion (IsInFrame layout) (map (λ (p : ElementsFields). p.slice) parts) =
-        subst (λ (ms : List Minislots). AllByRecursion (IsInFrame layout) ms) (sym e) (recursion_from_All (IsInFrame layout) slices valid.each) in
+    subst (λ (ms : List Minislots). AllByRecursion (IsInFrame layout) ms) (sym e) (recursion_from_All (IsInFrame layout) slices valid.each) in
     let pairs : PairsByRecursion (λ (a b : Minislots). slices_meet a b ≡ false) (map (λ (p : ElementsFields). p.slice) parts) =
-        subst (λ (ms : List Minislots). PairsByRecursion (λ (a b : Minislots). slices_meet a b ≡ false) ms) (sym e) (pairs_from_AllPairs (λ (a b : Minislots). slices_meet a b ≡ false) slices valid.apart) in
+    subst (λ (ms : List Minislots). PairsByRecursion (λ (a b : Minislots). slices_meet a b ≡ false) ms) (sym e) (pairs_from_AllPairs (λ (a b : Minislots). slices_meet a b ≡ false) slices valid.apart) in
     sorted_in_order layout.head layout.frame_minislots parts is.head
     (placed_parts layout parts (tiled_parts shares slices parts h) (all-map (IsInFrame layout) (λ (p : ElementsFields). p.slice) parts each))
     (pairs-map (λ (a b : Minislots). slices_meet a b ≡ false) (λ (p : ElementsFields). p.slice) parts pairs)
@@ -178,10 +178,12 @@ stands_alone k share slice part (s ∷ shares) [] parts each apart h e f g = abs
 stands_alone k share slice part (s ∷ shares) (m ∷ slices) [] each apart h e f g = absurd h
 stands_alone zero share slice part (s ∷ shares) (m ∷ slices) (p ∷ parts) each apart h e f g =
     let es : s ≡ share = same_Some s share e in
-    let em : m ≡ slice = same_Some m slice f in
-    (same_Some p part g,
-     subst (λ (x : Share). IsPartOf x slice p) es (subst (λ (x : Minislots). IsPartOf s x p) em h.0),
-     subst (λ (x : Share). AllByRecursion (IsStranger x.sids) parts) es (strangers s shares slices parts each.0.low apart.0 h.1))
-stands_alone (suc k) share slice part (s ∷ shares) (m ∷ slices) (p ∷ parts) each apart h e f g =
-    (stranger share.sids s m p (all_at IsShare shares k share each.1 e).low (ranges_meet-turned s.sids share.sids (all_at (λ (b : Share). ranges_meet s.sids b.sids ≡ false) shares k share apart.0 e)) h.0,
-     stands_alone k share slice part shares slices parts each.1 apart.1 h.1 e f g)
+    let em : m ≡ slice = same_Some m slice f in (
+      same_Some p part g,
+      subst (λ (x : Share). IsPartOf x slice p) es (subst (λ (x : Minislots). IsPartOf s x p) em h.0),
+      subst (λ (x : Share). AllByRecursion (IsStranger x.sids) parts) es (strangers s shares slices parts each.0.low apart.0 h.1),
+    )
+stands_alone (suc k) share slice part (s ∷ shares) (m ∷ slices) (p ∷ parts) each apart h e f g = (
+  stranger share.sids s m p (all_at IsShare shares k share each.1 e).low (ranges_meet-turned s.sids share.sids (all_at (λ (b : Share). ranges_meet s.sids b.sids ≡ false) shares k share apart.0 e)) h.0,
+  stands_alone k share slice part shares slices parts each.1 apart.1 h.1 e f g,
+)

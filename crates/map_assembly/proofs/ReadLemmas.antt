@@ -66,8 +66,10 @@ pub judged_badly : (bytes body : List ℕ) (r : Result ℕ MapFault) → IsCount
 judged_badly bytes body (Ok n) counted e h = tt
 judged_badly bytes body (Err f) counted e h =
     let at : judged 0 0 (elements_behind bytes) ≡ Err f = sym (h ∙ ap (λ (b : List ℕ). judged 0 0 (elements_in b)) e) in
-    λ fault. (λ p. subst (λ (g : MapFault). IsFirstMapFault bytes g) p (fault_is bytes f counted at),
-     λ p. same_fault f fault (judged 0 0 (elements_behind bytes)) at (fault_judges bytes fault counted p))
+    λ fault. (
+      λ p. subst (λ (g : MapFault). IsFirstMapFault bytes g) p (fault_is bytes f counted at),
+      λ p. same_fault f fault (judged 0 0 (elements_behind bytes)) at (fault_judges bytes fault counted p),
+    )
 
 -- ---- what is read
 
@@ -90,6 +92,7 @@ well_says bytes n counted h =
 -- where the bytes say something, the answer is no other fault than want of memory
 pub well_has_no_fault : (bytes : List ℕ) (n : ℕ) (r : Result MapView MapFault) (view : MapView) → IsCounted bytes → judged 0 0 (elements_behind bytes) ≡ Ok n → IsOkUnlessMemory r view
     → (fault : MapFault) → fault ≢ NoMemory → (r ≡ Err fault) ↔ IsFirstMapFault bytes fault
-well_has_no_fault bytes n r view counted h is fault ne =
-    (λ e. absurd (wants r view fault is e ne),
-     λ p. absurd (never fault n (judged 0 0 (elements_behind bytes)) (fault_judges bytes fault counted p) h))
+well_has_no_fault bytes n r view counted h is fault ne = (
+  λ e. absurd (wants r view fault is e ne),
+  λ p. absurd (never fault n (judged 0 0 (elements_behind bytes)) (fault_judges bytes fault counted p) h),
+)

@@ -16,7 +16,7 @@ use Rattle.map_assembly.specs.declared.refused.GatherFault.{GatherFault}
 use Rattle.map_assembly.specs.declared.refused.GatherFault.TheVariants.{Stranger, Old, PutTwice, Early, WrongSlice}
 use Rattle.map_assembly.specs.Part.{is_fitting, IsPartOf, ArePartsOf}
 use Rattle.map_assembly.specs.Plan.{AreSlices}
-use Rattle.map_assembly.specs.Gathering.{Gathering, slices_or, slices_at, frame_slices, queue_of, next_of, fits_at, is_part, put_fault, with_part, is_whole, fronts, is_last, frame_parts, after_put, IsPartAt, AreQueued, AreAllQueued, IsGathering}
+use Rattle.map_assembly.specs.Gathering.{Gathering, slices_or, slices_at, frame_slices, queue_of, next_of, fits_at, is_part, put_fault, with_part, is_whole, fronts, is_last, frame_parts, after_put, frame_out, IsPartAt, AreQueued, AreAllQueued, IsGathering}
 use Rattle.map_assembly.proofs.LastLemmas.{empty_before_last}
 use Rattle.map_assembly.specs.declared.element.MapElement.{MapElement}
 use Rattle.map_assembly.specs.Element.{FitsElement}
@@ -100,14 +100,14 @@ with_part_queued g op frame part is put tiled k share queue e f = by (cases_eq k
     by (inl same) =
         let within : op < length g.queues = omega (arith, is.one_each, put.op_is) in
         let there : slice_get g.queues k ≡ Some (queue_of g.queues op) =
-            ap (λ (i : ℕ). slice_get g.queues i) same ∙ slice_get-get_or g.queues op [] within in
+        ap (λ (i : ℕ). slice_get g.queues i) same ∙ slice_get-get_or g.queues op [] within in
         let new : queue_of g.queues op ++ part ∷ [] ≡ queue =
-            same_Some (queue_of g.queues op ++ part ∷ []) queue (sym (get-set_same g.queues op (queue_of g.queues op ++ part ∷ []) within) ∙ (ap (λ (i : ℕ). slice_get (with_part g.queues op part) i) (sym same) ∙ f)) in
+        same_Some (queue_of g.queues op ++ part ∷ []) queue (sym (get-set_same g.queues op (queue_of g.queues op ++ part ∷ []) within) ∙ (ap (λ (i : ℕ). slice_get (with_part g.queues op part) i) (sym same) ∙ f)) in
         let share_is : slice_get g.shares op ≡ Some share = ap (λ (i : ℕ). slice_get g.shares i) (sym same) ∙ e in
         let here : IsPartAt (slice_for g op frame) share part = part_at_fits share (slice_get g.shares op) (slice_for g op frame) part share_is put.part_is tiled in
         let moved : IsPartAt (slice_for g k (g.next + length (queue_of g.queues op))) share part =
-            subst (λ (i : ℕ). IsPartAt (slice_for g i (g.next + length (queue_of g.queues op))) share part) (sym same)
-            (subst (λ (n : ℕ). IsPartAt (slice_for g op n) share part) put.frame_is here) in
+        subst (λ (i : ℕ). IsPartAt (slice_for g i (g.next + length (queue_of g.queues op))) share part) (sym same)
+        (subst (λ (n : ℕ). IsPartAt (slice_for g op n) share part) put.frame_is here) in
         subst (λ (q : List ElementsFields). AreQueued (slice_for g k) share g.next q) new
         (queued-push (slice_for g k) share g.next (queue_of g.queues op) part (is.queued k share (queue_of g.queues op) e there) moved)
     by (inr other) = is.queued k share queue e (sym (get-set_other g.queues op k (queue_of g.queues op ++ part ∷ []) other) ∙ f)
@@ -183,10 +183,6 @@ after_last g op frame part is put whole =
     sym (ap (λ (b : Bool). cond b (record g { queues = map (λ (queue : List ElementsFields). drop 1 queue) (with_part g.queues op part); next = g.next + 1 }) (record g { queues = with_part g.queues op part })) whole
     ∙ ap (λ (qs : List (List ElementsFields)). let h : Gathering = record g { queues = qs; next = g.next + 1 } in h) (dropped_with g.queues op part (omega (arith, is.one_each)) (last_is_first g op part is at whole)))
 
-pub after_other : (g : Gathering) (op : ℕ) (part : ElementsFields) → is_last g op part ≡ false → record g { queues = with_part g.queues op part } ≡ after_put g op part
-after_other g op part waits =
-    sym (ap (λ (b : Bool). cond b (record g { queues = map (λ (queue : List ElementsFields). drop 1 queue) (with_part g.queues op part); next = g.next + 1 }) (record g { queues = with_part g.queues op part })) waits)
-
 -- ---- the slices of a frame are valid
 
 all-append : {X : Type 0} (P : X → Type 0) (xs ys : List X) → AllByRecursion P xs → AllByRecursion P ys → AllByRecursion P (xs ++ ys)
@@ -239,9 +235,10 @@ fronts_are [] (m ∷ slices) queues a b whole h = absurd (omega arith)
 fronts_are (s ∷ shares) [] queues a b whole h = absurd (omega arith)
 fronts_are (s ∷ shares) (m ∷ slices) [] a b whole h = absurd (omega arith)
 fronts_are (s ∷ shares) (m ∷ slices) ([] ∷ queues) a b whole h = let wrong : false ≡ true = whole in absurd (cc)
-fronts_are (s ∷ shares) (m ∷ slices) ((p ∷ ps) ∷ queues) a b whole h =
-    (part_of_front m s p (h 0 s (p ∷ ps) refl refl),
-     fronts_are shares slices queues (omega arith) (omega arith) (and_parts (ltb 0 (length (p ∷ ps))) (is_whole queues) whole).1 (λ k share queue e f. h (suc k) share queue e f))
+fronts_are (s ∷ shares) (m ∷ slices) ((p ∷ ps) ∷ queues) a b whole h = (
+  part_of_front m s p (h 0 s (p ∷ ps) refl refl),
+  fronts_are shares slices queues (omega arith) (omega arith) (and_parts (ltb 0 (length (p ∷ ps))) (is_whole queues) whole).1 (λ k share queue e f. h (suc k) share queue e f),
+)
 
 pub frame_is_whole : (g : Gathering) (op frame : ℕ) (part : ElementsFields) → IsGathering g → put_fault g op frame part ≡ None → IsTiled part → is_last g op part ≡ true
     → AreFrame g.layout g.shares (frame_slices g g.next) (frame_parts g op part)
@@ -325,8 +322,8 @@ ordered_is g now op frame part order queues slices e is put tiled whole order_is
     let none : queue_of now.queues op ≡ [] = last_is_first now op part is' at whole in
     let frame' : AreFrame now.layout now.shares (frame_slices now frame) (frame_parts now op part) = frame_of g now op frame part e is put tiled whole in
     let parts : map (part_at now.queues op part) (order_of (map (λ (slice : Minislots). slice.start) (frame_slices now frame))) ≡ in_order (frame_parts now op part) =
-        ordered_parts (frame_parts now op part) (frame_slices now frame) (part_at now.queues op part) part (slices_of_parts now.shares (frame_slices now frame) (frame_parts now op part) frame'.parts_are)
-        (part_at_is now.queues op part (omega (arith, is'.one_each)) none whole) in
+    ordered_parts (frame_parts now op part) (frame_slices now frame) (part_at now.queues op part) part (slices_of_parts now.shares (frame_slices now frame) (frame_parts now op part) frame'.parts_are)
+    (part_at_is now.queues op part (omega (arith, is'.one_each)) none whole) in
     ap (λ (ks : List ℕ). ordered_elements g.layout ks queues op part) (order_is ∙ ap (λ (ms : List Minislots). order_of (map (λ (slice : Minislots). slice.start) ms)) slices_is)
     ∙ (ap (λ (qs : List (List ElementsFields)). ordered_elements g.layout (order_of (map (λ (slice : Minislots). slice.start) (slices_at g.slices g.reslicings frame))) qs op part) queues_are
     ∙ (ap (λ (h : Gathering). ordered_elements h.layout (order_of (map (λ (slice : Minislots). slice.start) (frame_slices h frame))) h.queues op part) e
@@ -354,3 +351,22 @@ layout_seen g now e = ap (λ (h : Gathering). h.layout) e
 
 pub next_of_last : (g now : Gathering) (op frame : ℕ) (part : ElementsFields) → g ≡ now → IsGathering g → put_fault now op frame part ≡ None → is_last now op part ≡ true → frame ≡ now.next
 next_of_last g now op frame part e is put whole = last_frame now op frame part (subst IsGathering e is) put whole
+
+-- ---- what is left once a frame is made
+
+pub out_valid : (g now : Gathering) (op frame : ℕ) (part : ElementsFields) → g ≡ now → IsGathering g → put_fault now op frame part ≡ None → is_last now op part ≡ true → IsGathering (frame_out now frame)
+out_valid g now op frame part e is put whole = made_is now now op frame part (map (λ (queue : List ElementsFields). drop 1 queue) now.queues) refl (subst IsGathering e is) put whole refl
+
+pub out_after : (g now : Gathering) (op frame : ℕ) (part : ElementsFields) → g ≡ now → IsGathering g → put_fault now op frame part ≡ None → is_last now op part ≡ true → frame_out now frame ≡ after_put now op part
+out_after g now op frame part e is put whole = made_view now now op frame part (map (λ (queue : List ElementsFields). drop 1 queue) now.queues) refl (subst IsGathering e is) put whole refl
+
+pub out_view : (g now : Gathering) (frame : ℕ) (queues : List (List ElementsFields)) → g ≡ now → queues ≡ map (λ (queue : List ElementsFields). drop 1 queue) g.queues → record g { queues = queues; next = frame + 1 } ≡ frame_out now frame
+out_view g now frame queues e same =
+    ap (λ (qs : List (List ElementsFields)). let h : Gathering = record g { queues = qs; next = frame + 1 } in h) same ∙ ap (λ (h : Gathering). frame_out h frame) e
+
+pub out_is : (g now : Gathering) (frame : ℕ) (queues : List (List ElementsFields)) → g ≡ now → IsGathering (frame_out now frame) → queues ≡ map (λ (queue : List ElementsFields). drop 1 queue) g.queues → IsGathering (record g { queues = queues; next = frame + 1 })
+out_is g now frame queues e is same = subst IsGathering (sym (out_view g now frame queues e same)) is
+
+-- a part that is not refused is of the operator's next frame
+pub put_at_next : (g : Gathering) (op frame : ℕ) (part : ElementsFields) → put_fault g op frame part ≡ None → put_fault g op (next_of g op) part ≡ None
+put_at_next g op frame part put = subst (λ (n : ℕ). put_fault g op n part ≡ None) (is_put g op frame part put).frame_is put

@@ -1,11 +1,8 @@
 -- The spans of a frame are its minislots, each in exactly one.
-use Rattle.std.proofs.Common.{◌≡◌, ℕ, ◌-◌, ◌+◌, ◌<◌, ◌≤◌, List, [], ◌∷◌, ◌++◌, map, Bool, false, cond, ◌⊎◌, inl, inr, refl, sym, ap, subst, arith, eqb, ltb, leb}
+use Rattle.std.proofs.Common.{◌≡◌, ℕ, ◌+◌, ◌<◌, ◌≤◌, List, [], ◌∷◌, ◌++◌, map, Bool, cond, ◌⊎◌, inl, inr, refl, sym, ap, subst, arith, ltb, leb}
 use Rattle.std.specs.List.{count_by}
 use Rattle.std.proofs.lemmas.List.Sums.{sum_by-cons}
 use Rattle.std.proofs.lemmas.Bool.{cases_eq, cases_lt, eq-eqb, ne_eqb, lt-ltb, le-ltb, le-leb, lt-leb, and_left, and_right}
-use Rattle.slice_scheduler.specs.Iuc.{number_of}
-use Rattle.slice_scheduler.specs.declared.span.Iuc.{Iuc}
-use Rattle.slice_scheduler.specs.declared.span.Iuc.TheVariants.{Request, Short, Long}
 use Rattle.slice_scheduler.specs.declared.span.Span.{Span}
 use Rattle.slice_scheduler.specs.declared.elements.ElementsFields.{ElementsFields}
 use Rattle.slice_scheduler.specs.Tiles.{Tiles, IsTiled}
@@ -28,12 +25,6 @@ InOrder from end (p ∷ parts) = (from ≤ p.slice.start) × IsTiled p × InOrde
 tiles-append : (a b c : ℕ) (xs ys : List MapSpan) → MapTiles a b xs → MapTiles b c ys → MapTiles a c (xs ++ ys)
 tiles-append a b c [] ys p q = subst (λ (n : ℕ). MapTiles n c ys) (sym p) q
 tiles-append a b c (x ∷ xs) ys p q = (p.0, p.1, tiles-append (a + x.len) b c xs ys p.2 q)
-
-idle-none : (from to : ℕ) → to ≤ from → idle_span from to ≡ []
-idle-none from to le = rw (le-ltb from to le)
-
-idle-some : (from to : ℕ) → from < to → idle_span from to ≡ record { sid = 0; iuc = 6; start = from; len = to - from } ∷ []
-idle-some from to lt = rw (lt-ltb from to lt)
 
 tiles-idle : (from to : ℕ) → from ≤ to → MapTiles from to (idle_span from to)
 tiles-idle from to le = by (cases_lt from to)
@@ -103,10 +94,3 @@ tiles-once m a b (s ∷ spans) t le lt = by (cases_lt m (a + s.len)) (λ k. tile
     by : (m < a + s.len) ⊎ (a + s.len ≤ m) → (a + s.len ≤ m → count_by (holds m) spans ≡ 1) → count_by (holds m) (s ∷ spans) ≡ 1
     by (inl here) more = omega (arith, count-cons m s spans, held m s (omega (arith, t.0)) (omega (arith, t.0)), count-before m (a + s.len) b spans t.2 here)
     by (inr there) more = omega (arith, count-cons m s spans, not_held m s (inr (omega (arith, t.0))), more there)
-
--- ---- none is the Null
-
-iuc-not_seven : (iuc : Iuc) → eqb (number_of iuc) 7 ≡ false
-iuc-not_seven Request = refl
-iuc-not_seven Short = refl
-iuc-not_seven Long = refl

@@ -106,6 +106,10 @@ after_put g op part =
     then record g { queues = map (λ queue. drop 1 queue) (with_part g.queues op part); next = g.next + 1 }
     else record g { queues = with_part g.queues op part }
 
+-- the first part of each operator is out, once the MAP of this frame is made
+abbrev pub frame_out : Gathering → ℕ → Gathering
+frame_out g frame = record g { queues = map (λ queue. drop 1 queue) g.queues; next = frame + 1 }
+
 -- ---- what always holds
 
 -- the part is one of the operator for this frame

@@ -5,7 +5,7 @@ ghost use Rattle.slice_scheduler.specs.Minislots.{Minislots};
 ghost use Rattle.slice_scheduler.specs.Tiles.{IsTiled};
 ghost use Rattle.slice_scheduler.specs.declared.elements.ElementsFields.{ElementsFields};
 ghost use Rattle.map_assembly.specs.Part.{share_of};
-ghost use Rattle.map_assembly.specs.Gathering.{gathering_of, fits_at, queue_of, put_fault, with_part, is_whole, is_last, after_put, frame_slices, frame_parts, MayReslice, resliced, IsGathering};
+ghost use Rattle.map_assembly.specs.Gathering.{gathering_of, fits_at, queue_of, put_fault, with_part, is_whole, is_last, after_put, frame_out, next_of, frame_slices, frame_parts, MayReslice, resliced, IsGathering};
 ghost use Rattle.map_assembly.specs.Assembled.{IsMapOf, IsAnswer};
 ghost use Rattle.map_assembly.specs.declared.refused.GatherFault.{GatherFault};
 ghost use Rattle.map_assembly.specs.declared.refused.GatherFault.TheVariants.{NoMemory};
@@ -199,8 +199,8 @@ impl Gather {
     }
 
     /// Keeps a part that is not the last one of its frame. Where no memory is left, hands it back, and nothing has changed.
-    fn keep(&mut self, op: Op, frame: u32, elements: Elements) -> Result<(), Elements>
-        requires put { put_fault self.old op frame elements ≡ None }
+    fn keep(&mut self, op: Op, elements: Elements) -> Result<(), Elements>
+        requires put { put_fault self.old op (next_of self.old op) elements ≡ None }
         requires waits { is_last self.old op elements ≡ false }
         ensures ok { OnOk result (self.new ≡ after_put self.old op elements) }
         ensures err { IfErr result (λ back. (back ≡ elements) × (self.new ≡ self.old)) }
@@ -224,6 +224,8 @@ impl Gather {
         requires put { put_fault self.now op frame part.now ≡ None }
         requires last { is_last self.now op part.now ≡ true }
         ensures next { frame ≡ self.now.next }
+        ensures valid { IsGathering (frame_out self.now frame) }
+        ensures after { frame_out self.now frame ≡ after_put self.now op part.now }
         ensures bytes { IfOk result (λ bytes. IsMapOf self.now.layout frame self.now.shares (frame_slices self.now frame) (frame_parts self.now op part.now) bytes.items) }
     {
         part.kept();
@@ -232,11 +234,10 @@ impl Gather {
         map_bytes(alloc, self.layout, frame, slicing.order(), queues, op, part)
     }
 
-    /// Takes the parts of a frame out once its MAP is made, whose last part is this one.
-    fn finish(&mut self, op: Op, frame: u32, part: &Elements)
-        requires put { put_fault self.old op frame part.now ≡ None }
-        requires last { is_last self.old op part.now ≡ true }
-        ensures { self.new ≡ after_put self.old op part.now }
+    /// Takes the parts of a frame out once its MAP is made.
+    fn finish(&mut self, frame: u32)
+        requires { IsGathering (frame_out self.old frame) }
+        ensures { self.new ≡ frame_out self.old frame }
     {
         drop_fronts(self.queues.as_mut_slice());
         self.next = frame as u64 + 1;
@@ -274,7 +275,7 @@ impl Gather {
             return Err(Refused { fault, elements });
         }
         if !self.is_last(op) {
-            return match self.keep(op, frame, elements) {
+            return match self.keep(op, elements) {
                 Ok(()) => Ok(None),
                 Err(elements) => Err(Refused {
                     fault: GatherFault::NoMemory,
@@ -284,7 +285,7 @@ impl Gather {
         }
         match self.map_of(alloc, op, frame, &elements) {
             Ok(bytes) => {
-                self.finish(op, frame, &elements);
+                self.finish(frame);
                 Ok(Some(MapBytes {
                     frame,
                     bytes: Bytes::from_vec(bytes),

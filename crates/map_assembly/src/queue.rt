@@ -81,12 +81,7 @@ pub(crate) fn is_whole(queues: &[Queue]) -> bool
 }
 
 /// An operator's part of the frame whose last part is this one of `op`.
-pub(crate) fn part_at<'a>(
-    queues: &'a [Queue],
-    op: Op,
-    part: &'a Elements,
-    k: usize,
-) -> &'a Elements
+pub(crate) fn part_at<'a>(queues: &'a [Queue], op: Op, part: &'a Elements, k: usize) -> &'a Elements
     ensures { result.now ≡ part_at queues.now op part.now k }
 {
     if k == op {

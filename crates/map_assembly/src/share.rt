@@ -33,8 +33,7 @@ impl Share {
     fn is_mine(&self, sid: u16) -> bool
         ensures { result ≡ is_mine self.now.sids sid }
     {
-        sid == 0
-            || self.sids.get_first() <= sid as u32 && sid as u32 <= self.sids.get_last()
+        sid == 0 || self.sids.get_first() <= sid as u32 && sid as u32 <= self.sids.get_last()
     }
 
     /// Whether each span's SID is nobody's or the operator's own.
