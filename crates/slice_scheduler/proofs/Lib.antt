@@ -6,3 +6,4 @@ pub mod WantedLemmas
 pub mod TotalLemmas
 pub mod GrantedLemmas
 pub mod ServableLemmas
+pub mod TiledLemmas

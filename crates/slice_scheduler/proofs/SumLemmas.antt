@@ -1,5 +1,5 @@
 -- Sums over filtered lists.
-use Rattle.std.proofs.Common.{◌≡◌, ℕ, ◌+◌, ◌<◌, ◌≤◌, Bool, true, false, cond, List, [], ◌∷◌, refl, sym, ap, ◌∙◌, zero-add, arith, filter, sum_by, zero, suc, length, get_or}
+use Rattle.std.proofs.Common.{◌≡◌, ℕ, ◌+◌, ◌<◌, ◌≤◌, Bool, true, false, cond, List, [], ◌∷◌, refl, sym, ap, ◌∙◌, zero-add, arith, filter, map, sum_by, zero, suc, length, get_or, ◌++◌, replicate}
 use Rattle.std.specs.List.{AllByRecursion, flat_map}
 use Rattle.std.proofs.lemmas.List.Sums.{sum_by-cons, sum_by-append}
 
@@ -45,9 +45,18 @@ cond-le : (b : Bool) (n : ℕ) → cond b n 0 ≤ n
 cond-le true n = omega arith
 cond-le false n = omega arith
 
-filtered-le : {X : Type 0} (f : X → ℕ) (p : X → Bool) (xs : List X) → sum_by f (filter p xs) ≤ sum_by f xs
+pub filtered-le : {X : Type 0} (f : X → ℕ) (p : X → Bool) (xs : List X) → sum_by f (filter p xs) ≤ sum_by f xs
 filtered-le f p [] = omega arith
 filtered-le f p (x ∷ xs) = omega (arith, filtered-cons f p x xs, sum_by-cons f x xs, cond-le (p x) (f x), filtered-le f p xs)
+
+-- a sum over those of a mapped list that pass
+pub filtered-map : {X Y : Type 0} (f : Y → ℕ) (p : Y → Bool) (g : X → Y) (xs : List X) → sum_by f (filter p (map g xs)) ≡ sum_by (λ x. f (g x)) (filter (λ x. p (g x)) xs)
+filtered-map f p g [] = refl
+filtered-map f p g (x ∷ xs) = omega (arith, filtered-cons f p (g x) (map g xs), filtered-cons (λ y. f (g y)) (λ y. p (g y)) x xs, filtered-map f p g xs)
+
+pub sum_by-le : {X : Type 0} (f g : X → ℕ) (xs : List X) → AllByRecursion (λ x. f x ≤ g x) xs → sum_by f xs ≤ sum_by g xs
+sum_by-le f g [] h = omega arith
+sum_by-le f g (x ∷ xs) h = omega (arith, sum_by-cons f x xs, sum_by-cons g x xs, h.0, sum_by-le f g xs h.1)
 
 -- an element that does not pass comes on top of those that do
 pub filtered-without : {X : Type 0} (f : X → ℕ) (p : X → Bool) (xs : List X) (i : ℕ) (e : X) → i < length xs → p (get_or xs i e) ≡ false → sum_by f (filter p xs) + f (get_or xs i e) ≤ sum_by f xs
@@ -74,3 +83,24 @@ kept-step P p x xs false e h a = a
 pub kept-pass : {X : Type 0} (P : X → Type 0) (p : X → Bool) → ((x : X) → p x ≡ true → P x) → (xs : List X) → AllByRecursion P (filter p xs)
 kept-pass P p h [] = tt
 kept-pass P p h (x ∷ xs) = kept-step P p x (filter p xs) (p x) refl (h x) (kept-pass P p h xs)
+
+pub recursion-append : {X : Type 0} (P : X → Type 0) (xs ys : List X) → AllByRecursion P xs → AllByRecursion P ys → AllByRecursion P (xs ++ ys)
+recursion-append P [] ys a b = b
+recursion-append P (x ∷ xs) ys a b = (a.0, recursion-append P xs ys a.1 b)
+
+pub recursion-flat_map : {X Y : Type 0} (P : Y → Type 0) (g : X → List Y) (xs : List X) → AllByRecursion (λ x. AllByRecursion P (g x)) xs → AllByRecursion P (flat_map g xs)
+recursion-flat_map P g [] a = tt
+recursion-flat_map P g (x ∷ xs) a = recursion-append P (g x) (flat_map g xs) a.0 (recursion-flat_map P g xs a.1)
+
+pub recursion-map : {X Y : Type 0} (P : Y → Type 0) (g : X → Y) (xs : List X) → AllByRecursion (λ x. P (g x)) xs → AllByRecursion P (map g xs)
+recursion-map P g [] a = tt
+recursion-map P g (x ∷ xs) a = (a.0, recursion-map P g xs a.1)
+
+pub recursion-replicate : {X : Type 0} (P : X → Type 0) (n : ℕ) (x : X) → P x → AllByRecursion P (replicate n x)
+recursion-replicate P zero x h = tt
+recursion-replicate P (suc n) x h = (h, recursion-replicate P n x h)
+
+-- what holds of all
+pub recursion-each : {X : Type 0} (P : X → Type 0) → ((x : X) → P x) → (xs : List X) → AllByRecursion P xs
+recursion-each P h [] = tt
+recursion-each P h (x ∷ xs) = (h x, recursion-each P h xs)

@@ -19,22 +19,18 @@ use Rattle.slice_scheduler.specs.Awards.{goes_before, wanted_before, award_of, a
 use Rattle.slice_scheduler.specs.Schedule.{ranked_below, by_rank, award_pieces, pieces_of, minislots_in}
 use Rattle.slice_scheduler.specs.Servable.{SfidsAscend}
 use Rattle.slice_scheduler.specs.Wanted.{IsClaim, wanted_from}
-use Rattle.slice_scheduler.proofs.SumLemmas.{sum_by-add, sum_by-flat_map, filtered-all, filtered-without, recursion-weaker}
+use Rattle.slice_scheduler.proofs.SumLemmas.{sum_by-add, sum_by-flat_map, filtered-all, filtered-le, filtered-map, filtered-without, recursion-map, recursion-weaker}
 use Rattle.slice_scheduler.proofs.WantedLemmas.{wanted_from-none}
-use Rattle.std.specs.Prelude.{nat_le}
+use Rattle.std.specs.Prelude.{nat_le, nat_lt, filter}
 use Rattle.std.proofs.lemmas.Bool.Decides.{nat_tests}
 use Rattle.std.proofs.lemmas.List.{get_or-map, length-map}
 use Rattle.slice_scheduler.specs.Busy.{LeavesNothingIdle}
-use Rattle.slice_scheduler.proofs.RankLemmas.{sum_by-ranked, Ascends-map}
+use Rattle.slice_scheduler.proofs.RankLemmas.{sum_by-ranked_below, sum_by-ranked, Ascends-map}
 use Rattle.slice_scheduler.proofs.ShareLemmas.{ClaimsAscend, shares_below-fit}
 
 sum_by-map : {X Y : Type 0} (f : Y → ℕ) (g : X → Y) (xs : List X) → sum_by f (map g xs) ≡ sum_by (λ x. f (g x)) xs
 sum_by-map f g [] = refl
 sum_by-map f g (x ∷ xs) = omega (arith, sum_by-cons f (g x) (map g xs), sum_by-cons (λ y. f (g y)) x xs, sum_by-map f g xs)
-
-recursion-map : {X Y : Type 0} (P : Y → Type 0) (g : X → Y) (xs : List X) → AllByRecursion (λ x. P (g x)) xs → AllByRecursion P (map g xs)
-recursion-map P g [] a = tt
-recursion-map P g (x ∷ xs) a = (a.0, recursion-map P g xs a.1)
 
 -- ---- what is due
 
@@ -67,24 +63,18 @@ award_is at a = by (cases_eq a.grant 0)
     by (inl e) = ap (λ (b : Bool). minislots_in (cond b [] (piece_of at a ∷ []))) (eq-eqb a.grant 0 e) ∙ sym e
     by (inr e) = ap (λ (b : Bool). minislots_in (cond b [] (piece_of at a ∷ []))) (ne_eqb a.grant 0 e) ∙ zero-add a.grant
 
-shares-all : (room : ℕ) (claims : List Claim) → AllByRecursion IsClaim claims → ClaimsAscend claims → sum_by (share_of room claims) claims ≤ room
-shares-all room claims sound ascend =
-    let same : sum_by (share_of room claims) (ranked_below (λ c. c.rank) 64 claims) ≡ sum_by (share_of room claims) claims =
-    sum_by-ranked (share_of room claims) (λ (c : Claim). c.rank) 64 claims (recursion-weaker IsClaim (λ c. c.rank < 64) (λ c h. omega (arith, h.rank)) claims sound) in
-    omega (arith, shares_below-fit room claims 64 ascend)
-
-awards-all : (room : ℕ) (claims : List Claim) → AllByRecursion IsClaim claims → ClaimsAscend claims
+-- what is granted of the ranks that are served is at most the bases and the room
+awards-all : (room : ℕ) (claims : List Claim) → ClaimsAscend claims
     → sum_by (λ (a : Award). a.grant) (by_rank (map (award_of room claims) claims)) ≤ sum_by (λ (c : Claim). c.base) claims + room
-awards-all room claims sound ascend =
-    let ranked : AllByRecursion (λ (a : Award). a.rank < 64) (map (award_of room claims) claims) =
-    recursion-map (λ (a : Award). a.rank < 64) (award_of room claims) claims (recursion-weaker IsClaim (λ c. c.rank < 64) (λ c h. omega (arith, h.rank)) claims sound) in
-    omega (
-      arith,
-      sum_by-ranked (λ (a : Award). a.grant) (λ (a : Award). a.rank) 64 (map (award_of room claims) claims) ranked,
-      sum_by-map (λ (a : Award). a.grant) (award_of room claims) claims,
-      sum_by-add (λ (c : Claim). c.base + share_of room claims c) (λ (c : Claim). c.base) (share_of room claims) (λ c. refl) claims,
-      shares-all room claims sound ascend,
-    )
+awards-all room claims ascend = omega (
+  arith,
+  sum_by-ranked_below (λ (a : Award). a.grant) (λ (a : Award). a.rank) 64 (map (award_of room claims) claims),
+  filtered-map (λ (a : Award). a.grant) (λ a. nat_lt a.rank 64) (award_of room claims) claims,
+  sum_by-add (λ (c : Claim). c.base + share_of room claims c) (λ (c : Claim). c.base) (share_of room claims) (λ c. refl) (filter (λ (c : Claim). nat_lt c.rank 64) claims),
+  filtered-le (λ (c : Claim). c.base) (λ c. nat_lt c.rank 64) claims,
+  sum_by-ranked_below (share_of room claims) (λ (c : Claim). c.rank) 64 claims,
+  shares_below-fit room claims 64 ascend,
+)
 
 -- a claim that is not all granted leaves no room
 itself : (c : Claim) → goes_before c c ≡ false
@@ -125,14 +115,14 @@ awards-full room claims i e sound ascend lt less =
 pub claims-ascend : (policy : Policy) (at : At) (flows : List Flowing) → SfidsAscend flows → ClaimsAscend (claims_of policy at flows)
 claims-ascend policy at flows ascend = Ascends-map (λ (c : Claim). c.sfid) (claim_of policy at) flows ascend
 
-pub pieces-fit : (policy : Policy) (at : At) (flows : List Flowing) → All IsClaim (claims_of policy at flows) → SfidsAscend flows → sum_by (taken_of at) flows ≤ at.slice.length
+pub pieces-fit : (policy : Policy) (at : At) (flows : List Flowing) → SfidsAscend flows → sum_by (taken_of at) flows ≤ at.slice.length
     → minislots_in (pieces_of policy at flows) ≤ at.slice.length
-pieces-fit policy at flows sound ascend fits =
+pieces-fit policy at flows ascend fits =
     let due : minislots_in (flat_map (due_pieces at) flows) ≡ sum_by (due_minislots at) flows = sum_by-flat_map (λ (q : Piece). q.len) (due_pieces at) (due_minislots at) (due_is at) flows in
     let awarded : minislots_in (flat_map (award_pieces at) (by_rank (awards_of policy at flows))) ≡ sum_by (λ (a : Award). a.grant) (by_rank (awards_of policy at flows)) =
     sum_by-flat_map (λ (q : Piece). q.len) (award_pieces at) (λ (a : Award). a.grant) (award_is at) (by_rank (awards_of policy at flows)) in
     let within : sum_by (λ (a : Award). a.grant) (by_rank (awards_of policy at flows)) ≤ sum_by (λ (c : Claim). c.base) (claims_of policy at flows) + room_of at flows =
-    awards-all (room_of at flows) (claims_of policy at flows) (recursion_from_All IsClaim (claims_of policy at flows) sound) (claims-ascend policy at flows ascend) in
+    awards-all (room_of at flows) (claims_of policy at flows) (claims-ascend policy at flows ascend) in
     let bases : sum_by (λ (c : Claim). c.base) (claims_of policy at flows) ≡ sum_by (base_of at) flows = sum_by-map (λ (c : Claim). c.base) (claim_of policy at) flows in
     let taken : sum_by (taken_of at) flows ≡ sum_by (due_minislots at) flows + sum_by (base_of at) flows = sum_by-add (taken_of at) (due_minislots at) (base_of at) (λ f. refl) flows in
     let all : minislots_in (pieces_of policy at flows) ≡ minislots_in (flat_map (due_pieces at) flows) + minislots_in (flat_map (award_pieces at) (by_rank (awards_of policy at flows))) =

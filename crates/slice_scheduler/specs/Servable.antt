@@ -1,7 +1,9 @@
 -- Flows that a slice can serve (own).
-use Rattle.std.specs.Prelude.{ℕ, ◌≤◌, ◌<◌, List, [], ◌∷◌, sum_by}
+use Rattle.std.specs.Prelude.{◌≡◌, ℕ, ◌≤◌, ◌<◌, List, [], ◌∷◌, sum_by}
 use Rattle.std.specs.List.{AllByRecursion}
 use Rattle.param_sets.specs.Need.{need_of}
+use Rattle.param_sets.specs.ParamSet.{IsOfKind}
+use Rattle.param_sets.specs.declared.scheduling.Scheduling.TheVariants.{UnsolicitedGrant}
 use Rattle.slice_scheduler.specs.declared.flowing.At.{At}
 use Rattle.slice_scheduler.specs.declared.flowing.Flowing.{Flowing}
 
@@ -19,6 +21,14 @@ pub record IsPast (frame : ℕ) (f : Flowing) : Type 0 where
   pub start : f.start ≤ frame
   pub since : f.since ≤ frame
 
+-- the flow's parameter set keeps what its kind of scheduling keeps
+abbrev pub IsOfItsKind : Flowing → Type 0
+IsOfItsKind f = IsOfKind f.set.scheduling f.set
+
+-- a flow with unsolicited grants asks for nothing beside them
+abbrev pub AsksWhereItMay : Flowing → Type 0
+AsksWhereItMay f = f.set.scheduling ≡ UnsolicitedGrant → f.backlog ≡ 0
+
 -- the minislots that the parameter set of a flow needs of each frame
 abbrev pub need_at : At → Flowing → ℕ
 need_at at f = (need_of f.set at.units).minislots
@@ -26,3 +36,7 @@ need_at at f = (need_of f.set at.units).minislots
 -- those of all flows
 abbrev pub needed : At → List Flowing → ℕ
 needed at flows = sum_by (need_at at) flows
+
+-- the elements that the parameter sets of all flows need of each frame's MAP
+abbrev pub elements_needed : At → List Flowing → ℕ
+elements_needed at flows = sum_by (λ f. (need_of f.set at.units).elements) flows

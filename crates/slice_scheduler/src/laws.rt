@@ -1,12 +1,14 @@
 //! Laws of grants.
 
-ghost use Rattle.std.specs.Prelude.{◌≡◌, ◌≤◌, nat_lt, List, map, filter};
+ghost use Rattle.std.specs.Prelude.{◌≡◌, ◌≤◌, nat_lt, All, List, map, filter};
 ghost use Rattle.grant_policy.specs.declared.policy.Policy.{Policy};
 ghost use Rattle.slice_scheduler.specs.declared.flowing.At.{At};
 ghost use Rattle.slice_scheduler.specs.declared.flowing.Flowing.{Flowing};
 ghost use Rattle.slice_scheduler.specs.Awards.{grant_of};
 ghost use Rattle.slice_scheduler.specs.Claims.{base_of};
-ghost use Rattle.slice_scheduler.specs.Schedule.{granted_of};
+ghost use Rattle.slice_scheduler.specs.Schedule.{elements_of, granted_of};
+ghost use Rattle.slice_scheduler.specs.Servable.{SfidsAscend, IsOfItsKind, needed};
+ghost use Rattle.slice_scheduler.specs.Tiles.{IsTiled};
 
 /// No flow is granted more than it asks.
 pub fn grant_is_within_backlog()
@@ -22,4 +24,10 @@ pub fn base_is_granted()
 #[tactic(auto, using(crate::proofs::GrantedLemmas::granted_is))]
 pub fn granted_by_flow()
     ensures { (policy : Policy) (at : At) (flows : List Flowing) → granted_of policy at flows ≡ map (λ f. (f.sfid, grant_of policy at flows f)) (filter (λ f. nat_lt 0 (grant_of policy at flows f)) flows) }
+{}
+
+/// The spans of a schedule are the minislots of the slice, each in exactly one, where the flows stand by SFID and what their
+/// parameter sets need fits the slice.
+pub fn elements_are_tiled()
+    ensures { (policy : Policy) (at : At) (flows : List Flowing) → SfidsAscend flows → needed at flows ≤ at.slice.length → All IsOfItsKind flows → IsTiled (elements_of policy at flows) }
 {}

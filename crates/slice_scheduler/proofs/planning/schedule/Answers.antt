@@ -33,7 +33,7 @@ pack-requires-clause-fits g c =
     ∙ (ap (λ (ps : List Piece). ps ++ flat_map (award_pieces at) c.as_slice-3.result.now) c.in_ok-pieces.ensures.items
     ∙ ap (λ (xs : List Award). flat_map (due_pieces at) flows ++ flat_map (award_pieces at) xs) ordered)) in
     subst (λ (ps : List Piece). minislots_in ps ≤ at.slice.length) (sym pieces)
-    (pieces-fit policy at flows (subst (λ (cs : List Claim). All IsClaim cs) c.in_ok-claims.ensures.items c.in_ok-claims.ensures.sound) c.requires.ascending c.room-room.ensures.fits)
+    (pieces-fit policy at flows c.requires.ascending c.room-room.ensures.fits)
 
 pub returns-clause-granted : goal.returns-clause-granted
 returns-clause-granted g c =
