@@ -1,11 +1,7 @@
 -- What contracts say of a book.
 use Rattle.std.specs.Prelude.{◌≡◌}
-use Rattle.operator_book.specs.declared.book.Book.{Book}
 use Rattle.operator_machine.specs.Replay.{BookView}
 use Rattle.plant_script.specs.OperatorA.{row_a, consts_a}
-
-abbrev pub view_of : {D : Type 0} {F : D → Type 0} {m : _} → Book D F m → BookView
-view_of book = book.kept
 
 -- the book is operator A's
 pub record IsOfA (book : BookView) : Type 0 where

@@ -4,7 +4,8 @@ ghost use Rattle.std.specs.Prelude.{◌≡◌, ◌++◌, [], ◌∷◌, IfOk, On
 ghost use Rattle.operator_machine.specs.Machine.{own_step, own_run, IsAllowed};
 ghost use Rattle.plant_script.specs.OperatorA.{row_a, consts_a};
 ghost use Rattle.plant_script.specs.One.{actions_of, outputs_of, name_of, line_of, text_of};
-ghost use Rattle.plant_script.specs.View.{view_of, IsOfA};
+ghost use Rattle.operator_book.specs.ViewOf.{view_of};
+ghost use Rattle.plant_script.specs.View.{IsOfA};
 
 use crate::operator_a::{consts_a, first_modem, row_a};
 use grant_policy::{Policy, RankInput, Ranking, rank_by};

@@ -1,5 +1,5 @@
 use Rattle.plant_script.specs.RunSoFar.{IsRunSoFar}
-use Rattle.plant_script.specs.View.{view_of}
+use Rattle.operator_book.specs.ViewOf.{view_of}
 use Rattle.plant_script.proofs.one.text_of.Given as goal
 
 abbrev pub invariant-loop-message : goal.invariant-loop-message
