@@ -2,6 +2,7 @@ pub mod MapLemmas
 pub mod OrderLemmas
 pub mod EntryLemmas
 pub mod NeedLemmas
+pub mod KindLemmas
 pub mod ServeLemmas
 pub mod FlowsLemmas
 pub mod FollowLemmas
