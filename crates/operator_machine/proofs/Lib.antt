@@ -14,6 +14,7 @@ pub mod ProvisionedLemmas
 pub mod OpenedLemmas
 pub mod SoundLemmas
 pub mod UndoLemmas
+pub mod PartLemmas
 pub mod HandleLemmas
 pub mod AskedLemmas
 pub mod VerdictLemmas
