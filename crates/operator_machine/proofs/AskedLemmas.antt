@@ -1,5 +1,5 @@
 -- What is asked for is nested, and of a flow that waits for nothing.
-use Rattle.std.proofs.Common.{◌≡◌, ℕ, not, false, List, Option, Some, None, Result, Ok, Err, IfOk, is_some, refl}
+use Rattle.std.proofs.Common.{◌≡◌, ℕ, ◌==◌, ◌&&◌, not, false, List, [], ◌∷◌, Option, Some, None, Result, Ok, Err, IfOk, IfSome, is_some, refl}
 use Rattle.std.proofs.lemmas.Bool.{cond_both}
 use Rattle.tlv24.specs.declared.fields.FlowFields.{FlowFields}
 use Rattle.dsx_messages.specs.declared.modem.Modem.{Modem}
@@ -7,12 +7,15 @@ use Rattle.dsx_messages.specs.declared.kind.Kind.{Kind}
 use Rattle.dsx_messages.specs.declared.kind.Kind.TheVariants.{Dsa, Dsc}
 use Rattle.dsx_messages.specs.declared.code.Code.TheVariants as codes
 use Rattle.dsx_messages.specs.declared.reply.ReplyFields.{ReplyFields}
+use Rattle.param_sets.specs.Reading.{parameter_set_of}
 use Rattle.param_sets.specs.Within.{IsWithinOrNull}
 use Rattle.param_sets.specs.Sets.{AreNested, IsWithinProvisioned}
 use Rattle.param_sets.specs.declared.param_set.ParamFields.{ParamFields}
 use Rattle.param_sets.specs.declared.sets.SetsFields.{SetsFields}
+use Rattle.param_sets.specs.declared.refusal.Refusal.{Refusal}
 use Rattle.param_sets.proofs.WithinLemmas.{is_within}
 use Rattle.slice_table.specs.declared.consts.ConstsFields.{ConstsFields}
+use Rattle.slice_table.specs.Classes.{asked_of}
 use Rattle.slice_table.specs.Row.{same_modem}
 use Rattle.flow_table.specs.declared.flow.Flow.{Flow}
 use Rattle.flow_table.specs.declared.flow.Pending.{Pending}
@@ -20,7 +23,9 @@ use Rattle.flow_table.specs.Table.{flow_at}
 use Rattle.operator_machine.specs.declared.verdict.AskedSets.{AskedSets}
 use Rattle.operator_machine.specs.declared.verdict.Addition.{Addition}
 use Rattle.operator_machine.specs.declared.verdict.Change.{Change}
-use Rattle.operator_machine.specs.Asked.{◌>>=◌, stated, refusal_naming, first_encoding, free_flow, asked_sets, failing_active, failing_admitted, nested_unless, nested_sets, addition_of, change_of}
+use Rattle.operator_machine.specs.Asked.{◌>>=◌, stated, refusal_naming, first_encoding, free_flow, has_set_type, set_unless, set_over_class, set_of, is_change, asked_by_type, asked_by_one, asked_by_two, asked_sets, failing_active, failing_admitted, nested_unless, nested_sets, addition_of, change_of}
+use Rattle.operator_machine.specs.Sound.{KeepsItsKind, AreOfTheirKinds}
+use Rattle.operator_machine.proofs.KindLemmas.{read_kind}
 
 -- what one check gives the next one takes over
 and_then : {A B : Type 0} (Q : A → Type 0) (P : B → Type 0) (r : Result A ReplyFields) (f : A → Result B ReplyFields) → IfOk r Q → ((x : A) → Q x → IfOk (f x) P) → IfOk (r >>= f) P
@@ -30,6 +35,48 @@ and_then Q P (Err reply) f h next = tt
 anything : {A : Type 0} (r : Result A ReplyFields) → IfOk r (λ _. Unit {0})
 anything (Ok x) = tt
 anything (Err reply) = tt
+
+-- ---- the sets that are asked for
+
+-- each keeps what its kind of scheduling keeps
+abbrev AreKept : AskedSets → Type 0
+AreKept asked = IfSome asked.admitted KeepsItsKind × IfSome asked.active KeepsItsKind
+
+module _ (kind : Kind) (tid : ℕ) (consts : ConstsFields) where
+  set-kind : (flow : FlowFields) → IfOk (set_of kind tid consts flow) KeepsItsKind
+  unfolding set_of
+  set-kind flow = over (asked_of consts.classes flow)
+    where
+      unless : (r : Result ParamFields Refusal) → IfOk r KeepsItsKind → IfOk (set_unless kind tid flow r) KeepsItsKind
+      unless (Ok set) h = h
+      unless (Err refusal) h = tt
+
+      over : (o : Option FlowFields) → IfOk (set_over_class kind tid consts.units flow o) KeepsItsKind
+      over None = tt
+      over (Some asked) = unless (parameter_set_of asked consts.units) (read_kind asked consts.units)
+
+  by_one : (flow : FlowFields) (n : ℕ) → IfOk (asked_by_type kind tid consts flow n) AreKept
+  by_one flow n =
+      cond_both (n == 2) _ _ (λ (r : Result AskedSets ReplyFields). IfOk r AreKept) (λ _. and_then KeepsItsKind AreKept (set_of kind tid consts flow) _ (set-kind flow) (λ set h. (h, tt)))
+      (λ _. cond_both (n == 6) _ _ (λ (r : Result AskedSets ReplyFields). IfOk r AreKept) (λ _. and_then KeepsItsKind AreKept (set_of kind tid consts flow) _ (set-kind flow) (λ set h. (h, h)))
+      (λ _. cond_both (n == 0 && is_change kind) _ _ (λ (r : Result AskedSets ReplyFields). IfOk r AreKept) (λ _. (tt, tt)) (λ _. tt)))
+
+  by_two : (first second : FlowFields) → IfOk (asked_by_two kind tid consts first second) AreKept
+  by_two first second =
+      and_then KeepsItsKind AreKept (set_of kind tid consts first) _ (set-kind first) (λ a is_a.
+      and_then KeepsItsKind AreKept (set_of kind tid consts second) _ (set-kind second) (λ b is_b.
+      cond_both (has_set_type 2 first) _ _ AreKept (λ _. (is_a, is_b)) (λ _. (is_b, is_a))))
+
+  asked-AreKept : (encodings : List FlowFields) → IfOk (asked_sets kind tid consts encodings) AreKept
+  unfolding asked_sets
+  asked-AreKept [] = tt
+  asked-AreKept (flow ∷ []) = by flow.set_type
+    where
+      by : (o : Option ℕ) → IfOk (asked_by_one kind tid consts flow o) AreKept
+      by None = tt
+      by (Some n) = by_one flow n
+  asked-AreKept (first ∷ second ∷ []) = by_two first second
+  asked-AreKept (first ∷ second ∷ third ∷ others) = tt
 
 -- ---- the sets
 
@@ -47,17 +94,19 @@ admitted_within (Some admitted) (Some provisioned) none = is_within admitted pro
 -- sets that are asked for are nested, beside the same provisioned set
 pub record AreAsked (provisioned : Option ParamFields) (sets : SetsFields) : Type 0 where
   pub nested : AreNested sets
+  pub kinds : AreOfTheirKinds sets
   pub same : sets.provisioned ≡ provisioned
 
-nested-AreAsked : (kind : Kind) (tid : ℕ) (first : FlowFields) (provisioned : Option ParamFields) (asked : AskedSets) → IfOk (nested_sets kind tid first provisioned asked) (AreAsked provisioned)
+nested-AreAsked : (kind : Kind) (tid : ℕ) (first : FlowFields) (provisioned : Option ParamFields) (asked : AskedSets) → AreKept asked → IfOk (nested_sets kind tid first provisioned asked) (AreAsked provisioned)
 unfolding nested_sets
-nested-AreAsked kind tid first provisioned asked = by (failing_active asked.active asked.admitted) (failing_admitted asked.admitted provisioned) refl refl
+nested-AreAsked kind tid first provisioned asked kept = by (failing_active asked.active asked.admitted) (failing_admitted asked.admitted provisioned) refl refl
   where
     by : (a b : Option ℕ) → failing_active asked.active asked.admitted ≡ a → failing_admitted asked.admitted provisioned ≡ b → IfOk (nested_unless kind tid first provisioned asked a b) (AreAsked provisioned)
     by (Some subtype) b is_a is_b = tt
     by None (Some subtype) is_a is_b = tt
     by None None is_a is_b = record {
       nested = record { active = active_within asked.active asked.admitted is_a; admitted = admitted_within asked.admitted provisioned is_b };
+      kinds = record { admitted = kept.0; active = kept.1 };
       same = refl;
     }
 
@@ -89,8 +138,8 @@ unfolding addition_of
 addition-IsAddition consts tid encodings =
     and_then (λ _. Unit {0}) IsAddition (first_encoding Dsa tid consts.classes encodings) _ (anything (first_encoding Dsa tid consts.classes encodings)) (λ first _.
     and_then (λ _. Unit {0}) IsAddition (stated first.reference (refusal_naming Dsa tid codes.RejectRequiredParameterNotPresent first 1)) _ (anything (stated first.reference (refusal_naming Dsa tid codes.RejectRequiredParameterNotPresent first 1))) (λ reference _.
-    and_then (λ _. Unit {0}) IsAddition (asked_sets Dsa tid consts encodings) _ (anything (asked_sets Dsa tid consts encodings)) (λ asked _.
-    and_then (AreAsked None) IsAddition (nested_sets Dsa tid first None asked) _ (nested-AreAsked Dsa tid first None asked) (λ sets h. h))))
+    and_then AreKept IsAddition (asked_sets Dsa tid consts encodings) _ (asked-AreKept Dsa tid consts encodings) (λ asked kept.
+    and_then (AreAsked None) IsAddition (nested_sets Dsa tid first None asked) _ (nested-AreAsked Dsa tid first None asked kept) (λ sets h. h))))
 
 pub record IsChange (flows : List (ℕ × Flow)) (change : Change) : Type 0 where
   pub flow : IsFreeFlow (flow_at change.sfid flows) change.flow
@@ -102,5 +151,5 @@ change-IsChange consts flows modem tid encodings =
     and_then (λ _. Unit {0}) (IsChange flows) (first_encoding Dsc tid consts.classes encodings) _ (anything (first_encoding Dsc tid consts.classes encodings)) (λ first _.
     and_then (λ _. Unit {0}) (IsChange flows) (stated first.sfid (refusal_naming Dsc tid codes.RejectRequiredParameterNotPresent first 2)) _ (anything (stated first.sfid (refusal_naming Dsc tid codes.RejectRequiredParameterNotPresent first 2))) (λ sfid _.
     and_then (IsFreeFlow (flow_at sfid flows)) (IsChange flows) (free_flow Dsc tid modem (flow_at sfid flows)) _ (free-IsFreeFlow Dsc tid modem (flow_at sfid flows)) (λ flow free.
-    and_then (λ _. Unit {0}) (IsChange flows) (asked_sets Dsc tid consts encodings) _ (anything (asked_sets Dsc tid consts encodings)) (λ asked _.
-    and_then (AreAsked flow.sets.provisioned) (IsChange flows) (nested_sets Dsc tid first flow.sets.provisioned asked) _ (nested-AreAsked Dsc tid first flow.sets.provisioned asked) (λ sets h. record { flow = free; sets = h })))))
+    and_then AreKept (IsChange flows) (asked_sets Dsc tid consts encodings) _ (asked-AreKept Dsc tid consts encodings) (λ asked kept.
+    and_then (AreAsked flow.sets.provisioned) (IsChange flows) (nested_sets Dsc tid first flow.sets.provisioned asked) _ (nested-AreAsked Dsc tid first flow.sets.provisioned asked kept) (λ sets h. record { flow = free; sets = h })))))

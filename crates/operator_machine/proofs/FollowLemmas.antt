@@ -7,7 +7,7 @@ use Rattle.param_sets.specs.Need.{need_if}
 use Rattle.param_sets.specs.declared.sets.SetsFields.{SetsFields}
 use Rattle.flow_table.specs.declared.flow.Flow.{Flow}
 use Rattle.flow_table.specs.declared.flow.Pending.{Pending}
-use Rattle.flow_table.specs.Flow.{pending_admitted, with_pending, acknowledged, without_pending, taken_back, requested, granted}
+use Rattle.flow_table.specs.Flow.{asks_for_grants, pending_admitted, with_pending, acknowledged, without_pending, taken_back, requested, granted}
 use Rattle.operator_machine.specs.Sound.{IsSoundFlow, IsSoundPending}
 use Rattle.operator_machine.proofs.FlowsLemmas.{CommitsLess}
 
@@ -44,6 +44,8 @@ module _ (units : UnitSizes) (frame : ℕ) (old : Flow) (sound : IsSoundFlow fra
         sid = or_no_sid pending.sid_is_new old.sid;
         sound = record {
           nested = sound.nested;
+          kinds = sound.kinds;
+          no_backlog = sound.no_backlog;
           has_sid = has_sid pending h pending.sid_is_new refl;
           start = sound.start;
           since = sound.since;
@@ -64,6 +66,8 @@ module _ (units : UnitSizes) (frame : ℕ) (old : Flow) (sound : IsSoundFlow fra
         sid = no_sid_or (is_some pending.sets.admitted) old.sid;
         sound = record {
           nested = h.nested;
+          kinds = h.kinds;
+          no_backlog = λ no. ap (λ (b : Bool). cond b old.backlog 0) no;
           has_sid = has_sid pending h;
           start = omega arith;
           since = sound.since;
@@ -78,21 +82,22 @@ module _ (units : UnitSizes) (frame : ℕ) (old : Flow) (sound : IsSoundFlow fra
   as_before : (v : Flow) → v.sets ≡ old.sets → v.sid ≡ old.sid → IfSome old.pending (IsSoundPending v)
   as_before v sets sid = IfSome_then old.pending sound.pending (λ pending h. record {
     nested = h.nested;
+    kinds = h.kinds;
     provisioned = h.provisioned ∙ ap (λ (s : SetsFields). s.provisioned) (sym sets);
     new_sid = λ new. ap (λ (s : SetsFields). s.admitted) sets ∙ h.new_sid new;
     has_sid = λ some. ap is_some sid ∙ h.has_sid some;
   })
 
-  pub follow-requested : (minislots : ℕ) → MayFollow units frame old (requested minislots frame old)
-  follow-requested minislots = record {
+  pub follow-requested : (minislots : ℕ) → asks_for_grants old.sets.active ≡ true → MayFollow units frame old (requested minislots frame old)
+  follow-requested minislots asks = record {
     sid = λ n is. is;
-    sound = record { nested = sound.nested; has_sid = sound.has_sid; start = sound.start; since = cond_both (old.backlog == 0) frame old.since (λ n. n ≤ frame) (λ _. omega arith) (λ _. sound.since); pending = as_before (requested minislots frame old) refl refl };
+    sound = record { nested = sound.nested; kinds = sound.kinds; has_sid = sound.has_sid; no_backlog = λ no. absurd (true≢false (sym asks ∙ no)); start = sound.start; since = cond_both (old.backlog == 0) frame old.since (λ n. n ≤ frame) (λ _. omega arith) (λ _. sound.since); pending = as_before (requested minislots frame old) refl refl };
     less = record { minislots = omega arith; elements = omega arith };
   }
 
   pub follow-granted : (minislots earlier : ℕ) → earlier < frame → MayFollow units frame old (granted minislots earlier old)
   follow-granted minislots earlier lt = record {
     sid = λ n is. is;
-    sound = record { nested = sound.nested; has_sid = sound.has_sid; start = sound.start; since = cond_both (old.backlog - minislots == 0) old.since (earlier + 1) (λ n. n ≤ frame) (λ _. sound.since) (λ _. omega arith); pending = as_before (granted minislots earlier old) refl refl };
+    sound = record { nested = sound.nested; kinds = sound.kinds; has_sid = sound.has_sid; no_backlog = λ no. omega (arith, sound.no_backlog no); start = sound.start; since = cond_both (old.backlog - minislots == 0) old.since (earlier + 1) (λ n. n ≤ frame) (λ _. sound.since) (λ _. omega arith); pending = as_before (granted minislots earlier old) refl refl };
     less = record { minislots = omega arith; elements = omega arith };
   }

@@ -1,6 +1,6 @@
 -- What is handled leaves a sound state: an acknowledgement, a request for minislots, and a verdict that is carried out.
 use Rattle.std.proofs.Common.{◌≡◌, ◌≢◌, ℕ, ◌==◌, ◌&&◌, not, Bool, true, false, cond, List, get_or, Option, Some, None, IfSome, IsSome, is_some, option_map, All, find, map, refl, sym, ap, ◌∙◌, subst}
-use Rattle.std.proofs.lemmas.Bool.{and_parts, cond_both, false≢true}
+use Rattle.std.proofs.lemmas.Bool.{and_parts, cond_both, not-false, false≢true}
 use Rattle.std.proofs.lemmas.List.{length-map}
 use Rattle.std.proofs.lemmas.List.Elements.{All-map}
 use Rattle.dsx_messages.specs.declared.modem.Modem.{Modem}
@@ -87,7 +87,7 @@ module _ (consts : ConstsFields) (row : RowFields) (state : OperatorState) (soun
       by None is = sound
       by (Some entry) is =
           let there = at-find (λ (e : ℕ × Flow). is_sid sid e.1.sid) state.flows entry sound.ascending is in
-          let follow = follow-requested consts.units state.frame entry.1 (sound-there (sound-AreFlows sound) entry.0 entry.1 there) minislots in
+          let sound_flow = sound-there (sound-AreFlows sound) entry.0 entry.1 there in
           let change : Flow → Flow = requested minislots state.frame in
           let waiting : All (HasItsFlow (with_flow entry.0 (change entry.1) state.flows)) state.kept = λ k d lt waits.
           subst (λ (fs : List (ℕ × Flow)). IsSome (flow_at (get_or state.kept k d).sfid fs) × IfSome (flow_at (get_or state.kept k d).sfid fs) (IsWaitingOf (get_or state.kept k d).kind))
@@ -95,4 +95,6 @@ module _ (consts : ConstsFields) (row : RowFields) (state : OperatorState) (soun
           (kept-change (IsWaitingOf (get_or state.kept k d).kind) (get_or state.kept k d).sfid entry.0 change state.flows (λ old h. waits_still (get_or state.kept k d).kind old (change old) refl refl h) (sound.waiting k d lt waits)) in
           cond_both (not (same_modem entry.1.modem modem)) _ _ (λ (ran : Ran). IsSound consts row ran.state) (λ _. sound)
           (λ _. cond_both (not (asks_for_grants entry.1.sets.active)) _ _ (λ (ran : Ran). IsSound consts row ran.state) (λ _. sound)
-          (λ _. step_on sound (with_flow entry.0 (change entry.1) state.flows) state.kept (put-MayStep (sound-AreFlows sound) entry.0 entry.1 (change entry.1) there follow) sound.few_kept waiting sound.own_flows))
+          (λ asks. step_on sound (with_flow entry.0 (change entry.1) state.flows) state.kept
+          (put-MayStep (sound-AreFlows sound) entry.0 entry.1 (change entry.1) there (follow-requested consts.units state.frame entry.1 sound_flow minislots (not-false (asks_for_grants entry.1.sets.active) asks)))
+          sound.few_kept waiting sound.own_flows))

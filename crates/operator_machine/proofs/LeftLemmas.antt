@@ -70,7 +70,7 @@ later-AreFlows row frame flows are = record {
   sfids = are.sfids;
   sids = are.sids;
   own_sids = are.own_sids;
-  each = All-weaker (IsSoundFlow frame) (IsSoundFlow (frame + 1)) (λ flow h. record { nested = h.nested; has_sid = h.has_sid; start = omega (arith, h.start); since = omega (arith, h.since); pending = h.pending }) (values_of flows) are.each;
+  each = All-weaker (IsSoundFlow frame) (IsSoundFlow (frame + 1)) (λ flow h. record { nested = h.nested; kinds = h.kinds; has_sid = h.has_sid; no_backlog = h.no_backlog; start = omega (arith, h.start); since = omega (arith, h.since); pending = h.pending }) (values_of flows) are.each;
   few = are.few;
 }
 

@@ -2,6 +2,7 @@ pub mod MapLemmas
 pub mod OrderLemmas
 pub mod EntryLemmas
 pub mod NeedLemmas
+pub mod KindLemmas
 pub mod ServeLemmas
 pub mod FlowsLemmas
 pub mod FollowLemmas
@@ -13,6 +14,7 @@ pub mod ProvisionedLemmas
 pub mod OpenedLemmas
 pub mod SoundLemmas
 pub mod UndoLemmas
+pub mod PartLemmas
 pub mod HandleLemmas
 pub mod AskedLemmas
 pub mod VerdictLemmas

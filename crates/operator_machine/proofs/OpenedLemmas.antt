@@ -24,7 +24,7 @@ use Rattle.operator_machine.proofs.OrderLemmas.{length-insert}
 use Rattle.operator_machine.proofs.FlowsLemmas.{AreFlows, put-AreFlows}
 use Rattle.operator_machine.proofs.FreshLemmas.{MayPut-fresh, sid_count, length-sids, minislots-put, elements-put}
 use Rattle.operator_machine.proofs.RoomLemmas.{is_given, given-free}
-use Rattle.operator_machine.proofs.ProvisionedLemmas.{Nested, by_flow, as_flows, same_sfids, same_sids, flows-insert}
+use Rattle.operator_machine.proofs.ProvisionedLemmas.{AreFit, by_flow, as_flows, same_sfids, same_sids, flows-insert}
 
 -- ---- flow by flow
 
@@ -60,10 +60,10 @@ module _ (consts : ConstsFields) (row : RowFields) where
         (given_sid row (sids_of (flows_of entries)) (is_given row.sids (sids_of (flows_of entries)) (omega arith)))
     sid_of_sets false room = record { free = tt; has = λ no. absurd (false≢true no); count = omega arith }
 
-    one_opened : (modem : Modem) (sets : SetsFields) → AreNested sets
+    one_opened : (modem : Modem) (sets : SetsFields) → AreFit sets
         → HasRoom consts row (flows_of entries) (1 + n) (cond {A = ℕ} (is_some sets.admitted) 1 0 + s) ((need_if consts.units sets.admitted).minislots + m) ((need_if consts.units sets.admitted).elements + e)
         → HasRoom consts row (flows_of (and_under row entries modem sets (least_free_of row.sfids (opened_sfids entries)))) n s m e
-    one_opened modem sets nested room = by (least_free_of row.sfids (opened_sfids entries)) refl
+    one_opened modem sets fit room = by (least_free_of row.sfids (opened_sfids entries)) refl
       where
         v : Opened
         v = record { modem = modem; sid = opened_sid row entries sets; sets = sets }
@@ -75,7 +75,7 @@ module _ (consts : ConstsFields) (row : RowFields) where
         by None is = record { are = room.are; few = omega (arith, room.few); sids = omega (arith, room.sids); minislots = omega (arith, room.minislots); elements = omega (arith, room.elements) }
         by (Some k) is =
             let flow : Flow = opened_flow consts.first_frame v in
-            let sound : IsSoundFlow consts.first_frame flow = record { nested = nested; has_sid = sid.has; start = omega arith; since = omega arith; pending = tt } in
+            let sound : IsSoundFlow consts.first_frame flow = record { nested = fit.nested; kinds = fit.kinds; has_sid = sid.has; no_backlog = λ _. refl; start = omega arith; since = omega arith; pending = tt } in
             let free : IsFree row.sfids (sfids_of (flows_of entries)) k = given-free row.sfids (sfids_of (flows_of entries)) k (ap (least_free_of row.sfids) (same_sfids consts.first_frame entries) ∙ is) in
             let longer = length-insert (flows_of entries) k flow in
             let may = MayPut-fresh row consts.first_frame (flows_of entries) k flow (free.first_at_most, free.at_most_last) sid.free sound (omega (arith, room.few, longer)) in
@@ -88,11 +88,11 @@ module _ (consts : ConstsFields) (row : RowFields) where
             })
 
     -- a provisioned flow of these sets, or of none
-    and_one : (modem : Modem) (sets : Option SetsFields) → IfSome sets Nested
+    and_one : (modem : Modem) (sets : Option SetsFields) → IfSome sets AreFit
         → HasRoom consts row (flows_of entries) (1 + n) (cond {A = ℕ} (admits sets) 1 0 + s) ((need_of_sets consts.units sets).minislots + m) ((need_of_sets consts.units sets).elements + e)
         → HasRoom consts row (flows_of (and_opened row entries modem sets)) n s m e
-    and_one modem None nested room = record { are = room.are; few = omega (arith, room.few); sids = omega (arith, room.sids); minislots = omega (arith, room.minislots); elements = omega (arith, room.elements) }
-    and_one modem (Some sets) nested room = one_opened modem sets nested room
+    and_one modem None fit room = record { are = room.are; few = omega (arith, room.few); sids = omega (arith, room.sids); minislots = omega (arith, room.minislots); elements = omega (arith, room.elements) }
+    and_one modem (Some sets) fit room = one_opened modem sets fit room
 
   abbrev sids_for : List Provision → ℕ
   sids_for ps = count_by (λ p. admits (sets_of_encoding consts p.encoding)) ps

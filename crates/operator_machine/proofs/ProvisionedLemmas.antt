@@ -1,5 +1,5 @@
--- Provisioned flows: their sets are nested, and how they stand as flows.
-use Rattle.std.proofs.Common.{◌≡◌, ℕ, ◌==◌, List, [], ◌∷◌, Option, Some, None, Result, Ok, Err, IfSome, map, refl, ap}
+-- Provisioned flows: their sets are nested and of their kinds, and how they stand as flows.
+use Rattle.std.proofs.Common.{◌≡◌, ℕ, ◌==◌, List, [], ◌∷◌, Option, Some, None, Result, Ok, Err, IfOk, IfSome, map, refl, ap}
 use Rattle.std.specs.List.{cons_option}
 use Rattle.std.specs.declared.cmp.Ordering.{Ordering}
 use Rattle.std.specs.declared.cmp.Ordering.TheVariants.{Less, Equal, Greater}
@@ -21,28 +21,31 @@ use Rattle.slice_table.specs.Provisioned.{sets_of_type, sets_of_set, sets_over_c
 use Rattle.flow_table.specs.declared.flow.Flow.{Flow}
 use Rattle.flow_table.specs.Table.{sfids_of, sids_of, with_flow}
 use Rattle.operator_machine.specs.State.{opened_flow}
+use Rattle.operator_machine.specs.Sound.{KeepsItsKind, AreOfTheirKinds}
+use Rattle.operator_machine.proofs.KindLemmas.{read_kind}
 
--- ---- what is provisioned is nested
+-- ---- what is provisioned is nested, and of its kind
 
-abbrev pub Nested : SetsFields → Type 0
-Nested sets = AreNested sets
+pub record AreFit (sets : SetsFields) : Type 0 where
+  pub nested : AreNested sets
+  pub kinds : AreOfTheirKinds sets
 
-by_type : (n : ℕ) (set : ParamFields) → IfSome (sets_of_type n set) Nested
-by_type n set =
-    cond_both (n == 1) _ _ (λ o. IfSome o Nested) (λ _. record { active = tt; admitted = tt })
-    (λ _. cond_both (n == 3) _ _ (λ o. IfSome o Nested) (λ _. record { active = tt; admitted = within_self set })
-    (λ _. cond_both (n == 7) _ _ (λ o. IfSome o Nested) (λ _. record { active = within_self set; admitted = within_self set }) (λ _. tt)))
+by_type : (n : ℕ) (set : ParamFields) → KeepsItsKind set → IfSome (sets_of_type n set) AreFit
+by_type n set kind =
+    cond_both (n == 1) _ _ (λ o. IfSome o AreFit) (λ _. record { nested = record { active = tt; admitted = tt }; kinds = record { admitted = tt; active = tt } })
+    (λ _. cond_both (n == 3) _ _ (λ o. IfSome o AreFit) (λ _. record { nested = record { active = tt; admitted = within_self set }; kinds = record { admitted = kind; active = tt } })
+    (λ _. cond_both (n == 7) _ _ (λ o. IfSome o AreFit) (λ _. record { nested = record { active = within_self set; admitted = within_self set }; kinds = record { admitted = kind; active = kind } }) (λ _. tt)))
 
-by_set : (set_type : Option ℕ) (set : Result ParamFields Refusal) → IfSome (sets_of_set set_type set) Nested
-by_set (Some n) (Ok set) = by_type n set
-by_set (Some n) (Err refusal) = tt
-by_set None set = tt
+by_set : (set_type : Option ℕ) (set : Result ParamFields Refusal) → IfOk set KeepsItsKind → IfSome (sets_of_set set_type set) AreFit
+by_set (Some n) (Ok set) kind = by_type n set kind
+by_set (Some n) (Err refusal) kind = tt
+by_set None set kind = tt
 
-by_class : (units : UnitSizes) (set_type : Option ℕ) (asked : Option FlowFields) → IfSome (sets_over_class units set_type asked) Nested
+by_class : (units : UnitSizes) (set_type : Option ℕ) (asked : Option FlowFields) → IfSome (sets_over_class units set_type asked) AreFit
 by_class units set_type None = tt
-by_class units set_type (Some asked) = by_set set_type (parameter_set_of asked units)
+by_class units set_type (Some asked) = by_set set_type (parameter_set_of asked units) (read_kind asked units)
 
-pub by_flow : (consts : ConstsFields) (stated : Result FlowFields FlowFault) → IfSome (sets_of_flow consts stated) Nested
+pub by_flow : (consts : ConstsFields) (stated : Result FlowFields FlowFault) → IfSome (sets_of_flow consts stated) AreFit
 by_flow consts (Err fault) = tt
 by_flow consts (Ok stated) = by_class consts.units stated.set_type (asked_of consts.classes stated)
 

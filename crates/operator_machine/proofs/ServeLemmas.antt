@@ -1,5 +1,5 @@
 -- The flows that are scheduled, of flows that are sound.
-use Rattle.std.proofs.Common.{◌≡◌, ℕ, ◌+◌, ◌<◌, ◌≤◌, List, [], ◌∷◌, Option, Some, None, unwrap_or, All, sym, arith}
+use Rattle.std.proofs.Common.{◌≡◌, ℕ, ◌+◌, ◌<◌, ◌≤◌, List, [], ◌∷◌, Option, Some, None, unwrap_or, All, sum_by, sym, arith}
 use Rattle.std.specs.List.{AllByRecursion, cons_option}
 use Rattle.std.specs.List.Sorted.{IsStrictlySortedBy}
 use Rattle.std.specs.declared.cmp.Ordering.TheVariants.{Less}
@@ -8,25 +8,26 @@ use Rattle.std.specs.Map.{keys_of, values_of}
 use Rattle.std.proofs.lemmas.Cmp.{ranked}
 use Rattle.std.proofs.lemmas.List.Elements.{All-nil, All-cons, All-head, All-tail}
 use Rattle.std.proofs.lemmas.List.Sums.{sum_by-cons}
+use Rattle.admission.specs.declared.budget.Budget.{Budget}
 use Rattle.param_sets.specs.Units.{UnitSizes}
-use Rattle.param_sets.specs.Need.{need_if}
+use Rattle.param_sets.specs.Need.{need_of, need_if}
 use Rattle.param_sets.specs.declared.param_set.ParamFields.{ParamFields}
 use Rattle.slice_scheduler.specs.declared.flowing.At.{At}
 use Rattle.slice_scheduler.specs.declared.flowing.Flowing.{Flowing}
-use Rattle.slice_scheduler.specs.Servable.{SfidsAscend, IsPast, need_at, needed}
+use Rattle.slice_scheduler.specs.Servable.{SfidsAscend, IsPast, needed, elements_needed}
 use Rattle.slice_table.specs.declared.consts.ConstsFields.{ConstsFields}
 use Rattle.slice_table.specs.declared.operator_row.RowFields.{RowFields}
 use Rattle.flow_table.specs.declared.flow.Flow.{Flow}
 use Rattle.flow_table.specs.Flow.{committed_of}
-use Rattle.flow_table.specs.Table.{flowing_of_set, flowing_in, committed_minislots}
+use Rattle.flow_table.specs.Table.{flowing_of_set, flowing_in, committed_minislots, committed_elements}
 use Rattle.operator_machine.specs.State.{OperatorState}
 use Rattle.operator_machine.specs.Frame.{at_frame}
 use Rattle.operator_machine.specs.Sound.{IsSoundFlow, IsSound}
 use Rattle.operator_machine.proofs.MapLemmas.{Ascends}
-use Rattle.operator_machine.proofs.NeedLemmas.{need_if-le}
+use Rattle.operator_machine.proofs.NeedLemmas.{AtMost, need_if-le}
 
 -- a flow as it is scheduled with this set
-abbrev served : ℕ × Flow → ParamFields → Flowing
+abbrev pub served : ℕ × Flow → ParamFields → Flowing
 served e set = record { sfid = e.0; sid = unwrap_or e.1.sid 0; set = set; start = e.1.start; backlog = e.1.backlog; since = e.1.since }
 
 -- ---- by SFID
@@ -62,22 +63,32 @@ past frame (e ∷ flows) a = by e.1.sets.active (All-head (IsSoundFlow frame) e.
 -- ---- within what is committed
 
 -- the active set needs no more than is committed
-needs_less : (units : UnitSizes) (frame : ℕ) (flow : Flow) → IsSoundFlow frame flow → (need_if units flow.sets.active).minislots ≤ (committed_of units flow).minislots
-needs_less units frame flow sound = omega (arith, need_if-le units flow.sets.active flow.sets.admitted sound.nested.active)
+needs_less : (units : UnitSizes) (frame : ℕ) (flow : Flow) → IsSoundFlow frame flow → AtMost (need_if units flow.sets.active) (committed_of units flow)
+needs_less units frame flow sound =
+    let less = need_if-le units flow.sets.active flow.sets.admitted sound.nested.active in
+    record { minislots = omega (arith, less.minislots); elements = omega (arith, less.elements) }
+
+-- of a part of what is needed and committed
+module _ (part : Budget → ℕ) (rises : (a b : Budget) → AtMost a b → part a ≤ part b) (at : At) where
+  part_within : (flows : List (ℕ × Flow)) → All (IsSoundFlow at.frame) (values_of flows) → sum_by (λ (f : Flowing). part (need_of f.set at.units)) (flowing_in flows) ≤ sum_by (λ entry. part (committed_of at.units entry.1)) flows
+  part_within [] a = omega arith
+  part_within (e ∷ flows) a =
+      let sound = All-head (IsSoundFlow at.frame) e.1 (values_of flows) a in
+      let rest = part_within flows (All-tail (IsSoundFlow at.frame) e.1 (values_of flows) a) in
+      let sum = sum_by-cons (λ (entry : ℕ × Flow). part (committed_of at.units entry.1)) e flows in
+      let first = rises (need_if at.units e.1.sets.active) (committed_of at.units e.1) (needs_less at.units at.frame e.1 sound) in
+      let more = by e.1.sets.active in
+      omega (arith, sum, first, more, rest)
+    where
+      by : (active : Option ParamFields) → sum_by (λ (f : Flowing). part (need_of f.set at.units)) (cons_option (flowing_of_set e.0 e.1 active) (flowing_in flows)) ≤ part (need_if at.units active) + sum_by (λ (f : Flowing). part (need_of f.set at.units)) (flowing_in flows)
+      by None = omega arith
+      by (Some set) = omega (arith, sum_by-cons (λ (f : Flowing). part (need_of f.set at.units)) (served e set) (flowing_in flows))
 
 within : (at : At) (flows : List (ℕ × Flow)) → All (IsSoundFlow at.frame) (values_of flows) → needed at (flowing_in flows) ≤ committed_minislots at.units flows
-within at [] a = omega arith
-within at (e ∷ flows) a =
-    let sound = All-head (IsSoundFlow at.frame) e.1 (values_of flows) a in
-    let rest = within at flows (All-tail (IsSoundFlow at.frame) e.1 (values_of flows) a) in
-    let sum = sum_by-cons (λ (entry : ℕ × Flow). (committed_of at.units entry.1).minislots) e flows in
-    let first = needs_less at.units at.frame e.1 sound in
-    let more = by e.1.sets.active in
-    omega (arith, sum, first, more, rest)
-  where
-    by : (active : Option ParamFields) → needed at (cons_option (flowing_of_set e.0 e.1 active) (flowing_in flows)) ≡ (need_if at.units active).minislots + needed at (flowing_in flows)
-    by None = omega arith
-    by (Some set) = sum_by-cons (need_at at) (served e set) (flowing_in flows)
+within at flows each = part_within (λ b. b.minislots) (λ a b h. h.minislots) at flows each
+
+pub elements_within : (at : At) (flows : List (ℕ × Flow)) → All (IsSoundFlow at.frame) (values_of flows) → elements_needed at (flowing_in flows) ≤ committed_elements at.units flows
+elements_within at flows each = part_within (λ b. b.elements) (λ a b h. h.elements) at flows each
 
 -- ---- what a schedule asks for
 

@@ -73,10 +73,12 @@ module _ (consts : ConstsFields) (row : RowFields) (state : OperatorState) (soun
     new_sound : (sid : ℕ) → IsSoundFlow state.frame (new_flow modem state.frame addition.sets sid)
     new_sound sid = record {
       nested = record { active = tt; admitted = tt };
+      kinds = record { admitted = tt; active = tt };
+      no_backlog = λ _. refl;
       has_sid = λ some. refl;
       start = omega arith;
       since = omega arith;
-      pending = record { nested = is.nested; provisioned = is.same; new_sid = λ _. refl; has_sid = λ _. refl };
+      pending = record { nested = is.nested; kinds = is.kinds; provisioned = is.same; new_sid = λ _. refl; has_sid = λ _. refl };
     }
 
     right-added_under : length state.flows < row.flows → (o p : Option ℕ) → least_free_of row.sfids (sfids_of state.flows) ≡ o → least_free_of row.sids (sids_of state.flows) ≡ p → Right Dsa (added_under consts row state modem tid addition o p)
@@ -107,10 +109,12 @@ module _ (consts : ConstsFields) (row : RowFields) (state : OperatorState) (soun
     changed_sound : (sid : Option ℕ) (new : Bool) → (IsSome change.flow.sets.admitted → IsSome sid) → (IsSome change.sets.admitted → IsSome sid) → (new ≡ true → change.flow.sets.admitted ≡ None) → IsSoundFlow state.frame (changed_flow change sid new)
     changed_sound sid new had has none = record {
       nested = old_sound.nested;
+      kinds = old_sound.kinds;
+      no_backlog = old_sound.no_backlog;
       has_sid = had;
       start = old_sound.start;
       since = old_sound.since;
-      pending = record { nested = is.sets.nested; provisioned = is.sets.same; new_sid = none; has_sid = has };
+      pending = record { nested = is.sets.nested; kinds = is.sets.kinds; provisioned = is.sets.same; new_sid = none; has_sid = has };
     }
 
     right-changed_with : (sid : Option ℕ) (new : Bool) → MayPut row state.frame state.flows change.sfid (changed_flow change sid new) → Right Dsc (changed_with consts row state tid change sid new)

@@ -5,6 +5,7 @@ use Rattle.transactions.specs.declared.tick.Resend.{Resend}
 use Rattle.transactions.specs.declared.tick.GivenUp.{GivenUp}
 use Rattle.transactions.specs.Timers.{resent_in, given_up_in, kept_after}
 use Rattle.slice_scheduler.specs.declared.flowing.At.{At}
+use Rattle.slice_scheduler.specs.declared.elements.ElementsFields.{ElementsFields}
 use Rattle.slice_scheduler.specs.Schedule.{elements_of, granted_of}
 use Rattle.slice_table.specs.declared.consts.ConstsFields.{ConstsFields}
 use Rattle.slice_table.specs.declared.operator_row.RowFields.{RowFields}
@@ -56,7 +57,11 @@ next_at frame (Some next) = if next.from == frame then None else Some next
 abbrev pub flows_left : OperatorState → List (ℕ × Flow)
 flows_left state = all_undone (given_up_in state.kept) state.flows
 
--- resends in the order of their transactions, then the frame, scheduled over the flows that are left; then the next frame
+-- the elements that a tick puts out: the frame, scheduled over the flows that are left
+abbrev pub frame_elements : ConstsFields → RowFields → OperatorState → ElementsFields
+frame_elements consts row state = elements_of row.policy (at_frame consts state) (flowing_in (flows_left state))
+
+-- resends in the order of their transactions, then the frame; then the next frame
 abbrev pub ticked : ConstsFields → RowFields → OperatorState → Ran
 ticked consts row state = record {
   state = record {
@@ -68,5 +73,5 @@ ticked consts row state = record {
     next = next_at (state.frame + 1) state.next;
   };
   outputs = map resent (resent_in state.kept)
-      ++ outputs.Frame state.frame (elements_of row.policy (at_frame consts state) (flowing_in (flows_left state))) ∷ [];
+      ++ outputs.Frame state.frame (frame_elements consts row state) ∷ [];
 }

@@ -6,5 +6,6 @@ pub mod Frame
 pub mod Machine
 pub mod Replay
 pub mod Sound
+pub mod Part
 pub mod Frames
 pub mod Worked

@@ -1,5 +1,5 @@
 -- What always holds of a machine's state (own).
-use Rattle.std.specs.Prelude.{◌≡◌, ℕ, ◌+◌, ◌<◌, ◌≤◌, true, List, length, All, AllPairs, None, IfSome, IsSome, ◌≢◌}
+use Rattle.std.specs.Prelude.{◌≡◌, ℕ, ◌+◌, ◌<◌, ◌≤◌, true, false, List, length, All, AllPairs, None, IfSome, IsSome, ◌≢◌}
 use Rattle.std.specs.Ordering.{nat_cmp}
 use Rattle.std.specs.List.Sorted.{IsStrictlySortedBy}
 use Rattle.std.specs.Map.{keys_of, values_of}
@@ -8,11 +8,15 @@ use Rattle.dsx_messages.specs.declared.kind.Kind.TheVariants.{Dsa, Dsc, Dsd}
 use Rattle.admission.specs.Free.{IsIn}
 use Rattle.transactions.specs.declared.entry.KeptEntry.{KeptEntry}
 use Rattle.transactions.specs.Entry.{is_waiting}
+use Rattle.param_sets.specs.ParamSet.{IsOfKind}
 use Rattle.param_sets.specs.Sets.{AreNested}
+use Rattle.param_sets.specs.declared.param_set.ParamFields.{ParamFields}
+use Rattle.param_sets.specs.declared.sets.SetsFields.{SetsFields}
 use Rattle.slice_table.specs.declared.consts.ConstsFields.{ConstsFields}
 use Rattle.slice_table.specs.declared.operator_row.RowFields.{RowFields}
 use Rattle.flow_table.specs.declared.flow.Flow.{Flow}
 use Rattle.flow_table.specs.declared.flow.Pending.{Pending}
+use Rattle.flow_table.specs.Flow.{asks_for_grants}
 use Rattle.flow_table.specs.Table.{sfids_of, sids_of, flow_at, committed_minislots, committed_elements, HaveOwnSids}
 use Rattle.operator_machine.specs.declared.share.Share.{Share}
 use Rattle.operator_machine.specs.declared.share.NextShare.{NextShare}
@@ -20,17 +24,29 @@ use Rattle.operator_machine.specs.State.{OperatorState}
 
 -- ---- one flow
 
+-- a set keeps what its kind of scheduling keeps
+abbrev pub KeepsItsKind : ParamFields → Type 0
+KeepsItsKind set = IsOfKind set.scheduling set
+
+-- each set keeps what its kind of scheduling keeps
+pub record AreOfTheirKinds (sets : SetsFields) : Type 0 where
+  pub admitted : IfSome sets.admitted KeepsItsKind
+  pub active : IfSome sets.active KeepsItsKind
+
 -- sets that wait: they are nested, the flow was provisioned with the same, and where the SID is new none was admitted before
 pub record IsSoundPending (flow : Flow) (pending : Pending) : Type 0 where
   pub nested : AreNested pending.sets
+  pub kinds : AreOfTheirKinds pending.sets
   pub provisioned : pending.sets.provisioned ≡ flow.sets.provisioned
   pub new_sid : pending.sid_is_new ≡ true → flow.sets.admitted ≡ None
   pub has_sid : IsSome pending.sets.admitted → IsSome flow.sid
 
--- a flow has a SID where a set is admitted, and is not of a later frame
+-- a flow has a SID where a set is admitted, has no backlog where it may not ask, and is not of a later frame
 pub record IsSoundFlow (frame : ℕ) (flow : Flow) : Type 0 where
   pub nested : AreNested flow.sets
+  pub kinds : AreOfTheirKinds flow.sets
   pub has_sid : IsSome flow.sets.admitted → IsSome flow.sid
+  pub no_backlog : asks_for_grants flow.sets.active ≡ false → flow.backlog ≡ 0
   pub start : flow.start ≤ frame
   pub since : flow.since ≤ frame
   pub pending : IfSome flow.pending (IsSoundPending flow)

@@ -1,26 +1,28 @@
 //! Laws of the machine.
 
-ghost use Rattle.std.specs.Prelude.{◌≡◌, ℕ, ◌+◌, ◌<◌, ◌≤◌, true, List, [], ◌∷◌, All, count_by, find, Some};
-ghost use Rattle.std.specs.List.{range_with_len};
+ghost use Rattle.std.specs.Prelude.{◌≡◌, ◌≢◌, ℕ, ◌+◌, ◌<◌, ◌≤◌, true, List, [], ◌∷◌, length, All, count_by, find, Some};
+ghost use Rattle.std.specs.List.{list_all, range_with_len};
 ghost use Rattle.dsx_messages.specs.declared.modem.Modem.{Modem};
 ghost use Rattle.dsx_messages.specs.declared.kind.Kind.{Kind};
 ghost use Rattle.transactions.specs.declared.entry.KeptEntry.{KeptEntry};
 ghost use Rattle.transactions.specs.Entry.{same_kind, is_of};
 ghost use Rattle.slice_scheduler.specs.Servable.{SfidsAscend, IsPast, needed};
+ghost use Rattle.slice_scheduler.specs.Tiles.{IsTiled};
 ghost use Rattle.slice_table.specs.declared.consts.ConstsFields.{ConstsFields};
 ghost use Rattle.slice_table.specs.declared.operator_row.RowFields.{RowFields};
-ghost use Rattle.slice_table.specs.Row.{IsRowOf};
+ghost use Rattle.slice_table.specs.Row.{IsRow, IsRowOf};
 ghost use Rattle.flow_table.specs.Table.{flowing_in};
 ghost use Rattle.operator_machine.specs.declared.action.Action.{Action};
 ghost use Rattle.operator_machine.specs.declared.action.Entry.{Entry};
 ghost use Rattle.operator_machine.specs.State.{OperatorState, opened};
-ghost use Rattle.operator_machine.specs.Frame.{at_frame, flows_left};
+ghost use Rattle.operator_machine.specs.Frame.{at_frame, flows_left, frame_elements};
 ghost use Rattle.operator_machine.specs.declared.output.Output.TheVariants.{Reply};
 ghost use Rattle.operator_machine.specs.declared.verdict.Verdict.{Verdict};
 ghost use Rattle.operator_machine.specs.Handle.{transacted};
 ghost use Rattle.operator_machine.specs.Frames.{frames_in, is_tick};
 ghost use Rattle.operator_machine.specs.Machine.{own_step, own_run, IsAllowed};
 ghost use Rattle.operator_machine.specs.Replay.{IsReplay};
+ghost use Rattle.operator_machine.specs.Part.{is_own_sid};
 ghost use Rattle.operator_machine.specs.Sound.{IsSound};
 
 /// The slice in force can serve the flows: they stand by SFID, none is of a later frame, and what their active sets need
@@ -35,6 +37,18 @@ pub fn schedule_can_serve()
 /// change is taken back keeps its sets, and its SID where a set is admitted.
 pub fn given_up_have_no_grants()
     ensures { (consts : ConstsFields) (row : RowFields) (state : OperatorState) → IsSound consts row state → flowing_in (flows_left state) ≡ flowing_in state.flows }
+{}
+
+/// What a tick puts out is the operator's part of the frame's MAP: it is of the slice in force and tiles it, with SIDs of the
+/// row's range or nobody's, and has no more elements than the row's quota and one for what is left of the slice.
+pub fn frame_is_a_part()
+    ensures slice { (consts : ConstsFields) (row : RowFields) (state : OperatorState) → (frame_elements consts row state).slice ≡ state.share.slice }
+    ensures tiled { (consts : ConstsFields) (row : RowFields) (state : OperatorState) → IsSound consts row state → IsTiled (frame_elements consts row state) }
+    ensures spans_mine { (consts : ConstsFields) (row : RowFields) (state : OperatorState) → IsSound consts row state → list_all (λ span. is_own_sid row.sids span.sid) (frame_elements consts row state).spans ≡ true }
+    ensures pending_mine { (consts : ConstsFields) (row : RowFields) (state : OperatorState) → IsSound consts row state → list_all (λ sid. is_own_sid row.sids sid) (frame_elements consts row state).pending ≡ true }
+    ensures pending_not_null { (consts : ConstsFields) (row : RowFields) (state : OperatorState) → IsSound consts row state → IsRow row → All (λ sid. sid ≢ 0) (frame_elements consts row state).pending }
+    ensures few { (consts : ConstsFields) (row : RowFields) (state : OperatorState) → IsSound consts row state
+        → length (frame_elements consts row state).spans + length (frame_elements consts row state).pending ≤ row.elements + 1 }
 {}
 
 /// A machine is opened sound: its provisioned flows have identifiers of their own in the row's ranges, fit its limits, and

@@ -7,3 +7,5 @@ pub mod TotalLemmas
 pub mod GrantedLemmas
 pub mod ServableLemmas
 pub mod TiledLemmas
+pub mod NamedLemmas
+pub mod FewLemmas

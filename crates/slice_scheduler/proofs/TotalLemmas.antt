@@ -28,7 +28,7 @@ use Rattle.slice_scheduler.specs.Busy.{LeavesNothingIdle}
 use Rattle.slice_scheduler.proofs.RankLemmas.{sum_by-ranked_below, sum_by-ranked, Ascends-map}
 use Rattle.slice_scheduler.proofs.ShareLemmas.{ClaimsAscend, shares_below-fit}
 
-sum_by-map : {X Y : Type 0} (f : Y → ℕ) (g : X → Y) (xs : List X) → sum_by f (map g xs) ≡ sum_by (λ x. f (g x)) xs
+pub sum_by-map : {X Y : Type 0} (f : Y → ℕ) (g : X → Y) (xs : List X) → sum_by f (map g xs) ≡ sum_by (λ x. f (g x)) xs
 sum_by-map f g [] = refl
 sum_by-map f g (x ∷ xs) = omega (arith, sum_by-cons f (g x) (map g xs), sum_by-cons (λ y. f (g y)) x xs, sum_by-map f g xs)
 

@@ -1,13 +1,14 @@
 //! Laws of grants.
 
-ghost use Rattle.std.specs.Prelude.{◌≡◌, ◌≤◌, nat_lt, All, List, map, filter};
+ghost use Rattle.std.specs.Prelude.{◌≡◌, ◌+◌, ◌≤◌, ◌⊎◌, nat_lt, All, List, length, map, filter};
+ghost use Rattle.std.specs.List.{Contains};
 ghost use Rattle.grant_policy.specs.declared.policy.Policy.{Policy};
 ghost use Rattle.slice_scheduler.specs.declared.flowing.At.{At};
 ghost use Rattle.slice_scheduler.specs.declared.flowing.Flowing.{Flowing};
 ghost use Rattle.slice_scheduler.specs.Awards.{grant_of};
 ghost use Rattle.slice_scheduler.specs.Claims.{base_of};
 ghost use Rattle.slice_scheduler.specs.Schedule.{elements_of, granted_of};
-ghost use Rattle.slice_scheduler.specs.Servable.{SfidsAscend, IsOfItsKind, needed};
+ghost use Rattle.slice_scheduler.specs.Servable.{SfidsAscend, IsOfItsKind, AsksWhereItMay, needed, elements_needed};
 ghost use Rattle.slice_scheduler.specs.Tiles.{IsTiled};
 
 /// No flow is granted more than it asks.
@@ -30,4 +31,16 @@ pub fn granted_by_flow()
 /// parameter sets need fits the slice.
 pub fn elements_are_tiled()
     ensures { (policy : Policy) (at : At) (flows : List Flowing) → SfidsAscend flows → needed at flows ≤ at.slice.length → All IsOfItsKind flows → IsTiled (elements_of policy at flows) }
+{}
+
+/// Each span is a flow's, by its SID, or nobody's, by SID 0; each SID that is pending is a flow's.
+pub fn elements_name_flows()
+    ensures spans { (policy : Policy) (at : At) (flows : List Flowing) → All (λ span. (span.sid ≡ 0) ⊎ Contains (map (λ f. f.sid) flows) span.sid) (elements_of policy at flows).spans }
+    ensures pending { (policy : Policy) (at : At) (flows : List Flowing) → All (Contains (map (λ f. f.sid) flows)) (elements_of policy at flows).pending }
+{}
+
+/// A schedule has no more elements than the flows' parameter sets need, and one for what is left of the slice.
+pub fn elements_are_few()
+    ensures { (policy : Policy) (at : At) (flows : List Flowing) → All AsksWhereItMay flows
+        → length (elements_of policy at flows).spans + length (elements_of policy at flows).pending ≤ elements_needed at flows + 1 }
 {}

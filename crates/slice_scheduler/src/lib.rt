@@ -22,7 +22,10 @@ mod tests;
 
 pub use elements::{Elements, ElementsFields};
 pub use flowing::{At, Flowing};
-pub use laws::{base_is_granted, grant_is_within_backlog, elements_are_tiled, granted_by_flow};
+pub use laws::{
+    base_is_granted, elements_are_few, elements_are_tiled, elements_name_flows,
+    grant_is_within_backlog, granted_by_flow,
+};
 pub use lists::{Grants, Sids, Spans};
 pub use planning::schedule;
 pub use served::Served;
