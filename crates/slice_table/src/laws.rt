@@ -11,16 +11,19 @@ ghost use Rattle.slice_table.specs.declared.consts.ConstsFields.{ConstsFields};
 ghost use Rattle.slice_table.specs.declared.operator_row.RowFields.{RowFields};
 ghost use Rattle.slice_table.specs.declared.plant.PlantFields.{PlantFields};
 ghost use Rattle.slice_table.specs.declared.plant_key.Field.{Field};
+ghost use Rattle.slice_table.specs.declared.plant_key.Field.TheVariants.{Flow};
+ghost use Rattle.slice_table.specs.declared.plant_key.Key.{Key};
+ghost use Rattle.slice_table.specs.declared.provision.Provision.{Provision};
 ghost use Rattle.slice_table.specs.declared.plant_key.Place.{Place};
 ghost use Rattle.slice_table.specs.Row.{is_listed};
 ghost use Rattle.slice_table.specs.Plant.{IsPlant};
 ghost use Rattle.slice_table.specs.Roster.{holder};
-ghost use Rattle.slice_table.specs.Tree.{number_at, number_or};
+ghost use Rattle.slice_table.specs.Tree.{at_field, number_at, number_or, modem_of};
 ghost use Rattle.slice_table.specs.ReadConsts.{consts_of};
-ghost use Rattle.slice_table.specs.ReadRows.{slice_at, range_at, policy_at, modems_at, row_read, rows_of};
+ghost use Rattle.slice_table.specs.ReadRows.{slice_at, range_at, policy_at, modems_at, row_read, rows_of, name_at, provisions_if};
 ghost use Rattle.slice_table.specs.ReadPlant.{plant_of};
 ghost use Rattle.slice_table.specs.Checks.{meets, first_meeting, first_named, first_again};
-ghost use Rattle.slice_table.specs.Says.{SaysNumber, SaysNumberOr, SaysSlice, SaysRange, SaysPolicy, SaysModems, SaysConsts, SaysRow, SaysRows, SaysPlant};
+ghost use Rattle.slice_table.specs.Says.{SaysNumber, SaysNumberOr, SaysSlice, SaysRange, SaysPolicy, SaysModems, SaysConsts, SaysRow, SaysRows, SaysPlant, SaysName, IsAddress, SaysProvisions};
 ghost use Rattle.slice_table.specs.First.{IsLeastPair, IsFirst, StandsAgain, Holds};
 
 /// A number is read exactly where it stands under its key, in its range.
@@ -96,4 +99,19 @@ pub fn first_is_named()
 /// The address that is found twice is the first that stood before.
 pub fn first_again_is_named()
     ensures { (modems : List Modem) (modem : Modem) → (first_again [] modems ≡ Some modem) ↔ StandsAgain modems modem }
+{}
+
+/// A name is read exactly where it stands under its key and no operator before has it.
+pub fn name_is_said()
+    ensures { (before : List RowFields) (place : Place) (ms : Members) (name : List ℕ) → (name_at before place ms ≡ Ok name) ↔ SaysName before ms name }
+{}
+
+/// An address is read exactly where its twelve digits stand.
+pub fn address_is_said()
+    ensures { (key : Key) (d : Data) (modem : Modem) → (modem_of key d ≡ Ok modem) ↔ IsAddress d modem }
+{}
+
+/// Provisioned flows are read exactly where the array `flow` says them in turn, or where there is none.
+pub fn provisions_are_said()
+    ensures { (consts : ConstsFields) (operator : ℕ) (modems : List Modem) (ms : Members) (provisions : List Provision) → (provisions_if consts operator modems (at_field Flow ms) ≡ Ok provisions) ↔ SaysProvisions consts modems ms provisions }
 {}

@@ -23,9 +23,10 @@ mod tree;
 pub use class_table::{Class, Classes};
 pub use consts::{Backoffs, Consts, ConstsFields};
 pub use laws::{
-    consts_are_said, default_is_said, first_again_is_named, first_is_named, holder_is_first,
-    least_pair_is_named, modems_are_said, number_is_said, one_operator_lists, plant_is_said,
-    policy_is_said, range_is_said, row_is_said, rows_are_said, slice_is_said,
+    address_is_said, consts_are_said, default_is_said, first_again_is_named, first_is_named,
+    holder_is_first, least_pair_is_named, modems_are_said, name_is_said, number_is_said,
+    one_operator_lists, plant_is_said, policy_is_said, provisions_are_said, range_is_said,
+    row_is_said, rows_are_said, slice_is_said,
 };
 pub use name::OperatorName;
 pub use operator_row::{Modems, OperatorRow, RowFields};

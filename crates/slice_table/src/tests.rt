@@ -220,59 +220,57 @@ fn faults_by_one_change(rt: HostRuntime) -> Result<(), Fail> {
     Ok(())
 }
 
+/// The plant's text with another value under the first key of this name.
+fn with_value(alloc: Global, key: &str, value: &str) -> Result<String, Fail> {
+    let name = format!(in alloc; "\n{key} = ")?;
+    let (head, line) = PLANT.split_once(name.as_str()).ok_or("no key")?;
+    let (_, tail) = line.split_once("\n").ok_or("no line")?;
+    Ok(format!(in alloc; "{head}\n{key} = {value}\n{tail}")?)
+}
+
+/// Checks that the plant may have this value under the first key of this name.
+fn may_be(rt: &impl Abort, alloc: Global, key: &str, value: &str) -> Result<(), Fail> {
+    let text = with_value(alloc, key, value)?;
+    check_text(rt, alloc, text.as_str(), "ok")
+}
+
+/// Checks that a value is bad under a key of the table `plant`.
+fn bad_key(rt: &impl Abort, alloc: Global, key: &str, value: &str) -> Result<(), Fail> {
+    let text = with_value(alloc, key, value)?;
+    let verdict = format!(in alloc; "3 plant.{key}")?;
+    check_text(rt, alloc, text.as_str(), verdict.as_str())
+}
+
+/// Checks that a value is bad under a key of the first operator.
+fn bad_row(rt: &impl Abort, alloc: Global, key: &str, value: &str) -> Result<(), Fail> {
+    let text = with_value(alloc, key, value)?;
+    let verdict = format!(in alloc; "3 operator[0].{key}")?;
+    check_text(rt, alloc, text.as_str(), verdict.as_str())
+}
+
 #[test]
 fn ends_of_the_ranges_of_the_plant(rt: HostRuntime) -> Result<(), Fail> {
     let alloc = rt.alloc();
-    check(&rt, alloc, "= 72", "= 0", "3 plant.frame_minislots")?;
-    check(&rt, alloc, "= 72", "= 4096", "ok")?;
-    check(&rt, alloc, "= 72", "= 4097", "3 plant.frame_minislots")?;
-    check(&rt, alloc, "head = 8", "head = 73", "3 plant.head")?;
+    bad_key(&rt, alloc, "frame_minislots", "0")?;
+    may_be(&rt, alloc, "frame_minislots", "4096")?;
+    bad_key(&rt, alloc, "frame_minislots", "4097")?;
+    bad_key(&rt, alloc, "head", "73")?;
     check(&rt, alloc, "head = 8", "head = 72", "3 operator[0].slice")?;
-    check(&rt, alloc, "= 2000", "= 0", "3 plant.frame_us")?;
-    check(&rt, alloc, "= 2000", "= 1000000", "ok")?;
-    check(&rt, alloc, "= 2000", "= 1000001", "3 plant.frame_us")?;
-    check(&rt, alloc, "= 16", "= 0", "3 plant.bytes_per_minislot")?;
-    check(&rt, alloc, "= 16", "= 65535", "ok")?;
-    check(&rt, alloc, "= 16", "= 65536", "3 plant.bytes_per_minislot")?;
-    check(&rt, alloc, "= 4\n", "= 4096\n", "ok")?;
-    check(&rt, alloc, "= 4\n", "= 4097\n", "3 plant.short_max")?;
-    check(
-        &rt,
-        alloc,
-        "channel = 1",
-        "channel = 256",
-        "3 plant.channel",
-    )?;
-    check(&rt, alloc, "channel = 1", "channel = -1", "3 plant.channel")?;
-    check(&rt, alloc, "ucd_count = 1", "ucd_count = 255", "ok")?;
-    check(
-        &rt,
-        alloc,
-        "ucd_count = 1",
-        "ucd_count = 256",
-        "3 plant.ucd_count",
-    )?;
-    check(
-        &rt,
-        alloc,
-        "ucd_count = 1",
-        "ucd_count = 1.0",
-        "3 plant.ucd_count",
-    )?;
-    check(
-        &rt,
-        alloc,
-        "ucd_count = 1",
-        "ucd_count = true",
-        "3 plant.ucd_count",
-    )?;
-    check(
-        &rt,
-        alloc,
-        "ucd_count = 1",
-        "ucd_count = \"1\"",
-        "3 plant.ucd_count",
-    )?;
+    bad_key(&rt, alloc, "frame_us", "0")?;
+    may_be(&rt, alloc, "frame_us", "1000000")?;
+    bad_key(&rt, alloc, "frame_us", "1000001")?;
+    bad_key(&rt, alloc, "bytes_per_minislot", "0")?;
+    may_be(&rt, alloc, "bytes_per_minislot", "65535")?;
+    bad_key(&rt, alloc, "bytes_per_minislot", "65536")?;
+    may_be(&rt, alloc, "short_max", "4096")?;
+    bad_key(&rt, alloc, "short_max", "4097")?;
+    bad_key(&rt, alloc, "channel", "256")?;
+    bad_key(&rt, alloc, "channel", "-1")?;
+    may_be(&rt, alloc, "ucd_count", "255")?;
+    bad_key(&rt, alloc, "ucd_count", "256")?;
+    bad_key(&rt, alloc, "ucd_count", "1.0")?;
+    bad_key(&rt, alloc, "ucd_count", "true")?;
+    bad_key(&rt, alloc, "ucd_count", "\"1\"")?;
     Ok(())
 }
 
@@ -300,124 +298,78 @@ fn keys_of_the_plant_that_have_defaults(rt: HostRuntime) -> Result<(), Fail> {
 }
 
 #[test]
+fn names_and_slices(rt: HostRuntime) -> Result<(), Fail> {
+    let alloc = rt.alloc();
+    bad_row(&rt, alloc, "name", "\"\"")?;
+    may_be(&rt, alloc, "name", "\"abcdefgh01234567\"")?;
+    bad_row(&rt, alloc, "name", "\"abcdefgh012345678\"")?;
+    bad_row(&rt, alloc, "name", "\"A b\"")?;
+    check(&rt, alloc, "\"B\"", "\"A\"", "3 operator[1].name")?;
+    bad_row(&rt, alloc, "slice", "[7, 32]")?;
+    bad_row(&rt, alloc, "slice", "[8, 0]")?;
+    bad_row(&rt, alloc, "slice", "[8, 32, 1]")?;
+    bad_row(&rt, alloc, "slice", "[8]")?;
+    check(&rt, alloc, "[40, 32]", "[40, 33]", "3 operator[1].slice")?;
+    Ok(())
+}
+
+#[test]
 fn ends_of_the_ranges_of_an_operator(rt: HostRuntime) -> Result<(), Fail> {
     let alloc = rt.alloc();
-    check(&rt, alloc, "\"A\"", "\"\"", "3 operator[0].name")?;
-    check(&rt, alloc, "\"A\"", "\"abcdefgh01234567\"", "ok")?;
-    check(
-        &rt,
-        alloc,
-        "\"A\"",
-        "\"abcdefgh012345678\"",
-        "3 operator[0].name",
-    )?;
-    check(&rt, alloc, "\"A\"", "\"A b\"", "3 operator[0].name")?;
-    check(&rt, alloc, "\"B\"", "\"A\"", "3 operator[1].name")?;
-    check(&rt, alloc, "[8, 32]", "[7, 32]", "3 operator[0].slice")?;
-    check(&rt, alloc, "[8, 32]", "[8, 0]", "3 operator[0].slice")?;
-    check(&rt, alloc, "[8, 32]", "[8, 32, 1]", "3 operator[0].slice")?;
-    check(&rt, alloc, "[40, 32]", "[40, 33]", "3 operator[1].slice")?;
-    check(
-        &rt,
-        alloc,
-        "sfids = [257",
-        "sfids = [0",
-        "3 operator[0].sfids",
-    )?;
-    check(
-        &rt,
-        alloc,
-        "sfids = [257",
-        "sfids = [513",
-        "3 operator[0].sfids",
-    )?;
+    bad_row(&rt, alloc, "sfids", "[0, 512]")?;
+    bad_row(&rt, alloc, "sfids", "[513, 512]")?;
     check(&rt, alloc, ", 768]", ", 4294967295]", "ok")?;
     check(&rt, alloc, ", 768]", ", 4294967296]", "3 operator[1].sfids")?;
-    check(
-        &rt,
-        alloc,
-        "\nsids = [257",
-        "\nsids = [0",
-        "3 operator[0].sids",
-    )?;
+    bad_row(&rt, alloc, "sids", "[0, 272]")?;
     check(&rt, alloc, ", 528]", ", 8191]", "ok")?;
     check(&rt, alloc, ", 528]", ", 8192]", "3 operator[1].sids")?;
-    check(
-        &rt,
-        alloc,
-        "flows = 4",
-        "flows = 1025",
-        "3 operator[0].flows",
-    )?;
-    check(
-        &rt,
-        alloc,
-        "transactions = 4",
-        "transactions = 257",
-        "3 operator[0].transactions",
-    )?;
-    check(
-        &rt,
-        alloc,
-        "inbox = 4",
-        "inbox = 257",
-        "3 operator[0].inbox",
-    )?;
-    check(
-        &rt,
-        alloc,
-        "budget = 32",
-        "budget = 4097",
-        "3 operator[0].budget",
-    )?;
-    check(
-        &rt,
-        alloc,
-        "elements = 8",
-        "elements = 236",
-        "3 operator[0].elements",
-    )?;
+    bad_row(&rt, alloc, "flows", "0")?;
+    may_be(&rt, alloc, "flows", "1024")?;
+    bad_row(&rt, alloc, "flows", "1025")?;
+    bad_row(&rt, alloc, "transactions", "0")?;
+    may_be(&rt, alloc, "transactions", "256")?;
+    bad_row(&rt, alloc, "transactions", "257")?;
+    bad_row(&rt, alloc, "inbox", "0")?;
+    may_be(&rt, alloc, "inbox", "256")?;
+    bad_row(&rt, alloc, "inbox", "257")?;
+    may_be(&rt, alloc, "budget", "0")?;
+    bad_row(&rt, alloc, "budget", "4097")?;
+    may_be(&rt, alloc, "elements", "0")?;
+    bad_row(&rt, alloc, "elements", "236")?;
     Ok(())
 }
 
 #[test]
 fn policies_and_modems(rt: HostRuntime) -> Result<(), Fail> {
     let alloc = rt.alloc();
-    check(&rt, alloc, "\"strict\"", "\"short\"", "ok")?;
-    check(&rt, alloc, "\"strict\"", "\"strict\"\nstep = 0", "ok")?;
+    may_be(&rt, alloc, "policy", "\"short\"")?;
+    may_be(&rt, alloc, "policy", "\"strict\"\nstep = 0")?;
+    may_be(&rt, alloc, "policy", "\"aged\"\nstep = 255")?;
+    bad_row(&rt, alloc, "policy", "\"\"")?;
+    let aged = "\"aged\"\nstep = ";
     check(&rt, alloc, "\"strict\"", "\"aged\"", "2 operator[0].step")?;
+    let zero = format!(in alloc; "{aged}0")?;
     check(
         &rt,
         alloc,
         "\"strict\"",
-        "\"aged\"\nstep = 0",
+        zero.as_str(),
         "3 operator[0].step",
     )?;
-    check(&rt, alloc, "\"strict\"", "\"aged\"\nstep = 255", "ok")?;
+    let many = format!(in alloc; "{aged}256")?;
     check(
         &rt,
         alloc,
         "\"strict\"",
-        "\"aged\"\nstep = 256",
+        many.as_str(),
         "3 operator[0].step",
     )?;
-    check(&rt, alloc, "\"020000000003\"", "\"02000000000a\"", "ok")?;
-    check(&rt, alloc, "\"020000000003\"", "", "3 operator[1].modems")?;
-    check(
-        &rt,
-        alloc,
-        "\"020000000003\"",
-        "\"02000000000\"",
-        "3 operator[1].modems",
-    )?;
-    check(
-        &rt,
-        alloc,
-        "\"020000000003\"",
-        "\"02000000000g\"",
-        "3 operator[1].modems",
-    )?;
-    check(&rt, alloc, "\"020000000003\"", "3", "3 operator[1].modems")?;
+    may_be(&rt, alloc, "modems", "[\"02000000000a\"]")?;
+    bad_row(&rt, alloc, "modems", "[]")?;
+    bad_row(&rt, alloc, "modems", "[\"02000000000\"]")?;
+    bad_row(&rt, alloc, "modems", "[\"02000000000g\"]")?;
+    bad_row(&rt, alloc, "modems", "[3]")?;
+    bad_row(&rt, alloc, "modems", "3")?;
     Ok(())
 }
 
@@ -440,64 +392,41 @@ fn arrays_of_tables(rt: HostRuntime) -> Result<(), Fail> {
 }
 
 #[test]
-fn the_first_of_two_faults(rt: HostRuntime) -> Result<(), Fail> {
+fn the_first_key_of_two_at_fault(rt: HostRuntime) -> Result<(), Fail> {
     let alloc = rt.alloc();
     let late = ("short_max = 4\n", "short_max = 4097\n");
-    check_both(
-        &rt,
-        alloc,
-        ("frame_us = 2000\n", ""),
-        late,
-        "2 plant.frame_us",
-    )?;
-    check_both(&rt, alloc, ("head = 8", "head = 73"), late, "3 plant.head")?;
+    let none = ("frame_us = 2000\n", "");
+    check_both(&rt, alloc, none, late, "2 plant.frame_us")?;
+    let head = ("head = 8", "head = 73");
+    check_both(&rt, alloc, head, none, "3 plant.head")?;
     let policy = ("\"strict\"", "\"first\"");
-    let class = ("[plant]", "class = [{}]\n[plant]");
     check_both(&rt, alloc, policy, late, "3 plant.short_max")?;
+    let class = ("[plant]", "class = [{}]\n[plant]");
     check_both(&rt, alloc, policy, class, "2 class[0].name")?;
-    check_both(
-        &rt,
-        alloc,
-        policy,
-        ("00002\"", "0000\""),
-        "3 operator[0].policy",
-    )?;
-    check_both(
-        &rt,
-        alloc,
-        policy,
-        ("name = \"B\"", ""),
-        "3 operator[0].policy",
-    )?;
+    let modems = ("00002\"", "0000\"");
+    check_both(&rt, alloc, policy, modems, "3 operator[0].policy")?;
+    let name = ("name = \"B\"", "");
+    check_both(&rt, alloc, modems, name, "3 operator[0].modems")?;
     let meet = ("[40, 32]", "[39, 32]");
-    check_both(
-        &rt,
-        alloc,
-        meet,
-        (
-            "\"strict\"\nmodems = [\"020000000003",
-            "\"last\"\nmodems = [\"020000000003",
-        ),
-        "3 operator[1].policy",
-    )?;
-    check_both(&rt, alloc, meet, ("[513, 528]", "[257, 528]"), "4 A B")?;
-    check_both(
-        &rt,
-        alloc,
-        ("[513, 768]", "[257, 768]"),
-        ("[513, 528]", "[257, 528]"),
-        "5 A B",
-    )?;
-    check_both(
-        &rt,
-        alloc,
-        ("[513, 768]", "[257, 768]"),
-        ("00003", "00001"),
-        "6 A B",
-    )?;
+    check_both(&rt, alloc, meet, name, "2 operator[1].name")?;
+    Ok(())
+}
+
+#[test]
+fn the_first_of_two_faults_of_all_keys(rt: HostRuntime) -> Result<(), Fail> {
+    let alloc = rt.alloc();
+    let slices = ("[40, 32]", "[39, 32]");
+    let sids = ("[513, 528]", "[257, 528]");
+    let sfids = ("[513, 768]", "[257, 768]");
+    let twice = ("00003", "00001");
     let many = ("elements = 8", "elements = 226");
-    check_both(&rt, alloc, many, ("00003", "00001"), "7 020000000001")?;
-    check_both(&rt, alloc, many, ("budget = 32", "budget = 33"), "8 241")?;
+    let budget = ("budget = 32", "budget = 33");
+    check_both(&rt, alloc, slices, sids, "4 A B")?;
+    check_both(&rt, alloc, sfids, sids, "5 A B")?;
+    check_both(&rt, alloc, sfids, twice, "6 A B")?;
+    check_both(&rt, alloc, many, twice, "7 020000000001")?;
+    check_both(&rt, alloc, many, budget, "8 241")?;
+    check_two(&rt, alloc, "0601030a0400200b20", budget, "9 A")?;
     Ok(())
 }
 
