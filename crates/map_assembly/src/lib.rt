@@ -5,6 +5,8 @@ mod assembling;
 mod checking;
 mod element;
 mod gather;
+#[cfg(test)]
+mod gather_tests;
 mod layout;
 mod map_bytes;
 mod queue;
