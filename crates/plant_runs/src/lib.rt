@@ -2,6 +2,8 @@
 //! `plant_core` carries them out.
 #![tactic(auto)]
 
+mod laws;
 mod step;
 
+pub use laws::two_worlds;
 pub use step::{Out, SliceRows, Step};
