@@ -3,3 +3,7 @@ pub mod TwoRuns
 pub mod OwnRuns
 pub mod OwnActions
 pub mod Books
+pub mod Answers
+pub mod Moving
+pub mod Following
+pub mod Numbers
