@@ -7,3 +7,6 @@ pub mod Answers
 pub mod Moving
 pub mod Following
 pub mod Numbers
+pub mod Kept
+pub mod InOrder
+pub mod Waiting
