@@ -10,3 +10,4 @@ pub mod Numbers
 pub mod Kept
 pub mod InOrder
 pub mod Waiting
+pub mod Plain
