@@ -11,3 +11,5 @@ pub mod Kept
 pub mod InOrder
 pub mod Waiting
 pub mod Plain
+pub mod Opening
+pub mod Slices

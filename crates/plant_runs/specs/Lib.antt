@@ -4,3 +4,4 @@ pub mod Ordered
 pub mod Reached
 pub mod TwoWorlds
 pub mod Steps
+pub mod Opened
