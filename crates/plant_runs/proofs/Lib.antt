@@ -13,3 +13,4 @@ pub mod Waiting
 pub mod Plain
 pub mod Opening
 pub mod Slices
+pub mod Collected
