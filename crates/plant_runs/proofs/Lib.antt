@@ -14,3 +14,5 @@ pub mod Plain
 pub mod Opening
 pub mod Slices
 pub mod Collected
+pub mod Making
+pub mod Collecting
