@@ -16,3 +16,4 @@ pub mod Slices
 pub mod Collected
 pub mod Making
 pub mod Collecting
+pub mod OneStep
