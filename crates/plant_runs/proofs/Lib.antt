@@ -17,3 +17,4 @@ pub mod Collected
 pub mod Making
 pub mod Collecting
 pub mod OneStep
+pub mod Runs

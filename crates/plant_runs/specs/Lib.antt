@@ -5,3 +5,4 @@ pub mod Reached
 pub mod TwoWorlds
 pub mod Steps
 pub mod Opened
+pub mod Run

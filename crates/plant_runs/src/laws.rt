@@ -8,6 +8,7 @@ ghost use Rattle.plant_runs.specs.declared.step.Step.{Step};
 ghost use Rattle.plant_runs.specs.declared.step.Out.{Out};
 ghost use Rattle.plant_runs.specs.Reached.{CoreView, Reached};
 ghost use Rattle.plant_runs.specs.Opened.{opened_core};
+ghost use Rattle.plant_runs.specs.Run.{IsRun};
 ghost use Rattle.plant_runs.specs.Steps.{Steps};
 ghost use Rattle.plant_runs.specs.TwoWorlds.{TwoWorlds};
 
@@ -28,4 +29,10 @@ pub fn opened_is_reached()
 pub fn step_is_reached()
     ensures { (plant : PlantFields) (before : List Step) (outs : List Out) (step : Step) (old new : CoreView) (now : List Out) → IsPlant plant → Reached plant before outs old → IsGathering old.gathering → Steps step old new now
         → Reached plant (before ++ step ∷ []) (outs ++ now) new }
+{}
+
+/// Whatever steps are done to an opened core, one after the other, the core is as it is after them, and the run shows to each
+/// operator its own machine run alone.
+pub fn run_is_reached()
+    ensures { (plant : PlantFields) (steps : List Step) (outs : List Out) (core : CoreView) → IsPlant plant → IsRun steps (opened_core plant) core outs → Reached plant steps outs core }
 {}
