@@ -1,5 +1,5 @@
 -- What a step makes of an operator's book and of what it has put out.
-use Rattle.std.proofs.Common.{◌≡◌, ℕ, List, [], ◌∷◌, ◌++◌, map, Option, Some, None, append-nil, refl, sym, ap, ◌∙◌, subst}
+use Rattle.std.proofs.Common.{◌≡◌, ℕ, List, [], ◌∷◌, ◌++◌, Option, Some, None, append-nil, refl, sym, ap, ◌∙◌, subst}
 use Rattle.std.proofs.lemmas.List.{map-append}
 use Rattle.slice_table.specs.declared.consts.ConstsFields.{ConstsFields}
 use Rattle.slice_table.specs.declared.operator_row.RowFields.{RowFields}
@@ -7,11 +7,10 @@ use Rattle.slice_table.specs.declared.plant.PlantFields.{PlantFields}
 use Rattle.operator_machine.specs.declared.action.Action.{Action}
 use Rattle.operator_machine.specs.declared.action.Entry.{Entry}
 use Rattle.operator_machine.specs.declared.output.Output.{Output}
-use Rattle.operator_machine.specs.State.{OperatorState}
 use Rattle.operator_machine.specs.Machine.{own_step, IsAllowed}
 use Rattle.operator_machine.specs.Replay.{BookView, IsReplay, actions_of, acted}
 use Rattle.plant_runs.specs.declared.step.Step.{Step}
-use Rattle.plant_runs.specs.OwnSteps.{action_of, own_steps}
+use Rattle.plant_runs.specs.OwnSteps.{action_of}
 use Rattle.plant_runs.specs.Shown.{alone}
 use Rattle.plant_runs.specs.Reached.{IsBookAfter}
 use Rattle.plant_runs.proofs.OwnRuns.{own_more, own_same, alone_same, alone_state, alone_outputs, replay_push}
@@ -31,7 +30,7 @@ module _ (plant : PlantFields) (steps : List Step) (step : Step) (i : ℕ) (row 
   book_more action e moves =
       let made : new ≡ acted book action = moves.1 in
       let told : (own_step book.consts book.row book.state action).state ≡ (alone plant.consts row i (steps ++ step ∷ [])).state =
-          ap (λ r. r.state) (step_alone action) ∙ sym (alone_state plant.consts row i steps step action e) in
+      ap (λ r. r.state) (step_alone action) ∙ sym (alone_state plant.consts row i steps step action e) in
       record {
         row_is = ap (λ (b : BookView). b.row) made ∙ is.row_is;
         consts_are = ap (λ (b : BookView). b.consts) made ∙ is.consts_are;

@@ -1,15 +1,14 @@
 -- The frames that are collected, once one more is.
-use Rattle.std.proofs.Common.{◌≡◌, ℕ, zero, suc, ◌+◌, ◌-◌, ◌<◌, ◌≤◌, min, Bool, true, false, cond, List, [], ◌∷◌, ◌++◌, length, map, take, drop, get_or, Option, Some, None, ◌⊎◌, inl, inr, refl, sym, ap, ◌∙◌, subst, arith}
+use Rattle.std.proofs.Common.{◌≡◌, ℕ, zero, suc, ◌+◌, ◌-◌, ◌<◌, ◌≤◌, cond, List, [], ◌∷◌, ◌++◌, length, map, take, drop, get_or, Option, Some, None, ◌⊎◌, inl, inr, refl, sym, ap, ◌∙◌, subst, arith}
 use Rattle.std.specs.Prelude.{◌==◌, slice_get, slice_set}
 use Rattle.std.proofs.lemmas.Bool.{cases_eq, eq-eqb, ne_eqb}
-use Rattle.std.proofs.lemmas.List.{length-set, length-map, length-drop, length-take, length-take-le, map-append, drop-append-le, drop-drop, drop-map, drop_more, take_more}
+use Rattle.std.proofs.lemmas.List.{length-map, length-drop, length-take-le, map-append, drop-append-le, drop-drop, drop-map, drop_more, take_more}
 use Rattle.std.proofs.lemmas.Option.{none-some, same_Some, slice_get_within, slice_get-get_or}
 use Rattle.slice_scheduler.specs.declared.elements.ElementsFields.{ElementsFields}
 use Rattle.slice_table.specs.declared.operator_row.RowFields.{RowFields}
 use Rattle.slice_table.specs.declared.plant.PlantFields.{PlantFields}
-use Rattle.operator_machine.specs.declared.output.Output.{Output}
 use Rattle.operator_machine.specs.Handle.{Ran}
-use Rattle.map_assembly.specs.Gathering.{Gathering, queue_of, with_part}
+use Rattle.map_assembly.specs.Gathering.{queue_of, with_part}
 use Rattle.plant_runs.specs.declared.step.Step.{Step}
 use Rattle.plant_runs.specs.declared.step.Step.TheVariants as steps
 use Rattle.plant_runs.specs.declared.step.Out.{Out}
@@ -138,14 +137,14 @@ module _ (plant : PlantFields) (before : List Step) (outs : List Out) (k : ℕ) 
       by : (i ≡ k) ⊎ (i ≡ k → ⊥) → AreFramesAfter plant (then_collected plant before k) (length (maps_in outs)) i row waiting put
       by (inl same) =
           let queues : slice_get new.queues i ≡ Some collects.waiting =
-              ap (λ (c : CoreView). slice_get c.queues i) collects.new_is
-              ∙ (ap (slice_get (slice_set old.queues k collects.waiting)) same ∙ get_same old.queues k collects.waiting (slice_get_within old.queues k ((collects.frame, collects.part) ∷ collects.waiting) collects.waiting_is)) in
+          ap (λ (c : CoreView). slice_get c.queues i) collects.new_is
+          ∙ (ap (slice_get (slice_set old.queues k collects.waiting)) same ∙ get_same old.queues k collects.waiting (slice_get_within old.queues k ((collects.frame, collects.part) ∷ collects.waiting) collects.waiting_is)) in
           let puts : slice_get with_it i ≡ Some (queue_of old.gathering.queues k ++ collects.part ∷ []) =
-              ap (slice_get with_it) same ∙ get_same old.gathering.queues k (queue_of old.gathering.queues k ++ collects.part ∷ []) k_within in
+          ap (slice_get with_it) same ∙ get_same old.gathering.queues k (queue_of old.gathering.queues k ++ collects.part ∷ []) k_within in
           subst (λ (w : List Numbered). AreFramesAfter plant (then_collected plant before k) (length (maps_in outs)) i row w put) (same_at new.queues i collects.waiting waiting queues f)
           (subst (λ (p : List ElementsFields). AreFramesAfter plant (then_collected plant before k) (length (maps_in outs)) i row collects.waiting p) (same_at with_it i (queue_of old.gathering.queues k ++ collects.part ∷ []) put puts g)
           (frames_here plant before k (length (maps_in outs)) i row collects.waiting (collects.frame, collects.part) (queue_of old.gathering.queues k) same
-              (reached.shown.maps.count.at_most i (slice_get_within plant.rows i row e)) (here_before i row e same)))
+          (reached.shown.maps.count.at_most i (slice_get_within plant.rows i row e)) (here_before i row e same)))
       by (inr other) =
           let queues : slice_get old.queues i ≡ Some waiting = sym (ap (λ (c : CoreView). slice_get c.queues i) collects.new_is ∙ get_other old.queues k i collects.waiting other) ∙ f in
           let puts : slice_get old.gathering.queues i ≡ Some put = sym (get_other old.gathering.queues k i (queue_of old.gathering.queues k ++ collects.part ∷ []) other) ∙ g in
@@ -157,6 +156,7 @@ module _ (plant : PlantFields) (before : List Step) (outs : List Out) (k : ℕ) 
     where
       long : length (frames_of (alone plant.consts row i (then_collected plant before k)).outputs) ≡ length (frames_of (alone plant.consts row i before).outputs)
       long = ap (λ (r : Ran). length (frames_of r.outputs)) (alone_collected plant before k i row)
+
       by : (i ≡ k) ⊎ (i ≡ k → ⊥) → collects_of i (then_collected plant before k) ≤ length (frames_of (alone plant.consts row i (then_collected plant before k)).outputs)
       by (inl same) =
           let more = count_here plant before k i same in

@@ -1,5 +1,5 @@
 -- A run is one of one step more, where that step collects a frame.
-use Rattle.std.proofs.Common.{◌≡◌, ℕ, ◌+◌, Bool, true, false, cond, List, [], ◌∷◌, ◌++◌, length, map, drop, All, Option, Some, None, append-nil, option_map, refl, sym, ap, ◌∙◌, subst, arith}
+use Rattle.std.proofs.Common.{◌≡◌, ℕ, ◌+◌, false, List, [], ◌∷◌, ◌++◌, length, map, drop, All, Option, Some, None, append-nil, option_map, refl, sym, ap, ◌∙◌, subst, arith}
 use Rattle.std.specs.Prelude.{slice_get}
 use Rattle.std.proofs.lemmas.Bool.{cond-true}
 use Rattle.std.proofs.lemmas.List.{length-set, length-map, length_push}
@@ -9,7 +9,7 @@ use Rattle.slice_scheduler.specs.declared.elements.ElementsFields.{ElementsField
 use Rattle.slice_table.specs.declared.operator_row.RowFields.{RowFields}
 use Rattle.slice_table.specs.declared.plant.PlantFields.{PlantFields}
 use Rattle.map_assembly.specs.declared.map_bytes.MapBytes.{MapBytes}
-use Rattle.map_assembly.specs.Gathering.{Gathering, queue_of, with_part, is_last, after_put, IsGathering}
+use Rattle.map_assembly.specs.Gathering.{Gathering, queue_of, is_last, IsGathering}
 use Rattle.map_assembly.specs.Assembled.{IsAnswer}
 use Rattle.map_assembly.proofs.StateLemmas.{after_other}
 use Rattle.plant_runs.specs.declared.step.Step.{Step}
@@ -100,8 +100,8 @@ module _ (plant : PlantFields) (before : List Step) (outs : List Out) (k : ℕ) 
       let least : IsLeast plant after (length (maps_in outs) + 1) = least_made plant before outs k now old new reached collects is answer.0 in
       let long : length (maps_in outs ++ made ∷ []) ≡ length (maps_in outs) + 1 = length_push (maps_in outs) made in
       let gathering : new.gathering ≡ record old.gathering { queues = map (λ (queue : List ElementsFields). drop 1 queue) queues; next = old.gathering.next + 1 } =
-          ap (λ (c : CoreView). c.gathering) collects.new_is
-          ∙ cond-true (is_last old.gathering k collects.part) (record old.gathering { queues = map (λ (queue : List ElementsFields). drop 1 queue) queues; next = old.gathering.next + 1 }) (record old.gathering { queues = queues }) answer.0 in
+      ap (λ (c : CoreView). c.gathering) collects.new_is
+      ∙ cond-true (is_last old.gathering k collects.part) (record old.gathering { queues = map (λ (queue : List ElementsFields). drop 1 queue) queues; next = old.gathering.next + 1 }) (record old.gathering { queues = queues }) answer.0 in
       gathered_reached (maps_in outs ++ made ∷ []) (ap (λ (os : List Out). maps_in (outs ++ os)) one ∙ filter_map-append map_in outs (out.Map made ∷ []))
       (record {
         frames = frames_pushed plant before outs k now old new reached collects is made answer.0 answer.1 answer.2 answer.3;
@@ -109,10 +109,10 @@ module _ (plant : PlantFields) (before : List Step) (outs : List Out) (k : ℕ) 
         each = All-push (IsMapIn plant after) (maps_in outs) made maps_on (made_in plant before outs k now old new reached collects is made answer.0 answer.1 answer.2 answer.3);
       })
       (λ i row waiting put e f g.
-          let queue = first_dropped queues i put (ap (λ (h : Gathering). slice_get h.queues i) (sym gathering) ∙ g) in
-          subst (λ (n : ℕ). AreFramesAfter plant after n i row waiting put) (sym long)
-          (subst (λ (p : List ElementsFields). AreFramesAfter plant after (length (maps_in outs) + 1) i row waiting p) queue.2
-          (frames_made plant before k (length (maps_in outs)) i row waiting queue.0 (frames_put plant before outs k now old new reached collects i row waiting queue.0 e f queue.1))))
+      let queue = first_dropped queues i put (ap (λ (h : Gathering). slice_get h.queues i) (sym gathering) ∙ g) in
+      subst (λ (n : ℕ). AreFramesAfter plant after n i row waiting put) (sym long)
+      (subst (λ (p : List ElementsFields). AreFramesAfter plant after (length (maps_in outs) + 1) i row waiting p) queue.2
+      (frames_made plant before k (length (maps_in outs)) i row waiting queue.0 (frames_put plant before outs k now old new reached collects i row waiting queue.0 e f queue.1))))
       (subst (IsCollected plant before after) (sym one) (λ n is_least. subst (λ (m : ℕ). IsLeast plant after (m + 1)) (one_least plant before (length (maps_in outs)) n reached.shown.maps.count is_least) least))
       (ap (λ (h : Gathering). h.layout) gathering) (ap (λ (h : Gathering). h.shares) gathering) (ap (λ (h : Gathering). length h.queues) gathering ∙ length-map queues (λ (queue : List ElementsFields). drop 1 queue))
       (ap (λ (h : Gathering). h.next) gathering ∙ omega (arith, reached.gathered.next_is, long))

@@ -1,21 +1,19 @@
 -- The MAPs of a run stay MAPs of it after one step more.
-use Rattle.std.proofs.Common.{◌≡◌, ℕ, zero, suc, ◌+◌, ◌<◌, ◌≤◌, Bool, true, false, cond, List, [], ◌∷◌, ◌++◌, length, map, count_by, Option, Some, None, append-nil, refl, sym, ap, ◌∙◌, subst, arith}
-use Rattle.std.specs.Prelude.{◌==◌, slice_get}
-use Rattle.std.specs.List.{All, range_with_len}
+use Rattle.std.proofs.Common.{◌≡◌, ℕ, ◌+◌, false, cond, List, [], ◌∷◌, ◌++◌, length, Some, append-nil, refl, sym, ap, ◌∙◌, subst, arith}
+use Rattle.std.specs.Prelude.{slice_get}
 use Rattle.std.proofs.lemmas.List.Sums.{sum_by_push}
 use Rattle.std.proofs.lemmas.List.Elements.{filter_map-append, All-weaker}
 use Rattle.slice_scheduler.specs.declared.elements.ElementsFields.{ElementsFields}
 use Rattle.slice_table.specs.declared.operator_row.RowFields.{RowFields}
 use Rattle.slice_table.specs.declared.plant.PlantFields.{PlantFields}
-use Rattle.operator_machine.specs.declared.output.Output.{Output}
 use Rattle.map_assembly.specs.declared.map_bytes.MapBytes.{MapBytes}
 use Rattle.plant_runs.specs.declared.step.Step.{Step}
 use Rattle.plant_runs.specs.declared.step.Out.{Out}
 use Rattle.plant_runs.specs.OwnSteps.{answers_of, maps_in, map_in, is_collect, collects_of}
-use Rattle.plant_runs.specs.Shown.{alone, elements_in, ArePartsAt, IsMapIn, IsLeast, AreMaps}
+use Rattle.plant_runs.specs.Shown.{alone, elements_in, IsMapIn, IsLeast, AreMaps}
 use Rattle.plant_runs.specs.Reached.{frames_of, numbered}
 use Rattle.plant_runs.proofs.Following.{EachTells}
-use Rattle.plant_runs.proofs.Numbers.{are_numbered, AreNumbered, of_number, elements_are, number_kept, Numbered}
+use Rattle.plant_runs.proofs.Numbers.{are_numbered, AreNumbered, of_number, elements_are, number_kept}
 
 -- ---- frames
 
@@ -31,8 +29,8 @@ part_kept plant before step now tells i row e frame part is =
     elements_are frame (alone plant.consts row i (before ++ step ∷ [])).outputs
     ∙ (ap (of_number frame) all
     ∙ number_kept frame plant.consts.first_frame (frames_of (alone plant.consts row i before).outputs) (frames_of (answers_of i now)) part
-        (subst (AreNumbered plant.consts.first_frame) all (are_numbered plant.consts row i (before ++ step ∷ [])))
-        (sym (elements_are frame (alone plant.consts row i before).outputs) ∙ is))
+    (subst (AreNumbered plant.consts.first_frame) all (are_numbered plant.consts row i (before ++ step ∷ [])))
+    (sym (elements_are frame (alone plant.consts row i before).outputs) ∙ is))
 
 pub map_kept : (plant : PlantFields) (before : List Step) (step : Step) (now : List Out) → EachTells plant before step now → (made : MapBytes) → IsMapIn plant before made → IsMapIn plant (before ++ step ∷ []) made
 map_kept plant before step now tells made is = record {

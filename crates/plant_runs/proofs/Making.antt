@@ -1,34 +1,30 @@
 -- The MAPs after a collection, which may make one.
-use Rattle.std.proofs.Common.{◌≡◌, ℕ, zero, suc, ◌+◌, ◌-◌, ◌<◌, ◌≤◌, Bool, true, false, List, [], ◌∷◌, ◌++◌, length, map, take, drop, Option, Some, None, refl, sym, ap, ◌∙◌, subst, arith}
-use Rattle.std.specs.Prelude.{slice_get, slice_set}
-use Rattle.std.specs.List.{All, range_with_len}
+use Rattle.std.proofs.Common.{◌≡◌, ℕ, zero, suc, ◌+◌, ◌-◌, true, false, List, [], ◌∷◌, ◌++◌, length, map, take, drop, Some, refl, sym, ap, ◌∙◌, subst, arith}
+use Rattle.std.specs.Prelude.{slice_get}
+use Rattle.std.specs.List.{range_with_len}
 use Rattle.std.proofs.lemmas.List.{length-set, length_push, map_push}
-use Rattle.std.proofs.lemmas.List.Elements.{All-weaker, All-push}
 use Rattle.std.proofs.lemmas.Option.{slice_get_within}
 use Rattle.slice_scheduler.specs.Minislots.{Minislots}
 use Rattle.slice_scheduler.specs.declared.elements.ElementsFields.{ElementsFields}
-use Rattle.slice_table.specs.declared.operator_row.RowFields.{RowFields}
 use Rattle.slice_table.specs.declared.plant.PlantFields.{PlantFields}
-use Rattle.operator_machine.specs.Handle.{Ran}
 use Rattle.map_assembly.specs.declared.layout.MapLayout.{MapLayout}
 use Rattle.map_assembly.specs.declared.map_bytes.MapBytes.{MapBytes}
 use Rattle.map_assembly.specs.declared.share.Share.{Share}
-use Rattle.map_assembly.specs.Map.{layout_of}
 use Rattle.map_assembly.specs.Part.{share_of}
-use Rattle.map_assembly.specs.Gathering.{Gathering, queue_of, with_part, is_whole, fronts, is_last, frame_slices, frame_parts, IsGathering}
+use Rattle.map_assembly.specs.Gathering.{queue_of, is_last, frame_slices, frame_parts, IsGathering}
 use Rattle.map_assembly.specs.Assembled.{IsMapOf}
 use Rattle.map_assembly.proofs.LastLemmas.{length-fronts}
 use Rattle.map_assembly.proofs.StateLemmas.{is_put, last_is_first}
 use Rattle.plant_runs.specs.declared.step.Step.{Step}
 use Rattle.plant_runs.specs.declared.step.Out.{Out}
 use Rattle.plant_runs.specs.OwnSteps.{maps_in, collects_of}
-use Rattle.plant_runs.specs.Shown.{alone, elements_in, ArePartsAt, IsMapIn, IsLeast, AreMaps}
+use Rattle.plant_runs.specs.Shown.{alone, ArePartsAt, IsMapIn, IsLeast}
 use Rattle.plant_runs.specs.Reached.{CoreView, frames_of, Reached}
 use Rattle.plant_runs.specs.Steps.{Collects}
 use Rattle.plant_runs.proofs.Entries.{some_at}
 use Rattle.plant_runs.proofs.Numbers.{are_numbered, elements_are, of_number, found_at}
 use Rattle.plant_runs.proofs.Slices.{is_front, some_put, none_put, parts_slices}
-use Rattle.plant_runs.proofs.Collected.{parts_in, then_collected, alone_collected, count_here, count_grows, put_length, first_put, with_it, k_within, here_before, frames_put, still_within}
+use Rattle.plant_runs.proofs.Collected.{parts_in, then_collected, count_here, count_grows, put_length, first_put, with_it, k_within, here_before, frames_put, still_within}
 
 range_push : (from count : ℕ) → range_with_len from count ++ (from + count) ∷ [] ≡ range_with_len from (count + 1)
 range_push from zero = let e : from + 0 ≡ from = omega arith in ap (λ (n : ℕ). n ∷ []) e
@@ -59,7 +55,7 @@ module _ (plant : PlantFields) (before : List Step) (outs : List Out) (k : ℕ) 
       let are = frames_put plant before outs k now old new reached collects i row.0 waiting.0 put row.1 waiting.1 e in
       ap length are.put_are
       ∙ put_length count_made (collects_of i (then_collected plant before k)) (frames_of (alone plant.consts row.0 i (then_collected plant before k)).outputs)
-          (still_within plant before outs k now old new reached collects i row.0 row.1)
+      (still_within plant before outs k now old new reached collects i row.0 row.1)
 
   -- where it is not the last part of its frame, as many MAPs are made
   pub least_waits : is_last old.gathering k collects.part ≡ false → IsLeast plant (then_collected plant before k) count_made
@@ -129,7 +125,7 @@ module _ (plant : PlantFields) (before : List Step) (outs : List Out) (k : ℕ) 
               (subst (λ (n : ℕ). IsMapOf old.gathering.layout n (map share_of plant.rows) (map (λ (p : ElementsFields). p.slice) parts) parts made.bytes) (sym frame_is)
               (subst (λ (ss : List Share). IsMapOf old.gathering.layout collects.frame ss (map (λ (p : ElementsFields). p.slice) parts) parts made.bytes) reached.gathered.shares_are
               (subst (λ (ms : List Minislots). IsMapOf old.gathering.layout collects.frame old.gathering.shares ms parts made.bytes)
-                  (sym (parts_slices old.gathering k collects.frame collects.part is collects.fits whole)) map_is)));
+              (sym (parts_slices old.gathering k collects.frame collects.part is collects.fits whole)) map_is)));
         }
 
     pub frames_pushed : map (λ m. m.frame) (maps_in outs ++ made ∷ []) ≡ range_with_len plant.consts.first_frame (length (maps_in outs ++ made ∷ []))

@@ -1,19 +1,15 @@
 -- A core as it is opened is what it is after no step.
-use Rattle.std.proofs.Common.{◌≡◌, ℕ, zero, suc, ◌+◌, ◌<◌, ◌≤◌, List, [], ◌∷◌, length, map, replicate, Option, Some, None, option_map, refl, sym, ap, ◌∙◌, subst, arith}
+use Rattle.std.proofs.Common.{◌≡◌, ℕ, zero, suc, List, [], length, replicate, Option, Some, None, option_map, refl, sym, ap, ◌∙◌, subst, arith}
 use Rattle.std.specs.Prelude.{slice_get}
 use Rattle.std.proofs.lemmas.List.{length-map, length-replicate}
 use Rattle.std.proofs.lemmas.List.Elements.{All-nil}
 use Rattle.std.proofs.lemmas.Option.{slice_get-map, same_Some, none-some}
-use Rattle.slice_scheduler.specs.declared.elements.ElementsFields.{ElementsFields}
-use Rattle.slice_table.specs.declared.consts.ConstsFields.{ConstsFields}
 use Rattle.slice_table.specs.declared.operator_row.RowFields.{RowFields}
 use Rattle.slice_table.specs.declared.plant.PlantFields.{PlantFields}
 use Rattle.slice_table.specs.Plant.{IsPlant}
-use Rattle.operator_machine.specs.Replay.{BookView}
 use Rattle.plant_runs.specs.Shown.{IsMapIn}
-use Rattle.plant_runs.specs.Reached.{IsBookAfter, AreFramesAfter, Reached}
+use Rattle.plant_runs.specs.Reached.{IsBookAfter, Reached}
 use Rattle.plant_runs.specs.Opened.{opened_book, opened_core}
-use Rattle.plant_runs.proofs.Numbers.{Numbered}
 
 none_there : {X : Type 0} (n i : ℕ) (xs : List X) → slice_get (replicate n []) i ≡ Some xs → xs ≡ []
 none_there zero i xs e = let f : ◌≡◌ {A = Option _} None (Some xs) = e in absurd (none-some xs f)
@@ -39,7 +35,7 @@ opened_reached plant is = record {
   one_queue = length-replicate (length plant.rows) [];
   books = λ i row book e f.
       let there : opened_book plant.consts row ≡ book =
-          same_Some (opened_book plant.consts row) book (sym (slice_get-map (opened_book plant.consts) plant.rows i ∙ ap (option_map (opened_book plant.consts)) e) ∙ f) in
+      same_Some (opened_book plant.consts row) book (sym (slice_get-map (opened_book plant.consts) plant.rows i ∙ ap (option_map (opened_book plant.consts)) e) ∙ f) in
       subst (IsBookAfter plant [] i row) there (book_opened plant i row);
   frames = λ i row waiting put e f g.
       record { waiting_are = none_there (length plant.rows) i waiting f; put_are = none_there (length plant.rows) i put g };

@@ -1,5 +1,5 @@
 -- An operator's own run grows by one action, or not at all.
-use Rattle.std.proofs.Common.{◌≡◌, ℕ, List, [], ◌∷◌, ◌++◌, map, Option, Some, None, append_assoc, append-nil, refl, sym, ap, ◌∙◌, subst}
+use Rattle.std.proofs.Common.{◌≡◌, ℕ, List, [], ◌∷◌, ◌++◌, Option, Some, None, append_assoc, append-nil, refl, sym, ap, ◌∙◌, subst}
 use Rattle.std.specs.Prelude.{filter_map}
 use Rattle.std.proofs.lemmas.List.{map-append}
 use Rattle.std.proofs.lemmas.List.Elements.{filter_map-append}
@@ -43,11 +43,11 @@ module _ (consts : ConstsFields) (row : RowFields) where
       → IsReplay consts row (history ++ entry ∷ []) after
   replay_push history state after entry replay allowed is outputs = record {
     state_is = is ∙ (ap (λ (s : OperatorState). (own_step consts row s entry.action).state) replay.state_is
-      ∙ (sym (state_push (opened consts row) (actions_of history) entry.action)
-      ∙ ap (λ (actions : List Action). (own_run consts row (opened consts row) actions).state) (sym (map-append (λ (e : Entry). e.action) history (entry ∷ [])))));
+        ∙ (sym (state_push (opened consts row) (actions_of history) entry.action)
+        ∙ ap (λ (actions : List Action). (own_run consts row (opened consts row) actions).state) (sym (map-append (λ (e : Entry). e.action) history (entry ∷ [])))));
     told = told_push (opened consts row) history entry replay.told
-      (subst (λ (s : OperatorState). IsAllowed consts row s entry.action) replay.state_is allowed)
-      (outputs ∙ ap (λ (s : OperatorState). (own_step consts row s entry.action).outputs) replay.state_is);
+        (subst (λ (s : OperatorState). IsAllowed consts row s entry.action) replay.state_is allowed)
+        (outputs ∙ ap (λ (s : OperatorState). (own_step consts row s entry.action).outputs) replay.state_is);
   }
 
 -- ---- one step more

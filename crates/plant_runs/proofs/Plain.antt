@@ -1,9 +1,8 @@
 -- A run is one of one step more, where that step collects nothing.
-use Rattle.std.proofs.Common.{◌≡◌, ℕ, ◌+◌, Bool, true, false, List, [], ◌∷◌, ◌++◌, length, Option, Some, None, refl, sym, ap, ◌∙◌, subst, arith}
+use Rattle.std.proofs.Common.{◌≡◌, ℕ, false, List, [], ◌∷◌, ◌++◌, length, Option, Some, refl, sym, ap, ◌∙◌, subst, arith}
 use Rattle.std.specs.Prelude.{slice_get}
 use Rattle.std.proofs.lemmas.Option.{slice_get_within}
 use Rattle.slice_scheduler.specs.declared.elements.ElementsFields.{ElementsFields}
-use Rattle.slice_table.specs.declared.operator_row.RowFields.{RowFields}
 use Rattle.slice_table.specs.declared.plant.PlantFields.{PlantFields}
 use Rattle.operator_machine.specs.declared.action.SliceRow.{SliceRow}
 use Rattle.operator_machine.specs.declared.action.Action.{Action}
@@ -13,7 +12,6 @@ use Rattle.plant_runs.specs.declared.step.Step.{Step}
 use Rattle.plant_runs.specs.declared.step.Step.TheVariants as steps
 use Rattle.plant_runs.specs.declared.step.Out.{Out}
 use Rattle.plant_runs.specs.OwnSteps.{maps_in, is_collect, under}
-use Rattle.plant_runs.specs.Shown.{alone}
 use Rattle.plant_runs.specs.Ordered.{target, IsTold, AreOwn}
 use Rattle.plant_runs.specs.Reached.{CoreView, AreFramesAfter, Reached}
 use Rattle.plant_runs.specs.Steps.{Acts, Reslices}
@@ -58,7 +56,7 @@ module _ (plant : PlantFields) (before : List Step) (outs : List Out) (step : St
             let there : slice_get old.gathering.queues i ≡ Some put = ap (λ (qs : List (List ElementsFields)). slice_get qs i) (sym beside.puts_are) ∙ g in
             subst (λ (n : ℕ). AreFramesAfter plant (before ++ step ∷ []) n i row waiting put) (ap length (sym same))
             (frames_follow plant before outs step now tells others none (length (maps_in outs)) i row was.0 waiting put e (reached.gathered.collected i row e)
-                (reached.frames i row was.0 put e was.1 there) (waits i was.0 waiting was.1 f));
+            (reached.frames i row was.0 put e was.1 there) (waits i was.0 waiting was.1 f));
         gathered = gathered_follows plant before outs step now tells others none old.gathering new.gathering reached.gathered beside.layout_is beside.shares_are beside.puts_are beside.next_is;
       }
 

@@ -1,6 +1,6 @@
 -- The parts of a frame have the slices of that frame.
 use Rattle.std.proofs.Common.{◌≡◌, ℕ, zero, suc, ◌<◌, Bool, true, false, ◌&&◌, ltb, List, [], ◌∷◌, ◌++◌, length, map, Option, Some, None, ◌⊎◌, inl, inr, refl, sym, ap, ◌∙◌, subst, arith}
-use Rattle.std.specs.Prelude.{slice_get, slice_set}
+use Rattle.std.specs.Prelude.{slice_get}
 use Rattle.std.proofs.lemmas.Bool.{cases_eq, and_parts, ltb-true, lt-ltb}
 use Rattle.std.proofs.lemmas.List.{length-set}
 use Rattle.std.proofs.lemmas.Option.{none-some, same_Some, slice_get_within}
@@ -69,12 +69,13 @@ module _ (g : Gathering) (op frame : ℕ) (part : ElementsFields) (is : IsGather
     where
       front : IsFront (with_part g.queues op part) i p
       front = is_front (with_part g.queues op part) i p whole e
+
       by : (i ≡ op) ⊎ (i ≡ op → ⊥) → slice_get (frame_slices g frame) i ≡ Some p.slice
       by (inl same) =
           let within : op < length g.queues = omega (arith, is.one_each, (is_put g op frame part put).op_is) in
           let none : queue_of g.queues op ≡ [] = last_is_first g op part is (is_put g op frame part put).op_is whole in
           let there : slice_get (with_part g.queues op part) i ≡ Some (part ∷ []) =
-              ap (slice_get (with_part g.queues op part)) same ∙ (get_same g.queues op (queue_of g.queues op ++ part ∷ []) within ∙ ap (λ (q : List ElementsFields). let o : Option (List ElementsFields) = Some (q ++ part ∷ []) in o) none) in
+          ap (slice_get (with_part g.queues op part)) same ∙ (get_same g.queues op (queue_of g.queues op ++ part ∷ []) within ∙ ap (λ (q : List ElementsFields). let o : Option (List ElementsFields) = Some (q ++ part ∷ []) in o) none) in
           let queue : front.queue ≡ part ∷ [] = same_at (with_part g.queues op part) i front.queue (part ∷ []) front.queue_is there in
           let first : part ≡ p = same_Some part p (ap (λ (q : List ElementsFields). slice_get q 0) (sym queue) ∙ front.first) in
           ap (slice_get (frame_slices g frame)) same

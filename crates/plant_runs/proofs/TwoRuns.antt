@@ -1,7 +1,6 @@
 -- Two runs in which an operator's own steps are the same: it notices the same.
-use Rattle.std.proofs.Common.{◌≡◌, ℕ, List, [], ◌∷◌, length, map, Option, Some, None, option_map, refl, sym, ap, ◌∙◌, subst, arith}
+use Rattle.std.proofs.Common.{◌≡◌, ℕ, List, [], ◌∷◌, Some, option_map, sym, ap, ◌∙◌, arith}
 use Rattle.std.specs.Prelude.{slice_get}
-use Rattle.std.specs.List.{Contains}
 use Rattle.std.proofs.lemmas.Option.{slice_get-map, slice_get_within}
 use Rattle.std.proofs.lemmas.List.Elements.{All-contains}
 use Rattle.slice_scheduler.specs.declared.elements.ElementsFields.{ElementsFields}
@@ -9,7 +8,6 @@ use Rattle.slice_table.specs.declared.consts.ConstsFields.{ConstsFields}
 use Rattle.slice_table.specs.declared.operator_row.RowFields.{RowFields}
 use Rattle.slice_table.specs.declared.plant.PlantFields.{PlantFields}
 use Rattle.slice_table.specs.Plant.{AgreeOn}
-use Rattle.operator_machine.specs.declared.output.Output.{Output}
 use Rattle.operator_machine.specs.State.{opened}
 use Rattle.operator_machine.specs.Machine.{own_run}
 use Rattle.map_assembly.specs.declared.map_bytes.MapBytes.{MapBytes}
@@ -60,5 +58,5 @@ notice_same p q i j s t o u agree here there same =
           let x = is_noticed p s i agree.row a v agree.here (All-contains (IsMapIn p s) (maps_in o) a here.maps.each in_a) reads_a in
           let y = is_noticed q t j agree.row b w agree.there (All-contains (IsMapIn q t) (maps_in u) b there.maps.each in_b) reads_b in
           x.noticed ∙ (ap own_part (one_part x.part y.part (elements_in a.frame (alone p.consts agree.row i s).outputs) (elements_in b.frame (alone q.consts agree.row j t).outputs) x.put y.put
-              (λ k. elements_in (frame k) (outputs k))) ∙ sym y.noticed);
+          (λ k. elements_in (frame k) (outputs k))) ∙ sym y.noticed);
     }

@@ -1,5 +1,5 @@
 -- Frames that wait to be collected, after a step that collects nothing.
-use Rattle.std.proofs.Common.{◌≡◌, ℕ, ◌+◌, ◌≤◌, Bool, true, false, List, [], ◌∷◌, ◌++◌, length, map, take, drop, Option, Some, None, append-nil, length-append, ◌⊎◌, inl, inr, refl, sym, ap, ◌∙◌, subst, arith}
+use Rattle.std.proofs.Common.{◌≡◌, ℕ, ◌+◌, ◌≤◌, false, List, [], ◌∷◌, ◌++◌, length, map, take, drop, Some, append-nil, length-append, ◌⊎◌, inl, inr, sym, ap, ◌∙◌, arith}
 use Rattle.std.specs.Prelude.{slice_get, slice_set}
 use Rattle.std.proofs.lemmas.Bool.{cases_eq}
 use Rattle.std.proofs.lemmas.List.{length-set, take-append-le, drop-append-le}
@@ -40,8 +40,8 @@ module _ (k : ℕ) (action : Action) (old new : CoreView) (now : List Out) (acts
       by : (i ≡ k) ⊎ (i ≡ k → ⊥) → made ≡ waiting ++ frames_of (answers_of i now)
       by (inl same) =
           let there : slice_get new.queues i ≡ Some (acts.waiting ++ frames_of outputs) =
-              ap (λ (c : CoreView). slice_get c.queues i) acts.new_is
-              ∙ (ap (slice_get (slice_set old.queues k (acts.waiting ++ frames_of outputs))) same ∙ get_same old.queues k (acts.waiting ++ frames_of outputs) (slice_get_within old.queues k acts.waiting acts.waiting_is)) in
+          ap (λ (c : CoreView). slice_get c.queues i) acts.new_is
+          ∙ (ap (slice_get (slice_set old.queues k (acts.waiting ++ frames_of outputs))) same ∙ get_same old.queues k (acts.waiting ++ frames_of outputs) (slice_get_within old.queues k acts.waiting acts.waiting_is)) in
           let was : acts.waiting ≡ waiting = same_at old.queues k acts.waiting waiting acts.waiting_is (ap (slice_get old.queues) (sym same) ∙ e) in
           let told : answers_of i now ≡ outputs = ap (answers_of i) acts.now_is ∙ answers_here i k outputs same in
           same_at new.queues i made (acts.waiting ++ frames_of outputs) f there ∙ (λ n. was n ++ frames_of (sym told n))
@@ -71,9 +71,9 @@ module _ (plant : PlantFields) (before : List Step) (outs : List Out) (step : St
       let was = frames_of (alone plant.consts row i before).outputs in
       let more = frames_of (answers_of i now) in
       let rest : drop (collects_of i (before ++ step ∷ [])) (frames_of (alone plant.consts row i (before ++ step ∷ [])).outputs) ≡ drop (collects_of i before) was ++ more =
-          (λ n. drop (count n) (all n)) ∙ drop-append-le (collects_of i before) was more within in
+      (λ n. drop (count n) (all n)) ∙ drop-append-le (collects_of i before) was more within in
       let front : take (collects_of i (before ++ step ∷ [])) (frames_of (alone plant.consts row i (before ++ step ∷ [])).outputs) ≡ take (collects_of i before) was =
-          (λ n. take (count n) (all n)) ∙ take-append-le (collects_of i before) was more within in
+      (λ n. take (count n) (all n)) ∙ take-append-le (collects_of i before) was more within in
       record {
         waiting_are = is ∙ (ap (λ (ws : List Numbered). ws ++ more) are.waiting_are ∙ sym rest);
         put_are = are.put_are ∙ ap (λ (frames : List Numbered). map (λ (frame : Numbered). frame.1) (drop made frames)) (sym front);

@@ -1,5 +1,5 @@
 -- A core as it is opened (own).
-use Rattle.std.specs.Prelude.{List, [], map, length, replicate}
+use Rattle.std.specs.Prelude.{[], map, length, replicate}
 use Rattle.slice_table.specs.declared.consts.ConstsFields.{ConstsFields}
 use Rattle.slice_table.specs.declared.operator_row.RowFields.{RowFields}
 use Rattle.slice_table.specs.declared.plant.PlantFields.{PlantFields}
