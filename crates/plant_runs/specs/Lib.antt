@@ -1,0 +1,8 @@
+pub mod OwnSteps
+pub mod Shown
+pub mod Ordered
+pub mod Reached
+pub mod TwoWorlds
+pub mod Steps
+pub mod Opened
+pub mod Run

@@ -1,0 +1,9 @@
+//! Runs of a plant: its steps, what they put out, and what a run shows to each operator. The definitions stand in specs/;
+//! `plant_core` carries them out.
+#![tactic(auto)]
+
+mod laws;
+mod step;
+
+pub use laws::{opened_is_reached, run_is_reached, step_is_reached, two_worlds};
+pub use step::{Out, SliceRows, Step};
