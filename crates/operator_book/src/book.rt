@@ -118,6 +118,7 @@ impl Book {
     /// Whether a slice and a budget can be taken from this frame on. Takes no memory.
     pub fn offer(&self, from: u32, row: SliceRow) -> Result<(), Unfit>
         ensures unfit { (u : Unfit) → (result ≡ Err u) ↔ (unfit_from self.now.kept.book.consts self.now.kept.book.state from row ≡ Some u) }
+        ensures fit { OnOk result (unfit_from self.now.kept.book.consts self.now.kept.book.state from row ≡ None) }
     {
         match self.kept.machine.unfit_from(from, row) {
             Some(unfit) => Err(unfit),
