@@ -1,4 +1,5 @@
 pub mod Entries
+pub mod SharingOut
 pub mod TwoRuns
 pub mod OwnRuns
 pub mod OwnActions

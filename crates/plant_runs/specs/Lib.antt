@@ -6,3 +6,4 @@ pub mod TwoWorlds
 pub mod Steps
 pub mod Opened
 pub mod Run
+pub mod SharedOut

@@ -1,11 +1,18 @@
 //! Laws of runs.
 
 ghost use Rattle.std.specs.Prelude.{List, [], ◌∷◌, ◌++◌};
+ghost use Rattle.std.specs.List.{Contains};
 ghost use Rattle.slice_table.specs.declared.plant.PlantFields.{PlantFields};
 ghost use Rattle.slice_table.specs.Plant.{IsPlant};
+ghost use Rattle.map_assembly.specs.declared.map_bytes.MapBytes.{MapBytes};
+ghost use Rattle.map_assembly.specs.declared.view.MapView.{MapView};
 ghost use Rattle.map_assembly.specs.Gathering.{IsGathering};
+ghost use Rattle.map_assembly.specs.Reading.{MapReads};
 ghost use Rattle.plant_runs.specs.declared.step.Step.{Step};
 ghost use Rattle.plant_runs.specs.declared.step.Out.{Out};
+ghost use Rattle.plant_runs.specs.OwnSteps.{maps_in};
+ghost use Rattle.plant_runs.specs.Shown.{Shown};
+ghost use Rattle.plant_runs.specs.SharedOut.{IsSharedOut};
 ghost use Rattle.plant_runs.specs.Reached.{CoreView, Reached};
 ghost use Rattle.plant_runs.specs.Opened.{opened_core};
 ghost use Rattle.plant_runs.specs.Run.{IsRun};
@@ -16,6 +23,12 @@ ghost use Rattle.plant_runs.specs.TwoWorlds.{TwoWorlds};
 /// its own steps, its answers and its parts of the MAPs are equal.
 pub fn two_worlds()
     ensures { TwoWorlds }
+{}
+
+/// Whatever the bytes of a MAP of a run say, each minislot of the frame is in exactly one span, and each operator's part is the
+/// frame of that number of its own machine run alone.
+pub fn maps_are_shared_out()
+    ensures { (plant : PlantFields) (steps : List Step) (outs : List Out) (made : MapBytes) (view : MapView) → Shown plant steps outs → Contains (maps_in outs) made → MapReads made.bytes view → IsSharedOut plant steps made view }
 {}
 
 /// A core is opened as it is after no step.

@@ -5,5 +5,7 @@
 mod laws;
 mod step;
 
-pub use laws::{opened_is_reached, run_is_reached, step_is_reached, two_worlds};
+pub use laws::{
+    maps_are_shared_out, opened_is_reached, run_is_reached, step_is_reached, two_worlds,
+};
 pub use step::{Out, SliceRows, Step};
