@@ -1,0 +1,55 @@
+-- The outputs of a run stand in the order of its steps (own).
+use Rattle.std.specs.Prelude.{◌≡◌, ℕ, ◌<◌, List, [], ◌∷◌, ◌++◌, length, slice_get, Option, Some, None, ◌+◌}
+use Rattle.slice_table.specs.declared.operator_row.RowFields.{RowFields}
+use Rattle.slice_table.specs.declared.plant.PlantFields.{PlantFields}
+use Rattle.slice_table.specs.Roster.{holder}
+use Rattle.operator_machine.specs.declared.action.Action.{Action}
+use Rattle.operator_machine.specs.declared.action.Action.TheVariants as actions
+use Rattle.operator_machine.specs.Machine.{own_step}
+use Rattle.map_assembly.specs.declared.map_bytes.MapBytes.{MapBytes}
+use Rattle.plant_runs.specs.declared.step.Step.{Step}
+use Rattle.plant_runs.specs.declared.step.Step.TheVariants as steps
+use Rattle.plant_runs.specs.declared.step.Out.{Out}
+use Rattle.plant_runs.specs.declared.step.Out.TheVariants as outs
+use Rattle.plant_runs.specs.OwnSteps.{under, maps_in}
+use Rattle.plant_runs.specs.Shown.{alone, IsLeast}
+
+-- where a step goes: the operator and its action
+abbrev pub action_at : Option ℕ → Action → Option (ℕ × Action)
+action_at None action = None
+action_at (Some i) action = Some (i, action)
+
+abbrev pub target : PlantFields → Step → Option (ℕ × Action)
+target plant (steps.Arrive modem heard) = action_at (holder plant.rows modem) (actions.Arrive modem heard)
+target plant (steps.Work op) = Some (op, actions.Work)
+target plant (steps.Tick op) = Some (op, actions.Tick)
+target plant (steps.Collect op) = None
+target plant (steps.Reslice from rows) = None
+
+-- these are the outputs of that action in the operator's own run, under it
+pub record AreOwn (plant : PlantFields) (before : List Step) (i : ℕ) (action : Action) (now : List Out) : Type 0 where
+  pub row : RowFields
+  pub row_is : slice_get plant.rows i ≡ Some row
+  pub outputs : now ≡ under i (own_step plant.consts row (alone plant.consts row i before).state action).outputs
+
+-- a collection gives the MAP where it raises the least number of collections of all operators, else nothing
+abbrev pub IsCollected : PlantFields → List Step → List Step → List Out → Type 0
+IsCollected plant before after [] = (n : ℕ) → IsLeast plant before n → IsLeast plant after n
+IsCollected plant before after (outs.Map made ∷ []) = (n : ℕ) → IsLeast plant before n → IsLeast plant after (n + 1)
+IsCollected plant before after other = ⊥
+
+-- what one step put out, after the steps before it
+abbrev pub IsTold : PlantFields → List Step → Step → Option (ℕ × Action) → List Out → Type 0
+IsTold plant before step (Some goal) now = AreOwn plant before goal.0 goal.1 now
+IsTold plant before (steps.Collect op) None now = IsCollected plant before (before ++ steps.Collect op ∷ []) now
+IsTold plant before (steps.Reslice from rows) None now = now ≡ []
+IsTold plant before step None now = ⊥
+
+-- the outputs are one list for each step, joined in the order of the steps
+abbrev pub AreInOrder : PlantFields → List Step → List Step → List Out → Type 0
+AreInOrder plant before [] all = all ≡ []
+AreInOrder plant before (step ∷ later) all =
+    (now : List Out) × (rest : List Out) × (all ≡ now ++ rest) × IsTold plant before step (target plant step) now × AreInOrder plant (before ++ step ∷ []) later rest
+
+abbrev pub Ordered : PlantFields → List Step → List Out → Type 0
+Ordered plant all_steps all_outs = AreInOrder plant [] all_steps all_outs

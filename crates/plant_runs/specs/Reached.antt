@@ -1,0 +1,54 @@
+-- What a core is after a run (own).
+use Rattle.std.specs.Prelude.{◌≡◌, ℕ, ◌+◌, List, [], ◌∷◌, ◌++◌, map, length, take, drop, filter_map, slice_get, slice_set, Option, Some, None}
+use Rattle.slice_scheduler.specs.declared.elements.ElementsFields.{ElementsFields}
+use Rattle.slice_table.specs.declared.operator_row.RowFields.{RowFields}
+use Rattle.slice_table.specs.declared.plant.PlantFields.{PlantFields}
+use Rattle.operator_machine.specs.declared.output.Output.{Output}
+use Rattle.operator_machine.specs.declared.output.Output.TheVariants.{Reply, Silent, Frame}
+use Rattle.operator_machine.specs.Replay.{BookView, IsReplay, actions_of}
+use Rattle.map_assembly.specs.Gathering.{Gathering}
+use Rattle.plant_runs.specs.declared.step.Step.{Step}
+use Rattle.plant_runs.specs.declared.step.Out.{Out}
+use Rattle.plant_runs.specs.OwnSteps.{own_steps, maps_in, collects_of}
+use Rattle.plant_runs.specs.Shown.{alone, Shown}
+use Rattle.plant_runs.specs.Ordered.{Ordered}
+
+-- what contracts see of a core: the plant, each operator's book, the frames of each that wait to be collected, and what is
+-- gathered
+pub record CoreView : Type 0 where
+  pub plant : PlantFields
+  pub books : List BookView
+  pub queues : List (List (ℕ × ElementsFields))
+  pub gathering : Gathering
+
+-- the frames of an operator, each with its number
+abbrev pub numbered : Output → Option (ℕ × ElementsFields)
+numbered (Reply modem bytes) = None
+numbered (Silent modem cause) = None
+numbered (Frame number elements) = Some (number, elements)
+
+abbrev pub frames_of : List Output → List (ℕ × ElementsFields)
+frames_of outputs = filter_map numbered outputs
+
+-- an operator's book after the steps: the state and the entries are those of its own machine run alone
+pub record IsBookAfter (plant : PlantFields) (steps : List Step) (i : ℕ) (row : RowFields) (book : BookView) : Type 0 where
+  pub row_is : book.row ≡ row
+  pub consts_are : book.consts ≡ plant.consts
+  pub state_is : book.state ≡ (alone plant.consts row i steps).state
+  pub actions_are : actions_of book.history ≡ own_steps row i steps
+  pub replay : IsReplay plant.consts row book.history book.state
+
+-- an operator's frames after the steps: those collected and in no MAP are gathered, those not collected wait
+pub record AreFramesAfter (plant : PlantFields) (steps : List Step) (made : ℕ) (i : ℕ) (row : RowFields) (waiting : List (ℕ × ElementsFields)) (put : List ElementsFields) : Type 0 where
+  pub waiting_are : waiting ≡ drop (collects_of i steps) (frames_of (alone plant.consts row i steps).outputs)
+  pub put_are : put ≡ map (λ frame. frame.1) (drop made (take (collects_of i steps) (frames_of (alone plant.consts row i steps).outputs)))
+
+pub record Reached (plant : PlantFields) (steps : List Step) (outs : List Out) (core : CoreView) : Type 0 where
+  pub plant_is : core.plant ≡ plant
+  pub shown : Shown plant steps outs
+  pub ordered : Ordered plant steps outs
+  pub one_book : length core.books ≡ length plant.rows
+  pub one_queue : length core.queues ≡ length plant.rows
+  pub books : (i : ℕ) (row : RowFields) (book : BookView) → slice_get plant.rows i ≡ Some row → slice_get core.books i ≡ Some book → IsBookAfter plant steps i row book
+  pub frames : (i : ℕ) (row : RowFields) (waiting : List (ℕ × ElementsFields)) (put : List ElementsFields) → slice_get plant.rows i ≡ Some row
+      → slice_get core.queues i ≡ Some waiting → slice_get core.gathering.queues i ≡ Some put → AreFramesAfter plant steps (length (maps_in outs)) i row waiting put

@@ -1,0 +1,65 @@
+-- What a run of a plant shows: to each operator its own machine run alone, and MAPs of these machines' frames (own).
+use Rattle.std.specs.Prelude.{◌≡◌, ℕ, ◌<◌, ◌≤◌, List, map, length, All, slice_get, Option, Some, None, if◌then◌else◌, filter_map, ◌∷◌, [], ◌==◌}
+use Rattle.std.specs.List.{range_with_len}
+use Rattle.slice_scheduler.specs.declared.elements.ElementsFields.{ElementsFields}
+use Rattle.slice_table.specs.declared.consts.ConstsFields.{ConstsFields}
+use Rattle.slice_table.specs.declared.operator_row.RowFields.{RowFields}
+use Rattle.slice_table.specs.declared.plant.PlantFields.{PlantFields}
+use Rattle.operator_machine.specs.declared.output.Output.{Output}
+use Rattle.operator_machine.specs.declared.output.Output.TheVariants.{Reply, Silent, Frame}
+use Rattle.operator_machine.specs.State.{opened}
+use Rattle.operator_machine.specs.Handle.{Ran}
+use Rattle.operator_machine.specs.Machine.{own_run}
+use Rattle.map_assembly.specs.declared.map_bytes.MapBytes.{MapBytes}
+use Rattle.map_assembly.specs.Map.{layout_of}
+use Rattle.map_assembly.specs.Part.{share_of}
+use Rattle.map_assembly.specs.Assembled.{IsMapOf}
+use Rattle.plant_runs.specs.declared.step.Step.{Step}
+use Rattle.plant_runs.specs.declared.step.Out.{Out}
+use Rattle.plant_runs.specs.OwnSteps.{own_steps, answers_of, maps_in, collects_of}
+
+-- the operator's own machine, run alone on its own steps
+abbrev pub alone : ConstsFields → RowFields → ℕ → List Step → Ran
+alone consts row i steps = own_run consts row (opened consts row) (own_steps row i steps)
+
+-- ---- frames
+
+-- the elements of the frame of this number
+abbrev pub frame_if : ℕ → Output → Option ElementsFields
+frame_if frame (Reply modem bytes) = None
+frame_if frame (Silent modem cause) = None
+frame_if frame (Frame number elements) = if number == frame then Some elements else None
+
+abbrev pub elements_in : ℕ → List Output → List ElementsFields
+elements_in frame outputs = filter_map (frame_if frame) outputs
+
+-- these are the operators' parts of a frame, in the plant's order: each the frame of that operator's machine run alone
+pub record ArePartsAt (plant : PlantFields) (steps : List Step) (frame : ℕ) (parts : List ElementsFields) : Type 0 where
+  pub one_each : length parts ≡ length plant.rows
+  pub own : (i : ℕ) (row : RowFields) (part : ElementsFields) → slice_get plant.rows i ≡ Some row → slice_get parts i ≡ Some part
+      → elements_in frame (alone plant.consts row i steps).outputs ≡ part ∷ []
+
+-- ---- MAPs
+
+-- a MAP of the run: it is the MAP of its frame with the parts of all operators, so it gives no minislot twice, and each
+-- operator's part of it is that operator's frame
+pub record IsMapIn (plant : PlantFields) (steps : List Step) (made : MapBytes) : Type 0 where
+  pub parts : List ElementsFields
+  pub parts_are : ArePartsAt plant steps made.frame parts
+  pub map_is : IsMapOf (layout_of plant.consts) made.frame (map share_of plant.rows) (map (λ part. part.slice) parts) parts made.bytes
+
+-- as many MAPs as each operator's frames were collected at least
+pub record IsLeast (plant : PlantFields) (steps : List Step) (count : ℕ) : Type 0 where
+  pub at_most : (i : ℕ) → i < length plant.rows → count ≤ collects_of i steps
+  pub one : (i : ℕ) × (i < length plant.rows) × (collects_of i steps ≡ count)
+
+-- the MAPs are those of the frames from the first one on, each once and in order, as many as were collected of each operator
+pub record AreMaps (plant : PlantFields) (steps : List Step) (made : List MapBytes) : Type 0 where
+  pub frames : map (λ m. m.frame) made ≡ range_with_len plant.consts.first_frame (length made)
+  pub count : IsLeast plant steps (length made)
+  pub each : All (IsMapIn plant steps) made
+
+-- to each operator its answers are those of its own machine run alone, and the MAPs are of these machines' frames
+pub record Shown (plant : PlantFields) (steps : List Step) (outs : List Out) : Type 0 where
+  pub answers : (i : ℕ) (row : RowFields) → slice_get plant.rows i ≡ Some row → answers_of i outs ≡ (alone plant.consts row i steps).outputs
+  pub maps : AreMaps plant steps (maps_in outs)

@@ -1,0 +1,27 @@
+-- The headline: no operator notices what another's modems send (own).
+--
+-- For any two runs of plants that agree on an operator's provisioning and on the list of its own messages, requests, work
+-- steps and ticks, whatever others are provisioned with and send and however all steps interleave, its modems' replies and
+-- its part of every MAP are equal, and are those of its own machine run alone; no MAP gives a minislot twice.
+use Rattle.std.specs.Prelude.{◌≡◌, ℕ, List}
+use Rattle.std.specs.List.{Contains}
+use Rattle.slice_table.specs.declared.plant.PlantFields.{PlantFields}
+use Rattle.slice_table.specs.Plant.{AgreeOn}
+use Rattle.map_assembly.specs.declared.map_bytes.MapBytes.{MapBytes}
+use Rattle.map_assembly.specs.declared.view.MapView.{MapView}
+use Rattle.map_assembly.specs.Reading.{MapReads}
+use Rattle.map_assembly.specs.Tiled.{part_of}
+use Rattle.plant_runs.specs.declared.step.Step.{Step}
+use Rattle.plant_runs.specs.declared.step.Out.{Out}
+use Rattle.plant_runs.specs.OwnSteps.{own_steps, answers_of, maps_in}
+use Rattle.plant_runs.specs.Shown.{Shown}
+
+-- what the operator at place i of one run and the one at place j of the other notice is the same
+pub record NoticeTheSame (p : PlantFields) (i : ℕ) (outs : List Out) (q : PlantFields) (j : ℕ) (others : List Out) (agree : AgreeOn p i q j) : Type 0 where
+  pub answers : answers_of i outs ≡ answers_of j others
+  pub parts : (a b : MapBytes) (v w : MapView) → Contains (maps_in outs) a → Contains (maps_in others) b → a.frame ≡ b.frame
+      → MapReads a.bytes v → MapReads b.bytes w → part_of agree.row.sids v ≡ part_of agree.row.sids w
+
+abbrev pub TwoWorlds : Type 0
+TwoWorlds = (p q : PlantFields) (i j : ℕ) (s t : List Step) (o u : List Out) (agree : AgreeOn p i q j)
+    → Shown p s o → Shown q t u → own_steps agree.row i s ≡ own_steps agree.row j t → NoticeTheSame p i o q j u agree
