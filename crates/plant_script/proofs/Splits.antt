@@ -6,7 +6,7 @@ use Rattle.std.proofs.lemmas.Bool.{le-leb}
 use Rattle.std.proofs.lemmas.List.{take_more, take_all, length-take, drop-append-le, drop_all}
 use Rattle.std.specs.List.{drop-map}
 use Rattle.std.specs.Borrow.{Bor}
-use Rattle.plant_script.specs.Lines.{lines_from, lines_of}
+use Rattle.plant_script.specs.Lines.{parts_from, parts_of}
 use Rattle.plant_script.specs.One.{message_in, messages_after, is_readable}
 use Rattle.plant_script.specs.SplitSoFar.{IsSplitSoFar}
 use Rattle.plant_script.specs.SaidSoFar.{IsSaidSoFar}
@@ -16,10 +16,10 @@ readable input fits utf8 = rw (le-leb (length input) 1048576 fits, is_utf8-from_
 
 -- ---- lines
 
-from_byte : (line : List ℕ) (b : ℕ) (bytes : List ℕ) (t : Bool) → (b == 10) ≡ t → lines_from line (b ∷ bytes) ≡ elim t [ true ↦ line ∷ lines_from [] bytes | false ↦ lines_from (line ++ b ∷ []) bytes ]
-from_byte line b bytes t e = ap (λ (v : Bool). elim v [ true ↦ line ∷ lines_from [] bytes | false ↦ lines_from (line ++ b ∷ []) bytes ]) e
+from_byte : (mark : ℕ) (line : List ℕ) (b : ℕ) (bytes : List ℕ) (t : Bool) → (b == mark) ≡ t → parts_from mark line (b ∷ bytes) ≡ elim t [ true ↦ line ∷ parts_from mark [] bytes | false ↦ parts_from mark (line ++ b ∷ []) bytes ]
+from_byte mark line b bytes t e = ap (λ (v : Bool). elim v [ true ↦ line ∷ parts_from mark [] bytes | false ↦ parts_from mark (line ++ b ∷ []) bytes ]) e
 
-module _ (input : List ℕ) (start place : ℕ) (lt : place < length input) where
+module _ (mark : ℕ) (input : List ℕ) (start place : ℕ) (lt : place < length input) where
   line_more : start ≤ place → drop start (take (place + 1) input) ≡ drop start (take place input) ++ get_or input place 0 ∷ []
   line_more begun =
       let fits : start ≤ length (take place input) = omega (arith, length-take place input) in
@@ -31,26 +31,26 @@ module _ (input : List ℕ) (start place : ℕ) (lt : place < length input) wher
   line_none : drop (place + 1) (take (place + 1) input) ≡ []
   line_none = drop_all (place + 1) (take (place + 1) input) (omega (arith, length-take (place + 1) input))
 
-  pub split_line : (lines : List (List ℕ)) (line : List ℕ) → IsSplitSoFar input lines start place → line ≡ drop start (take place input) → (get_or input place 0 == 10) ≡ true
-      → IsSplitSoFar input (lines ++ line ∷ []) (place + 1) (place + 1)
+  pub split_line : (lines : List (List ℕ)) (line : List ℕ) → IsSplitSoFar mark input lines start place → line ≡ drop start (take place input) → (get_or input place 0 == mark) ≡ true
+      → IsSplitSoFar mark input (lines ++ line ∷ []) (place + 1) (place + 1)
   split_line lines line s line_is lf = record {
     begun = omega arith;
     goes_on =
-        ap (λ (x : List ℕ). (lines ++ line ∷ []) ++ lines_from x (drop (place + 1) input)) line_none
-        ∙ append_assoc lines (line ∷ []) (lines_from [] (drop (place + 1) input))
-        ∙ ap (λ (x : List ℕ). lines ++ (x ∷ lines_from [] (drop (place + 1) input))) line_is
-        ∙ ap (λ (x : List (List ℕ)). lines ++ x) (sym (from_byte (drop start (take place input)) (get_or input place 0) (drop (place + 1) input) true lf))
-        ∙ ap (λ (x : List ℕ). lines ++ lines_from (drop start (take place input)) x) (sym at_place)
+        ap (λ (x : List ℕ). (lines ++ line ∷ []) ++ parts_from mark x (drop (place + 1) input)) line_none
+        ∙ append_assoc lines (line ∷ []) (parts_from mark [] (drop (place + 1) input))
+        ∙ ap (λ (x : List ℕ). lines ++ (x ∷ parts_from mark [] (drop (place + 1) input))) line_is
+        ∙ ap (λ (x : List (List ℕ)). lines ++ x) (sym (from_byte mark (drop start (take place input)) (get_or input place 0) (drop (place + 1) input) true lf))
+        ∙ ap (λ (x : List ℕ). lines ++ parts_from mark (drop start (take place input)) x) (sym at_place)
         ∙ s.goes_on;
   }
 
-  pub split_byte : (lines : List (List ℕ)) → IsSplitSoFar input lines start place → (get_or input place 0 == 10) ≡ false → IsSplitSoFar input lines start (place + 1)
+  pub split_byte : (lines : List (List ℕ)) → IsSplitSoFar mark input lines start place → (get_or input place 0 == mark) ≡ false → IsSplitSoFar mark input lines start (place + 1)
   split_byte lines s other = record {
     begun = let b : start ≤ place = s.begun in omega arith;
     goes_on =
-        ap (λ (x : List ℕ). lines ++ lines_from x (drop (place + 1) input)) (line_more s.begun)
-        ∙ ap (λ (x : List (List ℕ)). lines ++ x) (sym (from_byte (drop start (take place input)) (get_or input place 0) (drop (place + 1) input) false other))
-        ∙ ap (λ (x : List ℕ). lines ++ lines_from (drop start (take place input)) x) (sym at_place)
+        ap (λ (x : List ℕ). lines ++ parts_from mark x (drop (place + 1) input)) (line_more s.begun)
+        ∙ ap (λ (x : List (List ℕ)). lines ++ x) (sym (from_byte mark (drop start (take place input)) (get_or input place 0) (drop (place + 1) input) false other))
+        ∙ ap (λ (x : List ℕ). lines ++ parts_from mark (drop start (take place input)) x) (sym at_place)
         ∙ s.goes_on;
   }
 
@@ -88,12 +88,12 @@ line_at lines place d lt =
     ∙ ap (λ (x : List (List ℕ)). (get_or lines place d).now ∷ x) (sym (drop-map (λ (l : Bor (List ℕ)). l.now) (suc place) lines))
     ∙ ap (λ (n : ℕ). (get_or lines place d).now ∷ drop n (map (λ (l : Bor (List ℕ)). l.now) lines)) (sym (add-one place))
 
-pub split_end : (input : List ℕ) (lines : List (List ℕ)) (start place : ℕ) (line : List ℕ) → IsSplitSoFar input lines start place → length input ≤ place → line ≡ drop start (take (length input) input) → lines ++ line ∷ [] ≡ lines_of input
-unfolding lines_of
-split_end input lines start place line s past line_is =
+pub split_end : (mark : ℕ) (input : List ℕ) (lines : List (List ℕ)) (start place : ℕ) (line : List ℕ) → IsSplitSoFar mark input lines start place → length input ≤ place → line ≡ drop start (take (length input) input) → lines ++ line ∷ [] ≡ parts_of mark input
+unfolding parts_of
+split_end mark input lines start place line s past line_is =
     let whole : take place input ≡ input = take_all place input past in
     let same : take (length input) input ≡ input = take_all (length input) input (omega arith) in
     let none : drop place input ≡ [] = drop_all place input past in
     ap (λ (x : List ℕ). lines ++ x ∷ []) (line_is ∙ ap (drop start) (same ∙ sym whole))
-    ∙ ap (λ (x : List ℕ). lines ++ lines_from (drop start (take place input)) x) (sym none)
+    ∙ ap (λ (x : List ℕ). lines ++ parts_from mark (drop start (take place input)) x) (sym none)
     ∙ s.goes_on

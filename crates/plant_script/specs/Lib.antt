@@ -3,6 +3,10 @@ pub mod OperatorA
 pub mod Words
 pub mod One
 pub mod View
+pub mod Fields
+pub mod Script
+pub mod StepsSoFar
+pub mod Check
 pub mod LineFault
 pub mod ReadSoFar
 pub mod SplitSoFar

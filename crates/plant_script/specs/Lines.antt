@@ -1,11 +1,19 @@
--- Lines of input (own).
+-- Lines of input, and the fields of a line (own).
 use Rattle.std.specs.Prelude.{◌==◌, ℕ, true, false, List, [], ◌∷◌, ◌++◌}
 
--- the lines of bytes, after the beginning of one: each LF ends a line
-abbrev pub lines_from : List ℕ → List ℕ → List (List ℕ)
-lines_from line [] = line ∷ []
-lines_from line (b ∷ bytes) = elim (b == 10) [ true ↦ line ∷ lines_from [] bytes | false ↦ lines_from (line ++ b ∷ []) bytes ]
+-- the parts of bytes, after the beginning of one: each mark ends a part
+abbrev pub parts_from : ℕ → List ℕ → List ℕ → List (List ℕ)
+parts_from mark part [] = part ∷ []
+parts_from mark part (b ∷ bytes) = elim (b == mark) [ true ↦ part ∷ parts_from mark [] bytes | false ↦ parts_from mark (part ++ b ∷ []) bytes ]
 
--- the last line has no LF, and is empty where the bytes end in one
-unfoldable pub lines_of : List ℕ → List (List ℕ)
-lines_of bytes = lines_from [] bytes
+-- the last part has no mark behind it, and is empty where the bytes end in one
+unfoldable pub parts_of : ℕ → List ℕ → List (List ℕ)
+parts_of mark bytes = parts_from mark [] bytes
+
+-- each LF ends a line
+abbrev pub lines_of : List ℕ → List (List ℕ)
+lines_of bytes = parts_of 10 bytes
+
+-- the fields of a line are parted by one space each
+abbrev pub fields_of : List ℕ → List (List ℕ)
+fields_of line = parts_of 32 line

@@ -1,8 +1,8 @@
 -- What was split so far.
 use Rattle.std.specs.Prelude.{◌≡◌, ℕ, ◌≤◌, List, [], ◌++◌, take, drop}
-use Rattle.plant_script.specs.Lines.{lines_from}
+use Rattle.plant_script.specs.Lines.{parts_from}
 
--- whole lines, the line that began at `start`, and the bytes from the place on
-pub record IsSplitSoFar (input : List ℕ) (lines : List (List ℕ)) (start place : ℕ) : Type 0 where
+-- whole parts, the part that began at `start`, and the bytes from the place on
+pub record IsSplitSoFar (mark : ℕ) (input : List ℕ) (parts : List (List ℕ)) (start place : ℕ) : Type 0 where
   pub begun : start ≤ place
-  pub goes_on : lines ++ lines_from (drop start (take place input)) (drop place input) ≡ lines_from [] input
+  pub goes_on : parts ++ parts_from mark (drop start (take place input)) (drop place input) ≡ parts_from mark [] input

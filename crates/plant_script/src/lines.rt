@@ -1,7 +1,7 @@
-//! Lines, and the messages in them.
+//! The parts of bytes, and the messages in lines.
 
 ghost use Rattle.std.specs.Prelude.{◌≡◌, ◌≤◌, length, take, drop, map, IfOk};
-ghost use Rattle.plant_script.specs.Lines.{lines_of};
+ghost use Rattle.plant_script.specs.Lines.{parts_of};
 ghost use Rattle.plant_script.specs.One.{message_in, messages_of};
 ghost use Rattle.plant_script.specs.LineFault.{Gives};
 ghost use Rattle.plant_script.specs.declared.lines.LineFault.TheVariants.{NoMemory};
@@ -46,24 +46,24 @@ fn part(input: &[u8], start: usize, end: usize) -> &[u8]
     line
 }
 
-/// The lines of an input: each LF ends one, and the last has none.
-pub fn lines_of(alloc: Global, input: &[u8]) -> Result<Vec<&[u8]>, AllocError>
-    ensures { IfOk result (λ lines. map (λ line. line.now) lines.items ≡ lines_of input.now) }
+/// The parts of bytes: each mark ends one, and the last has none behind it.
+pub fn parts_of(alloc: Global, mark: u8, input: &[u8]) -> Result<Vec<&[u8]>, AllocError>
+    ensures { IfOk result (λ parts. map (λ part. part.now) parts.items ≡ parts_of mark input.now) }
 {
-    let mut lines = Vec::new(alloc);
+    let mut parts = Vec::new(alloc);
     let mut start = 0;
     for (place, byte) in input.iter().enumerate() {
-        if *byte == b'\n' {
-            lines.push(part(input, start, place))?;
+        if *byte == mark {
+            parts.push(part(input, start, place))?;
             start = place + 1;
         }
     }
-    lines.push(part(input, start, input.len()))?;
-    Ok(lines)
+    parts.push(part(input, start, input.len()))?;
+    Ok(parts)
 }
 
 /// The message in a line that is not empty; none where it is no message.
-fn message_in(alloc: Global, line: &[u8]) -> Result<Option<Bytes>, AllocError>
+pub fn message_in(alloc: Global, line: &[u8]) -> Result<Option<Bytes>, AllocError>
     ensures { IfOk result (λ message. message ≡ message_in line.now) }
 {
     if line == b"-".as_slice() {

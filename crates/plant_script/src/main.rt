@@ -2,11 +2,15 @@
 //! the modem's operator.
 #![tactic(auto)]
 
+mod answer;
+mod check;
+mod fields;
 mod input;
 mod lines;
 mod one;
 mod operator_a;
 mod program;
+mod script;
 #[cfg(test)]
 mod tests;
 

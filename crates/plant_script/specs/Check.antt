@@ -1,0 +1,69 @@
+-- What `check` answers to an input: a plant file, and the script behind the first line `---` (own).
+use Rattle.std.specs.Prelude.{◌==◌, ℕ, ◌+◌, ◌&&◌, ◌||◌, Bool, true, false, List, [], ◌∷◌, ◌++◌, length, take, drop, Result, Ok, Err, if◌then◌else◌, codes}
+use Rattle.std.specs.Fmt.{decimal}
+use Rattle.std.specs.Str.{bytes_eq}
+use Rattle.toml.specs.Parse.{parse_document}
+use Rattle.dsx_messages.specs.Modem.{hex_digits}
+use Rattle.slice_table.specs.declared.plant.PlantFields.{PlantFields}
+use Rattle.slice_table.specs.declared.plant_fault.PlantFault.{PlantFault}
+use Rattle.slice_table.specs.declared.plant_fault.PlantFault.TheVariants.{NotToml, Missing, BadValue, SlicesMeet, SidsMeet, SfidsMeet, ModemTwice, TooManyElements, BudgetOverSlice, ProvisionedOver, NoMemory}
+use Rattle.slice_table.specs.Keys.{key_text}
+use Rattle.slice_table.specs.ReadPlant.{text_plant}
+use Rattle.plant_script.specs.declared.script.LineStep.{LineStep}
+use Rattle.plant_script.specs.Script.{steps_of}
+use Rattle.plant_script.specs.One.{Answer, is_readable}
+
+-- ---- the two parts of the input
+
+-- at the head of the bytes stands a line of three dashes
+abbrev pub is_bar : List ℕ → Bool
+is_bar bytes = bytes_eq bytes (codes "---") || bytes_eq (take 4 bytes) (codes "---" ++ 10 ∷ [])
+
+-- how many bytes stand before the first such line, where a line may begin here; all bytes where there is none
+abbrev pub before_bar : Bool → List ℕ → ℕ
+before_bar begins [] = 0
+before_bar begins (b ∷ bytes) = if begins && is_bar (b ∷ bytes) then 0 else 1 + before_bar (b == 10) bytes
+
+unfoldable pub plant_text : List ℕ → List ℕ
+plant_text input = take (before_bar true input) input
+
+unfoldable pub script_text : List ℕ → List ℕ
+script_text input = drop (before_bar true input + 4) input
+
+-- ---- the line of a plant at fault
+
+abbrev pub ended : List ℕ → List ℕ
+ended text = text ++ 10 ∷ []
+
+abbrev pub two_names : List ℕ → List ℕ → List ℕ
+two_names a b = a ++ (codes " " ++ ended b)
+
+-- the fault's number, and what it names
+unfoldable pub fault_text : PlantFault → List ℕ
+fault_text NotToml = ended (codes "1")
+fault_text (Missing key) = codes "2 " ++ ended (key_text key)
+fault_text (BadValue key) = codes "3 " ++ ended (key_text key)
+fault_text (SlicesMeet a b) = codes "4 " ++ two_names a b
+fault_text (SidsMeet a b) = codes "5 " ++ two_names a b
+fault_text (SfidsMeet a b) = codes "6 " ++ two_names a b
+fault_text (ModemTwice modem) = codes "7 " ++ ended (hex_digits modem.0)
+fault_text (TooManyElements total) = codes "8 " ++ ended (decimal total)
+fault_text (BudgetOverSlice operator) = codes "9 " ++ ended operator
+fault_text (ProvisionedOver operator) = codes "10 " ++ ended operator
+fault_text NoMemory = []
+
+-- ---- the whole
+
+abbrev pub answer_to_steps : Result (List LineStep) ℕ → Answer
+answer_to_steps (Ok steps) = record { status = 0; text = codes "ok" ++ 10 ∷ [] }
+answer_to_steps (Err number) = record { status = 4; text = codes "fault: line " ++ (decimal number ++ 10 ∷ []) }
+
+abbrev pub answer_to_plant : Result PlantFields PlantFault → List ℕ → Answer
+answer_to_plant (Ok plant) script = answer_to_steps (steps_of plant script)
+answer_to_plant (Err fault) script = record { status = 3; text = codes "fault: plant " ++ fault_text fault }
+
+-- the plant is judged first, then the script
+unfoldable pub check_of : List ℕ → Answer
+check_of input =
+    if is_readable input then answer_to_plant (text_plant (parse_document (plant_text input))) (script_text input)
+    else record { status = 6; text = codes "fault: io" ++ 10 ∷ [] }

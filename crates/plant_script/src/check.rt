@@ -1,0 +1,124 @@
+//! The word `check`: a plant file and a script, and whether both are well.
+
+ghost use Rattle.std.specs.Prelude.{◌≡◌, ◌≤◌, ◌++◌, ◌∷◌, [], codes, length, true, IfOk, IfErr};
+ghost use Rattle.std.specs.Str.{is_utf8};
+ghost use Rattle.std.specs.String.{string_bytes};
+ghost use Rattle.plant_script.specs.Check.{is_bar, before_bar, plant_text, script_text, fault_text, answer_to_steps, check_of};
+ghost use Rattle.plant_script.specs.One.{is_readable};
+ghost use Rattle.plant_script.specs.Script.{steps_of};
+ghost use Rattle.plant_script.specs.declared.input.Stop.TheVariants.{Memory};
+
+use crate::answer::Answer;
+use crate::input::Stop;
+use crate::lines::LineFault;
+use crate::script::steps_of;
+use slice_table::{Plant, PlantFault, read_plant};
+use std::alloc::{AllocError, Global};
+
+/// Whether a line of three dashes stands at the head of the bytes.
+fn is_bar(bytes: &[u8]) -> bool
+    ensures { result ≡ is_bar bytes.now }
+{
+    bytes == b"---".as_slice() || bytes.starts_with(b"---\n")
+}
+
+/// How many bytes stand before the first line of three dashes.
+fn before_bar(input: &[u8]) -> usize
+    ensures value { result ≡ before_bar true input.now }
+    ensures inside { result ≤ length input.now }
+{
+    let mut begins = true;
+    for (place, byte) in input.iter().enumerate() {
+        if begins && is_bar(&input[place..]) {
+            return place;
+        }
+        begins = *byte == b'\n';
+    }
+    input.len()
+}
+
+/// The line of a plant at fault.
+#[tactic(auto, unfolding(crate::specs::Check::fault_text))]
+fn plant_line(alloc: Global, fault: PlantFault) -> Result<String, AllocError>
+    ensures { IfOk result (λ line. string_bytes line ≡ codes "fault: plant " ++ fault_text fault) }
+{
+    match fault {
+        PlantFault::NotToml => String::from_str(alloc, "fault: plant 1\n"),
+        PlantFault::Missing { key } => format!(in alloc; "fault: plant 2 {key}\n"),
+        PlantFault::BadValue { key } => format!(in alloc; "fault: plant 3 {key}\n"),
+        PlantFault::SlicesMeet { a, b } => format!(in alloc; "fault: plant 4 {a} {b}\n"),
+        PlantFault::SidsMeet { a, b } => format!(in alloc; "fault: plant 5 {a} {b}\n"),
+        PlantFault::SfidsMeet { a, b } => format!(in alloc; "fault: plant 6 {a} {b}\n"),
+        PlantFault::ModemTwice { modem } => format!(in alloc; "fault: plant 7 {modem}\n"),
+        PlantFault::TooManyElements { total } => format!(in alloc; "fault: plant 8 {total}\n"),
+        PlantFault::BudgetOverSlice { operator } => format!(in alloc; "fault: plant 9 {operator}\n"),
+        PlantFault::ProvisionedOver { operator } => format!(in alloc; "fault: plant 10 {operator}\n"),
+        PlantFault::NoMemory => Err(AllocError),
+    }
+}
+
+/// What stands before that line.
+#[tactic(auto, unfolding(crate::specs::Check::plant_text))]
+fn plant_text(input: &[u8], place: usize) -> &str
+    requires utf8 { is_utf8 input.now ≡ true }
+    requires place { place ≡ before_bar true input.now }
+    requires inside { place ≤ length input.now }
+    ensures { result.now ≡ plant_text input.now }
+{
+    match str::from_utf8(&input[..place]) {
+        Ok(text) => text,
+        Err(_error) => unreachable!(),
+    }
+}
+
+/// What stands behind it.
+#[tactic(auto, unfolding(crate::specs::Check::script_text))]
+fn script_text(input: &[u8], place: usize) -> &[u8]
+    requires place { place ≡ before_bar true input.now }
+    requires inside { place ≤ length input.now }
+    ensures { result.now ≡ script_text input.now }
+{
+    if input.len() - place < 4 {
+        &[]
+    } else {
+        &input[place + 4..]
+    }
+}
+
+/// What is answered to the script of a plant.
+fn answer_to_script(alloc: Global, plant: &Plant, script: &[u8]) -> Result<Answer, Stop>
+    ensures value { IfOk result (λ answer. (answer.status ≡ (answer_to_steps (steps_of plant.now script.now)).status) × (answer.text.items ≡ (answer_to_steps (steps_of plant.now script.now)).text)) }
+    ensures memory { IfErr result (λ stop. stop ≡ Memory) }
+{
+    match steps_of(alloc, plant, script) {
+        Ok(_steps) => Ok(Answer {
+            status: 0,
+            text: Vec::from_slice(alloc, b"ok\n")?,
+        }),
+        Err(LineFault::Shape { number }) => {
+            let line = format!(in alloc; "fault: line {number}\n")?;
+            let text = line.into_bytes();
+            Ok(Answer { status: 4, text })
+        }
+        Err(LineFault::NoMemory) => Err(Stop::Memory),
+    }
+}
+
+/// What `check` answers to an input.
+#[tactic(auto, unfolding(crate::specs::Check::check_of))]
+pub fn check_of(alloc: Global, input: &[u8]) -> Result<Answer, Stop>
+    requires { is_readable input.now ≡ true }
+    ensures value { IfOk result (λ answer. (answer.status ≡ (check_of input.now).status) × (answer.text.items ≡ (check_of input.now).text)) }
+    ensures memory { IfErr result (λ stop. stop ≡ Memory) }
+{
+    let place = before_bar(input);
+    match read_plant(alloc, plant_text(input, place)) {
+        Ok(plant) => answer_to_script(alloc, &plant, script_text(input, place)),
+        Err(PlantFault::NoMemory) => Err(Stop::Memory),
+        Err(fault) => {
+            let line = plant_line(alloc, fault)?;
+            let text = line.into_bytes();
+            Ok(Answer { status: 3, text })
+        }
+    }
+}
