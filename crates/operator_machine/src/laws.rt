@@ -20,8 +20,9 @@ ghost use Rattle.operator_machine.specs.declared.output.Output.TheVariants.{Repl
 ghost use Rattle.operator_machine.specs.declared.verdict.Verdict.{Verdict};
 ghost use Rattle.operator_machine.specs.Handle.{transacted};
 ghost use Rattle.operator_machine.specs.Frames.{frames_in, is_tick};
+ghost use Rattle.operator_machine.specs.Slices.{reslicings_in, slice_at, IsOfItsSlice, MayRun};
 ghost use Rattle.operator_machine.specs.Machine.{own_step, own_run, IsAllowed};
-ghost use Rattle.operator_machine.specs.Replay.{IsReplay};
+ghost use Rattle.operator_machine.specs.Replay.{actions_of, IsReplay};
 ghost use Rattle.operator_machine.specs.Part.{is_own_sid};
 ghost use Rattle.operator_machine.specs.Sound.{IsSound};
 
@@ -73,6 +74,17 @@ pub fn replay_is_sound()
 pub fn frames_have_no_gap()
     ensures numbers { (consts : ConstsFields) (row : RowFields) (state : OperatorState) (actions : List Action) → frames_in (own_run consts row state actions).outputs ≡ range_with_len state.frame (count_by is_tick actions) }
     ensures next { (consts : ConstsFields) (row : RowFields) (state : OperatorState) (actions : List Action) → (own_run consts row state actions).state.frame ≡ state.frame + count_by is_tick actions }
+{}
+
+/// Over a run of actions each of which is allowed at its place, each frame that is put out is of the slice of its number: that
+/// of the newest re-slicing that is not from a later frame on, at first the row's. So is the slice in force after it.
+pub fn frames_are_shares()
+    ensures frames { (consts : ConstsFields) (row : RowFields) (actions : List Action) → MayRun consts row (opened consts row) actions
+        → All (IsOfItsSlice (slice_at row.slice (reslicings_in actions))) (own_run consts row (opened consts row) actions).outputs }
+    ensures in_force { (consts : ConstsFields) (row : RowFields) (actions : List Action) → MayRun consts row (opened consts row) actions
+        → (own_run consts row (opened consts row) actions).state.share.slice ≡ slice_at row.slice (reslicings_in actions) (own_run consts row (opened consts row) actions).state.frame }
+    ensures replayed { (consts : ConstsFields) (row : RowFields) (history : List Entry) (state : OperatorState) → IsReplay consts row history state
+        → state.share.slice ≡ slice_at row.slice (reslicings_in (actions_of history)) state.frame }
 {}
 
 /// A request that is repeated changes nothing, and gets the kept reply again, whatever it says now.
