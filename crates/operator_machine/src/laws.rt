@@ -1,6 +1,6 @@
 //! Laws of the machine.
 
-ghost use Rattle.std.specs.Prelude.{◌≡◌, ◌≢◌, ℕ, ◌+◌, ◌<◌, ◌≤◌, true, List, [], ◌∷◌, length, All, count_by, find, Some};
+ghost use Rattle.std.specs.Prelude.{◌≡◌, ◌≢◌, ◌==◌, ℕ, ◌+◌, ◌<◌, ◌≤◌, true, List, [], ◌∷◌, length, All, count_by, find, Some};
 ghost use Rattle.std.specs.List.{list_all, range_with_len};
 ghost use Rattle.dsx_messages.specs.declared.modem.Modem.{Modem};
 ghost use Rattle.dsx_messages.specs.declared.kind.Kind.{Kind};
@@ -41,12 +41,13 @@ pub fn given_up_have_no_grants()
 {}
 
 /// What a tick puts out is the operator's part of the frame's MAP: it is of the slice in force and tiles it, with SIDs of the
-/// row's range or nobody's, and has no more elements than the row's quota and one for what is left of the slice.
+/// row's range or nobody's, at most one span is nobody's, and it has no more elements than the row's quota and one for what is left of the slice.
 pub fn frame_is_a_part()
     ensures slice { (consts : ConstsFields) (row : RowFields) (state : OperatorState) → (frame_elements consts row state).slice ≡ state.share.slice }
     ensures tiled { (consts : ConstsFields) (row : RowFields) (state : OperatorState) → IsSound consts row state → IsTiled (frame_elements consts row state) }
     ensures spans_mine { (consts : ConstsFields) (row : RowFields) (state : OperatorState) → IsSound consts row state → list_all (λ span. is_own_sid row.sids span.sid) (frame_elements consts row state).spans ≡ true }
     ensures pending_mine { (consts : ConstsFields) (row : RowFields) (state : OperatorState) → IsSound consts row state → list_all (λ sid. is_own_sid row.sids sid) (frame_elements consts row state).pending ≡ true }
+    ensures spans_not_null { (consts : ConstsFields) (row : RowFields) (state : OperatorState) → IsSound consts row state → IsRow row → count_by (λ span. span.sid == 0) (frame_elements consts row state).spans ≤ 1 }
     ensures pending_not_null { (consts : ConstsFields) (row : RowFields) (state : OperatorState) → IsSound consts row state → IsRow row → All (λ sid. sid ≢ 0) (frame_elements consts row state).pending }
     ensures few { (consts : ConstsFields) (row : RowFields) (state : OperatorState) → IsSound consts row state
         → length (frame_elements consts row state).spans + length (frame_elements consts row state).pending ≤ row.elements + 1 }
