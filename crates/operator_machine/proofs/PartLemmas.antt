@@ -1,5 +1,5 @@
 -- What a tick puts out is a part of its frame's MAP.
-use Rattle.std.proofs.Common.{◌≡◌, ◌≢◌, ℕ, ◌+◌, ◌==◌, ◌&&◌, ◌||◌, ◌≤◌, Bool, true, false, cond, List, [], ◌∷◌, length, Option, Some, None, IfSome, IsSome, unwrap_or, All, count_by, refl, sym, ap, ◌∙◌, subst, arith, nat_le}
+use Rattle.std.proofs.Common.{◌≡◌, ◌≢◌, ℕ, ◌+◌, ◌==◌, ◌&&◌, ◌≤◌, Bool, true, false, cond, List, [], ◌∷◌, length, Option, Some, None, IfSome, IsSome, unwrap_or, All, count_by, refl, sym, ap, ◌∙◌, subst, arith}
 use Rattle.std.specs.List.{AllByRecursion, cons_option, list_all}
 use Rattle.std.specs.Map.{values_of}
 use Rattle.std.proofs.lemmas.Bool.Decides.{nat_tests}
@@ -8,7 +8,6 @@ use Rattle.std.proofs.lemmas.List.Elements.{All-head, All-tail, All-from_recursi
 use Rattle.admission.specs.Free.{Numbers, IsIn}
 use Rattle.param_sets.specs.Within.{IsWithinOrNull}
 use Rattle.param_sets.specs.declared.scheduling.Scheduling.{Scheduling}
-use Rattle.param_sets.specs.declared.scheduling.Scheduling.TheVariants.{UnsolicitedGrant}
 use Rattle.param_sets.specs.declared.param_set.ParamFields.{ParamFields}
 use Rattle.slice_scheduler.specs.declared.span.Span.{Span}
 use Rattle.slice_scheduler.specs.declared.flowing.Flowing.{Flowing}
@@ -26,7 +25,7 @@ use Rattle.flow_table.specs.declared.flow.Flow.{Flow}
 use Rattle.flow_table.specs.Flow.{is_unsolicited, asks_for_grants}
 use Rattle.flow_table.specs.Table.{flowing_of_set, flowing_in}
 use Rattle.operator_machine.specs.State.{OperatorState}
-use Rattle.operator_machine.specs.Frame.{at_frame, flows_left, frame_elements}
+use Rattle.operator_machine.specs.Frame.{at_frame, frame_elements}
 use Rattle.operator_machine.specs.Part.{is_own_sid}
 use Rattle.operator_machine.specs.Sound.{KeepsItsKind, IsSoundFlow, IsSound}
 use Rattle.operator_machine.proofs.FlowsLemmas.{sids-each}

@@ -1,5 +1,5 @@
 -- The slice of each frame of a run.
-use Rattle.std.proofs.Common.{◌≡◌, ℕ, ◌+◌, ◌==◌, ◌<◌, ◌≤◌, Bool, true, false, cond, List, [], ◌∷◌, ◌++◌, Option, Some, None, is_some, IfSome, All, find, map, reverse, refl, sym, ap, ◌∙◌, subst, arith, nat_le}
+use Rattle.std.proofs.Common.{◌≡◌, ℕ, ◌+◌, ◌==◌, ◌<◌, ◌≤◌, Bool, true, false, cond, List, [], ◌∷◌, Option, Some, None, is_some, IfSome, All, find, map, reverse, refl, sym, ap, ◌∙◌, subst, arith, nat_le}
 use Rattle.std.specs.List.{AllByRecursion, cons_option}
 use Rattle.std.specs.Option.{option_or}
 use Rattle.std.proofs.lemmas.Bool.{le-leb, lt-leb, leb-false, eqb-true, eqb-false}
@@ -22,12 +22,12 @@ use Rattle.operator_machine.specs.declared.share.Share.{Share}
 use Rattle.operator_machine.specs.declared.share.NextShare.{NextShare}
 use Rattle.operator_machine.specs.State.{OperatorState, opened}
 use Rattle.operator_machine.specs.Handle.{Ran}
-use Rattle.operator_machine.specs.Frame.{share_at, next_at, resent, ticked, frame_elements}
+use Rattle.operator_machine.specs.Frame.{share_at, next_at, resent, frame_elements}
 use Rattle.operator_machine.specs.Frames.{frames_in}
 use Rattle.operator_machine.specs.Machine.{arrived, worked, resliced, unfit_from, own_step, own_run, IsAllowed}
 use Rattle.operator_machine.specs.Replay.{actions_of, AreTold, IsReplay}
 use Rattle.operator_machine.specs.Slices.{SliceFrom, slice_from, reslicings_in, slice_or, slice_at, IsOfItsSlice, MayRun}
-use Rattle.operator_machine.proofs.FrameLemmas.{StaysAt, worked_none, arrived_none, resent_none, step_puts}
+use Rattle.operator_machine.proofs.FrameLemmas.{StaysAt, worked_none, arrived_none, resent_none}
 use Rattle.operator_machine.proofs.StepLemmas.{passed}
 
 -- ---- re-slicings, one after the other
