@@ -42,51 +42,57 @@ pub record PutsOut (frame count : ℕ) (ran : Ran) : Type 0 where
   pub numbers : frames_in ran.outputs ≡ range_with_len frame count
   pub next : ran.state.frame ≡ frame + count
 
+-- what is done puts out no frame, and leaves the next frame and the shares
+pub record StaysAt (state : OperatorState) (ran : Ran) : Type 0 where
+  pub numbers : frames_in ran.outputs ≡ []
+  pub frame : ran.state.frame ≡ state.frame
+  pub share : ran.state.share ≡ state.share
+  pub waits : ran.state.next ≡ state.next
+
 module _ (consts : ConstsFields) (row : RowFields) (state : OperatorState) where
-  -- nothing but a tick puts out a frame
   abbrev PutsNone : Ran → Type 0
-  PutsNone ran = PutsOut state.frame 0 ran
+  PutsNone ran = StaysAt state ran
 
   transacted_none : (modem : Modem) (kind : Kind) (tid : ℕ) (v : Verdict) → PutsNone (transacted consts row state modem kind tid v)
-  transacted_none modem kind tid v = cond_both (is_of_cmts tid) _ _ PutsNone (λ _. record { numbers = refl; next = omega arith }) (λ _. by (find (is_of modem tid) state.kept))
+  transacted_none modem kind tid v = cond_both (is_of_cmts tid) _ _ PutsNone (λ _. record { numbers = refl; frame = refl; share = refl; waits = refl }) (λ _. by (find (is_of modem tid) state.kept))
     where
       by : (o : Option KeptEntry) → PutsNone (new_unless consts row state modem kind tid v o)
-      by None = cond_both (nat_le row.transactions (length state.kept)) _ _ PutsNone (λ _. record { numbers = refl; next = omega arith }) (λ _. record { numbers = refl; next = omega arith })
-      by (Some entry) = cond_both (same_kind entry.kind kind) _ _ PutsNone (λ _. record { numbers = refl; next = omega arith }) (λ _. record { numbers = refl; next = omega arith })
+      by None = cond_both (nat_le row.transactions (length state.kept)) _ _ PutsNone (λ _. record { numbers = refl; frame = refl; share = refl; waits = refl }) (λ _. record { numbers = refl; frame = refl; share = refl; waits = refl })
+      by (Some entry) = cond_both (same_kind entry.kind kind) _ _ PutsNone (λ _. record { numbers = refl; frame = refl; share = refl; waits = refl }) (λ _. record { numbers = refl; frame = refl; share = refl; waits = refl })
 
   acked_none : (modem : Modem) (tid : ℕ) (kind : Kind) (code : ℕ) (o : Option ℕ) → PutsNone (acked_if consts state modem tid kind code o)
-  acked_none modem tid kind code None = record { numbers = refl; next = omega arith }
-  acked_none modem tid kind code (Some sfid) = record { numbers = refl; next = omega arith }
+  acked_none modem tid kind code None = record { numbers = refl; frame = refl; share = refl; waits = refl }
+  acked_none modem tid kind code (Some sfid) = record { numbers = refl; frame = refl; share = refl; waits = refl }
 
   message_none : (modem : Modem) (m : Result Message MessageFault) → PutsNone (message_handled consts row state modem m)
-  message_none modem (Err faults.Empty) = record { numbers = refl; next = omega arith }
-  message_none modem (Err (faults.NotOurs mtype)) = record { numbers = refl; next = omega arith }
-  message_none modem (Err faults.Short) = record { numbers = refl; next = omega arith }
+  message_none modem (Err faults.Empty) = record { numbers = refl; frame = refl; share = refl; waits = refl }
+  message_none modem (Err (faults.NotOurs mtype)) = record { numbers = refl; frame = refl; share = refl; waits = refl }
+  message_none modem (Err faults.Short) = record { numbers = refl; frame = refl; share = refl; waits = refl }
   message_none modem (Err (faults.Tlv tid kind id fault)) = transacted_none modem kind tid (Refused (errored kind tid id fault))
   message_none modem (Err (faults.LeftOut tid kind found)) = transacted_none modem kind tid (Refused (refusal kind tid codes.RejectUnrecognizedSetting))
-  message_none modem (Err faults.NoMemory) = record { numbers = refl; next = omega arith }
+  message_none modem (Err faults.NoMemory) = record { numbers = refl; frame = refl; share = refl; waits = refl }
   message_none modem (Ok (messages.Ack kind tid code)) = acked_none modem tid kind code (option_map (λ entry. entry.sfid) (find (waits_for modem tid kind) state.kept))
   message_none modem (Ok (messages.Request request)) = transacted_none modem (kind_of request) (tid_of request) (verdict consts row state modem request)
 
   asked_none : (modem : Modem) (minislots : ℕ) (o : Option (ℕ × Flow)) → PutsNone (asked_of_flow state modem minislots o)
-  asked_none modem minislots None = record { numbers = refl; next = omega arith }
+  asked_none modem minislots None = record { numbers = refl; frame = refl; share = refl; waits = refl }
   asked_none modem minislots (Some entry) =
-      cond_both (not (same_modem entry.1.modem modem)) _ _ PutsNone (λ _. record { numbers = refl; next = omega arith })
-      (λ _. cond_both (not (asks_for_grants entry.1.sets.active)) _ _ PutsNone (λ _. record { numbers = refl; next = omega arith }) (λ _. record { numbers = refl; next = omega arith }))
+      cond_both (not (same_modem entry.1.modem modem)) _ _ PutsNone (λ _. record { numbers = refl; frame = refl; share = refl; waits = refl })
+      (λ _. cond_both (not (asks_for_grants entry.1.sets.active)) _ _ PutsNone (λ _. record { numbers = refl; frame = refl; share = refl; waits = refl }) (λ _. record { numbers = refl; frame = refl; share = refl; waits = refl }))
 
   handle_none : (modem : Modem) (heard : Heard) → PutsNone (handle consts row state modem heard)
   handle_none modem (heards.Message bytes) = message_none modem (message_of bytes)
   handle_none modem (heards.Request sid minislots) = asked_none modem minislots (flow_with sid state.flows)
 
-  worked_none : (inbox : List Arrival) → PutsNone (worked consts row state inbox)
-  worked_none [] = record { numbers = refl; next = omega arith }
-  worked_none (first ∷ others) = let ran = handle_none first.modem first.heard in record { numbers = ran.numbers; next = ran.next }
+  pub worked_none : (inbox : List Arrival) → PutsNone (worked consts row state inbox)
+  worked_none [] = record { numbers = refl; frame = refl; share = refl; waits = refl }
+  worked_none (first ∷ others) = let ran = handle_none first.modem first.heard in record { numbers = ran.numbers; frame = ran.frame; share = ran.share; waits = ran.waits }
 
-  arrived_none : (modem : Modem) (heard : Heard) → PutsNone (arrived row state modem heard)
-  arrived_none modem heard = cond_both (nat_le row.inbox (length state.inbox)) _ _ PutsNone (λ _. record { numbers = refl; next = omega arith }) (λ _. record { numbers = refl; next = omega arith })
+  pub arrived_none : (modem : Modem) (heard : Heard) → PutsNone (arrived row state modem heard)
+  arrived_none modem heard = cond_both (nat_le row.inbox (length state.inbox)) _ _ PutsNone (λ _. record { numbers = refl; frame = refl; share = refl; waits = refl }) (λ _. record { numbers = refl; frame = refl; share = refl; waits = refl })
 
   -- what is resent is no frame
-  resent_none : (resends : List Resend) → frames_in (map resent resends) ≡ []
+  pub resent_none : (resends : List Resend) → frames_in (map resent resends) ≡ []
   resent_none [] = refl
   resent_none (resend ∷ resends) = resent_none resends
 
@@ -97,10 +103,10 @@ module _ (consts : ConstsFields) (row : RowFields) (state : OperatorState) where
     next = refl;
   }
 
-  step_puts : (action : Action) → PutsOut state.frame (cond {A = ℕ} (is_tick action) 1 0) (own_step consts row state action)
+  pub step_puts : (action : Action) → PutsOut state.frame (cond {A = ℕ} (is_tick action) 1 0) (own_step consts row state action)
   unfolding own_step
-  step_puts (Arrive modem heard) = arrived_none modem heard
-  step_puts Work = worked_none state.inbox
+  step_puts (Arrive modem heard) = let stays = arrived_none modem heard in record { numbers = stays.numbers; next = omega (arith, stays.frame) }
+  step_puts Work = let stays = worked_none state.inbox in record { numbers = stays.numbers; next = omega (arith, stays.frame) }
   step_puts Tick = ticked_one
   step_puts (Reslice from offered) = record { numbers = refl; next = omega arith }
 

@@ -23,3 +23,4 @@ pub mod LeftLemmas
 pub mod TickLemmas
 pub mod StepLemmas
 pub mod FrameLemmas
+pub mod SliceLemmas

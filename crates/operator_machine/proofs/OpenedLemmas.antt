@@ -9,7 +9,6 @@ use Rattle.tlv24.specs.Flow.{flow_of}
 use Rattle.dsx_messages.specs.declared.modem.Modem.{Modem}
 use Rattle.admission.specs.Free.{IsFree, least_free_of}
 use Rattle.param_sets.specs.Need.{need_if}
-use Rattle.param_sets.specs.Sets.{AreNested}
 use Rattle.param_sets.specs.declared.sets.SetsFields.{SetsFields}
 use Rattle.slice_table.specs.declared.consts.ConstsFields.{ConstsFields}
 use Rattle.slice_table.specs.declared.provision.Provision.{Provision}

@@ -1,5 +1,5 @@
 -- What a tick puts out is a part of its frame's MAP.
-use Rattle.std.proofs.Common.{◌≡◌, ◌≢◌, ℕ, ◌+◌, ◌==◌, ◌&&◌, ◌||◌, ◌≤◌, Bool, true, false, cond, List, [], ◌∷◌, length, Option, Some, None, IfSome, IsSome, unwrap_or, All, refl, sym, ap, ◌∙◌, subst, arith, nat_le}
+use Rattle.std.proofs.Common.{◌≡◌, ◌≢◌, ℕ, ◌+◌, ◌==◌, ◌&&◌, ◌≤◌, Bool, true, false, cond, List, [], ◌∷◌, length, Option, Some, None, IfSome, IsSome, unwrap_or, All, count_by, refl, sym, ap, ◌∙◌, subst, arith}
 use Rattle.std.specs.List.{AllByRecursion, cons_option, list_all}
 use Rattle.std.specs.Map.{values_of}
 use Rattle.std.proofs.lemmas.Bool.Decides.{nat_tests}
@@ -8,7 +8,6 @@ use Rattle.std.proofs.lemmas.List.Elements.{All-head, All-tail, All-from_recursi
 use Rattle.admission.specs.Free.{Numbers, IsIn}
 use Rattle.param_sets.specs.Within.{IsWithinOrNull}
 use Rattle.param_sets.specs.declared.scheduling.Scheduling.{Scheduling}
-use Rattle.param_sets.specs.declared.scheduling.Scheduling.TheVariants.{UnsolicitedGrant}
 use Rattle.param_sets.specs.declared.param_set.ParamFields.{ParamFields}
 use Rattle.slice_scheduler.specs.declared.span.Span.{Span}
 use Rattle.slice_scheduler.specs.declared.flowing.Flowing.{Flowing}
@@ -18,7 +17,7 @@ use Rattle.slice_scheduler.specs.Servable.{IsOfItsKind, AsksWhereItMay}
 use Rattle.slice_scheduler.specs.Tiles.{IsTiled}
 use Rattle.slice_scheduler.proofs.TiledLemmas.{elements-tiled}
 use Rattle.slice_scheduler.proofs.NamedLemmas.{spans-named, pending-named}
-use Rattle.slice_scheduler.proofs.FewLemmas.{elements-few}
+use Rattle.slice_scheduler.proofs.FewLemmas.{elements-few, one-nobody}
 use Rattle.slice_table.specs.declared.consts.ConstsFields.{ConstsFields}
 use Rattle.slice_table.specs.declared.operator_row.RowFields.{RowFields}
 use Rattle.slice_table.specs.Row.{IsRow}
@@ -26,7 +25,7 @@ use Rattle.flow_table.specs.declared.flow.Flow.{Flow}
 use Rattle.flow_table.specs.Flow.{is_unsolicited, asks_for_grants}
 use Rattle.flow_table.specs.Table.{flowing_of_set, flowing_in}
 use Rattle.operator_machine.specs.State.{OperatorState}
-use Rattle.operator_machine.specs.Frame.{at_frame, flows_left, frame_elements}
+use Rattle.operator_machine.specs.Frame.{at_frame, frame_elements}
 use Rattle.operator_machine.specs.Part.{is_own_sid}
 use Rattle.operator_machine.specs.Sound.{KeepsItsKind, IsSoundFlow, IsSound}
 use Rattle.operator_machine.proofs.FlowsLemmas.{sids-each}
@@ -125,6 +124,9 @@ module _ (consts : ConstsFields) (row : RowFields) (state : OperatorState) (soun
   pub part_some : IsRow row → All (λ sid. sid ≢ 0) (frame_elements consts row state).pending
   part_some keys = subst (λ (e : ElementsFields). All (λ sid. sid ≢ 0) e.pending) same
       (All-from_recursion (λ sid. sid ≢ 0) (made_of flows).pending (pending-named (λ sid. sid ≢ 0) row.policy (at_frame consts state) flows (some keys)))
+
+  pub part_nobody : IsRow row → count_by (λ (span : Span). span.sid == 0) (frame_elements consts row state).spans ≤ 1
+  part_nobody keys = subst (λ (e : ElementsFields). count_by (λ (span : Span). span.sid == 0) e.spans ≤ 1) same (one-nobody row.policy (at_frame consts state) flows (some keys))
 
   pub part_few : length (frame_elements consts row state).spans + length (frame_elements consts row state).pending ≤ row.elements + 1
   part_few = subst (λ (e : ElementsFields). length e.spans + length e.pending ≤ row.elements + 1) same

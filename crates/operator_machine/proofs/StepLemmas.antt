@@ -28,7 +28,7 @@ use Rattle.operator_machine.proofs.OpenedLemmas.{opened_sound}
 -- ---- a share that is taken
 
 -- a test that would refuse does not hold
-passed : {X : Type 0} (b : Bool) (x : X) (o : Option X) → cond b (Some x) o ≡ None → (b ≡ false) × (o ≡ None)
+pub passed : {X : Type 0} (b : Bool) (x : X) (o : Option X) → cond b (Some x) o ≡ None → (b ≡ false) × (o ≡ None)
 passed true x o none = absurd (none-some x (sym none))
 passed false x o none = (refl, none)
 

@@ -8,4 +8,5 @@ pub mod Replay
 pub mod Sound
 pub mod Part
 pub mod Frames
+pub mod Slices
 pub mod Worked

@@ -1,6 +1,6 @@
 //! Laws of the machine.
 
-ghost use Rattle.std.specs.Prelude.{◌≡◌, ◌≢◌, ℕ, ◌+◌, ◌<◌, ◌≤◌, true, List, [], ◌∷◌, length, All, count_by, find, Some};
+ghost use Rattle.std.specs.Prelude.{◌≡◌, ◌≢◌, ◌==◌, ℕ, ◌+◌, ◌<◌, ◌≤◌, true, List, [], ◌∷◌, length, All, count_by, find, Some};
 ghost use Rattle.std.specs.List.{list_all, range_with_len};
 ghost use Rattle.dsx_messages.specs.declared.modem.Modem.{Modem};
 ghost use Rattle.dsx_messages.specs.declared.kind.Kind.{Kind};
@@ -20,8 +20,9 @@ ghost use Rattle.operator_machine.specs.declared.output.Output.TheVariants.{Repl
 ghost use Rattle.operator_machine.specs.declared.verdict.Verdict.{Verdict};
 ghost use Rattle.operator_machine.specs.Handle.{transacted};
 ghost use Rattle.operator_machine.specs.Frames.{frames_in, is_tick};
+ghost use Rattle.operator_machine.specs.Slices.{reslicings_in, slice_at, IsOfItsSlice, MayRun};
 ghost use Rattle.operator_machine.specs.Machine.{own_step, own_run, IsAllowed};
-ghost use Rattle.operator_machine.specs.Replay.{IsReplay};
+ghost use Rattle.operator_machine.specs.Replay.{actions_of, IsReplay};
 ghost use Rattle.operator_machine.specs.Part.{is_own_sid};
 ghost use Rattle.operator_machine.specs.Sound.{IsSound};
 
@@ -40,12 +41,13 @@ pub fn given_up_have_no_grants()
 {}
 
 /// What a tick puts out is the operator's part of the frame's MAP: it is of the slice in force and tiles it, with SIDs of the
-/// row's range or nobody's, and has no more elements than the row's quota and one for what is left of the slice.
+/// row's range or nobody's, at most one span is nobody's, and it has no more elements than the row's quota and one for what is left of the slice.
 pub fn frame_is_a_part()
     ensures slice { (consts : ConstsFields) (row : RowFields) (state : OperatorState) → (frame_elements consts row state).slice ≡ state.share.slice }
     ensures tiled { (consts : ConstsFields) (row : RowFields) (state : OperatorState) → IsSound consts row state → IsTiled (frame_elements consts row state) }
     ensures spans_mine { (consts : ConstsFields) (row : RowFields) (state : OperatorState) → IsSound consts row state → list_all (λ span. is_own_sid row.sids span.sid) (frame_elements consts row state).spans ≡ true }
     ensures pending_mine { (consts : ConstsFields) (row : RowFields) (state : OperatorState) → IsSound consts row state → list_all (λ sid. is_own_sid row.sids sid) (frame_elements consts row state).pending ≡ true }
+    ensures spans_not_null { (consts : ConstsFields) (row : RowFields) (state : OperatorState) → IsSound consts row state → IsRow row → count_by (λ span. span.sid == 0) (frame_elements consts row state).spans ≤ 1 }
     ensures pending_not_null { (consts : ConstsFields) (row : RowFields) (state : OperatorState) → IsSound consts row state → IsRow row → All (λ sid. sid ≢ 0) (frame_elements consts row state).pending }
     ensures few { (consts : ConstsFields) (row : RowFields) (state : OperatorState) → IsSound consts row state
         → length (frame_elements consts row state).spans + length (frame_elements consts row state).pending ≤ row.elements + 1 }
@@ -73,6 +75,17 @@ pub fn replay_is_sound()
 pub fn frames_have_no_gap()
     ensures numbers { (consts : ConstsFields) (row : RowFields) (state : OperatorState) (actions : List Action) → frames_in (own_run consts row state actions).outputs ≡ range_with_len state.frame (count_by is_tick actions) }
     ensures next { (consts : ConstsFields) (row : RowFields) (state : OperatorState) (actions : List Action) → (own_run consts row state actions).state.frame ≡ state.frame + count_by is_tick actions }
+{}
+
+/// Over a run of actions each of which is allowed at its place, each frame that is put out is of the slice of its number: that
+/// of the newest re-slicing that is not from a later frame on, at first the row's. So is the slice in force after it.
+pub fn frames_are_shares()
+    ensures frames { (consts : ConstsFields) (row : RowFields) (actions : List Action) → MayRun consts row (opened consts row) actions
+        → All (IsOfItsSlice (slice_at row.slice (reslicings_in actions))) (own_run consts row (opened consts row) actions).outputs }
+    ensures in_force { (consts : ConstsFields) (row : RowFields) (actions : List Action) → MayRun consts row (opened consts row) actions
+        → (own_run consts row (opened consts row) actions).state.share.slice ≡ slice_at row.slice (reslicings_in actions) (own_run consts row (opened consts row) actions).state.frame }
+    ensures replayed { (consts : ConstsFields) (row : RowFields) (history : List Entry) (state : OperatorState) → IsReplay consts row history state
+        → state.share.slice ≡ slice_at row.slice (reslicings_in (actions_of history)) state.frame }
 {}
 
 /// A request that is repeated changes nothing, and gets the kept reply again, whatever it says now.

@@ -13,8 +13,8 @@ mod worked;
 pub use action::{Action, Entry, SliceRow, Unfit};
 pub use heard::{Arrival, Heard};
 pub use laws::{
-    frame_is_a_part, frames_have_no_gap, given_up_have_no_grants, opened_is_sound,
-    repeat_changes_nothing, replay_is_sound, schedule_can_serve, step_keeps_sound,
+    frame_is_a_part, frames_are_shares, frames_have_no_gap, given_up_have_no_grants,
+    opened_is_sound, repeat_changes_nothing, replay_is_sound, schedule_can_serve, step_keeps_sound,
 };
 pub use output::{Cause, Output, Outputs};
 pub use share::{NextShare, Share};

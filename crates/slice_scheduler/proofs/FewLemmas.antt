@@ -1,17 +1,18 @@
 -- How many elements a schedule has.
-use Rattle.std.proofs.Common.{◌≡◌, ℕ, ◌+◌, ◌-◌, ◌==◌, ◌≤◌, Bool, true, false, cond, List, [], ◌∷◌, ◌++◌, length, filter, sum_by, refl, ap, arith}
+use Rattle.std.proofs.Common.{◌≡◌, ◌≢◌, ℕ, count_by, ◌+◌, ◌-◌, ◌==◌, ◌≤◌, Bool, true, false, cond, List, [], ◌∷◌, ◌++◌, length, filter, sum_by, refl, ap, arith}
 use Rattle.std.specs.Prelude.{nat_lt}
 use Rattle.std.specs.List.{AllByRecursion, flat_map}
-use Rattle.std.proofs.lemmas.Bool.{eq-eqb, le-ltb}
+use Rattle.std.proofs.lemmas.Bool.{eq-eqb, ne_eqb, le-ltb}
 use Rattle.std.proofs.lemmas.List.{length-append, length-map, length-replicate}
 use Rattle.std.proofs.lemmas.List.Concat.{length-flat_map}
-use Rattle.std.proofs.lemmas.List.Sums.{length-filter}
+use Rattle.std.proofs.lemmas.List.Sums.{length-filter, sum_by-cons, sum_by-append, count_by-le-length}
 use Rattle.param_sets.specs.Units.{minislots_of}
 use Rattle.param_sets.specs.Need.{need_of_kind, need_of}
 use Rattle.param_sets.specs.declared.scheduling.Scheduling.{Scheduling}
 use Rattle.param_sets.specs.declared.scheduling.Scheduling.TheVariants.{BestEffort, NonRealTimePolling, RealTimePolling, UnsolicitedGrant}
 use Rattle.grant_policy.specs.declared.policy.Policy.{Policy}
 use Rattle.slice_scheduler.specs.declared.piece.Piece.{Piece}
+use Rattle.slice_scheduler.specs.declared.span.Span.{Span}
 use Rattle.slice_scheduler.specs.declared.award.Award.{Award}
 use Rattle.slice_scheduler.specs.declared.flowing.At.{At}
 use Rattle.slice_scheduler.specs.declared.flowing.Flowing.{Flowing}
@@ -22,7 +23,8 @@ use Rattle.slice_scheduler.specs.Schedule.{by_rank, award_pieces, pieces_of, idl
 use Rattle.slice_scheduler.specs.Servable.{AsksWhereItMay, elements_needed}
 use Rattle.slice_scheduler.proofs.SumLemmas.{sum_by-add, sum_by-le, filtered-le, recursion-weaker}
 use Rattle.slice_scheduler.proofs.RankLemmas.{sum_by-ranked_below}
-use Rattle.slice_scheduler.proofs.PackedLemmas.{spare}
+use Rattle.slice_scheduler.proofs.PackedLemmas.{placed, spare}
+use Rattle.slice_scheduler.proofs.NamedLemmas.{pieces-named}
 use Rattle.slice_scheduler.proofs.TotalLemmas.{sum_by-map}
 
 -- ---- an award
@@ -122,3 +124,35 @@ module _ (policy : Policy) (at : At) (flows : List Flowing) where
         sum_by-add (λ f. length (due_pieces at f) + for_award at (award_for f)) (λ f. length (due_pieces at f)) (λ f. for_award at (award_for f)) (λ f. refl) flows,
         sum_by-le (λ f. length (due_pieces at f) + for_award at (award_for f)) (λ f. (need_of f.set at.units).elements) flows each,
       )
+
+-- ---- nobody's
+
+nobody-packed : (start : ℕ) (pieces : List Piece) → count_by (λ (span : Span). span.sid == 0) (packed start pieces) ≡ count_by (λ (piece : Piece). piece.sid == 0) pieces
+nobody-packed start [] = refl
+nobody-packed start (piece ∷ pieces) = omega (
+  arith,
+  sum_by-cons (λ (span : Span). cond {A = ℕ} (span.sid == 0) 1 0) (placed start piece) (packed (start + piece.len) pieces),
+  sum_by-cons (λ (p : Piece). cond {A = ℕ} (p.sid == 0) 1 0) piece pieces,
+  nobody-packed (start + piece.len) pieces,
+)
+
+none-nobody : (pieces : List Piece) → AllByRecursion (λ (piece : Piece). piece.sid ≢ 0) pieces → count_by (λ (piece : Piece). piece.sid == 0) pieces ≡ 0
+none-nobody [] named = refl
+none-nobody (piece ∷ pieces) named = omega (
+  arith,
+  sum_by-cons (λ (p : Piece). cond {A = ℕ} (p.sid == 0) 1 0) piece pieces,
+  ap (λ (b : Bool). cond {A = ℕ} b 1 0) (ne_eqb piece.sid 0 named.0),
+  none-nobody pieces named.1,
+)
+
+pub one-nobody : (policy : Policy) (at : At) (flows : List Flowing) → AllByRecursion (λ (f : Flowing). f.sid ≢ 0) flows → count_by (λ (span : Span). span.sid == 0) (spans_of policy at flows) ≤ 1
+one-nobody policy at flows named =
+    let left : ℕ = at.slice.length - minislots_in (pieces_of policy at flows) in
+    omega (
+      arith,
+      nobody-packed at.slice.start (pieces_of policy at flows ++ idle left),
+      sum_by-append (λ (piece : Piece). cond {A = ℕ} (piece.sid == 0) 1 0) (pieces_of policy at flows) (idle left),
+      none-nobody (pieces_of policy at flows) (pieces-named (λ sid. sid ≢ 0) policy at flows named),
+      count_by-le-length (λ (piece : Piece). piece.sid == 0) (idle left),
+      one_idle left,
+    )

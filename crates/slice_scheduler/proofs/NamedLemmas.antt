@@ -66,7 +66,7 @@ module _ (P : ℕ → Type 0) where
         (recursion-map OfAward (award_of (room_of at flows) (claims_of policy at flows)) (claims_of policy at flows)
         (recursion-map (λ (c : Claim). P c.sid) (claim_of policy at) flows named))
 
-    pieces-named : AllByRecursion OfPiece (pieces_of policy at flows)
+    pub pieces-named : AllByRecursion OfPiece (pieces_of policy at flows)
     pieces-named = recursion-append OfPiece (flat_map (due_pieces at) flows) (flat_map (award_pieces at) (by_rank (awards_of policy at flows)))
         (recursion-flat_map OfPiece (due_pieces at) flows (recursion-weaker (λ (f : Flowing). P f.sid) (λ f. AllByRecursion OfPiece (due_pieces at f)) (due-named at) flows named))
         (recursion-flat_map OfPiece (award_pieces at) (by_rank (awards_of policy at flows)) (recursion-weaker OfAward (λ a. AllByRecursion OfPiece (award_pieces at a)) (award-named at) (by_rank (awards_of policy at flows)) served-named))
