@@ -57,6 +57,11 @@ empty_before_last (q ∷ queues) (suc op) part lt waits whole =
 
 -- ---- the parts of the frame by their places
 
+pub length-fronts : (queues : List (List ElementsFields)) → is_whole queues ≡ true → length (fronts queues) ≡ length queues
+length-fronts [] h = refl
+length-fronts ([] ∷ queues) h = let wrong : false ≡ true = h in absurd (cc)
+length-fronts ((p ∷ ps) ∷ queues) h = omega (arith, length-fronts queues (and_parts (some_part (p ∷ ps)) (is_whole queues) h).1)
+
 fronts_at : (queues : List (List ElementsFields)) (d : ElementsFields) (k : ℕ) → is_whole queues ≡ true → get_or (fronts queues) k d ≡ front_or d (queue_of queues k)
 fronts_at [] d k h = refl
 fronts_at ([] ∷ queues) d k h = let wrong : false ≡ true = h in absurd (cc)

@@ -183,6 +183,10 @@ after_last g op frame part is put whole =
     sym (ap (λ (b : Bool). cond b (record g { queues = map (λ (queue : List ElementsFields). drop 1 queue) (with_part g.queues op part); next = g.next + 1 }) (record g { queues = with_part g.queues op part })) whole
     ∙ ap (λ (qs : List (List ElementsFields)). let h : Gathering = record g { queues = qs; next = g.next + 1 } in h) (dropped_with g.queues op part (omega (arith, is.one_each)) (last_is_first g op part is at whole)))
 
+pub after_other : (g : Gathering) (op : ℕ) (part : ElementsFields) → is_last g op part ≡ false → record g { queues = with_part g.queues op part } ≡ after_put g op part
+after_other g op part waits =
+    sym (ap (λ (b : Bool). cond b (record g { queues = map (λ (queue : List ElementsFields). drop 1 queue) (with_part g.queues op part); next = g.next + 1 }) (record g { queues = with_part g.queues op part })) waits)
+
 -- ---- the slices of a frame are valid
 
 all-append : {X : Type 0} (P : X → Type 0) (xs ys : List X) → AllByRecursion P xs → AllByRecursion P ys → AllByRecursion P (xs ++ ys)
