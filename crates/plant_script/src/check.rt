@@ -51,8 +51,12 @@ fn plant_line(alloc: Global, fault: PlantFault) -> Result<String, AllocError>
         PlantFault::SfidsMeet { a, b } => format!(in alloc; "fault: plant 6 {a} {b}\n"),
         PlantFault::ModemTwice { modem } => format!(in alloc; "fault: plant 7 {modem}\n"),
         PlantFault::TooManyElements { total } => format!(in alloc; "fault: plant 8 {total}\n"),
-        PlantFault::BudgetOverSlice { operator } => format!(in alloc; "fault: plant 9 {operator}\n"),
-        PlantFault::ProvisionedOver { operator } => format!(in alloc; "fault: plant 10 {operator}\n"),
+        PlantFault::BudgetOverSlice { operator } => format!(in alloc;
+            "fault: plant 9 {operator}\n"
+        ),
+        PlantFault::ProvisionedOver { operator } => format!(in alloc;
+            "fault: plant 10 {operator}\n"
+        ),
         PlantFault::NoMemory => Err(AllocError),
     }
 }

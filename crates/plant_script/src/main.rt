@@ -1,5 +1,5 @@
-//! The plant's program. Its one word so far is `one`: it reads messages of a modem, a line each, and prints the answers of
-//! the modem's operator.
+//! The plant's program. Its words so far: `one` reads messages of a modem, a line each, and prints the answers of the
+//! modem's operator; `check` reads a plant file and a script, and says whether both are well.
 #![tactic(auto)]
 
 mod answer;

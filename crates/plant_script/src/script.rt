@@ -271,11 +271,7 @@ fn put_line(
 }
 
 /// The steps of lines, each with its line's number; or the first line at fault.
-fn steps_of_lines(
-    alloc: Global,
-    plant: &Plant,
-    lines: &[&[u8]],
-) -> Result<Vec<LineStep>, LineFault>
+fn steps_of_lines(alloc: Global, plant: &Plant, lines: &[&[u8]]) -> Result<Vec<LineStep>, LineFault>
     ensures { GivesSteps result (steps_after plant.now 1 [] (map (λ line. line.now) lines.now)) }
 {
     let mut steps = Vec::new(alloc);

@@ -11,11 +11,48 @@ const ADDITION: &str = "0F0001180A010200010601060F0102\n";
 
 const REPLY: &str = "10000100180E0102000102040000010103020101\n";
 
-/// The status and the text that an input of `one` gets.
-fn one(alloc: Global, input: &str) -> (u8, Vec<u8>) {
+/// A plant of two operators.
+const PLANT: &str = "[plant]
+frame_minislots = 72
+head = 8
+frame_us = 2000
+bytes_per_minislot = 16
+short_max = 4
+channel = 1
+ucd_count = 1
+
+[[operator]]
+name = \"A\"
+slice = [8, 32]
+sfids = [257, 512]
+sids = [257, 272]
+flows = 4
+transactions = 4
+inbox = 4
+budget = 32
+elements = 8
+policy = \"strict\"
+modems = [\"020000000001\", \"020000000002\"]
+
+[[operator]]
+name = \"B\"
+slice = [40, 32]
+sfids = [513, 768]
+sids = [513, 528]
+flows = 4
+transactions = 4
+inbox = 4
+budget = 32
+elements = 8
+policy = \"strict\"
+modems = [\"020000000003\"]
+";
+
+/// The status and the text that an input gets under a word.
+fn told(alloc: Global, word: &str, input: &str) -> (u8, Vec<u8>) {
     let mut reader = input.as_bytes();
     let mut text = Vec::new(alloc);
-    let status = run_program(alloc, &["one"], &mut reader, &mut text);
+    let status = run_program(alloc, &[word], &mut reader, &mut text);
     (status, text)
 }
 
@@ -27,10 +64,147 @@ fn check_one(
     status: u8,
     text: &str,
 ) -> Result<(), Fail> {
-    let answer = one(alloc, input);
+    let answer = told(alloc, "one", input);
     assert_eq!(rt; answer.0, status, "at {input}");
     assert_eq!(rt; answer.1.as_slice(), text.as_bytes(), "at {input}");
     Ok(())
+}
+
+/// Asserts the status and the text that an input of `check` gets.
+fn check_file(
+    rt: &impl Abort,
+    alloc: Global,
+    input: &str,
+    status: u8,
+    text: &str,
+) -> Result<(), Fail> {
+    let answer = told(alloc, "check", input);
+    assert_eq!(rt; answer.0, status, "at {input}");
+    assert_eq!(rt; answer.1.as_slice(), text.as_bytes(), "at {input}");
+    Ok(())
+}
+
+/// Asserts what `check` says of the plant with its first `old` changed to `new`.
+fn check_changed(
+    rt: &impl Abort,
+    alloc: Global,
+    old: &str,
+    new: &str,
+    status: u8,
+    text: &str,
+) -> Result<(), Fail> {
+    let (head, tail) = PLANT.split_once(old).ok_or("not there")?;
+    let input = format!(in alloc; "{head}{new}{tail}")?;
+    check_file(rt, alloc, input.as_str(), status, text)
+}
+
+/// Asserts what `check` says of the plant with a script.
+fn check_script(
+    rt: &impl Abort,
+    alloc: Global,
+    script: &str,
+    status: u8,
+    text: &str,
+) -> Result<(), Fail> {
+    let input = format!(in alloc; "{PLANT}---\n{script}")?;
+    check_file(rt, alloc, input.as_str(), status, text)
+}
+
+#[test]
+fn plants_and_their_faults(rt: HostRuntime) -> Result<(), Fail> {
+    for (old, new, status, text) in [
+        ("[plant]", "[plant]", 0, "ok\n"),
+        ("elements = 8", "elements = 225", 0, "ok\n"),
+        ("[plant]", "x", 3, "fault: plant 1\n"),
+        (
+            "frame_us = 2000\n",
+            "",
+            3,
+            "fault: plant 2 plant.frame_us\n",
+        ),
+        ("strict", "first", 3, "fault: plant 3 operator[0].policy\n"),
+        ("[40, 32]", "[39, 32]", 3, "fault: plant 4 A B\n"),
+        ("[513, 528]", "[272, 528]", 3, "fault: plant 5 A B\n"),
+        ("[513, 768]", "[512, 768]", 3, "fault: plant 6 A B\n"),
+        (
+            "020000000003",
+            "020000000001",
+            3,
+            "fault: plant 7 020000000001\n",
+        ),
+        ("elements = 8", "elements = 226", 3, "fault: plant 8 241\n"),
+        ("budget = 32", "budget = 33", 3, "fault: plant 9 A\n"),
+    ] {
+        check_changed(&rt, rt.alloc(), old, new, status, text)?;
+    }
+    Ok(())
+}
+
+#[test]
+fn scripts_that_are_well(rt: HostRuntime) -> Result<(), Fail> {
+    for script in [
+        "",
+        "\n\nT\n",
+        "M 020000000001 0F0001180A010200010601060F0102\nM 020000000002 0f00\nM 020000000003 -",
+        "Q 020000000001 257 5\nQ 020000000003 00001 65535\nT A\nT B\nT",
+        "Z 1 8/32/32 40/32/32\nZ 4294967295 0/0/0 65535/65535/00000\n",
+    ] {
+        check_script(&rt, rt.alloc(), script, 0, "ok\n")?;
+    }
+    Ok(())
+}
+
+#[test]
+fn fields_at_fault(rt: HostRuntime) -> Result<(), Fail> {
+    for script in [
+        // A modem or an operator that the plant does not have.
+        "M 020000000009 00",
+        "T C",
+        // Fields too few, too many, or empty.
+        "M 020000000001",
+        "M 020000000001 ",
+        "M 020000000001 00 00",
+        "T  A",
+        " T",
+        "T A B",
+        "T\r",
+        // Bytes that are none, and numbers that are none or too great.
+        "M 020000000001 0",
+        "Q 020000000001 65536 1",
+        "Q 020000000001 000001 1",
+        "Q 020000000001 +1 1",
+        "Q 020000000001 1 -1",
+        "Z 4294967296 8/32/32 40/32/32",
+        "Z 00000000001 8/32/32 40/32/32",
+        // A slice and a budget of one operator alone, or a part of them.
+        "Z 1 8/32/32",
+        "Z 1 8/32 40/32/32",
+        "Z",
+        // Another word, and another line of three dashes.
+        "m 020000000001 00",
+        "---",
+    ] {
+        check_script(&rt, rt.alloc(), script, 4, "fault: line 1\n")?;
+    }
+    Ok(())
+}
+
+#[test]
+fn parts_of_an_input(rt: HostRuntime) -> Result<(), Fail> {
+    // The first line at fault is told; lines that are empty count.
+    check_script(&rt, rt.alloc(), "T\n\nT C\nT D\n", 4, "fault: line 3\n")?;
+    // The plant comes before the script.
+    check_file(&rt, rt.alloc(), "x\n---\nT C\n", 3, "fault: plant 1\n")?;
+    for input in ["", "---", "---\nT C\n"] {
+        let text = "fault: plant 2 plant.frame_minislots\n";
+        check_file(&rt, rt.alloc(), input, 3, text)?;
+    }
+    // A line of three dashes ends the plant within a text too; one of four ends nothing.
+    let input = "x = \"\"\"\n---\n\"\"\"\n";
+    check_file(&rt, rt.alloc(), input, 3, "fault: plant 1\n")?;
+    check_file(&rt, rt.alloc(), "----\n", 3, "fault: plant 1\n")?;
+    let input = format!(in rt.alloc(); "{PLANT}---")?;
+    check_file(&rt, rt.alloc(), input.as_str(), 0, "ok\n")
 }
 
 #[test]
