@@ -1,5 +1,5 @@
 -- The identifier that is told of an encoding at fault.
-use Rattle.std.proofs.Common.{◌≡◌, ◌≢◌, ℕ, List, Option, Some, None, Result, Ok, Err, sym, ap, subst, ◌∙◌, inl, inr, rules}
+use Rattle.std.proofs.Common.{◌≢◌, ℕ, List, Option, Some, None, Result, Ok, Err, sym, subst, inl, inr, rules}
 use Rattle.std.specs.Prelude.{IfSome, IfErr}
 use Rattle.std.specs.Option.{option_map}
 use Rattle.tlv24.specs.declared.fault.FlowFault.{FlowFault}
@@ -37,11 +37,13 @@ right_id : (bytes : List ℕ) (fault : MessageFault) → IsFirstMessageFault byt
 right_id bytes faults.Empty h = tt
 right_id bytes (faults.NotOurs mtype) h = tt
 right_id bytes faults.Short h = tt
-right_id bytes (faults.Tlv tid kind id fault) h = (no_deletion kind h.1.mtype h.1.typed,
-    elim h.2 [
-      | inl cut ↦ subst (λ (o : Option FlowId). IfSome o (Names kind)) (sym cut.id_is) tt
-      | inr faulty ↦ subst (λ (o : Option FlowId). IfSome o (Names kind)) (sym faulty.id_is) (names_id kind faulty.told)
-    ])
+right_id bytes (faults.Tlv tid kind id fault) h = (
+  no_deletion kind h.1.mtype h.1.typed,
+  elim h.2 [
+    | inl cut ↦ subst (λ (o : Option FlowId). IfSome o (Names kind)) (sym cut.id_is) tt
+    | inr faulty ↦ subst (λ (o : Option FlowId). IfSome o (Names kind)) (sym faulty.id_is) (names_id kind faulty.told)
+  ],
+)
 right_id bytes (faults.LeftOut tid kind found) h = tt
 right_id bytes faults.NoMemory h = tt
 

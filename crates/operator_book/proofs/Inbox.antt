@@ -1,5 +1,5 @@
 -- No handling looks at the inbox or changes it.
-use Rattle.std.proofs.Common.{◌≡◌, ℕ, Bool, true, false, List, [], ◌∷◌, Option, Some, None, Result, Ok, Err, refl, sym, ap, subst, ◌∙◌}
+use Rattle.std.proofs.Common.{◌≡◌, ℕ, Bool, true, false, List, [], ◌∷◌, Option, Some, None, Result, Ok, Err, refl, sym, ap, ◌∙◌}
 use Rattle.std.specs.Prelude.{not, find, length, nat_le, slice_get, drop, if◌then◌else◌}
 use Rattle.std.specs.Option.{option_map}
 use Rattle.flow_table.specs.Table.{flow_with}
@@ -31,7 +31,7 @@ use Rattle.operator_machine.specs.Verdict.{verdict, errored}
 use Rattle.operator_machine.specs.Machine.{taken_out, worked}
 use Rattle.operator_machine.specs.State.{OperatorState}
 use Rattle.operator_machine.specs.Asked.{refusal}
-use Rattle.operator_machine.specs.Handle.{Ran, told, silent, carried_out, is_of_cmts, repeated, new_unless, transacted, acked_if, kind_of, tid_of, message_handled, asked_of_flow, handle}
+use Rattle.operator_machine.specs.Handle.{Ran, told, silent, carried_out, is_of_cmts, new_unless, transacted, acked_if, kind_of, tid_of, message_handled, asked_of_flow, handle}
 
 module _ (consts : ConstsFields) (row : RowFields) (state : OperatorState) (modem : Modem) where
   again : (kind : Kind) (entry : KeptEntry) (b : Bool) → (if b then told state modem entry.reply else silent state modem causes.TidInUse).state.inbox ≡ state.inbox
@@ -71,7 +71,7 @@ module _ (consts : ConstsFields) (row : RowFields) (state : OperatorState) (mode
 
   asking : (minislots : ℕ) (entry : ℕ × Flow) (mine asks : Bool)
       → (if not mine then silent state modem causes.NoSuchSid else if not asks then silent state modem causes.NotRequesting else
-        record { state = record state { flows = with_flow entry.0 (requested minislots state.frame entry.1) state.flows }; outputs = [] }).state.inbox ≡ state.inbox
+      record { state = record state { flows = with_flow entry.0 (requested minislots state.frame entry.1) state.flows }; outputs = [] }).state.inbox ≡ state.inbox
   asking minislots entry false asks = refl
   asking minislots entry true false = refl
   asking minislots entry true true = refl

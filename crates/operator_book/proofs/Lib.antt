@@ -1,3 +1,4 @@
+pub mod Few
 pub mod Opens
 pub mod Replies
 pub mod Faults

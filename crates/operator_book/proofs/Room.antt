@@ -1,5 +1,5 @@
 -- Where a flow may stand.
-use Rattle.std.proofs.Common.{◌≡◌, ℕ, ◌+◌, ◌<◌, ◌≤◌, suc, List, [], ◌∷◌, length, Option, Some, None, refl, sym, ap, ◌∙◌, subst, arith, inl, inr, rules}
+use Rattle.std.proofs.Common.{◌≡◌, ℕ, ◌+◌, ◌<◌, ◌≤◌, suc, List, [], ◌∷◌, length, Option, Some, None, refl, sym, ap, ◌∙◌, subst, arith, inl, inr}
 use Rattle.std.specs.Prelude.{IfSome, All, unwrap_or, sum_by, ◌⊎◌}
 use Rattle.std.specs.List.{Contains}
 use Rattle.std.specs.List.Sorted.{IsStrictlySortedBy}
@@ -13,7 +13,7 @@ use Rattle.std.proofs.lemmas.Map.Entries.{sum_by-insert_entry}
 use Rattle.std.proofs.lemmas.List.Elements.{All-contains}
 use Rattle.admission.specs.Free.{Numbers, IsLeastFree, IsIn}
 use Rattle.flow_table.specs.declared.flow.Flow.{Flow}
-use Rattle.flow_table.specs.Table.{FlowTable, sfids_of, sids_of, flow_at, sid_if, with_flow, MayStand}
+use Rattle.flow_table.specs.Table.{FlowTable, sids_of, flow_at, sid_if, with_flow, MayStand}
 use Rattle.flow_table.proofs.IndexLemmas.{sid_used}
 
 -- ---- how many flows there are with one more, or with another in its place

@@ -1,7 +1,6 @@
 -- One schedule of what is the same.
-use Rattle.std.proofs.Common.{◌≡◌, ℕ, List, ap, ◌∙◌}
+use Rattle.std.proofs.Common.{◌≡◌, List, ap, ◌∙◌}
 use Rattle.grant_policy.specs.declared.policy.Policy.{Policy}
-use Rattle.slice_scheduler.specs.declared.elements.ElementsFields.{ElementsFields}
 use Rattle.slice_scheduler.specs.declared.flowing.At.{At}
 use Rattle.slice_scheduler.specs.declared.flowing.Flowing.{Flowing}
 use Rattle.slice_scheduler.specs.Schedule.{elements_of, granted_of}

@@ -1,14 +1,19 @@
 -- What a book always keeps (own).
-use Rattle.std.specs.Prelude.{◌≤◌, List}
+use Rattle.std.specs.Prelude.{◌≤◌, ℕ, List}
 use Rattle.slice_table.specs.declared.consts.ConstsFields.{ConstsFields}
 use Rattle.slice_table.specs.declared.operator_row.RowFields.{RowFields}
 use Rattle.slice_table.specs.Row.{IsRowOf}
 use Rattle.operator_machine.specs.declared.action.Entry.{Entry}
 use Rattle.operator_machine.specs.State.{OperatorState}
-use Rattle.operator_machine.specs.Replay.{IsReplay}
+use Rattle.operator_machine.specs.Replay.{BookView, IsReplay}
 
 -- the row is one of a plant of these constants, and the state is the replay of the history
 pub record IsBook (consts : ConstsFields) (row : RowFields) (history : List Entry) (state : OperatorState) : Type 0 where
   pub valid : IsRowOf consts row
   pub some : 1 ≤ row.slice.length
   pub replay : IsReplay consts row history state
+
+-- a book, and how many entries more its history takes without memory
+pub record HeldBook : Type 0 where
+  pub book : BookView
+  pub spare : ℕ

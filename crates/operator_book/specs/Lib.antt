@@ -2,3 +2,4 @@ pub mod Over
 pub mod Held
 pub mod Opening
 pub mod Kept
+pub mod ViewOf

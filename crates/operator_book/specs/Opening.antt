@@ -1,5 +1,5 @@
 -- Provisioned flows, put one after the other (own).
-use Rattle.std.specs.Prelude.{◌≡◌, ℕ, List, [], ◌∷◌, Option, Some, None, is_some, if◌then◌else◌}
+use Rattle.std.specs.Prelude.{ℕ, List, [], ◌∷◌, Option, Some, None, is_some, if◌then◌else◌}
 use Rattle.admission.specs.Free.{least_free_of}
 use Rattle.param_sets.specs.declared.sets.SetsFields.{SetsFields}
 use Rattle.dsx_messages.specs.declared.modem.Modem.{Modem}

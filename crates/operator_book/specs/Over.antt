@@ -1,5 +1,5 @@
 -- The sets of a flow with those that a request asks for (own).
-use Rattle.std.specs.Prelude.{ℕ, Option, Some, None, Result}
+use Rattle.std.specs.Prelude.{Result}
 use Rattle.dsx_messages.specs.declared.code.Code.TheVariants.{RejectAuthorizationFailure}
 use Rattle.param_sets.specs.Sets.{sets_unless}
 use Rattle.param_sets.specs.declared.sets.SetsFields.{SetsFields}

@@ -75,11 +75,7 @@ fn first_of(kind: Kind, tid: u16, encodings: &[FlowTlv]) -> Result<FlowTlv, Repl
     ensures { result ≡ first_of kind tid encodings.now }
 {
     let Some((first, others)) = encodings.split_first() else {
-        return Err(refusal(
-            kind,
-            tid,
-            Code::RejectRequiredParameterNotPresent,
-        ));
+        return Err(refusal(kind, tid, Code::RejectRequiredParameterNotPresent));
     };
     if !all_name(kind, first, others) {
         return Err(refusal(kind, tid, Code::RejectMultipleUpstreamFlows));
@@ -146,13 +142,7 @@ fn set_of(kind: Kind, tid: u16, consts: &Consts, flow: &FlowTlv) -> Result<Param
     };
     match from_tlv(&asked, &consts.get_fields().units) {
         Ok(set) => Ok(set),
-        Err(refused) => Err(refusal_naming(
-            kind,
-            tid,
-            refused.code,
-            flow,
-            refused.subtype,
-        )),
+        Err(refused) => Err(refusal_naming(kind, tid, refused.code, flow, refused.subtype)),
     }
 }
 
@@ -192,34 +182,17 @@ fn asked_by_type(
             admitted: None,
             active: None,
         }),
-        _ => Err(refusal_naming(
-            kind,
-            tid,
-            Code::RejectInvalidForContext,
-            flow,
-            6,
-        )),
+        _ => Err(refusal_naming(kind, tid, Code::RejectInvalidForContext, flow, 6)),
     }
 }
 
 /// The sets that one encoding asks for.
-fn asked_by_one(
-    kind: Kind,
-    tid: u16,
-    consts: &Consts,
-    flow: &FlowTlv,
-) -> Result<AskedSets, Reply>
+fn asked_by_one(kind: Kind, tid: u16, consts: &Consts, flow: &FlowTlv) -> Result<AskedSets, Reply>
     requires { kind ≢ Dsd }
     ensures { result ≡ asked_by_one kind tid consts.now flow.now flow.now.set_type }
 {
     match flow.get_set_type() {
-        None => Err(refusal_naming(
-            kind,
-            tid,
-            Code::RejectRequiredParameterNotPresent,
-            flow,
-            6,
-        )),
+        None => Err(refusal_naming(kind, tid, Code::RejectRequiredParameterNotPresent, flow, 6)),
         Some(set_type) => asked_by_type(kind, tid, consts, flow, set_type),
     }
 }
@@ -299,13 +272,7 @@ fn nested_sets(
     ensures { result ≡ nested_sets kind tid first.now sets.provisioned asked.now }
 {
     if let Some(subtype) = failing_active(asked) {
-        return Err(refusal_naming(
-            kind,
-            tid,
-            Code::RejectInvalidForContext,
-            first,
-            subtype,
-        ));
+        return Err(refusal_naming(kind, tid, Code::RejectInvalidForContext, first, subtype));
     }
     match with_asked(sets, asked) {
         Ok(sets) => Ok(sets),

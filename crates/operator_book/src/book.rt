@@ -1,9 +1,12 @@
 //! The book: one operator's machine, its history, and the ranking of its flows.
 
-ghost use Rattle.std.specs.Prelude.{◌≡◌, ◌≢◌, ◌↔◌, true, [], Err, Some, IfOk, OnOk, OnErr};
+ghost use Rattle.std.specs.Prelude.{◌≡◌, ◌≢◌, ◌↔◌, ◌+◌, ◌<◌, ◌≤◌, true, [], length, Err, Some, None, IfOk, OnOk, OnErr};
 ghost use Rattle.dsx_messages.specs.declared.modem.Modem.{Modem};
 ghost use Rattle.slice_table.specs.Row.{IsRowOf};
 ghost use Rattle.operator_machine.specs.declared.action.Unfit.{Unfit};
+ghost use Rattle.transactions.specs.Timers.{resent_in};
+ghost use Rattle.operator_machine.specs.declared.action.Action.{Action};
+ghost use Rattle.operator_machine.specs.declared.action.Action.TheVariants as actions;
 ghost use Rattle.operator_machine.specs.State.{opened};
 ghost use Rattle.operator_machine.specs.Machine.{own_step, stranger_of, is_spent, unfit_from, unfit_of, IsAllowed};
 ghost use Rattle.operator_machine.specs.Replay.{IsReplay, acted};
@@ -56,14 +59,14 @@ impl From<AllocError> for BookFault {
     }
 }
 
-/// One operator's book. What contracts say of it they say of `kept`: its row, what all operators share, its state and its
-/// history. The type keeps that the state is the replay of the history from the opened state, and that the ranking follows
+/// One operator's book. What contracts say of it they say of `kept.book`: its row, what all operators share, its state and
+/// its history; and of `kept.spare`: how many actions more its history takes without memory. The type keeps that the state is the replay of the history from the opened state, and that the ranking follows
 /// the row's policy.
 #[derive(Drop)]
 pub struct Book {
     pub kept: Logged,
     ranking: Ranking,
-    ghost same_policy: { ranking.policy ≡ kept.row.policy },
+    ghost same_policy: { ranking.policy ≡ kept.book.row.policy },
 }
 
 impl Book {
@@ -76,7 +79,7 @@ impl Book {
         ranking: Ranking,
     ) -> Result<Book, OpenFault>
         requires { IsRowOf consts.now row.now }
-        ensures ok { IfOk result (λ book. book.kept ≡ record { row = row.now; consts = consts.now; state = opened consts.now row.now; history = [] }) }
+        ensures ok { IfOk result (λ book. book.kept.book ≡ record { row = row.now; consts = consts.now; state = opened consts.now row.now; history = [] }) }
         ensures mismatch { (result ≡ Err OpenFault.PolicyMismatch) ↔ (ranking.policy ≢ row.now.policy) }
     {
         if ranking.policy() != row.get_fields().policy {
@@ -86,18 +89,18 @@ impl Book {
         Ok(Book { kept, ranking })
     }
 
-    /// Does an action, and tells what it puts out. A refused action changes nothing.
+    /// Does an action, and tells what it puts out. A refused action changes nothing but that there may be more spare room.
     pub fn act(&mut self, alloc: Global, action: Action) -> Result<Vec<Output>, BookFault>
-        ensures state { OnOk result (self.new.kept ≡ acted self.old.kept action) }
-        ensures outputs { IfOk result (λ outputs. outputs.items ≡ (own_step self.old.kept.consts self.old.kept.row self.old.kept.state action).outputs) }
+        ensures state { OnOk result (self.new.kept.book ≡ acted self.old.kept.book action) }
+        ensures outputs { IfOk result (λ outputs. outputs.items ≡ (own_step self.old.kept.book.consts self.old.kept.book.row self.old.kept.book.state action).outputs) }
 
         // A stranger is refused first, then a tick past the last frame, then a slice that does not fit, and only these are;
         // else only memory can be wanting.
-        ensures not_mine { (modem : Modem) → (result ≡ Err (BookFault.NotMine modem)) ↔ (stranger_of self.old.kept.row action ≡ Some modem) }
-        ensures spent { (result ≡ Err BookFault.FramesSpent) ↔ (is_spent self.old.kept.state action ≡ true) }
-        ensures unfit { (u : Unfit) → (result ≡ Err (BookFault.Unfit u)) ↔ (unfit_of self.old.kept.consts self.old.kept.state action ≡ Some u) }
-        ensures allowed { OnOk result (IsAllowed self.old.kept.consts self.old.kept.row self.old.kept.state action) }
-        ensures err { OnErr result (self.new.kept ≡ self.old.kept) }
+        ensures not_mine { (modem : Modem) → (result ≡ Err (BookFault.NotMine modem)) ↔ (stranger_of self.old.kept.book.row action ≡ Some modem) }
+        ensures spent { (result ≡ Err BookFault.FramesSpent) ↔ (is_spent self.old.kept.book.state action ≡ true) }
+        ensures unfit { (u : Unfit) → (result ≡ Err (BookFault.Unfit u)) ↔ (unfit_of self.old.kept.book.consts self.old.kept.book.state action ≡ Some u) }
+        ensures allowed { OnOk result (IsAllowed self.old.kept.book.consts self.old.kept.book.row self.old.kept.book.state action) }
+        ensures err { OnErr result (self.new.kept.book ≡ self.old.kept.book) }
     {
         if let Some(modem) = self.stranger_of(&action) {
             return Err(BookFault::NotMine { modem });
@@ -113,7 +116,7 @@ impl Book {
 
     /// Whether a slice and a budget can be taken from this frame on. Takes no memory.
     pub fn offer(&self, from: u32, row: SliceRow) -> Result<(), Unfit>
-        ensures unfit { (u : Unfit) → (result ≡ Err u) ↔ (unfit_from self.now.kept.consts self.now.kept.state from row ≡ Some u) }
+        ensures unfit { (u : Unfit) → (result ≡ Err u) ↔ (unfit_from self.now.kept.book.consts self.now.kept.book.state from row ≡ Some u) }
     {
         match self.kept.machine.unfit_from(from, row) {
             Some(unfit) => Err(unfit),
@@ -121,9 +124,36 @@ impl Book {
         }
     }
 
+    /// Room for a re-slicing.
+    pub fn make_room(&mut self) -> Result<(), AllocError>
+        ensures ok { OnOk result (0 < self.new.kept.spare) }
+        ensures book { self.new.kept.book ≡ self.old.kept.book }
+    {
+        self.kept.make_room()
+    }
+
+    /// Takes a slice that `offer` found fit, in the room that `make_room` made. Takes no memory, and cannot fail.
+    pub fn reslice(&mut self, from: u32, row: SliceRow)
+        requires fit { unfit_from self.old.kept.book.consts self.old.kept.book.state from row ≡ None }
+        requires spare { 0 < self.old.kept.spare }
+        ensures { self.new.kept.book ≡ acted self.old.kept.book (actions.Reslice from row) }
+    {
+        self.kept.reslice(from, row);
+    }
+
+    /// How many outputs the next action has at most: as many as the next tick sends again, and one. At most 65,537.
+    #[tactic(auto, using(crate::proofs::Few::few_outputs))]
+    pub fn most_outputs(&self) -> usize
+        ensures value { result ≡ 1 + length (resent_in self.now.kept.book.state.kept) }
+        ensures bound { (action : Action) → length (own_step self.now.kept.book.consts self.now.kept.book.row self.now.kept.book.state action).outputs ≤ result }
+        ensures few { result ≤ 65537 }
+    {
+        1 + self.kept.machine.kept.resend_count()
+    }
+
     /// The modem of an Arrive, where it is not of this row.
     fn stranger_of(&self, action: &Action) -> Option<Modem>
-        ensures { result ≡ stranger_of self.now.kept.row action.now }
+        ensures { result ≡ stranger_of self.now.kept.book.row action.now }
     {
         match action {
             Action::Arrive { modem, heard: _ } => {
@@ -139,17 +169,19 @@ impl Book {
 
     /// Whether this is a tick past the last frame.
     fn is_spent(&self, action: &Action) -> bool
-        ensures { result ≡ is_spent self.now.kept.state action.now }
+        ensures { result ≡ is_spent self.now.kept.book.state action.now }
     {
         match action {
             Action::Tick => self.kept.machine.frame == u32::MAX,
-            Action::Arrive { modem: _, heard: _ } | Action::Work | Action::Reslice { from: _, row: _ } => false,
+            Action::Arrive { modem: _, heard: _ }
+            | Action::Work
+            | Action::Reslice { from: _, row: _ } => false,
         }
     }
 
     /// Why a slice that is offered cannot be taken.
     fn unfit_of(&self, action: &Action) -> Option<Unfit>
-        ensures { result ≡ unfit_of self.now.kept.consts self.now.kept.state action.now }
+        ensures { result ≡ unfit_of self.now.kept.book.consts self.now.kept.book.state action.now }
     {
         match action {
             Action::Reslice { from, row } => self.kept.machine.unfit_from(*from, *row),
@@ -159,28 +191,28 @@ impl Book {
 
     /// All that was done, in order.
     pub fn history(&self) -> &[Entry]
-        ensures { result.now ≡ self.now.kept.history }
+        ensures { result.now ≡ self.now.kept.book.history }
     {
         self.kept.history.as_slice()
     }
 
     /// The operator's row, as the book was opened with it.
     pub fn row(&self) -> &OperatorRow
-        ensures { result.now ≡ self.now.kept.row }
+        ensures { result.now ≡ self.now.kept.book.row }
     {
         &self.kept.machine.row
     }
 
     /// What all operators of the plant share.
     pub fn consts(&self) -> &Consts
-        ensures { result.now ≡ self.now.kept.consts }
+        ensures { result.now ≡ self.now.kept.book.consts }
     {
         &self.kept.machine.consts
     }
 
     /// A law: the state is the replay of the history, and each entry's outputs are the run's.
     pub fn replay(&self)
-        ensures { IsReplay self.now.kept.consts self.now.kept.row self.now.kept.history self.now.kept.state }
+        ensures { IsReplay self.now.kept.book.consts self.now.kept.book.row self.now.kept.book.history self.now.kept.book.state }
     {
         self.kept.kept();
     }
@@ -189,7 +221,7 @@ impl Book {
     /// inbox never pass the row's limits; what is committed never passes the quota, nor the budget in force, nor one that
     /// waits for its frame.
     pub fn sound(&self)
-        ensures { IsSound self.now.kept.consts self.now.kept.row self.now.kept.state }
+        ensures { IsSound self.now.kept.book.consts self.now.kept.book.row self.now.kept.book.state }
     {
         self.kept.kept();
     }

@@ -22,8 +22,8 @@ ghost use Rattle.operator_book.specs.Held.{table_of, MayPut, HasRightId, with_st
 
 use crate::machine::{Both, Machine, answer, nothing, silent};
 use crate::refusal::{errored, refusal};
-use flow_table::Flow;
 use dsx_messages::{Code, Kind, Message, MessageFault, Modem, Reply, Request, read, write_reply};
+use flow_table::Flow;
 use operator_machine::{Arrival, Cause, Heard, Verdict};
 use std::alloc::{AllocError, Global};
 use tlv24::Bytes;
@@ -49,13 +49,7 @@ fn tid_of(request: &Request) -> u16
 }
 
 /// A refusal that is not kept.
-fn unkept(
-    alloc: Global,
-    modem: Modem,
-    kind: Kind,
-    tid: u16,
-    code: Code,
-) -> Result<Both, AllocError>
+fn unkept(alloc: Global, modem: Modem, kind: Kind, tid: u16, code: Code) -> Result<Both, AllocError>
     requires { code ≢ Okay }
     ensures { IfOk result (λ both. both.told.items ≡ outputs.Reply modem (spell_reply (refusal kind tid code)) ∷ []) }
 {
@@ -316,7 +310,8 @@ impl Machine {
         if !flow.asks_for_grants() {
             return silent(alloc, Some(modem), Cause::NotRequesting);
         }
-        self.flows.change(sfid, flow.requested(minislots, self.frame));
+        self.flows
+            .change(sfid, flow.requested(minislots, self.frame));
         Ok(nothing(alloc))
     }
 

@@ -16,5 +16,5 @@ mod verdict;
 pub use book::{Book, BookFault, OpenFault};
 pub use logged::Logged;
 pub use operator_machine::{
-    Action, Arrival, Cause, Entry, Heard, Output, Outputs, Share, NextShare, SliceRow, Unfit,
+    Action, Arrival, Cause, Entry, Heard, NextShare, Output, Outputs, Share, SliceRow, Unfit,
 };

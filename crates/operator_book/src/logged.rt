@@ -1,21 +1,23 @@
 //! A machine beside the history of all that was done.
 
-ghost use Rattle.std.specs.Prelude.{◌≡◌, [], IfOk, OnOk, OnErr};
+ghost use Rattle.std.specs.Prelude.{◌≡◌, ◌<◌, [], None, IfOk, OnOk, OnErr};
 ghost use Rattle.slice_table.specs.Row.{IsRowOf};
 ghost use Rattle.operator_machine.specs.State.{opened};
-ghost use Rattle.operator_machine.specs.Machine.{own_step, IsAllowed};
+ghost use Rattle.operator_machine.specs.declared.action.Action.TheVariants as actions;
+ghost use Rattle.operator_machine.specs.Machine.{own_step, unfit_from, IsAllowed};
 ghost use Rattle.operator_machine.specs.Replay.{IsReplay, acted};
 ghost use Rattle.operator_machine.specs.Sound.{IsSound};
 
 use crate::machine::Machine;
 use grant_policy::Ranking;
-use operator_machine::{Action, Entry, Output, Outputs, replay_is_sound};
+use operator_machine::{Action, Entry, Output, Outputs, SliceRow, replay_is_sound};
 use slice_table::{Consts, OperatorRow};
 use std::alloc::{AllocError, Global};
 use std::marker::Model;
 
-/// A machine beside the history of all that was done. Contracts see the row, what all operators share, the state and the
-/// history; the type keeps that the state is the replay of the history.
+/// A machine beside the history of all that was done. Contracts see `book`: the row, what all operators share, the state and
+/// the history; and `spare`: how many entries more the history takes without memory. The type keeps that the state is the
+/// replay of the history.
 #[derive(Drop)]
 pub struct Logged {
     pub(crate) machine: Machine,
@@ -23,12 +25,15 @@ pub struct Logged {
 }
 
 impl Model for Logged {
-    ghost use Rattle.operator_machine.specs.Replay.{BookView};
-    ghost use Rattle.operator_book.specs.Kept.{IsBook};
+    ghost use Rattle.std.specs.Prelude.{◌-◌, vec_len, vec_capacity};
+    ghost use Rattle.operator_book.specs.Kept.{HeldBook, IsBook};
 
-    ghost Value = { BookView };
+    ghost Value = { HeldBook };
 
-    ghost view = { λ b. record { row = b.machine.row; consts = b.machine.consts; state = b.machine.state; history = b.history.items } };
+    ghost view = { λ b. record {
+      book = record { row = b.machine.row; consts = b.machine.consts; state = b.machine.state; history = b.history.items };
+      spare = vec_capacity b.history - vec_len b.history;
+    } };
 
     ghost invariant = { λ b. IsBook b.machine.consts b.machine.row b.history.items b.machine.state };
 }
@@ -41,7 +46,7 @@ impl Logged {
         consts: &Consts,
     ) -> Result<Logged, AllocError>
         requires { IsRowOf consts.now row.now }
-        ensures { IfOk result (λ book. book ≡ record { row = row.now; consts = consts.now; state = opened consts.now row.now; history = [] }) }
+        ensures { IfOk result (λ held. held.book ≡ record { row = row.now; consts = consts.now; state = opened consts.now row.now; history = [] }) }
     {
         let _some = row.get_fields().slice.get_length();
         Ok(Logged {
@@ -57,11 +62,11 @@ impl Logged {
         ranking: &Ranking,
         action: Action,
     ) -> Result<Vec<Output>, AllocError>
-        requires policy { ranking.now.policy ≡ self.old.row.policy }
-        requires allowed { IsAllowed self.old.consts self.old.row self.old.state action }
-        ensures state { OnOk result (self.new ≡ acted self.old action) }
-        ensures outputs { IfOk result (λ outputs. outputs.items ≡ (own_step self.old.consts self.old.row self.old.state action).outputs) }
-        ensures err { OnErr result (self.new ≡ self.old) }
+        requires policy { ranking.now.policy ≡ self.old.book.row.policy }
+        requires allowed { IsAllowed self.old.book.consts self.old.book.row self.old.book.state action }
+        ensures state { OnOk result (self.new.book ≡ acted self.old.book action) }
+        ensures outputs { IfOk result (λ outputs. outputs.items ≡ (own_step self.old.book.consts self.old.book.row self.old.book.state action).outputs) }
+        ensures err { OnErr result (self.new.book ≡ self.old.book) }
     {
         self.kept();
         self.history.reserve(1)?;
@@ -73,10 +78,32 @@ impl Logged {
         Ok(both.told)
     }
 
+    /// Room for one entry more.
+    pub(crate) fn make_room(&mut self) -> Result<(), AllocError>
+        ensures ok { OnOk result (0 < self.new.spare) }
+        ensures book { self.new.book ≡ self.old.book }
+    {
+        self.history.reserve(1)
+    }
+
+    /// Takes a slice that fits from a later frame on, with no memory.
+    #[tactic(auto, using(crate::proofs::Replays::resliced_is))]
+    pub(crate) fn reslice(&mut self, from: u32, row: SliceRow)
+        requires fit { unfit_from self.old.book.consts self.old.book.state from row ≡ None }
+        requires spare { 0 < self.old.spare }
+        ensures { self.new.book ≡ acted self.old.book (actions.Reslice from row) }
+    {
+        self.machine.reslice(from, row);
+        self.history.push_reserved(Entry {
+            action: Action::Reslice { from, row },
+            outputs: Outputs::from_vec(Vec::new(*self.history.allocator())),
+        });
+    }
+
     /// What always holds, for a caller's proof. Does nothing.
     pub(crate) fn kept(&self)
-        ensures replay { IsReplay self.now.consts self.now.row self.now.history self.now.state }
-        ensures sound { IsSound self.now.consts self.now.row self.now.state }
+        ensures replay { IsReplay self.now.book.consts self.now.book.row self.now.book.history self.now.book.state }
+        ensures sound { IsSound self.now.book.consts self.now.book.row self.now.book.state }
     {
         replay_is_sound();
         let _ = &self.history;

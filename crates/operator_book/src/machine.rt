@@ -32,9 +32,9 @@ impl Model for Machine {
     ghost Value = { MachineView };
 
     ghost view = { λ m. record {
-        consts = m.consts;
-        row = m.row;
-        state = record { flows = m.flows.flows; kept = m.kept.entries; inbox = m.inbox.items; frame = m.frame; share = m.share; next = m.next };
+      consts = m.consts;
+      row = m.row;
+      state = record { flows = m.flows.flows; kept = m.kept.entries; inbox = m.inbox.items; frame = m.frame; share = m.share; next = m.next };
     } };
 
     ghost invariant = { λ m. IsMachine m.consts m.row m.flows m.kept };
@@ -68,11 +68,7 @@ fn single(alloc: Global, output: Output) -> Result<Vec<Output>, AllocError>
 }
 
 /// No answer.
-pub(crate) fn silent(
-    alloc: Global,
-    modem: Option<Modem>,
-    cause: Cause,
-) -> Result<Both, AllocError>
+pub(crate) fn silent(alloc: Global, modem: Option<Modem>, cause: Cause) -> Result<Both, AllocError>
     ensures { IfOk result (λ both. both.told.items ≡ outputs.Silent modem cause ∷ []) }
 {
     let kept = single(alloc, Output::Silent { modem, cause })?;

@@ -54,13 +54,7 @@ pub(crate) fn naming(kind: Kind, tid: u16, code: Code, id: Option<FlowId>, subty
 }
 
 /// A refusal that names an encoding and one of its subtypes.
-pub(crate) fn refusal_naming(
-    kind: Kind,
-    tid: u16,
-    code: Code,
-    flow: &FlowTlv,
-    subtype: u8,
-) -> Reply
+pub(crate) fn refusal_naming(kind: Kind, tid: u16, code: Code, flow: &FlowTlv, subtype: u8) -> Reply
     requires kind { kind ≢ Dsd }
     requires code { code ≢ Okay }
     ensures { result ≡ refusal_naming kind tid code flow.now subtype }

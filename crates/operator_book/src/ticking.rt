@@ -102,11 +102,13 @@ impl Machine {
     /// The next frame, and the share that waits for it.
     fn go_on(&mut self)
         requires { self.old.state.frame < 4294967295 }
-        ensures { self.new ≡ record self.old { state = record self.old.state {
+        ensures { self.new ≡ record self.old {
+          state = record self.old.state {
             frame = self.old.state.frame + 1;
             share = share_at (self.old.state.frame + 1) self.old.state.share self.old.state.next;
             next = next_at (self.old.state.frame + 1) self.old.state.next;
-        } } }
+          };
+        } }
     {
         self.frame += 1;
         if let Some(next) = self.next {

@@ -1,5 +1,4 @@
 use Rattle.std.proofs.Common.{◌≡◌, length, arith, ap, rules}
-use Rattle.std.specs.Prelude.{None}
 use Rattle.flow_table.specs.Table.{FlowTable, with_flow}
 use Rattle.operator_book.proofs.Room.{longer, opened_may_stand}
 use Rattle.operator_book.proofs.opening.put_provision.Goals as goal

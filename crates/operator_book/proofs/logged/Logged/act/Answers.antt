@@ -1,7 +1,7 @@
-use Rattle.std.proofs.Common.{◌≡◌, rules, refl, sym, subst, ◌∙◌}
-use Rattle.operator_machine.specs.Machine.{own_step, IsAllowed}
+use Rattle.std.proofs.Common.{refl, sym, ap, subst, ◌∙◌}
+use Rattle.operator_machine.specs.Machine.{IsAllowed}
 use Rattle.operator_machine.specs.Replay.{BookView}
-use Rattle.operator_book.specs.Held.{with_state}
+use Rattle.operator_book.specs.Kept.{HeldBook}
 use Rattle.operator_book.proofs.Replays.{replay_push}
 use Rattle.operator_book.proofs.logged.Logged.act.Goals as goal
 
@@ -12,7 +12,7 @@ invariant_of-self-2 g c =
       valid = c.self.invariant.valid;
       some = c.self.invariant.some;
       replay = replay_push _ _ _ _ _ _ c.self.invariant.replay
-        (subst (λ (b : BookView). IsAllowed b.consts b.row b.state c.args.action) (sym c.self.view_is) c.requires.allowed)
-        refl
-        (c.from_vec.ensures ∙ (c.in_ok-both.both.same ∙ c.in_ok-both.ensures.outputs));
+          (subst (λ (b : BookView). IsAllowed b.consts b.row b.state c.args.action) (sym (ap (λ (held : HeldBook). held.book) c.self.view_is)) c.requires.allowed)
+          refl
+          (c.from_vec.ensures ∙ (c.in_ok-both.both.same ∙ c.in_ok-both.ensures.outputs));
     }
