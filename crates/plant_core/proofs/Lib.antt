@@ -1,1 +1,2 @@
 pub mod CachedLemmas
+pub mod WaitingLemmas

@@ -1,1 +1,6 @@
 pub mod Cached
+pub mod Waiting
+pub mod DeskView
+pub mod Own
+pub mod Faults
+pub mod CoreView

@@ -1,0 +1,47 @@
+-- Why a step is refused (own).
+use Rattle.std.specs.Prelude.{◌≡◌, ℕ, List, [], ◌∷◌, slice_get, option_map, Option, Some, None, if◌then◌else◌, Result, Ok, Err}
+use Rattle.slice_scheduler.specs.declared.elements.ElementsFields.{ElementsFields}
+use Rattle.slice_table.specs.Roster.{holder}
+use Rattle.operator_machine.specs.declared.action.Action.{Action}
+use Rattle.operator_machine.specs.declared.action.Action.TheVariants as actions
+use Rattle.operator_machine.specs.Machine.{is_spent}
+use Rattle.operator_machine.specs.Replay.{BookView}
+use Rattle.operator_book.specs.declared.book.BookFault.TheVariants.{FramesSpent}
+use Rattle.map_assembly.specs.Gathering.{Gathering, put_fault}
+use Rattle.plant_runs.specs.declared.step.Step.{Step}
+use Rattle.plant_runs.specs.declared.step.Step.TheVariants as steps
+use Rattle.plant_runs.specs.Reached.{CoreView}
+use Rattle.plant_core.specs.declared.core_fault.CoreFault.{CoreFault}
+use Rattle.plant_core.specs.declared.core_fault.CoreFault.TheVariants.{UnknownModem, UnknownOperator, Book, Gather, NothingToCollect, NoMemory}
+
+-- why the operator at a place does not act: there is none, or its frame numbers are spent
+abbrev pub act_fault : ℕ → Action → Option BookView → Option CoreFault
+act_fault op action None = Some (UnknownOperator op)
+act_fault op action (Some book) = if is_spent book.state action then Some (Book FramesSpent) else None
+
+-- why an operator's oldest frame is not collected: there is no such operator, or no frame of it waits, or the assembly
+-- refuses it
+abbrev pub collect_fault : Gathering → ℕ → Option (List (ℕ × ElementsFields)) → Option CoreFault
+collect_fault gathering op None = Some (UnknownOperator op)
+collect_fault gathering op (Some []) = Some (NothingToCollect op)
+collect_fault gathering op (Some (frame ∷ waiting)) = option_map (λ fault. Gather fault) (put_fault gathering op frame.0 frame.1)
+
+-- why what is heard of a modem goes to no operator: no row holds the modem
+abbrev pub arrive_fault : CoreView → Step → Option ℕ → Option CoreFault
+arrive_fault core (steps.Arrive modem heard) None = Some (UnknownModem modem)
+arrive_fault core (steps.Arrive modem heard) (Some op) = act_fault op (actions.Arrive modem heard) (slice_get core.books op)
+arrive_fault core step place = None
+
+-- why a step is refused, want of memory apart
+abbrev pub step_fault : CoreView → Step → Option CoreFault
+step_fault core (steps.Arrive modem heard) = arrive_fault core (steps.Arrive modem heard) (holder core.plant.rows modem)
+step_fault core (steps.Work op) = act_fault op actions.Work (slice_get core.books op)
+step_fault core (steps.Tick op) = act_fault op actions.Tick (slice_get core.books op)
+step_fault core (steps.Collect op) = collect_fault core.gathering op (slice_get core.queues op)
+step_fault core (steps.Reslice from rows) = None
+
+-- the fault is told exactly where there is one, and where there is none only memory can be wanting
+abbrev pub IsTold : {A : Type 0} → Result A CoreFault → Option CoreFault → Type 0
+IsTold (Ok x) fault = fault ≡ None
+IsTold (Err NoMemory) fault = fault ≡ None
+IsTold (Err told) fault = fault ≡ Some told
