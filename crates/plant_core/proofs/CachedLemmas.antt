@@ -1,5 +1,5 @@
 -- Cached pairs stay right.
-use Rattle.std.proofs.Common.{◌≡◌, ℕ, ◌-◌, Bool, true, List, [], ◌∷◌, Contains, Result, Ok, Err, Option, Some, OnOk, OnErr, refl, sym, ap, subst, ◌∙◌, inl, inr}
+use Rattle.std.proofs.Common.{◌≡◌, ℕ, Bool, true, List, Result, Ok, Err, Some, OnOk, OnErr, sym, ap, subst, ◌∙◌, inl, inr}
 use Rattle.std.specs.Map.{lookup}
 use Rattle.std.proofs.lemmas.Slice.Eq.{bytes_eq-Decides}
 use Rattle.lru.specs.LruCache.{LruCache, lru_cache, promoted, put_entries}

@@ -1,2 +1,4 @@
 pub mod CachedLemmas
 pub mod WaitingLemmas
+pub mod OwnLemmas
+pub mod StepLemmas

@@ -1,8 +1,8 @@
 -- Frames that wait.
-use Rattle.std.proofs.Common.{◌≡◌, ℕ, zero, suc, ◌+◌, ◌<◌, ◌≤◌, List, [], ◌∷◌, ◌++◌, length, get_or, drop, All, Option, Some, None, refl, sym, ap, subst, ◌∙◌, append-nil, append_assoc, arith}
+use Rattle.std.proofs.Common.{◌≡◌, ℕ, zero, suc, ◌+◌, ◌<◌, ◌≤◌, List, [], ◌∷◌, ◌++◌, length, get_or, drop, All, Result, Ok, Err, OnErr, Option, Some, None, IsSome, refl, sym, ap, subst, ◌∙◌, append-nil, arith}
 use Rattle.std.specs.Prelude.{filter_map, slice_get, slice_index_or, count_by}
 use Rattle.std.specs.List.{flat_map, range_with_len}
-use Rattle.std.proofs.lemmas.List.{drop-append-le, drop_more, drop_all}
+use Rattle.std.proofs.lemmas.List.{drop-append-le, drop_more}
 use Rattle.std.proofs.lemmas.List.Elements.{filter_map-append}
 use Rattle.std.proofs.lemmas.List.Concat.{flat_map-append}
 use Rattle.slice_scheduler.specs.declared.elements.ElementsFields.{ElementsFields}
@@ -19,7 +19,8 @@ use Rattle.operator_machine.specs.Replay.{BookView, AreTold, IsReplay, acted}
 use Rattle.operator_machine.specs.Frames.{frame_of, is_tick}
 use Rattle.operator_machine.proofs.FrameLemmas.{run_puts}
 use Rattle.plant_runs.specs.Reached.{numbered, frames_of}
-use Rattle.plant_core.specs.Waiting.{frames_in, waiting_in, IsOneFrame}
+use Rattle.plant_core.specs.Waiting.{frames_in, waiting_in, IsOneFrame, IsOldest}
+use Rattle.plant_core.specs.declared.collecting.Oldest.{Oldest}
 
 frames_append : (xs ys : List Entry) → frames_in (xs ++ ys) ≡ frames_in xs ++ frames_in ys
 frames_append xs ys =
@@ -64,6 +65,25 @@ pub one_here : (history : List Entry) (place : ℕ) (d : Entry) (frame : ℕ × 
 one_here history place d frame lt one some =
     waiting_more history place d lt
     ∙ ap (λ (fs : List (ℕ × ElementsFields)). fs ++ waiting_in history (place + 1)) (first_alone (frames_of (get_or history place d).outputs) frame some one)
+
+some_front : {X : Type 0} (xs ys : List X) → IsSome (slice_get xs 0) → IsSome (slice_get (xs ++ ys) 0)
+some_front [] ys h = cc
+some_front (x ∷ xs) ys h = refl
+
+pub some_here : (history : List Entry) (place : ℕ) (d : Entry) (from : ℕ) (outputs : List Output) → place < length history → waiting_in history place ≡ waiting_in history from
+    → outputs ≡ (get_or history place d).outputs → IsSome (slice_get (frames_of outputs) 0) → IsSome (slice_get (waiting_in history from) 0)
+some_here history place d from outputs lt here is some =
+    subst (λ (fs : List (ℕ × ElementsFields)). IsSome (slice_get fs 0)) (sym (waiting_more history place d lt) ∙ here)
+    (some_front (frames_of (get_or history place d).outputs) (waiting_in history (place + 1))
+    (subst (λ (os : List Output). IsSome (slice_get (frames_of os) 0)) is some))
+
+pub on_err : {T E : Type 0} {P : Type 0} (r : Result T E) → P → OnErr r P
+on_err (Ok x) p = tt
+on_err (Err y) p = p
+
+pub oldest_front : (history : List Entry) (place : ℕ) (o : Option Oldest) (oldest : Oldest) → o ≡ Some oldest → IsOldest history place o
+    → waiting_in history place ≡ (oldest.number, oldest.elements) ∷ waiting_in history oldest.behind
+oldest_front history place o oldest is waits = (subst (λ (x : Option Oldest). IsOldest history place x) is waits).0
 
 -- ---- an action puts out one frame at most
 

@@ -1,5 +1,5 @@
 -- Why a step is refused (own).
-use Rattle.std.specs.Prelude.{◌≡◌, ℕ, List, [], ◌∷◌, slice_get, option_map, Option, Some, None, if◌then◌else◌, Result, Ok, Err}
+use Rattle.std.specs.Prelude.{◌≡◌, ℕ, List, [], ◌∷◌, slice_get, Option, Some, None, if◌then◌else◌, Result, Ok, Err}
 use Rattle.slice_scheduler.specs.declared.elements.ElementsFields.{ElementsFields}
 use Rattle.slice_table.specs.Roster.{holder}
 use Rattle.operator_machine.specs.declared.action.Action.{Action}
@@ -7,6 +7,8 @@ use Rattle.operator_machine.specs.declared.action.Action.TheVariants as actions
 use Rattle.operator_machine.specs.Machine.{is_spent}
 use Rattle.operator_machine.specs.Replay.{BookView}
 use Rattle.operator_book.specs.declared.book.BookFault.TheVariants.{FramesSpent}
+use Rattle.map_assembly.specs.declared.refused.GatherFault.{GatherFault}
+use Rattle.map_assembly.specs.declared.refused.GatherFault.TheVariants as gather_faults
 use Rattle.map_assembly.specs.Gathering.{Gathering, put_fault}
 use Rattle.plant_runs.specs.declared.step.Step.{Step}
 use Rattle.plant_runs.specs.declared.step.Step.TheVariants as steps
@@ -19,12 +21,11 @@ abbrev pub act_fault : ℕ → Action → Option BookView → Option CoreFault
 act_fault op action None = Some (UnknownOperator op)
 act_fault op action (Some book) = if is_spent book.state action then Some (Book FramesSpent) else None
 
--- why an operator's oldest frame is not collected: there is no such operator, or no frame of it waits, or the assembly
--- refuses it
-abbrev pub collect_fault : Gathering → ℕ → Option (List (ℕ × ElementsFields)) → Option CoreFault
-collect_fault gathering op None = Some (UnknownOperator op)
-collect_fault gathering op (Some []) = Some (NothingToCollect op)
-collect_fault gathering op (Some (frame ∷ waiting)) = option_map (λ fault. Gather fault) (put_fault gathering op frame.0 frame.1)
+-- why no frame of the operator at a place is collected: there is no such operator, or none waits
+abbrev pub collect_fault : ℕ → Option (List (ℕ × ElementsFields)) → Option CoreFault
+collect_fault op None = Some (UnknownOperator op)
+collect_fault op (Some []) = Some (NothingToCollect op)
+collect_fault op (Some (frame ∷ waiting)) = None
 
 -- why what is heard of a modem goes to no operator: no row holds the modem
 abbrev pub arrive_fault : CoreView → Step → Option ℕ → Option CoreFault
@@ -37,11 +38,31 @@ abbrev pub step_fault : CoreView → Step → Option CoreFault
 step_fault core (steps.Arrive modem heard) = arrive_fault core (steps.Arrive modem heard) (holder core.plant.rows modem)
 step_fault core (steps.Work op) = act_fault op actions.Work (slice_get core.books op)
 step_fault core (steps.Tick op) = act_fault op actions.Tick (slice_get core.books op)
-step_fault core (steps.Collect op) = collect_fault core.gathering op (slice_get core.queues op)
+step_fault core (steps.Collect op) = collect_fault op (slice_get core.queues op)
 step_fault core (steps.Reslice from rows) = None
 
--- the fault is told exactly where there is one, and where there is none only memory can be wanting
-abbrev pub IsTold : {A : Type 0} → Result A CoreFault → Option CoreFault → Type 0
-IsTold (Ok x) fault = fault ≡ None
-IsTold (Err NoMemory) fault = fault ≡ None
-IsTold (Err told) fault = fault ≡ Some told
+-- the fault is told exactly where there is one; where there is none, only memory can be wanting, or a frame is a misfit
+abbrev pub IsTold : {A : Type 0} → Result A CoreFault → Option CoreFault → (GatherFault → Type 0) → Type 0
+IsTold (Ok x) fault misfit = fault ≡ None
+IsTold (Err NoMemory) fault misfit = fault ≡ None
+IsTold (Err (Gather refused)) fault misfit = (fault ≡ None) × misfit refused
+IsTold (Err told) fault misfit = fault ≡ Some told
+
+-- nothing is a misfit
+abbrev pub NoMisfit : GatherFault → Type 0
+NoMisfit fault = ⊥
+
+-- the assembly refuses the oldest frame that waits
+abbrev pub IsMisfit : Gathering → ℕ → Option (List (ℕ × ElementsFields)) → GatherFault → Type 0
+IsMisfit gathering op None fault = ⊥
+IsMisfit gathering op (Some []) fault = ⊥
+IsMisfit gathering op (Some (frame ∷ waiting)) fault = put_fault gathering op frame.0 frame.1 ≡ Some fault
+
+abbrev pub DoesNotFit : CoreView → Step → GatherFault → Type 0
+DoesNotFit core (steps.Collect op) fault = IsMisfit core.gathering op (slice_get core.queues op) fault
+DoesNotFit core step fault = ⊥
+
+-- what the core answers where the assembly refuses a frame
+abbrev pub core_fault_of : GatherFault → CoreFault
+core_fault_of gather_faults.NoMemory = NoMemory
+core_fault_of fault = Gather fault

@@ -3,7 +3,6 @@ use Rattle.std.specs.Prelude.{◌≡◌, ℕ, ◌≤◌, List, [], ◌∷◌, dr
 use Rattle.std.specs.List.{flat_map}
 use Rattle.slice_scheduler.specs.declared.elements.ElementsFields.{ElementsFields}
 use Rattle.operator_machine.specs.declared.action.Entry.{Entry}
-use Rattle.operator_machine.specs.declared.output.Output.{Output}
 use Rattle.plant_runs.specs.Reached.{frames_of}
 use Rattle.plant_core.specs.declared.collecting.Oldest.{Oldest}
 

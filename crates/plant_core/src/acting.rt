@@ -1,6 +1,6 @@
 //! What is done to an operator's desk.
 
-ghost use Rattle.std.specs.Prelude.{◌≡◌, ◌≢◌, ◌↔◌, ◌≤◌, [], ◌++◌, length, Err, IfOk, OnOk, OnErr};
+ghost use Rattle.std.specs.Prelude.{◌≡◌, ◌≢◌, ◌↔◌, ◌≤◌, [], ◌++◌, length, slice_get, IsSome, Err, IfOk, OnOk, OnErr};
 ghost use Rattle.slice_table.specs.Row.{IsRowOf};
 ghost use Rattle.operator_machine.specs.State.{opened};
 ghost use Rattle.operator_machine.specs.Machine.{own_step, IsAllowed};
@@ -49,7 +49,8 @@ impl Desk {
 
     /// The frame that waits longest.
     pub(crate) fn oldest(&self, alloc: Global) -> Result<Option<Oldest>, AllocError>
-        ensures { IfOk result (IsOldest (book_at self.now).history self.now.collected) }
+        ensures value { IfOk result (IsOldest (book_at self.now).history self.now.collected) }
+        ensures some { OnErr result (IsSome (slice_get (waiting_at self.now) 0)) }
     {
         self.book.replay();
         oldest_from(alloc, self.book.history(), self.collected)

@@ -1,6 +1,6 @@
 //! The frame that waits longest.
 
-ghost use Rattle.std.specs.Prelude.{◌≡◌, ◌≤◌, length, All, slice_get, IfOk};
+ghost use Rattle.std.specs.Prelude.{◌≡◌, ◌≤◌, length, All, slice_get, IsSome, IfOk, OnErr};
 ghost use Rattle.plant_runs.specs.Reached.{frames_of};
 ghost use Rattle.plant_core.specs.Waiting.{waiting_in, IsOneFrame, IsOldest};
 
@@ -18,7 +18,8 @@ pub struct Oldest {
 
 /// The first frame among outputs.
 fn first_frame(alloc: Global, outputs: &[Output]) -> Result<Option<(u32, Elements)>, AllocError>
-    ensures { IfOk result (λ frame. frame ≡ slice_get (frames_of outputs.now) 0) }
+    ensures value { IfOk result (λ frame. frame ≡ slice_get (frames_of outputs.now) 0) }
+    ensures some { OnErr result (IsSome (slice_get (frames_of outputs.now) 0)) }
 {
     for output in outputs {
         if let Output::Frame { number, elements } = output {
@@ -36,7 +37,8 @@ pub(crate) fn oldest_from(
 ) -> Result<Option<Oldest>, AllocError>
     requires one { All IsOneFrame history.now }
     requires within { from ≤ length history.now }
-    ensures { IfOk result (IsOldest history.now from) }
+    ensures value { IfOk result (IsOldest history.now from) }
+    ensures some { OnErr result (IsSome (slice_get (waiting_in history.now from) 0)) }
 {
     for place in from..history.len() {
         if let Some((number, elements)) = first_frame(alloc, history[place].outputs.as_slice())? {

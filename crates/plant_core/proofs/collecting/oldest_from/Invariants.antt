@@ -1,4 +1,4 @@
-use Rattle.std.proofs.Common.{◌≡◌, ◌≤◌, length}
+use Rattle.std.proofs.Common.{◌≡◌}
 use Rattle.plant_core.specs.Waiting.{waiting_in}
 use Rattle.plant_core.proofs.collecting.oldest_from.Given as goal
 
