@@ -5,7 +5,7 @@ ghost use Rattle.slice_scheduler.specs.Minislots.{Minislots};
 ghost use Rattle.slice_scheduler.specs.Tiles.{IsTiled};
 ghost use Rattle.slice_scheduler.specs.declared.elements.ElementsFields.{ElementsFields};
 ghost use Rattle.map_assembly.specs.Part.{share_of};
-ghost use Rattle.map_assembly.specs.Gathering.{gathering_of, fits_at, queue_of, put_fault, with_part, is_whole, is_last, after_put, frame_slices, frame_parts, MayReslice, resliced};
+ghost use Rattle.map_assembly.specs.Gathering.{gathering_of, fits_at, queue_of, put_fault, with_part, is_whole, is_last, after_put, frame_slices, frame_parts, IsGathering, MayReslice, resliced};
 ghost use Rattle.map_assembly.specs.Assembled.{IsMapOf, IsAnswer};
 ghost use Rattle.map_assembly.specs.declared.refused.GatherFault.{GatherFault};
 ghost use Rattle.map_assembly.specs.declared.refused.GatherFault.TheVariants.{NoMemory};
@@ -328,5 +328,13 @@ impl Gather {
         let slicing = Slicing::new(alloc, slices)?;
         self.reslicings.push_reserved(Reslicing { from, slicing });
         Ok(())
+    }
+
+    /// A law: what is gathered is as it always is. Each operator's parts are of its slices, and an operator has put none for the
+    /// frame whose MAP comes next. Does nothing.
+    pub fn always(&self)
+        ensures { IsGathering self.now }
+    {
+        let _ = &self.layout;
     }
 }

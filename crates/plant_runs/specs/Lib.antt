@@ -4,3 +4,6 @@ pub mod Ordered
 pub mod Reached
 pub mod TwoWorlds
 pub mod Steps
+pub mod Opened
+pub mod Run
+pub mod SharedOut

@@ -1,17 +1,16 @@
 -- The outputs of a run stand in the order of its steps (own).
-use Rattle.std.specs.Prelude.{◌≡◌, ℕ, ◌<◌, List, [], ◌∷◌, ◌++◌, length, slice_get, Option, Some, None, ◌+◌}
+use Rattle.std.specs.Prelude.{◌≡◌, ℕ, List, [], ◌∷◌, ◌++◌, slice_get, Option, Some, None, ◌+◌}
 use Rattle.slice_table.specs.declared.operator_row.RowFields.{RowFields}
 use Rattle.slice_table.specs.declared.plant.PlantFields.{PlantFields}
 use Rattle.slice_table.specs.Roster.{holder}
 use Rattle.operator_machine.specs.declared.action.Action.{Action}
 use Rattle.operator_machine.specs.declared.action.Action.TheVariants as actions
 use Rattle.operator_machine.specs.Machine.{own_step}
-use Rattle.map_assembly.specs.declared.map_bytes.MapBytes.{MapBytes}
 use Rattle.plant_runs.specs.declared.step.Step.{Step}
 use Rattle.plant_runs.specs.declared.step.Step.TheVariants as steps
 use Rattle.plant_runs.specs.declared.step.Out.{Out}
 use Rattle.plant_runs.specs.declared.step.Out.TheVariants as outs
-use Rattle.plant_runs.specs.OwnSteps.{under, maps_in}
+use Rattle.plant_runs.specs.OwnSteps.{under}
 use Rattle.plant_runs.specs.Shown.{alone, IsLeast}
 
 -- where a step goes: the operator and its action

@@ -1,5 +1,5 @@
 -- Whose step a step is, and what of a plant's outputs is an operator's (own).
-use Rattle.std.specs.Prelude.{◌==◌, ℕ, List, [], ◌∷◌, filter_map, map, count_by, Bool, true, false, Option, Some, None, slice_get, if◌then◌else◌}
+use Rattle.std.specs.Prelude.{◌==◌, ℕ, List, filter_map, map, count_by, Bool, false, Option, Some, None, slice_get, if◌then◌else◌}
 use Rattle.slice_table.specs.declared.operator_row.RowFields.{RowFields}
 use Rattle.slice_table.specs.Row.{is_listed}
 use Rattle.operator_machine.specs.declared.action.SliceRow.{SliceRow}

@@ -1,11 +1,13 @@
 -- What a core is after a run (own).
-use Rattle.std.specs.Prelude.{◌≡◌, ℕ, ◌+◌, List, [], ◌∷◌, ◌++◌, map, length, take, drop, filter_map, slice_get, slice_set, Option, Some, None}
+use Rattle.std.specs.Prelude.{◌≡◌, ℕ, ◌+◌, ◌≤◌, List, map, length, take, drop, filter_map, slice_get, Option, Some, None}
 use Rattle.slice_scheduler.specs.declared.elements.ElementsFields.{ElementsFields}
 use Rattle.slice_table.specs.declared.operator_row.RowFields.{RowFields}
 use Rattle.slice_table.specs.declared.plant.PlantFields.{PlantFields}
 use Rattle.operator_machine.specs.declared.output.Output.{Output}
 use Rattle.operator_machine.specs.declared.output.Output.TheVariants.{Reply, Silent, Frame}
 use Rattle.operator_machine.specs.Replay.{BookView, IsReplay, actions_of}
+use Rattle.map_assembly.specs.Map.{layout_of}
+use Rattle.map_assembly.specs.Part.{share_of}
 use Rattle.map_assembly.specs.Gathering.{Gathering}
 use Rattle.plant_runs.specs.declared.step.Step.{Step}
 use Rattle.plant_runs.specs.declared.step.Out.{Out}
@@ -43,6 +45,15 @@ pub record AreFramesAfter (plant : PlantFields) (steps : List Step) (made : ℕ)
   pub waiting_are : waiting ≡ drop (collects_of i steps) (frames_of (alone plant.consts row i steps).outputs)
   pub put_are : put ≡ map (λ frame. frame.1) (drop made (take (collects_of i steps) (frames_of (alone plant.consts row i steps).outputs)))
 
+-- what is gathered after the run: it is gathered for the plant, the next MAP is the one behind those that were made, and no
+-- more frames of an operator were collected than it put out
+pub record IsGatheredAfter (plant : PlantFields) (steps : List Step) (outs : List Out) (gathering : Gathering) : Type 0 where
+  pub layout_is : gathering.layout ≡ layout_of plant.consts
+  pub shares_are : gathering.shares ≡ map share_of plant.rows
+  pub one_each : length gathering.queues ≡ length plant.rows
+  pub next_is : gathering.next ≡ plant.consts.first_frame + length (maps_in outs)
+  pub collected : (i : ℕ) (row : RowFields) → slice_get plant.rows i ≡ Some row → collects_of i steps ≤ length (frames_of (alone plant.consts row i steps).outputs)
+
 pub record Reached (plant : PlantFields) (steps : List Step) (outs : List Out) (core : CoreView) : Type 0 where
   pub plant_is : core.plant ≡ plant
   pub shown : Shown plant steps outs
@@ -52,3 +63,4 @@ pub record Reached (plant : PlantFields) (steps : List Step) (outs : List Out) (
   pub books : (i : ℕ) (row : RowFields) (book : BookView) → slice_get plant.rows i ≡ Some row → slice_get core.books i ≡ Some book → IsBookAfter plant steps i row book
   pub frames : (i : ℕ) (row : RowFields) (waiting : List (ℕ × ElementsFields)) (put : List ElementsFields) → slice_get plant.rows i ≡ Some row
       → slice_get core.queues i ≡ Some waiting → slice_get core.gathering.queues i ≡ Some put → AreFramesAfter plant steps (length (maps_in outs)) i row waiting put
+  pub gathered : IsGatheredAfter plant steps outs core.gathering

@@ -2,6 +2,10 @@
 //! `plant_core` carries them out.
 #![tactic(auto)]
 
+mod laws;
 mod step;
 
+pub use laws::{
+    maps_are_shared_out, opened_is_reached, run_is_reached, step_is_reached, two_worlds,
+};
 pub use step::{Out, SliceRows, Step};

@@ -1,0 +1,42 @@
+-- Books, answers and outputs follow a step.
+use Rattle.std.proofs.Common.{◌≡◌, ℕ, List, [], ◌∷◌, ◌++◌, length, Some, sym, ap, ◌∙◌, arith}
+use Rattle.std.specs.Prelude.{slice_get}
+use Rattle.std.proofs.lemmas.List.Elements.{filter_map-append}
+use Rattle.std.proofs.lemmas.Option.{slice_get_within}
+use Rattle.slice_table.specs.declared.operator_row.RowFields.{RowFields}
+use Rattle.slice_table.specs.declared.plant.PlantFields.{PlantFields}
+use Rattle.operator_machine.specs.declared.output.Output.{Output}
+use Rattle.operator_machine.specs.Replay.{BookView}
+use Rattle.plant_runs.specs.declared.step.Step.{Step}
+use Rattle.plant_runs.specs.declared.step.Out.{Out}
+use Rattle.plant_runs.specs.OwnSteps.{answers_of, output_under}
+use Rattle.plant_runs.specs.Shown.{alone}
+use Rattle.plant_runs.specs.Reached.{CoreView, IsBookAfter, Reached}
+use Rattle.plant_runs.proofs.Entries.{some_at}
+use Rattle.plant_runs.proofs.Books.{book_after, outputs_after}
+use Rattle.plant_runs.proofs.Moving.{EachMoves}
+
+-- each operator's own machine, run alone, puts out what is answered more
+abbrev pub EachTells : PlantFields → List Step → Step → List Out → Type 0
+EachTells plant before step now = (i : ℕ) (row : RowFields) → slice_get plant.rows i ≡ Some row
+    → (alone plant.consts row i (before ++ step ∷ [])).outputs ≡ (alone plant.consts row i before).outputs ++ answers_of i now
+
+module _ (plant : PlantFields) (before : List Step) (outs : List Out) (step : Step) (now : List Out) (old new : CoreView) (reached : Reached plant before outs old)
+    (moves : EachMoves plant step old new now) (books : length new.books ≡ length old.books) where
+  pub each_tells : EachTells plant before step now
+  each_tells i row e =
+      let within = slice_get_within plant.rows i row e in
+      let book = some_at old.books i (omega (arith, reached.one_book)) in
+      let made = some_at new.books i (omega (arith, reached.one_book, books)) in
+      outputs_after plant before step i row book.0 made.0 (answers_of i now) (reached.books i row book.0 e book.1) (moves i row book.0 made.0 e book.1 made.1)
+
+  pub books_follow : (i : ℕ) (row : RowFields) (made : BookView) → slice_get plant.rows i ≡ Some row → slice_get new.books i ≡ Some made → IsBookAfter plant (before ++ step ∷ []) i row made
+  books_follow i row made e f =
+      let within = slice_get_within plant.rows i row e in
+      let book = some_at old.books i (omega (arith, reached.one_book)) in
+      book_after plant before step i row book.0 made (answers_of i now) (reached.books i row book.0 e book.1) (moves i row book.0 made e book.1 f)
+
+  pub answers_follow : (i : ℕ) (row : RowFields) → slice_get plant.rows i ≡ Some row → answers_of i (outs ++ now) ≡ (alone plant.consts row i (before ++ step ∷ [])).outputs
+  answers_follow i row e =
+      filter_map-append (output_under i) outs now
+      ∙ (ap (λ (os : List Output). os ++ answers_of i now) (reached.shown.answers i row e) ∙ sym (each_tells i row e))

@@ -1,0 +1,42 @@
+-- The MAPs of a run: each minislot once, and to each operator its own.
+use Rattle.std.proofs.Common.{◌≡◌, ℕ, count_by, List, Some, option_map, ap, ◌∙◌, arith}
+use Rattle.std.specs.Prelude.{slice_get, Contains}
+use Rattle.std.proofs.lemmas.Option.{slice_get-map, slice_get_within}
+use Rattle.std.proofs.lemmas.List.Elements.{All-contains}
+use Rattle.slice_table.specs.declared.operator_row.RowFields.{RowFields}
+use Rattle.slice_table.specs.declared.plant.PlantFields.{PlantFields}
+use Rattle.map_assembly.specs.declared.map_bytes.MapBytes.{MapBytes}
+use Rattle.map_assembly.specs.declared.view.MapView.{MapView}
+use Rattle.map_assembly.specs.Map.{layout_of, map_of}
+use Rattle.map_assembly.specs.Part.{share_of}
+use Rattle.map_assembly.specs.Reading.{MapReads}
+use Rattle.map_assembly.specs.Tiled.{holds, part_of}
+use Rattle.map_assembly.proofs.ReadLemmas.{reads_once}
+use Rattle.plant_runs.specs.declared.step.Step.{Step}
+use Rattle.plant_runs.specs.declared.step.Out.{Out}
+use Rattle.plant_runs.specs.OwnSteps.{maps_in}
+use Rattle.plant_runs.specs.Shown.{IsMapIn, Shown}
+use Rattle.plant_runs.specs.SharedOut.{IsOwnPart, IsSharedOut}
+use Rattle.plant_runs.proofs.Entries.{some_at}
+
+own_part_is : (plant : PlantFields) (steps : List Step) (i : ℕ) (row : RowFields) (made : MapBytes) (view : MapView) → slice_get plant.rows i ≡ Some row → IsMapIn plant steps made → MapReads made.bytes view
+    → IsOwnPart plant steps i row made view
+own_part_is plant steps i row made view e m reads =
+    let there = some_at m.parts i (omega (arith, m.parts_are.one_each, slice_get_within plant.rows i row e)) in
+    record {
+      part = there.0;
+      put = m.parts_are.own i row there.0 e there.1;
+      part_is =
+          ap (part_of row.sids) (reads_once made.bytes view (map_of (layout_of plant.consts) made.frame m.parts) reads m.map_is.reads)
+          ∙ m.map_is.own i (share_of row) there.0 (slice_get-map share_of plant.rows i ∙ ap (option_map share_of) e) there.1;
+    }
+
+-- each MAP of the run
+pub shared_out : (plant : PlantFields) (steps : List Step) (outs : List Out) (made : MapBytes) (view : MapView) → Shown plant steps outs → Contains (maps_in outs) made → MapReads made.bytes view → IsSharedOut plant steps made view
+shared_out plant steps outs made view shown within reads =
+    let m : IsMapIn plant steps made = All-contains (IsMapIn plant steps) (maps_in outs) made shown.maps.each within in
+    let same : view ≡ map_of (layout_of plant.consts) made.frame m.parts = reads_once made.bytes view (map_of (layout_of plant.consts) made.frame m.parts) reads m.map_is.reads in
+    record {
+      once = λ n lt. ap (λ (v : MapView). count_by (holds n) v.spans) same ∙ m.map_is.tiled.once n lt;
+      own = λ i row e. own_part_is plant steps i row made view e m reads;
+    }

@@ -1,0 +1,95 @@
+-- Frames that wait to be collected, after a step that collects nothing.
+use Rattle.std.proofs.Common.{◌≡◌, ℕ, ◌+◌, ◌≤◌, false, List, [], ◌∷◌, ◌++◌, length, map, take, drop, Some, append-nil, length-append, ◌⊎◌, inl, inr, sym, ap, ◌∙◌, arith}
+use Rattle.std.specs.Prelude.{slice_get, slice_set}
+use Rattle.std.proofs.lemmas.Bool.{cases_eq}
+use Rattle.std.proofs.lemmas.List.{length-set, take-append-le, drop-append-le}
+use Rattle.std.proofs.lemmas.Option.{slice_get_within}
+use Rattle.slice_scheduler.specs.declared.elements.ElementsFields.{ElementsFields}
+use Rattle.slice_table.specs.declared.operator_row.RowFields.{RowFields}
+use Rattle.slice_table.specs.declared.plant.PlantFields.{PlantFields}
+use Rattle.operator_machine.specs.declared.action.SliceRow.{SliceRow}
+use Rattle.operator_machine.specs.declared.action.Action.{Action}
+use Rattle.operator_machine.specs.declared.output.Output.{Output}
+use Rattle.operator_machine.specs.Machine.{own_step}
+use Rattle.map_assembly.specs.Gathering.{Gathering}
+use Rattle.plant_runs.specs.declared.step.Step.{Step}
+use Rattle.plant_runs.specs.declared.step.Out.{Out}
+use Rattle.plant_runs.specs.OwnSteps.{answers_of, maps_in, is_collect, collects_of}
+use Rattle.plant_runs.specs.Shown.{alone}
+use Rattle.plant_runs.specs.Reached.{CoreView, frames_of, AreFramesAfter, IsGatheredAfter}
+use Rattle.plant_runs.specs.Steps.{Acts, Reslices}
+use Rattle.plant_runs.proofs.Entries.{get_same, get_other, same_at}
+use Rattle.plant_runs.proofs.Answers.{answers_here, answers_else}
+use Rattle.plant_runs.proofs.Following.{EachTells}
+use Rattle.plant_runs.proofs.Numbers.{Numbered}
+use Rattle.plant_runs.proofs.Kept.{frames_more, collects_same, maps_same}
+
+-- each operator's frames wait behind those that waited
+abbrev pub EachWaits : CoreView → CoreView → List Out → Type 0
+EachWaits old new now = (i : ℕ) (waiting made : List Numbered) → slice_get old.queues i ≡ Some waiting → slice_get new.queues i ≡ Some made → made ≡ waiting ++ frames_of (answers_of i now)
+
+-- ---- by each kind of step
+
+module _ (k : ℕ) (action : Action) (old new : CoreView) (now : List Out) (acts : Acts k action old new now) where
+  abbrev outputs : List Output
+  outputs = (own_step acts.book.consts acts.book.row acts.book.state action).outputs
+
+  pub acts_waits : EachWaits old new now
+  acts_waits i waiting made e f = by (cases_eq i k)
+    where
+      by : (i ≡ k) ⊎ (i ≡ k → ⊥) → made ≡ waiting ++ frames_of (answers_of i now)
+      by (inl same) =
+          let there : slice_get new.queues i ≡ Some (acts.waiting ++ frames_of outputs) =
+          ap (λ (c : CoreView). slice_get c.queues i) acts.new_is
+          ∙ (ap (slice_get (slice_set old.queues k (acts.waiting ++ frames_of outputs))) same ∙ get_same old.queues k (acts.waiting ++ frames_of outputs) (slice_get_within old.queues k acts.waiting acts.waiting_is)) in
+          let was : acts.waiting ≡ waiting = same_at old.queues k acts.waiting waiting acts.waiting_is (ap (slice_get old.queues) (sym same) ∙ e) in
+          let told : answers_of i now ≡ outputs = ap (answers_of i) acts.now_is ∙ answers_here i k outputs same in
+          same_at new.queues i made (acts.waiting ++ frames_of outputs) f there ∙ (λ n. was n ++ frames_of (sym told n))
+      by (inr other) =
+          let there : slice_get new.queues i ≡ Some waiting = ap (λ (c : CoreView). slice_get c.queues i) acts.new_is ∙ (get_other old.queues k i (acts.waiting ++ frames_of outputs) other ∙ e) in
+          let told : answers_of i now ≡ [] = ap (answers_of i) acts.now_is ∙ answers_else i k outputs other in
+          same_at new.queues i made waiting f there ∙ (sym (append-nil waiting) ∙ ap (λ (os : List Output). waiting ++ frames_of os) (sym told))
+
+  pub acts_queues : length new.queues ≡ length old.queues
+  acts_queues = ap (λ (c : CoreView). length c.queues) acts.new_is ∙ length-set old.queues k (acts.waiting ++ frames_of outputs)
+
+pub reslices_waits : (from : ℕ) (rows : List SliceRow) (old new : CoreView) (now : List Out) → Reslices from rows old new now → EachWaits old new now
+reslices_waits from rows old new now reslices i waiting made e f =
+    let there : slice_get new.queues i ≡ Some waiting = ap (λ (qs : List (List Numbered)). slice_get qs i) reslices.queues_are ∙ e in
+    same_at new.queues i made waiting f there ∙ (sym (append-nil waiting) ∙ ap (λ (os : List Out). waiting ++ frames_of (answers_of i os)) (sym reslices.now_is))
+
+-- ---- what they come to
+
+module _ (plant : PlantFields) (before : List Step) (outs : List Out) (step : Step) (now : List Out) (tells : EachTells plant before step now)
+    (others : (i : ℕ) → is_collect i step ≡ false) (none : maps_in now ≡ []) where
+  pub frames_follow : (made i : ℕ) (row : RowFields) (waiting after : List Numbered) (put : List ElementsFields) → slice_get plant.rows i ≡ Some row
+      → collects_of i before ≤ length (frames_of (alone plant.consts row i before).outputs) → AreFramesAfter plant before made i row waiting put → after ≡ waiting ++ frames_of (answers_of i now)
+      → AreFramesAfter plant (before ++ step ∷ []) made i row after put
+  frames_follow made i row waiting after put e within are is =
+      let count = collects_same i before step (others i) in
+      let all = frames_more plant before step now tells i row e in
+      let was = frames_of (alone plant.consts row i before).outputs in
+      let more = frames_of (answers_of i now) in
+      let rest : drop (collects_of i (before ++ step ∷ [])) (frames_of (alone plant.consts row i (before ++ step ∷ [])).outputs) ≡ drop (collects_of i before) was ++ more =
+      (λ n. drop (count n) (all n)) ∙ drop-append-le (collects_of i before) was more within in
+      let front : take (collects_of i (before ++ step ∷ [])) (frames_of (alone plant.consts row i (before ++ step ∷ [])).outputs) ≡ take (collects_of i before) was =
+      (λ n. take (count n) (all n)) ∙ take-append-le (collects_of i before) was more within in
+      record {
+        waiting_are = is ∙ (ap (λ (ws : List Numbered). ws ++ more) are.waiting_are ∙ sym rest);
+        put_are = are.put_are ∙ ap (λ (frames : List Numbered). map (λ (frame : Numbered). frame.1) (drop made frames)) (sym front);
+      }
+
+  pub gathered_follows : (g after : Gathering) → IsGatheredAfter plant before outs g → after.layout ≡ g.layout → after.shares ≡ g.shares → after.queues ≡ g.queues → after.next ≡ g.next
+      → IsGatheredAfter plant (before ++ step ∷ []) (outs ++ now) after
+  gathered_follows g after is layout shares queues next = record {
+    layout_is = layout ∙ is.layout_is;
+    shares_are = shares ∙ is.shares_are;
+    one_each = ap length queues ∙ is.one_each;
+    next_is = next ∙ (is.next_is ∙ ap (λ ms. plant.consts.first_frame + length ms) (sym (maps_same plant before outs step now tells others none)));
+    collected = λ i row e.
+        let count = collects_same i before step (others i) in
+        let all = ap length (frames_more plant before step now tells i row e) in
+        let long = length-append (frames_of (alone plant.consts row i before).outputs) (frames_of (answers_of i now)) in
+        let was = is.collected i row e in
+        omega (arith, count, all, long, was);
+  }
