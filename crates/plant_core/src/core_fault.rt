@@ -1,9 +1,13 @@
 //! Why a step was refused.
 
+ghost use Rattle.std.specs.Prelude.{◌≡◌};
+ghost use Rattle.plant_core.specs.declared.core_fault.CoreOpenFault.TheVariants as open_faults;
+
 use dsx_messages::Modem;
 use map_assembly::GatherFault;
 use operator_book::BookFault;
 use slice_table::Op;
+use std::alloc::AllocError;
 
 /// Why a plant's core was not opened, in the order tried.
 #[derive(Clone, Copy, Debug, PartialEq, Eq)]
@@ -12,6 +16,14 @@ pub enum CoreOpenFault {
     RankingsMismatch,
     /// No memory was left.
     NoMemory,
+}
+
+impl From<AllocError> for CoreOpenFault {
+    ghost from_gives = { λ _ fault. fault ≡ open_faults.NoMemory };
+
+    fn from(_error: AllocError) -> CoreOpenFault {
+        CoreOpenFault::NoMemory
+    }
 }
 
 /// Why other slices were refused. Fault by fault over all operators, and of one fault the least operator or pair.

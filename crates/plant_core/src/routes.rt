@@ -1,6 +1,7 @@
 //! To which operator a modem's messages go.
 
 ghost use Rattle.std.specs.Prelude.{◌≡◌, IfOk};
+ghost use Rattle.slice_table.specs.Plant.{IsPlant};
 ghost use Rattle.slice_table.specs.Roster.{holder};
 
 use dsx_messages::Modem;
@@ -62,5 +63,12 @@ impl Routes {
         ensures { result.now ≡ self.now }
     {
         &self.plant
+    }
+
+    /// A law: the plant is valid. Does nothing.
+    pub(crate) fn valid(&self)
+        ensures { IsPlant self.now }
+    {
+        let _rows = self.plant.rows();
     }
 }

@@ -3,7 +3,9 @@
 ghost use Rattle.std.specs.Prelude.{◌≡◌, ◌≢◌, ◌↔◌, ℕ, ◌+◌, ◌<◌, ◌≤◌, [], ◌∷◌, ◌++◌, List, map, length, slice_get, vec_len, vec_capacity, Option, Some, None, Err, IfOk, IfErr, OnOk, OnErr};
 ghost use Rattle.map_assembly.specs.declared.refused.GatherFault.{GatherFault};
 ghost use Rattle.plant_runs.specs.declared.step.Out.{Out};
+ghost use Rattle.plant_runs.specs.declared.step.Step.{Step};
 ghost use Rattle.plant_runs.specs.declared.step.Step.TheVariants as steps;
+ghost use Rattle.plant_runs.specs.Reached.{Reached};
 ghost use Rattle.plant_runs.specs.OwnSteps.{under};
 ghost use Rattle.plant_runs.specs.Steps.{Acts, Collects, Steps, told_map};
 ghost use Rattle.plant_core.specs.Faults.{act_fault, collect_fault, step_fault, IsTold, NoMisfit, IsMisfit, DoesNotFit, core_fault_of};
@@ -82,7 +84,7 @@ impl PlantCore {
     }
 
     /// The operator at this place acts, if there is one.
-    fn act_if(
+    pub(crate) fn act_if(
         &mut self,
         alloc: Global,
         op: Op,
@@ -147,7 +149,7 @@ impl PlantCore {
     }
 
     /// The oldest frame that waits of the operator at this place goes into the assembly, if there is one.
-    fn collect(&mut self, alloc: Global, op: Op, outs: &mut Vec<Out>) -> Result<(), CoreFault>
+    pub(crate) fn collect(&mut self, alloc: Global, op: Op, outs: &mut Vec<Out>) -> Result<(), CoreFault>
         ensures ok { OnOk result ((now : List Out) × (outs.new.items ≡ outs.old.items ++ now) × Collects op (core_view self.old) (core_view self.new) now) }
         ensures outs { OnErr result (outs.new.items ≡ outs.old.items) }
         ensures err { OnErr result (core_view self.new ≡ core_view self.old) }
@@ -160,7 +162,7 @@ impl PlantCore {
     }
 
     /// One step, whose outputs are added.
-    pub(crate) fn step_into(
+    fn step_into(
         &mut self,
         alloc: Global,
         step: Step,
@@ -183,9 +185,11 @@ impl PlantCore {
     /// One step, and what it puts out. A refused step changes nothing.
     pub fn step(&mut self, alloc: Global, step: Step) -> Result<Vec<Out>, CoreFault>
         ensures ok { IfOk result (λ outs. Steps step (core_view self.old) (core_view self.new) outs.items) }
+        ensures reached { IfOk result (λ outs. (before : List Step) (told : List Out) → Reached (core_view self.old).plant before told (core_view self.old) → Reached (core_view self.old).plant (before ++ step ∷ []) (told ++ outs.items) (core_view self.new)) }
         ensures err { OnErr result (core_view self.new ≡ core_view self.old) }
         ensures fault { IsTold result (step_fault (core_view self.old) step) (DoesNotFit (core_view self.old) step) }
     {
+        self.always();
         let mut outs = Vec::new(alloc);
         self.step_into(alloc, step, &mut outs)?;
         Ok(outs)
