@@ -4,3 +4,4 @@ pub mod OwnLemmas
 pub mod StepLemmas
 pub mod RunLemmas
 pub mod OpenLemmas
+pub mod OfferLemmas

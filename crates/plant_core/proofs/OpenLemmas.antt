@@ -51,9 +51,9 @@ opened_is plant routes books queues gathering consts rows valid r c w b q g =
     let all : books ≡ map (opened_book plant.consts) plant.rows = b ∙ ap₂ (λ (k : ConstsFields) (rs : List RowFields). map (opened_book k) rs) c w in
     let none : queues ≡ replicate (length plant.rows) [] = q ∙ ap (λ (rs : List RowFields). replicate (length rs) []) w in
     let same : record { plant = routes; books = books; queues = queues; gathering = gathering } ≡ opened_core plant =
-        ap₂ (λ (f : List BookView → List (List (ℕ × ElementsFields)) → CoreView) (bq : List BookView × List (List (ℕ × ElementsFields))). f bq.0 bq.1)
-        (ap₂ (λ (p : PlantFields) (gs : Gathering). λ (bs : List BookView) (qs : List (List (ℕ × ElementsFields))). record { plant = p; books = bs; queues = qs; gathering = gs }) r g)
-        (ap₂ (λ (bs : List BookView) (qs : List (List (ℕ × ElementsFields))). (bs, qs)) all none) in
+    ap₂ (λ (f : List BookView → List (List (ℕ × ElementsFields)) → CoreView) (bq : List BookView × List (List (ℕ × ElementsFields))). f bq.0 bq.1)
+    (ap₂ (λ (p : PlantFields) (gs : Gathering). λ (bs : List BookView) (qs : List (List (ℕ × ElementsFields))). record { plant = p; books = bs; queues = qs; gathering = gs }) r g)
+    (ap₂ (λ (bs : List BookView) (qs : List (List (ℕ × ElementsFields))). (bs, qs)) all none) in
     subst (λ (core : CoreView). Reached plant [] [] core) (sym same) (opened_reached plant valid)
 
 some_same : {X : Type 0} (x y : X) → Some x ≡ Some y → x ≡ y

@@ -108,9 +108,9 @@ one_frame consts row state action =
     let puts = run_puts consts row state (action ∷ []) in
     let plain : (own_step consts row state action).outputs ++ [] ≡ (own_step consts row state action).outputs = append-nil (own_step consts row state action).outputs in
     let same : length (frames_of (own_step consts row state action).outputs) ≡ count_by is_tick (action ∷ []) =
-        as_many (own_step consts row state action).outputs
-        ∙ (ap (λ (outputs : List Output). length (filter_map frame_of outputs)) (sym plain)
-        ∙ (ap (λ (ns : List ℕ). length ns) puts.numbers ∙ long state.frame (count_by is_tick (action ∷ [])))) in
+    as_many (own_step consts row state action).outputs
+    ∙ (ap (λ (outputs : List Output). length (filter_map frame_of outputs)) (sym plain)
+    ∙ (ap (λ (ns : List ℕ). length ns) puts.numbers ∙ long state.frame (count_by is_tick (action ∷ [])))) in
     omega (arith, same, ticks action)
 
 all_more : (entry : Entry) (history : List Entry) → IsOneFrame entry → All IsOneFrame history → (k : ℕ) (d : Entry) → k < length (entry ∷ history)

@@ -1,5 +1,5 @@
 -- Why a step is refused (own).
-use Rattle.std.specs.Prelude.{◌≡◌, ℕ, List, [], ◌∷◌, slice_get, Option, Some, None, if◌then◌else◌, Result, Ok, Err}
+use Rattle.std.specs.Prelude.{◌≡◌, ℕ, List, [], ◌∷◌, slice_get, option_map, Option, Some, None, if◌then◌else◌, Result, Ok, Err}
 use Rattle.slice_scheduler.specs.declared.elements.ElementsFields.{ElementsFields}
 use Rattle.slice_table.specs.Roster.{holder}
 use Rattle.operator_machine.specs.declared.action.Action.{Action}
@@ -13,8 +13,9 @@ use Rattle.map_assembly.specs.Gathering.{Gathering, put_fault}
 use Rattle.plant_runs.specs.declared.step.Step.{Step}
 use Rattle.plant_runs.specs.declared.step.Step.TheVariants as steps
 use Rattle.plant_runs.specs.Reached.{CoreView}
+use Rattle.plant_core.specs.Reslicing.{reslice_fault}
 use Rattle.plant_core.specs.declared.core_fault.CoreFault.{CoreFault}
-use Rattle.plant_core.specs.declared.core_fault.CoreFault.TheVariants.{UnknownModem, UnknownOperator, Book, Gather, NothingToCollect, NoMemory}
+use Rattle.plant_core.specs.declared.core_fault.CoreFault.TheVariants.{UnknownModem, UnknownOperator, Book, Gather, NothingToCollect, NoMemory, Reslice}
 
 -- why the operator at a place does not act: there is none, or its frame numbers are spent
 abbrev pub act_fault : ℕ → Action → Option BookView → Option CoreFault
@@ -39,7 +40,7 @@ step_fault core (steps.Arrive modem heard) = arrive_fault core (steps.Arrive mod
 step_fault core (steps.Work op) = act_fault op actions.Work (slice_get core.books op)
 step_fault core (steps.Tick op) = act_fault op actions.Tick (slice_get core.books op)
 step_fault core (steps.Collect op) = collect_fault op (slice_get core.queues op)
-step_fault core (steps.Reslice from rows) = None
+step_fault core (steps.Reslice from rows) = option_map (λ fault. Reslice fault) (reslice_fault from core.books rows)
 
 -- the fault is told exactly where there is one; where there is none, only memory can be wanting, or a frame is a misfit
 abbrev pub IsTold : {A : Type 0} → Result A CoreFault → Option CoreFault → (GatherFault → Type 0) → Type 0

@@ -8,14 +8,17 @@ mod desk;
 mod held;
 mod laws_of_core;
 mod opening;
+mod reslicing;
 mod routes;
 mod running;
 mod stepping;
 
-pub use core_fault::{CoreFault, CoreOpenFault, ResliceFault};
 pub use collecting::Oldest;
+pub use core_fault::{CoreFault, CoreOpenFault, ResliceFault};
 pub use desk::Desk;
 pub use held::PlantCore;
-pub use plant_runs::{maps_are_shared_out, opened_is_reached, run_is_reached, step_is_reached, two_worlds};
+pub use plant_runs::{
+    maps_are_shared_out, opened_is_reached, run_is_reached, step_is_reached, two_worlds,
+};
 pub use routes::Routes;
 pub use running::RunStop;

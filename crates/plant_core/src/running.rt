@@ -59,7 +59,7 @@ impl PlantCore {
             Step::Work { op } => self.act_if(alloc, *op, Action::Work, outs),
             Step::Tick { op } => self.act_if(alloc, *op, Action::Tick, outs),
             Step::Collect { op } => self.collect(alloc, *op, outs),
-            Step::Reslice { from: _, rows: _ } => Err(CoreFault::NoMemory),
+            Step::Reslice { from, rows } => self.reslice(*from, rows.as_slice()),
         }
     }
 

@@ -14,9 +14,9 @@ ghost use Rattle.plant_core.specs.CoreView.{core_view};
 
 use crate::core_fault::CoreFault;
 use crate::held::PlantCore;
-use operator_book::BookFault;
 use dsx_messages::Modem;
 use map_assembly::{GatherFault, MapBytes};
+use operator_book::BookFault;
 use operator_machine::{Action, Heard, Output};
 use plant_runs::{Out, Step};
 use slice_table::Op;
@@ -149,7 +149,12 @@ impl PlantCore {
     }
 
     /// The oldest frame that waits of the operator at this place goes into the assembly, if there is one.
-    pub(crate) fn collect(&mut self, alloc: Global, op: Op, outs: &mut Vec<Out>) -> Result<(), CoreFault>
+    pub(crate) fn collect(
+        &mut self,
+        alloc: Global,
+        op: Op,
+        outs: &mut Vec<Out>,
+    ) -> Result<(), CoreFault>
         ensures ok { OnOk result ((now : List Out) × (outs.new.items ≡ outs.old.items ++ now) × Collects op (core_view self.old) (core_view self.new) now) }
         ensures outs { OnErr result (outs.new.items ≡ outs.old.items) }
         ensures err { OnErr result (core_view self.new ≡ core_view self.old) }
@@ -162,12 +167,7 @@ impl PlantCore {
     }
 
     /// One step, whose outputs are added.
-    fn step_into(
-        &mut self,
-        alloc: Global,
-        step: Step,
-        outs: &mut Vec<Out>,
-    ) -> Result<(), CoreFault>
+    fn step_into(&mut self, alloc: Global, step: Step, outs: &mut Vec<Out>) -> Result<(), CoreFault>
         ensures ok { OnOk result ((now : List Out) × (outs.new.items ≡ outs.old.items ++ now) × Steps step (core_view self.old) (core_view self.new) now) }
         ensures outs { OnErr result (outs.new.items ≡ outs.old.items) }
         ensures err { OnErr result (core_view self.new ≡ core_view self.old) }
@@ -178,7 +178,7 @@ impl PlantCore {
             Step::Work { op } => self.act_if(alloc, op, Action::Work, outs),
             Step::Tick { op } => self.act_if(alloc, op, Action::Tick, outs),
             Step::Collect { op } => self.collect(alloc, op, outs),
-            Step::Reslice { from: _, rows: _ } => Err(CoreFault::NoMemory),
+            Step::Reslice { from, rows } => self.reslice(from, rows.as_slice()),
         }
     }
 

@@ -11,16 +11,18 @@ pub returns-in-Some-clause-value : goal.returns-in-Some-clause-value
 returns-in-Some-clause-value c =
     let entry : Entry = c.index-history-place.result in
     let seen : slice_get (frames_of (get_or c.args.history.now c.loop-place.place entry).outputs) 0 ≡ Some (c.in-Some.number, c.in-Some.elements) =
-        ap (λ (os : List Output). slice_get (frames_of os) 0) (sym c.as_slice.ensures) ∙ (sym c.in_ok-number.ensures.value ∙ c.in-Some.is) in
-    let here : waiting_in c.args.history.now c.loop-place.place ≡ waiting_in c.args.history.now c.args.from = c.loop-place.invariant in
-    (sym here ∙ one_here c.args.history.now c.loop-place.place entry (c.in-Some.number, c.in-Some.elements) c.loop-place-test.true
-    (c.requires.one c.loop-place.place entry c.loop-place-test.true) seen, omega (arith, c.loop-place-test.true))
+    ap (λ (os : List Output). slice_get (frames_of os) 0) (sym c.as_slice.ensures) ∙ (sym c.in_ok-number.ensures.value ∙ c.in-Some.is) in
+    let here : waiting_in c.args.history.now c.loop-place.place ≡ waiting_in c.args.history.now c.args.from = c.loop-place.invariant in (
+      sym here ∙ one_here c.args.history.now c.loop-place.place entry (c.in-Some.number, c.in-Some.elements) c.loop-place-test.true
+          (c.requires.one c.loop-place.place entry c.loop-place-test.true) seen,
+      omega (arith, c.loop-place-test.true),
+    )
 
 pub loop-place-preserved : goal.loop-place-preserved
 loop-place-preserved c =
     let entry : Entry = c.index-history-place.result in
     let seen : slice_get (frames_of (get_or c.args.history.now c.loop-place.place entry).outputs) 0 ≡ None =
-        ap (λ (os : List Output). slice_get (frames_of os) 0) (sym c.as_slice.ensures) ∙ (sym c.in_ok-number.ensures.value ∙ c.in_default.is) in
+    ap (λ (os : List Output). slice_get (frames_of os) 0) (sym c.as_slice.ensures) ∙ (sym c.in_ok-number.ensures.value ∙ c.in_default.is) in
     let here : waiting_in c.args.history.now c.loop-place.place ≡ waiting_in c.args.history.now c.args.from = c.loop-place.invariant in
     none_here c.args.history.now c.loop-place.place entry c.loop-place-test.true seen ∙ here
 

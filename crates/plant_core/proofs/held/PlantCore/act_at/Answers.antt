@@ -15,23 +15,25 @@ invariant_of-self-2 g c =
     let desk = c.index_mut-desk.result.now in
     record {
       own = subst (λ (books : List BookView). AreOwn c.args.self.now.routes books) (sym (map-set _ desks.items c.args.op c.act.new.self))
-        (own_after c.args.self.now.routes c.act.result _ c.args.op desk.book.kept.book _ c.args.action
-        (seen_at _ desks.items desks.len c.args.op desk desks.ok.0 c.requires c.index_mut-desk.ensures.value)
-        c.act.ensures.book c.act.ensures.same_book c.args.self.now.own);
+          (own_after c.args.self.now.routes c.act.result _ c.args.op desk.book.kept.book _ c.args.action
+          (seen_at _ desks.items desks.len c.args.op desk desks.ok.0 c.requires c.index_mut-desk.ensures.value)
+          c.act.ensures.book c.act.ensures.same_book c.args.self.now.own);
     }
 
 pub returns-in-Ok-clause-ok : goal.returns-in-Ok-clause-ok
 returns-in-Ok-clause-ok g c =
     let desks = c.args.self.now.desks in
-    let desk = c.index_mut-desk.result.now in
-    (under c.args.op c.in-Ok.told.items, c.append.ensures ∙ ap (λ (outs : List Out). outs ++ under c.args.op c.in-Ok.told.items) c.reserve.ensures.items,
-    acts_at c.args.self.now.routes c.args.self.now.gather _ _ _ _ c.args.op c.args.action desk.book.kept.book _ _
-    (seen_at _ desks.items desks.len c.args.op desk desks.ok.0 c.requires c.index_mut-desk.ensures.value)
-    (seen_at _ desks.items desks.len c.args.op desk desks.ok.0 c.requires c.index_mut-desk.ensures.value)
-    c.in-Ok.ensures.allowed
-    (set_seen _ desks.items c.args.op c.act.new.self _ c.in-Ok.ensures.book)
-    (set_seen _ desks.items c.args.op c.act.new.self _ c.in-Ok.ensures.waiting)
-    (ap (λ (outputs : List Output). under c.args.op outputs) c.in-Ok.ensures.outputs))
+    let desk = c.index_mut-desk.result.now in (
+      under c.args.op c.in-Ok.told.items,
+      c.append.ensures ∙ ap (λ (outs : List Out). outs ++ under c.args.op c.in-Ok.told.items) c.reserve.ensures.items,
+      acts_at c.args.self.now.routes c.args.self.now.gather _ _ _ _ c.args.op c.args.action desk.book.kept.book _ _
+          (seen_at _ desks.items desks.len c.args.op desk desks.ok.0 c.requires c.index_mut-desk.ensures.value)
+          (seen_at _ desks.items desks.len c.args.op desk desks.ok.0 c.requires c.index_mut-desk.ensures.value)
+          c.in-Ok.ensures.allowed
+          (set_seen _ desks.items c.args.op c.act.new.self _ c.in-Ok.ensures.book)
+          (set_seen _ desks.items c.args.op c.act.new.self _ c.in-Ok.ensures.waiting)
+          (ap (λ (outputs : List Output). under c.args.op outputs) c.in-Ok.ensures.outputs),
+    )
 
 pub returns-in-Ok-clause-fault : goal.returns-in-Ok-clause-fault
 returns-in-Ok-clause-fault g c =

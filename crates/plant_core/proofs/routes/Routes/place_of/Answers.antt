@@ -12,7 +12,7 @@ invariant_of-self c = let kept = promoted_right c.self.inside.plant.rows (same_m
 pub returns-in-Some-clause-value : goal.returns-in-Some-clause-value
 returns-in-Some-clause-value c =
     let found = lookup_right c.self.inside.plant.rows c.args.modem c.self.inside.cache.entries c.in-Some.place c.self.invariant
-      (sym c.get.ensures.value ∙ (sym c.copied.ensures ∙ c.in-Some.is)) in
+    (sym c.get.ensures.value ∙ (sym c.copied.ensures ∙ c.in-Some.is)) in
     sym found ∙ ap (λ (plant : PlantFields). holder plant.rows c.args.modem) c.self.view_is
 
 pub invariant_of-self-in_err-place : goal.invariant_of-self-in_err-place
