@@ -170,7 +170,7 @@ impl Book {
     }
 
     /// Whether this is a tick past the last frame.
-    fn is_spent(&self, action: &Action) -> bool
+    pub fn is_spent(&self, action: &Action) -> bool
         ensures { result ≡ is_spent self.now.kept.book.state action.now }
     {
         match action {

@@ -1,0 +1,40 @@
+-- A run, step by step.
+use Rattle.std.proofs.Common.{◌≡◌, ℕ, ◌+◌, ◌<◌, List, [], ◌∷◌, ◌++◌, length, take, get_or, Err, Some, refl, sym, ap, subst, ◌∙◌}
+use Rattle.std.specs.Prelude.{slice_get}
+use Rattle.std.proofs.lemmas.Option.{slice_get_read}
+use Rattle.slice_table.specs.declared.plant.PlantFields.{PlantFields}
+use Rattle.slice_table.specs.Plant.{IsPlant}
+use Rattle.map_assembly.specs.Gathering.{IsGathering}
+use Rattle.plant_runs.specs.declared.step.Step.{Step}
+use Rattle.plant_runs.specs.declared.step.Out.{Out}
+use Rattle.plant_runs.specs.Reached.{CoreView, Reached}
+use Rattle.plant_runs.specs.Steps.{Steps}
+use Rattle.plant_runs.proofs.OneStep.{step_reached}
+use Rattle.plant_runs.proofs.Runs.{reached_more}
+use Rattle.plant_core.specs.declared.core_fault.CoreFault.{CoreFault}
+use Rattle.plant_core.specs.Faults.{step_fault, IsTold, DoesNotFit}
+
+pub step_more : (plant : PlantFields) (before : List Step) (step : Step) (told made now outs : List Out) (old new : CoreView) → IsPlant plant → IsGathering old.gathering
+    → Steps step old new now → outs ≡ made ++ now → made ≡ [] → Reached plant before told old → Reached plant (before ++ step ∷ []) (told ++ outs) new
+step_more plant before step told made now outs old new valid gathering steps is none reached =
+    subst (λ (os : List Out). Reached plant (before ++ step ∷ []) (told ++ os) new) (sym (is ∙ ap (λ (os : List Out). os ++ now) none))
+    (step_reached plant before told step old new now valid reached gathering steps)
+
+pub run_more : (plant : PlantFields) (before all : List Step) (at : ℕ) (step : Step) (told made now outs : List Out) (old new : CoreView) → IsPlant old.plant → IsGathering old.gathering
+    → at < length all → step ≡ get_or all at step → Steps step old new now → outs ≡ made ++ now → Reached plant (before ++ take at all) (told ++ made) old
+    → Reached plant (before ++ take (at + 1) all) (told ++ outs) new
+run_more plant before all at step told made now outs old new valid gathering within is steps made_is reached =
+    subst (λ (os : List Out). Reached plant (before ++ take (at + 1) all) (told ++ os) new) (sym made_is)
+    (reached_more plant before all at step told made now new within is
+    (step_reached plant (before ++ take at all) (told ++ made) step old new now (subst IsPlant reached.plant_is valid) reached gathering steps))
+
+some_same : {X : Type 0} (x y : X) → Some x ≡ Some y → x ≡ y
+some_same x y h = cc
+
+-- why a run stopped
+pub stop_told : (all : List Step) (at : ℕ) (step other : Step) (fault : CoreFault) (old new : CoreView) → at < length all → step ≡ get_or all at step → slice_get all at ≡ Some other
+    → new ≡ old → IsTold {A = Unit {0}} (Err fault) (step_fault old step) (DoesNotFit old step) → IsTold {A = Unit {0}} (Err fault) (step_fault new other) (DoesNotFit new other)
+stop_told all at step other fault old new within is there same told =
+    let one : step ≡ other = some_same step other (sym (slice_get_read all (length all) at step refl within is) ∙ there) in
+    subst (λ (core : CoreView). IsTold {A = Unit {0}} (Err fault) (step_fault core other) (DoesNotFit core other)) (sym same)
+    (subst (λ (s : Step). IsTold {A = Unit {0}} (Err fault) (step_fault old s) (DoesNotFit old s)) one told)

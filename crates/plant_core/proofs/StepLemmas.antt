@@ -1,0 +1,131 @@
+-- What one step makes of a core.
+use Rattle.std.proofs.Common.{◌≡◌, ◌≢◌, ◌↔◌, ℕ, Bool, true, false, List, [], ◌∷◌, ◌++◌, length, slice_set, Result, Ok, Err, Option, Some, None, IsSome, nat_lt, nat_le, refl, sym, ap, ap₂, ◌∙◌}
+use Rattle.std.specs.Prelude.{slice_get, if◌then◌else◌}
+use Rattle.slice_scheduler.specs.declared.elements.ElementsFields.{ElementsFields}
+use Rattle.slice_table.specs.declared.plant.PlantFields.{PlantFields}
+use Rattle.operator_machine.specs.declared.action.Action.{Action}
+use Rattle.operator_machine.specs.Machine.{own_step, is_spent, IsAllowed}
+use Rattle.operator_machine.specs.Replay.{BookView, acted}
+use Rattle.operator_book.specs.declared.book.BookFault.TheVariants.{FramesSpent}
+use Rattle.map_assembly.specs.Gathering.{Gathering, put_fault, next_of, is_part, after_put}
+use Rattle.map_assembly.specs.Assembled.{IsAnswer}
+use Rattle.map_assembly.specs.declared.map_bytes.MapBytes.{MapBytes}
+use Rattle.map_assembly.specs.declared.refused.Refused.{Refused}
+use Rattle.map_assembly.specs.declared.refused.GatherFault.{GatherFault}
+use Rattle.map_assembly.specs.declared.refused.GatherFault.TheVariants as gather_faults
+use Rattle.map_assembly.specs.declared.refused.GatherFault.TheVariants.{Stranger, Old, PutTwice, Early, WrongSlice}
+use Rattle.plant_runs.specs.declared.step.Out.{Out}
+use Rattle.plant_runs.specs.OwnSteps.{under}
+use Rattle.plant_runs.specs.Reached.{CoreView, frames_of}
+use Rattle.plant_runs.specs.Steps.{Acts, Collects, told_map}
+use Rattle.plant_core.specs.declared.core_fault.CoreFault.{CoreFault}
+use Rattle.plant_core.specs.declared.core_fault.CoreFault.TheVariants.{Book, NothingToCollect}
+use Rattle.plant_core.specs.Faults.{act_fault, collect_fault, IsTold, IsMisfit, core_fault_of}
+
+abbrev view : PlantFields → Gathering → List BookView → List (List (ℕ × ElementsFields)) → CoreView
+view plant gathering books queues = record { plant = plant; books = books; queues = queues; gathering = gathering }
+
+pub same_view : (plant : PlantFields) (gathering : Gathering) (books books' : List BookView) (queues queues' : List (List (ℕ × ElementsFields)))
+    → books' ≡ books → queues' ≡ queues → view plant gathering books' queues' ≡ view plant gathering books queues
+same_view plant gathering books books' queues queues' b q = ap₂ (view plant gathering) b q
+
+pub acts_at : (plant : PlantFields) (gathering : Gathering) (books books' : List BookView) (queues queues' : List (List (ℕ × ElementsFields)))
+    (op : ℕ) (action : Action) (book : BookView) (waiting : List (ℕ × ElementsFields)) (now : List Out)
+    → slice_get books op ≡ Some book → slice_get queues op ≡ Some waiting → IsAllowed book.consts book.row book.state action
+    → books' ≡ slice_set books op (acted book action)
+    → queues' ≡ slice_set queues op (waiting ++ frames_of (own_step book.consts book.row book.state action).outputs)
+    → now ≡ under op (own_step book.consts book.row book.state action).outputs
+    → Acts op action (view plant gathering books queues) (view plant gathering books' queues') now
+acts_at plant gathering books books' queues queues' op action book waiting now book_is waiting_is allowed b q now_is = record {
+  book = book;
+  waiting = waiting;
+  book_is = book_is;
+  waiting_is = waiting_is;
+  allowed = allowed;
+  new_is = ap₂ (view plant gathering) b q;
+  now_is = now_is;
+}
+
+pub not_spent : (op : ℕ) (action : Action) (books : List BookView) (book : BookView) → slice_get books op ≡ Some book → is_spent book.state action ≡ false
+    → act_fault op action (slice_get books op) ≡ None
+not_spent op action books book there fresh = rw there (ap (λ (b : Bool). if b then Some (Book FramesSpent) else None) fresh)
+
+-- ---- collecting
+
+pub none_waits : (op : ℕ) (queues : List (List (ℕ × ElementsFields))) (waiting : List (ℕ × ElementsFields)) → slice_get queues op ≡ Some waiting → waiting ≡ []
+    → collect_fault op (slice_get queues op) ≡ Some (NothingToCollect op)
+none_waits op queues waiting there none = rw (there, none) refl
+
+pub one_waits : (op : ℕ) (queues : List (List (ℕ × ElementsFields))) (waiting : List (ℕ × ElementsFields)) → slice_get queues op ≡ Some waiting → IsSome (slice_get waiting 0)
+    → collect_fault op (slice_get queues op) ≡ None
+one_waits op queues [] there some = cc
+one_waits op queues (frame ∷ waiting) there some = rw there refl
+
+pub front_waits : (op : ℕ) (queues : List (List (ℕ × ElementsFields))) (waiting rest : List (ℕ × ElementsFields)) (frame : ℕ × ElementsFields)
+    → slice_get queues op ≡ Some waiting → waiting ≡ frame ∷ rest → collect_fault op (slice_get queues op) ≡ None
+front_waits op queues waiting rest frame there front = rw (there, front) refl
+
+-- want of memory is no fault of a part
+no_memory : (g : Gathering) (op frame : ℕ) (part : ElementsFields) → put_fault g op frame part ≡ Some gather_faults.NoMemory → ⊥
+no_memory g op frame part h =
+    by (nat_le (length g.shares) op) (nat_lt frame g.next) (nat_lt frame (next_of g op)) (nat_lt (next_of g op) frame) (is_part g op frame part) h
+  where
+    by : (a b d e f : Bool) → (if a then Some Stranger else if b then Some (Old frame) else if d then Some PutTwice else if e then Some (Early frame) else if f then None else Some WrongSlice)
+        ≡ Some gather_faults.NoMemory → ⊥
+    by true b d e f h = cc
+    by false true d e f h = cc
+    by false false true e f h = cc
+    by false false false true f h = cc
+    by false false false false true h = cc
+    by false false false false false h = cc
+
+-- a part that is put has no fault
+pub put_is_fit : (g : Gathering) (op frame : ℕ) (part : ElementsFields) (result : Result (Option MapBytes) Refused) (made : Option MapBytes)
+    → ((fault : GatherFault) → fault ≢ gather_faults.NoMemory → ((result ≡ Err (record { fault = fault; elements = part })) ↔ (put_fault g op frame part ≡ Some fault)))
+    → result ≡ Ok made → put_fault g op frame part ≡ None
+put_is_fit g op frame part result made clause is = by (put_fault g op frame part) refl
+  where
+    by : (o : Option GatherFault) → put_fault g op frame part ≡ o → o ≡ None
+    by None e = refl
+    by (Some fault) e =
+        let other : fault ≢ gather_faults.NoMemory = λ same. no_memory g op frame part (e ∙ ap (λ (f : GatherFault). Some f) same) in
+        let refused = (clause fault other).1 e in
+        absurd (let apart : Ok made ≡ Err (record { fault = fault; elements = part }) = sym is ∙ refused in cc)
+
+pub collects_at : (plant : PlantFields) (gathering gathering' : Gathering) (books books' : List BookView) (queues queues' : List (List (ℕ × ElementsFields)))
+    (op frame : ℕ) (part : ElementsFields) (waiting rest : List (ℕ × ElementsFields)) (made : Option MapBytes)
+    → slice_get queues op ≡ Some waiting → waiting ≡ (frame, part) ∷ rest → put_fault gathering op frame part ≡ None → IsAnswer gathering op frame part made
+    → books' ≡ books → queues' ≡ slice_set queues op rest → gathering' ≡ after_put gathering op part
+    → Collects op (view plant gathering books queues) (view plant gathering' books' queues') (told_map made)
+collects_at plant gathering gathering' books books' queues queues' op frame part waiting rest made there front fits answer b q g = record {
+  frame = frame;
+  part = part;
+  waiting = rest;
+  waiting_is = there ∙ ap (λ (fs : List (ℕ × ElementsFields)). Some fs) front;
+  fits = fits;
+  made = made;
+  made_is = answer;
+  new_is = ap₂ (λ (w : List BookView × Gathering) (qs : List (List (ℕ × ElementsFields))). view plant w.1 w.0 qs) (ap₂ (λ (bs : List BookView) (gs : Gathering). (bs, gs)) b g) q;
+  now_is = refl;
+}
+
+-- what the assembly refused
+pub refused_is : (g : Gathering) (op frame : ℕ) (part : ElementsFields) (result : Result (Option MapBytes) Refused) (refused : Refused)
+    → ((fault : GatherFault) → fault ≢ gather_faults.NoMemory → ((result ≡ Err (record { fault = fault; elements = part })) ↔ (put_fault g op frame part ≡ Some fault)))
+    → result ≡ Err refused → refused.elements ≡ part → refused.fault ≢ gather_faults.NoMemory → put_fault g op frame part ≡ Some refused.fault
+refused_is g op frame part result refused clause is back other =
+    (clause refused.fault other).0 (is ∙ ap (λ (e : ElementsFields). Err (record { fault = refused.fault; elements = e })) back)
+
+pub misfit_is : (g : Gathering) (op frame : ℕ) (part : ElementsFields) (queues : List (List (ℕ × ElementsFields))) (waiting rest : List (ℕ × ElementsFields)) (fault : GatherFault)
+    → slice_get queues op ≡ Some waiting → waiting ≡ (frame, part) ∷ rest → put_fault g op frame part ≡ Some fault
+    → IsMisfit g op (slice_get queues op) fault
+misfit_is g op frame part queues waiting rest fault there front is = rw (there, front) is
+
+pub gather_told : (fault : GatherFault) (o : Option CoreFault) (misfit : GatherFault → Type 0) → o ≡ None → (fault ≢ gather_faults.NoMemory → misfit fault)
+    → IsTold {A = Unit {0}} (Err (core_fault_of fault)) o misfit
+gather_told gather_faults.NoMemory o misfit h m = h
+gather_told Stranger o misfit h m = (h, m (λ e. cc))
+gather_told PutTwice o misfit h m = (h, m (λ e. cc))
+gather_told WrongSlice o misfit h m = (h, m (λ e. cc))
+gather_told (Old n) o misfit h m = (h, m (λ e. cc))
+gather_told (Early n) o misfit h m = (h, m (λ e. cc))

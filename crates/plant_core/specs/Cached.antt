@@ -1,0 +1,9 @@
+-- What a cache of operators keeps (own).
+use Rattle.std.specs.Prelude.{◌≡◌, ℕ, List, Contains, Some}
+use Rattle.dsx_messages.specs.declared.modem.Modem.{Modem}
+use Rattle.slice_table.specs.declared.operator_row.RowFields.{RowFields}
+use Rattle.slice_table.specs.Roster.{holder}
+
+-- each modem stands beside the operator that lists it
+abbrev pub AreRight : List RowFields → List (Modem × ℕ) → Type 0
+AreRight rows pairs = (modem : Modem) (op : ℕ) → Contains pairs (modem, op) → holder rows modem ≡ Some op

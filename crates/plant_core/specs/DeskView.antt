@@ -1,0 +1,14 @@
+-- What contracts see of an operator's desk (own).
+use Rattle.std.specs.Prelude.{ℕ, List}
+use Rattle.slice_scheduler.specs.declared.elements.ElementsFields.{ElementsFields}
+use Rattle.operator_machine.specs.Replay.{BookView}
+use Rattle.plant_core.specs.declared.desk.Desk.{Desk}
+use Rattle.plant_core.specs.Waiting.{waiting_in}
+
+-- its book
+abbrev pub book_at : {D : Type 0} {F : D → Type 0} {m : _} → Desk D F m → BookView
+book_at desk = desk.book.kept.book
+
+-- its frames that wait
+abbrev pub waiting_at : {D : Type 0} {F : D → Type 0} {m : _} → Desk D F m → List (ℕ × ElementsFields)
+waiting_at desk = waiting_in desk.book.kept.book.history desk.collected

@@ -1,0 +1,69 @@
+-- Why a step is refused (own).
+use Rattle.std.specs.Prelude.{◌≡◌, ℕ, List, [], ◌∷◌, slice_get, option_map, Option, Some, None, if◌then◌else◌, Result, Ok, Err}
+use Rattle.slice_scheduler.specs.declared.elements.ElementsFields.{ElementsFields}
+use Rattle.slice_table.specs.Roster.{holder}
+use Rattle.operator_machine.specs.declared.action.Action.{Action}
+use Rattle.operator_machine.specs.declared.action.Action.TheVariants as actions
+use Rattle.operator_machine.specs.Machine.{is_spent}
+use Rattle.operator_machine.specs.Replay.{BookView}
+use Rattle.operator_book.specs.declared.book.BookFault.TheVariants.{FramesSpent}
+use Rattle.map_assembly.specs.declared.refused.GatherFault.{GatherFault}
+use Rattle.map_assembly.specs.declared.refused.GatherFault.TheVariants as gather_faults
+use Rattle.map_assembly.specs.Gathering.{Gathering, put_fault}
+use Rattle.plant_runs.specs.declared.step.Step.{Step}
+use Rattle.plant_runs.specs.declared.step.Step.TheVariants as steps
+use Rattle.plant_runs.specs.Reached.{CoreView}
+use Rattle.plant_core.specs.Reslicing.{reslice_fault}
+use Rattle.plant_core.specs.declared.core_fault.CoreFault.{CoreFault}
+use Rattle.plant_core.specs.declared.core_fault.CoreFault.TheVariants.{UnknownModem, UnknownOperator, Book, Gather, NothingToCollect, NoMemory, Reslice}
+
+-- why the operator at a place does not act: there is none, or its frame numbers are spent
+abbrev pub act_fault : ℕ → Action → Option BookView → Option CoreFault
+act_fault op action None = Some (UnknownOperator op)
+act_fault op action (Some book) = if is_spent book.state action then Some (Book FramesSpent) else None
+
+-- why no frame of the operator at a place is collected: there is no such operator, or none waits
+abbrev pub collect_fault : ℕ → Option (List (ℕ × ElementsFields)) → Option CoreFault
+collect_fault op None = Some (UnknownOperator op)
+collect_fault op (Some []) = Some (NothingToCollect op)
+collect_fault op (Some (frame ∷ waiting)) = None
+
+-- why what is heard of a modem goes to no operator: no row holds the modem
+abbrev pub arrive_fault : CoreView → Step → Option ℕ → Option CoreFault
+arrive_fault core (steps.Arrive modem heard) None = Some (UnknownModem modem)
+arrive_fault core (steps.Arrive modem heard) (Some op) = act_fault op (actions.Arrive modem heard) (slice_get core.books op)
+arrive_fault core step place = None
+
+-- why a step is refused, want of memory apart
+abbrev pub step_fault : CoreView → Step → Option CoreFault
+step_fault core (steps.Arrive modem heard) = arrive_fault core (steps.Arrive modem heard) (holder core.plant.rows modem)
+step_fault core (steps.Work op) = act_fault op actions.Work (slice_get core.books op)
+step_fault core (steps.Tick op) = act_fault op actions.Tick (slice_get core.books op)
+step_fault core (steps.Collect op) = collect_fault op (slice_get core.queues op)
+step_fault core (steps.Reslice from rows) = option_map (λ fault. Reslice fault) (reslice_fault from core.books rows)
+
+-- the fault is told exactly where there is one; where there is none, only memory can be wanting, or a frame is a misfit
+abbrev pub IsTold : {A : Type 0} → Result A CoreFault → Option CoreFault → (GatherFault → Type 0) → Type 0
+IsTold (Ok x) fault misfit = fault ≡ None
+IsTold (Err NoMemory) fault misfit = fault ≡ None
+IsTold (Err (Gather refused)) fault misfit = (fault ≡ None) × misfit refused
+IsTold (Err told) fault misfit = fault ≡ Some told
+
+-- nothing is a misfit
+abbrev pub NoMisfit : GatherFault → Type 0
+NoMisfit fault = ⊥
+
+-- the assembly refuses the oldest frame that waits
+abbrev pub IsMisfit : Gathering → ℕ → Option (List (ℕ × ElementsFields)) → GatherFault → Type 0
+IsMisfit gathering op None fault = ⊥
+IsMisfit gathering op (Some []) fault = ⊥
+IsMisfit gathering op (Some (frame ∷ waiting)) fault = put_fault gathering op frame.0 frame.1 ≡ Some fault
+
+abbrev pub DoesNotFit : CoreView → Step → GatherFault → Type 0
+DoesNotFit core (steps.Collect op) fault = IsMisfit core.gathering op (slice_get core.queues op) fault
+DoesNotFit core step fault = ⊥
+
+-- what the core answers where the assembly refuses a frame
+abbrev pub core_fault_of : GatherFault → CoreFault
+core_fault_of gather_faults.NoMemory = NoMemory
+core_fault_of fault = Gather fault

@@ -1,0 +1,49 @@
+-- Why other slices are refused: fault by fault over all operators, and of one fault the least operator or pair (own).
+use Rattle.std.specs.Prelude.{ℕ, ◌+◌, ◌==◌, Bool, true, false, List, [], ◌∷◌, length, option_map, Option, Some, None, if◌then◌else◌}
+use Rattle.std.specs.Option.{option_or}
+use Rattle.std.specs.List.{position_from}
+use Rattle.slice_table.specs.Plant.{slices_meet}
+use Rattle.operator_machine.specs.declared.action.SliceRow.{SliceRow}
+use Rattle.operator_machine.specs.declared.action.Unfit.{Unfit}
+use Rattle.operator_machine.specs.declared.action.Unfit.TheVariants as unfits
+use Rattle.operator_machine.specs.Machine.{unfit_from}
+use Rattle.operator_machine.specs.Replay.{BookView}
+use Rattle.plant_runs.specs.Steps.{slice_of}
+use Rattle.plant_core.specs.declared.core_fault.ResliceFault.{ResliceFault}
+use Rattle.plant_core.specs.declared.core_fault.ResliceFault.TheVariants as faults
+
+abbrev pub is_unfit : Unfit → Option Unfit → Bool
+is_unfit unfits.NotPast (Some unfits.NotPast) = true
+is_unfit unfits.Unfinished (Some unfits.Unfinished) = true
+is_unfit unfits.OffFrame (Some unfits.OffFrame) = true
+is_unfit unfits.BudgetOverSlice (Some unfits.BudgetOverSlice) = true
+is_unfit unfits.OverBudget (Some unfits.OverBudget) = true
+is_unfit unfit found = false
+
+-- the least operator, counted from n on, whose book refuses its row so
+abbrev pub least_unfit : Unfit → ℕ → ℕ → List BookView → List SliceRow → Option ℕ
+least_unfit unfit from n (book ∷ books) (row ∷ rows) =
+    if is_unfit unfit (unfit_from book.consts book.state from row) then Some n else least_unfit unfit from (n + 1) books rows
+least_unfit unfit from n books rows = None
+
+abbrev pub do_meet : SliceRow → SliceRow → Bool
+do_meet a b = slices_meet (slice_of a) (slice_of b)
+
+-- the least pair of operators, counted from n on, whose slices have a minislot in common
+abbrev pub least_meeting : ℕ → List SliceRow → Option (ℕ × ℕ)
+least_meeting n [] = None
+least_meeting n (row ∷ rows) = option_or (option_map (λ k. (n, k)) (position_from (do_meet row) (n + 1) rows)) (least_meeting (n + 1) rows)
+
+-- the first fault, where there is one row for each operator
+abbrev pub row_fault : ℕ → List BookView → List SliceRow → Option ResliceFault
+row_fault from books rows =
+    option_or (option_map (λ op. faults.NotPast op) (least_unfit unfits.NotPast from 0 books rows))
+    (option_or (option_map (λ op. faults.Unfinished op) (least_unfit unfits.Unfinished from 0 books rows))
+    (option_or (option_map (λ op. faults.OffFrame op) (least_unfit unfits.OffFrame from 0 books rows))
+    (option_or (option_map (λ pair. faults.SlicesMeet pair.0 pair.1) (least_meeting 0 rows))
+    (option_or (option_map (λ op. faults.BudgetOverSlice op) (least_unfit unfits.BudgetOverSlice from 0 books rows))
+    (option_map (λ op. faults.Unfit op) (least_unfit unfits.OverBudget from 0 books rows))))))
+
+-- the first fault
+abbrev pub reslice_fault : ℕ → List BookView → List SliceRow → Option ResliceFault
+reslice_fault from books rows = if length rows == length books then row_fault from books rows else Some faults.Count

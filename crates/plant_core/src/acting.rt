@@ -1,0 +1,58 @@
+//! What is done to an operator's desk.
+
+ghost use Rattle.std.specs.Prelude.{◌≡◌, ◌≢◌, ◌↔◌, ◌≤◌, [], ◌++◌, length, slice_get, IsSome, Err, IfOk, OnOk, OnErr};
+ghost use Rattle.slice_table.specs.Row.{IsRowOf};
+ghost use Rattle.operator_machine.specs.State.{opened};
+ghost use Rattle.operator_machine.specs.Machine.{own_step, IsAllowed};
+ghost use Rattle.operator_machine.specs.Replay.{acted};
+ghost use Rattle.plant_runs.specs.Reached.{frames_of};
+ghost use Rattle.plant_core.specs.Waiting.{IsOldest};
+ghost use Rattle.plant_core.specs.DeskView.{book_at, waiting_at};
+
+use crate::collecting::{Oldest, oldest_from};
+use crate::desk::Desk;
+use grant_policy::Ranking;
+use operator_book::{Book, BookFault, OpenFault};
+use operator_machine::{Action, Output};
+use slice_table::{Consts, OperatorRow};
+use std::alloc::{AllocError, Global};
+
+impl Desk {
+    /// The desk of an operator with nothing done.
+    pub(crate) fn open(
+        alloc: Global,
+        row: &OperatorRow,
+        consts: &Consts,
+        ranking: Ranking,
+    ) -> Result<Desk, OpenFault>
+        requires { IsRowOf consts.now row.now }
+        ensures book { IfOk result (λ desk. book_at desk ≡ record { row = row.now; consts = consts.now; state = opened consts.now row.now; history = [] }) }
+        ensures waiting { IfOk result (λ desk. waiting_at desk ≡ []) }
+        ensures mismatch { (result ≡ Err OpenFault.PolicyMismatch) ↔ (ranking.policy ≢ row.now.policy) }
+    {
+        let book = Book::open(alloc, row, consts, ranking)?;
+        Ok(Desk { book, collected: 0 })
+    }
+
+    /// Does an action, and tells what it puts out. Its frames wait.
+    pub(crate) fn act(&mut self, alloc: Global, action: Action) -> Result<Vec<Output>, BookFault>
+        requires within { self.old.collected ≤ length (book_at self.old).history }
+        ensures book { OnOk result (book_at self.new ≡ acted (book_at self.old) action) }
+        ensures waiting { OnOk result (waiting_at self.new ≡ waiting_at self.old ++ frames_of (own_step (book_at self.old).consts (book_at self.old).row (book_at self.old).state action).outputs) }
+        ensures outputs { IfOk result (λ outputs. outputs.items ≡ (own_step (book_at self.old).consts (book_at self.old).row (book_at self.old).state action).outputs) }
+        ensures allowed { OnOk result (IsAllowed (book_at self.old).consts (book_at self.old).row (book_at self.old).state action) }
+        ensures same_book { OnErr result (book_at self.new ≡ book_at self.old) }
+        ensures same_waiting { OnErr result (waiting_at self.new ≡ waiting_at self.old) }
+    {
+        self.book.act(alloc, action)
+    }
+
+    /// The frame that waits longest.
+    pub(crate) fn oldest(&self, alloc: Global) -> Result<Option<Oldest>, AllocError>
+        ensures value { IfOk result (IsOldest (book_at self.now).history self.now.collected) }
+        ensures some { OnErr result (IsSome (slice_get (waiting_at self.now) 0)) }
+    {
+        self.book.replay();
+        oldest_from(alloc, self.book.history(), self.collected)
+    }
+}

@@ -1,0 +1,53 @@
+//! The frame that waits longest.
+
+ghost use Rattle.std.specs.Prelude.{◌≡◌, ◌≤◌, length, All, slice_get, IsSome, IfOk, OnErr};
+ghost use Rattle.plant_runs.specs.Reached.{frames_of};
+ghost use Rattle.plant_core.specs.Waiting.{waiting_in, IsOneFrame, IsOldest};
+
+use operator_machine::{Entry, Output};
+use slice_scheduler::Elements;
+use std::alloc::{AllocError, Global};
+
+/// The frame that waits longest, and behind which place of the history the next one is looked for.
+#[derive(Debug, Drop)]
+pub struct Oldest {
+    pub number: u32,
+    pub elements: Elements,
+    pub behind: usize,
+}
+
+/// The first frame among outputs.
+fn first_frame(alloc: Global, outputs: &[Output]) -> Result<Option<(u32, Elements)>, AllocError>
+    ensures value { IfOk result (λ frame. frame ≡ slice_get (frames_of outputs.now) 0) }
+    ensures some { OnErr result (IsSome (slice_get (frames_of outputs.now) 0)) }
+{
+    for output in outputs {
+        if let Output::Frame { number, elements } = output {
+            return Ok(Some((*number, elements.copy(alloc)?)));
+        }
+    }
+    Ok(None)
+}
+
+/// The first frame from a place of the history on.
+pub(crate) fn oldest_from(
+    alloc: Global,
+    history: &[Entry],
+    from: usize,
+) -> Result<Option<Oldest>, AllocError>
+    requires one { All IsOneFrame history.now }
+    requires within { from ≤ length history.now }
+    ensures value { IfOk result (IsOldest history.now from) }
+    ensures some { OnErr result (IsSome (slice_get (waiting_in history.now from) 0)) }
+{
+    for place in from..history.len() {
+        if let Some((number, elements)) = first_frame(alloc, history[place].outputs.as_slice())? {
+            return Ok(Some(Oldest {
+                number,
+                elements,
+                behind: place + 1,
+            }));
+        }
+    }
+    Ok(None)
+}

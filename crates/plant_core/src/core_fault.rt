@@ -1,0 +1,65 @@
+//! Why a step was refused.
+
+ghost use Rattle.std.specs.Prelude.{◌≡◌};
+ghost use Rattle.plant_core.specs.declared.core_fault.CoreOpenFault.TheVariants as open_faults;
+
+use dsx_messages::Modem;
+use map_assembly::GatherFault;
+use operator_book::BookFault;
+use slice_table::Op;
+use std::alloc::AllocError;
+
+/// Why a plant's core was not opened, in the order tried.
+#[derive(Clone, Copy, Debug, PartialEq, Eq)]
+pub enum CoreOpenFault {
+    /// There is not one ranking for each operator that follows its policy.
+    RankingsMismatch,
+    /// No memory was left.
+    NoMemory,
+}
+
+impl From<AllocError> for CoreOpenFault {
+    ghost from_gives = { λ _ fault. fault ≡ open_faults.NoMemory };
+
+    fn from(_error: AllocError) -> CoreOpenFault {
+        CoreOpenFault::NoMemory
+    }
+}
+
+/// Why other slices were refused. Fault by fault over all operators, and of one fault the least operator or pair.
+#[derive(Clone, Copy, Debug, PartialEq, Eq)]
+pub enum ResliceFault {
+    /// There is not one row for each operator.
+    Count,
+    /// The first frame is not behind an operator's frame number.
+    NotPast { op: Op },
+    /// An earlier one waits for its frame.
+    Unfinished { op: Op },
+    /// A slice has no minislot, begins within the head, or ends behind the frame.
+    OffFrame { op: Op },
+    /// Two slices have a minislot in common.
+    SlicesMeet { a: Op, b: Op },
+    /// A budget has more minislots than its slice.
+    BudgetOverSlice { op: Op },
+    /// More minislots are committed than the new budget has.
+    Unfit { op: Op },
+}
+
+/// Why a step was refused. A refused step has changed nothing.
+#[derive(Clone, Copy, Debug, PartialEq, Eq)]
+pub enum CoreFault {
+    /// No operator has this modem.
+    UnknownModem { modem: Modem },
+    /// There is no such operator.
+    UnknownOperator { op: Op },
+    /// The operator's book refused it, and not for want of memory.
+    Book(BookFault),
+    /// The assembly refused it: no opened core answers this.
+    Gather(GatherFault),
+    /// No frame of the operator waits to be collected.
+    NothingToCollect { op: Op },
+    /// No memory was left.
+    NoMemory,
+    /// The other slices were refused.
+    Reslice(ResliceFault),
+}

@@ -1,0 +1,13 @@
+//! An operator's book, and how much of it is collected.
+
+ghost use Rattle.std.specs.Prelude.{◌≤◌, length};
+
+use operator_book::Book;
+
+/// An operator's book, and how many entries of its history are collected: the frames of those behind them wait.
+#[derive(Drop)]
+pub struct Desk {
+    pub book: Book,
+    pub collected: usize,
+    ghost within: { collected ≤ length book.kept.book.history },
+}

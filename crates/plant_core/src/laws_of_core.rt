@@ -1,0 +1,36 @@
+//! What a core always keeps.
+
+ghost use Rattle.std.specs.Prelude.{◌≡◌, option_map, slice_get};
+ghost use Rattle.slice_table.specs.Plant.{IsPlant};
+ghost use Rattle.map_assembly.specs.Gathering.{IsGathering};
+ghost use Rattle.plant_core.specs.CoreView.{core_view};
+
+use crate::held::PlantCore;
+use operator_machine::Entry;
+use slice_table::{Op, Plant};
+
+impl PlantCore {
+    /// A law: the plant is valid, and what is gathered is as the assembly always keeps it. Does nothing.
+    pub fn always(&self)
+        ensures plant { IsPlant (core_view self.now).plant }
+        ensures gathering { IsGathering (core_view self.now).gathering }
+    {
+        self.routes.valid();
+        self.gather.kept();
+    }
+
+    /// The plant.
+    pub fn plant(&self) -> &Plant
+        ensures { result.now ≡ (core_view self.now).plant }
+    {
+        self.routes.plant()
+    }
+
+    /// All that an operator did, in order; none past the last operator. Takes no memory.
+    pub fn history(&self, op: Op) -> Option<&[Entry]>
+        ensures { option_map (λ history. history.now) result ≡ option_map (λ book. book.history) (slice_get (core_view self.now).books op) }
+    {
+        let desk = self.desks.get(op)?;
+        Some(desk.book.history())
+    }
+}

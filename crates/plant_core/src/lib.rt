@@ -1,0 +1,24 @@
+//! A plant's core: its operators' books, the frames that wait to be collected, and what is gathered, step by step.
+#![tactic(auto)]
+
+mod acting;
+mod collecting;
+mod core_fault;
+mod desk;
+mod held;
+mod laws_of_core;
+mod opening;
+mod reslicing;
+mod routes;
+mod running;
+mod stepping;
+
+pub use collecting::Oldest;
+pub use core_fault::{CoreFault, CoreOpenFault, ResliceFault};
+pub use desk::Desk;
+pub use held::PlantCore;
+pub use plant_runs::{
+    maps_are_shared_out, opened_is_reached, run_is_reached, step_is_reached, two_worlds,
+};
+pub use routes::Routes;
+pub use running::RunStop;

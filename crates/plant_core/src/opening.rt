@@ -1,0 +1,88 @@
+//! Opening a plant's core.
+
+ghost use Rattle.std.specs.Prelude.{◌≡◌, ◌≢◌, ◌↔◌, ◌<◌, ◌≤◌, ◌^◌, [], map, length, replicate, All, IsTrue, vec_len, Err, IfOk};
+ghost use Rattle.slice_table.specs.Row.{IsRowOf};
+ghost use Rattle.plant_runs.specs.Opened.{opened_book, opened_core};
+ghost use Rattle.plant_runs.specs.Reached.{Reached};
+ghost use Rattle.plant_core.specs.DeskView.{book_at, waiting_at};
+ghost use Rattle.plant_core.specs.CoreView.{core_view};
+
+use crate::core_fault::CoreOpenFault;
+use crate::desk::Desk;
+use crate::held::PlantCore;
+use crate::routes::Routes;
+use grant_policy::Ranking;
+use map_assembly::Gather;
+use slice_table::{Consts, OperatorRow, Plant};
+use std::alloc::{AllocError, Global};
+
+/// Whether a ranking follows the row's policy.
+fn follows(ranking: &Ranking, row: &OperatorRow) -> bool
+    ensures { IsTrue result ↔ (ranking.now.policy ≡ row.now.policy) }
+{
+    ranking.policy() == row.get_fields().policy
+}
+
+/// Whether there is one ranking for each row, and each follows its row's policy.
+fn follow(rankings: &[Ranking], rows: &[OperatorRow]) -> bool
+    ensures { IsTrue result ↔ (map (λ ranking. ranking.policy) rankings.now ≡ map (λ row. row.policy) rows.now) }
+{
+    if rankings.len() != rows.len() {
+        return false;
+    }
+    for (at, ranking) in rankings.iter().enumerate() {
+        if !follows(ranking, &rows[at]) {
+            return false;
+        }
+    }
+    true
+}
+
+/// The desk of each operator, with nothing done.
+fn opened_desks(
+    alloc: Global,
+    rows: &[OperatorRow],
+    consts: &Consts,
+    rankings: Vec<Ranking>,
+) -> Result<Vec<Desk>, AllocError>
+    requires valid { All (IsRowOf consts.now) rows.now }
+    requires one_each { length rankings.items ≡ length rows.now }
+    ensures books { IfOk result (λ desks. map book_at desks.items ≡ map (opened_book consts.now) rows.now) }
+    ensures queues { IfOk result (λ desks. map waiting_at desks.items ≡ replicate (length rows.now) []) }
+{
+    let mut desks = Vec::with_capacity(alloc, rows.len())?;
+    for ranking in rankings {
+        match Desk::open(alloc, &rows[desks.len()], consts, ranking) {
+            Ok(desk) => desks.push(desk)?,
+            Err(_) => return Err(AllocError),
+        }
+    }
+    Ok(desks)
+}
+
+impl PlantCore {
+    /// The core of a plant with nothing done. The rankings stand in the plant's order of operators.
+    pub fn open(
+        alloc: Global,
+        plant: Plant,
+        rankings: Vec<Ranking>,
+    ) -> Result<PlantCore, CoreOpenFault>
+        requires { vec_len rankings < 2 ^ 64 }
+        ensures ok { IfOk result (λ core. core_view core ≡ opened_core plant) }
+        ensures reached { IfOk result (λ core. Reached plant [] [] (core_view core)) }
+        ensures mismatch { (result ≡ Err CoreOpenFault.RankingsMismatch) ↔ (map (λ ranking. ranking.policy) rankings.items ≢ map (λ row. row.policy) plant.rows) }
+    {
+        let rows = plant.rows();
+        if !follow(rankings.as_slice(), rows) {
+            return Err(CoreOpenFault::RankingsMismatch);
+        }
+        let desks = opened_desks(alloc, rows, plant.consts(), rankings)?;
+        let gather = Gather::new(alloc, &plant)?;
+        let routes = Routes::new(alloc, plant)?;
+        Ok(PlantCore {
+            routes,
+            desks,
+            gather,
+        })
+    }
+}

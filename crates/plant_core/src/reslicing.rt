@@ -1,0 +1,125 @@
+//! Giving all operators other slices.
+
+ghost use Rattle.std.specs.Prelude.{◌≡◌, ℕ, ◌+◌, [], map, length, vec_len, drop, option_map, ◌≤◌, Some, OnErr, IsErr};
+ghost use Rattle.std.specs.List.{position_from};
+ghost use Rattle.operator_machine.specs.Machine.{unfit_from};
+ghost use Rattle.plant_core.specs.Reslicing.{is_unfit, least_unfit, do_meet, least_meeting, row_fault, reslice_fault};
+ghost use Rattle.plant_core.specs.Faults.{IsTold, NoMisfit};
+ghost use Rattle.plant_core.specs.CoreView.{core_view};
+
+use crate::core_fault::{CoreFault, ResliceFault};
+use crate::held::PlantCore;
+use operator_book::Book;
+use operator_machine::{SliceRow, Unfit};
+use slice_table::Op;
+
+/// Whether two faults are the same.
+fn is_same(a: Unfit, b: Unfit) -> bool
+    ensures { result ≡ is_unfit a (Some b) }
+{
+    a == b
+}
+
+/// Whether a book refuses a row with this fault.
+fn is_refused(book: &Book, from: u32, row: SliceRow, unfit: Unfit) -> bool
+    ensures { result ≡ is_unfit unfit (unfit_from book.now.kept.book.consts book.now.kept.book.state from row) }
+{
+    match book.offer(from, row) {
+        Ok(()) => false,
+        Err(found) => is_same(unfit, found),
+    }
+}
+
+/// Whether the slices of two rows have a minislot in common.
+fn do_meet(a: &SliceRow, b: &SliceRow) -> bool
+    ensures { result ≡ do_meet a.now b.now }
+{
+    u32::from(a.start) < u32::from(b.start) + u32::from(b.length)
+        && u32::from(b.start) < u32::from(a.start) + u32::from(a.length)
+}
+
+/// The first operator from a place on whose slice has a minislot in common with this row's.
+fn first_met(row: &SliceRow, rows: &[SliceRow], from: usize) -> Option<Op>
+    requires { from ≤ length rows.now }
+    ensures { result ≡ position_from (do_meet row.now) from (drop from rows.now) }
+{
+    for op in from..rows.len() {
+        if do_meet(row, &rows[op]) {
+            return Some(op);
+        }
+    }
+    None
+}
+
+/// The least pair of operators whose slices have a minislot in common.
+fn least_meeting(rows: &[SliceRow]) -> Option<(Op, Op)>
+    ensures { result ≡ least_meeting 0 rows.now }
+{
+    for (a, row) in rows.iter().enumerate() {
+        if let Some(b) = first_met(row, rows, a + 1) {
+            return Some((a, b));
+        }
+    }
+    None
+}
+
+impl PlantCore {
+    /// The least operator whose book refuses its row with this fault.
+    fn least_unfit(&self, from: u32, rows: &[SliceRow], unfit: Unfit) -> Option<Op>
+        requires { length rows.now ≡ vec_len self.now.desks }
+        ensures { result ≡ least_unfit unfit from 0 (core_view self.now).books rows.now }
+    {
+        for (op, row) in rows.iter().enumerate() {
+            if is_refused(&self.desks[op].book, from, *row, unfit) {
+                return Some(op);
+            }
+        }
+        None
+    }
+
+    /// The first fault of other slices, where there is one row for each operator.
+    fn row_fault(&self, from: u32, rows: &[SliceRow]) -> Option<ResliceFault>
+        requires { length rows.now ≡ vec_len self.now.desks }
+        ensures { result ≡ row_fault from (core_view self.now).books rows.now }
+    {
+        if let Some(op) = self.least_unfit(from, rows, Unfit::NotPast) {
+            return Some(ResliceFault::NotPast { op });
+        }
+        if let Some(op) = self.least_unfit(from, rows, Unfit::Unfinished) {
+            return Some(ResliceFault::Unfinished { op });
+        }
+        if let Some(op) = self.least_unfit(from, rows, Unfit::OffFrame) {
+            return Some(ResliceFault::OffFrame { op });
+        }
+        if let Some((a, b)) = least_meeting(rows) {
+            return Some(ResliceFault::SlicesMeet { a, b });
+        }
+        if let Some(op) = self.least_unfit(from, rows, Unfit::BudgetOverSlice) {
+            return Some(ResliceFault::BudgetOverSlice { op });
+        }
+        let op = self.least_unfit(from, rows, Unfit::OverBudget)?;
+        Some(ResliceFault::Unfit { op })
+    }
+
+    /// The first fault of other slices.
+    fn reslice_fault(&self, from: u32, rows: &[SliceRow]) -> Option<ResliceFault>
+        ensures { result ≡ reslice_fault from (core_view self.now).books rows.now }
+    {
+        if rows.len() != self.desks.len() {
+            return Some(ResliceFault::Count);
+        }
+        self.row_fault(from, rows)
+    }
+
+    /// Gives each operator its row from a later frame on.
+    pub(crate) fn reslice(&mut self, from: u32, rows: &[SliceRow]) -> Result<(), CoreFault>
+        ensures err { OnErr result (core_view self.new ≡ core_view self.old) }
+        ensures fault { IsTold result (option_map (λ fault. CoreFault.Reslice fault) (reslice_fault from (core_view self.old).books rows.now)) NoMisfit }
+        ensures never { IsErr result }
+    {
+        match self.reslice_fault(from, rows) {
+            Some(fault) => Err(CoreFault::Reslice(fault)),
+            None => Err(CoreFault::NoMemory),
+        }
+    }
+}

@@ -1,0 +1,74 @@
+//! To which operator a modem's messages go.
+
+ghost use Rattle.std.specs.Prelude.{◌≡◌, IfOk};
+ghost use Rattle.slice_table.specs.Plant.{IsPlant};
+ghost use Rattle.slice_table.specs.Roster.{holder};
+
+use dsx_messages::Modem;
+use lru::LruCache;
+use slice_table::{Op, Plant};
+use std::alloc::{AllocError, Global};
+use std::marker::Model;
+use std::num::NonZeroUsize;
+
+/// How many addresses are remembered.
+const REMEMBERED: usize = 16;
+
+/// A plant behind a cache of the addresses that were asked for last. Contracts see the plant: the cache is no part of any
+/// answer. The type keeps that each cached address stands beside its operator.
+#[derive(Drop)]
+pub struct Routes {
+    plant: Plant,
+    cache: LruCache<Modem, Op>,
+}
+
+impl Model for Routes {
+    ghost use Rattle.slice_table.specs.declared.plant.PlantFields.{PlantFields};
+    ghost use Rattle.plant_core.specs.Cached.{AreRight};
+
+    ghost Value = { PlantFields };
+
+    ghost view = { λ r. r.plant };
+
+    ghost invariant = { λ r. AreRight r.plant.rows r.cache.entries };
+}
+
+impl Routes {
+    /// The routes of a plant, with nothing remembered.
+    pub fn new(alloc: Global, plant: Plant) -> Result<Routes, AllocError>
+        ensures { IfOk result (λ routes. routes ≡ plant) }
+    {
+        let Some(size) = NonZeroUsize::new(REMEMBERED) else {
+            unreachable!()
+        };
+        let cache = LruCache::new(alloc, size)?;
+        Ok(Routes { plant, cache })
+    }
+
+    /// The operator that lists this modem, if one does. Where no memory is left to remember it, it is not remembered.
+    pub fn place_of(&mut self, modem: Modem) -> Option<Op>
+        ensures value { result ≡ holder self.old.rows modem }
+        ensures plant { self.new ≡ self.old }
+    {
+        if let Some(place) = self.cache.get(&modem).copied() {
+            return Some(place);
+        }
+        let place = self.plant.operator_of(modem)?;
+        let _ = self.cache.put(modem, place);
+        Some(place)
+    }
+
+    /// The plant.
+    pub fn plant(&self) -> &Plant
+        ensures { result.now ≡ self.now }
+    {
+        &self.plant
+    }
+
+    /// A law: the plant is valid. Does nothing.
+    pub(crate) fn valid(&self)
+        ensures { IsPlant self.now }
+    {
+        let _rows = self.plant.rows();
+    }
+}

@@ -1,0 +1,90 @@
+//! Steps one after the other.
+
+ghost use Rattle.std.specs.Prelude.{◌≡◌, ◌++◌, List, take, slice_get, Some, Err, IfOk, IfErr, OnOk, OnErr};
+ghost use Rattle.plant_runs.specs.declared.step.Step.{Step};
+ghost use Rattle.plant_runs.specs.declared.step.Out.{Out};
+ghost use Rattle.plant_runs.specs.declared.step.Step.TheVariants as steps;
+ghost use Rattle.plant_runs.specs.Reached.{Reached};
+ghost use Rattle.plant_runs.specs.Steps.{Steps};
+ghost use Rattle.plant_core.specs.Faults.{step_fault, IsTold, NoMisfit, DoesNotFit};
+ghost use Rattle.plant_core.specs.CoreView.{core_view};
+
+use crate::core_fault::CoreFault;
+use crate::held::PlantCore;
+use dsx_messages::Modem;
+use operator_machine::{Action, Heard};
+use plant_runs::{Out, Step};
+use std::alloc::Global;
+
+/// Where a run stopped: the place of the step that was refused, why, and what the steps before it put out.
+#[derive(Debug, Drop)]
+pub struct RunStop {
+    pub at: usize,
+    pub fault: CoreFault,
+    pub outs: Vec<Out>,
+}
+
+impl PlantCore {
+    /// The steps one after the other, up to the first that is refused, and all that they put out in order. The core then stands
+    /// as after the steps before it.
+    pub fn run(&mut self, alloc: Global, steps: &[Step]) -> Result<Vec<Out>, RunStop>
+        ensures reached { IfOk result (λ outs. (before : List Step) (told : List Out) → Reached (core_view self.old).plant before told (core_view self.old) → Reached (core_view self.old).plant (before ++ steps.now) (told ++ outs.items) (core_view self.new)) }
+        ensures stopped { IfErr result (λ stop. (before : List Step) (told : List Out) → Reached (core_view self.old).plant before told (core_view self.old) → Reached (core_view self.old).plant (before ++ take stop.at steps.now) (told ++ stop.outs.items) (core_view self.new)) }
+        ensures fault { IfErr result (λ stop. (step : Step) → slice_get steps.now stop.at ≡ Some step → IsTold {A = Unit {0}} (Err stop.fault) (step_fault (core_view self.new) step) (DoesNotFit (core_view self.new) step)) }
+    {
+        let mut outs = Vec::new(alloc);
+        for (at, step) in steps.iter().enumerate() {
+            self.always();
+            if let Err(fault) = self.step_copied(alloc, step, &mut outs) {
+                return Err(RunStop { at, fault, outs });
+            }
+        }
+        Ok(outs)
+    }
+
+    /// One step that the caller keeps.
+    fn step_copied(
+        &mut self,
+        alloc: Global,
+        step: &Step,
+        outs: &mut Vec<Out>,
+    ) -> Result<(), CoreFault>
+        ensures ok { OnOk result ((now : List Out) × (outs.new.items ≡ outs.old.items ++ now) × Steps step.now (core_view self.old) (core_view self.new) now) }
+        ensures outs { OnErr result (outs.new.items ≡ outs.old.items) }
+        ensures err { OnErr result (core_view self.new ≡ core_view self.old) }
+        ensures fault { IsTold result (step_fault (core_view self.old) step.now) (DoesNotFit (core_view self.old) step.now) }
+    {
+        match step {
+            Step::Arrive { modem, heard } => self.arrive_copied(alloc, *modem, heard, outs),
+            Step::Work { op } => self.act_if(alloc, *op, Action::Work, outs),
+            Step::Tick { op } => self.act_if(alloc, *op, Action::Tick, outs),
+            Step::Collect { op } => self.collect(alloc, *op, outs),
+            Step::Reslice { from, rows } => self.reslice(*from, rows.as_slice()),
+        }
+    }
+
+    /// The operator that has this modem takes a copy of what was heard of it into its inbox.
+    fn arrive_copied(
+        &mut self,
+        alloc: Global,
+        modem: Modem,
+        heard: &Heard,
+        outs: &mut Vec<Out>,
+    ) -> Result<(), CoreFault>
+        ensures ok { OnOk result ((now : List Out) × (outs.new.items ≡ outs.old.items ++ now) × Steps (steps.Arrive modem heard.now) (core_view self.old) (core_view self.new) now) }
+        ensures outs { OnErr result (outs.new.items ≡ outs.old.items) }
+        ensures err { OnErr result (core_view self.new ≡ core_view self.old) }
+        ensures fault { IsTold result (step_fault (core_view self.old) (steps.Arrive modem heard.now)) NoMisfit }
+    {
+        let Some(op) = self.routes.place_of(modem) else {
+            return Err(CoreFault::UnknownModem { modem });
+        };
+        if op >= self.desks.len() {
+            return Err(CoreFault::UnknownOperator { op });
+        }
+        match heard.copy(alloc) {
+            Ok(heard) => self.act_if(alloc, op, Action::Arrive { modem, heard }, outs),
+            Err(_) => Err(CoreFault::NoMemory),
+        }
+    }
+}

@@ -1,0 +1,197 @@
+//! One step of a plant.
+
+ghost use Rattle.std.specs.Prelude.{◌≡◌, ◌≢◌, ◌↔◌, ℕ, ◌+◌, ◌<◌, ◌≤◌, [], ◌∷◌, ◌++◌, List, map, length, slice_get, vec_len, vec_capacity, Option, Some, None, Err, IfOk, IfErr, OnOk, OnErr};
+ghost use Rattle.map_assembly.specs.declared.refused.GatherFault.{GatherFault};
+ghost use Rattle.plant_runs.specs.declared.step.Out.{Out};
+ghost use Rattle.plant_runs.specs.declared.step.Step.{Step};
+ghost use Rattle.plant_runs.specs.declared.step.Step.TheVariants as steps;
+ghost use Rattle.plant_runs.specs.Reached.{Reached};
+ghost use Rattle.plant_runs.specs.OwnSteps.{under};
+ghost use Rattle.plant_runs.specs.Steps.{Acts, Collects, Steps, told_map};
+ghost use Rattle.plant_core.specs.Faults.{act_fault, collect_fault, step_fault, IsTold, NoMisfit, IsMisfit, DoesNotFit, core_fault_of};
+ghost use Rattle.plant_core.specs.DeskView.{book_at, waiting_at};
+ghost use Rattle.plant_core.specs.CoreView.{core_view};
+
+use crate::core_fault::CoreFault;
+use crate::held::PlantCore;
+use dsx_messages::Modem;
+use map_assembly::{GatherFault, MapBytes};
+use operator_book::BookFault;
+use operator_machine::{Action, Heard, Output};
+use plant_runs::{Out, Step};
+use slice_table::Op;
+use std::alloc::Global;
+
+/// Adds an operator's outputs, for which there is room.
+fn append(outs: &mut Vec<Out>, op: Op, told: Vec<Output>)
+    requires { vec_len outs.old + vec_len told ≤ vec_capacity outs.old }
+    ensures { outs.new.items ≡ outs.old.items ++ under op told.items }
+{
+    for output in told {
+        outs.push_reserved(Out::Of { op, output });
+    }
+}
+
+/// Adds a MAP that is made, for which there is room.
+fn append_map(outs: &mut Vec<Out>, made: Option<MapBytes>)
+    requires { vec_len outs.old < vec_capacity outs.old }
+    ensures { outs.new.items ≡ outs.old.items ++ told_map made }
+{
+    if let Some(made) = made {
+        outs.push_reserved(Out::Map(made));
+    }
+}
+
+/// What the core answers where the assembly refuses a frame.
+fn core_fault(fault: GatherFault) -> CoreFault
+    ensures { result ≡ core_fault_of fault }
+{
+    match fault {
+        GatherFault::NoMemory => CoreFault::NoMemory,
+        _ => CoreFault::Gather(fault),
+    }
+}
+
+impl PlantCore {
+    /// An operator takes an action that is its own.
+    fn act_at(
+        &mut self,
+        alloc: Global,
+        op: Op,
+        action: Action,
+        outs: &mut Vec<Out>,
+    ) -> Result<(), CoreFault>
+        requires { op < vec_len self.old.desks }
+        ensures ok { OnOk result ((now : List Out) × (outs.new.items ≡ outs.old.items ++ now) × Acts op action (core_view self.old) (core_view self.new) now) }
+        ensures outs { OnErr result (outs.new.items ≡ outs.old.items) }
+        ensures err { OnErr result (core_view self.new ≡ core_view self.old) }
+        ensures fault { IsTold result (act_fault op action (slice_get (map book_at self.old.desks.items) op)) NoMisfit }
+    {
+        let desk = &mut self.desks[op];
+        if desk.book.is_spent(&action) {
+            return Err(CoreFault::Book(BookFault::FramesSpent));
+        }
+        if outs.reserve(desk.book.most_outputs()).is_err() {
+            return Err(CoreFault::NoMemory);
+        }
+        match desk.act(alloc, action) {
+            Ok(told) => {
+                append(outs, op, told);
+                Ok(())
+            }
+            Err(_) => Err(CoreFault::NoMemory),
+        }
+    }
+
+    /// The operator at this place acts, if there is one.
+    pub(crate) fn act_if(
+        &mut self,
+        alloc: Global,
+        op: Op,
+        action: Action,
+        outs: &mut Vec<Out>,
+    ) -> Result<(), CoreFault>
+        ensures ok { OnOk result ((now : List Out) × (outs.new.items ≡ outs.old.items ++ now) × Acts op action (core_view self.old) (core_view self.new) now) }
+        ensures outs { OnErr result (outs.new.items ≡ outs.old.items) }
+        ensures err { OnErr result (core_view self.new ≡ core_view self.old) }
+        ensures fault { IsTold result (act_fault op action (slice_get (core_view self.old).books op)) NoMisfit }
+    {
+        if op >= self.desks.len() {
+            return Err(CoreFault::UnknownOperator { op });
+        }
+        self.act_at(alloc, op, action, outs)
+    }
+
+    /// The operator that has this modem takes what was heard of it into its inbox.
+    fn arrive(
+        &mut self,
+        alloc: Global,
+        modem: Modem,
+        heard: Heard,
+        outs: &mut Vec<Out>,
+    ) -> Result<(), CoreFault>
+        ensures ok { OnOk result ((now : List Out) × (outs.new.items ≡ outs.old.items ++ now) × Steps (steps.Arrive modem heard) (core_view self.old) (core_view self.new) now) }
+        ensures outs { OnErr result (outs.new.items ≡ outs.old.items) }
+        ensures err { OnErr result (core_view self.new ≡ core_view self.old) }
+        ensures fault { IsTold result (step_fault (core_view self.old) (steps.Arrive modem heard)) NoMisfit }
+    {
+        match self.routes.place_of(modem) {
+            None => Err(CoreFault::UnknownModem { modem }),
+            Some(op) => self.act_if(alloc, op, Action::Arrive { modem, heard }, outs),
+        }
+    }
+
+    /// The oldest frame that waits of the operator at this place goes into the assembly.
+    fn collect_at(&mut self, alloc: Global, op: Op, outs: &mut Vec<Out>) -> Result<(), CoreFault>
+        requires { op < vec_len self.old.desks }
+        ensures ok { OnOk result ((now : List Out) × (outs.new.items ≡ outs.old.items ++ now) × Collects op (core_view self.old) (core_view self.new) now) }
+        ensures outs { OnErr result (outs.new.items ≡ outs.old.items) }
+        ensures err { OnErr result (core_view self.new ≡ core_view self.old) }
+        ensures fault { IsTold result (collect_fault op (slice_get (core_view self.old).queues op)) (IsMisfit self.old.gather op (slice_get (core_view self.old).queues op)) }
+    {
+        let desk = &mut self.desks[op];
+        let oldest = match desk.oldest(alloc) {
+            Err(_) => return Err(CoreFault::NoMemory),
+            Ok(None) => return Err(CoreFault::NothingToCollect { op }),
+            Ok(Some(oldest)) => oldest,
+        };
+        if outs.reserve(1).is_err() {
+            return Err(CoreFault::NoMemory);
+        }
+        match self.gather.put(alloc, op, oldest.number, oldest.elements) {
+            Ok(made) => {
+                desk.collected = oldest.behind;
+                append_map(outs, made);
+                Ok(())
+            }
+            Err(refused) => Err(core_fault(refused.fault)),
+        }
+    }
+
+    /// The oldest frame that waits of the operator at this place goes into the assembly, if there is one.
+    pub(crate) fn collect(
+        &mut self,
+        alloc: Global,
+        op: Op,
+        outs: &mut Vec<Out>,
+    ) -> Result<(), CoreFault>
+        ensures ok { OnOk result ((now : List Out) × (outs.new.items ≡ outs.old.items ++ now) × Collects op (core_view self.old) (core_view self.new) now) }
+        ensures outs { OnErr result (outs.new.items ≡ outs.old.items) }
+        ensures err { OnErr result (core_view self.new ≡ core_view self.old) }
+        ensures fault { IsTold result (collect_fault op (slice_get (core_view self.old).queues op)) (IsMisfit self.old.gather op (slice_get (core_view self.old).queues op)) }
+    {
+        if op >= self.desks.len() {
+            return Err(CoreFault::UnknownOperator { op });
+        }
+        self.collect_at(alloc, op, outs)
+    }
+
+    /// One step, whose outputs are added.
+    fn step_into(&mut self, alloc: Global, step: Step, outs: &mut Vec<Out>) -> Result<(), CoreFault>
+        ensures ok { OnOk result ((now : List Out) × (outs.new.items ≡ outs.old.items ++ now) × Steps step (core_view self.old) (core_view self.new) now) }
+        ensures outs { OnErr result (outs.new.items ≡ outs.old.items) }
+        ensures err { OnErr result (core_view self.new ≡ core_view self.old) }
+        ensures fault { IsTold result (step_fault (core_view self.old) step) (DoesNotFit (core_view self.old) step) }
+    {
+        match step {
+            Step::Arrive { modem, heard } => self.arrive(alloc, modem, heard, outs),
+            Step::Work { op } => self.act_if(alloc, op, Action::Work, outs),
+            Step::Tick { op } => self.act_if(alloc, op, Action::Tick, outs),
+            Step::Collect { op } => self.collect(alloc, op, outs),
+            Step::Reslice { from, rows } => self.reslice(from, rows.as_slice()),
+        }
+    }
+
+    /// One step, and what it puts out. A refused step changes nothing.
+    pub fn step(&mut self, alloc: Global, step: Step) -> Result<Vec<Out>, CoreFault>
+        ensures ok { IfOk result (λ outs. Steps step (core_view self.old) (core_view self.new) outs.items) }
+        ensures reached { IfOk result (λ outs. (before : List Step) (told : List Out) → Reached (core_view self.old).plant before told (core_view self.old) → Reached (core_view self.old).plant (before ++ step ∷ []) (told ++ outs.items) (core_view self.new)) }
+        ensures err { OnErr result (core_view self.new ≡ core_view self.old) }
+        ensures fault { IsTold result (step_fault (core_view self.old) step) (DoesNotFit (core_view self.old) step) }
+    {
+        self.always();
+        let mut outs = Vec::new(alloc);
+        self.step_into(alloc, step, &mut outs)?;
+        Ok(outs)
+    }
+}
