@@ -1,4 +1,4 @@
-//! Giving all operators other slices.
+//! Judging other slices for all operators. Giving them is not done yet.
 
 ghost use Rattle.std.specs.Prelude.{◌≡◌, ℕ, ◌+◌, [], map, length, vec_len, drop, option_map, ◌≤◌, Some, OnErr, IsErr};
 ghost use Rattle.std.specs.List.{position_from};
@@ -111,7 +111,8 @@ impl PlantCore {
         self.row_fault(from, rows)
     }
 
-    /// Gives each operator its row from a later frame on.
+    /// Judges other slices. Not done yet: where they have no fault, they are not given either. The answer is then `NoMemory`,
+    /// and nothing has changed.
     pub(crate) fn reslice(&mut self, from: u32, rows: &[SliceRow]) -> Result<(), CoreFault>
         ensures err { OnErr result (core_view self.new ≡ core_view self.old) }
         ensures fault { IsTold result (option_map (λ fault. CoreFault.Reslice fault) (reslice_fault from (core_view self.old).books rows.now)) NoMisfit }
