@@ -1,6 +1,6 @@
 //! Steps one after the other.
 
-ghost use Rattle.std.specs.Prelude.{◌≡◌, ◌++◌, List, take, slice_get, Some, Err, IfOk, IfErr, OnOk, OnErr};
+ghost use Rattle.std.specs.Prelude.{◌≡◌, ◌<◌, ◌++◌, List, take, length, slice_get, Some, Err, IfOk, IfErr, OnOk, OnErr};
 ghost use Rattle.plant_runs.specs.declared.step.Step.{Step};
 ghost use Rattle.plant_runs.specs.declared.step.Out.{Out};
 ghost use Rattle.plant_runs.specs.declared.step.Step.TheVariants as steps;
@@ -30,6 +30,7 @@ impl PlantCore {
     pub fn run(&mut self, alloc: Global, steps: &[Step]) -> Result<Vec<Out>, RunStop>
         ensures reached { IfOk result (λ outs. (before : List Step) (told : List Out) → Reached (core_view self.old).plant before told (core_view self.old) → Reached (core_view self.old).plant (before ++ steps.now) (told ++ outs.items) (core_view self.new)) }
         ensures stopped { IfErr result (λ stop. (before : List Step) (told : List Out) → Reached (core_view self.old).plant before told (core_view self.old) → Reached (core_view self.old).plant (before ++ take stop.at steps.now) (told ++ stop.outs.items) (core_view self.new)) }
+        ensures within { IfErr result (λ stop. stop.at < length steps.now) }
         ensures fault { IfErr result (λ stop. (step : Step) → slice_get steps.now stop.at ≡ Some step → IsTold {A = Unit {0}} (Err stop.fault) (step_fault (core_view self.new) step) (DoesNotFit (core_view self.new) step)) }
     {
         let mut outs = Vec::new(alloc);
