@@ -48,7 +48,7 @@ first_behind [] rest (suc n) x e = ap (λ ys. slice_get ys 0) e
 first_behind (y ∷ ys) rest zero x e = ap (λ zs. slice_get zs 0) e
 first_behind (y ∷ ys) rest (suc n) x e = first_behind ys rest n x e
 
-queue_there : (queues : List (List ElementsFields)) (i : ℕ) (queue : List ElementsFields) → slice_get queues i ≡ Some queue → queue_of queues i ≡ queue
+pub queue_there : (queues : List (List ElementsFields)) (i : ℕ) (queue : List ElementsFields) → slice_get queues i ≡ Some queue → queue_of queues i ≡ queue
 queue_there [] i queue e = let f : ◌≡◌ {A = Option (List ElementsFields)} None (Some queue) = e in absurd (none-some queue f)
 queue_there (q ∷ queues) zero queue e = same_Some q queue e
 queue_there (q ∷ queues) (suc i) queue e = queue_there queues i queue e

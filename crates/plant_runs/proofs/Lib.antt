@@ -21,4 +21,5 @@ pub mod OneStep
 pub mod OwnFrames
 pub mod OwnSlices
 pub mod Fits
+pub mod Anew
 pub mod Runs
