@@ -6,3 +6,6 @@ pub mod ReachLemmas
 pub mod RunLemmas
 pub mod OpenLemmas
 pub mod OfferLemmas
+pub mod FreeLemmas
+pub mod GiveLemmas
+pub mod ResliceLemmas

@@ -1,5 +1,5 @@
 -- A core stays reachable.
-use Rattle.std.proofs.Common.{◌≡◌, ℕ, List, [], ◌∷◌, ◌++◌, Result, Ok, Err, OnOk, OnErr, Option, Some, None, refl, sym, ap, ap₂, subst, ◌∙◌}
+use Rattle.std.proofs.Common.{◌≡◌, ℕ, List, [], ◌∷◌, ◌++◌, Result, Ok, Err, OnOk, OnErr, Option, Some, None, refl, sym, ap, subst, ◌∙◌}
 use Rattle.std.specs.Prelude.{slice_get, slice_set}
 use Rattle.std.proofs.lemmas.Option.{some_pair_parts}
 use Rattle.std.proofs.Math.Logic.{∥∥₁_map, ∥∥₁_elim}
@@ -21,7 +21,7 @@ use Rattle.plant_runs.specs.declared.step.Out.{Out}
 use Rattle.plant_runs.specs.OwnSteps.{under}
 use Rattle.plant_runs.specs.Ordered.{action_at, target}
 use Rattle.plant_runs.specs.Reached.{CoreView, Reached, frames_of}
-use Rattle.plant_runs.specs.Steps.{Acts, Collects, Steps, told_map}
+use Rattle.plant_runs.specs.Steps.{Acts, Steps}
 use Rattle.plant_runs.proofs.OneStep.{step_reached}
 use Rattle.plant_runs.proofs.Fits.{waiting_fits}
 use Rattle.plant_core.specs.Reachable.{core_of, IsReachable, IsOfAStep}

@@ -12,3 +12,7 @@ book_at desk = desk.book.kept.book
 -- its frames that wait
 abbrev pub waiting_at : {D : Type 0} {F : D → Type 0} {m : _} → Desk D F m → List (ℕ × ElementsFields)
 waiting_at desk = waiting_in desk.book.kept.book.history desk.collected
+
+-- how many entries more its history has room for
+abbrev pub room_at : {D : Type 0} {F : D → Type 0} {m : _} → Desk D F m → ℕ
+room_at desk = desk.book.kept.spare

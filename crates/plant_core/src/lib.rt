@@ -5,6 +5,7 @@ mod acting;
 mod collecting;
 mod core_fault;
 mod desk;
+mod giving;
 mod held;
 mod laws_of_core;
 mod opening;

@@ -1,9 +1,10 @@
-//! Judging other slices for all operators. Giving them is not done yet.
+//! Judging other slices for all operators.
 
-ghost use Rattle.std.specs.Prelude.{◌≡◌, ℕ, ◌+◌, [], map, length, vec_len, drop, option_map, ◌≤◌, Some, OnErr, IsErr};
+ghost use Rattle.std.specs.Prelude.{◌≡◌, ℕ, ◌+◌, [], map, length, vec_len, drop, option_map, ◌≤◌, Some, OnOk, OnErr};
 ghost use Rattle.std.specs.List.{position_from};
 ghost use Rattle.operator_machine.specs.Machine.{unfit_from};
 ghost use Rattle.plant_core.specs.Reslicing.{is_unfit, least_unfit, do_meet, least_meeting, row_fault, reslice_fault};
+ghost use Rattle.plant_runs.specs.Steps.{Reslices};
 ghost use Rattle.plant_core.specs.Faults.{IsTold};
 ghost use Rattle.plant_core.specs.CoreView.{core_view};
 
@@ -12,6 +13,7 @@ use crate::held::PlantCore;
 use operator_book::Book;
 use operator_machine::{SliceRow, Unfit};
 use slice_table::Op;
+use std::alloc::Global;
 
 /// Whether two faults are the same.
 fn is_same(a: Unfit, b: Unfit) -> bool
@@ -111,16 +113,23 @@ impl PlantCore {
         self.row_fault(from, rows)
     }
 
-    /// Judges other slices. Not done yet: where they have no fault, they are not given either. The answer is then `NoMemory`,
-    /// and nothing has changed.
-    pub(crate) fn reslice(&mut self, from: u32, rows: &[SliceRow]) -> Result<(), CoreFault>
+    /// Other slices for all operators from a later frame on, where they have no fault.
+    pub(crate) fn reslice(
+        &mut self,
+        alloc: Global,
+        from: u32,
+        rows: &[SliceRow],
+    ) -> Result<(), CoreFault>
+        ensures ok { OnOk result (Reslices from rows.now (core_view self.old) (core_view self.new) []) }
         ensures err { OnErr result (core_view self.new ≡ core_view self.old) }
         ensures fault { IsTold result (option_map (λ fault. CoreFault.Reslice fault) (reslice_fault from (core_view self.old).books rows.now)) }
-        ensures never { IsErr result }
     {
-        match self.reslice_fault(from, rows) {
-            Some(fault) => Err(CoreFault::Reslice(fault)),
-            None => Err(CoreFault::NoMemory),
+        if let Some(fault) = self.reslice_fault(from, rows) {
+            return Err(CoreFault::Reslice(fault));
+        }
+        match self.give(alloc, from, rows) {
+            Ok(()) => Ok(()),
+            Err(_) => Err(CoreFault::NoMemory),
         }
     }
 }

@@ -181,7 +181,7 @@ impl PlantCore {
             Step::Work { op } => self.act_if(alloc, op, Action::Work, outs),
             Step::Tick { op } => self.act_if(alloc, op, Action::Tick, outs),
             Step::Collect { op } => self.collect(alloc, op, outs),
-            Step::Reslice { from, rows } => self.reslice(from, rows.as_slice()),
+            Step::Reslice { from, rows } => self.reslice(alloc, from, rows.as_slice()),
         }
     }
 

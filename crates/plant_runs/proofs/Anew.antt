@@ -1,8 +1,8 @@
 -- Slices that each operator's book takes, and of which no two meet, are taken by the assembly.
-use Rattle.std.proofs.Common.{◌≡◌, ◌≢◌, ℕ, zero, suc, ◌+◌, ◌<◌, ◌≤◌, ◌==◌, ◌||◌, Bool, true, false, cond, List, [], ◌∷◌, length, map, All, AllPairs, get_or, is_some, Option, Some, None, option_map, refl, sym, ap, ◌∙◌, subst, arith, nat_le, nat_lt}
+use Rattle.std.proofs.Common.{◌≡◌, ℕ, zero, suc, ◌+◌, ◌<◌, ◌≤◌, ◌==◌, ◌||◌, Bool, true, false, cond, List, [], ◌∷◌, length, map, All, AllPairs, get_or, is_some, Option, Some, None, option_map, refl, sym, ap, ◌∙◌, subst, arith, nat_le, nat_lt}
 use Rattle.std.specs.Prelude.{slice_get, count_by, if◌then◌else◌}
 use Rattle.std.specs.List.{AllByRecursion, range_with_len}
-use Rattle.std.proofs.lemmas.Bool.{or_parts, leb-false, ltb-false, eqb-false, eqb-true, le-leb}
+use Rattle.std.proofs.lemmas.Bool.{or_parts, leb-false, ltb-false, eqb-false, eqb-true}
 use Rattle.std.proofs.lemmas.List.{length-map}
 use Rattle.std.proofs.lemmas.List.Elements.{All-from_recursion}
 use Rattle.std.proofs.lemmas.Option.{slice_get-get_or, slice_get_within, slice_get-map, get_or_from_slice_get}
@@ -16,7 +16,6 @@ use Rattle.flow_table.specs.Table.{committed_minislots}
 use Rattle.operator_machine.specs.declared.action.SliceRow.{SliceRow}
 use Rattle.operator_machine.specs.declared.action.Action.{Action}
 use Rattle.operator_machine.specs.declared.action.Action.TheVariants.{Arrive, Work, Tick, Reslice}
-use Rattle.operator_machine.specs.declared.action.Unfit.{Unfit}
 use Rattle.operator_machine.specs.declared.action.Unfit.TheVariants.{NotPast, Unfinished, OffFrame, BudgetOverSlice, OverBudget}
 use Rattle.operator_machine.specs.declared.share.NextShare.{NextShare}
 use Rattle.operator_machine.specs.State.{OperatorState, opened}
@@ -32,15 +31,15 @@ use Rattle.map_assembly.specs.declared.slicing.Reslicing.{Reslicing}
 use Rattle.map_assembly.specs.Map.{layout_of}
 use Rattle.map_assembly.specs.Part.{share_of}
 use Rattle.map_assembly.specs.Plan.{IsInFrame, AreSlices}
-use Rattle.map_assembly.specs.Gathering.{Gathering, next_of, queue_of, IsGathering, IsPast, MayReslice}
+use Rattle.map_assembly.specs.Gathering.{Gathering, next_of, IsGathering, IsPast, MayReslice}
 use Rattle.plant_runs.specs.declared.step.Step.{Step}
 use Rattle.plant_runs.specs.declared.step.Out.{Out}
-use Rattle.plant_runs.specs.OwnSteps.{own_steps, collects_of, slice_of, reslicings_of}
+use Rattle.plant_runs.specs.OwnSteps.{own_steps, slice_of, reslicings_of}
 use Rattle.plant_runs.specs.Shown.{alone}
 use Rattle.plant_runs.specs.Reached.{CoreView, Reached, frames_of}
 use Rattle.plant_runs.proofs.Entries.{some_at}
 use Rattle.plant_runs.proofs.Numbers.{Numbered, numbers_are}
-use Rattle.plant_runs.proofs.OwnSlices.{HaveOne, own_of, own_reslicings}
+use Rattle.plant_runs.proofs.OwnSlices.{own_of, own_reslicings}
 use Rattle.plant_runs.proofs.Fits.{may, one_each, put_so_far, queue_there}
 
 -- ---- what a book that takes a row tells
@@ -154,9 +153,12 @@ module _ (plant : PlantFields) (done : List Step) (outs : List Out) (core : Core
       let within = slice_get_within plant.rows i row here in
       let book = some_at core.books i (omega (arith, within, reached.one_book)) in
       let offered = some_at rows i (omega (arith, within, reached.one_book, one)) in
-      let after = reached.books i row book.0 here book.1 in
-      (offered.0, offered.1, takes plant.consts (alone plant.consts row i done).state from offered.0
-      ((λ n. unfit_from (sym after.consts_are n) (sym after.state_is n) from offered.0) ∙ fit i offered.0 book.0 offered.1 book.1))
+      let after = reached.books i row book.0 here book.1 in (
+        offered.0,
+        offered.1,
+        takes plant.consts (alone plant.consts row i done).state from offered.0
+            ((λ n. unfit_from (sym after.consts_are n) (sym after.state_is n) from offered.0) ∙ fit i offered.0 book.0 offered.1 book.1),
+      )
 
   each_in_frame : All (IsInFrame g.layout) (map slice_of rows)
   each_in_frame k d lt =

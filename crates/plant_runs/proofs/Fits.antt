@@ -1,14 +1,13 @@
 -- The frame that an operator's next collection takes is fit to be put.
-use Rattle.std.proofs.Common.{◌≡◌, ℕ, zero, suc, ◌+◌, ◌-◌, ◌<◌, ◌≤◌, Bool, true, false, List, [], ◌∷◌, length, map, take, drop, All, Option, Some, None, option_map, refl, sym, ap, ◌∙◌, subst, arith, nat_le, nat_lt}
-use Rattle.std.specs.Prelude.{slice_get, slice_index_or, count_by}
-use Rattle.std.specs.List.{AllByRecursion, list_all}
-use Rattle.std.proofs.lemmas.Bool.{and_from, lt-leb, ltb-false, le-leb, eq-eqb, false_from_ne_true, ltb-true}
+use Rattle.std.proofs.Common.{◌≡◌, ℕ, zero, suc, ◌+◌, ◌-◌, ◌<◌, ◌≤◌, true, false, List, [], ◌∷◌, length, map, drop, Option, Some, None, option_map, refl, sym, ap, ◌∙◌, subst, arith, nat_lt}
+use Rattle.std.specs.Prelude.{slice_get}
+use Rattle.std.specs.List.{AllByRecursion}
+use Rattle.std.proofs.lemmas.Bool.{and_from, lt-leb, le-leb, eq-eqb, false_from_ne_true, ltb-true}
 use Rattle.std.proofs.lemmas.List.{length-map}
-use Rattle.std.proofs.lemmas.List.Elements.{recursion_from_All, All-get_or}
-use Rattle.std.proofs.lemmas.Option.{none-some, same_Some, slice_get-map, slice_get_within, get_or_from_slice_get}
+use Rattle.std.proofs.lemmas.List.Elements.{recursion_from_All}
+use Rattle.std.proofs.lemmas.Option.{none-some, same_Some, slice_get-map, slice_get_within}
 use Rattle.slice_scheduler.specs.Minislots.{Minislots}
 use Rattle.slice_scheduler.specs.declared.elements.ElementsFields.{ElementsFields}
-use Rattle.slice_table.specs.declared.consts.ConstsFields.{ConstsFields}
 use Rattle.slice_table.specs.declared.operator_row.RowFields.{RowFields}
 use Rattle.slice_table.specs.declared.plant.PlantFields.{PlantFields}
 use Rattle.slice_table.specs.Row.{IsRowOf}
@@ -23,17 +22,17 @@ use Rattle.map_assembly.specs.declared.share.Share.{Share}
 use Rattle.map_assembly.specs.declared.slicing.Reslicing.{Reslicing}
 use Rattle.map_assembly.specs.Part.{share_of, is_fitting, is_slice}
 use Rattle.map_assembly.specs.Plan.{IsInFrame, AreSlices}
-use Rattle.map_assembly.specs.Gathering.{Gathering, frame_slices, slices_at, queue_of, next_of, fits_at, is_part, put_fault, IsGathering}
+use Rattle.map_assembly.specs.Gathering.{frame_slices, slices_at, queue_of, next_of, is_part, put_fault, IsGathering}
 use Rattle.plant_runs.specs.declared.step.Step.{Step}
 use Rattle.plant_runs.specs.declared.step.Out.{Out}
 use Rattle.plant_runs.specs.OwnSteps.{own_steps, maps_in, collects_of, reslicings_of}
 use Rattle.plant_runs.specs.Shown.{alone}
-use Rattle.plant_runs.specs.Reached.{CoreView, frames_of, AreFramesAfter, Reached}
+use Rattle.plant_runs.specs.Reached.{CoreView, frames_of, Reached}
 use Rattle.plant_runs.proofs.Entries.{some_at}
 use Rattle.plant_runs.proofs.Numbers.{Numbered, AreNumbered, are_numbered}
 use Rattle.plant_runs.proofs.Collected.{put_length}
 use Rattle.plant_runs.proofs.OwnFrames.{at_place, IsOwn, run_own, told_may, of_slices}
-use Rattle.plant_runs.proofs.OwnSlices.{HaveOne, own_of, own_reslicings, own_slice}
+use Rattle.plant_runs.proofs.OwnSlices.{HaveOne, own_reslicings, own_slice}
 
 -- ---- what stands where
 

@@ -67,7 +67,7 @@ collects_moves plant k old new now collects i row book made here e f =
 
 -- ---- a re-slicing
 
-silent : (consts : ConstsFields) (row : RowFields) (state : OperatorState) (from : ℕ) (offered : SliceRow) → (own_step consts row state (actions.Reslice from offered)).outputs ≡ []
+pub silent : (consts : ConstsFields) (row : RowFields) (state : OperatorState) (from : ℕ) (offered : SliceRow) → (own_step consts row state (actions.Reslice from offered)).outputs ≡ []
 unfolding own_step
 silent consts row state from offered = refl
 

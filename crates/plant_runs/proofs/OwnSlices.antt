@@ -1,5 +1,5 @@
 -- The re-slicings of a run's steps are, slice by slice, those of each operator's own steps.
-use Rattle.std.proofs.Common.{◌≡◌, ℕ, ◌<◌, ◌==◌, Bool, true, false, cond, List, [], ◌∷◌, ◌++◌, length, map, find, reverse, Option, Some, None, option_map, refl, sym, ap, ◌∙◌, subst, arith, nat_le}
+use Rattle.std.proofs.Common.{◌≡◌, ℕ, ◌<◌, ◌==◌, Bool, true, false, List, [], ◌∷◌, ◌++◌, length, map, find, reverse, Option, Some, None, option_map, refl, sym, ap, ◌∙◌, subst, arith, nat_le}
 use Rattle.std.specs.Prelude.{slice_get}
 use Rattle.std.specs.List.{AllByRecursion}
 use Rattle.std.proofs.lemmas.List.{length-map, map-append, reverse-append}
@@ -8,15 +8,12 @@ use Rattle.slice_scheduler.specs.Minislots.{Minislots}
 use Rattle.slice_scheduler.proofs.SumLemmas.{recursion-append}
 use Rattle.slice_table.specs.declared.operator_row.RowFields.{RowFields}
 use Rattle.slice_table.specs.Row.{is_listed}
-use Rattle.operator_machine.specs.declared.action.SliceRow.{SliceRow}
-use Rattle.operator_machine.specs.declared.action.Action.{Action}
-use Rattle.operator_machine.specs.declared.action.Action.TheVariants as actions
 use Rattle.operator_machine.specs.Slices.{SliceFrom, reslicings_in, slice_or, slice_at}
 use Rattle.map_assembly.specs.declared.slicing.Reslicing.{Reslicing}
 use Rattle.map_assembly.specs.Gathering.{slices_or, slices_at}
 use Rattle.plant_runs.specs.declared.step.Step.{Step}
 use Rattle.plant_runs.specs.declared.step.Step.TheVariants as steps
-use Rattle.plant_runs.specs.OwnSteps.{action_of, resliced_by, own_steps, slice_of, reslicings_of}
+use Rattle.plant_runs.specs.OwnSteps.{own_steps, slice_of, reslicings_of}
 use Rattle.plant_runs.proofs.Entries.{some_at}
 
 -- the operator's slice of a re-slicing

@@ -1,6 +1,5 @@
-use Rattle.std.proofs.Common.{List, ◌++◌, ap, sym, subst, ◌∙◌}
+use Rattle.std.proofs.Common.{List, ◌++◌, ap, sym, ◌∙◌}
 use Rattle.std.proofs.lemmas.Result.{on_ok_weaker, on_err_weaker}
-use Rattle.operator_machine.specs.Replay.{BookView}
 use Rattle.operator_machine.specs.declared.output.Output.{Output}
 use Rattle.plant_runs.specs.declared.step.Out.{Out}
 use Rattle.plant_runs.specs.OwnSteps.{under}

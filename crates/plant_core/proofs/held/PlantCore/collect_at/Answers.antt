@@ -1,4 +1,4 @@
-use Rattle.std.proofs.Common.{◌≡◌, List, ◌++◌, map, Some, ap, sym, refl, ◌∙◌}
+use Rattle.std.proofs.Common.{◌≡◌, List, ◌++◌, map, Some, ap, refl, ◌∙◌}
 use Rattle.plant_runs.specs.declared.step.Out.{Out}
 use Rattle.plant_runs.specs.declared.step.Step.TheVariants as steps
 use Rattle.plant_runs.specs.Steps.{told_map}
@@ -22,7 +22,7 @@ invariant_of-self g c =
     (seen_at book_at desks.items desks.len c.args.op desk desks.ok.0 c.requires c.index.ensures) in
     record {
       reached = stepped (steps.Collect c.args.op) _ _ (told_map c.in-Ok.made) c.always.ensures.plant c.always.ensures.gathering refl
-      (collects_at c.args.self.now.routes c.args.self.now.gather _ _ _ _ _ c.args.op c.in-Ok-Some.oldest.number c.in-Ok-Some.oldest.elements _ _ c.in-Ok.made
+          (collects_at c.args.self.now.routes c.args.self.now.gather _ _ _ _ _ c.args.op c.in-Ok-Some.oldest.number c.in-Ok-Some.oldest.elements _ _ c.in-Ok.made
           (seen_at _ desks.items desks.len c.args.op desk desks.ok.0 c.requires c.index.ensures)
           (oldest_front desk.book.kept.book.history desk.collected c.in-Ok-Some.field-0 c.in-Ok-Some.oldest c.in-Ok-Some.field-0-is c.in-Ok-Some.ensures.value)
           (put_is_fit c.args.self.now.gather c.args.op c.in-Ok-Some.oldest.number c.in-Ok-Some.oldest.elements c.put.result c.in-Ok.made c.put.ensures.fault c.in-Ok.is)
@@ -30,7 +30,7 @@ invariant_of-self g c =
           (set_alike _ desks.items c.args.op _ _ (seen_at _ desks.items desks.len c.args.op c.index_mut.result.now desks.ok.0 c.requires c.index_mut.ensures.value) refl)
           (set_seen _ desks.items c.args.op _ _ (ap (λ (b : BookView). waiting_in b.history c.in-Ok-Some.oldest.behind) same))
           c.in-Ok.ensures.state)
-      c.args.self.now.reached;
+          c.args.self.now.reached;
     }
 
 pub returns-in-Ok-clause-ok : goal.returns-in-Ok-clause-ok

@@ -1,0 +1,95 @@
+-- Other slices, given desk by desk.
+use Rattle.std.proofs.Common.{◌≡◌, ℕ, ◌+◌, ◌<◌, ◌≤◌, List, ◌++◌, length, map, get_or, append-nil, Option, Some, option_map, ◌⊎◌, inl, inr, refl, sym, ap, ◌∙◌, arith}
+use Rattle.std.specs.Prelude.{slice_get, slice_set}
+use Rattle.std.specs.List.{AllWithin}
+use Rattle.std.proofs.lemmas.List.{length-map, length-set}
+use Rattle.std.proofs.lemmas.Bool.{cases_eq}
+use Rattle.std.proofs.lemmas.List.Elements.{AllWithin-more_set}
+use Rattle.std.proofs.lemmas.Option.{slice_get-map, slice_get_read, same_Some, slice_get_within}
+use Rattle.slice_scheduler.specs.declared.elements.ElementsFields.{ElementsFields}
+use Rattle.operator_machine.specs.declared.action.SliceRow.{SliceRow}
+use Rattle.operator_machine.specs.declared.action.Action.TheVariants as actions
+use Rattle.operator_machine.specs.Replay.{BookView, acted}
+use Rattle.plant_runs.specs.Reached.{frames_of}
+use Rattle.plant_runs.proofs.Entries.{get_same, get_other}
+use Rattle.plant_runs.proofs.Moving.{silent}
+use Rattle.plant_core.specs.Waiting.{waiting_in}
+use Rattle.plant_core.specs.Giving.{HaveTaken}
+use Rattle.plant_core.proofs.PlaceLemmas.{seen_at, set_alike}
+use Rattle.plant_core.proofs.WaitingLemmas.{waiting_acted}
+
+-- a re-slicing puts out no frame
+pub waits_still : (book new : BookView) (from : ℕ) (row : SliceRow) (place : ℕ) → place ≤ length book.history → new ≡ acted book (actions.Reslice from row) → waiting_in new.history place ≡ waiting_in book.history place
+waits_still book new from row place within is =
+    ap (λ (b : BookView). waiting_in b.history place) is
+    ∙ (waiting_acted book (actions.Reslice from row) place within
+    ∙ (ap (λ outputs. waiting_in book.history place ++ frames_of outputs) (silent book.consts book.row book.state from row) ∙ append-nil (waiting_in book.history place)))
+
+-- ---- so far
+
+-- the operators before this place have taken their rows, the others are as they were
+pub record HaveTakenSoFar {X : Type 0} (book : X → BookView) (waits : X → List (ℕ × ElementsFields)) (from : ℕ) (rows : List SliceRow) (old now : List X) (op : ℕ) : Type 0 where
+  pub one_each : length now ≡ length old
+  pub taken : (i : ℕ) (row : SliceRow) (b : BookView) → i < op → slice_get rows i ≡ Some row → slice_get (map book old) i ≡ Some b → slice_get (map book now) i ≡ Some (acted b (actions.Reslice from row))
+  pub others : (i : ℕ) → op ≤ i → slice_get now i ≡ slice_get old i
+  pub waiting : map waits now ≡ map waits old
+
+module _ {X : Type 0} (book : X → BookView) (waits : X → List (ℕ × ElementsFields)) (from : ℕ) (rows : List SliceRow) (old : List X) where
+  pub none_taken : HaveTakenSoFar book waits from rows old old 0
+  none_taken = record { one_each = refl; taken = λ i row b lt e f. absurd (omega arith); others = λ i le. refl; waiting = refl }
+
+  pub one_more_taken : (now : List X) (n op : ℕ) (x y : X) (row : SliceRow) → n ≡ length now → op < n → x ≡ get_or now op x → slice_get rows op ≡ Some row
+      → book y ≡ acted (book x) (actions.Reslice from row) → waits y ≡ waits x → HaveTakenSoFar book waits from rows old now op → HaveTakenSoFar book waits from rows old (slice_set now op y) (op + 1)
+  one_more_taken now n op x y row long within is here took waited so_far = record {
+    one_each = length-set now op y ∙ so_far.one_each;
+    taken = λ i r b lt e f. by i r b (cases_eq i op) lt e f;
+    others = λ i le. get_other now op i y (λ same. omega (arith, le, same)) ∙ so_far.others i (omega (arith, le));
+    waiting = set_alike waits now op y (waits x) (seen_at waits now n op x long within is) waited ∙ so_far.waiting;
+  }
+    where
+      there : slice_get now op ≡ Some x
+      there = slice_get_read now n op x long within is
+
+      by : (i : ℕ) (r : SliceRow) (b : BookView) → (i ≡ op) ⊎ (i ≡ op → ⊥) → i < op + 1 → slice_get rows i ≡ Some r → slice_get (map book old) i ≡ Some b → slice_get (map book (slice_set now op y)) i ≡ Some (acted b (actions.Reslice from r))
+      by i r b (inl same) lt e f =
+          let old_is : slice_get old op ≡ Some x = sym (so_far.others op (omega arith)) ∙ there in
+          let b_is : book x ≡ b = same_Some (book x) b (sym (slice_get-map book old op ∙ ap (option_map book) old_is) ∙ (ap (slice_get (map book old)) (sym same) ∙ f)) in
+          let r_is : row ≡ r = same_Some row r (sym here ∙ (ap (slice_get rows) (sym same) ∙ e)) in
+          ap (slice_get (map book (slice_set now op y))) same
+          ∙ (slice_get-map book (slice_set now op y) op
+          ∙ (ap (option_map book) (get_same now op y (omega (arith, long, within)))
+          ∙ ap (λ (v : BookView). let o : Option BookView = Some v in o) (took ∙ (λ k. acted (b_is k) (actions.Reslice from (r_is k))))))
+      by i r b (inr other) lt e f =
+          slice_get-map book (slice_set now op y) i
+          ∙ (ap (option_map book) (get_other now op i y other)
+          ∙ (sym (slice_get-map book now i) ∙ so_far.taken i r b (omega (arith, lt, other)) e f))
+
+  pub all_taken : (now : List X) (op : ℕ) → length rows ≤ op → HaveTakenSoFar book waits from rows old now op → HaveTaken from rows (map book old) (map book now)
+  all_taken now op past so_far = record {
+    one_each = length-map now book ∙ (so_far.one_each ∙ sym (length-map old book));
+    taken = λ i row b e f. so_far.taken i row b (omega (arith, past, slice_get_within rows i row e)) e f;
+  }
+
+-- ---- room so far
+
+pub record HaveRoomSoFar {X : Type 0} (book : X → BookView) (waits : X → List (ℕ × ElementsFields)) (room : X → ℕ) (old now : List X) (op : ℕ) : Type 0 where
+  pub one_each : length now ≡ length old
+  pub room_is : AllWithin (λ x. 0 < room x) now 0 op
+  pub books : map book now ≡ map book old
+  pub waiting : map waits now ≡ map waits old
+
+module _ {X : Type 0} (book : X → BookView) (waits : X → List (ℕ × ElementsFields)) (room : X → ℕ) (old now : List X) (n op : ℕ) (x y : X) (long : n ≡ length now) (within : op < n) (is : x ≡ get_or now op x)
+    (same_book : book y ≡ book x) (same_waits : waits y ≡ waits x) (so_far : HaveRoomSoFar book waits room old now op) where
+  pub books_alike : map book (slice_set now op y) ≡ map book old
+  books_alike = set_alike book now op y (book x) (seen_at book now n op x long within is) same_book ∙ so_far.books
+
+  pub waiting_alike : map waits (slice_set now op y) ≡ map waits old
+  waiting_alike = set_alike waits now op y (waits x) (seen_at waits now n op x long within is) same_waits ∙ so_far.waiting
+
+  pub one_more_room : 0 < room y → HaveRoomSoFar book waits room old (slice_set now op y) (op + 1)
+  one_more_room some = record {
+    one_each = length-set now op y ∙ so_far.one_each;
+    room_is = AllWithin-more_set now op y (omega (arith, long, within)) (λ z. 0 < room z) so_far.room_is some;
+    books = books_alike;
+    waiting = waiting_alike;
+  }

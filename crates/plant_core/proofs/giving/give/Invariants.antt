@@ -1,0 +1,6 @@
+use Rattle.plant_core.specs.DeskView.{book_at, waiting_at}
+use Rattle.plant_core.proofs.GiveLemmas.{HaveTakenSoFar}
+use Rattle.plant_core.proofs.giving.give.Given as goal
+
+abbrev pub invariant-loop-op : goal.invariant-loop-op
+invariant-loop-op g l = HaveTakenSoFar book_at waiting_at l.from l.rows l.initial.desks.items l.desks.items l.op
