@@ -3,6 +3,9 @@
 ghost use Rattle.std.specs.Prelude.{◌≡◌, [], ◌∷◌};
 ghost use Rattle.slice_scheduler.specs.Tiles.{IsTiled};
 
+mod gaps;
+mod wide;
+
 use crate::gather::Gather;
 use crate::map_bytes::MapBytes;
 use crate::refused::{GatherFault, Refused};
@@ -52,11 +55,16 @@ policy = \"strict\"
 modems = [\"020000000003\"]
 ";
 
+/// Nothing is put yet of the plant of this text.
+fn gather_of(alloc: Global, text: &str) -> Result<Gather, PlantFault> {
+    let plant = read_plant(alloc, text)?;
+    Ok(Gather::new(alloc, &plant)?)
+}
+
 /// Nothing is put yet of these two operators, with this line more of what they share.
 fn gather(alloc: Global, line: &str) -> Result<Gather, PlantFault> {
     let text = format!(in alloc; "{SHARED}{line}\n{OPERATORS}")?;
-    let plant = read_plant(alloc, &text)?;
-    Ok(Gather::new(alloc, &plant)?)
+    gather_of(alloc, text.as_str())
 }
 
 fn span(sid: u16, iuc: Iuc, start: u16, len: u16) -> Span
