@@ -1,5 +1,5 @@
 -- How many outputs an action has.
-use Rattle.std.proofs.Common.{ℕ, ◌+◌, ◌≤◌, Bool, true, false, List, [], ◌∷◌, ◌++◌, length, Option, Some, None, Result, Ok, Err, length-append, arith}
+use Rattle.std.proofs.Common.{ℕ, ◌≤◌, Bool, true, false, List, [], ◌∷◌, ◌++◌, length, Option, Some, None, Result, Ok, Err, length-append, arith}
 use Rattle.std.proofs.lemmas.List.{length-map}
 use Rattle.std.specs.Prelude.{not, find, nat_le, if◌then◌else◌}
 use Rattle.std.specs.Option.{option_map}
@@ -14,7 +14,6 @@ use Rattle.dsx_messages.specs.Reading.{message_of}
 use Rattle.dsx_messages.specs.Spelling.{spell_reply}
 use Rattle.transactions.specs.declared.entry.KeptEntry.{KeptEntry}
 use Rattle.transactions.specs.Entry.{same_kind, is_of, waits_for}
-use Rattle.transactions.specs.Timers.{resent_in}
 use Rattle.slice_table.specs.declared.consts.ConstsFields.{ConstsFields}
 use Rattle.slice_table.specs.declared.operator_row.RowFields.{RowFields}
 use Rattle.slice_table.specs.Row.{same_modem}
@@ -35,6 +34,7 @@ use Rattle.operator_machine.specs.State.{OperatorState}
 use Rattle.operator_machine.specs.Asked.{refusal}
 use Rattle.operator_machine.specs.Handle.{Ran, told, silent, carried_out, is_of_cmts, new_unless, transacted, acked_if, kind_of, tid_of, message_handled, asked_of_flow, handle}
 use Rattle.operator_machine.specs.Machine.{arrived, worked, own_step}
+use Rattle.operator_book.specs.MostOutputs.{most_outputs_of}
 
 one : 1 ≤ 1
 one = omega arith
@@ -112,10 +112,10 @@ few_worked consts row state (first ∷ others) = few_handled consts row state fi
 
 -- an action has one output at most, and a tick what it sends again and its frame
 pub few_outputs : (consts : ConstsFields) (row : RowFields) (state : OperatorState) (action : Action)
-    → length (own_step consts row state action).outputs ≤ 1 + length (resent_in state.kept)
+    → length (own_step consts row state action).outputs ≤ most_outputs_of state action
 unfolding own_step
-few_outputs consts row state (actions.Arrive modem heard) = omega (arith, few_arrived consts row state modem heard)
-few_outputs consts row state actions.Work = omega (arith, few_worked consts row state state.inbox)
+few_outputs consts row state (actions.Arrive modem heard) = few_arrived consts row state modem heard
+few_outputs consts row state actions.Work = few_worked consts row state state.inbox
 few_outputs consts row state actions.Tick =
     rw (length-append, length-map) (omega arith)
 few_outputs consts row state (actions.Reslice from slice_row) = omega arith

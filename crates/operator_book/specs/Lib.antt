@@ -3,3 +3,4 @@ pub mod Held
 pub mod Opening
 pub mod Kept
 pub mod ViewOf
+pub mod MostOutputs

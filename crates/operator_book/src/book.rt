@@ -4,13 +4,13 @@ ghost use Rattle.std.specs.Prelude.{◌≡◌, ◌≢◌, ◌↔◌, ◌+◌, �
 ghost use Rattle.dsx_messages.specs.declared.modem.Modem.{Modem};
 ghost use Rattle.slice_table.specs.Row.{IsRowOf};
 ghost use Rattle.operator_machine.specs.declared.action.Unfit.{Unfit};
-ghost use Rattle.transactions.specs.Timers.{resent_in};
 ghost use Rattle.operator_machine.specs.declared.action.Action.{Action};
 ghost use Rattle.operator_machine.specs.declared.action.Action.TheVariants as actions;
 ghost use Rattle.operator_machine.specs.State.{opened};
 ghost use Rattle.operator_machine.specs.Machine.{own_step, stranger_of, is_spent, unfit_from, unfit_of, IsAllowed};
 ghost use Rattle.operator_machine.specs.Replay.{IsReplay, acted};
 ghost use Rattle.operator_machine.specs.Sound.{IsSound};
+ghost use Rattle.operator_book.specs.MostOutputs.{most_outputs_of};
 ghost use Rattle.operator_book.specs.declared.book.OpenFault.TheVariants as open_faults;
 ghost use Rattle.operator_book.specs.declared.book.BookFault.TheVariants.{NoMemory};
 
@@ -143,14 +143,18 @@ impl Book {
         self.kept.reslice(from, row);
     }
 
-    /// How many outputs the next action has at most: as many as the next tick sends again, and one. At most 65,537.
+    /// How many outputs an action has at most, if it is done next: a tick what it sends again and its frame, any other action one.
+    /// At most 65,537.
     #[tactic(auto, using(crate::proofs::Few::few_outputs))]
-    pub fn most_outputs(&self) -> usize
-        ensures value { result ≡ 1 + length (resent_in self.now.kept.book.state.kept) }
-        ensures bound { (action : Action) → length (own_step self.now.kept.book.consts self.now.kept.book.row self.now.kept.book.state action).outputs ≤ result }
+    pub fn most_outputs(&self, action: &Action) -> usize
+        ensures value { result ≡ most_outputs_of self.now.kept.book.state action.now }
+        ensures bound { length (own_step self.now.kept.book.consts self.now.kept.book.row self.now.kept.book.state action.now).outputs ≤ result }
         ensures few { result ≤ 65537 }
     {
-        1 + self.kept.machine.kept.resend_count()
+        match action {
+            Action::Tick => 1 + self.kept.machine.kept.resend_count(),
+            _ => 1,
+        }
     }
 
     /// The modem of an Arrive, where it is not of this row.

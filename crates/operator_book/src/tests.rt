@@ -164,11 +164,15 @@ fn act(alloc: Global, book: &mut Book, text: &mut String, action: Action) -> Res
 }
 
 /// Writes how many flows, kept responses and arrivals there are, the frame number, how many entries the history has, and how many
-/// outputs the next action can have.
+/// outputs a tick can have.
 fn put_counts(alloc: Global, book: &Book, text: &mut String) -> Result<(), AllocError> {
     let view = book.state_view(alloc)?;
     let (flows, kept, inbox) = (view.flows().len(), view.kept().len(), view.inbox().len());
-    let (frame, done, most) = (view.frame(), book.history().len(), book.most_outputs());
+    let (frame, done, most) = (
+        view.frame(),
+        book.history().len(),
+        book.most_outputs(&Action::Tick),
+    );
     let line = format!(in alloc; "\n= {flows} {kept} {inbox} {frame} {done} {most}")?;
     text.push_str(line.as_str())
 }
