@@ -7,12 +7,9 @@ use Rattle.clap.specs.Kinds.{Kinds}
 use Rattle.clap.specs.Walk.{Text}
 use Rattle.clap.specs.declared.error.kind.ErrorKind.TheVariants as kind
 use Rattle.clap.proofs.OnLiterals.{clap_on_literals}
-use Rattle.plant_words.specs.CommandLine.{faults}
-use Rattle.plant_words.specs.Spelling.{hyphens}
+use Rattle.plant_words.specs.ClapLine.{faults}
+use Rattle.plant_words.specs.CommandLine.{hyphens}
 use Rattle.plant_words.proofs.WalkSteps.{plain_shape, history_shape, sub_fault}
-
-
-
 
 -- ---- behind `one`, `check` or `run`
 

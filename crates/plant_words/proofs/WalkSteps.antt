@@ -6,7 +6,7 @@ use Rattle.clap.specs.Faults.{level_fault, walk_fault}
 use Rattle.clap.specs.Kinds.{Kinds, or_else}
 use Rattle.clap.specs.Simple.{Shape, built, built_leaf, inherited, marked_built, names_of, new_shape, on_top, with_leaf_noted}
 use Rattle.clap.proofs.OnLiterals.{clap_on_literals}
-use Rattle.plant_words.specs.CommandLine.{entered, faults, history_app, program}
+use Rattle.plant_words.specs.ClapLine.{entered, faults, history_app, program}
 
 abbrev at_subcommand : Text → List Text → Walk
 at_subcommand n words = record { held = nothing_held; waiting = idle; position = 1; is_trailing = false; stopped = Some (n, words) }
@@ -63,4 +63,3 @@ pub run_below : (rest : List Text) → faults (codes "run" ∷ rest) ≡ sub_fau
 unfolding faults clap_on_literals
 run_below rest = rw (words_collected top_rules top_names (codes "run") [] rest, words_pass (built program).top top_names (codes "run") [] rest)
     (or_nothing (sub_fault (plain_shape (codes "run")) rest))
-

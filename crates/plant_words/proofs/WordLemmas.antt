@@ -1,109 +1,112 @@
--- What words come to that are written out, by computing what clap makes of them.
-use Rattle.std.proofs.Common.{◌≡◌, ◌≢◌, ◌⊎◌, inl, inr, ℕ, Bool, true, false, ◌==◌, ◌&&◌, List, [], ◌∷◌, Some, None, Option, refl, sym, ap, ne_eqb, subst, codes}
-use Rattle.std.specs.Prelude.{IsSomeAnd}
-use Rattle.clap.specs.Lexer.{long_of, short_of}
+-- What words come to that are written out, and which words come to what.
+use Rattle.std.proofs.Common.{◌≡◌, ◌≢◌, ◌⊎◌, ◌∙◌, inl, inr, ℕ, Bool, true, false, ◌==◌, ◌&&◌, List, [], ◌∷◌, None, refl, sym, ap, ne_eqb, subst, codes, slice_index, arith}
 use Rattle.std.specs.Str.{bytes_eq}
-use Rattle.clap.specs.Words.{IsAmong, Kinds, Row, Text}
-use Rattle.clap.specs.declared.error.kind.ErrorKind.{ErrorKind}
+use Rattle.clap.specs.Lexer.{long_of, short_of}
+use Rattle.clap.specs.Kinds.{IsAmong}
+use Rattle.clap.specs.Walk.{Text}
 use Rattle.clap.specs.declared.error.kind.ErrorKind.TheVariants as kind
 use Rattle.clap.proofs.OnLiterals.{clap_on_literals}
-use Rattle.plant_words.specs.Order.{Order, one, check, run, history}
-use Rattle.plant_words.specs.CommandLine.{AreWrong, AsksHelp, CanRefuse, IsHelpWord, Names, StandsFor, entered, faults}
+use Rattle.plant_words.specs.ClapLine.{entered, faults}
+use Rattle.plant_words.specs.Order.{Order, history}
+use Rattle.plant_words.specs.CommandLine.{AreWrong, AsksHelp, IsHelpFlag, IsHelpWord, IsOperand, Names, hyphens}
+use Rattle.plant_words.proofs.Shapes.{IsRefused}
+use Rattle.plant_words.proofs.Outcomes.{Outcome, named, helped, failing, outcome}
+use Rattle.plant_words.proofs.ReadLemmas.{help_faults, help_word_faults, names_taken, refused_wrong, stands_once}
 
--- words of which help is the only kind ask for help
-only_help : (words : List Text) → faults words ≡ kind.DisplayHelp ∷ [] → AsksHelp words
-only_help words is = record {
-  shown = subst (IsAmong kind.DisplayHelp) (sym is) (inl refl);
-  only = λ can. elim (subst (IsAmong can.0) is can.2) [ inl e ↦ can.1 e | inr h ↦ h ];
-}
-
--- words that have kinds, and help not among them, are wrong
-no_help : (words : List Text) (k : ErrorKind) (ks : Kinds) → faults words ≡ k ∷ ks
-    → (IsAmong kind.DisplayHelp (k ∷ ks) → ⊥) → AreWrong words
-no_help words k ks is lacks = record {
-  unnamed = λ o named. let taken = named.taken in cc;
-  unhelped = λ shown. lacks (subst (IsAmong kind.DisplayHelp) is shown);
-}
-
--- a subcommand that clap enters without a fault
-is_named : (words : List Text) (o : Order) (s : Text × List Row) → faults words ≡ [] → entered words ≡ Some s
-    → StandsFor o s → Names words o
-is_named words o s taken is stands = record {
-  taken = taken;
-  stands = subst (λ (e : Option (Text × List Row)). IsSomeAnd e (StandsFor o)) (sym is) stands;
-}
-
-pub one_named : Names (codes "one" ∷ []) one
-unfolding faults entered clap_on_literals
-one_named = record { taken = refl; stands = refl }
-
-pub check_named : Names (codes "check" ∷ []) check
-unfolding faults entered clap_on_literals
-check_named = record { taken = refl; stands = refl }
-
-pub run_named : Names (codes "run" ∷ []) run
-unfolding faults entered clap_on_literals
-run_named = record { taken = refl; stands = refl }
-
-pub history_named : Names (codes "history" ∷ codes "A" ∷ []) (history (codes "A"))
-unfolding faults entered clap_on_literals
-history_named = record { taken = refl; stands = (refl, refl) }
-
-no_flag : (b : ℕ) (rest : Text) → (b == 45) ≡ false → (long_of (b ∷ rest) ≡ None) × (short_of (b ∷ rest) ≡ None) × (bytes_eq (b ∷ rest) (45 ∷ 45 ∷ []) ≡ false)
-no_flag b rest other = (rw other refl, rw other refl, ap (λ (t : Bool). t && bytes_eq rest (45 ∷ [])) other)
-
-plain_operand : (w : Text) → long_of w ≡ None → short_of w ≡ None → bytes_eq w (45 ∷ 45 ∷ []) ≡ false
-    → Names (codes "history" ∷ w ∷ []) (history w)
-unfolding faults entered clap_on_literals
-plain_operand w long short other =
-    let taken : faults (codes "history" ∷ w ∷ []) ≡ [] = rw (long, short, other) refl in
-    let stands : IsSomeAnd (entered (codes "history" ∷ w ∷ [])) (StandsFor (history w)) = rw (long, short, other) (refl, refl) in
-    record { taken = taken; stands = stands }
-
--- any operand that does not begin with a hyphen
-pub operand_named : (w : Text) → ((rest : Text) → w ≢ 45 ∷ rest) → Names (codes "history" ∷ w ∷ []) (history w)
-operand_named [] other = plain_operand [] refl refl refl
-operand_named (b ∷ rest) other =
+-- a text that begins with no hyphen is an operand
+pub no_hyphen_operand : (w : Text) → ((rest : Text) → w ≢ 45 ∷ rest) → IsOperand w
+no_hyphen_operand [] other = record { no_end = λ e. cc; no_long = refl; no_short = refl }
+no_hyphen_operand (b ∷ rest) other =
     let differs : (b == 45) ≡ false = ne_eqb _ _ (λ e. other rest (ap (λ (x : ℕ). x ∷ rest) e)) in
-    let plain = no_flag b rest differs in
-    plain_operand (b ∷ rest) plain.0 plain.1 plain.2
+    record { no_end = λ e. other (45 ∷ []) e; no_long = rw differs refl; no_short = rw (no_short b rest differs) refl }
+  where
+    no_short : (b : ℕ) (rest : Text) → (b == 45) ≡ false → short_of (b ∷ rest) ≡ None
+    no_short b rest differs = rw differs refl
 
-pub hyphen_named : Names (codes "history" ∷ codes "-" ∷ []) (history (codes "-"))
-hyphen_named = plain_operand (codes "-") refl refl refl
+pub operand_named : (name : Text) → ((rest : Text) → name ≢ 45 ∷ rest) → Names (codes "history" ∷ name ∷ []) (history name)
+operand_named name other = inl (no_hyphen_operand name other, inl refl)
 
-pub long_asks : AsksHelp (codes "--help" ∷ [])
-unfolding faults clap_on_literals
-long_asks = only_help _ refl
-
-pub short_asks : AsksHelp (codes "-h" ∷ [])
-unfolding faults clap_on_literals
-short_asks = only_help _ refl
-
-pub history_asks : AsksHelp (codes "history" ∷ codes "--help" ∷ [])
-unfolding faults clap_on_literals
-history_asks = only_help _ refl
+-- ---- wrong words
 
 pub nothing_wrong : AreWrong []
 unfolding faults clap_on_literals
-nothing_wrong = no_help _ kind.MissingSubcommand [] refl (λ h. elim h [ inl e ↦ cc | inr none ↦ none ])
+nothing_wrong = refused_wrong _ (record { some = λ e. cc; no_help = λ h. elim h [ inl e ↦ cc | inr none ↦ none ] })
 
 pub unknown_wrong : AreWrong (codes "wrong" ∷ [])
 unfolding faults clap_on_literals
-unknown_wrong = no_help _ kind.UnknownArgument (kind.InvalidSubcommand ∷ []) refl
-    (λ h. elim h [ inl e ↦ cc | inr h2 ↦ elim h2 [ inl e ↦ cc | inr none ↦ none ] ])
+unknown_wrong = refused_wrong _ (record {
+  some = λ e. cc;
+  no_help = λ h. elim h [ inl e ↦ cc | inr h2 ↦ elim h2 [ inl e ↦ cc | inr none ↦ none ] ];
+})
 
 pub second_word_wrong : AreWrong (codes "one" ∷ codes "more" ∷ [])
 unfolding faults clap_on_literals
-second_word_wrong = no_help _ kind.UnknownArgument [] refl (λ h. elim h [ inl e ↦ cc | inr none ↦ none ])
+second_word_wrong = refused_wrong _ (record { some = λ e. cc; no_help = λ h. elim h [ inl e ↦ cc | inr none ↦ none ] })
 
 pub no_operand_wrong : AreWrong (codes "history" ∷ [])
 unfolding faults clap_on_literals
-no_operand_wrong = no_help _ kind.MissingRequiredArgument [] refl (λ h. elim h [ inl e ↦ cc | inr none ↦ none ])
+no_operand_wrong = refused_wrong _ (record { some = λ e. cc; no_help = λ h. elim h [ inl e ↦ cc | inr none ↦ none ] })
 
 pub second_operand_wrong : AreWrong (codes "history" ∷ codes "A" ∷ codes "B" ∷ [])
 unfolding faults clap_on_literals
-second_operand_wrong = no_help _ kind.UnknownArgument [] refl (λ h. elim h [ inl e ↦ cc | inr none ↦ none ])
+second_operand_wrong = refused_wrong _ (record { some = λ e. cc; no_help = λ h. elim h [ inl e ↦ cc | inr none ↦ none ] })
 
-pub help_word : (rest : List Text) → IsHelpWord (codes "help" ∷ rest)
-unfolding faults clap_on_literals
-help_word rest = record { shown = inl refl; refused = (kind.InvalidSubcommand, (λ e. cc), inr (inl refl)) }
+-- ---- every list of words
+
+pub comes_to_one : (words : List Text) → ((o : Order) × Names words o) ⊎ (AsksHelp words ⊎ (IsHelpWord words ⊎ AreWrong words))
+comes_to_one words = elim (outcome words) [
+  | named o names ↦ inl (o, names)
+  | helped help ↦ inr (inr (inl help))
+  | failing (inl (asks, is)) ↦ inr (inl asks)
+  | failing (inr refused) ↦ inr (inr (inr (refused_wrong words refused)))
+]
+
+pub named_once : (words : List Text) (o p : Order) → Names words o → Names words p → o ≡ p
+named_once words o p a b = stands_once o p (entered words) (names_taken words o a).1 (names_taken words p b).1
+
+pub named_not_asked : (words : List Text) (o : Order) → Names words o → AsksHelp words → ⊥
+named_not_asked words o a b = let no = sym (names_taken words o a).0 ∙ help_faults words b in cc
+
+pub named_not_help : (words : List Text) (o : Order) → Names words o → IsHelpWord words → ⊥
+named_not_help words o a b = let no = sym (names_taken words o a).0 ∙ help_word_faults words b in cc
+
+pub asked_not_help : (words : List Text) → AsksHelp words → IsHelpWord words → ⊥
+asked_not_help words a b = let no = sym (help_faults words a) ∙ help_word_faults words b in cc
+
+-- ---- words that are written out
+
+a_operand : IsOperand (codes "A")
+a_operand = no_hyphen_operand (codes "A") (λ rest e. let no : 65 ≡ 45 = ap (λ (t : Text). slice_index t 0) e in omega arith)
+
+pub history_named : Names (codes "history" ∷ codes "A" ∷ []) (history (codes "A"))
+history_named = inl (a_operand, inl refl)
+
+pub long_asks : AsksHelp (codes "--help" ∷ [])
+long_asks = record { before = []; flag = codes "--help"; behind = []; are = refl; may_lead = tt; is_help = inl refl }
+
+h_flag : IsHelpFlag (codes "-h")
+unfolding clap_on_literals
+h_flag = inr refl
+
+pub short_asks : AsksHelp (codes "-h" ∷ [])
+short_asks = record { before = []; flag = codes "-h"; behind = []; are = refl; may_lead = tt; is_help = h_flag }
+
+pub word_asks : AsksHelp (codes "run" ∷ codes "--help" ∷ [])
+word_asks = record {
+  before = codes "run" ∷ [];
+  flag = codes "--help";
+  behind = [];
+  are = refl;
+  may_lead = inr (inr (inl refl));
+  is_help = inl refl;
+}
+
+pub operand_asks : AsksHelp (codes "history" ∷ codes "A" ∷ codes "-h" ∷ [])
+operand_asks = record {
+  before = codes "history" ∷ codes "A" ∷ [];
+  flag = codes "-h";
+  behind = [];
+  are = refl;
+  may_lead = (refl, a_operand);
+  is_help = h_flag;
+}

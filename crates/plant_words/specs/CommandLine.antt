@@ -1,85 +1,80 @@
--- The program's command line, and what its words come to (own). What clap makes of the words is cited from clap's own
--- definitions, so each setting of clap that no line here speaks of is as clap has it.
-use Rattle.std.specs.Prelude.{◌≡◌, ◌≢◌, ◌⊎◌, ⊤, ℕ, List, [], ◌∷◌, Option, Some, Result, Ok, Err, IsSomeAnd, true, codes}
-use Rattle.clap.specs.Words.{App, Kinds, IsAmong, Row, Rule, Text, fault_of, first_of, new_app, new_rule}
-use Rattle.clap.specs.Words.{subcommand_of, with_rule, with_subcommand}
-use Rattle.clap.specs.declared.error.kind.ErrorKind.{ErrorKind}
-use Rattle.clap.specs.declared.error.kind.ErrorKind.TheVariants as kind
+-- The words behind the program's name, and what they come to (own), with clap's reading of hyphens.
+use Rattle.std.specs.Prelude.{◌≡◌, ◌≢◌, ◌⊎◌, ⊤, ℕ, List, [], ◌∷◌, ◌++◌, Option, Some, None, Result, Ok, Err, codes}
+use Rattle.std.specs.Prelude.{option_and_then, slice_get}
+use Rattle.std.specs.Str.{chars}
+use Rattle.clap.specs.Lexer.{long_of, short_of}
 use Rattle.plant_words.specs.Order.{Order, one, check, run, history, order_of}
 use Rattle.plant_words.specs.declared.asked.Word.{Word}
 use Rattle.plant_words.specs.declared.asked.WordsFault.{WordsFault}
 use Rattle.plant_words.specs.declared.asked.WordsFault.TheVariants as fault
 
--- ---- the command line
+-- ---- one word
 
--- the words are read without the program's name before them, and one of the subcommands has to stand there
-abbrev pub top : App
-top = let a = new_app (codes "plant_script") in
-    record a { top = record a.top { no_binary_name = true; subcommand_required = true } }
+-- two hyphens: no word behind them is a flag
+abbrev pub hyphens : List ℕ
+hyphens = codes "--"
 
--- the one operand of `history`
-abbrev pub operator : Rule
-operator = record (new_rule (codes "operator")) { required = true; value_names = 1 }
+-- the first character behind a single hyphen
+abbrev pub first_flag : List ℕ → Option ℕ
+first_flag w = option_and_then (λ flags. slice_get (chars flags) 0) (short_of w)
 
-abbrev pub history_app : App
-history_app = with_rule (new_app (codes "history")) operator
+-- the word is no flag: it is not the two hyphens, nor begun by them, and no character stands behind a single hyphen
+pub record IsOperand (w : List ℕ) : Type 0 where
+  pub no_end : w ≢ hyphens
+  pub no_long : long_of w ≡ None
+  pub no_short : first_flag w ≡ None
 
--- `one`, `check`, `run` and `history OPERATOR`
-abbrev pub program : App
-program = with_subcommand (with_subcommand (with_subcommand (with_subcommand top
-    (new_app (codes "one")).top) (new_app (codes "check")).top) (new_app (codes "run")).top) history_app.top
+-- the word is `--help`, or a hyphen and an h (104), whatever follows them
+abbrev pub IsHelpFlag : List ℕ → Type 0
+IsHelpFlag w = (w ≡ codes "--help") ⊎ (first_flag w ≡ Some 104)
 
--- ---- what clap makes of the words
+-- ---- the words
 
--- the kinds of error that clap may answer the words with: none where it takes them
-unfoldable pub faults : List Text → Kinds
-faults words = fault_of program words
+-- the name alone, or the two hyphens behind it
+abbrev pub StandsAlone : List ℕ → List (List ℕ) → Type 0
+StandsAlone name words = (words ≡ name ∷ []) ⊎ (words ≡ name ∷ hyphens ∷ [])
 
--- the subcommand that the words enter, by its name, and the values of its arguments
-unfoldable pub entered : List Text → Option (Text × List Row)
-entered words = subcommand_of program words
+-- the words are those of the order; behind the two hyphens any word is the operator's name
+abbrev pub Names : List (List ℕ) → Order → Type 0
+Names words one = StandsAlone (codes "one") words
+Names words check = StandsAlone (codes "check") words
+Names words run = StandsAlone (codes "run") words
+Names words (history name) =
+    (IsOperand name × ((words ≡ codes "history" ∷ name ∷ [])
+    ⊎ (words ≡ codes "history" ∷ name ∷ hyphens ∷ [])))
+    ⊎ (words ≡ codes "history" ∷ hyphens ∷ name ∷ [])
 
--- ---- what the words come to
+-- words that a flag may follow: none, an order's, or `history` and its operand
+abbrev pub MayLead : List (List ℕ) → Type 0
+MayLead [] = ⊤
+MayLead (w ∷ []) = (w ≡ codes "one") ⊎ ((w ≡ codes "check") ⊎ ((w ≡ codes "run") ⊎ (w ≡ codes "history")))
+MayLead (w ∷ u ∷ []) = (w ≡ codes "history") × IsOperand u
+MayLead (w ∷ u ∷ v ∷ rest) = ⊥
 
--- a subcommand with its values stands for the order
-abbrev pub StandsFor : Order → Text × List Row → Type 0
-StandsFor one s = s.0 ≡ codes "one"
-StandsFor check s = s.0 ≡ codes "check"
-StandsFor run s = s.0 ≡ codes "run"
-StandsFor (history name) s = (s.0 ≡ codes "history") × (first_of (codes "operator") s.1 ≡ Some name)
+-- the words ask for help: a flag for it stands where a flag may, whatever follows it
+pub record AsksHelp (words : List (List ℕ)) : Type 0 where
+  pub before : List (List ℕ)
+  pub flag : List ℕ
+  pub behind : List (List ℕ)
+  pub are : words ≡ before ++ flag ∷ behind
+  pub may_lead : MayLead before
+  pub is_help : IsHelpFlag flag
 
--- clap takes the words, and they enter the order's subcommand
-pub record Names (words : List Text) (o : Order) : Type 0 where
-  pub taken : faults words ≡ []
-  pub stands : IsSomeAnd (entered words) (StandsFor o)
+-- Clap's own word `help`, with topics behind it or none. Clap promises help or a refusal, and not which it is.
+pub record IsHelpWord (words : List (List ℕ)) : Type 0 where
+  pub topics : List (List ℕ)
+  pub are : words ≡ codes "help" ∷ topics
 
--- clap can show its help
-abbrev pub CanShowHelp : List Text → Type 0
-CanShowHelp words = IsAmong kind.DisplayHelp (faults words)
-
--- clap can refuse the words
-abbrev pub CanRefuse : List Text → Type 0
-CanRefuse words = (k : ErrorKind) × (k ≢ kind.DisplayHelp) × IsAmong k (faults words)
-
--- the words ask for help: help is all that clap can answer with
-pub record AsksHelp (words : List Text) : Type 0 where
-  pub shown : CanShowHelp words
-  pub only : CanRefuse words → ⊥
-
--- the words are neither an order nor a call for help
-pub record AreWrong (words : List Text) : Type 0 where
+-- the words are nothing of these
+pub record AreWrong (words : List (List ℕ)) : Type 0 where
   pub unnamed : (o : Order) → Names words o → ⊥
-  pub unhelped : CanShowHelp words → ⊥
-
--- Clap's word `help`, with topics after it or none: clap promises help or a refusal, and not which it is.
-pub record IsHelpWord (words : List Text) : Type 0 where
-  pub shown : CanShowHelp words
-  pub refused : CanRefuse words
+  pub unasked : AsksHelp words → ⊥
+  pub unhelped : IsHelpWord words → ⊥
 
 -- ---- answers
 
 -- the words allow this fault; want of memory may come at any words
-abbrev pub Allows : List Text → WordsFault → Type 0
+abbrev pub Allows : List (List ℕ) → WordsFault → Type 0
 Allows words (fault.Help text) = AsksHelp words ⊎ IsHelpWord words
 Allows words fault.Wrong = AreWrong words ⊎ IsHelpWord words
 Allows words fault.NoMemory = ⊤
@@ -101,9 +96,3 @@ abbrev pub GivesWrong : Result Word WordsFault → Type 0
 GivesWrong (Err fault.Wrong) = ⊤
 GivesWrong (Err fault.NoMemory) = ⊤
 GivesWrong _ = ⊥
-
--- the fault that an error of clap of this kind comes to, or want of memory
-abbrev pub IsFaultOf : ErrorKind → WordsFault → Type 0
-IsFaultOf k (fault.Help text) = k ≡ kind.DisplayHelp
-IsFaultOf k fault.Wrong = (k ≢ kind.DisplayHelp) × (k ≢ kind.OutOfMemory)
-IsFaultOf k fault.NoMemory = ⊤

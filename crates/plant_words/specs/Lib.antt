@@ -1,3 +1,3 @@
+pub mod ClapLine
 pub mod CommandLine
 pub mod Order
-pub mod Spelling

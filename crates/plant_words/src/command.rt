@@ -2,7 +2,7 @@
 ghost use Rattle.std.specs.Prelude.{◌≡◌, IfOk, IfErr, []};
 ghost use Rattle.clap.specs.Walk.{texts};
 ghost use Rattle.clap.specs.Words.{HasKind, app_of, new_app, subcommand_rows_of};
-ghost use Rattle.plant_words.specs.CommandLine.{entered, faults, history_app, program, top};
+ghost use Rattle.plant_words.specs.ClapLine.{entered, faults, history_app, program, top};
 
 use clap::{Arg, ArgMatches, Command, Error};
 use std::alloc::{AllocError, Global};

@@ -1,7 +1,19 @@
-//! Laws of the command line: what words come to that are written out. They need no value, and run nothing.
-ghost use Rattle.std.specs.Prelude.{◌≢◌, List, ℕ, [], ◌∷◌, codes};
-ghost use Rattle.plant_words.specs.Order.{one, check, run, history};
+//! Laws of what words come to. They need no value, and run nothing.
+ghost use Rattle.std.specs.Prelude.{◌≡◌, ◌≢◌, ◌⊎◌, List, ℕ, [], ◌∷◌, codes};
+ghost use Rattle.plant_words.specs.Order.{Order, one, check, run, history};
 ghost use Rattle.plant_words.specs.CommandLine.{AreWrong, AsksHelp, IsHelpWord, Names};
+
+/// All words are an order's, ask for help, begin with clap's own `help`, or are wrong; of these they are one alone, and
+/// of one order.
+pub fn words_come_to_one()
+    ensures some { (words : List (List ℕ)) → ((o : Order) × Names words o)
+        ⊎ (AsksHelp words ⊎ (IsHelpWord words ⊎ AreWrong words)) }
+    ensures once { (words : List (List ℕ)) → (o : Order) → (p : Order)
+        → Names words o → Names words p → o ≡ p }
+    ensures named_not_asked { (words : List (List ℕ)) → (o : Order) → Names words o → AsksHelp words → ⊥ }
+    ensures named_not_help { (words : List (List ℕ)) → (o : Order) → Names words o → IsHelpWord words → ⊥ }
+    ensures asked_not_help { (words : List (List ℕ)) → AsksHelp words → IsHelpWord words → ⊥ }
+{}
 
 /// A word that stands alone names its order; so does `history` before a name that begins with no hyphen (45).
 pub fn orders_are_named()
@@ -13,12 +25,12 @@ pub fn orders_are_named()
         → Names (codes "history" ∷ name ∷ []) (history name) }
 {}
 
-/// The flags ask for help, alone and behind a word. Of clap's own word `help` clap leaves the answer open.
+/// The flags ask for help, alone, behind an order's word and behind its operand.
 pub fn help_is_asked()
     ensures long { AsksHelp (codes "--help" ∷ []) }
     ensures short { AsksHelp (codes "-h" ∷ []) }
-    ensures word { AsksHelp (codes "history" ∷ codes "--help" ∷ []) }
-    ensures left_open { (rest : List (List ℕ)) → IsHelpWord (codes "help" ∷ rest) }
+    ensures word { AsksHelp (codes "run" ∷ codes "--help" ∷ []) }
+    ensures operand { AsksHelp (codes "history" ∷ codes "A" ∷ codes "-h" ∷ []) }
 {}
 
 /// No word, an unknown word, and a word too many or too few are wrong.

@@ -9,5 +9,5 @@ mod reading;
 mod tests;
 
 pub use asked::{Word, WordsFault};
-pub use laws_of_words::{help_is_asked, orders_are_named, others_are_wrong};
+pub use laws_of_words::{help_is_asked, orders_are_named, others_are_wrong, words_come_to_one};
 pub use reading::read_words;

@@ -3,7 +3,8 @@ ghost use Rattle.std.specs.Prelude.{◌≡◌, ◌≢◌, IfOk, IfErr, IfSome, I
 ghost use Rattle.clap.specs.Walk.{texts};
 ghost use Rattle.clap.specs.Words.{found_of, kind_of, rows_of, subcommand_rows_of};
 ghost use Rattle.plant_words.specs.Order.{Order, order_of};
-ghost use Rattle.plant_words.specs.CommandLine.{Allows, AreWrong, AsksHelp, GivesHelp, GivesOrder, GivesWrong, IsFaultOf, Names, StandsFor};
+ghost use Rattle.plant_words.specs.ClapLine.{IsFaultOf, StandsFor};
+ghost use Rattle.plant_words.specs.CommandLine.{Allows, AreWrong, AsksHelp, GivesHelp, GivesOrder, GivesWrong, Names};
 
 use crate::asked::{Word, WordsFault};
 use crate::command::matches_of;

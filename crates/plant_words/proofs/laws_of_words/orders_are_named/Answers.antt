@@ -1,11 +1,6 @@
-use Rattle.plant_words.proofs.WordLemmas.{one_named, check_named, run_named, history_named, operand_named}
+use Rattle.std.proofs.Common.{inl, refl}
+use Rattle.plant_words.proofs.WordLemmas.{history_named, operand_named}
 use Rattle.plant_words.proofs.laws_of_words.orders_are_named.Goals as goal
 
 pub returns : goal.returns
-returns c = record {
-  one = one_named;
-  check = check_named;
-  run = run_named;
-  history = history_named;
-  operand = operand_named;
-}
+returns c = record { one = inl refl; check = inl refl; run = inl refl; history = history_named; operand = operand_named }
