@@ -1,24 +1,23 @@
 -- From what clap says of the words to what they come to.
 use Rattle.std.proofs.Common.{◌≡◌, ◌≢◌, ◌⊎◌, ◌∙◌, inl, inr, ℕ, Bool, true, false, List, [], ◌∷◌, ◌++◌, Some, None, Option, Result, Ok, Err, IfOk, IfErr, refl, sym, ap, subst, codes, slice_index, arith}
-use Rattle.std.specs.Prelude.{IfSome, IfNone, IsSomeAnd, ⊤, slice_get}
+use Rattle.std.specs.Prelude.{IfSome, IfNone, IsSomeAnd, ⊤}
 use Rattle.std.specs.Option.{ok_or}
-use Rattle.std.specs.Str.{bytes_eq, chars}
+use Rattle.std.specs.Str.{bytes_eq}
 use Rattle.std.proofs.lemmas.Slice.Eq.{bytes_eq-Decides}
 use Rattle.clap.specs.Kinds.{IsAmong, Kinds}
-use Rattle.clap.specs.Lexer.{long_of, short_of}
 use Rattle.clap.specs.Walk.{Row, Text}
 use Rattle.clap.specs.declared.error.kind.ErrorKind.{ErrorKind}
 use Rattle.clap.specs.declared.error.kind.ErrorKind.TheVariants as kind
 use Rattle.clap.proofs.OnLiterals.{clap_on_literals}
 use Rattle.plant_words.specs.ClapLine.{IsFaultOf, StandsFor, entered, faults}
-use Rattle.plant_words.specs.CommandLine.{Allows, AreWrong, AsksHelp, GivesHelp, GivesOrder, GivesWrong, IsHelpFlag, IsHelpWord, IsOperand, MayLead, Names, first_flag, hyphens}
+use Rattle.plant_words.specs.CommandLine.{Allows, AreWrong, AsksHelp, GivesHelp, GivesOrder, GivesWrong, IsHelpFlag, IsHelpWord, MayLead, Names, first_flag, hyphens}
 use Rattle.plant_words.specs.Order.{Order, one, check, run, history, order_of}
 use Rattle.plant_words.specs.declared.asked.Word.{Word}
 use Rattle.plant_words.specs.declared.asked.WordsFault.{WordsFault}
 use Rattle.plant_words.specs.declared.asked.WordsFault.TheVariants as fault
 use Rattle.plant_words.proofs.WalkSteps.{one_below, check_below, run_below, history_below}
 use Rattle.plant_words.proofs.Shapes.{IsRefused, OperandShape, no_hyphen, odd_hyphen, flag_helps, none_is_some, shape_of_operand}
-use Rattle.plant_words.proofs.Outcomes.{Outcome, named, helped, failing, outcome, plain_meets, operand_meets, after_meets, top_meets}
+use Rattle.plant_words.proofs.Outcomes.{named, helped, failing, outcome, plain_meets, operand_meets, after_meets, top_meets}
 
 -- clap takes the words, and they enter the order's subcommand
 abbrev pub Takes : List Text → Order → Type 0

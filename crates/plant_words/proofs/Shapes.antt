@@ -1,5 +1,5 @@
 -- The shapes of a word: what clap reads of its hyphens.
-use Rattle.std.proofs.Common.{◌≡◌, ◌≢◌, ◌⊎◌, ◌∙◌, inl, inr, ℕ, Bool, true, false, ◌==◌, ◌&&◌, List, [], ◌∷◌, Some, None, Option, refl, sym, ap, subst, codes, eqb-true, suc, ◌+◌, not, arith}
+use Rattle.std.proofs.Common.{◌≡◌, ◌≢◌, ◌⊎◌, ◌∙◌, inl, inr, ℕ, Bool, true, false, ◌==◌, ◌&&◌, [], ◌∷◌, Some, None, Option, refl, sym, ap, subst, codes, eqb-true, suc, ◌+◌, not, arith}
 use Rattle.std.specs.List.{after_first, before_first, list_any, prefix_len}
 use Rattle.std.proofs.lemmas.Slice.Eq.{bytes_eq-Decides}
 use Rattle.std.specs.Prelude.{slice_get}

@@ -1,12 +1,12 @@
 -- What clap makes of words whose number and letters are not known.
-use Rattle.std.proofs.Common.{◌≡◌, ◌≢◌, ◌⊎◌, ◌∙◌, inl, inr, ℕ, Bool, true, false, ◌==◌, ◌&&◌, ◌++◌, List, [], ◌∷◌, Some, None, Option, refl, sym, ap, subst, codes, append-nil, append_assoc}
+use Rattle.std.proofs.Common.{◌≡◌, ◌∙◌, false, ◌++◌, List, [], ◌∷◌, Some, refl, sym, ap, codes, append-nil, append_assoc}
 use Rattle.std.specs.List.{fold}
-use Rattle.clap.specs.Walk.{Held, Names, Rule, Text, Waiting, Walk, idle, nothing_held, walked}
+use Rattle.clap.specs.Walk.{Names, Rule, Text, Walk, idle, nothing_held, walked}
 use Rattle.clap.specs.Faults.{level_fault, walk_fault}
 use Rattle.clap.specs.Kinds.{Kinds, or_else}
 use Rattle.clap.specs.Simple.{Shape, built, built_leaf, inherited, marked_built, names_of, new_shape, on_top, with_leaf_noted}
 use Rattle.clap.proofs.OnLiterals.{clap_on_literals}
-use Rattle.plant_words.specs.ClapLine.{entered, faults, history_app, program}
+use Rattle.plant_words.specs.ClapLine.{faults, history_app, program}
 
 abbrev at_subcommand : Text → List Text → Walk
 at_subcommand n words = record { held = nothing_held; waiting = idle; position = 1; is_trailing = false; stopped = Some (n, words) }

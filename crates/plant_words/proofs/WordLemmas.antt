@@ -1,16 +1,12 @@
 -- What words come to that are written out, and which words come to what.
-use Rattle.std.proofs.Common.{◌≡◌, ◌≢◌, ◌⊎◌, ◌∙◌, inl, inr, ℕ, Bool, true, false, ◌==◌, ◌&&◌, List, [], ◌∷◌, None, refl, sym, ap, ne_eqb, subst, codes, slice_index, arith}
-use Rattle.std.specs.Str.{bytes_eq}
-use Rattle.clap.specs.Lexer.{long_of, short_of}
-use Rattle.clap.specs.Kinds.{IsAmong}
+use Rattle.std.proofs.Common.{◌≡◌, ◌≢◌, ◌⊎◌, ◌∙◌, inl, inr, ℕ, false, ◌==◌, List, [], ◌∷◌, None, refl, sym, ap, ne_eqb, codes, slice_index, arith}
+use Rattle.clap.specs.Lexer.{short_of}
 use Rattle.clap.specs.Walk.{Text}
-use Rattle.clap.specs.declared.error.kind.ErrorKind.TheVariants as kind
 use Rattle.clap.proofs.OnLiterals.{clap_on_literals}
 use Rattle.plant_words.specs.ClapLine.{entered, faults}
 use Rattle.plant_words.specs.Order.{Order, history}
-use Rattle.plant_words.specs.CommandLine.{AreWrong, AsksHelp, IsHelpFlag, IsHelpWord, IsOperand, Names, hyphens}
-use Rattle.plant_words.proofs.Shapes.{IsRefused}
-use Rattle.plant_words.proofs.Outcomes.{Outcome, named, helped, failing, outcome}
+use Rattle.plant_words.specs.CommandLine.{AreWrong, AsksHelp, IsHelpFlag, IsHelpWord, IsOperand, Names}
+use Rattle.plant_words.proofs.Outcomes.{named, helped, failing, outcome}
 use Rattle.plant_words.proofs.ReadLemmas.{help_faults, help_word_faults, names_taken, refused_wrong, stands_once}
 
 -- a text that begins with no hyphen is an operand

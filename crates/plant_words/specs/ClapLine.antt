@@ -1,12 +1,11 @@
 -- The command line as it is given to clap, and what clap makes of words by its own definitions. Only the crate's own
 -- functions are stated by these; what the words come to is said in CommandLine.
-use Rattle.std.specs.Prelude.{◌≡◌, ◌≢◌, ⊤, List, [], ◌∷◌, Option, Some, Result, Ok, Err, IsSomeAnd, true, codes}
-use Rattle.clap.specs.Words.{App, Kinds, IsAmong, Row, Rule, Text, fault_of, first_of, new_app, new_rule}
+use Rattle.std.specs.Prelude.{◌≡◌, ◌≢◌, ⊤, List, Option, Some, true, codes}
+use Rattle.clap.specs.Words.{App, Kinds, Row, Rule, Text, fault_of, first_of, new_app, new_rule}
 use Rattle.clap.specs.Words.{subcommand_of, with_rule, with_subcommand}
 use Rattle.clap.specs.declared.error.kind.ErrorKind.{ErrorKind}
 use Rattle.clap.specs.declared.error.kind.ErrorKind.TheVariants as kind
-use Rattle.plant_words.specs.Order.{Order, one, check, run, history, order_of}
-use Rattle.plant_words.specs.declared.asked.Word.{Word}
+use Rattle.plant_words.specs.Order.{Order, one, check, run, history}
 use Rattle.plant_words.specs.declared.asked.WordsFault.{WordsFault}
 use Rattle.plant_words.specs.declared.asked.WordsFault.TheVariants as fault
 

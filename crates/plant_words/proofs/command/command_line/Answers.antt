@@ -1,8 +1,6 @@
 -- Each subcommand is added to what stood before it.
-use Rattle.std.proofs.Common.{◌≡◌, refl}
+use Rattle.std.proofs.Common.{refl}
 use Rattle.std.proofs.lemmas.Result.{IfOk-weaker}
-use Rattle.clap.specs.Words.{app_of}
-use Rattle.plant_words.specs.ClapLine.{program}
 use Rattle.plant_words.proofs.CommandLemmas.{added_subcommand}
 use Rattle.plant_words.proofs.command.command_line.Goals as goal
 
