@@ -3,7 +3,7 @@ use Rattle.std.specs.Prelude.{ℕ, List}
 use Rattle.plant_words.specs.declared.asked.Word.{Word}
 use Rattle.plant_words.specs.declared.asked.Word.TheVariants as word
 
--- one message at a time, a check of a plant and a script, a run, or one operator's history (own)
+-- the messages of one modem, a check of a plant and a script, a run, or one operator's history (own)
 pub data Order : Type 0 where
   one : Order
   check : Order

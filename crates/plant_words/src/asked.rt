@@ -7,7 +7,7 @@ use std::alloc::AllocError;
 /// What the program is asked for.
 #[derive(Clone, Copy, Debug, PartialEq, Eq)]
 pub enum Word<'a> {
-    /// Answer one message at a time.
+    /// Answer the messages of one modem, a line each.
     One,
     /// Say whether a plant and a script are well.
     Check,

@@ -12,7 +12,10 @@ use clap::error::ErrorKind;
 use clap::{ArgMatches, Error};
 use std::alloc::Global;
 
-/// Reads the words that follow the program's name.
+/// Reads the words that follow the program's name, which is not among them.
+///
+/// An `Err` is help that was asked for, wrong words, or want of memory, which may come at any words. Of help's text no
+/// clause says more than that it is there: clap promises nothing of it.
 pub fn read_words<'a>(alloc: Global, words: &'a [&'a str]) -> Result<Word<'a>, WordsFault>
     ensures ok { IfOk result (λ word. Names (texts words.entry.now) (order_of word)) }
     ensures fault { IfErr result (Allows (texts words.entry.now)) }
