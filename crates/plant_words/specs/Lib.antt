@@ -1,0 +1,3 @@
+pub mod ClapLine
+pub mod CommandLine
+pub mod Order

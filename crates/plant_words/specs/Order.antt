@@ -1,0 +1,18 @@
+-- What the program is asked for, as contracts see it.
+use Rattle.std.specs.Prelude.{ℕ, List}
+use Rattle.plant_words.specs.declared.asked.Word.{Word}
+use Rattle.plant_words.specs.declared.asked.Word.TheVariants as word
+
+-- the messages of one modem, a check of a plant and a script, a run, or one operator's history (own)
+pub data Order : Type 0 where
+  one : Order
+  check : Order
+  run : Order
+  history : List ℕ → Order
+
+-- the word, with the operator's name as its bytes
+abbrev pub order_of : Word → Order
+order_of word.One = one
+order_of word.Check = check
+order_of word.Run = run
+order_of (word.History operator) = history operator.now

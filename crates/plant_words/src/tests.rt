@@ -1,0 +1,64 @@
+use crate::{Word, WordsFault, read_words};
+use std::alloc::Global;
+use std::test::Fail;
+
+/// That the words are wrong.
+fn is_wrong(alloc: Global, words: &[&str]) -> bool {
+    matches!(&read_words(alloc, words), Err(WordsFault::Wrong))
+}
+
+/// That the words ask for help, and that its text has `part`.
+fn shows(alloc: Global, words: &[&str], part: &str) -> bool {
+    match &read_words(alloc, words) {
+        Err(WordsFault::Help { text }) => text.as_str().contains(part),
+        _ => false,
+    }
+}
+
+#[test]
+fn each_word_is_read(rt: HostRuntime) -> Result<(), Fail> {
+    let alloc = rt.alloc();
+    assert!(rt; read_words(alloc, &["one"])? == Word::One);
+    assert!(rt; read_words(alloc, &["check"])? == Word::Check);
+    assert!(rt; read_words(alloc, &["run"])? == Word::Run);
+    assert!(rt; read_words(alloc, &["history", "A"])? == Word::History { operator: "A" });
+    Ok(())
+}
+
+#[test]
+fn an_operand_of_many_letters_is_read(rt: HostRuntime) -> Result<(), Fail> {
+    let name = "Kabelwerke Süd-Ost & Söhne, Region 7";
+    assert!(rt; read_words(rt.alloc(), &["history", name])? == Word::History { operator: name });
+    Ok(())
+}
+
+#[test]
+fn help_is_shown(rt: HostRuntime) {
+    let alloc = rt.alloc();
+    assert!(rt; shows(alloc, &["--help"], "Usage: plant_script"));
+    assert!(rt; shows(alloc, &["-h"], "Usage: plant_script"));
+    assert!(rt; shows(alloc, &["history", "--help"], "Usage: plant_script history"));
+    assert!(rt; shows(alloc, &["history", "--help"], "OPERATOR"));
+    assert!(rt; shows(alloc, &["run", "-h"], "Usage: plant_script run"));
+}
+
+#[test]
+fn the_word_help_is_answered_by_its_topic(rt: HostRuntime) {
+    let alloc = rt.alloc();
+    assert!(rt; shows(alloc, &["help"], "Usage: plant_script"));
+    assert!(rt; shows(alloc, &["help", "history"], "Usage: plant_script history"));
+    assert!(rt; is_wrong(alloc, &["help", "nothing"]));
+}
+
+#[test]
+fn other_words_are_wrong(rt: HostRuntime) {
+    let alloc = rt.alloc();
+    assert!(rt; is_wrong(alloc, &[]));
+    assert!(rt; is_wrong(alloc, &[""]));
+    assert!(rt; is_wrong(alloc, &["wrong"]));
+    assert!(rt; is_wrong(alloc, &["plant_script", "one"]));
+    assert!(rt; is_wrong(alloc, &["one", "more"]));
+    assert!(rt; is_wrong(alloc, &["--check"]));
+    assert!(rt; is_wrong(alloc, &["history"]));
+    assert!(rt; is_wrong(alloc, &["history", "A", "B"]));
+}
