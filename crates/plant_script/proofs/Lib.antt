@@ -1,3 +1,4 @@
 pub mod Splits
 pub mod Scripts
 pub mod Bars
+pub mod Tasks

@@ -10,7 +10,10 @@ mod lines;
 mod one;
 mod operator_a;
 mod program;
+mod running;
 mod script;
+mod task;
+mod text;
 #[cfg(test)]
 mod tests;
 
