@@ -1,7 +1,8 @@
 pub mod CachedLemmas
 pub mod WaitingLemmas
-pub mod OwnLemmas
+pub mod PlaceLemmas
 pub mod StepLemmas
+pub mod ReachLemmas
 pub mod RunLemmas
 pub mod OpenLemmas
 pub mod OfferLemmas

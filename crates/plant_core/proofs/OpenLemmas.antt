@@ -13,7 +13,7 @@ use Rattle.map_assembly.specs.Gathering.{Gathering, gathering_of}
 use Rattle.plant_runs.specs.Opened.{opened_book, opened_core}
 use Rattle.plant_runs.specs.Reached.{CoreView, Reached}
 use Rattle.plant_runs.proofs.Opening.{opened_reached}
-use Rattle.plant_core.specs.Own.{AreOwn}
+use Rattle.plant_core.specs.Reachable.{core_of, IsReachable}
 
 pub map_more : {X Y Z : Type 0} (f : X → Z) (g : Y → Z) (xs more : List X) (ys : List Y) (n m : ℕ) (x : X) (y : Y) → more ≡ xs ++ x ∷ [] → m ≡ n + 1 → n < length ys → y ≡ get_or ys n y
     → f x ≡ g y → map f xs ≡ map g (take n ys) → map f more ≡ map g (take m ys)
@@ -29,21 +29,6 @@ pub replicate_more : {X Y : Type 0} (f : X → Y) (xs more : List X) (n m : ℕ)
 replicate_more f xs more n m x y is one same so_far =
     ap (map f) is ∙ (map-append f xs (x ∷ []) ∙ (ap₂ (λ zs z. zs ++ z ∷ []) so_far same ∙ (replicate_one n y ∙ ap (λ (k : ℕ). replicate k y) (sym one))))
 
-rows_of : (consts : ConstsFields) (rows : List RowFields) → map (λ (book : BookView). book.row) (map (opened_book consts) rows) ≡ rows
-rows_of consts [] = refl
-rows_of consts (row ∷ rows) = ap (λ rs. row ∷ rs) (rows_of consts rows)
-
-consts_of : (consts : ConstsFields) (rows : List RowFields) → map (λ (book : BookView). book.consts) (map (opened_book consts) rows) ≡ map (λ (row : RowFields). consts) rows
-consts_of consts [] = refl
-consts_of consts (row ∷ rows) = ap (λ cs. consts ∷ cs) (consts_of consts rows)
-
-pub own_opened : (plant routes : PlantFields) (books : List BookView) (consts : ConstsFields) (rows : List RowFields) → routes ≡ plant → consts ≡ plant.consts → rows ≡ plant.rows
-    → books ≡ map (opened_book consts) rows → AreOwn routes books
-own_opened plant routes books consts rows r c w is =
-    let all : books ≡ map (opened_book plant.consts) plant.rows = is ∙ ap₂ (λ (k : ConstsFields) (rs : List RowFields). map (opened_book k) rs) c w in
-    subst (λ (p : PlantFields). AreOwn p books) (sym r) (subst (λ (bs : List BookView). AreOwn plant bs) (sym all)
-    (record { rows = rows_of plant.consts plant.rows; consts = consts_of plant.consts plant.rows }))
-
 pub opened_is : (plant routes : PlantFields) (books : List BookView) (queues : List (List (ℕ × ElementsFields))) (gathering : Gathering) (consts : ConstsFields) (rows : List RowFields)
     → IsPlant plant → routes ≡ plant → consts ≡ plant.consts → rows ≡ plant.rows → books ≡ map (opened_book consts) rows → queues ≡ replicate (length rows) [] → gathering ≡ gathering_of plant
     → Reached plant [] [] (record { plant = routes; books = books; queues = queues; gathering = gathering })
@@ -55,6 +40,12 @@ opened_is plant routes books queues gathering consts rows valid r c w b q g =
     (ap₂ (λ (p : PlantFields) (gs : Gathering). λ (bs : List BookView) (qs : List (List (ℕ × ElementsFields))). record { plant = p; books = bs; queues = qs; gathering = gs }) r g)
     (ap₂ (λ (bs : List BookView) (qs : List (List (ℕ × ElementsFields))). (bs, qs)) all none) in
     subst (λ (core : CoreView). Reached plant [] [] core) (sym same) (opened_reached plant valid)
+
+pub opened_reaches : (plant routes : PlantFields) (books : List BookView) (queues : List (List (ℕ × ElementsFields))) (gathering : Gathering) (consts : ConstsFields) (rows : List RowFields)
+    → IsPlant plant → routes ≡ plant → consts ≡ plant.consts → rows ≡ plant.rows → books ≡ map (opened_book consts) rows → queues ≡ replicate (length rows) [] → gathering ≡ gathering_of plant
+    → ∥ IsReachable (core_of routes books queues gathering) ∥₁
+opened_reaches plant routes books queues gathering consts rows valid r c w b q g =
+    ∣ ([], [], subst (λ (p : PlantFields). Reached p [] [] (core_of routes books queues gathering)) (sym r) (opened_is plant routes books queues gathering consts rows valid r c w b q g)) ∣₁
 
 some_same : {X : Type 0} (x y : X) → Some x ≡ Some y → x ≡ y
 some_same x y h = cc

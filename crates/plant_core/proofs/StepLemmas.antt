@@ -1,8 +1,13 @@
 -- What one step makes of a core.
-use Rattle.std.proofs.Common.{◌≡◌, ◌≢◌, ◌↔◌, ℕ, Bool, true, false, List, [], ◌∷◌, ◌++◌, length, slice_set, Result, Ok, Err, Option, Some, None, IsSome, nat_lt, nat_le, refl, sym, ap, ap₂, ◌∙◌}
+use Rattle.std.proofs.Common.{◌≡◌, ◌≢◌, ◌↔◌, ℕ, ◌<◌, ◌≤◌, map, Bool, true, false, List, [], ◌∷◌, ◌++◌, length, slice_set, Result, Ok, Err, Option, Some, None, IsSome, nat_lt, nat_le, refl, sym, ap, ap₂, ◌∙◌, arith}
 use Rattle.std.specs.Prelude.{slice_get, if◌then◌else◌}
+use Rattle.std.proofs.lemmas.List.{length-map}
+use Rattle.std.proofs.lemmas.Option.{slice_get_past}
+use Rattle.dsx_messages.specs.declared.modem.Modem.{Modem}
 use Rattle.slice_scheduler.specs.declared.elements.ElementsFields.{ElementsFields}
 use Rattle.slice_table.specs.declared.plant.PlantFields.{PlantFields}
+use Rattle.slice_table.specs.Roster.{holder}
+use Rattle.operator_machine.specs.declared.heard.Heard.{Heard}
 use Rattle.operator_machine.specs.declared.action.Action.{Action}
 use Rattle.operator_machine.specs.Machine.{own_step, is_spent, IsAllowed}
 use Rattle.operator_machine.specs.Replay.{BookView, acted}
@@ -14,13 +19,15 @@ use Rattle.map_assembly.specs.declared.refused.Refused.{Refused}
 use Rattle.map_assembly.specs.declared.refused.GatherFault.{GatherFault}
 use Rattle.map_assembly.specs.declared.refused.GatherFault.TheVariants as gather_faults
 use Rattle.map_assembly.specs.declared.refused.GatherFault.TheVariants.{Stranger, Old, PutTwice, Early, WrongSlice}
+use Rattle.plant_runs.specs.declared.step.Step.TheVariants as steps
 use Rattle.plant_runs.specs.declared.step.Out.{Out}
 use Rattle.plant_runs.specs.OwnSteps.{under}
 use Rattle.plant_runs.specs.Reached.{CoreView, frames_of}
 use Rattle.plant_runs.specs.Steps.{Acts, Collects, told_map}
 use Rattle.plant_core.specs.declared.core_fault.CoreFault.{CoreFault}
-use Rattle.plant_core.specs.declared.core_fault.CoreFault.TheVariants.{Book, NothingToCollect}
-use Rattle.plant_core.specs.Faults.{act_fault, collect_fault, IsTold, IsMisfit, core_fault_of}
+use Rattle.plant_core.specs.declared.core_fault.CoreFault.TheVariants.{Book, NothingToCollect, UnknownOperator}
+use Rattle.plant_core.specs.Faults.{act_fault, collect_fault, step_fault, IsTold, core_fault_of}
+use Rattle.plant_runs.proofs.Entries.{some_at}
 
 abbrev view : PlantFields → Gathering → List BookView → List (List (ℕ × ElementsFields)) → CoreView
 view plant gathering books queues = record { plant = plant; books = books; queues = queues; gathering = gathering }
@@ -49,6 +56,20 @@ acts_at plant gathering books books' queues queues' op action book waiting now b
 pub not_spent : (op : ℕ) (action : Action) (books : List BookView) (book : BookView) → slice_get books op ≡ Some book → is_spent book.state action ≡ false
     → act_fault op action (slice_get books op) ≡ None
 not_spent op action books book there fresh = rw there (ap (λ (b : Bool). if b then Some (Book FramesSpent) else None) fresh)
+
+-- ---- what is heard
+
+pub none_lists : {X : Type 0} (f : X → BookView) (core : CoreView) (modem : Modem) (heard : Heard) (desks : List X) (n op : ℕ) → Some op ≡ holder core.plant.rows modem → n ≡ length desks → n ≤ op → core.books ≡ map f desks
+    → step_fault core (steps.Arrive modem heard) ≡ Some (UnknownOperator op)
+none_lists f core modem heard desks n op there long past are =
+    let none : slice_get core.books op ≡ None = ap (λ (bs : List BookView). slice_get bs op) are ∙ slice_get_past (map f desks) op (omega (arith, long, past, length-map desks f)) in
+    rw (← there, none) refl
+
+pub one_lists : {X : Type 0} (f : X → BookView) (core : CoreView) (modem : Modem) (heard : Heard) (desks : List X) (n op : ℕ) → Some op ≡ holder core.plant.rows modem → n ≡ length desks → op < n → core.books ≡ map f desks
+    → step_fault core (steps.Arrive modem heard) ≡ None
+one_lists f core modem heard desks n op there long within are =
+    let book = some_at core.books op (omega (arith, long, within, length-map desks f, ap (λ (bs : List BookView). length bs) are)) in
+    rw (← there, book.1) refl
 
 -- ---- collecting
 
@@ -116,16 +137,10 @@ pub refused_is : (g : Gathering) (op frame : ℕ) (part : ElementsFields) (resul
 refused_is g op frame part result refused clause is back other =
     (clause refused.fault other).0 (is ∙ ap (λ (e : ElementsFields). Err (record { fault = refused.fault; elements = e })) back)
 
-pub misfit_is : (g : Gathering) (op frame : ℕ) (part : ElementsFields) (queues : List (List (ℕ × ElementsFields))) (waiting rest : List (ℕ × ElementsFields)) (fault : GatherFault)
-    → slice_get queues op ≡ Some waiting → waiting ≡ (frame, part) ∷ rest → put_fault g op frame part ≡ Some fault
-    → IsMisfit g op (slice_get queues op) fault
-misfit_is g op frame part queues waiting rest fault there front is = rw (there, front) is
-
-pub gather_told : (fault : GatherFault) (o : Option CoreFault) (misfit : GatherFault → Type 0) → o ≡ None → (fault ≢ gather_faults.NoMemory → misfit fault)
-    → IsTold {A = Unit {0}} (Err (core_fault_of fault)) o misfit
-gather_told gather_faults.NoMemory o misfit h m = h
-gather_told Stranger o misfit h m = (h, m (λ e. cc))
-gather_told PutTwice o misfit h m = (h, m (λ e. cc))
-gather_told WrongSlice o misfit h m = (h, m (λ e. cc))
-gather_told (Old n) o misfit h m = (h, m (λ e. cc))
-gather_told (Early n) o misfit h m = (h, m (λ e. cc))
+pub gather_told : (fault : GatherFault) (o : Option CoreFault) → o ≡ None → (fault ≢ gather_faults.NoMemory → ⊥) → IsTold {A = Unit {0}} (Err (core_fault_of fault)) o
+gather_told gather_faults.NoMemory o h never = h
+gather_told Stranger o h never = absurd (never (λ e. cc))
+gather_told PutTwice o h never = absurd (never (λ e. cc))
+gather_told WrongSlice o h never = absurd (never (λ e. cc))
+gather_told (Old n) o h never = absurd (never (λ e. cc))
+gather_told (Early n) o h never = absurd (never (λ e. cc))

@@ -9,7 +9,6 @@ use Rattle.operator_machine.specs.Replay.{BookView}
 use Rattle.operator_book.specs.declared.book.BookFault.TheVariants.{FramesSpent}
 use Rattle.map_assembly.specs.declared.refused.GatherFault.{GatherFault}
 use Rattle.map_assembly.specs.declared.refused.GatherFault.TheVariants as gather_faults
-use Rattle.map_assembly.specs.Gathering.{Gathering, put_fault}
 use Rattle.plant_runs.specs.declared.step.Step.{Step}
 use Rattle.plant_runs.specs.declared.step.Step.TheVariants as steps
 use Rattle.plant_runs.specs.Reached.{CoreView}
@@ -42,26 +41,11 @@ step_fault core (steps.Tick op) = act_fault op actions.Tick (slice_get core.book
 step_fault core (steps.Collect op) = collect_fault op (slice_get core.queues op)
 step_fault core (steps.Reslice from rows) = option_map (λ fault. Reslice fault) (reslice_fault from core.books rows)
 
--- the fault is told exactly where there is one; where there is none, only memory can be wanting, or a frame is a misfit
-abbrev pub IsTold : {A : Type 0} → Result A CoreFault → Option CoreFault → (GatherFault → Type 0) → Type 0
-IsTold (Ok x) fault misfit = fault ≡ None
-IsTold (Err NoMemory) fault misfit = fault ≡ None
-IsTold (Err (Gather refused)) fault misfit = (fault ≡ None) × misfit refused
-IsTold (Err told) fault misfit = fault ≡ Some told
-
--- nothing is a misfit
-abbrev pub NoMisfit : GatherFault → Type 0
-NoMisfit fault = ⊥
-
--- the assembly refuses the oldest frame that waits
-abbrev pub IsMisfit : Gathering → ℕ → Option (List (ℕ × ElementsFields)) → GatherFault → Type 0
-IsMisfit gathering op None fault = ⊥
-IsMisfit gathering op (Some []) fault = ⊥
-IsMisfit gathering op (Some (frame ∷ waiting)) fault = put_fault gathering op frame.0 frame.1 ≡ Some fault
-
-abbrev pub DoesNotFit : CoreView → Step → GatherFault → Type 0
-DoesNotFit core (steps.Collect op) fault = IsMisfit core.gathering op (slice_get core.queues op) fault
-DoesNotFit core step fault = ⊥
+-- the fault is told exactly where there is one; where there is none, only memory can be wanting
+abbrev pub IsTold : {A : Type 0} → Result A CoreFault → Option CoreFault → Type 0
+IsTold (Ok x) fault = fault ≡ None
+IsTold (Err NoMemory) fault = fault ≡ None
+IsTold (Err told) fault = fault ≡ Some told
 
 -- what the core answers where the assembly refuses a frame
 abbrev pub core_fault_of : GatherFault → CoreFault

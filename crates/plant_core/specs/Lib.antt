@@ -1,7 +1,7 @@
 pub mod Cached
 pub mod Waiting
 pub mod DeskView
-pub mod Own
+pub mod Reachable
 pub mod Reslicing
 pub mod Faults
 pub mod CoreView

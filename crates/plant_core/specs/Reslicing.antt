@@ -8,7 +8,7 @@ use Rattle.operator_machine.specs.declared.action.Unfit.{Unfit}
 use Rattle.operator_machine.specs.declared.action.Unfit.TheVariants as unfits
 use Rattle.operator_machine.specs.Machine.{unfit_from}
 use Rattle.operator_machine.specs.Replay.{BookView}
-use Rattle.plant_runs.specs.Steps.{slice_of}
+use Rattle.plant_runs.specs.OwnSteps.{slice_of}
 use Rattle.plant_core.specs.declared.core_fault.ResliceFault.{ResliceFault}
 use Rattle.plant_core.specs.declared.core_fault.ResliceFault.TheVariants as faults
 

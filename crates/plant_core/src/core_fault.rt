@@ -54,7 +54,7 @@ pub enum CoreFault {
     UnknownOperator { op: Op },
     /// The operator's book refused it, and not for want of memory.
     Book(BookFault),
-    /// The assembly refused it. That no opened core answers this is not proved yet.
+    /// The assembly refused it. No core answers this: each frame that waits is fit to be put.
     Gather(GatherFault),
     /// No frame of the operator waits to be collected.
     NothingToCollect { op: Op },

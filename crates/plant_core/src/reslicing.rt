@@ -4,7 +4,7 @@ ghost use Rattle.std.specs.Prelude.{◌≡◌, ℕ, ◌+◌, [], map, length, ve
 ghost use Rattle.std.specs.List.{position_from};
 ghost use Rattle.operator_machine.specs.Machine.{unfit_from};
 ghost use Rattle.plant_core.specs.Reslicing.{is_unfit, least_unfit, do_meet, least_meeting, row_fault, reslice_fault};
-ghost use Rattle.plant_core.specs.Faults.{IsTold, NoMisfit};
+ghost use Rattle.plant_core.specs.Faults.{IsTold};
 ghost use Rattle.plant_core.specs.CoreView.{core_view};
 
 use crate::core_fault::{CoreFault, ResliceFault};
@@ -115,7 +115,7 @@ impl PlantCore {
     /// and nothing has changed.
     pub(crate) fn reslice(&mut self, from: u32, rows: &[SliceRow]) -> Result<(), CoreFault>
         ensures err { OnErr result (core_view self.new ≡ core_view self.old) }
-        ensures fault { IsTold result (option_map (λ fault. CoreFault.Reslice fault) (reslice_fault from (core_view self.old).books rows.now)) NoMisfit }
+        ensures fault { IsTold result (option_map (λ fault. CoreFault.Reslice fault) (reslice_fault from (core_view self.old).books rows.now)) }
         ensures never { IsErr result }
     {
         match self.reslice_fault(from, rows) {

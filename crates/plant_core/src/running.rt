@@ -6,7 +6,7 @@ ghost use Rattle.plant_runs.specs.declared.step.Out.{Out};
 ghost use Rattle.plant_runs.specs.declared.step.Step.TheVariants as steps;
 ghost use Rattle.plant_runs.specs.Reached.{Reached};
 ghost use Rattle.plant_runs.specs.Steps.{Steps};
-ghost use Rattle.plant_core.specs.Faults.{step_fault, IsTold, NoMisfit, DoesNotFit};
+ghost use Rattle.plant_core.specs.Faults.{step_fault, IsTold};
 ghost use Rattle.plant_core.specs.CoreView.{core_view};
 
 use crate::core_fault::CoreFault;
@@ -31,7 +31,7 @@ impl PlantCore {
         ensures reached { IfOk result (λ outs. (before : List Step) (told : List Out) → Reached (core_view self.old).plant before told (core_view self.old) → Reached (core_view self.old).plant (before ++ steps.now) (told ++ outs.items) (core_view self.new)) }
         ensures stopped { IfErr result (λ stop. (before : List Step) (told : List Out) → Reached (core_view self.old).plant before told (core_view self.old) → Reached (core_view self.old).plant (before ++ take stop.at steps.now) (told ++ stop.outs.items) (core_view self.new)) }
         ensures within { IfErr result (λ stop. stop.at < length steps.now) }
-        ensures fault { IfErr result (λ stop. (step : Step) → slice_get steps.now stop.at ≡ Some step → IsTold {A = Unit {0}} (Err stop.fault) (step_fault (core_view self.new) step) (DoesNotFit (core_view self.new) step)) }
+        ensures fault { IfErr result (λ stop. (step : Step) → slice_get steps.now stop.at ≡ Some step → IsTold {A = Unit {0}} (Err stop.fault) (step_fault (core_view self.new) step)) }
     {
         let mut outs = Vec::new(alloc);
         for (at, step) in steps.iter().enumerate() {
@@ -53,7 +53,7 @@ impl PlantCore {
         ensures ok { OnOk result ((now : List Out) × (outs.new.items ≡ outs.old.items ++ now) × Steps step.now (core_view self.old) (core_view self.new) now) }
         ensures outs { OnErr result (outs.new.items ≡ outs.old.items) }
         ensures err { OnErr result (core_view self.new ≡ core_view self.old) }
-        ensures fault { IsTold result (step_fault (core_view self.old) step.now) (DoesNotFit (core_view self.old) step.now) }
+        ensures fault { IsTold result (step_fault (core_view self.old) step.now) }
     {
         match step {
             Step::Arrive { modem, heard } => self.arrive_copied(alloc, *modem, heard, outs),
@@ -75,7 +75,7 @@ impl PlantCore {
         ensures ok { OnOk result ((now : List Out) × (outs.new.items ≡ outs.old.items ++ now) × Steps (steps.Arrive modem heard.now) (core_view self.old) (core_view self.new) now) }
         ensures outs { OnErr result (outs.new.items ≡ outs.old.items) }
         ensures err { OnErr result (core_view self.new ≡ core_view self.old) }
-        ensures fault { IsTold result (step_fault (core_view self.old) (steps.Arrive modem heard.now)) NoMisfit }
+        ensures fault { IsTold result (step_fault (core_view self.old) (steps.Arrive modem heard.now)) }
     {
         let Some(op) = self.routes.place_of(modem) else {
             return Err(CoreFault::UnknownModem { modem });

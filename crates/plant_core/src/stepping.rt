@@ -8,7 +8,8 @@ ghost use Rattle.plant_runs.specs.declared.step.Step.TheVariants as steps;
 ghost use Rattle.plant_runs.specs.Reached.{Reached};
 ghost use Rattle.plant_runs.specs.OwnSteps.{under};
 ghost use Rattle.plant_runs.specs.Steps.{Acts, Collects, Steps, told_map};
-ghost use Rattle.plant_core.specs.Faults.{act_fault, collect_fault, step_fault, IsTold, NoMisfit, IsMisfit, DoesNotFit, core_fault_of};
+ghost use Rattle.plant_core.specs.Faults.{act_fault, collect_fault, step_fault, IsTold, core_fault_of};
+ghost use Rattle.plant_core.specs.Reachable.{IsOfAStep};
 ghost use Rattle.plant_core.specs.DeskView.{book_at, waiting_at};
 ghost use Rattle.plant_core.specs.CoreView.{core_view};
 
@@ -61,20 +62,21 @@ impl PlantCore {
         action: Action,
         outs: &mut Vec<Out>,
     ) -> Result<(), CoreFault>
-        requires { op < vec_len self.old.desks }
+        requires within { op < vec_len self.old.desks }
+        requires of_a_step { IsOfAStep self.old.routes op action }
         ensures ok { OnOk result ((now : List Out) × (outs.new.items ≡ outs.old.items ++ now) × Acts op action (core_view self.old) (core_view self.new) now) }
         ensures outs { OnErr result (outs.new.items ≡ outs.old.items) }
         ensures err { OnErr result (core_view self.new ≡ core_view self.old) }
-        ensures fault { IsTold result (act_fault op action (slice_get (map book_at self.old.desks.items) op)) NoMisfit }
+        ensures fault { IsTold result (act_fault op action (slice_get (map book_at self.old.desks.items) op)) }
     {
-        let desk = &mut self.desks[op];
-        if desk.book.is_spent(&action) {
+        self.always();
+        if self.desks[op].book.is_spent(&action) {
             return Err(CoreFault::Book(BookFault::FramesSpent));
         }
-        if outs.reserve(desk.book.most_outputs()).is_err() {
+        if outs.reserve(self.desks[op].book.most_outputs()).is_err() {
             return Err(CoreFault::NoMemory);
         }
-        match desk.act(alloc, action) {
+        match self.desks[op].act(alloc, action) {
             Ok(told) => {
                 append(outs, op, told);
                 Ok(())
@@ -91,10 +93,11 @@ impl PlantCore {
         action: Action,
         outs: &mut Vec<Out>,
     ) -> Result<(), CoreFault>
+        requires { IsOfAStep self.old.routes op action }
         ensures ok { OnOk result ((now : List Out) × (outs.new.items ≡ outs.old.items ++ now) × Acts op action (core_view self.old) (core_view self.new) now) }
         ensures outs { OnErr result (outs.new.items ≡ outs.old.items) }
         ensures err { OnErr result (core_view self.new ≡ core_view self.old) }
-        ensures fault { IsTold result (act_fault op action (slice_get (core_view self.old).books op)) NoMisfit }
+        ensures fault { IsTold result (act_fault op action (slice_get (core_view self.old).books op)) }
     {
         if op >= self.desks.len() {
             return Err(CoreFault::UnknownOperator { op });
@@ -113,7 +116,7 @@ impl PlantCore {
         ensures ok { OnOk result ((now : List Out) × (outs.new.items ≡ outs.old.items ++ now) × Steps (steps.Arrive modem heard) (core_view self.old) (core_view self.new) now) }
         ensures outs { OnErr result (outs.new.items ≡ outs.old.items) }
         ensures err { OnErr result (core_view self.new ≡ core_view self.old) }
-        ensures fault { IsTold result (step_fault (core_view self.old) (steps.Arrive modem heard)) NoMisfit }
+        ensures fault { IsTold result (step_fault (core_view self.old) (steps.Arrive modem heard)) }
     {
         match self.routes.place_of(modem) {
             None => Err(CoreFault::UnknownModem { modem }),
@@ -127,10 +130,10 @@ impl PlantCore {
         ensures ok { OnOk result ((now : List Out) × (outs.new.items ≡ outs.old.items ++ now) × Collects op (core_view self.old) (core_view self.new) now) }
         ensures outs { OnErr result (outs.new.items ≡ outs.old.items) }
         ensures err { OnErr result (core_view self.new ≡ core_view self.old) }
-        ensures fault { IsTold result (collect_fault op (slice_get (core_view self.old).queues op)) (IsMisfit self.old.gather op (slice_get (core_view self.old).queues op)) }
+        ensures fault { IsTold result (collect_fault op (slice_get (core_view self.old).queues op)) }
     {
-        let desk = &mut self.desks[op];
-        let oldest = match desk.oldest(alloc) {
+        self.always();
+        let oldest = match self.desks[op].oldest(alloc) {
             Err(_) => return Err(CoreFault::NoMemory),
             Ok(None) => return Err(CoreFault::NothingToCollect { op }),
             Ok(Some(oldest)) => oldest,
@@ -140,7 +143,7 @@ impl PlantCore {
         }
         match self.gather.put(alloc, op, oldest.number, oldest.elements) {
             Ok(made) => {
-                desk.collected = oldest.behind;
+                self.desks[op].collected = oldest.behind;
                 append_map(outs, made);
                 Ok(())
             }
@@ -158,7 +161,7 @@ impl PlantCore {
         ensures ok { OnOk result ((now : List Out) × (outs.new.items ≡ outs.old.items ++ now) × Collects op (core_view self.old) (core_view self.new) now) }
         ensures outs { OnErr result (outs.new.items ≡ outs.old.items) }
         ensures err { OnErr result (core_view self.new ≡ core_view self.old) }
-        ensures fault { IsTold result (collect_fault op (slice_get (core_view self.old).queues op)) (IsMisfit self.old.gather op (slice_get (core_view self.old).queues op)) }
+        ensures fault { IsTold result (collect_fault op (slice_get (core_view self.old).queues op)) }
     {
         if op >= self.desks.len() {
             return Err(CoreFault::UnknownOperator { op });
@@ -171,7 +174,7 @@ impl PlantCore {
         ensures ok { OnOk result ((now : List Out) × (outs.new.items ≡ outs.old.items ++ now) × Steps step (core_view self.old) (core_view self.new) now) }
         ensures outs { OnErr result (outs.new.items ≡ outs.old.items) }
         ensures err { OnErr result (core_view self.new ≡ core_view self.old) }
-        ensures fault { IsTold result (step_fault (core_view self.old) step) (DoesNotFit (core_view self.old) step) }
+        ensures fault { IsTold result (step_fault (core_view self.old) step) }
     {
         match step {
             Step::Arrive { modem, heard } => self.arrive(alloc, modem, heard, outs),
@@ -187,7 +190,7 @@ impl PlantCore {
         ensures ok { IfOk result (λ outs. Steps step (core_view self.old) (core_view self.new) outs.items) }
         ensures reached { IfOk result (λ outs. (before : List Step) (told : List Out) → Reached (core_view self.old).plant before told (core_view self.old) → Reached (core_view self.old).plant (before ++ step ∷ []) (told ++ outs.items) (core_view self.new)) }
         ensures err { OnErr result (core_view self.new ≡ core_view self.old) }
-        ensures fault { IsTold result (step_fault (core_view self.old) step) (DoesNotFit (core_view self.old) step) }
+        ensures fault { IsTold result (step_fault (core_view self.old) step) }
     {
         self.always();
         let mut outs = Vec::new(alloc);

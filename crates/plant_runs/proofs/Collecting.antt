@@ -16,7 +16,7 @@ use Rattle.plant_runs.specs.declared.step.Step.{Step}
 use Rattle.plant_runs.specs.declared.step.Step.TheVariants as steps
 use Rattle.plant_runs.specs.declared.step.Out.{Out}
 use Rattle.plant_runs.specs.declared.step.Out.TheVariants as out
-use Rattle.plant_runs.specs.OwnSteps.{maps_in, map_in}
+use Rattle.plant_runs.specs.OwnSteps.{maps_in, map_in, reslicing_in, reslicings_of}
 use Rattle.plant_runs.specs.Shown.{IsMapIn, IsLeast, AreMaps}
 use Rattle.plant_runs.specs.Ordered.{IsCollected}
 use Rattle.plant_runs.specs.Reached.{CoreView, AreFramesAfter, Reached}
@@ -57,9 +57,9 @@ module _ (plant : PlantFields) (before : List Step) (outs : List Out) (k : ℕ) 
   -- what is the same whether a MAP is made
   gathered_reached : (new_maps : List MapBytes) → maps_in (outs ++ now) ≡ new_maps → AreMaps plant after new_maps
       → ((i : ℕ) (row : RowFields) (waiting : List Numbered) (put : List ElementsFields) → slice_get plant.rows i ≡ Some row → slice_get new.queues i ≡ Some waiting → slice_get new.gathering.queues i ≡ Some put → AreFramesAfter plant after (length new_maps) i row waiting put)
-      → IsCollected plant before after now → new.gathering.layout ≡ old.gathering.layout → new.gathering.shares ≡ old.gathering.shares → length new.gathering.queues ≡ length queues → new.gathering.next ≡ plant.consts.first_frame + length new_maps
+      → IsCollected plant before after now → new.gathering.layout ≡ old.gathering.layout → new.gathering.shares ≡ old.gathering.shares → new.gathering.slices ≡ old.gathering.slices → new.gathering.reslicings ≡ old.gathering.reslicings → length new.gathering.queues ≡ length queues → new.gathering.next ≡ plant.consts.first_frame + length new_maps
       → Reached plant after (outs ++ now) new
-  gathered_reached new_maps maps_are maps frames told layout shares puts next = record {
+  gathered_reached new_maps maps_are maps frames told layout shares slices reslicings puts next = record {
     plant_is = ap (λ (c : CoreView). c.plant) collects.new_is ∙ reached.plant_is;
     shown = record {
       answers = answers_follow plant before outs (steps.Collect k) now old new reached moves books;
@@ -73,6 +73,11 @@ module _ (plant : PlantFields) (before : List Step) (outs : List Out) (k : ℕ) 
     gathered = record {
       layout_is = layout ∙ reached.gathered.layout_is;
       shares_are = shares ∙ reached.gathered.shares_are;
+      slices_are = slices ∙ reached.gathered.slices_are;
+      reslicings_are =
+          reslicings
+          ∙ (reached.gathered.reslicings_are
+          ∙ (sym (append-nil (reslicings_of before)) ∙ sym (filter_map-append reslicing_in before (steps.Collect k ∷ []))));
       one_each = puts ∙ (length-set old.gathering.queues k (queue_of old.gathering.queues k ++ collects.part ∷ []) ∙ reached.gathered.one_each);
       next_is = next ∙ ap (λ (ms : List MapBytes). plant.consts.first_frame + length ms) (sym maps_are);
       collected = still_within plant before outs k now old new reached collects;
@@ -91,7 +96,8 @@ module _ (plant : PlantFields) (before : List Step) (outs : List Out) (k : ℕ) 
       (record { frames = reached.shown.maps.frames; count = least; each = maps_on })
       (λ i row waiting put e f g. frames_put plant before outs k now old new reached collects i row waiting put e f (ap (λ (h : Gathering). slice_get h.queues i) (sym gathering) ∙ g))
       (subst (IsCollected plant before after) (sym none) (λ n is_least. subst (IsLeast plant after) (one_least plant before (length (maps_in outs)) n reached.shown.maps.count is_least) least))
-      (ap (λ (h : Gathering). h.layout) gathering) (ap (λ (h : Gathering). h.shares) gathering) (ap (λ (h : Gathering). length h.queues) gathering)
+      (ap (λ (h : Gathering). h.layout) gathering) (ap (λ (h : Gathering). h.shares) gathering)
+      (ap (λ (h : Gathering). h.slices) gathering) (ap (λ (h : Gathering). h.reslicings) gathering) (ap (λ (h : Gathering). length h.queues) gathering)
       (ap (λ (h : Gathering). h.next) gathering ∙ reached.gathered.next_is)
 
   -- it is, and the MAP is made
@@ -114,7 +120,8 @@ module _ (plant : PlantFields) (before : List Step) (outs : List Out) (k : ℕ) 
       (subst (λ (p : List ElementsFields). AreFramesAfter plant after (length (maps_in outs) + 1) i row waiting p) queue.2
       (frames_made plant before k (length (maps_in outs)) i row waiting queue.0 (frames_put plant before outs k now old new reached collects i row waiting queue.0 e f queue.1))))
       (subst (IsCollected plant before after) (sym one) (λ n is_least. subst (λ (m : ℕ). IsLeast plant after (m + 1)) (one_least plant before (length (maps_in outs)) n reached.shown.maps.count is_least) least))
-      (ap (λ (h : Gathering). h.layout) gathering) (ap (λ (h : Gathering). h.shares) gathering) (ap (λ (h : Gathering). length h.queues) gathering ∙ length-map queues (λ (queue : List ElementsFields). drop 1 queue))
+      (ap (λ (h : Gathering). h.layout) gathering) (ap (λ (h : Gathering). h.shares) gathering)
+      (ap (λ (h : Gathering). h.slices) gathering) (ap (λ (h : Gathering). h.reslicings) gathering) (ap (λ (h : Gathering). length h.queues) gathering ∙ length-map queues (λ (queue : List ElementsFields). drop 1 queue))
       (ap (λ (h : Gathering). h.next) gathering ∙ omega (arith, reached.gathered.next_is, long))
 
   pub collects_reached : Reached plant after (outs ++ now) new

@@ -18,4 +18,8 @@ pub mod Collected
 pub mod Making
 pub mod Collecting
 pub mod OneStep
+pub mod OwnFrames
+pub mod OwnSlices
+pub mod Fits
+pub mod Anew
 pub mod Runs

@@ -35,7 +35,7 @@ by_range n (suc count) (frame ∷ frames) h =
     let rest : map (λ (f : Numbered). f.0) frames ≡ range_with_len (n + 1) count = cc in
     (first, by_range (n + 1) count frames rest)
 
-numbers_are : (outputs : List Output) → map (λ frame. frame.0) (frames_of outputs) ≡ frames_in outputs
+pub numbers_are : (outputs : List Output) → map (λ frame. frame.0) (frames_of outputs) ≡ frames_in outputs
 numbers_are [] = refl
 numbers_are (Reply modem bytes ∷ outputs) = numbers_are outputs
 numbers_are (Silent modem cause ∷ outputs) = numbers_are outputs

@@ -19,12 +19,12 @@ pub step_reached : (plant : PlantFields) (before : List Step) (outs : List Out) 
     → Reached plant (before ++ step ∷ []) (outs ++ now) new
 step_reached plant before outs (steps.Arrive modem heard) old new now is reached gathered goes =
     let held : holder plant.rows modem ≡ Some goes.0 = ap (λ (p : PlantFields). holder p.rows modem) (sym reached.plant_is) ∙ goes.1 in
-    acts_reached plant before outs (steps.Arrive modem heard) now old new reached (λ i. refl) goes.0 (actions.Arrive modem heard)
+    acts_reached plant before outs (steps.Arrive modem heard) now old new reached (λ i. refl) goes.0 (actions.Arrive modem heard) refl
     (arrive_at plant modem heard goes.0 is held) (ap (λ o. action_at o (actions.Arrive modem heard)) held) goes.2
 step_reached plant before outs (steps.Work op) old new now is reached gathered acts =
-    acts_reached plant before outs (steps.Work op) now old new reached (λ i. refl) op actions.Work (work_at plant op) refl acts
+    acts_reached plant before outs (steps.Work op) now old new reached (λ i. refl) op actions.Work refl (work_at plant op) refl acts
 step_reached plant before outs (steps.Tick op) old new now is reached gathered acts =
-    acts_reached plant before outs (steps.Tick op) now old new reached (λ i. refl) op actions.Tick (tick_at plant op) refl acts
+    acts_reached plant before outs (steps.Tick op) now old new reached (λ i. refl) op actions.Tick refl (tick_at plant op) refl acts
 step_reached plant before outs (steps.Collect op) old new now is reached gathered collects =
     collects_reached plant before outs op now old new reached gathered collects
 step_reached plant before outs (steps.Reslice from rows) old new now is reached gathered reslices =

@@ -1,5 +1,5 @@
 -- A run is one of one step more, where that step collects nothing.
-use Rattle.std.proofs.Common.{◌≡◌, ℕ, false, List, [], ◌∷◌, ◌++◌, length, Option, Some, refl, sym, ap, ◌∙◌, subst, arith}
+use Rattle.std.proofs.Common.{◌≡◌, ℕ, false, List, [], ◌∷◌, ◌++◌, length, Option, Some, append-nil, refl, sym, ap, ◌∙◌, subst, arith}
 use Rattle.std.specs.Prelude.{slice_get}
 use Rattle.std.proofs.lemmas.Option.{slice_get_within}
 use Rattle.slice_scheduler.specs.declared.elements.ElementsFields.{ElementsFields}
@@ -7,11 +7,12 @@ use Rattle.slice_table.specs.declared.plant.PlantFields.{PlantFields}
 use Rattle.operator_machine.specs.declared.action.SliceRow.{SliceRow}
 use Rattle.operator_machine.specs.declared.action.Action.{Action}
 use Rattle.operator_machine.specs.Machine.{own_step}
+use Rattle.map_assembly.specs.declared.slicing.Reslicing.{Reslicing}
 use Rattle.map_assembly.specs.Gathering.{Gathering}
 use Rattle.plant_runs.specs.declared.step.Step.{Step}
 use Rattle.plant_runs.specs.declared.step.Step.TheVariants as steps
 use Rattle.plant_runs.specs.declared.step.Out.{Out}
-use Rattle.plant_runs.specs.OwnSteps.{maps_in, is_collect, under}
+use Rattle.plant_runs.specs.OwnSteps.{maps_in, is_collect, under, reslicings_of}
 use Rattle.plant_runs.specs.Ordered.{target, IsTold, AreOwn}
 use Rattle.plant_runs.specs.Reached.{CoreView, AreFramesAfter, Reached}
 use Rattle.plant_runs.specs.Steps.{Acts, Reslices}
@@ -25,18 +26,20 @@ use Rattle.plant_runs.proofs.Kept.{maps_same, maps_kept}
 use Rattle.plant_runs.proofs.Waiting.{EachWaits, acts_waits, acts_queues, reslices_waits, frames_follow, gathered_follows}
 use Rattle.plant_runs.proofs.InOrder.{ordered_push}
 
--- a core beside another: one plant, as many books and queues, and what is gathered
-record IsBeside (old new : CoreView) : Type 0 where
+-- a core beside another: one plant, as many books and queues, and what is gathered, but for the slices that the step gives
+record IsBeside (step : Step) (old new : CoreView) : Type 0 where
   pub plant_is : new.plant ≡ old.plant
   pub books : length new.books ≡ length old.books
   pub queues : length new.queues ≡ length old.queues
   pub layout_is : new.gathering.layout ≡ old.gathering.layout
   pub shares_are : new.gathering.shares ≡ old.gathering.shares
+  pub slices_are : new.gathering.slices ≡ old.gathering.slices
+  pub reslicings_are : new.gathering.reslicings ≡ old.gathering.reslicings ++ reslicings_of (step ∷ [])
   pub puts_are : new.gathering.queues ≡ old.gathering.queues
   pub next_is : new.gathering.next ≡ old.gathering.next
 
 module _ (plant : PlantFields) (before : List Step) (outs : List Out) (step : Step) (now : List Out) (old new : CoreView) (reached : Reached plant before outs old) (others : (i : ℕ) → is_collect i step ≡ false) where
-  plain_reached : EachMoves plant step old new now → EachWaits old new now → maps_in now ≡ [] → IsTold plant before step (target plant step) now → IsBeside old new → Reached plant (before ++ step ∷ []) (outs ++ now) new
+  plain_reached : EachMoves plant step old new now → EachWaits old new now → maps_in now ≡ [] → IsTold plant before step (target plant step) now → IsBeside step old new → Reached plant (before ++ step ∷ []) (outs ++ now) new
   plain_reached moves waits none told beside =
       let tells : EachTells plant before step now = each_tells plant before outs step now old new reached moves beside.books in
       let same : maps_in (outs ++ now) ≡ maps_in outs = maps_same plant before outs step now tells others none in
@@ -57,7 +60,7 @@ module _ (plant : PlantFields) (before : List Step) (outs : List Out) (step : St
             subst (λ (n : ℕ). AreFramesAfter plant (before ++ step ∷ []) n i row waiting put) (ap length (sym same))
             (frames_follow plant before outs step now tells others none (length (maps_in outs)) i row was.0 waiting put e (reached.gathered.collected i row e)
             (reached.frames i row was.0 put e was.1 there) (waits i was.0 waiting was.1 f));
-        gathered = gathered_follows plant before outs step now tells others none old.gathering new.gathering reached.gathered beside.layout_is beside.shares_are beside.puts_are beside.next_is;
+        gathered = gathered_follows plant before outs step now tells others none old.gathering new.gathering reached.gathered beside.layout_is beside.shares_are beside.slices_are beside.reslicings_are beside.puts_are beside.next_is;
       }
 
   -- ---- an action of one operator
@@ -73,8 +76,8 @@ module _ (plant : PlantFields) (before : List Step) (outs : List Out) (step : St
         outputs = acts.now_is ∙ (λ n. under k (own_step (is.consts_are n) (is.row_is n) (is.state_is n) action).outputs);
       }
 
-  pub acts_reached : (k : ℕ) (action : Action) → IsActionAt plant step k action → target plant step ≡ Some (k, action) → Acts k action old new now → Reached plant (before ++ step ∷ []) (outs ++ now) new
-  acts_reached k action at goes acts =
+  pub acts_reached : (k : ℕ) (action : Action) → reslicings_of (step ∷ []) ≡ [] → IsActionAt plant step k action → target plant step ≡ Some (k, action) → Acts k action old new now → Reached plant (before ++ step ∷ []) (outs ++ now) new
+  acts_reached k action none at goes acts =
       plain_reached (acts_moves plant step k action old new now at acts) (acts_waits k action old new now acts)
       (ap maps_in acts.now_is ∙ no_maps k (own_step acts.book.consts acts.book.row acts.book.state action).outputs)
       (subst (λ (o : Option (ℕ × Action)). IsTold plant before step o now) (sym goes) (own_outputs k action acts))
@@ -84,6 +87,10 @@ module _ (plant : PlantFields) (before : List Step) (outs : List Out) (step : St
         queues = acts_queues k action old new now acts;
         layout_is = ap (λ (c : CoreView). c.gathering.layout) acts.new_is;
         shares_are = ap (λ (c : CoreView). c.gathering.shares) acts.new_is;
+        slices_are = ap (λ (c : CoreView). c.gathering.slices) acts.new_is;
+        reslicings_are =
+            ap (λ (c : CoreView). c.gathering.reslicings) acts.new_is
+            ∙ (sym (append-nil old.gathering.reslicings) ∙ ap (λ (rs : List Reslicing). old.gathering.reslicings ++ rs) (sym none));
         puts_are = ap (λ (c : CoreView). c.gathering.queues) acts.new_is;
         next_is = ap (λ (c : CoreView). c.gathering.next) acts.new_is;
       })
@@ -101,6 +108,8 @@ reslices_reached plant before outs from rows now old new reached reslices =
       queues = ap (λ (qs : List (List Numbered)). length qs) reslices.queues_are;
       layout_is = ap (λ (g : Gathering). g.layout) reslices.gathering_is;
       shares_are = ap (λ (g : Gathering). g.shares) reslices.gathering_is;
+      slices_are = ap (λ (g : Gathering). g.slices) reslices.gathering_is;
+      reslicings_are = ap (λ (g : Gathering). g.reslicings) reslices.gathering_is;
       puts_are = ap (λ (g : Gathering). g.queues) reslices.gathering_is;
       next_is = ap (λ (g : Gathering). g.next) reslices.gathering_is;
     })

@@ -3,6 +3,7 @@ use Rattle.std.proofs.Common.{◌≡◌, ℕ, ◌+◌, ◌≤◌, false, List, [
 use Rattle.std.specs.Prelude.{slice_get, slice_set}
 use Rattle.std.proofs.lemmas.Bool.{cases_eq}
 use Rattle.std.proofs.lemmas.List.{length-set, take-append-le, drop-append-le}
+use Rattle.std.proofs.lemmas.List.Elements.{filter_map-append}
 use Rattle.std.proofs.lemmas.Option.{slice_get_within}
 use Rattle.slice_scheduler.specs.declared.elements.ElementsFields.{ElementsFields}
 use Rattle.slice_table.specs.declared.operator_row.RowFields.{RowFields}
@@ -11,10 +12,11 @@ use Rattle.operator_machine.specs.declared.action.SliceRow.{SliceRow}
 use Rattle.operator_machine.specs.declared.action.Action.{Action}
 use Rattle.operator_machine.specs.declared.output.Output.{Output}
 use Rattle.operator_machine.specs.Machine.{own_step}
+use Rattle.map_assembly.specs.declared.slicing.Reslicing.{Reslicing}
 use Rattle.map_assembly.specs.Gathering.{Gathering}
 use Rattle.plant_runs.specs.declared.step.Step.{Step}
 use Rattle.plant_runs.specs.declared.step.Out.{Out}
-use Rattle.plant_runs.specs.OwnSteps.{answers_of, maps_in, is_collect, collects_of}
+use Rattle.plant_runs.specs.OwnSteps.{answers_of, maps_in, is_collect, collects_of, reslicing_in, reslicings_of}
 use Rattle.plant_runs.specs.Shown.{alone}
 use Rattle.plant_runs.specs.Reached.{CoreView, frames_of, AreFramesAfter, IsGatheredAfter}
 use Rattle.plant_runs.specs.Steps.{Acts, Reslices}
@@ -79,11 +81,16 @@ module _ (plant : PlantFields) (before : List Step) (outs : List Out) (step : St
         put_are = are.put_are ∙ ap (λ (frames : List Numbered). map (λ (frame : Numbered). frame.1) (drop made frames)) (sym front);
       }
 
-  pub gathered_follows : (g after : Gathering) → IsGatheredAfter plant before outs g → after.layout ≡ g.layout → after.shares ≡ g.shares → after.queues ≡ g.queues → after.next ≡ g.next
+  pub gathered_follows : (g after : Gathering) → IsGatheredAfter plant before outs g → after.layout ≡ g.layout → after.shares ≡ g.shares → after.slices ≡ g.slices
+      → after.reslicings ≡ g.reslicings ++ reslicings_of (step ∷ []) → after.queues ≡ g.queues → after.next ≡ g.next
       → IsGatheredAfter plant (before ++ step ∷ []) (outs ++ now) after
-  gathered_follows g after is layout shares queues next = record {
+  gathered_follows g after is layout shares slices reslicings queues next = record {
     layout_is = layout ∙ is.layout_is;
     shares_are = shares ∙ is.shares_are;
+    slices_are = slices ∙ is.slices_are;
+    reslicings_are =
+        reslicings
+        ∙ (ap (λ (rs : List Reslicing). rs ++ reslicings_of (step ∷ [])) is.reslicings_are ∙ sym (filter_map-append reslicing_in before (step ∷ [])));
     one_each = ap length queues ∙ is.one_each;
     next_is = next ∙ (is.next_is ∙ ap (λ ms. plant.consts.first_frame + length ms) (sym (maps_same plant before outs step now tells others none)));
     collected = λ i row e.

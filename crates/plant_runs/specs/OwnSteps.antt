@@ -1,5 +1,6 @@
 -- Whose step a step is, and what of a plant's outputs is an operator's (own).
 use Rattle.std.specs.Prelude.{◌==◌, ℕ, List, filter_map, map, count_by, Bool, false, Option, Some, None, slice_get, if◌then◌else◌}
+use Rattle.slice_scheduler.specs.Minislots.{Minislots}
 use Rattle.slice_table.specs.declared.operator_row.RowFields.{RowFields}
 use Rattle.slice_table.specs.Row.{is_listed}
 use Rattle.operator_machine.specs.declared.action.SliceRow.{SliceRow}
@@ -7,6 +8,7 @@ use Rattle.operator_machine.specs.declared.action.Action.{Action}
 use Rattle.operator_machine.specs.declared.action.Action.TheVariants as actions
 use Rattle.operator_machine.specs.declared.output.Output.{Output}
 use Rattle.map_assembly.specs.declared.map_bytes.MapBytes.{MapBytes}
+use Rattle.map_assembly.specs.declared.slicing.Reslicing.{Reslicing}
 use Rattle.plant_runs.specs.declared.step.Step.{Step}
 use Rattle.plant_runs.specs.declared.step.Step.TheVariants as steps
 use Rattle.plant_runs.specs.declared.step.Out.{Out}
@@ -65,3 +67,20 @@ is_collect i (steps.Reslice from rows) = false
 -- how often an operator's frames were collected
 abbrev pub collects_of : ℕ → List Step → ℕ
 collects_of i all = count_by (is_collect i) all
+
+-- ---- re-slicings
+
+abbrev pub slice_of : SliceRow → Minislots
+slice_of row = record { start = row.start; length = row.length }
+
+-- the operators' slices, and the first frame that has them
+abbrev pub reslicing_in : Step → Option Reslicing
+reslicing_in (steps.Arrive modem heard) = None
+reslicing_in (steps.Work op) = None
+reslicing_in (steps.Tick op) = None
+reslicing_in (steps.Collect op) = None
+reslicing_in (steps.Reslice from rows) = Some (record { from = from; slicing = map slice_of rows })
+
+-- the re-slicings of these steps, in order
+abbrev pub reslicings_of : List Step → List Reslicing
+reslicings_of all = filter_map reslicing_in all

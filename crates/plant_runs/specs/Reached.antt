@@ -11,7 +11,7 @@ use Rattle.map_assembly.specs.Part.{share_of}
 use Rattle.map_assembly.specs.Gathering.{Gathering}
 use Rattle.plant_runs.specs.declared.step.Step.{Step}
 use Rattle.plant_runs.specs.declared.step.Out.{Out}
-use Rattle.plant_runs.specs.OwnSteps.{own_steps, maps_in, collects_of}
+use Rattle.plant_runs.specs.OwnSteps.{own_steps, maps_in, collects_of, reslicings_of}
 use Rattle.plant_runs.specs.Shown.{alone, Shown}
 use Rattle.plant_runs.specs.Ordered.{Ordered}
 
@@ -45,11 +45,13 @@ pub record AreFramesAfter (plant : PlantFields) (steps : List Step) (made : ℕ)
   pub waiting_are : waiting ≡ drop (collects_of i steps) (frames_of (alone plant.consts row i steps).outputs)
   pub put_are : put ≡ map (λ frame. frame.1) (drop made (take (collects_of i steps) (frames_of (alone plant.consts row i steps).outputs)))
 
--- what is gathered after the run: it is gathered for the plant, the next MAP is the one behind those that were made, and no
+-- what is gathered after the run: it is gathered for the plant and its re-slicings, the next MAP is the one behind those that were made, and no
 -- more frames of an operator were collected than it put out
 pub record IsGatheredAfter (plant : PlantFields) (steps : List Step) (outs : List Out) (gathering : Gathering) : Type 0 where
   pub layout_is : gathering.layout ≡ layout_of plant.consts
   pub shares_are : gathering.shares ≡ map share_of plant.rows
+  pub slices_are : gathering.slices ≡ map (λ row. row.slice) plant.rows
+  pub reslicings_are : gathering.reslicings ≡ reslicings_of steps
   pub one_each : length gathering.queues ≡ length plant.rows
   pub next_is : gathering.next ≡ plant.consts.first_frame + length (maps_in outs)
   pub collected : (i : ℕ) (row : RowFields) → slice_get plant.rows i ≡ Some row → collects_of i steps ≤ length (frames_of (alone plant.consts row i steps).outputs)

@@ -1,6 +1,5 @@
 -- What one step makes of a core (own).
 use Rattle.std.specs.Prelude.{◌≡◌, ℕ, List, [], ◌∷◌, ◌++◌, map, length, AllPairs, slice_get, slice_set, false, Option, Some, None}
-use Rattle.slice_scheduler.specs.Minislots.{Minislots}
 use Rattle.slice_scheduler.specs.declared.elements.ElementsFields.{ElementsFields}
 use Rattle.slice_table.specs.Plant.{slices_meet}
 use Rattle.slice_table.specs.Roster.{holder}
@@ -16,7 +15,7 @@ use Rattle.plant_runs.specs.declared.step.Step.{Step}
 use Rattle.plant_runs.specs.declared.step.Step.TheVariants as steps
 use Rattle.plant_runs.specs.declared.step.Out.{Out}
 use Rattle.plant_runs.specs.declared.step.Out.TheVariants as outs
-use Rattle.plant_runs.specs.OwnSteps.{under}
+use Rattle.plant_runs.specs.OwnSteps.{under, slice_of}
 use Rattle.plant_runs.specs.Reached.{CoreView, frames_of}
 
 -- the operator at place i acts by its own machine, its frames wait to be collected, and all else is as it was
@@ -47,9 +46,6 @@ pub record Collects (i : ℕ) (old new : CoreView) (now : List Out) : Type 0 whe
   pub made_is : IsAnswer old.gathering i frame part made
   pub new_is : new ≡ record old { queues = slice_set old.queues i waiting; gathering = after_put old.gathering i part }
   pub now_is : now ≡ told_map made
-
-abbrev pub slice_of : SliceRow → Minislots
-slice_of row = record { start = row.start; length = row.length }
 
 -- each operator takes its own row, and the assembly the slices, from that frame on
 pub record Reslices (from : ℕ) (rows : List SliceRow) (old new : CoreView) (now : List Out) : Type 0 where

@@ -1,0 +1,167 @@
+-- The frame that an operator's next collection takes is fit to be put.
+use Rattle.std.proofs.Common.{◌≡◌, ℕ, zero, suc, ◌+◌, ◌-◌, ◌<◌, ◌≤◌, Bool, true, false, List, [], ◌∷◌, length, map, take, drop, All, Option, Some, None, option_map, refl, sym, ap, ◌∙◌, subst, arith, nat_le, nat_lt}
+use Rattle.std.specs.Prelude.{slice_get, slice_index_or, count_by}
+use Rattle.std.specs.List.{AllByRecursion, list_all}
+use Rattle.std.proofs.lemmas.Bool.{and_from, lt-leb, ltb-false, le-leb, eq-eqb, false_from_ne_true, ltb-true}
+use Rattle.std.proofs.lemmas.List.{length-map}
+use Rattle.std.proofs.lemmas.List.Elements.{recursion_from_All, All-get_or}
+use Rattle.std.proofs.lemmas.Option.{none-some, same_Some, slice_get-map, slice_get_within, get_or_from_slice_get}
+use Rattle.slice_scheduler.specs.Minislots.{Minislots}
+use Rattle.slice_scheduler.specs.declared.elements.ElementsFields.{ElementsFields}
+use Rattle.slice_table.specs.declared.consts.ConstsFields.{ConstsFields}
+use Rattle.slice_table.specs.declared.operator_row.RowFields.{RowFields}
+use Rattle.slice_table.specs.declared.plant.PlantFields.{PlantFields}
+use Rattle.slice_table.specs.Row.{IsRowOf}
+use Rattle.slice_table.specs.Plant.{IsPlant}
+use Rattle.operator_machine.specs.declared.action.Action.{Action}
+use Rattle.operator_machine.specs.State.{opened}
+use Rattle.operator_machine.specs.Slices.{reslicings_in, slice_at, MayRun}
+use Rattle.operator_machine.specs.Sound.{IsSound}
+use Rattle.operator_machine.proofs.OpenedLemmas.{opened_sound}
+use Rattle.operator_machine.proofs.SliceLemmas.{run-frames}
+use Rattle.map_assembly.specs.declared.share.Share.{Share}
+use Rattle.map_assembly.specs.declared.slicing.Reslicing.{Reslicing}
+use Rattle.map_assembly.specs.Part.{share_of, is_fitting, is_slice}
+use Rattle.map_assembly.specs.Plan.{IsInFrame, AreSlices}
+use Rattle.map_assembly.specs.Gathering.{Gathering, frame_slices, slices_at, queue_of, next_of, fits_at, is_part, put_fault, IsGathering}
+use Rattle.plant_runs.specs.declared.step.Step.{Step}
+use Rattle.plant_runs.specs.declared.step.Out.{Out}
+use Rattle.plant_runs.specs.OwnSteps.{own_steps, maps_in, collects_of, reslicings_of}
+use Rattle.plant_runs.specs.Shown.{alone}
+use Rattle.plant_runs.specs.Reached.{CoreView, frames_of, AreFramesAfter, Reached}
+use Rattle.plant_runs.proofs.Entries.{some_at}
+use Rattle.plant_runs.proofs.Numbers.{Numbered, AreNumbered, are_numbered}
+use Rattle.plant_runs.proofs.Collected.{put_length}
+use Rattle.plant_runs.proofs.OwnFrames.{at_place, IsOwn, run_own, told_may, of_slices}
+use Rattle.plant_runs.proofs.OwnSlices.{HaveOne, own_of, own_reslicings, own_slice}
+
+-- ---- what stands where
+
+number_at : (n m : ℕ) (frames : List Numbered) (frame : Numbered) → AreNumbered n frames → slice_get frames m ≡ Some frame → frame.0 ≡ n + m
+number_at n m [] frame h e = let f : ◌≡◌ {A = Option Numbered} None (Some frame) = e in absurd (none-some frame f)
+number_at n zero (x ∷ frames) frame h e = let is : x ≡ frame = same_Some x frame e in omega (arith, h.0, ap (λ (f : Numbered). f.0) is)
+number_at n (suc m) (x ∷ frames) frame h e = omega (arith, number_at (n + 1) m frames frame h.1 e)
+
+first_behind : {X : Type 0} (xs rest : List X) (n : ℕ) (x : X) → drop n xs ≡ x ∷ rest → slice_get xs n ≡ Some x
+first_behind [] rest zero x e = ap (λ ys. slice_get ys 0) e
+first_behind [] rest (suc n) x e = ap (λ ys. slice_get ys 0) e
+first_behind (y ∷ ys) rest zero x e = ap (λ zs. slice_get zs 0) e
+first_behind (y ∷ ys) rest (suc n) x e = first_behind ys rest n x e
+
+pub queue_there : (queues : List (List ElementsFields)) (i : ℕ) (queue : List ElementsFields) → slice_get queues i ≡ Some queue → queue_of queues i ≡ queue
+queue_there [] i queue e = let f : ◌≡◌ {A = Option (List ElementsFields)} None (Some queue) = e in absurd (none-some queue f)
+queue_there (q ∷ queues) zero queue e = same_Some q queue e
+queue_there (q ∷ queues) (suc i) queue e = queue_there queues i queue e
+
+not_lt : (a b : ℕ) → b ≤ a → nat_lt a b ≡ false
+not_lt a b le = false_from_ne_true (nat_lt a b) (λ h. omega (arith, le, ltb-true a b h))
+
+-- ---- fit
+
+fitting : (row : RowFields) (slice : Minislots) (part : ElementsFields) → part.slice ≡ slice → IsOwn row part → is_fitting (share_of row) slice part ≡ true
+fitting row slice part same own =
+    and_from _ _
+    (and_from _ _
+    (and_from (is_slice part.slice slice) _
+    (subst (λ (m : Minislots). is_slice part.slice m ≡ true) same (and_from _ _ (eq-eqb part.slice.start part.slice.start refl) (eq-eqb part.slice.length part.slice.length refl)))
+    own.spans)
+    own.pending)
+    (le-leb (length part.spans + length part.pending) (row.elements + 1) own.few)
+
+-- each slice list has one slice for each operator
+pub have_one : (n i : ℕ) (rs : List Reslicing) → i < n → AllByRecursion (λ (r : Reslicing). length r.slicing ≡ n) rs → HaveOne i rs
+have_one n i [] within h = tt
+have_one n i (r ∷ rs) within h = (omega (arith, within, h.0), have_one n i rs within h.1)
+
+pub lengths_of : {P : Reslicing → Type 0} (n : ℕ) → ((r : Reslicing) → P r → length r.slicing ≡ n) → (rs : List Reslicing) → AllByRecursion P rs → AllByRecursion (λ (r : Reslicing). length r.slicing ≡ n) rs
+lengths_of n f [] h = tt
+lengths_of n f (r ∷ rs) h = (f r h.0, lengths_of n f rs h.1)
+
+-- ---- an operator after a run
+
+module _ (plant : PlantFields) (done : List Step) (outs : List Out) (core : CoreView) (valid : IsPlant plant) (reached : Reached plant done outs core) (is : IsGathering core.gathering)
+    (i : ℕ) (row : RowFields) (here : slice_get plant.rows i ≡ Some row) where
+  abbrev own : List Action
+  own = own_steps row i done
+
+  abbrev frames : List Numbered
+  frames = frames_of (alone plant.consts row i done).outputs
+
+  within : i < length plant.rows
+  within = slice_get_within plant.rows i row here
+
+  shares_long : length core.gathering.shares ≡ length plant.rows
+  shares_long = ap length reached.gathered.shares_are ∙ length-map plant.rows share_of
+
+  pub may : MayRun plant.consts row (opened plant.consts row) own
+  may =
+      let book = some_at core.books i (omega (arith, within, reached.one_book)) in
+      let after = reached.books i row book.0 here book.1 in
+      subst (MayRun plant.consts row (opened plant.consts row)) after.actions_are (told_may plant.consts row (opened plant.consts row) book.0.history after.replay.told)
+
+  slice_some : 1 ≤ row.slice.length
+  slice_some =
+      let first : slice_get core.gathering.slices i ≡ Some row.slice =
+      ap (λ (ms : List Minislots). slice_get ms i) reached.gathered.slices_are ∙ (slice_get-map (λ (r : RowFields). r.slice) plant.rows i ∙ ap (option_map (λ (r : RowFields). r.slice)) here) in
+      (at_place (IsInFrame core.gathering.layout) core.gathering.slices i row.slice (recursion_from_All (IsInFrame core.gathering.layout) core.gathering.slices is.slices_are.each) first).some
+
+  pub sound : IsSound plant.consts row (opened plant.consts row)
+  sound = opened_sound plant.consts row (at_place (IsRowOf plant.consts) plant.rows i row (recursion_from_All (IsRowOf plant.consts) plant.rows valid.rows) here) slice_some
+
+  pub one_each : HaveOne i (reslicings_of done)
+  one_each =
+      have_one (length core.gathering.shares) i (reslicings_of done) (omega (arith, within, shares_long))
+      (subst (λ (rs : List Reslicing). AllByRecursion (λ (r : Reslicing). length r.slicing ≡ length core.gathering.shares) rs) reached.gathered.reslicings_are
+      (lengths_of (length core.gathering.shares) (λ r valid. valid.one_each) core.gathering.reslicings
+      (recursion_from_All (λ (r : Reslicing). AreSlices core.gathering.layout (length core.gathering.shares) r.slicing) core.gathering.reslicings is.reslicings_are)))
+
+  -- the operator's slice of a frame, where the assembly looks it up
+  slice_there : (frame : ℕ) → slice_get (frame_slices core.gathering frame) i ≡ Some (slice_at row.slice (reslicings_in own) frame)
+  slice_there frame =
+      ap (λ (ms : List Minislots). slice_get (slices_at ms core.gathering.reslicings frame) i) reached.gathered.slices_are
+      ∙ (ap (λ (rs : List Reslicing). slice_get (slices_at (map (λ (r : RowFields). r.slice) plant.rows) rs frame) i) reached.gathered.reslicings_are
+      ∙ (own_slice i frame (map (λ (r : RowFields). r.slice) plant.rows) row.slice (slice_get-map (λ (r : RowFields). r.slice) plant.rows i ∙ ap (option_map (λ (r : RowFields). r.slice)) here) (reslicings_of done) one_each
+      ∙ ap (λ rs. let o : Option Minislots = Some (slice_at row.slice rs frame) in o) (sym (own_reslicings row i done one_each))))
+
+  pub part_fits : (n : ℕ) (frame : Numbered) → slice_get frames n ≡ Some frame → is_part core.gathering i frame.0 frame.1 ≡ true
+  part_fits n frame e =
+      let share : slice_get core.gathering.shares i ≡ Some (share_of row) =
+      ap (λ (ss : List Share). slice_get ss i) reached.gathered.shares_are ∙ (slice_get-map share_of plant.rows i ∙ ap (option_map share_of) here) in
+      let same = at_place (λ (f : Numbered). f.1.slice ≡ slice_at row.slice (reslicings_in own) f.0) frames n frame
+      (of_slices (slice_at row.slice (reslicings_in own)) (alone plant.consts row i done).outputs (run-frames plant.consts row own may)) e in
+      let mine = at_place (λ (f : Numbered). IsOwn row f.1) frames n frame (run_own plant.consts row (opened plant.consts row) own sound may) e in
+      rw (share, slice_there frame.0) (fitting row (slice_at row.slice (reslicings_in own) frame.0) frame.1 same mine)
+
+  -- how far an operator's parts are put
+  pub put_so_far : next_of core.gathering i ≡ plant.consts.first_frame + collects_of i done
+  put_so_far =
+      let queue = some_at core.queues i (omega (arith, within, reached.one_queue)) in
+      let put = some_at core.gathering.queues i (omega (arith, within, reached.gathered.one_each)) in
+      let after = reached.frames i row queue.0 put.0 here queue.1 put.1 in
+      let long : length (queue_of core.gathering.queues i) ≡ collects_of i done - length (maps_in outs) =
+      ap (λ (q : List ElementsFields). length q) (queue_there core.gathering.queues i put.0 put.1 ∙ after.put_are)
+      ∙ put_length (length (maps_in outs)) (collects_of i done) frames (reached.gathered.collected i row here) in
+      let least = reached.shown.maps.count.at_most i within in
+      omega (arith, reached.gathered.next_is, long, least)
+
+  pub front_fits : (frame : ℕ) (part : ElementsFields) (waiting : List Numbered) → slice_get core.queues i ≡ Some ((frame, part) ∷ waiting) → put_fault core.gathering i frame part ≡ None
+  front_fits frame part waiting e =
+      let put = some_at core.gathering.queues i (omega (arith, within, reached.gathered.one_each)) in
+      let after = reached.frames i row ((frame, part) ∷ waiting) put.0 here e put.1 in
+      let there : slice_get frames (collects_of i done) ≡ Some (frame, part) = first_behind frames waiting (collects_of i done) (frame, part) (sym after.waiting_are) in
+      let number = number_at plant.consts.first_frame (collects_of i done) frames (frame, part) (are_numbered plant.consts row i done) there in
+      let least = reached.shown.maps.count.at_most i within in
+      rw (
+        lt-leb (length core.gathering.shares) i (omega (arith, within, shares_long)),
+        not_lt frame core.gathering.next (omega (arith, number, least, reached.gathered.next_is)),
+        not_lt frame (next_of core.gathering i) (omega (arith, number, put_so_far)),
+        not_lt (next_of core.gathering i) frame (omega (arith, number, put_so_far)),
+        part_fits (collects_of i done) (frame, part) there,
+      ) refl
+
+pub waiting_fits : (plant : PlantFields) (done : List Step) (outs : List Out) (core : CoreView) (i frame : ℕ) (part : ElementsFields) (waiting : List Numbered) → IsPlant plant → Reached plant done outs core → IsGathering core.gathering
+    → slice_get core.queues i ≡ Some ((frame, part) ∷ waiting) → put_fault core.gathering i frame part ≡ None
+waiting_fits plant done outs core i frame part waiting valid reached is e =
+    let within = slice_get_within core.queues i ((frame, part) ∷ waiting) e in
+    let row = some_at plant.rows i (omega (arith, within, reached.one_queue)) in
+    front_fits plant done outs core valid reached is i row.0 row.1 frame part waiting e
