@@ -2,3 +2,4 @@ pub mod Splits
 pub mod Scripts
 pub mod Bars
 pub mod Tasks
+pub mod StepRuns

@@ -1,6 +1,7 @@
 -- What a task's run answers.
-use Rattle.std.proofs.Common.{◌≡◌, ℕ, zero, suc, ◌+◌, ◌⊎◌, inl, inr, Bool, List, [], ◌∷◌, Option, Some, None, Result, Ok, Err, IfOk, sym, ap, subst, arith, refl}
+use Rattle.std.proofs.Common.{◌≡◌, ℕ, zero, suc, ◌+◌, ◌⊎◌, inl, inr, Bool, List, [], ◌∷◌, Option, Some, None, Result, Ok, Err, IfOk, IfSome, sym, ap, subst, arith, refl}
 use Rattle.std.specs.Prelude.{slice_get}
+use Rattle.std.specs.Io.KnownBytes.{Appends}
 use Rattle.std.specs.List.{position_from}
 use Rattle.std.proofs.lemmas.Bool.{cases_Bool}
 use Rattle.slice_table.specs.declared.operator_row.RowFields.{RowFields}
@@ -9,11 +10,12 @@ use Rattle.plant_runs.specs.declared.step.Step.{Step}
 use Rattle.plant_runs.specs.declared.step.Out.{Out}
 use Rattle.plant_script.specs.declared.script.LineStep.{LineStep}
 use Rattle.plant_script.specs.declared.task.Told.TheVariants.{History}
+use Rattle.plant_script.specs.declared.task.Task.{Task}
 use Rattle.plant_script.specs.declared.task.Served.{Served}
 use Rattle.plant_script.specs.declared.task.Served.TheVariants as served
 use Rattle.plant_script.specs.Run.{history_text, IsRunOf}
 use Rattle.plant_script.specs.Task.{history_at, said, Comes}
-use Rattle.plant_script.specs.Words.{AnswersSteps}
+use Rattle.plant_script.specs.Words.{Order, Answers, AnswersSteps}
 
 same_some : {A : Type 0} (x y : A) → ◌≡◌ {A = Option A} (Some x) (Some y) → x ≡ y
 same_some x y h = cc
@@ -48,3 +50,15 @@ comes_of_operator plant op row lines (served.Task task) here h = λ status text 
 pub if_ok : {T E : Type 0} (r : Result T E) (P Q : T → Type 0) → ((x : T) → P x → Q x) → IfOk r P → IfOk r Q
 if_ok (Ok x) P Q f h = f x h
 if_ok (Err e) P Q f h = tt
+
+pub same_order : (a b : Order) → ◌≡◌ {A = Option Order} (Some a) (Some b) → a ≡ b
+same_order a b e = same_some a b e
+
+-- what the run of a task came to is the answer, and is written
+pub run_serves : (left : Option (List ℕ)) (order asked : Order) (task : Task) (status result : ℕ) (text : List ℕ) (before after : Option (List ℕ))
+    → IfSome left (λ input. Comes (served.Task task) (Answers order input)) → order ≡ asked
+    → IsRunOf task.plant task.lines.items (said task.plant task.told) status text → result ≡ status → Appends before after text
+    → IfSome left (λ input. (x : List ℕ) × Answers asked input result x × Appends before after x)
+run_serves None order asked task status result text before after serves same ran is appended = tt
+run_serves (Some input) order asked task status result text before after serves same ran is appended =
+    (text, subst (λ (n : ℕ). Answers asked input n text) (sym is) (subst (λ (o : Order). Answers o input status text) same (serves status text ran)), appended)

@@ -13,9 +13,9 @@ mod program;
 mod running;
 mod script;
 mod task;
-mod text;
 #[cfg(test)]
 mod tests;
+mod text;
 
 use program::run_program;
 use std::process::ExitCode;

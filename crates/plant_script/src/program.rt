@@ -153,11 +153,12 @@ pub fn run_program<R: Read, W: Write>(
     let mut rankings = Vec::new(alloc);
     for row in task.plant.rows() {
         let policy = row.get_fields().policy;
-        let rank = match Box::new(alloc, move |input: RankInput| -> u8 { rank_by(policy, &input) }) {
-            Ok(rank) => rank,
-            Err(_full) => return stopped(writer, Stop::Memory),
+        let Ok(rank) = Box::new(alloc, move |input: RankInput| -> u8 {
+            rank_by(policy, &input)
+        }) else {
+            return stopped(writer, Stop::Memory);
         };
-        let ranking = Ranking::new(policy, rank);
+        let ranking = Ranking::new(row.get_fields().policy, rank);
         if rankings.push(ranking).is_err() {
             return stopped(writer, Stop::Memory);
         }

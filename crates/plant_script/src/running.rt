@@ -1,10 +1,11 @@
 //! A script's run on a plant's core.
 
-ghost use Rattle.std.specs.Prelude.{◌≡◌, [], map, slice_get, IfOk};
+ghost use Rattle.std.specs.Prelude.{◌≡◌, ◌≢◌, ◌++◌, [], map, slice_get, Some, IfOk, OnOk};
 ghost use Rattle.std.specs.String.{string_bytes};
 ghost use Rattle.plant_runs.specs.Reached.{Reached};
+ghost use Rattle.plant_core.specs.declared.core_fault.CoreFault.TheVariants.{NoMemory};
 ghost use Rattle.plant_core.specs.CoreView.{core_view};
-ghost use Rattle.plant_script.specs.DoneSoFar.{HasRun};
+ghost use Rattle.plant_script.specs.DoneSoFar.{HasRun, book_text};
 ghost use Rattle.plant_script.specs.Run.{outs_text, IsRunOf};
 ghost use Rattle.plant_script.specs.Task.{history_at, said, IsEnded};
 
@@ -16,6 +17,16 @@ use grant_policy::Ranking;
 use plant_core::{CoreFault, CoreOpenFault, PlantCore};
 use slice_table::Op;
 use std::alloc::{AllocError, Global};
+
+/// The number of a line whose step is refused, other than for want of memory.
+fn refused(number: u64, fault: CoreFault) -> Result<Option<u64>, AllocError>
+    ensures { IfOk result (λ refused. (refused ≡ Some number) × (fault ≢ NoMemory)) }
+{
+    match fault {
+        CoreFault::NoMemory => Err(AllocError),
+        _ => Ok(Some(number)),
+    }
+}
 
 /// Does the steps of lines, and adds a line for each output. Answers the number of the first line whose step is refused,
 /// at which it stops; none where all are done.
@@ -32,8 +43,7 @@ fn run_outs(
     for LineStep { number, step } in lines {
         match core.step(alloc, step) {
             Ok(outs) => put_outs(alloc, text, core.plant(), outs.as_slice())?,
-            Err(CoreFault::NoMemory) => return Err(AllocError),
-            Err(_fault) => return Ok(Some(number)),
+            Err(fault) => return refused(number, fault),
         }
     }
     Ok(None)
@@ -51,8 +61,7 @@ fn run_unheard(
     for LineStep { number, step } in lines {
         match core.step(alloc, step) {
             Ok(_outs) => {}
-            Err(CoreFault::NoMemory) => return Err(AllocError),
-            Err(_fault) => return Ok(Some(number)),
+            Err(fault) => return refused(number, fault),
         }
     }
     Ok(None)
@@ -85,6 +94,16 @@ fn answer_of_outs(
     ended(text, refused)
 }
 
+/// The lines of all that an operator did; none past the last operator.
+fn put_history(alloc: Global, text: &mut String, core: &PlantCore, op: Op) -> Result<(), AllocError>
+    ensures { OnOk result (string_bytes text.new ≡ string_bytes text.old ++ book_text (slice_get (core_view core.now).books op)) }
+{
+    match core.history(op) {
+        Some(history) => put_actions(alloc, text, history),
+        None => Ok(()),
+    }
+}
+
 /// What `history` of an operator answers.
 fn answer_of_history(
     alloc: Global,
@@ -97,9 +116,7 @@ fn answer_of_history(
 {
     let refused = run_unheard(alloc, core, lines)?;
     let mut text = String::new(alloc);
-    if let Some(history) = core.history(op) {
-        put_actions(alloc, &mut text, history)?;
-    }
+    put_history(alloc, &mut text, core, op)?;
     ended(text, refused)
 }
 

@@ -62,12 +62,7 @@ fn task_of_script(alloc: Global, plant: Plant, told: Told, script: &[u8]) -> Res
 }
 
 /// The run of a script, told of the operator of this name.
-fn task_of_operator(
-    alloc: Global,
-    plant: Plant,
-    name: &str,
-    script: &[u8],
-) -> Result<Served, Stop>
+fn task_of_operator(alloc: Global, plant: Plant, name: &str, script: &[u8]) -> Result<Served, Stop>
     ensures value { IfOk result (λ served. Comes served (AnswersHistory plant script.now (position_from (is_named name.now) 0 plant.rows))) }
     ensures memory { IfErr result (λ stop. stop ≡ Memory) }
 {

@@ -130,12 +130,7 @@ fn put_output(
 }
 
 /// The line of an output.
-fn put_out(
-    alloc: Global,
-    text: &mut String,
-    plant: &Plant,
-    out: &Out,
-) -> Result<(), AllocError>
+fn put_out(alloc: Global, text: &mut String, plant: &Plant, out: &Out) -> Result<(), AllocError>
     ensures { OnOk result (string_bytes text.new ≡ string_bytes text.old ++ out_line plant.now out.now) }
 {
     match out {
