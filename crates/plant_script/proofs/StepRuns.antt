@@ -1,5 +1,5 @@
 -- The steps of a script's lines, one after the other.
-use Rattle.std.proofs.Common.{◌≡◌, ◌≢◌, ℕ, zero, suc, ◌<◌, ◌≤◌, length, arith, List, [], ◌∷◌, ◌++◌, map, take, drop, Option, Some, None, IsSome, Result, Ok, Err, refl, sym, ap, subst, ◌∙◌, append-nil}
+use Rattle.std.proofs.Common.{◌≡◌, ◌≢◌, ℕ, zero, suc, ◌<◌, ◌≤◌, length, arith, List, [], ◌∷◌, ◌++◌, take, drop, Option, Some, None, IsSome, Err, refl, sym, ap, subst, ◌∙◌, append-nil}
 use Rattle.std.specs.Prelude.{slice_get}
 use Rattle.std.proofs.lemmas.List.{map-append}
 use Rattle.std.proofs.lemmas.Grind.{flat_map-append}
@@ -16,7 +16,7 @@ use Rattle.plant_script.specs.declared.script.LineStep.{LineStep}
 use Rattle.plant_script.specs.declared.answer.Answer.{Answer}
 use Rattle.plant_script.specs.Run.{steps_in, out_line, outs_text, actions_text, last_line, IsEnd, IsRunOf}
 use Rattle.plant_script.specs.Task.{history_at, IsEnded}
-use Rattle.plant_script.specs.DoneSoFar.{AreDone, IsRefused, HasRun, IsHalfDone, book_text}
+use Rattle.plant_script.specs.DoneSoFar.{IsRefused, HasRun, IsHalfDone, book_text}
 
 -- ---- what is left of a list
 
