@@ -1,3 +1,5 @@
 pub mod Splits
 pub mod Scripts
 pub mod Bars
+pub mod Tasks
+pub mod StepRuns

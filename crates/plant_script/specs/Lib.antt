@@ -12,3 +12,6 @@ pub mod ReadSoFar
 pub mod SplitSoFar
 pub mod SaidSoFar
 pub mod RunSoFar
+pub mod Run
+pub mod DoneSoFar
+pub mod Task

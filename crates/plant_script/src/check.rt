@@ -1,6 +1,7 @@
 //! The word `check`: a plant file and a script, and whether both are well.
 
 ghost use Rattle.std.specs.Prelude.{◌≡◌, ◌≤◌, ◌++◌, ◌∷◌, [], codes, length, true, IfOk, IfErr};
+ghost use Rattle.std.specs.Fmt.{decimal};
 ghost use Rattle.std.specs.Str.{is_utf8};
 ghost use Rattle.std.specs.String.{string_bytes};
 ghost use Rattle.plant_script.specs.Check.{is_bar, before_bar, plant_text, script_text, fault_text, answer_to_steps, check_of};
@@ -23,7 +24,7 @@ fn is_bar(bytes: &[u8]) -> bool
 }
 
 /// How many bytes stand before the first line of three dashes.
-fn before_bar(input: &[u8]) -> usize
+pub fn before_bar(input: &[u8]) -> usize
     ensures value { result ≡ before_bar true input.now }
     ensures inside { result ≤ length input.now }
 {
@@ -61,9 +62,27 @@ fn plant_line(alloc: Global, fault: PlantFault) -> Result<String, AllocError>
     }
 }
 
+/// What is answered to a plant at fault.
+pub fn answer_to_fault(alloc: Global, fault: PlantFault) -> Result<Answer, AllocError>
+    ensures { IfOk result (λ answer. (answer.status ≡ 3) × (answer.text.items ≡ codes "fault: plant " ++ fault_text fault)) }
+{
+    let line = plant_line(alloc, fault)?;
+    let text = line.into_bytes();
+    Ok(Answer { status: 3, text })
+}
+
+/// What is answered to a line at fault.
+pub fn answer_to_line(alloc: Global, number: u64) -> Result<Answer, AllocError>
+    ensures { IfOk result (λ answer. (answer.status ≡ 4) × (answer.text.items ≡ codes "fault: line " ++ (decimal number ++ 10 ∷ []))) }
+{
+    let line = format!(in alloc; "fault: line {number}\n")?;
+    let text = line.into_bytes();
+    Ok(Answer { status: 4, text })
+}
+
 /// What stands before that line.
 #[tactic(auto, unfolding(crate::specs::Check::plant_text))]
-fn plant_text(input: &[u8], place: usize) -> &str
+pub fn plant_text(input: &[u8], place: usize) -> &str
     requires utf8 { is_utf8 input.now ≡ true }
     requires place { place ≡ before_bar true input.now }
     requires inside { place ≤ length input.now }
@@ -77,7 +96,7 @@ fn plant_text(input: &[u8], place: usize) -> &str
 
 /// What stands behind it.
 #[tactic(auto, unfolding(crate::specs::Check::script_text))]
-fn script_text(input: &[u8], place: usize) -> &[u8]
+pub fn script_text(input: &[u8], place: usize) -> &[u8]
     requires place { place ≡ before_bar true input.now }
     requires inside { place ≤ length input.now }
     ensures { result.now ≡ script_text input.now }
@@ -99,11 +118,7 @@ fn answer_to_script(alloc: Global, plant: &Plant, script: &[u8]) -> Result<Answe
             status: 0,
             text: Vec::from_slice(alloc, b"ok\n")?,
         }),
-        Err(LineFault::Shape { number }) => {
-            let line = format!(in alloc; "fault: line {number}\n")?;
-            let text = line.into_bytes();
-            Ok(Answer { status: 4, text })
-        }
+        Err(LineFault::Shape { number }) => Ok(answer_to_line(alloc, number)?),
         Err(LineFault::NoMemory) => Err(Stop::Memory),
     }
 }
@@ -119,10 +134,6 @@ pub fn check_of(alloc: Global, input: &[u8]) -> Result<Answer, Stop>
     match read_plant(alloc, plant_text(input, place)) {
         Ok(plant) => answer_to_script(alloc, &plant, script_text(input, place)),
         Err(PlantFault::NoMemory) => Err(Stop::Memory),
-        Err(fault) => {
-            let line = plant_line(alloc, fault)?;
-            let text = line.into_bytes();
-            Ok(Answer { status: 3, text })
-        }
+        Err(fault) => Ok(answer_to_fault(alloc, fault)?),
     }
 }

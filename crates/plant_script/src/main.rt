@@ -1,5 +1,6 @@
 //! The plant's program. Its words so far: `one` reads messages of a modem, a line each, and prints the answers of the
-//! modem's operator; `check` reads a plant file and a script, and says whether both are well.
+//! modem's operator; `check` reads a plant file and a script, and says whether both are well; `run` does the script's steps
+//! on the plant, and prints all that they put out; `history OP` does so too, and prints what the operator OP did.
 #![tactic(auto)]
 
 mod answer;
@@ -10,9 +11,14 @@ mod lines;
 mod one;
 mod operator_a;
 mod program;
+#[cfg(test)]
+mod run_tests;
+mod running;
 mod script;
+mod task;
 #[cfg(test)]
 mod tests;
+mod text;
 
 use program::run_program;
 use std::process::ExitCode;

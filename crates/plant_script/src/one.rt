@@ -14,7 +14,8 @@ use operator_book::{Action, Book, BookFault, Cause, Heard, OpenFault, Output};
 use std::alloc::{AllocError, Global};
 use tlv24::Bytes;
 
-fn name_of(cause: Cause) -> &'static str
+/// The name of a cause, as it is written.
+pub fn name_of(cause: Cause) -> &'static str
     ensures { result.now ≡ name_of cause }
 {
     match cause {

@@ -53,7 +53,7 @@ fn is_named(row: &OperatorRow, name: &[u8]) -> bool
 }
 
 /// The first operator of this name.
-fn place_of(rows: &[OperatorRow], name: &[u8]) -> Option<Op>
+pub fn place_of(rows: &[OperatorRow], name: &[u8]) -> Option<Op>
     ensures { result ≡ position_from (is_named name.now) 0 rows.now }
 {
     rows.iter().position(|row| is_named(row, name))

@@ -12,7 +12,7 @@ const ADDITION: &str = "0F0001180A010200010601060F0102\n";
 const REPLY: &str = "10000100180E0102000102040000010103020101\n";
 
 /// A plant of two operators.
-const PLANT: &str = "[plant]
+pub const PLANT: &str = "[plant]
 frame_minislots = 72
 head = 8
 frame_us = 2000

@@ -1,0 +1,170 @@
+-- The steps of a script's lines, one after the other.
+use Rattle.std.proofs.Common.{◌≡◌, ◌≢◌, ℕ, zero, suc, ◌<◌, ◌≤◌, length, arith, List, [], ◌∷◌, ◌++◌, take, drop, Option, Some, None, IsSome, Err, refl, sym, ap, subst, ◌∙◌, append-nil}
+use Rattle.std.specs.Prelude.{slice_get}
+use Rattle.std.proofs.lemmas.List.{map-append}
+use Rattle.std.proofs.lemmas.Grind.{flat_map-append}
+use Rattle.std.proofs.lemmas.Option.{slice_get_past, slice_get_within}
+use Rattle.slice_table.specs.declared.operator_row.RowFields.{RowFields}
+use Rattle.slice_table.specs.declared.plant.PlantFields.{PlantFields}
+use Rattle.plant_runs.specs.declared.step.Step.{Step}
+use Rattle.plant_runs.specs.declared.step.Out.{Out}
+use Rattle.plant_runs.specs.Reached.{CoreView, Reached}
+use Rattle.plant_core.specs.declared.core_fault.CoreFault.{CoreFault}
+use Rattle.plant_core.specs.declared.core_fault.CoreFault.TheVariants.{UnknownModem, UnknownOperator, Book, Gather, NothingToCollect, NoMemory, Reslice}
+use Rattle.plant_core.specs.Faults.{step_fault, IsTold}
+use Rattle.plant_script.specs.declared.script.LineStep.{LineStep}
+use Rattle.plant_script.specs.declared.answer.Answer.{Answer}
+use Rattle.plant_script.specs.Run.{steps_in, out_line, outs_text, actions_text, last_line, IsEnd, IsRunOf}
+use Rattle.plant_script.specs.Task.{history_at, IsEnded}
+use Rattle.plant_script.specs.DoneSoFar.{IsRefused, HasRun, IsHalfDone, book_text}
+
+-- ---- what is left of a list
+
+first_left : {A : Type 0} (xs : List A) (k : ℕ) (x : A) (rest : List A) → drop k xs ≡ x ∷ rest → slice_get xs k ≡ Some x
+first_left [] zero x rest h = cc
+first_left [] (suc k) x rest h = cc
+first_left (y ∷ xs) zero x rest h = cc
+first_left (y ∷ xs) (suc k) x rest h = first_left xs k x rest h
+
+none_left : {A : Type 0} (xs : List A) (k : ℕ) → drop k xs ≡ [] → slice_get xs k ≡ None
+none_left [] zero h = refl
+none_left [] (suc k) h = refl
+none_left (y ∷ xs) zero h = cc
+none_left (y ∷ xs) (suc k) h = none_left xs k h
+
+take_next : {A : Type 0} (xs : List A) (k : ℕ) (x : A) (rest : List A) → drop k xs ≡ x ∷ rest → take (suc k) xs ≡ take k xs ++ x ∷ []
+take_next [] zero x rest h = cc
+take_next [] (suc k) x rest h = cc
+take_next (y ∷ xs) zero x rest h = cc
+take_next (y ∷ xs) (suc k) x rest h = ap (λ (l : List _). y ∷ l) (take_next xs k x rest h)
+
+drop_next : {A : Type 0} (xs : List A) (k : ℕ) (x : A) (rest : List A) → drop k xs ≡ x ∷ rest → drop (suc k) xs ≡ rest
+drop_next [] zero x rest h = cc
+drop_next [] (suc k) x rest h = cc
+drop_next (y ∷ xs) zero x rest h = cc
+drop_next (y ∷ xs) (suc k) x rest h = drop_next xs k x rest h
+
+slice_get_none : {A : Type 0} (xs : List A) (k : ℕ) → slice_get xs k ≡ None → length xs ≤ k
+slice_get_none [] k h = omega arith
+slice_get_none (x ∷ xs) zero h = absurd cc
+slice_get_none (x ∷ xs) (suc k) h = let past = slice_get_none xs k h in omega arith
+
+slice_get_there : {A : Type 0} (xs : List A) (k : ℕ) → k < length xs → (x : A) × (slice_get xs k ≡ Some x)
+slice_get_there [] k lt = absurd (omega arith)
+slice_get_there (x ∷ xs) zero lt = (x, refl)
+slice_get_there (x ∷ xs) (suc k) lt = slice_get_there xs k (omega arith)
+
+-- ---- one step more
+
+module _ (plant : PlantFields) (lines : List LineStep) (say : List Out → List ℕ) (old new : CoreView) (text : List ℕ) (line : LineStep) (rest : List LineStep) (now : List Out)
+    (half : IsHalfDone plant lines say old text (line ∷ rest))
+    (reached : (before : List Step) (told : List Out) → Reached old.plant before told old → Reached old.plant (before ++ line.step ∷ []) (told ++ now) new) where
+  before : List Step
+  before = steps_in (take half.at lines)
+
+  steps_more : before ++ line.step ∷ [] ≡ steps_in (take (suc half.at) lines)
+  unfolding before
+  steps_more =
+      sym (map-append (λ (l : LineStep). l.step) (take half.at lines) (line ∷ []))
+      ∙ ap steps_in (sym (take_next lines half.at line rest half.left_are))
+
+  pub reached_more : Reached plant (steps_in (take (suc half.at) lines)) (half.done.outs ++ now) new
+  unfolding before steps_more
+  reached_more =
+      let same = half.done.reached.plant_is in
+      let then_new = reached before half.done.outs (subst (λ (p : PlantFields). Reached p before half.done.outs old) (sym same) half.done.reached) in
+      subst (λ (s : List Step). Reached plant s (half.done.outs ++ now) new) steps_more
+      (subst (λ (p : PlantFields). Reached p (before ++ line.step ∷ []) (half.done.outs ++ now) new) same then_new)
+
+  -- what is said of the step's outputs is written too
+  pub half_more : (later : List ℕ) → later ≡ say (half.done.outs ++ now) → IsHalfDone plant lines say new later rest
+  half_more later is = record {
+    at = suc half.at;
+    done = record { outs = half.done.outs ++ now; reached = reached_more; text_is = is };
+    left_are = drop_next lines half.at line rest half.left_are;
+  }
+
+-- all outputs are said
+pub outs_more : (plant : PlantFields) (lines : List LineStep) (old new : CoreView) (text later : List ℕ) (line : LineStep) (rest : List LineStep) (now : List Out)
+    → IsHalfDone plant lines (outs_text plant) old text (line ∷ rest)
+    → ((before : List Step) (told : List Out) → Reached old.plant before told old → Reached old.plant (before ++ line.step ∷ []) (told ++ now) new)
+    → later ≡ text ++ outs_text new.plant now → IsHalfDone plant lines (outs_text plant) new later rest
+outs_more plant lines old new text later line rest now half reached is =
+    let same : new.plant ≡ plant = (reached_more plant lines (outs_text plant) old new text line rest now half reached).plant_is in
+    half_more plant lines (outs_text plant) old new text line rest now half reached later
+    (is ∙ ap (λ (p : PlantFields). text ++ outs_text p now) same
+    ∙ ap (λ (t : List ℕ). t ++ outs_text plant now) half.done.text_is
+    ∙ sym (flat_map-append (out_line plant) half.done.outs now))
+
+-- nothing is said
+pub unheard_more : (plant : PlantFields) (lines : List LineStep) (old new : CoreView) (line : LineStep) (rest : List LineStep) (now : List Out)
+    → IsHalfDone plant lines (λ told. []) old [] (line ∷ rest)
+    → ((before : List Step) (told : List Out) → Reached old.plant before told old → Reached old.plant (before ++ line.step ∷ []) (told ++ now) new)
+    → IsHalfDone plant lines (λ told. []) new [] rest
+unheard_more plant lines old new line rest now half reached = half_more plant lines (λ told. []) old new [] line rest now half reached [] refl
+
+-- ---- the end
+
+pub all_done : (plant : PlantFields) (lines : List LineStep) (say : List Out → List ℕ) (core : CoreView) (text : List ℕ) (left : List LineStep)
+    → IsHalfDone plant lines say core text left → left ≡ [] → HasRun plant lines say None core text
+all_done plant lines say core text left half none = record {
+  at = half.at;
+  done = half.done;
+  ends = rw (none_left lines half.at (half.left_are ∙ none)) refl;
+}
+
+pub line_refused : (plant : PlantFields) (lines : List LineStep) (say : List Out → List ℕ) (old core : CoreView) (text : List ℕ) (line : LineStep) (rest : List LineStep) (fault : CoreFault)
+    → IsHalfDone plant lines say old text (line ∷ rest) → core ≡ old → step_fault old line.step ≡ Some fault → HasRun plant lines say (Some line.number) core text
+line_refused plant lines say old core text line rest fault half same refused =
+    let told : IsSome (step_fault old line.step) = rw refused refl in
+    subst (λ (c : CoreView). HasRun plant lines say (Some line.number) c text) (sym same)
+    (record { at = half.at; done = half.done; ends = rw (first_left lines half.at line rest half.left_are) (refl, told) })
+
+-- a fault that is told, other than want of memory
+pub fault_is_told : (A : Type 0) (fault : CoreFault) (reason : Option CoreFault) → IsTold {A = A} (Err fault) reason → fault ≢ NoMemory → reason ≡ Some fault
+fault_is_told A (UnknownModem modem) reason told other = told
+fault_is_told A (UnknownOperator op) reason told other = told
+fault_is_told A (Book refused) reason told other = told
+fault_is_told A (Gather refused) reason told other = told
+fault_is_told A (NothingToCollect op) reason told other = told
+fault_is_told A NoMemory reason told other = absurd (other refl)
+fault_is_told A (Reslice refused) reason told other = told
+
+-- ---- what is written
+
+-- where a run ends, and the line that is written there
+pub end_of : (core : CoreView) (line : Option LineStep) (refused : Option ℕ) (text : List ℕ) (answer : Answer) → IsRefused core line refused → IsEnded text refused answer
+    → IsEnd core line answer.status × (answer.text.items ≡ text ++ last_line line)
+end_of core None refused text answer none ended =
+    let said : IsEnded text None answer = subst (λ (r : Option ℕ). IsEnded text r answer) none ended in
+    (said.0, said.1 ∙ sym (append-nil text))
+end_of core (Some line) refused text answer told ended =
+    let said : IsEnded text (Some line.number) answer = subst (λ (r : Option ℕ). IsEnded text r answer) told.0 ended in
+    ((said.0, told.1), said.1)
+
+-- what an operator did is its own of the steps
+history_is : (plant : PlantFields) (steps : List Step) (outs : List Out) (core : CoreView) (op : ℕ) (row : Option RowFields) → Reached plant steps outs core → slice_get plant.rows op ≡ row
+    → book_text (slice_get core.books op) ≡ history_at row op steps
+history_is plant steps outs core op None reached here =
+    let past : length plant.rows ≤ op = slice_get_none plant.rows op here in
+    let one : length core.books ≡ length plant.rows = reached.one_book in
+    ap book_text (slice_get_past core.books op (omega arith))
+history_is plant steps outs core op (Some row) reached here =
+    let inside : op < length plant.rows = slice_get_within plant.rows op row here in
+    let one : length core.books ≡ length plant.rows = reached.one_book in
+    let book = slice_get_there core.books op (omega arith) in
+    ap book_text book.1 ∙ ap actions_text (reached.books op row book.0 here book.1).actions_are
+
+pub history_written : (plant : PlantFields) (lines : List LineStep) (op : ℕ) (refused : Option ℕ) (core : CoreView) (answer : Answer)
+    → HasRun plant lines (λ told. []) refused core [] → IsEnded (book_text (slice_get core.books op)) refused answer
+    → IsRunOf plant lines (λ done told. history_at (slice_get plant.rows op) op done) answer.status answer.text.items
+history_written plant lines op refused core answer run ended =
+    let end = end_of core (slice_get lines run.at) refused (book_text (slice_get core.books op)) answer run.ends ended in
+    record {
+      at = run.at;
+      outs = run.done.outs;
+      core = core;
+      reached = run.done.reached;
+      ends = end.0;
+      text_is = end.1 ∙ ap (λ (t : List ℕ). t ++ last_line (slice_get lines run.at)) (history_is plant (steps_in (take run.at lines)) run.done.outs core op (slice_get plant.rows op) run.done.reached refl);
+    }

@@ -1,0 +1,64 @@
+-- What a task's run answers.
+use Rattle.std.proofs.Common.{◌≡◌, ℕ, suc, ◌+◌, inl, inr, Bool, List, [], ◌∷◌, Option, Some, None, Result, Ok, Err, IfOk, IfSome, sym, ap, subst, arith, refl}
+use Rattle.std.specs.Prelude.{slice_get}
+use Rattle.std.specs.Io.KnownBytes.{Appends}
+use Rattle.std.specs.List.{position_from}
+use Rattle.std.proofs.lemmas.Bool.{cases_Bool}
+use Rattle.slice_table.specs.declared.operator_row.RowFields.{RowFields}
+use Rattle.slice_table.specs.declared.plant.PlantFields.{PlantFields}
+use Rattle.plant_runs.specs.declared.step.Step.{Step}
+use Rattle.plant_runs.specs.declared.step.Out.{Out}
+use Rattle.plant_script.specs.declared.script.LineStep.{LineStep}
+use Rattle.plant_script.specs.declared.task.Told.TheVariants.{History}
+use Rattle.plant_script.specs.declared.task.Task.{Task}
+use Rattle.plant_script.specs.declared.task.Served.{Served}
+use Rattle.plant_script.specs.declared.task.Served.TheVariants as served
+use Rattle.plant_script.specs.Run.{history_text, IsRunOf}
+use Rattle.plant_script.specs.Task.{history_at, said, Comes}
+use Rattle.plant_script.specs.Words.{Order, Answers, AnswersSteps}
+
+same_some : {A : Type 0} (x y : A) → ◌≡◌ {A = Option A} (Some x) (Some y) → x ≡ y
+same_some x y h = cc
+
+-- where the first that passes is found, an element stands
+found_from : {A : Type 0} (test : A → Bool) (n : ℕ) (xs : List A) (i : ℕ) → position_from test n xs ≡ Some i → (k : ℕ) × (i ≡ n + k) × (x : A) × (slice_get xs k ≡ Some x)
+found_from test n [] i h = cc
+found_from test n (x ∷ xs) i h = elim (cases_Bool (test x)) [
+  | inl passes ↦
+      let is : n ≡ i = same_some n i (rw passes at h) in
+      (0, omega (arith, is), x, refl)
+  | inr other ↦
+      let rest = found_from test (n + 1) xs i (rw other at h) in
+      (suc rest.0, omega (arith, rest.1), rest.2, rest.3)
+]
+
+pub found_at : {A : Type 0} (test : A → Bool) (xs : List A) (i : ℕ) → position_from test 0 xs ≡ Some i → (x : A) × (slice_get xs i ≡ Some x)
+found_at test xs i h =
+    let found = found_from test 0 xs i h in
+    let is : found.0 ≡ i = omega (arith, found.1) in
+    (found.2, subst (λ (k : ℕ). slice_get xs k ≡ Some found.2) is found.3)
+
+-- a run that is told of an operator tells its own steps
+pub comes_of_operator : (plant : PlantFields) (op : ℕ) (row : RowFields) (lines : Result (List LineStep) ℕ) (what : Served) → slice_get plant.rows op ≡ Some row
+    → Comes what (AnswersSteps plant (said plant (History op)) lines)
+    → Comes what (λ status text. (row : RowFields) × (slice_get plant.rows op ≡ Some row) × AnswersSteps plant (λ done told. history_text row op done) lines status text)
+comes_of_operator plant op row lines (served.Answer answer) here h =
+    (row, here, subst (λ (say : List Step → List Out → List ℕ). AnswersSteps plant say lines answer.status answer.text.items) (ap (λ (o : Option RowFields). λ (done : List Step). λ (told : List Out). history_at o op done) here) h)
+comes_of_operator plant op row lines (served.Task task) here h = λ status text run.
+    (row, here, subst (λ (say : List Step → List Out → List ℕ). AnswersSteps plant say lines status text) (ap (λ (o : Option RowFields). λ (done : List Step). λ (told : List Out). history_at o op done) here) (h status text run))
+
+pub if_ok : {T E : Type 0} (r : Result T E) (P Q : T → Type 0) → ((x : T) → P x → Q x) → IfOk r P → IfOk r Q
+if_ok (Ok x) P Q f h = f x h
+if_ok (Err e) P Q f h = tt
+
+pub same_order : (a b : Order) → ◌≡◌ {A = Option Order} (Some a) (Some b) → a ≡ b
+same_order a b e = same_some a b e
+
+-- what the run of a task came to is the answer, and is written
+pub run_serves : (left : Option (List ℕ)) (order asked : Order) (task : Task) (status result : ℕ) (text : List ℕ) (before after : Option (List ℕ))
+    → IfSome left (λ input. Comes (served.Task task) (Answers order input)) → order ≡ asked
+    → IsRunOf task.plant task.lines.items (said task.plant task.told) status text → result ≡ status → Appends before after text
+    → IfSome left (λ input. (x : List ℕ) × Answers asked input result x × Appends before after x)
+run_serves None order asked task status result text before after serves same ran is appended = tt
+run_serves (Some input) order asked task status result text before after serves same ran is appended =
+    (text, subst (λ (n : ℕ). Answers asked input n text) (sym is) (subst (λ (o : Order). Answers o input status text) same (serves status text ran)), appended)

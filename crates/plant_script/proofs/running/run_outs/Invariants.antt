@@ -1,0 +1,15 @@
+use Rattle.std.proofs.Common.{◌≡◌, length}
+use Rattle.std.specs.String.{string_bytes}
+use Rattle.std.specs.Vec.Iter.{into_iter_items, into_iter_len}
+use Rattle.plant_core.specs.CoreView.{core_view}
+use Rattle.plant_script.specs.Run.{outs_text}
+use Rattle.plant_script.specs.DoneSoFar.{IsHalfDone}
+use Rattle.plant_script.proofs.running.run_outs.Given as goal
+
+abbrev pub invariant-loop-number : goal.invariant-loop-number
+invariant-loop-number g l = record {
+  next : (goal.iterator-loop-number g).can_next l.number-iterator;
+  finite : (goal.iterator-loop-number g).is_finite l.number-iterator;
+  count : into_iter_len l.number-iterator ≡ length (into_iter_items l.number-iterator);
+  half : IsHalfDone (core_view l.fn.core).plant l.fn.lines.items (outs_text (core_view l.fn.core).plant) (core_view l.core) (string_bytes l.text) (into_iter_items l.number-iterator);
+}

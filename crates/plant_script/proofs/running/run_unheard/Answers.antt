@@ -1,0 +1,41 @@
+use Rattle.std.proofs.Common.{◌≡◌, ◌∷◌, [], length, ap, sym, ◌∙◌, arith}
+use Rattle.std.proofs.lemmas.List.{nil_from_length}
+use Rattle.std.specs.Vec.Iter.{into_iter_items}
+use Rattle.std.specs.Global.{Vec}
+use Rattle.plant_runs.specs.declared.step.Out.{Out}
+use Rattle.plant_core.specs.CoreView.{core_view}
+use Rattle.plant_core.specs.Faults.{step_fault}
+use Rattle.plant_script.proofs.Tasks.{if_ok}
+use Rattle.plant_script.proofs.StepRuns.{unheard_more, all_done, line_refused, fault_is_told}
+use Rattle.plant_script.proofs.running.run_unheard.Goals as goal
+
+pub loop-number-preserved : goal.loop-number-preserved
+loop-number-preserved g c =
+    let at = c.loop-number in
+    let line = c.in-Some.field-0 in
+    let left : into_iter_items at.number-iterator ≡ line ∷ into_iter_items c.next.new.self = c.in-Some.ensures.steps.0 in
+    let short = ap length left in
+    let gone = c.in-Some.ensures.steps.1 in
+    let count = at.invariant.count in
+    record {
+      next = tt;
+      finite = tt;
+      count = omega (arith, short, gone, count);
+      half = unheard_more (core_view c.args.core.now).plant c.args.lines.items (core_view at.core) (core_view c.step.new.self) line (into_iter_items c.next.new.self) c.in-Ok._outs.items (rw left at at.invariant.half) c.in-Ok.ensures.reached;
+    }
+
+pub returns-in-Err : goal.returns-in-Err
+returns-in-Err g c =
+    let at = c.loop-number in
+    let line = c.in-Some.field-0 in
+    let left : into_iter_items at.number-iterator ≡ line ∷ into_iter_items c.next.new.self = c.in-Some.ensures.steps.0 in
+    if_ok c.refused.result _ _
+    (λ refused told. rw told.0 (line_refused (core_view c.args.core.now).plant c.args.lines.items (λ told. []) (core_view at.core) (core_view c.step.new.self) [] line (into_iter_items c.next.new.self) c.in-Err.fault
+    (rw left at at.invariant.half) c.in-Err.ensures.err (fault_is_told (Vec Out) c.in-Err.fault (step_fault (core_view at.core) line.step) c.in-Err.ensures.fault told.1)))
+    c.refused.ensures
+
+pub returns : goal.returns
+returns g c =
+    let at = c.loop-number in
+    let none : into_iter_items at.number-iterator ≡ [] = nil_from_length (into_iter_items at.number-iterator) (sym at.invariant.count ∙ c.in-None.ensures.steps.0) in
+    all_done (core_view c.args.core.now).plant c.args.lines.items (λ told. []) (core_view at.core) [] (into_iter_items at.number-iterator) at.invariant.half none

@@ -1,0 +1,37 @@
+-- What was done of a script.
+use Rattle.std.specs.Prelude.{◌≡◌, ℕ, List, [], take, drop, slice_get, Option, Some, None, IsSome}
+use Rattle.slice_table.specs.declared.plant.PlantFields.{PlantFields}
+use Rattle.operator_machine.specs.Replay.{BookView, actions_of}
+use Rattle.plant_runs.specs.declared.step.Out.{Out}
+use Rattle.plant_runs.specs.Reached.{CoreView, Reached}
+use Rattle.plant_core.specs.Faults.{step_fault}
+use Rattle.plant_script.specs.declared.script.LineStep.{LineStep}
+use Rattle.plant_script.specs.Run.{steps_in, actions_text}
+
+-- the steps of these lines are done, and what is said of their outputs is written
+pub record AreDone (plant : PlantFields) (lines : List LineStep) (say : List Out → List ℕ) (core : CoreView) (text : List ℕ) : Type 0 where
+  pub outs : List Out
+  pub reached : Reached plant (steps_in lines) outs core
+  pub text_is : text ≡ say outs
+
+-- no line is refused where no step is left; else the one whose step the core refuses, told by its number
+abbrev pub IsRefused : CoreView → Option LineStep → Option ℕ → Type 0
+IsRefused core None refused = refused ≡ None
+IsRefused core (Some line) refused = (refused ≡ Some line.number) × IsSome (step_fault core line.step)
+
+-- so many of the lines' steps are done, and no more
+pub record HasRun (plant : PlantFields) (lines : List LineStep) (say : List Out → List ℕ) (refused : Option ℕ) (core : CoreView) (text : List ℕ) : Type 0 where
+  pub at : ℕ
+  pub done : AreDone plant (take at lines) say core text
+  pub ends : IsRefused core (slice_get lines at) refused
+
+-- the text of all that an operator did, if there is one
+abbrev pub book_text : Option BookView → List ℕ
+book_text None = []
+book_text (Some book) = actions_text (actions_of book.history)
+
+-- some of the lines' steps are done, and these lines are left
+pub record IsHalfDone (plant : PlantFields) (lines : List LineStep) (say : List Out → List ℕ) (core : CoreView) (text : List ℕ) (left : List LineStep) : Type 0 where
+  pub at : ℕ
+  pub done : AreDone plant (take at lines) say core text
+  pub left_are : drop at lines ≡ left

@@ -1,0 +1,32 @@
+-- What of a run is written, and what a run answers to an input.
+use Rattle.std.specs.Prelude.{◌≡◌, ℕ, List, [], ◌∷◌, ◌++◌, slice_get, Option, Some, None, codes}
+use Rattle.std.specs.Fmt.{decimal}
+use Rattle.slice_table.specs.declared.operator_row.RowFields.{RowFields}
+use Rattle.slice_table.specs.declared.plant.PlantFields.{PlantFields}
+use Rattle.plant_runs.specs.declared.step.Step.{Step}
+use Rattle.plant_runs.specs.declared.step.Out.{Out}
+use Rattle.plant_script.specs.declared.answer.Answer.{Answer}
+use Rattle.plant_script.specs.declared.task.Told.{Told}
+use Rattle.plant_script.specs.declared.task.Told.TheVariants.{Outs, History}
+use Rattle.plant_script.specs.declared.task.Served.{Served}
+use Rattle.plant_script.specs.declared.task.Served.TheVariants as served
+use Rattle.plant_script.specs.Run.{outs_text, history_text, IsRunOf}
+
+-- nothing of an operator that the plant does not have
+abbrev pub history_at : Option RowFields → ℕ → List Step → List ℕ
+history_at None op done = []
+history_at (Some row) op done = history_text row op done
+
+abbrev pub said : PlantFields → Told → List Step → List Out → List ℕ
+said plant Outs done told = outs_text plant told
+said plant (History op) done told = history_at (slice_get plant.rows op) op done
+
+-- what is served is such an answer: at once, or whatever the run of the task comes to
+abbrev pub Comes : Served → (ℕ → List ℕ → Type 0) → Type 0
+Comes (served.Answer answer) answers = answers answer.status answer.text.items
+Comes (served.Task task) answers = (status : ℕ) (text : List ℕ) → IsRunOf task.plant task.lines.items (said task.plant task.told) status text → answers status text
+
+-- the status and the text of an answer: what is said, and behind it the line at fault, if there is one
+abbrev pub IsEnded : List ℕ → Option ℕ → Answer → Type 0
+IsEnded text None answer = (answer.status ≡ 0) × (answer.text.items ≡ text)
+IsEnded text (Some number) answer = (answer.status ≡ 4) × (answer.text.items ≡ text ++ (codes "fault: line " ++ (decimal number ++ 10 ∷ [])))

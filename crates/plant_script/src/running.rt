@@ -1,0 +1,142 @@
+//! A script's run on a plant's core.
+
+ghost use Rattle.std.specs.Prelude.{◌≡◌, ◌≢◌, ◌++◌, [], map, slice_get, Some, IfOk, OnOk};
+ghost use Rattle.std.specs.String.{string_bytes};
+ghost use Rattle.plant_runs.specs.Reached.{Reached};
+ghost use Rattle.plant_core.specs.declared.core_fault.CoreFault.TheVariants.{NoMemory};
+ghost use Rattle.plant_core.specs.CoreView.{core_view};
+ghost use Rattle.plant_script.specs.DoneSoFar.{HasRun, book_text};
+ghost use Rattle.plant_script.specs.Run.{outs_text, IsRunOf};
+ghost use Rattle.plant_script.specs.Task.{history_at, said, IsEnded};
+
+use crate::answer::Answer;
+use crate::script::LineStep;
+use crate::task::{Task, Told};
+use crate::text::{put_actions, put_outs};
+use grant_policy::Ranking;
+use plant_core::{CoreFault, CoreOpenFault, PlantCore};
+use slice_table::Op;
+use std::alloc::{AllocError, Global};
+
+/// The number of a line whose step is refused, other than for want of memory.
+fn refused(number: u64, fault: CoreFault) -> Result<Option<u64>, AllocError>
+    ensures { IfOk result (λ refused. (refused ≡ Some number) × (fault ≢ NoMemory)) }
+{
+    match fault {
+        CoreFault::NoMemory => Err(AllocError),
+        _ => Ok(Some(number)),
+    }
+}
+
+/// Does the steps of lines, and adds a line for each output. Answers the number of the first line whose step is refused,
+/// at which it stops; none where all are done.
+fn run_outs(
+    alloc: Global,
+    core: &mut PlantCore,
+    lines: Vec<LineStep>,
+    text: &mut String,
+) -> Result<Option<u64>, AllocError>
+    requires opened { Reached (core_view core.old).plant [] [] (core_view core.old) }
+    requires empty { string_bytes text.old ≡ [] }
+    ensures { IfOk result (λ refused. HasRun (core_view core.old).plant lines.items (outs_text (core_view core.old).plant) refused (core_view core.new) (string_bytes text.new)) }
+{
+    for LineStep { number, step } in lines {
+        match core.step(alloc, step) {
+            Ok(outs) => put_outs(alloc, text, core.plant(), outs.as_slice())?,
+            Err(fault) => return refused(number, fault),
+        }
+    }
+    Ok(None)
+}
+
+/// Does the steps of lines, and drops their outputs. Answers as `run_outs` does.
+fn run_unheard(
+    alloc: Global,
+    core: &mut PlantCore,
+    lines: Vec<LineStep>,
+) -> Result<Option<u64>, AllocError>
+    requires { Reached (core_view core.old).plant [] [] (core_view core.old) }
+    ensures { IfOk result (λ refused. HasRun (core_view core.old).plant lines.items (λ told. []) refused (core_view core.new) []) }
+{
+    for LineStep { number, step } in lines {
+        match core.step(alloc, step) {
+            Ok(_outs) => {}
+            Err(fault) => return refused(number, fault),
+        }
+    }
+    Ok(None)
+}
+
+/// The text, and behind it the line at fault, if there is one.
+fn ended(mut text: String, refused: Option<u64>) -> Result<Answer, AllocError>
+    ensures { IfOk result (λ answer. IsEnded (string_bytes text) refused answer) }
+{
+    let mut status = 0;
+    if let Some(number) = refused {
+        write!(text, "fault: line {number}\n")?;
+        status = 4;
+    }
+    let text = text.into_bytes();
+    Ok(Answer { status, text })
+}
+
+/// What `run` answers.
+fn answer_of_outs(
+    alloc: Global,
+    core: &mut PlantCore,
+    lines: Vec<LineStep>,
+) -> Result<Answer, AllocError>
+    requires { Reached (core_view core.old).plant [] [] (core_view core.old) }
+    ensures { IfOk result (λ answer. IsRunOf (core_view core.old).plant lines.items (λ done told. outs_text (core_view core.old).plant told) answer.status answer.text.items) }
+{
+    let mut text = String::new(alloc);
+    let refused = run_outs(alloc, core, lines, &mut text)?;
+    ended(text, refused)
+}
+
+/// The lines of all that an operator did; none past the last operator.
+fn put_history(alloc: Global, text: &mut String, core: &PlantCore, op: Op) -> Result<(), AllocError>
+    ensures { OnOk result (string_bytes text.new ≡ string_bytes text.old ++ book_text (slice_get (core_view core.now).books op)) }
+{
+    match core.history(op) {
+        Some(history) => put_actions(alloc, text, history),
+        None => Ok(()),
+    }
+}
+
+/// What `history` of an operator answers.
+fn answer_of_history(
+    alloc: Global,
+    core: &mut PlantCore,
+    op: Op,
+    lines: Vec<LineStep>,
+) -> Result<Answer, AllocError>
+    requires { Reached (core_view core.old).plant [] [] (core_view core.old) }
+    ensures { IfOk result (λ answer. IsRunOf (core_view core.old).plant lines.items (λ done told. history_at (slice_get (core_view core.old).plant.rows op) op done) answer.status answer.text.items) }
+{
+    let refused = run_unheard(alloc, core, lines)?;
+    let mut text = String::new(alloc);
+    put_history(alloc, &mut text, core, op)?;
+    ended(text, refused)
+}
+
+/// What the run of a task answers. The rankings stand in the plant's order of operators.
+pub fn answer_of_task(
+    alloc: Global,
+    task: Task,
+    rankings: Vec<Ranking>,
+) -> Result<Answer, AllocError>
+    requires { map (λ ranking. ranking.policy) rankings.items ≡ map (λ row. row.policy) task.plant.rows }
+    ensures { IfOk result (λ answer. IsRunOf task.plant task.lines.items (said task.plant task.told) answer.status answer.text.items) }
+{
+    let Task { plant, lines, told } = task;
+    let mut core = match PlantCore::open(alloc, plant, rankings) {
+        Ok(core) => core,
+        Err(CoreOpenFault::NoMemory) => return Err(AllocError),
+        Err(CoreOpenFault::RankingsMismatch) => unreachable!(),
+    };
+    match told {
+        Told::Outs => answer_of_outs(alloc, &mut core, lines),
+        Told::History(op) => answer_of_history(alloc, &mut core, op, lines),
+    }
+}

@@ -1,0 +1,109 @@
+//! A run that is asked for, or what is answered in its place.
+
+ghost use Rattle.std.specs.Prelude.{◌≡◌, map, true, IfOk, IfErr};
+ghost use Rattle.std.specs.List.{position_from};
+ghost use Rattle.std.specs.Option.{option_copied};
+ghost use Rattle.toml.specs.Parse.{parse_document};
+ghost use Rattle.slice_table.specs.ReadPlant.{text_plant};
+ghost use Rattle.plant_script.specs.One.{is_readable};
+ghost use Rattle.plant_script.specs.Script.{is_named, steps_of};
+ghost use Rattle.plant_script.specs.Task.{said, Comes};
+ghost use Rattle.plant_script.specs.Words.{AnswersSteps, AnswersHistory, AnswersScript, AnswersPlant, AnswersInput};
+ghost use Rattle.plant_script.specs.declared.input.Stop.TheVariants.{Memory};
+
+use crate::answer::Answer;
+use crate::check::{answer_to_fault, answer_to_line, before_bar, plant_text, script_text};
+use crate::input::Stop;
+use crate::lines::LineFault;
+use crate::script::{LineStep, place_of, steps_of};
+use slice_table::{Op, Plant, PlantFault, read_plant};
+use std::alloc::Global;
+
+/// What is written of a run.
+#[derive(Clone, Copy, Debug, PartialEq, Eq)]
+pub enum Told {
+    /// A line for each output.
+    Outs,
+    /// A line for each of an operator's own steps.
+    History(Op),
+}
+
+/// A run that is asked for: its plant and its script are well.
+#[derive(Drop)]
+pub struct Task {
+    pub plant: Plant,
+    /// The script's steps.
+    pub lines: Vec<LineStep>,
+    pub told: Told,
+}
+
+/// What is done for an input.
+#[derive(Drop)]
+pub enum Served {
+    /// It is answered.
+    Answer(Answer),
+    /// A run answers it.
+    Task(Task),
+}
+
+/// The run of a script, where it is well.
+fn task_of_script(alloc: Global, plant: Plant, told: Told, script: &[u8]) -> Result<Served, Stop>
+    ensures value { IfOk result (λ served. Comes served (AnswersSteps plant (said plant told) (steps_of plant script.now))) }
+    ensures memory { IfErr result (λ stop. stop ≡ Memory) }
+{
+    match steps_of(alloc, &plant, script) {
+        Ok(lines) => Ok(Served::Task(Task { plant, lines, told })),
+        Err(LineFault::Shape { number }) => {
+            let answer = answer_to_line(alloc, number)?;
+            Ok(Served::Answer(answer))
+        }
+        Err(LineFault::NoMemory) => Err(Stop::Memory),
+    }
+}
+
+/// The run of a script, told of the operator of this name.
+fn task_of_operator(alloc: Global, plant: Plant, name: &str, script: &[u8]) -> Result<Served, Stop>
+    ensures value { IfOk result (λ served. Comes served (AnswersHistory plant script.now (position_from (is_named name.now) 0 plant.rows))) }
+    ensures memory { IfErr result (λ stop. stop ≡ Memory) }
+{
+    match place_of(plant.rows(), name.as_bytes()) {
+        Some(op) => task_of_script(alloc, plant, Told::History(op), script),
+        None => Ok(Served::Answer(Answer {
+            status: 2,
+            text: Vec::from_slice(alloc, b"fault: words\n")?,
+        })),
+    }
+}
+
+/// The run of a script, told of the operator of this name, if one is named.
+fn task_of_plant(
+    alloc: Global,
+    plant: Plant,
+    operator: Option<&str>,
+    script: &[u8],
+) -> Result<Served, Stop>
+    ensures value { IfOk result (λ served. Comes served (AnswersScript (option_copied operator.entry) plant script.now)) }
+    ensures memory { IfErr result (λ stop. stop ≡ Memory) }
+{
+    match operator {
+        None => task_of_script(alloc, plant, Told::Outs, script),
+        Some(name) => task_of_operator(alloc, plant, name, script),
+    }
+}
+
+/// The run of an input's script on its plant, told of the operator of this name, if one is named.
+pub fn task_of(alloc: Global, operator: Option<&str>, input: &[u8]) -> Result<Served, Stop>
+    requires { is_readable input.now ≡ true }
+    ensures value { IfOk result (λ served. Comes served (AnswersInput (option_copied operator.entry) input.now)) }
+    ensures memory { IfErr result (λ stop. stop ≡ Memory) }
+{
+    let place = before_bar(input);
+    match read_plant(alloc, plant_text(input, place)) {
+        Ok(plant) => task_of_plant(alloc, plant, operator, script_text(input, place)),
+        Err(PlantFault::NoMemory) => Err(Stop::Memory),
+        Err(fault) => {
+            let answer = answer_to_fault(alloc, fault)?;
+            Ok(Served::Answer(answer))
+        }
+    }
+}
