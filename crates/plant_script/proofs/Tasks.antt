@@ -15,7 +15,11 @@ use Rattle.plant_script.specs.declared.task.Served.{Served}
 use Rattle.plant_script.specs.declared.task.Served.TheVariants as served
 use Rattle.plant_script.specs.Run.{history_text, IsRunOf}
 use Rattle.plant_script.specs.Task.{history_at, said, Comes}
-use Rattle.plant_script.specs.Words.{Order, Answers, AnswersSteps}
+use Rattle.plant_words.specs.Order.{Order, order_of}
+use Rattle.plant_words.specs.declared.asked.Word.{Word}
+use Rattle.plant_words.specs.declared.asked.WordsFault.{WordsFault}
+use Rattle.plant_words.specs.CommandLine.{GivesOrder}
+use Rattle.plant_script.specs.Words.{Answers, AnswersSteps}
 
 same_some : {A : Type 0} (x y : A) → ◌≡◌ {A = Option A} (Some x) (Some y) → x ≡ y
 same_some x y h = cc
@@ -51,8 +55,9 @@ pub if_ok : {T E : Type 0} (r : Result T E) (P Q : T → Type 0) → ((x : T) �
 if_ok (Ok x) P Q f h = f x h
 if_ok (Err e) P Q f h = tt
 
-pub same_order : (a b : Order) → ◌≡◌ {A = Option Order} (Some a) (Some b) → a ≡ b
-same_order a b e = same_some a b e
+-- the word that was read is the order
+pub same_order : (order : Order) (read : Result Word WordsFault) (word : Word) → GivesOrder order read → read ≡ Ok word → order_of word ≡ order
+same_order order read word gives is = subst (GivesOrder order) is gives
 
 -- what the run of a task came to is the answer, and is written
 pub run_serves : (left : Option (List ℕ)) (order asked : Order) (task : Task) (status result : ℕ) (text : List ℕ) (before after : Option (List ℕ))

@@ -1,7 +1,7 @@
--- The command words, and what each answers to an input (own).
-use Rattle.std.specs.Prelude.{◌≡◌, ℕ, List, [], ◌∷◌, ◌++◌, MatchBool, slice_get, Option, Some, None, Result, Ok, Err, if◌then◌else◌, codes}
+-- What each order answers to an input (own).
+use Rattle.std.specs.Prelude.{◌≡◌, ℕ, List, [], ◌∷◌, ◌++◌, MatchBool, slice_get, Option, Some, None, Result, Ok, Err, codes}
 use Rattle.std.specs.List.{position_from}
-use Rattle.std.specs.Str.{bytes_eq}
+use Rattle.std.specs.String.{string_bytes}
 use Rattle.toml.specs.Parse.{parse_document}
 use Rattle.slice_table.specs.declared.operator_row.RowFields.{RowFields}
 use Rattle.slice_table.specs.declared.plant.PlantFields.{PlantFields}
@@ -10,40 +10,23 @@ use Rattle.slice_table.specs.ReadPlant.{text_plant}
 use Rattle.plant_runs.specs.declared.step.Step.{Step}
 use Rattle.plant_runs.specs.declared.step.Out.{Out}
 use Rattle.plant_script.specs.declared.script.LineStep.{LineStep}
-use Rattle.plant_script.specs.declared.program.Word.{Word}
-use Rattle.plant_script.specs.declared.program.Word.TheVariants as words
+use Rattle.plant_words.specs.declared.asked.WordsFault.{WordsFault}
+use Rattle.plant_words.specs.declared.asked.WordsFault.TheVariants as faults
+use Rattle.plant_words.specs.Order.{Order, one, check, run, history}
 use Rattle.plant_script.specs.One.{Answer, is_readable, answer_of}
 use Rattle.plant_script.specs.Check.{plant_text, script_text, answer_to_steps, answer_to_plant, check_of}
 use Rattle.plant_script.specs.Script.{is_named, steps_of}
 use Rattle.plant_script.specs.Run.{outs_text, history_text, IsRunOf}
 
--- ---- the words
+-- ---- words that give no order
 
--- what the program is asked for
-pub data Order : Type 0 where
-  One : Order
-  Check : Order
-  Run : Order
-  History : (operator : List ℕ) → Order
+-- wrong words are told as such, with status 2, and help with 0; want of memory has no status but 5
+abbrev pub AnswersFault : WordsFault → ℕ → (List ℕ → Type 0) → Type 0
+AnswersFault (faults.Help text) status told = (status ≡ 0) × told (string_bytes text)
+AnswersFault faults.Wrong status told = (status ≡ 2) × told (codes "fault: words" ++ 10 ∷ [])
+AnswersFault faults.NoMemory status told = ⊥
 
-abbrev pub order_of : Word → Order
-order_of words.One = One
-order_of words.Check = Check
-order_of words.Run = Run
-order_of (words.History operator) = History operator.now
-
--- one word, `one`, `check` or `run`; or `history` and an operator
-abbrev pub word_in : List (List ℕ) → Option Order
-word_in [] = None
-word_in (word ∷ []) =
-    if bytes_eq word (codes "one") then Some One else
-    if bytes_eq word (codes "check") then Some Check else
-    if bytes_eq word (codes "run") then Some Run else
-    None
-word_in (word ∷ operator ∷ []) = if bytes_eq word (codes "history") then Some (History operator) else None
-word_in (word ∷ operator ∷ other ∷ words) = None
-
--- ---- what a word answers
+-- ---- answers
 
 -- this status and this text
 abbrev pub Is : Answer → ℕ → List ℕ → Type 0
@@ -81,7 +64,7 @@ AnswersInput operator input status text =
     (Is (record { status = 6; text = codes "fault: io" ++ 10 ∷ [] }) status text)
 
 abbrev pub Answers : Order → List ℕ → ℕ → List ℕ → Type 0
-Answers One input status text = Is (answer_of input) status text
-Answers Check input status text = Is (check_of input) status text
-Answers Run input status text = AnswersInput None input status text
-Answers (History operator) input status text = AnswersInput (Some operator) input status text
+Answers one input status text = Is (answer_of input) status text
+Answers check input status text = Is (check_of input) status text
+Answers run input status text = AnswersInput None input status text
+Answers (history operator) input status text = AnswersInput (Some operator) input status text

@@ -1,10 +1,12 @@
 //! The program over any reader and any writer.
 
-ghost use Rattle.std.specs.Prelude.{◌≡◌, ◌≢◌, ℕ, true, List, ◌∷◌, [], ◌++◌, map, option_map, if◌then◌else◌, codes, Some, None, IfOk, IfErr, IfSome};
+ghost use Rattle.std.specs.Prelude.{◌≡◌, ◌≢◌, ℕ, true, List, ◌∷◌, [], ◌++◌, codes, IfOk, IfErr, IfSome};
+ghost use Rattle.clap.specs.Walk.{texts};
 ghost use Rattle.std.specs.Io.KnownBytes.{Appends};
-ghost use Rattle.std.specs.Str.{bytes_eq};
 ghost use Rattle.plant_script.specs.Task.{Comes};
-ghost use Rattle.plant_script.specs.Words.{Order, History, order_of, word_in, Answers};
+ghost use Rattle.plant_words.specs.Order.{Order, order_of};
+ghost use Rattle.plant_words.specs.CommandLine.{Names, AsksHelp, AreWrong};
+ghost use Rattle.plant_script.specs.Words.{AnswersFault, Answers};
 ghost use Rattle.plant_script.specs.One.{answer_of, is_readable};
 
 use crate::answer::Answer;
@@ -15,53 +17,9 @@ use crate::one::text_of;
 use crate::running::answer_of_task;
 use crate::task::{Served, task_of};
 use grant_policy::{RankInput, Ranking, rank_by};
+use plant_words::{Word, WordsFault, read_words};
 use std::alloc::Global;
 use std::io::{Read, Write};
-
-/// What the program is asked for.
-#[derive(Clone, Copy, Debug, PartialEq, Eq)]
-pub enum Word<'a> {
-    /// Messages of a modem of a plant that is built in, and their answers.
-    One,
-    /// Whether a plant file and a script are well.
-    Check,
-    /// A script's run on its plant, and all that it puts out.
-    Run,
-    /// That run, and what the operator of this name did in it.
-    History { operator: &'a str },
-}
-
-/// What a word with an operand asks for.
-fn word_with<'a>(word: &str, operator: &'a str) -> Option<Word<'a>>
-    ensures { option_map order_of result ≡ (if bytes_eq word.now (codes "history") then Some (History operator.now) else None) }
-{
-    if word == "history" {
-        Some(Word::History { operator })
-    } else {
-        None
-    }
-}
-
-/// What the words ask for.
-fn word_in<'a>(words: &[&'a str]) -> Option<Word<'a>>
-    ensures { option_map order_of result ≡ word_in (map (λ word. word.now) words.now) }
-{
-    match words {
-        [word] => {
-            if *word == "one" {
-                Some(Word::One)
-            } else if *word == "check" {
-                Some(Word::Check)
-            } else if *word == "run" {
-                Some(Word::Run)
-            } else {
-                None
-            }
-        }
-        [word, operator] => word_with(word, operator),
-        _ => None,
-    }
-}
 
 /// Writes the text, and answers the status. Where that fails, it tries to write the line of a failed write, which may be
 /// lost too, and answers 6.
@@ -121,27 +79,43 @@ fn stopped<W: Write>(writer: &mut W, stop: Stop) -> u8
     }
 }
 
+/// Answers words that give no order.
+fn answer_to_words<W: Write>(writer: &mut W, fault: WordsFault) -> u8
+    ensures { result ≢ 5 → result ≢ 6 → AnswersFault fault result (λ text. Appends (W.contents writer.old) (W.contents writer.new) text) }
+{
+    match fault {
+        WordsFault::Help { text } => finish(writer, 0, text.as_bytes()),
+        WordsFault::Wrong => finish(writer, 2, b"fault: words\n"),
+        WordsFault::NoMemory => stopped(writer, Stop::Memory),
+    }
+}
+
 /// Runs the program: the words after its name, its input and its output. Answers the exit status:
-/// 0 all well; 2 words that are not known, or an operator that the plant does not have; 3 a plant at fault; 4 a line at fault, or
-/// one whose step is refused; 5 want of memory; 6 a read or a write that failed, or an input that is too long or no UTF-8.
+/// 0 all well, or help that was asked for; 2 words that are not known, or an operator that the plant does not have; 3 a plant at
+/// fault; 4 a line at fault, or one whose step is refused; 5 want of memory; 6 a read or a write that failed, or an input that is
+/// too long or no UTF-8.
 ///
 /// Statuses 5 and 6 may come at any time, since no clause says what memory or a writer does; where they come, what stands
-/// before the last line is not fixed.
-pub fn run_program<R: Read, W: Write>(
+/// before the last line is not fixed. Of help's text no clause says anything.
+pub fn run_program<'a, R: Read, W: Write>(
     alloc: Global,
-    words: &[&str],
+    words: &'a [&'a str],
     reader: &mut R,
     writer: &mut W,
 ) -> u8
     // What is written answers what is read.
-    ensures served { (order : Order) → word_in (map (λ word. word.now) words.now) ≡ Some order → result ≢ 5 → result ≢ 6 → IfSome (R.remaining reader.old) (λ input.
+    ensures served { (order : Order) → Names (texts words.entry.now) order → result ≢ 5 → result ≢ 6 → IfSome (R.remaining reader.old) (λ input.
         (text : List ℕ) × Answers order input result text × Appends (W.contents writer.old) (W.contents writer.new) text) }
     // Other words are a fault, and nothing is read.
-    ensures refused { word_in (map (λ word. word.now) words.now) ≡ None → result ≢ 6 →
+    ensures refused { AreWrong (texts words.entry.now) → result ≢ 5 → result ≢ 6 →
         (result ≡ 2) × Appends (W.contents writer.old) (W.contents writer.new) (codes "fault: words" ++ 10 ∷ []) }
+    // Help is told where it is asked for.
+    ensures helped { AsksHelp (texts words.entry.now) → result ≢ 5 → result ≢ 6 →
+        (text : List ℕ) × (result ≡ 0) × Appends (W.contents writer.old) (W.contents writer.new) text }
 {
-    let Some(word) = word_in(words) else {
-        return finish(writer, 2, b"fault: words\n");
+    let word = match read_words(alloc, words) {
+        Ok(word) => word,
+        Err(fault) => return answer_to_words(writer, fault),
     };
     let task = match serve(alloc, word, reader) {
         Ok(Served::Task(task)) => task,

@@ -1,5 +1,5 @@
-use Rattle.std.proofs.Common.{◌≡◌, ◌∙◌}
-use Rattle.plant_script.specs.Words.{order_of}
+use Rattle.std.proofs.Common.{◌≡◌}
+use Rattle.plant_words.specs.Order.{order_of}
 use Rattle.plant_script.proofs.Tasks.{same_order, run_serves}
 use Rattle.plant_script.proofs.program.run_program.Goals as goal
 
@@ -8,7 +8,7 @@ returns-in-Ok-answer_of_task-clause-served g c = λ order named well served.
     let answer = c.in-Ok-answer_of_task.answer in
     let done = c.finish-in-Ok-answer_of_task in
     let told = done.ensures served in
-    let same : order_of c.in-Some.word ≡ order = same_order _ _ (c.in-Some.ensures ∙ named) in
+    let same : order_of c.in-Ok.word ≡ order = same_order order c.read_words.result c.in-Ok.word (c.read_words.ensures.named order named) c.in-Ok.is in
     let appended = rw (c.loop-row.invariant.writer, c.as_slice-in-Ok-answer_of_task.ensures.value) at told.1 in
-    run_serves (g.R.Read.remaining c.args.reader.now) (order_of c.in-Some.word) order c.in-Ok-Task.task answer.status done.result answer.text.items (g.W.Write.contents c.args.writer.now) (g.W.Write.contents done.new.writer)
+    run_serves (g.R.Read.remaining c.args.reader.now) (order_of c.in-Ok.word) order c.in-Ok-Task.task answer.status done.result answer.text.items (g.W.Write.contents c.args.writer.now) (g.W.Write.contents done.new.writer)
     (rw c.in-Ok-Task.field-0-is at c.in-Ok-Task.ensures) same c.in-Ok-answer_of_task.ensures told.0 appended
