@@ -1,6 +1,6 @@
 //! Ticks and collections through the core: each operator's part of a frame, and the MAP that all parts give.
 
-use crate::playing::{OPERATOR_A, OPERATOR_B, SHARED, check, check_plant};
+use crate::playing::{OPERATOR_A, OPERATOR_B, SHARED, check, plant_of, played};
 use std::test::Fail;
 
 /// Five minislots are a long grant and three a short one: short ones have at most `short_max`, 4.
@@ -117,13 +117,7 @@ T
 #[test]
 fn ticks_behind_the_last_frame_are_refused(rt: HostRuntime) -> Result<(), Fail> {
     let shared = format!(in rt.alloc(); "{SHARED}first_frame = 4294967294\n")?;
-    check_plant(
-        &rt,
-        rt.alloc(),
-        shared.as_str(),
-        OPERATOR_A,
-        OPERATOR_B,
-        "
+    let script = "
 T
 = F A 4294967294 0/6/8/32
 = F B 4294967294 0/6/40/32
@@ -131,6 +125,10 @@ T
 T
 = refused at 0: Book(FramesSpent)
 T B
-= refused at 0: Book(FramesSpent)",
-    )
+= refused at 0: Book(FramesSpent)
+K A
+= refused: Book(FramesSpent)";
+    let plant = plant_of(rt.alloc(), shared.as_str(), OPERATOR_A, OPERATOR_B)?;
+    assert_eq!(rt; played(rt.alloc(), plant, script)?.as_str(), script);
+    Ok(())
 }

@@ -1,13 +1,9 @@
 //! The headline by example: a modem of B floods its operator between all steps of A, and A is told what it is told where B is
 //! silent, and where there is no B.
 
-use crate::playing::{
-    OPERATOR_A, OPERATOR_B, SHARED, changed, check_plant, opened, plant_of, steps_of,
-};
-use crate::telling::put_output;
-use map_assembly::{MapBytes, MapSpan, read_map};
-use plant_core::PlantCore;
-use plant_runs::Out;
+use crate::playing::{OPERATOR_A, OPERATOR_B, SHARED, changed, plant_of, played};
+use hex::decode;
+use map_assembly::{MapSpan, read_map};
 use std::alloc::{AllocError, Global};
 use std::test::Fail;
 
@@ -186,62 +182,60 @@ fn put_pending(alloc: Global, text: &mut String, sids: &[u16]) -> Result<(), All
     Ok(())
 }
 
-/// Writes A's part of a MAP.
-fn put_part(alloc: Global, text: &mut String, map: &MapBytes) -> Result<(), Fail> {
-    let view = read_map(alloc, map.bytes.as_slice()).ok().ok_or("no MAP")?;
-    text.push_str(format!(in alloc; "\n= {}", map.frame)?.as_str())?;
+/// Writes A's part of the MAP that digits spell.
+fn put_part(alloc: Global, text: &mut String, digits: &str) -> Result<(), Fail> {
+    let bytes = decode(alloc, digits).ok().ok_or("no digits")?;
+    let view = read_map(alloc, bytes.as_slice()).ok().ok_or("no MAP")?;
     put_spans(alloc, text, view.spans.as_slice())?;
     put_pending(alloc, text, view.pending.as_slice())?;
     Ok(())
 }
 
-/// Adds an output to what is told.
-fn tell(alloc: Global, told: &mut Told, out: &Out) -> Result<(), Fail> {
-    match out {
-        Out::Of { op: 0, output } => put_output(alloc, &mut told.outputs, 0, output)?,
-        Out::Of { op, output } => put_output(alloc, &mut told.others, *op, output)?,
-        Out::Map(map) => put_part(alloc, &mut told.parts, map)?,
+/// Adds a line to a text.
+fn put_line(text: &mut String, line: &str) -> Result<(), AllocError> {
+    text.push_str("\n")?;
+    text.push_str(line)
+}
+
+/// Adds a line of what is put out to what is told. No step is refused.
+fn tell(alloc: Global, told: &mut Told, line: &str) -> Result<(), Fail> {
+    let words: Vec<&str> = line.split(' ').collect(alloc)?;
+    match words.as_slice() {
+        ["=", "MAP", frame, digits] => {
+            told.parts
+                .push_str(format!(in alloc; "\n= {frame}")?.as_str())?;
+            put_part(alloc, &mut told.parts, digits)?;
+        }
+        ["=", "refused", ..] => return Err(Fail::new("refused")),
+        ["=", _, "A", ..] => put_line(&mut told.outputs, line)?,
+        ["=", ..] => put_line(&mut told.others, line)?,
+        _ => {}
     }
     Ok(())
 }
 
-/// Adds what the steps of a line put out.
-fn hear(alloc: Global, core: &mut PlantCore, told: &mut Told, line: &str) -> Result<(), Fail> {
-    let steps = steps_of(alloc, core, line)?;
-    match core.run(alloc, steps.as_slice()) {
-        Ok(outs) => {
-            for out in outs.as_slice() {
-                tell(alloc, told, out)?;
-            }
-            Ok(())
-        }
-        Err(_) => Err(Fail::new("refused")),
-    }
-}
-
-/// Adds what the lines of a script put out.
-fn hear_all(alloc: Global, core: &mut PlantCore, told: &mut Told, text: &str) -> Result<(), Fail> {
-    for line in text.split('\n') {
-        if !line.is_empty() && !line.starts_with('=') {
-            hear(alloc, core, told, line)?;
-        }
-    }
-    Ok(())
-}
-
-/// What is told in the world of A and this B, with a flood before each line of the script.
-fn told_in(alloc: Global, b: &str, script: &str, flood: &str) -> Result<Told, Fail> {
-    let mut core = opened!(alloc, plant_of(alloc, SHARED, OPERATOR_A, b)?);
+/// What is told in the world of A and this B by a script.
+fn told_in(alloc: Global, b: &str, script: &str) -> Result<Told, Fail> {
+    let text = played(alloc, plant_of(alloc, SHARED, OPERATOR_A, b)?, script)?;
     let mut told = Told {
         outputs: String::new(alloc),
         parts: String::new(alloc),
         others: String::new(alloc),
     };
-    for line in script.split('\n') {
-        hear_all(alloc, &mut core, &mut told, flood)?;
-        hear_all(alloc, &mut core, &mut told, line)?;
+    for line in text.as_str().split('\n') {
+        tell(alloc, &mut told, line)?;
     }
     Ok(told)
+}
+
+/// A script with the flood before each of its lines.
+fn flooded(alloc: Global, script: &str) -> Result<String, Fail> {
+    let mut lines = String::new(alloc);
+    for line in script.split('\n') {
+        lines.push_str(FLOOD)?;
+        put_line(&mut lines, line)?;
+    }
+    Ok(lines)
 }
 
 /// The lines of a script that are not B's.
@@ -249,8 +243,7 @@ fn without_b(alloc: Global, script: &str) -> Result<String, Fail> {
     let mut lines = String::new(alloc);
     for line in script.split('\n') {
         if !line.ends_with(" B") {
-            lines.push_str("\n")?;
-            lines.push_str(line)?;
+            put_line(&mut lines, line)?;
         }
     }
     Ok(lines)
@@ -268,14 +261,10 @@ fn the_flood_is_answered(rt: HostRuntime) -> Result<(), Fail> {
     let alloc = rt.alloc();
     let row = crowded(alloc)?;
     let script = format!(in alloc; "{FLOOD}{CROWDED_FRAME}")?;
-    check_plant(
-        &rt,
-        alloc,
-        SHARED,
-        OPERATOR_A,
-        row.as_str(),
-        script.as_str(),
-    )
+    let plant = plant_of(alloc, SHARED, OPERATOR_A, row.as_str())?;
+    let text = played(alloc, plant, script.as_str())?;
+    assert_eq!(rt; text.as_str(), script.as_str());
+    Ok(())
 }
 
 /// With no other operator in the plant, A has these outputs and parts.
@@ -283,7 +272,7 @@ fn the_flood_is_answered(rt: HostRuntime) -> Result<(), Fail> {
 fn an_operator_alone_is_told_its_own(rt: HostRuntime) -> Result<(), Fail> {
     let alloc = rt.alloc();
     let lines = without_b(alloc, STEPS)?;
-    let told = told_in(alloc, "", lines.as_str(), "")?;
+    let told = told_in(alloc, "", lines.as_str())?;
     assert_eq!(rt; told.outputs.as_str(), OUTPUTS);
     assert_eq!(rt; told.parts.as_str(), PARTS);
     assert_eq!(rt; told.others.as_str(), "");
@@ -295,8 +284,9 @@ fn an_operator_alone_is_told_its_own(rt: HostRuntime) -> Result<(), Fail> {
 fn a_flood_of_one_operator_is_not_noticed_by_another(rt: HostRuntime) -> Result<(), Fail> {
     let alloc = rt.alloc();
     let row = crowded(alloc)?;
-    let quiet = told_in(alloc, row.as_str(), STEPS, "")?;
-    let flooded = told_in(alloc, row.as_str(), STEPS, FLOOD)?;
+    let quiet = told_in(alloc, row.as_str(), STEPS)?;
+    let script = flooded(alloc, STEPS)?;
+    let flooded = told_in(alloc, row.as_str(), script.as_str())?;
     assert_eq!(rt; flooded.outputs.as_str(), quiet.outputs.as_str());
     assert_eq!(rt; flooded.parts.as_str(), quiet.parts.as_str());
     assert_eq!(rt; flooded.outputs.as_str(), OUTPUTS);

@@ -1,13 +1,13 @@
 //! Scripts, played over a plant's core.
 
-use crate::telling::put_out;
+use crate::telling::{put_history, put_outs};
 use dsx_messages::Modem;
 use hex::decode;
 use operator_machine::{Heard, SliceRow};
 use plant_core::PlantCore;
-use plant_runs::{Out, SliceRows, Step};
+use plant_runs::{SliceRows, Step};
 use slice_table::{Op, Plant, read_plant};
-use std::alloc::Global;
+use std::alloc::{AllocError, Global};
 use std::process::Abort;
 use std::test::Fail;
 use tlv24::Bytes;
@@ -68,34 +68,20 @@ pub(crate) fn plant_of(alloc: Global, shared: &str, a: &str, b: &str) -> Result<
     Ok(plant)
 }
 
-/// A ranking for each operator of a plant, by its policy. A function that hands out a ranking is not proved; so each makes its own.
-macro_rules! rankings_of {
-    ($alloc:expr, $plant:expr) => {{
-        let mut rankings = Vec::new($alloc);
-        for row in $plant.rows() {
-            let policy = row.get_fields().policy;
-            rankings.push(grant_policy::Ranking::new(
-                policy,
-                Box::new($alloc, move |input: grant_policy::RankInput| -> u8 {
-                    grant_policy::rank_by(policy, &input)
-                })?,
-            ))?;
-        }
-        rankings
+/// The ranking by a policy. A function that hands out a ranking is not proved, so each makes its own.
+macro_rules! ranking {
+    ($alloc:expr, $policy:expr) => {{
+        let policy = $policy;
+        grant_policy::Ranking::new(
+            policy,
+            Box::new($alloc, move |input: grant_policy::RankInput| -> u8 {
+                grant_policy::rank_by(policy, &input)
+            })?,
+        )
     }};
 }
 
-/// The core of a plant, with nothing done.
-macro_rules! opened {
-    ($alloc:expr, $plant:expr) => {{
-        let plant = $plant;
-        let rankings = crate::playing::rankings_of!($alloc, plant);
-        plant_core::PlantCore::open($alloc, plant, rankings).ok().ok_or("not opened")?
-    }};
-}
-
-pub(crate) use opened;
-pub(crate) use rankings_of;
+pub(crate) use ranking;
 
 /// The modem with this address.
 pub(crate) fn modem(alloc: Global, word: &str) -> Result<Modem, Fail> {
@@ -111,11 +97,12 @@ fn number(word: &str) -> Result<u16, Fail> {
     Ok(word.parse::<u16>().ok().ok_or("no number")?)
 }
 
-/// The place of the operator with this name.
+/// The place of the operator with this name. The plants here have no operator C.
 fn place(word: &str) -> Result<Op, Fail> {
     match word {
         "A" => Ok(0),
         "B" => Ok(1),
+        "C" => Ok(2),
         _ => Err(Fail::new("no operator")),
     }
 }
@@ -181,8 +168,8 @@ fn one(alloc: Global, step: Step) -> Result<Vec<Step>, Fail> {
 }
 
 /// The steps of a line. `M` and `Q` say what is heard of a modem, a message or a request, and it is worked at once; `T` ticks and
-/// collects, all operators or one; `Z` gives other slices. One step alone: `A` has a message arrive, `W` works, `K` ticks, `C`
-/// collects.
+/// collects, all operators or one. One step alone: `A` has a message arrive, `W` works, `K` ticks, `C` collects, `Z` gives other
+/// slices.
 pub(crate) fn steps_of(alloc: Global, core: &PlantCore, line: &str) -> Result<Vec<Step>, Fail> {
     let words: Vec<&str> = line.split(' ').collect(alloc)?;
     match words.as_slice() {
@@ -210,61 +197,82 @@ pub(crate) fn steps_of(alloc: Global, core: &PlantCore, line: &str) -> Result<Ve
     }
 }
 
-/// Writes each of some outputs.
-pub(crate) fn put_outs(alloc: Global, text: &mut String, outs: &[Out]) -> Result<(), Fail> {
-    for out in outs {
-        put_out(alloc, text, out)?;
+/// Does a step, and writes what it puts out, or its fault.
+fn play_step(
+    alloc: Global,
+    core: &mut PlantCore,
+    text: &mut String,
+    step: Step,
+) -> Result<(), AllocError> {
+    match core.step(alloc, step) {
+        Ok(outs) => put_outs(alloc, text, outs.as_slice()),
+        Err(fault) => text.push_str(format!(in alloc; "\n= refused: {fault:?}")?.as_str()),
     }
-    Ok(())
 }
 
-/// Plays a line in one run, and writes what is put out, and the fault of the step that is refused.
-fn play(alloc: Global, core: &mut PlantCore, text: &mut String, line: &str) -> Result<(), Fail> {
-    let steps = steps_of(alloc, core, line)?;
-    match core.run(alloc, steps.as_slice()) {
+/// Does steps in one run, and writes what they put out, and the fault of the step that is refused.
+fn play_steps(
+    alloc: Global,
+    core: &mut PlantCore,
+    text: &mut String,
+    steps: &[Step],
+) -> Result<(), AllocError> {
+    match core.run(alloc, steps) {
         Ok(outs) => put_outs(alloc, text, outs.as_slice()),
         Err(stop) => {
             put_outs(alloc, text, stop.outs.as_slice())?;
             let (at, fault) = (stop.at, stop.fault);
-            text.push_str(format!(in alloc; "\n= refused at {at}: {fault:?}")?.as_str())?;
-            Ok(())
+            text.push_str(format!(in alloc; "\n= refused at {at}: {fault:?}")?.as_str())
         }
     }
 }
 
-/// Plays the lines of a script, and asserts that the script has below each line, behind `=`, what is put out.
-pub(crate) fn check_on(
-    rt: &impl Abort,
-    alloc: Global,
-    core: &mut PlantCore,
-    script: &str,
-) -> Result<(), Fail> {
-    let mut text = String::new(alloc);
-    for line in script.split('\n') {
-        if !line.is_empty() && !line.starts_with('=') {
-            text.push_str("\n")?;
-            text.push_str(line)?;
-            play(alloc, core, &mut text, line)?;
-        }
+/// Plays a line: `H` writes the history of an operator, another does its steps.
+fn play(alloc: Global, core: &mut PlantCore, text: &mut String, line: &str) -> Result<(), Fail> {
+    if let Some(name) = line.strip_prefix("H ") {
+        put_history(alloc, text, core.history(place(name)?))?;
+        return Ok(());
     }
-    assert_eq!(rt; text.as_str(), script);
+    let steps = steps_of(alloc, core, line)?;
+    match steps.as_slice() {
+        [step] => play_step(alloc, core, text, step.copy(alloc)?)?,
+        steps => play_steps(alloc, core, text, steps)?,
+    }
     Ok(())
 }
 
-/// Plays a script over the core of the plant of these operators as it is opened.
-pub(crate) fn check_plant(
-    rt: &impl Abort,
-    alloc: Global,
-    shared: &str,
-    a: &str,
-    b: &str,
-    script: &str,
-) -> Result<(), Fail> {
-    let mut core = opened!(alloc, plant_of(alloc, shared, a, b)?);
-    check_on(rt, alloc, &mut core, script)
+/// Plays the lines of a script but those behind `=`, and writes each with what is put out behind `=` below it.
+fn play_all(alloc: Global, core: &mut PlantCore, text: &mut String, all: &str) -> Result<(), Fail> {
+    for line in all.split('\n') {
+        if !line.is_empty() && !line.starts_with('=') {
+            text.push_str("\n")?;
+            text.push_str(line)?;
+            play(alloc, core, text, line)?;
+        }
+    }
+    Ok(())
 }
 
-/// Plays a script over the core of operators A and B as it is opened.
+/// A script, played over the core of a plant as it is opened, with what is put out behind `=` below each line.
+pub(crate) fn played(alloc: Global, plant: Plant, script: &str) -> Result<String, Fail> {
+    let mut rankings = Vec::new(alloc);
+    for row in plant.rows() {
+        rankings.push(ranking!(alloc, row.get_fields().policy))?;
+    }
+    let opened = PlantCore::open(alloc, plant, rankings);
+    let mut core = opened.ok().ok_or("not opened")?;
+    let mut text = String::new(alloc);
+    play_all(alloc, &mut core, &mut text, script)?;
+    Ok(text)
+}
+
+/// Asserts that a script over the core of operators A and B has below each line, behind `=`, what is put out.
 pub(crate) fn check(rt: &impl Abort, alloc: Global, script: &str) -> Result<(), Fail> {
-    check_plant(rt, alloc, SHARED, OPERATOR_A, OPERATOR_B, script)
+    let text = played(
+        alloc,
+        plant_of(alloc, SHARED, OPERATOR_A, OPERATOR_B)?,
+        script,
+    )?;
+    assert_eq!(rt; text.as_str(), script);
+    Ok(())
 }

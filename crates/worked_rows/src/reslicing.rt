@@ -12,17 +12,17 @@ fn slices_that_do_not_fit_are_refused(rt: HostRuntime) -> Result<(), Fail> {
         rt.alloc(),
         "
 Z 1 8/16/16
-= refused at 0: Reslice(Count)
+= refused: Reslice(Count)
 Z 0 8/16/16 24/48/32
-= refused at 0: Reslice(NotPast { op: 0 })
+= refused: Reslice(NotPast { op: 0 })
 Z 1 7/16/16 24/48/32
-= refused at 0: Reslice(OffFrame { op: 0 })
+= refused: Reslice(OffFrame { op: 0 })
 Z 1 8/16/16 24/49/32
-= refused at 0: Reslice(OffFrame { op: 1 })
+= refused: Reslice(OffFrame { op: 1 })
 Z 1 8/17/16 24/48/32
-= refused at 0: Reslice(SlicesMeet { a: 0, b: 1 })
+= refused: Reslice(SlicesMeet { a: 0, b: 1 })
 Z 1 8/16/17 24/48/32
-= refused at 0: Reslice(BudgetOverSlice { op: 0 })
+= refused: Reslice(BudgetOverSlice { op: 0 })
 T
 = F A 0 0/6/8/32
 = F B 0 0/6/40/32
@@ -40,9 +40,9 @@ fn faults_are_tried_over_all_operators_in_turn(rt: HostRuntime) -> Result<(), Fa
 K B
 = F B 0 0/6/40/32
 Z 1 7/16/17 24/48/32
-= refused at 0: Reslice(NotPast { op: 1 })
+= refused: Reslice(NotPast { op: 1 })
 Z 2 8/17/18 24/48/49
-= refused at 0: Reslice(SlicesMeet { a: 0, b: 1 })",
+= refused: Reslice(SlicesMeet { a: 0, b: 1 })",
     )
 }
 
@@ -57,7 +57,7 @@ M 020000000001 0F00011817010200010601060F0106130202001404000007D0160101
 = R A 020000000001 10000100180E0102000102040000010103020101
 M 020000000001 11000100
 Z 1 8/16/16 24/48/32
-= refused at 0: Reslice(Unfit { op: 0 })",
+= refused: Reslice(Unfit { op: 0 })",
     )
 }
 
@@ -70,11 +70,11 @@ fn other_slices_wait_alone_for_their_frame(rt: HostRuntime) -> Result<(), Fail> 
         "
 Z 1 8/16/16 24/48/32
 Z 2 8/32/32 40/32/32
-= refused at 0: Reslice(Unfinished { op: 0 })
+= refused: Reslice(Unfinished { op: 0 })
 K A
 = F A 0 0/6/8/32
 Z 2 8/32/32 40/32/32
-= refused at 0: Reslice(Unfinished { op: 1 })
+= refused: Reslice(Unfinished { op: 1 })
 K B
 = F B 0 0/6/40/32
 Z 2 8/32/32 40/32/32
@@ -157,7 +157,7 @@ fn frames_that_wait_keep_their_slices(rt: HostRuntime) -> Result<(), Fail> {
 K A
 = F A 0 0/6/8/32
 Z 1 8/16/16 24/48/32
-= refused at 0: Reslice(NotPast { op: 0 })
+= refused: Reslice(NotPast { op: 0 })
 Z 2 8/16/16 24/48/32
 C A
 K B

@@ -1,10 +1,7 @@
 //! More modems than the core remembers where they belong: each message still goes to the operator that lists its modem.
 
-use crate::playing::{OPERATOR_A, OPERATOR_B, SHARED, changed, check_on, modem, opened, plant_of};
-use operator_machine::{Action, Heard};
-use plant_core::PlantCore;
+use crate::playing::{OPERATOR_A, OPERATOR_B, SHARED, changed, plant_of, played};
 use std::alloc::Global;
-use std::process::Abort;
 use std::test::Fail;
 
 /// The modems of A: 020000000101 to 020000000111, counted in hexadecimal.
@@ -38,34 +35,15 @@ fn short_lines(alloc: Global) -> Result<String, Fail> {
     Ok(script)
 }
 
-/// Asserts that all that B did is the message 0F00 of its modem, and one work step.
-fn check_history(rt: &impl Abort, alloc: Global, core: &PlantCore) -> Result<(), Fail> {
-    let mine = modem(alloc, "020000000003")?;
-    let history = core.history(1).ok_or("no operator B")?;
-    let [arrived, worked] = history else {
-        return Err(Fail::new("not two entries"));
-    };
-    match &arrived.action {
-        Action::Arrive {
-            modem,
-            heard: Heard::Message(bytes),
-        } => {
-            assert_eq!(rt; *modem, mine);
-            assert_eq!(rt; bytes.as_slice(), [0x0F, 0x00].as_slice());
-        }
-        _ => return Err(Fail::new("no message")),
-    }
-    assert!(rt; arrived.outputs.as_slice().is_empty());
-    assert!(rt; matches!(worked.action, Action::Work));
-    Ok(())
-}
-
+/// All that B did is the message of its own modem, and one work step.
 #[test]
 fn more_modems_than_are_remembered_reach_their_operators(rt: HostRuntime) -> Result<(), Fail> {
     let alloc = rt.alloc();
     let row = many_modems(alloc)?;
-    let mut core = opened!(alloc, plant_of(alloc, SHARED, row.as_str(), OPERATOR_B)?);
-    let script = short_lines(alloc)?;
-    check_on(&rt, alloc, &mut core, script.as_str())?;
-    check_history(&rt, alloc, &core)
+    let lines = short_lines(alloc)?;
+    let script = format!(in alloc; "{lines}\nH B\n= M 020000000003 0F00\n= W")?;
+    let plant = plant_of(alloc, SHARED, row.as_str(), OPERATOR_B)?;
+    let text = played(alloc, plant, script.as_str())?;
+    assert_eq!(rt; text.as_str(), script.as_str());
+    Ok(())
 }
