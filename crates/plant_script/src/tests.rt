@@ -303,7 +303,8 @@ fn other_words_are_refused(rt: HostRuntime) -> Result<(), Fail> {
     let none = said(rt.alloc(), &[]);
     let other = said(rt.alloc(), &["two"]);
     let more = said(rt.alloc(), &["one", "one"]);
-    for answer in [none, other, more] {
+    let nobody = said(rt.alloc(), &["history"]);
+    for answer in [none, other, more, nobody] {
         assert_eq!(rt; answer.0, 2);
         assert_eq!(rt; answer.1.as_slice(), b"fault: words\n".as_slice());
     }
@@ -434,5 +435,16 @@ fn an_input_that_is_too_long_or_no_text_is_status_6(rt: HostRuntime) -> Result<(
     let status = run_program(rt.alloc(), &["one"], &mut reader, &mut text);
     assert_eq!(rt; status, 6);
     assert_eq!(rt; text.as_slice(), b"fault: io\n".as_slice());
+    Ok(())
+}
+
+#[test]
+fn help_is_told_where_it_is_asked_for(rt: HostRuntime) -> Result<(), Fail> {
+    let (status, text) = said(rt.alloc(), &["--help"]);
+    assert_eq!(rt; status, 0);
+    let Ok(text) = str::from_utf8(text.as_slice()) else {
+        return Err(Fail::new("help is no text"));
+    };
+    assert!(rt; text.contains("Usage: plant_script"));
     Ok(())
 }
