@@ -202,3 +202,47 @@ fn operators_that_are_not_there(rt: HostRuntime) -> Result<(), Fail> {
     }
     Ok(())
 }
+
+/// A flow with unsolicited grants and one that is polled, both due in the first frame, and the polled one in the second.
+#[test]
+fn grants_and_polls_that_are_due_come_first(rt: HostRuntime) -> Result<(), Fail> {
+    let script = "M 020000000001 0F00011817010200010601060F010613020040140400000FA0160102
+M 020000000001 11000100
+M 020000000001 0F00021810010200020601060F01041104000007D0
+M 020000000001 11000200
+Q 020000000001 258 5
+T A
+T A
+";
+    let text = "R 020000000001 10000100180E0102000102040000010103020101
+R 020000000001 10000200180E0102000202040000010203020102
+F A 0 257/5/8/4 257/5/12/4 258/1/16/1 258/6/17/5 0/6/22/18
+F A 1 258/1/8/1 0/6/9/31
+";
+    check_script(&rt, rt.alloc(), &["run"], script, 0, text)
+}
+
+/// Other slices are given from the next frame on.
+const OTHER_SLICES: &str = "M 020000000001 0F0001180A010200010601060F0102
+M 020000000001 11000100
+Q 020000000001 257 20
+Z 1 8/16/16 24/48/32
+T
+Q 020000000001 257 20
+T
+";
+
+#[test]
+fn runs_with_other_slices(rt: HostRuntime) -> Result<(), Fail> {
+    let text = "R 020000000001 10000100180E0102000102040000010103020101
+F A 0 257/6/8/20 0/6/28/12
+F B 0 0/6/40/32
+MAP 0 01010500000000000000000000000000FFFC4000040580080001801C000180280001C048
+F A 1 257/6/8/16 257/P
+F B 1 0/6/24/48
+MAP 1 01010500000000480000004800000000FFFC400004058008000180180001C04804054048
+";
+    check_script(&rt, rt.alloc(), &["run"], OTHER_SLICES, 0, text)?;
+    let text = "Z 1 24/48/32\nT\nT\n";
+    check_script(&rt, rt.alloc(), &["history", "B"], OTHER_SLICES, 0, text)
+}
