@@ -180,15 +180,15 @@ module _ (plant : PlantFields) (done : List Step) (outs : List Out) (core : Core
   later : All (λ (r : Reslicing). r.from < from) g.reslicings
   later =
       let first = some_at plant.rows 0 (omega (arith, valid.some)) in
-      let row = first.0 in
-      let offered = own_takes 0 row first.1 in
-      let state = (alone plant.consts row 0 done).state in
+      let own = first.0 in
+      let offered = own_takes 0 own first.1 in
+      let state = (alone plant.consts own 0 done).state in
       subst (λ (rs : List Reslicing). All (λ (r : Reslicing). r.from < from) rs) (sym reached.gathered.reslicings_are)
       (All-from_recursion (λ (r : Reslicing). r.from < from) (reslicings_of done)
       (before 0 (reach state) from (reslicings_of done) (omega (arith, none_waits state.frame state.next offered.2.free, offered.2.past))
       (subst (λ (rs : List SliceFrom). AllByRecursion (λ (r : SliceFrom). r.from ≤ reach state) rs)
-      (own_reslicings row 0 done (one_each plant done outs core valid reached is 0 row first.1))
-      (within_reach plant.consts row (opened plant.consts row) (own_steps row 0 done) (may plant done outs core valid reached is 0 row first.1)))))
+      (own_reslicings own 0 done (one_each plant done outs core valid reached is 0 own first.1))
+      (within_reach plant.consts own (opened plant.consts own) (own_steps own 0 done) (may plant done outs core valid reached is 0 own first.1)))))
 
   -- no more frames are put than ticked
   behind : (i : ℕ) (row : RowFields) → slice_get plant.rows i ≡ Some row → next_of g i ≤ (alone plant.consts row i done).state.frame
