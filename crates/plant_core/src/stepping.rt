@@ -73,7 +73,10 @@ impl PlantCore {
         if self.desks[op].book.is_spent(&action) {
             return Err(CoreFault::Book(BookFault::FramesSpent));
         }
-        if outs.reserve(self.desks[op].book.most_outputs(&action)).is_err() {
+        if outs
+            .reserve(self.desks[op].book.most_outputs(&action))
+            .is_err()
+        {
             return Err(CoreFault::NoMemory);
         }
         match self.desks[op].act(alloc, action) {
