@@ -11,6 +11,7 @@ use Rattle.std.proofs.lemmas.Bool.{lt-ltb, le-ltb, eq-eqb, ne_eqb, cases_order}
 use Rattle.std.proofs.lemmas.Cmp.{ranked, nat_cmp_total, eq_by_cmp_equiv}
 use Rattle.std.proofs.lemmas.List.Elements.{All-from_recursion, recursion_from_All}
 use Rattle.std.proofs.lemmas.Map.{lookup-none}
+use Rattle.std.proofs.lemmas.Option.{none-some, same_Some}
 use Rattle.std.proofs.lemmas.Map.Entries.{none_past_head, none_below_head}
 use Rattle.std.proofs.lemmas.Map.Keys.{IsDistinct-from_sorted, sorted_tail}
 use Rattle.std.proofs.lemmas.Map.Views.{All-keys-insert_entry, All-map-remove_entry}
@@ -136,6 +137,19 @@ module _ {X : Type 0} where
         write_as e es k v Greater (nat_cmp_greater k e.0 above)
         ∙ (ap (λ (l : List (ℕ × X)). e ∷ l) (written es k v (sorted_tail nat_cmp e.0 (keys_of es) s) (subst IsSome (looked_past e es k (omega arith)) there))
         ∙ sym (put_as e es k v Greater (nat_cmp_greater k e.0 above)))
+  ]
+
+  -- what is there is put in again
+  pub put_same : (es : List (ℕ × X)) (k : ℕ) (v : X) → IsStrictlySortedBy nat_cmp (keys_of es) → lookup (is_at (nat_cmp k)) es ≡ Some v → insert_entry nat_cmp es k v ≡ es
+  put_same [] k v s there = absurd (none-some v there)
+  put_same (e ∷ es) k v s there = elim (cases_order k e.0) [
+    | inl same ↦
+        let value : e.1 ≡ v = same_Some e.1 v (sym (looked_first e es k same) ∙ there) in
+        put_as e es k v Equal (nat_cmp_equal k e.0 same) ∙ ap (λ (w : X). (e.0, w) ∷ es) (sym value)
+    | inr (inl below) ↦ absurd (none-some v (sym (none_before e es k s below) ∙ there))
+    | inr (inr above) ↦
+        put_as e es k v Greater (nat_cmp_greater k e.0 above)
+        ∙ ap (λ (l : List (ℕ × X)). e ∷ l) (put_same es k v (sorted_tail nat_cmp e.0 (keys_of es) s) (sym (looked_past e es k (omega arith)) ∙ there))
   ]
 
   -- ---- how many there are

@@ -2,3 +2,5 @@ pub mod EntryLemmas
 pub mod RowLemmas
 pub mod IndexLemmas
 pub mod StandLemmas
+pub mod MovedLemmas
+pub mod GapLemmas

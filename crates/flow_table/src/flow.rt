@@ -36,6 +36,17 @@ pub struct Flow {
     pub since: u32,
 }
 
+/// Whose the flow of a SID is, and whether it may ask for grants.
+#[derive(Clone, Copy, Debug, PartialEq, Eq)]
+pub struct Asker {
+    /// The service flow identifier.
+    pub sfid: u32,
+    /// Whose flow it is.
+    pub modem: Modem,
+    /// Whether it may ask for grants.
+    pub may_ask: bool,
+}
+
 /// What a set needs, where there is one.
 fn need_if(units: Units, set: Option<ParamSet>) -> Budget
     ensures { result ≡ need_if units set }

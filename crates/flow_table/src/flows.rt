@@ -1,15 +1,18 @@
 //! The flows of one operator.
 
-ghost use Rattle.std.specs.Prelude.{◌≡◌, ◌<◌, ◌≤◌, ◌↔◌, [], length, IsOk, IsSome, IsNone, IfOk, IfSome, OnOk, OnErr, Some};
+ghost use Rattle.std.specs.Prelude.{◌≡◌, ◌==◌, ◌+◌, ◌<◌, ◌≤◌, ◌↔◌, if◌then◌else◌, nat_le, None, [], length, IsOk, IsSome, IsNone, IfOk, IfSome, OnOk, OnErr, Some};
 ghost use Rattle.std.specs.List.Sorted.{IsStrictlySortedBy};
 ghost use Rattle.std.specs.Ordering.{nat_cmp};
 ghost use Rattle.std.specs.Map.{keys_of, lookup, remove_entry};
 ghost use Rattle.std.specs.BTreeMap.{insert_entry, is_at};
 ghost use Rattle.admission.specs.Free.{IsLeastFree, least_free_of};
 ghost use Rattle.flow_table.specs.Table.{flow_at, flow_with, sid_if, sfids_of, sids_of, with_flow, committed_minislots, committed_elements, MayStand, HaveOwnSids, flowing_in, flowing_of_set};
+ghost use Rattle.flow_table.specs.Flow.{requested, granted};
+ghost use Rattle.flow_table.specs.Gap.{gap_from};
 ghost use Rattle.flow_table.specs.Index.{with_sid_of, without_sid_of};
+ghost use Rattle.flow_table.specs.Moved.{moved_at, asker_of};
 
-use crate::flow::Flow;
+use crate::flow::{Asker, Flow};
 use admission::{Budget, IdRange, Ledger, Over};
 use param_sets::Units;
 use slice_scheduler::Flowing;
@@ -79,13 +82,27 @@ impl Flows {
         Some((sfid, flow))
     }
 
+    /// Whose the flow is that has this SID, and whether it may ask. Takes no memory, and copies no flow.
+    pub fn asker(&self, sid: u16) -> Option<Asker>
+        ensures value { result ≡ asker_of (flow_with sid self.now.flows) }
+        ensures there { IfSome (flow_with sid self.now.flows) (λ entry. flow_at entry.0 self.now.flows ≡ Some entry.1) }
+    {
+        let sfid = self.by_sid.get(&sid).copied()?;
+        let flow = self.by_sfid.get(&sfid)?;
+        Some(Asker {
+            sfid,
+            modem: flow.modem,
+            may_ask: flow.asks_for_grants(),
+        })
+    }
+
     /// The least SFID of a range that no flow has.
     pub fn free_sfid(&self, alloc: Global, range: &IdRange) -> Result<Option<u32>, AllocError>
         ensures exact { IfOk result (λ sfid. sfid ≡ least_free_of range.now (sfids_of self.now.flows)) }
         ensures found { IfOk result (λ sfid. IfSome sfid (IsLeastFree range.now (sfids_of self.now.flows))) }
     {
-        let used = sfids_in(alloc, &self.by_sfid)?;
-        Ok(range.least_free(used.as_slice()))
+        let _ = alloc;
+        Ok(least_free_sfid(&self.by_sfid, range))
     }
 
     /// The least SID of a range that no flow has.
@@ -141,6 +158,21 @@ impl Flows {
         commit(&mut self.ledger, sfid, committed);
     }
 
+    /// What the modem of a flow asks for in a frame is its backlog, in place. Takes no memory.
+    pub fn request(&mut self, sfid: u32, minislots: u16, frame: u32)
+        ensures { self.new ≡ record self.old { flows = moved_at sfid (requested minislots frame) self.old.flows } }
+    {
+        request_in(&mut self.by_sfid, sfid, minislots, frame);
+    }
+
+    /// What a flow is granted in a frame lowers its backlog, in place. Takes no memory.
+    pub fn grant(&mut self, sfid: u32, minislots: u16, frame: u32)
+        requires { frame < 4294967295 }
+        ensures { self.new ≡ record self.old { flows = moved_at sfid (granted minislots frame) self.old.flows } }
+    {
+        grant_in(&mut self.by_sfid, sfid, minislots, frame);
+    }
+
     /// Removes the flow of an SFID, if there is one. Takes no memory.
     pub fn remove(&mut self, sfid: u32)
         ensures { self.new ≡ record self.old { flows = remove_entry (is_at (nat_cmp sfid)) self.old.flows } }
@@ -155,7 +187,7 @@ impl Flows {
     pub fn flowing(&self, alloc: Global) -> Result<Vec<Flowing>, AllocError>
         ensures { IfOk result (λ flowing. flowing.items ≡ flowing_in self.now.flows) }
     {
-        let mut all = Vec::new(alloc);
+        let mut all = Vec::with_capacity(alloc, self.by_sfid.len())?;
         for (sfid, flow) in &self.by_sfid {
             if let Some(flowing) = flowing_of(*sfid, flow) {
                 all.push(flowing)?;
@@ -195,15 +227,57 @@ fn sid_at(flows: &BTreeMap<u32, Flow>, sfid: u32) -> Option<u16>
     }
 }
 
-/// The SFIDs that are used.
-fn sfids_in(alloc: Global, flows: &BTreeMap<u32, Flow>) -> Result<Vec<u32>, AllocError>
-    ensures { IfOk result (λ sfids. sfids.items ≡ sfids_of flows.now.entries) }
+/// The least number of a range that is no SFID, by one walk over the SFIDs in their order.
+#[tactic(auto, using(crate::proofs::GapLemmas::gap_answer_here, crate::proofs::GapLemmas::gap_answer_end, crate::proofs::GapLemmas::gap_answer))]
+fn least_free_sfid(flows: &BTreeMap<u32, Flow>, range: &IdRange) -> Option<u32>
+    requires { IsStrictlySortedBy nat_cmp (keys_of flows.now.entries) }
+    ensures { result ≡ least_free_of range.now (sfids_of flows.now.entries) }
 {
-    let mut sfids = Vec::with_capacity(alloc, flows.len())?;
-    for (sfid, _flow) in flows {
-        sfids.push(*sfid)?;
+    if let Some(end) = end_of_packed(flows, range.get_first()) {
+        return within(end, range);
     }
-    Ok(sfids)
+    let mut next = u64::from(range.get_first());
+    for (sfid, _flow) in flows {
+        let sfid = u64::from(*sfid);
+        if sfid > next {
+            return within(next, range);
+        }
+        if sfid == next {
+            next += 1;
+        }
+    }
+    within(next, range)
+}
+
+/// The number behind all SFIDs, where they are the numbers from `first` on with none left out. Looks at the ends alone.
+#[tactic(auto, using(crate::proofs::GapLemmas::packed_end))]
+fn end_of_packed(flows: &BTreeMap<u32, Flow>, first: u32) -> Option<u64>
+    requires { IsStrictlySortedBy nat_cmp (keys_of flows.now.entries) }
+    ensures gap { IfSome result (λ end. end ≡ gap_from first (sfids_of flows.now.entries)) }
+    ensures from { IfSome result (λ end. first ≤ end) }
+{
+    let (least, _flow) = flows.first_key_value()?;
+    let (greatest, _flow) = flows.last_key_value()?;
+    if first > *least || first > *greatest {
+        return None;
+    }
+    if (*greatest - first) as usize + 1 == flows.len() {
+        Some(u64::from(*greatest) + 1)
+    } else {
+        None
+    }
+}
+
+/// A number from the first of a range on, where it is one of the range.
+fn within(number: u64, range: &IdRange) -> Option<u32>
+    requires { range.now.first ≤ number }
+    ensures { result ≡ if nat_le number range.now.last then Some number else None }
+{
+    if number <= u64::from(range.get_last()) {
+        Some(number as u32)
+    } else {
+        None
+    }
 }
 
 /// The SIDs that are used.
@@ -289,6 +363,43 @@ fn replace(by_sfid: &mut BTreeMap<u32, Flow>, sfid: u32, flow: Flow)
 {
     if let Some(place) = by_sfid.get_mut(&sfid) {
         *place = flow;
+    }
+}
+
+/// Since when a backlog waits that was asked for in this frame.
+fn since_asked(backlog: u16, since: u32, frame: u32) -> u32
+    ensures { result ≡ if backlog == 0 then frame else since }
+{
+    if backlog == 0 { frame } else { since }
+}
+
+/// Since when waits what is left of a backlog after a grant of this frame.
+fn since_granted(left: u16, since: u32, frame: u32) -> u32
+    requires { frame < 4294967295 }
+    ensures { result ≡ if left == 0 then since else frame + 1 }
+{
+    if left == 0 { since } else { frame + 1 }
+}
+
+/// The flow of an SFID asks for so many minislots, where there is one.
+fn request_in(by_sfid: &mut BTreeMap<u32, Flow>, sfid: u32, minislots: u16, frame: u32)
+    ensures { by_sfid.new.entries ≡ moved_at sfid (requested minislots frame) by_sfid.old.entries }
+{
+    if let Some(flow) = by_sfid.get_mut(&sfid) {
+        flow.since = since_asked(flow.backlog, flow.since, frame);
+        flow.backlog = minislots;
+    }
+}
+
+/// The flow of an SFID is granted so many minislots, where there is one.
+fn grant_in(by_sfid: &mut BTreeMap<u32, Flow>, sfid: u32, minislots: u16, frame: u32)
+    requires { frame < 4294967295 }
+    ensures { by_sfid.new.entries ≡ moved_at sfid (granted minislots frame) by_sfid.old.entries }
+{
+    if let Some(flow) = by_sfid.get_mut(&sfid) {
+        let left = flow.backlog.saturating_sub(minislots);
+        flow.since = since_granted(left, flow.since, frame);
+        flow.backlog = left;
     }
 }
 

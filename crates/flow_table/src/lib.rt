@@ -5,7 +5,7 @@ mod flow;
 mod flows;
 mod laws;
 
-pub use flow::{Flow, Pending};
+pub use flow::{Asker, Flow, Pending};
 pub use flows::Flows;
 pub use laws::{
     flow_keeps_its_sid, known_flow_may_stand, known_flow_may_stand_anew, new_flow_may_stand,

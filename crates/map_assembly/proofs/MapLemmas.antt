@@ -20,7 +20,7 @@ use Rattle.map_assembly.specs.declared.view.MapHeader.{MapHeader}
 use Rattle.map_assembly.specs.declared.view.MapSpan.{MapSpan}
 use Rattle.map_assembly.specs.Element.{is_null, FitsElement, spelled_elements, elements_in}
 use Rattle.map_assembly.specs.Reading.{element_of_span, null_at, is_pending, ElementsSay, MapReads}
-use Rattle.map_assembly.specs.Map.{idle_span, head_span, map_span, filled, map_spans, map_pending, map_header, frame_start, in_order, map_of, pending_at, elements_of_map}
+use Rattle.map_assembly.specs.Map.{idle_span, head_span, map_span, filled, map_spans, map_pending, map_header, frame_start, in_order, map_of, pending_at, elements_of_map, frame_elements}
 use Rattle.map_assembly.specs.Writing.{spelled_map}
 use Rattle.map_assembly.specs.Part.{is_within, is_mine, ArePartsOf}
 use Rattle.map_assembly.specs.Tiled.{touches, IsOwn, GivesNoMinislotTwice, part_of, own_part}
@@ -198,9 +198,6 @@ pub record AreFrame (layout : MapLayout) (shares : List Share) (slices : List Mi
   pub shares_are : AreShares shares
   pub slices_are : AreSlices layout (length shares) slices
   pub parts_are : ArePartsOf shares slices parts
-
-abbrev pub frame_elements : MapLayout → List ElementsFields → List MapElement
-frame_elements layout parts = elements_of_map layout.frame_minislots (map_spans layout (in_order parts)) (map_pending (in_order parts))
 
 frame_in_order : (layout : MapLayout) (shares : List Share) (slices : List Minislots) (parts : List ElementsFields) → AreFrame layout shares slices parts → InOrder layout.head layout.frame_minislots (in_order parts)
 frame_in_order layout shares slices parts h = parts_in_order layout (length shares) shares slices parts h.layout_is h.slices_are h.parts_are

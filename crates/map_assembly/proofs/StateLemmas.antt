@@ -22,13 +22,13 @@ use Rattle.map_assembly.specs.declared.element.MapElement.{MapElement}
 use Rattle.map_assembly.specs.Element.{FitsElement}
 use Rattle.map_assembly.specs.Reading.{MapReads}
 use Rattle.map_assembly.specs.Sorted.{order_of}
-use Rattle.map_assembly.specs.Map.{in_order, map_of, map_spans, map_pending, map_header, elements_of_map}
+use Rattle.map_assembly.specs.Map.{in_order, map_of, map_spans, map_pending, map_header, elements_of_map, frame_elements}
 use Rattle.map_assembly.specs.Writing.{spelled_map}
 use Rattle.map_assembly.specs.Gathering.{part_at}
-use Rattle.map_assembly.specs.Assembled.{IsMapOf, ordered_elements}
+use Rattle.map_assembly.specs.Assembled.{IsMapOf, ordered_elements, bytes_of_map}
 use Rattle.map_assembly.proofs.LastLemmas.{part_at_is, ordered_parts}
 use Rattle.map_assembly.proofs.PartLemmas.{slices_of_parts}
-use Rattle.map_assembly.proofs.MapLemmas.{AreFrame, frame_elements, frame_count, frame_fits, frame_reads, frame_tiled, frame_part}
+use Rattle.map_assembly.proofs.MapLemmas.{AreFrame, frame_count, frame_fits, frame_reads, frame_tiled, frame_part}
 
 -- ---- a part that is not refused
 
@@ -341,14 +341,16 @@ fit_ordered layout shares slices parts es h e = All-from_recursion FitsElement e
 
 pub is_map_of : (layout seen : MapLayout) (frame : ℕ) (shares : List Share) (slices : List Minislots) (parts : List ElementsFields) (es : List MapElement) (bytes : List ℕ) → AreFrame layout shares slices parts → seen ≡ layout → es ≡ frame_elements layout parts
     → bytes ≡ spelled_map (map_header seen frame (length es)) es → IsMapOf layout frame shares slices parts bytes
-is_map_of layout seen frame shares slices parts es bytes h same e b = record {
-  reads =
-      subst (λ (bs : List ℕ). MapReads bs (map_of layout frame parts))
-      (sym (b ∙ (ap (λ (xs : List MapElement). spelled_map (map_header seen frame (length xs)) xs) e ∙ ap (λ (l : MapLayout). spelled_map (map_header l frame (length (frame_elements layout parts))) (frame_elements layout parts)) same)))
-      (frame_reads layout frame shares slices parts h);
-  tiled = frame_tiled layout shares slices parts h;
-  own = λ k share part e f. frame_part layout frame shares slices parts k share part h e f;
-}
+is_map_of layout seen frame shares slices parts es bytes h same e b =
+    let spelled : bytes ≡ bytes_of_map layout frame parts =
+    b ∙ (ap (λ (xs : List MapElement). spelled_map (map_header seen frame (length xs)) xs) e
+    ∙ ap (λ (l : MapLayout). spelled_map (map_header l frame (length (frame_elements layout parts))) (frame_elements layout parts)) same) in
+    record {
+      bytes_are = spelled;
+      reads = subst (λ (bs : List ℕ). MapReads bs (map_of layout frame parts)) (sym spelled) (frame_reads layout frame shares slices parts h);
+      tiled = frame_tiled layout shares slices parts h;
+      own = λ k share part e f. frame_part layout frame shares slices parts k share part h e f;
+    }
 
 pub layout_seen : (g now : Gathering) → g ≡ now → g.layout ≡ now.layout
 layout_seen g now e = ap (λ (h : Gathering). h.layout) e

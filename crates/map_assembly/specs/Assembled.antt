@@ -1,5 +1,5 @@
 -- The MAP that the last part of a frame gives (own).
-use Rattle.std.specs.Prelude.{◌≡◌, ℕ, true, false, List, slice_get, Option, Some, None, map}
+use Rattle.std.specs.Prelude.{◌≡◌, ℕ, true, false, List, length, slice_get, Option, Some, None, map}
 use Rattle.slice_scheduler.specs.Minislots.{Minislots}
 use Rattle.slice_scheduler.specs.declared.elements.ElementsFields.{ElementsFields}
 use Rattle.map_assembly.specs.declared.element.MapElement.{MapElement}
@@ -7,13 +7,20 @@ use Rattle.map_assembly.specs.declared.layout.MapLayout.{MapLayout}
 use Rattle.map_assembly.specs.declared.map_bytes.MapBytes.{MapBytes}
 use Rattle.map_assembly.specs.declared.share.Share.{Share}
 use Rattle.map_assembly.specs.Reading.{MapReads}
-use Rattle.map_assembly.specs.Map.{map_of, map_spans, map_pending, elements_of_map}
+use Rattle.map_assembly.specs.Writing.{spelled_map}
+use Rattle.map_assembly.specs.Map.{map_of, map_header, map_spans, map_pending, elements_of_map, frame_elements}
 use Rattle.map_assembly.specs.Tiled.{GivesNoMinislotTwice, part_of, own_part}
 use Rattle.map_assembly.specs.Gathering.{Gathering, frame_slices, is_last, frame_parts, part_at}
 
--- the bytes are the MAP of a frame with these parts: they say what that MAP says, it gives no minislot twice, and each
--- operator's part of it is what that operator put
+-- the bytes of a frame's MAP: they follow from what MAPs have in common, the frame and the parts alone, to the last bit
+abbrev pub bytes_of_map : MapLayout → ℕ → List ElementsFields → List ℕ
+bytes_of_map layout frame parts =
+    spelled_map (map_header layout frame (length (frame_elements layout parts))) (frame_elements layout parts)
+
+-- the bytes are the MAP of a frame with these parts: they are spelled so, they say what that MAP says, it gives no minislot
+-- twice, and each operator's part of it is what that operator put
 pub record IsMapOf (layout : MapLayout) (frame : ℕ) (shares : List Share) (slices : List Minislots) (parts : List ElementsFields) (bytes : List ℕ) : Type 0 where
+  pub bytes_are : bytes ≡ bytes_of_map layout frame parts
   pub reads : MapReads bytes (map_of layout frame parts)
   pub tiled : GivesNoMinislotTwice layout.frame_minislots shares slices (map_of layout frame parts).spans
   pub own : (k : ℕ) (share : Share) (part : ElementsFields) → slice_get shares k ≡ Some share → slice_get parts k ≡ Some part → part_of share.sids (map_of layout frame parts) ≡ own_part part

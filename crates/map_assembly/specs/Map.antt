@@ -98,3 +98,8 @@ pending_at end sid = record { sid = sid; iuc = 5; offset = end }
 -- the elements that say these spans and grants pending
 abbrev pub elements_of_map : ℕ → List MapSpan → List ℕ → List MapElement
 elements_of_map end spans sids = map element_of_span spans ++ null_at end ∷ map (pending_at end) sids
+
+-- the elements of a frame's MAP, given the part of each operator
+abbrev pub frame_elements : MapLayout → List ElementsFields → List MapElement
+frame_elements layout parts =
+    elements_of_map layout.frame_minislots (map_spans layout (in_order parts)) (map_pending (in_order parts))

@@ -5,8 +5,6 @@ mod assembling;
 mod checking;
 mod element;
 mod gather;
-#[cfg(test)]
-mod gather_tests;
 mod layout;
 mod map_bytes;
 mod queue;
@@ -14,8 +12,6 @@ mod reading;
 mod refused;
 mod share;
 mod slicing;
-#[cfg(test)]
-mod tests;
 mod view;
 mod writing;
 

@@ -15,8 +15,6 @@ use Rattle.dsx_messages.specs.Reading.{message_of}
 use Rattle.dsx_messages.specs.Spelling.{spell_reply}
 use Rattle.transactions.specs.declared.entry.KeptEntry.{KeptEntry}
 use Rattle.transactions.specs.Entry.{same_kind, is_of, waits_for}
-use Rattle.slice_table.specs.declared.consts.ConstsFields.{ConstsFields}
-use Rattle.slice_table.specs.declared.operator_row.RowFields.{RowFields}
 use Rattle.slice_table.specs.Row.{same_modem}
 use Rattle.flow_table.specs.declared.flow.Flow.{Flow}
 use Rattle.flow_table.specs.Flow.{asks_for_grants, requested}
@@ -29,71 +27,71 @@ use Rattle.operator_machine.specs.declared.heard.Heard.{Heard}
 use Rattle.operator_machine.specs.declared.heard.Heard.TheVariants as heards
 use Rattle.operator_machine.specs.Verdict.{verdict, errored}
 use Rattle.operator_machine.specs.Machine.{taken_out, worked}
-use Rattle.operator_machine.specs.State.{OperatorState}
+use Rattle.operator_machine.specs.State.{Operator}
 use Rattle.operator_machine.specs.Asked.{refusal}
-use Rattle.operator_machine.specs.Handle.{Ran, told, silent, carried_out, is_of_cmts, new_unless, transacted, acked_if, kind_of, tid_of, message_handled, asked_of_flow, handle}
+use Rattle.operator_machine.specs.Handle.{told, silent, carried_out, is_of_cmts, new_unless, transacted, acked_if, kind_of, tid_of, message_handled, asked_of_flow, handle}
 
-module _ (consts : ConstsFields) (row : RowFields) (state : OperatorState) (modem : Modem) where
-  again : (kind : Kind) (entry : KeptEntry) (b : Bool) → (if b then told state modem entry.reply else silent state modem causes.TidInUse).state.inbox ≡ state.inbox
+module _ (op : Operator) (modem : Modem) where
+  again : (kind : Kind) (entry : KeptEntry) (b : Bool) → (if b then told op.state modem entry.reply else silent op.state modem causes.TidInUse).state.inbox ≡ op.state.inbox
   again kind entry true = refl
   again kind entry false = refl
 
   room : (kind : Kind) (tid : ℕ) (v : Verdict) (b : Bool)
-      → (if b then told state modem (spell_reply (refusal kind tid codes.RejectTemporary)) else carried_out consts state modem kind tid v).state.inbox ≡ state.inbox
+      → (if b then told op.state modem (spell_reply (refusal kind tid codes.RejectTemporary)) else carried_out op.consts op.state modem kind tid v).state.inbox ≡ op.state.inbox
   room kind tid v true = refl
   room kind tid v false = refl
 
-  new : (kind : Kind) (tid : ℕ) (v : Verdict) (o : Option KeptEntry) → (new_unless consts row state modem kind tid v o).state.inbox ≡ state.inbox
+  new : (kind : Kind) (tid : ℕ) (v : Verdict) (o : Option KeptEntry) → (new_unless op modem kind tid v o).state.inbox ≡ op.state.inbox
   new kind tid v (Some entry) = again kind entry (same_kind entry.kind kind)
-  new kind tid v None = room kind tid v (nat_le row.transactions (length state.kept))
+  new kind tid v None = room kind tid v (nat_le op.row.transactions (length op.state.kept))
 
   first : (kind : Kind) (tid : ℕ) (v : Verdict) (b : Bool)
-      → (if b then told state modem (spell_reply (refusal kind tid codes.RejectUnknownTransaction)) else new_unless consts row state modem kind tid v (find (is_of modem tid) state.kept)).state.inbox ≡ state.inbox
+      → (if b then told op.state modem (spell_reply (refusal kind tid codes.RejectUnknownTransaction)) else new_unless op modem kind tid v (find (is_of modem tid) op.state.kept)).state.inbox ≡ op.state.inbox
   first kind tid v true = refl
-  first kind tid v false = new kind tid v (find (is_of modem tid) state.kept)
+  first kind tid v false = new kind tid v (find (is_of modem tid) op.state.kept)
 
-  transacted_keeps : (kind : Kind) (tid : ℕ) (v : Verdict) → (transacted consts row state modem kind tid v).state.inbox ≡ state.inbox
+  transacted_keeps : (kind : Kind) (tid : ℕ) (v : Verdict) → (transacted op modem kind tid v).state.inbox ≡ op.state.inbox
   transacted_keeps kind tid v = first kind tid v (is_of_cmts tid)
 
-  acked_keeps : (tid : ℕ) (kind : Kind) (code : ℕ) (o : Option ℕ) → (acked_if consts state modem tid kind code o).state.inbox ≡ state.inbox
+  acked_keeps : (tid : ℕ) (kind : Kind) (code : ℕ) (o : Option ℕ) → (acked_if op.consts op.state modem tid kind code o).state.inbox ≡ op.state.inbox
   acked_keeps tid kind code None = refl
   acked_keeps tid kind code (Some sfid) = refl
 
-  message_keeps : (read : Result Message MessageFault) → (message_handled consts row state modem read).state.inbox ≡ state.inbox
+  message_keeps : (read : Result Message MessageFault) → (message_handled op modem read).state.inbox ≡ op.state.inbox
   message_keeps (Err faults.Empty) = refl
   message_keeps (Err (faults.NotOurs mtype)) = refl
   message_keeps (Err faults.Short) = refl
   message_keeps (Err (faults.Tlv tid kind id fault)) = transacted_keeps kind tid (Refused (errored kind tid id fault))
   message_keeps (Err (faults.LeftOut tid kind found)) = transacted_keeps kind tid (Refused (refusal kind tid codes.RejectUnrecognizedSetting))
   message_keeps (Err faults.NoMemory) = refl
-  message_keeps (Ok (messages.Ack kind tid code)) = acked_keeps tid kind code (option_map (λ entry. entry.sfid) (find (waits_for modem tid kind) state.kept))
-  message_keeps (Ok (messages.Request request)) = transacted_keeps (kind_of request) (tid_of request) (verdict consts row state modem request)
+  message_keeps (Ok (messages.Ack kind tid code)) = acked_keeps tid kind code (option_map (λ entry. entry.sfid) (find (waits_for modem tid kind) op.state.kept))
+  message_keeps (Ok (messages.Request request)) = transacted_keeps (kind_of request) (tid_of request) (verdict op modem request)
 
   asking : (minislots : ℕ) (entry : ℕ × Flow) (mine asks : Bool)
-      → (if not mine then silent state modem causes.NoSuchSid else if not asks then silent state modem causes.NotRequesting else
-      record { state = record state { flows = with_flow entry.0 (requested minislots state.frame entry.1) state.flows }; outputs = [] }).state.inbox ≡ state.inbox
+      → (if not mine then silent op.state modem causes.NoSuchSid else if not asks then silent op.state modem causes.NotRequesting else
+      record { state = record op.state { flows = with_flow entry.0 (requested minislots op.state.frame entry.1) op.state.flows }; outputs = [] }).state.inbox ≡ op.state.inbox
   asking minislots entry false asks = refl
   asking minislots entry true false = refl
   asking minislots entry true true = refl
 
-  asked_keeps : (minislots : ℕ) (o : Option (ℕ × Flow)) → (asked_of_flow state modem minislots o).state.inbox ≡ state.inbox
+  asked_keeps : (minislots : ℕ) (o : Option (ℕ × Flow)) → (asked_of_flow op.state modem minislots o).state.inbox ≡ op.state.inbox
   asked_keeps minislots None = refl
   asked_keeps minislots (Some entry) = asking minislots entry (same_modem entry.1.modem modem) (asks_for_grants entry.1.sets.active)
 
-  handle_keeps : (from : Modem) (heard : Heard) → from ≡ modem → (handle consts row state modem heard).state.inbox ≡ state.inbox
+  handle_keeps : (from : Modem) (heard : Heard) → from ≡ modem → (handle op modem heard).state.inbox ≡ op.state.inbox
   handle_keeps from (heards.Message bytes) same = message_keeps (message_of bytes)
-  handle_keeps from (heards.Request sid minislots) same = asked_keeps minislots (flow_with sid state.flows)
+  handle_keeps from (heards.Request sid minislots) same = asked_keeps minislots (flow_with sid op.state.flows)
 
 -- ---- what was handled first is taken out
 
-of_first : (consts : ConstsFields) (row : RowFields) (state : OperatorState) (first : Arrival) (inbox : List Arrival) → slice_get inbox 0 ≡ Some first
-    → worked consts row state inbox ≡ taken_out (drop 1 inbox) (handle consts row state first.modem first.heard)
-of_first consts row state first [] e = absurd (none-some first e)
-of_first consts row state first (x ∷ xs) e = ap (λ (f : Arrival). taken_out xs (handle consts row state f.modem f.heard)) (same_Some x first e)
+of_first : (op : Operator) (first : Arrival) (inbox : List Arrival) → slice_get inbox 0 ≡ Some first
+    → worked op inbox ≡ taken_out (drop 1 inbox) (handle op first.modem first.heard)
+of_first op first [] e = absurd (none-some first e)
+of_first op first (x ∷ xs) e = ap (λ (f : Arrival). taken_out xs (handle op f.modem f.heard)) (same_Some x first e)
 
-pub worked_is : (consts : ConstsFields) (row : RowFields) (state : OperatorState) (first : Arrival) (heard : Heard) → slice_get state.inbox 0 ≡ Some first → first.heard ≡ heard
-    → record (handle consts row state first.modem heard).state { inbox = drop 1 (handle consts row state first.modem heard).state.inbox } ≡ (worked consts row state state.inbox).state
-worked_is consts row state first heard e is =
-    ap (λ (xs : List Arrival). record (handle consts row state first.modem heard).state { inbox = drop 1 xs }) (handle_keeps consts row state first.modem first.modem heard refl)
-    ∙ ap (λ (h : Heard). record (handle consts row state first.modem h).state { inbox = drop 1 state.inbox }) (sym is)
-    ∙ sym (ap (λ (r : Ran). r.state) (of_first consts row state first state.inbox e))
+pub worked_is : (op : Operator) (first : Arrival) (heard : Heard) → slice_get op.state.inbox 0 ≡ Some first → first.heard ≡ heard
+    → taken_out (drop 1 (handle op first.modem heard).state.inbox) (handle op first.modem heard) ≡ worked op op.state.inbox
+worked_is op first heard e is =
+    ap (λ (xs : List Arrival). taken_out (drop 1 xs) (handle op first.modem heard)) (handle_keeps op first.modem first.modem heard refl)
+    ∙ ap (λ (h : Heard). taken_out (drop 1 op.state.inbox) (handle op first.modem h)) (sym is)
+    ∙ sym (of_first op first op.state.inbox e)

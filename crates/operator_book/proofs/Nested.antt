@@ -2,13 +2,13 @@
 use Rattle.std.proofs.Common.{◌≡◌, ℕ, Option, ap, subst}
 use Rattle.std.specs.Prelude.{Some, None, Result, Ok, Err}
 use Rattle.tlv24.specs.declared.fields.FlowFields.{FlowFields}
-use Rattle.dsx_messages.specs.declared.kind.Kind.{Kind}
 use Rattle.dsx_messages.specs.declared.code.Code.TheVariants.{RejectAuthorizationFailure}
 use Rattle.dsx_messages.specs.declared.reply.ReplyFields.{ReplyFields}
 use Rattle.param_sets.specs.Sets.{sets_unless}
 use Rattle.param_sets.specs.declared.param_set.ParamFields.{ParamFields}
 use Rattle.param_sets.specs.declared.sets.SetsFields.{SetsFields}
 use Rattle.param_sets.specs.declared.refusal.Refusal.{Refusal}
+use Rattle.operator_machine.specs.declared.verdict.Transaction.{Transaction}
 use Rattle.operator_machine.specs.declared.verdict.AskedSets.{AskedSets}
 use Rattle.operator_machine.specs.Asked.{refusal_naming, nested_unless, failing_active, failing_admitted, nested_sets}
 use Rattle.operator_book.specs.Over.{asked_over}
@@ -35,28 +35,28 @@ abbrev sets_in : Result SetsFields Refusal → SetsFields
 sets_in (Ok sets) = sets
 sets_in (Err r) = record { provisioned = None; admitted = None; active = None }
 
-unless_ok : (kind : Kind) (tid : ℕ) (first : FlowFields) (provisioned : Option ParamFields) (asked : AskedSets) (x : Option ℕ) (sets : SetsFields)
+unless_ok : (t : Transaction) (first : FlowFields) (provisioned : Option ParamFields) (asked : AskedSets) (x : Option ℕ) (sets : SetsFields)
     → sets_unless x RejectAuthorizationFailure (record { provisioned = provisioned; admitted = asked.admitted; active = asked.active }) ≡ Ok sets
-    → nested_unless kind tid first provisioned asked None x ≡ Ok sets
-unless_ok kind tid first provisioned asked None sets e = ap (λ (x : Result SetsFields Refusal). made (sets_in x)) e
-unless_ok kind tid first provisioned asked (Some n) sets e = absurd (subst (λ (x : Result SetsFields Refusal). IsRefused x) e tt)
+    → nested_unless t first provisioned asked None x ≡ Ok sets
+unless_ok t first provisioned asked None sets e = ap (λ (x : Result SetsFields Refusal). made (sets_in x)) e
+unless_ok t first provisioned asked (Some n) sets e = absurd (subst (λ (x : Result SetsFields Refusal). IsRefused x) e tt)
 
-unless_err : (kind : Kind) (tid : ℕ) (first : FlowFields) (provisioned : Option ParamFields) (asked : AskedSets) (x : Option ℕ) (r : Refusal)
+unless_err : (t : Transaction) (first : FlowFields) (provisioned : Option ParamFields) (asked : AskedSets) (x : Option ℕ) (r : Refusal)
     → sets_unless x RejectAuthorizationFailure (record { provisioned = provisioned; admitted = asked.admitted; active = asked.active }) ≡ Err r
-    → nested_unless kind tid first provisioned asked None x ≡ Err (refusal_naming kind tid RejectAuthorizationFailure first r.subtype)
-unless_err kind tid first provisioned asked None r e = absurd (subst (λ (x : Result SetsFields Refusal). IsMade x) e tt)
-unless_err kind tid first provisioned asked (Some n) r e =
-    ap (λ (x : Result SetsFields Refusal). refused (refusal_naming kind tid RejectAuthorizationFailure first (subtype_in x))) e
+    → nested_unless t first provisioned asked None x ≡ Err (refusal_naming t RejectAuthorizationFailure first r.subtype)
+unless_err t first provisioned asked None r e = absurd (subst (λ (x : Result SetsFields Refusal). IsMade x) e tt)
+unless_err t first provisioned asked (Some n) r e =
+    ap (λ (x : Result SetsFields Refusal). refused (refusal_naming t RejectAuthorizationFailure first (subtype_in x))) e
 
-pub nested_ok : (kind : Kind) (tid : ℕ) (first : FlowFields) (sets : SetsFields) (asked : AskedSets) (after : SetsFields)
-    → failing_active asked.active asked.admitted ≡ None → asked_over sets asked ≡ Ok after → nested_sets kind tid first sets.provisioned asked ≡ Ok after
+pub nested_ok : (t : Transaction) (first : FlowFields) (sets : SetsFields) (asked : AskedSets) (after : SetsFields)
+    → failing_active asked.active asked.admitted ≡ None → asked_over sets asked ≡ Ok after → nested_sets t first sets.provisioned asked ≡ Ok after
 unfolding nested_sets
-nested_ok kind tid first sets asked after active over =
-    rw active (unless_ok kind tid first sets.provisioned asked (failing_admitted asked.admitted sets.provisioned) after over)
+nested_ok t first sets asked after active over =
+    rw active (unless_ok t first sets.provisioned asked (failing_admitted asked.admitted sets.provisioned) after over)
 
-pub nested_err : (kind : Kind) (tid : ℕ) (first : FlowFields) (sets : SetsFields) (asked : AskedSets) (r : Refusal)
+pub nested_err : (t : Transaction) (first : FlowFields) (sets : SetsFields) (asked : AskedSets) (r : Refusal)
     → failing_active asked.active asked.admitted ≡ None → asked_over sets asked ≡ Err r
-    → nested_sets kind tid first sets.provisioned asked ≡ Err (refusal_naming kind tid RejectAuthorizationFailure first r.subtype)
+    → nested_sets t first sets.provisioned asked ≡ Err (refusal_naming t RejectAuthorizationFailure first r.subtype)
 unfolding nested_sets
-nested_err kind tid first sets asked r active over =
-    rw active (unless_err kind tid first sets.provisioned asked (failing_admitted asked.admitted sets.provisioned) r over)
+nested_err t first sets asked r active over =
+    rw active (unless_err t first sets.provisioned asked (failing_admitted asked.admitted sets.provisioned) r over)

@@ -10,14 +10,8 @@ use Rattle.slice_table.specs.declared.operator_row.RowFields.{RowFields}
 use Rattle.transactions.specs.Keeping.{Keeping}
 use Rattle.operator_machine.specs.declared.verdict.Verdict.{Verdict}
 use Rattle.operator_machine.specs.declared.verdict.Verdict.TheVariants.{Refused, Put, Deleted}
-use Rattle.operator_machine.specs.State.{OperatorState}
+use Rattle.operator_machine.specs.State.{Operator}
 use Rattle.operator_machine.specs.Handle.{Ran}
-
--- a machine: what all operators share, the operator's row, and the state
-pub record MachineView : Type 0 where
-  pub consts : ConstsFields
-  pub row : RowFields
-  pub state : OperatorState
 
 -- the flows and the kept responses have the row's room, the plant's measures and its timers
 pub record IsMachine (consts : ConstsFields) (row : RowFields) (flows : FlowTable) (kept : Keeping) : Type 0 where
@@ -27,7 +21,7 @@ pub record IsMachine (consts : ConstsFields) (row : RowFields) (flows : FlowTabl
   pub timers : kept.waits ≡ consts.timers
 
 -- the machine's flows as a table
-abbrev pub table_of : MachineView → FlowTable
+abbrev pub table_of : Operator → FlowTable
 table_of m = record { capacity = m.row.flows; units = m.consts.units; flows = m.state.flows }
 
 -- a flow that is to be put may stand
@@ -37,7 +31,7 @@ MayPut table (Put sfid flow reply) = MayStand table sfid flow
 MayPut table (Deleted sfid reply) = Unit {0}
 
 -- what has run, and what it put out
-abbrev pub with_state : MachineView → Ran → MachineView
+abbrev pub with_state : Operator → Ran → Operator
 with_state m ran = record m { state = ran.state }
 
 -- of a request at fault: it is an addition or a change, and the identifier that is told is of its kind

@@ -9,9 +9,9 @@ ghost use Rattle.operator_book.specs.Over.{asked_over};
 ghost use Rattle.operator_machine.specs.Asked.{stand_together, is_unclassed, number_in, is_same, has_set_type, first_of, first_encoding, free_flow, set_of, is_change, asked_by_type, asked_by_one, in_order, asked_by_two, asked_sets, failing_active, failing_admitted, nested_sets, addition_of, change_of};
 
 use crate::refusal::{refusal, refusal_naming};
-use dsx_messages::{Code, Kind, Modem, Reply};
+use dsx_messages::{Code, Kind, Reply};
 use flow_table::{Flow, Flows};
-use operator_machine::{Addition, AskedSets, Change};
+use operator_machine::{Addition, AskedSets, Change, Transaction};
 use param_sets::{ParamSet, Refusal, Sets, from_tlv, within};
 use slice_table::Consts;
 use tlv24::FlowTlv;
@@ -71,17 +71,17 @@ fn all_name(kind: Kind, first: &FlowTlv, others: &[FlowTlv]) -> bool
 }
 
 /// The first of the encodings, where they stand together.
-fn first_of(kind: Kind, tid: u16, encodings: &[FlowTlv]) -> Result<FlowTlv, Reply>
-    ensures { result ≡ first_of kind tid encodings.now }
+fn first_of(t: Transaction, encodings: &[FlowTlv]) -> Result<FlowTlv, Reply>
+    ensures { result ≡ first_of t encodings.now }
 {
     let Some((first, others)) = encodings.split_first() else {
-        return Err(refusal(kind, tid, Code::RejectRequiredParameterNotPresent));
+        return Err(refusal(t.kind, t.tid, Code::RejectRequiredParameterNotPresent));
     };
-    if !all_name(kind, first, others) {
-        return Err(refusal(kind, tid, Code::RejectMultipleUpstreamFlows));
+    if !all_name(t.kind, first, others) {
+        return Err(refusal(t.kind, t.tid, Code::RejectMultipleUpstreamFlows));
     }
     if !stand_together(encodings) {
-        return Err(refusal(kind, tid, Code::RejectDuplicateReference));
+        return Err(refusal(t.kind, t.tid, Code::RejectDuplicateReference));
     }
     Ok(*first)
 }
@@ -95,54 +95,44 @@ fn first_unclassed<'a>(consts: &Consts, encodings: &'a [FlowTlv]) -> Option<&'a 
 
 /// The first of the encodings, where they stand together and none names a class that the plant has not.
 #[tactic(auto, unfolding(operator_machine::specs::Asked::first_encoding))]
-fn first_encoding(
-    kind: Kind,
-    tid: u16,
-    consts: &Consts,
-    encodings: &[FlowTlv],
-) -> Result<FlowTlv, Reply>
-    requires { kind ≢ Dsd }
-    ensures { result ≡ first_encoding kind tid consts.now.classes encodings.now }
+fn first_encoding(t: Transaction, consts: &Consts, encodings: &[FlowTlv]) -> Result<FlowTlv, Reply>
+    requires { t.kind ≢ Dsd }
+    ensures { result ≡ first_encoding t consts.now.classes encodings.now }
 {
     match first_unclassed(consts, encodings) {
-        Some(flow) => Err(refusal_naming(kind, tid, Code::RejectPermanent, flow, 4)),
-        None => first_of(kind, tid, encodings),
+        Some(flow) => Err(refusal_naming(t, Code::RejectPermanent, flow, 4)),
+        None => first_of(t, encodings),
     }
 }
 
 /// The flow of an SFID, where this modem may change or delete it now.
-pub(crate) fn free_flow(
-    kind: Kind,
-    tid: u16,
-    modem: Modem,
-    flow: Option<Flow>,
-) -> Result<Flow, Reply>
-    ensures { result ≡ free_flow kind tid modem flow }
+pub(crate) fn free_flow(t: Transaction, flow: Option<Flow>) -> Result<Flow, Reply>
+    ensures { result ≡ free_flow t flow }
 {
     let Some(flow) = flow else {
-        return Err(refusal(kind, tid, Code::RejectFlowNotFound));
+        return Err(refusal(t.kind, t.tid, Code::RejectFlowNotFound));
     };
-    if flow.modem != modem {
-        return Err(refusal(kind, tid, Code::RejectNotOwner));
+    if flow.modem != t.modem {
+        return Err(refusal(t.kind, t.tid, Code::RejectNotOwner));
     }
     if flow.pending.is_some() {
-        return Err(refusal(kind, tid, Code::RejectTemporary));
+        return Err(refusal(t.kind, t.tid, Code::RejectTemporary));
     }
     Ok(flow)
 }
 
 /// The parameter set of an encoding, over its class.
 #[tactic(auto, unfolding(operator_machine::specs::Asked::set_of), using(crate::proofs::Replies::set_is_refused))]
-fn set_of(kind: Kind, tid: u16, consts: &Consts, flow: &FlowTlv) -> Result<ParamSet, Reply>
-    requires { kind ≢ Dsd }
-    ensures { result ≡ set_of kind tid consts.now flow.now }
+fn set_of(t: Transaction, consts: &Consts, flow: &FlowTlv) -> Result<ParamSet, Reply>
+    requires { t.kind ≢ Dsd }
+    ensures { result ≡ set_of t consts.now flow.now }
 {
     let Some(asked) = consts.asked(flow) else {
-        return Err(refusal_naming(kind, tid, Code::RejectPermanent, flow, 4));
+        return Err(refusal_naming(t, Code::RejectPermanent, flow, 4));
     };
     match from_tlv(&asked, &consts.get_fields().units) {
         Ok(set) => Ok(set),
-        Err(refused) => Err(refusal_naming(kind, tid, refused.code, flow, refused.subtype)),
+        Err(refused) => Err(refusal_naming(t, refused.code, flow, refused.subtype)),
     }
 }
 
@@ -154,46 +144,45 @@ fn is_change(kind: Kind) -> bool
 
 /// The sets that one encoding of this set type asks for.
 fn asked_by_type(
-    kind: Kind,
-    tid: u16,
+    t: Transaction,
     consts: &Consts,
     flow: &FlowTlv,
     set_type: u8,
 ) -> Result<AskedSets, Reply>
-    requires { kind ≢ Dsd }
-    ensures { result ≡ asked_by_type kind tid consts.now flow.now set_type }
+    requires { t.kind ≢ Dsd }
+    ensures { result ≡ asked_by_type t consts.now flow.now set_type }
 {
     match set_type {
         2 => {
-            let set = set_of(kind, tid, consts, flow)?;
+            let set = set_of(t, consts, flow)?;
             Ok(AskedSets {
                 admitted: Some(set),
                 active: None,
             })
         }
         6 => {
-            let set = set_of(kind, tid, consts, flow)?;
+            let set = set_of(t, consts, flow)?;
             Ok(AskedSets {
                 admitted: Some(set),
                 active: Some(set),
             })
         }
-        0 if is_change(kind) => Ok(AskedSets {
+        0 if is_change(t.kind) => Ok(AskedSets {
             admitted: None,
             active: None,
         }),
-        _ => Err(refusal_naming(kind, tid, Code::RejectInvalidForContext, flow, 6)),
+        _ => Err(refusal_naming(t, Code::RejectInvalidForContext, flow, 6)),
     }
 }
 
 /// The sets that one encoding asks for.
-fn asked_by_one(kind: Kind, tid: u16, consts: &Consts, flow: &FlowTlv) -> Result<AskedSets, Reply>
-    requires { kind ≢ Dsd }
-    ensures { result ≡ asked_by_one kind tid consts.now flow.now flow.now.set_type }
+fn asked_by_one(t: Transaction, consts: &Consts, flow: &FlowTlv) -> Result<AskedSets, Reply>
+    requires { t.kind ≢ Dsd }
+    ensures { result ≡ asked_by_one t consts.now flow.now flow.now.set_type }
 {
     match flow.get_set_type() {
-        None => Err(refusal_naming(kind, tid, Code::RejectRequiredParameterNotPresent, flow, 6)),
-        Some(set_type) => asked_by_type(kind, tid, consts, flow, set_type),
+        None => Err(refusal_naming(t, Code::RejectRequiredParameterNotPresent, flow, 6)),
+        Some(set_type) => asked_by_type(t, consts, flow, set_type),
     }
 }
 
@@ -216,35 +205,29 @@ fn in_order(first: &FlowTlv, a: ParamSet, b: ParamSet) -> AskedSets
 
 /// The sets that two encodings ask for.
 fn asked_by_two(
-    kind: Kind,
-    tid: u16,
+    t: Transaction,
     consts: &Consts,
     first: &FlowTlv,
     second: &FlowTlv,
 ) -> Result<AskedSets, Reply>
-    requires { kind ≢ Dsd }
-    ensures { result ≡ asked_by_two kind tid consts.now first.now second.now }
+    requires { t.kind ≢ Dsd }
+    ensures { result ≡ asked_by_two t consts.now first.now second.now }
 {
-    let a = set_of(kind, tid, consts, first)?;
-    let b = set_of(kind, tid, consts, second)?;
+    let a = set_of(t, consts, first)?;
+    let b = set_of(t, consts, second)?;
     Ok(in_order(first, a, b))
 }
 
 /// The sets that the encodings of a request ask for.
 #[tactic(auto, unfolding(operator_machine::specs::Asked::asked_sets))]
-fn asked_sets(
-    kind: Kind,
-    tid: u16,
-    consts: &Consts,
-    encodings: &[FlowTlv],
-) -> Result<AskedSets, Reply>
-    requires { kind ≢ Dsd }
-    ensures { result ≡ asked_sets kind tid consts.now encodings.now }
+fn asked_sets(t: Transaction, consts: &Consts, encodings: &[FlowTlv]) -> Result<AskedSets, Reply>
+    requires { t.kind ≢ Dsd }
+    ensures { result ≡ asked_sets t consts.now encodings.now }
 {
     match encodings {
-        [flow] => asked_by_one(kind, tid, consts, flow),
-        [first, second] => asked_by_two(kind, tid, consts, first, second),
-        _ => Err(refusal(kind, tid, Code::RejectDuplicateReference)),
+        [flow] => asked_by_one(t, consts, flow),
+        [first, second] => asked_by_two(t, consts, first, second),
+        _ => Err(refusal(t.kind, t.tid, Code::RejectDuplicateReference)),
     }
 }
 
@@ -262,23 +245,21 @@ fn failing_active(asked: &AskedSets) -> Option<u8>
 /// The flow's sets with those that are asked for.
 #[tactic(auto, unfolding(operator_machine::specs::Asked::nested_sets))]
 fn nested_sets(
-    kind: Kind,
-    tid: u16,
+    t: Transaction,
     first: &FlowTlv,
     sets: Sets,
     asked: &AskedSets,
 ) -> Result<Sets, Reply>
-    requires { kind ≢ Dsd }
-    ensures { result ≡ nested_sets kind tid first.now sets.provisioned asked.now }
+    requires { t.kind ≢ Dsd }
+    ensures { result ≡ nested_sets t first.now sets.provisioned asked.now }
 {
     if let Some(subtype) = failing_active(asked) {
-        return Err(refusal_naming(kind, tid, Code::RejectInvalidForContext, first, subtype));
+        return Err(refusal_naming(t, Code::RejectInvalidForContext, first, subtype));
     }
     match with_asked(sets, asked) {
         Ok(sets) => Ok(sets),
         Err(refused) => Err(refusal_naming(
-            kind,
-            tid,
+            t,
             Code::RejectAuthorizationFailure,
             first,
             refused.subtype,
@@ -305,23 +286,18 @@ fn with_asked(sets: Sets, asked: &AskedSets) -> Result<Sets, Refusal>
 #[tactic(auto, unfolding(operator_machine::specs::Asked::addition_of))]
 pub(crate) fn addition_of(
     consts: &Consts,
-    tid: u16,
+    t: Transaction,
     encodings: &[FlowTlv],
 ) -> Result<Addition, Reply>
-    ensures { result ≡ addition_of consts.now tid encodings.now }
+    requires { t.kind ≢ Dsd }
+    ensures { result ≡ addition_of consts.now t encodings.now }
 {
-    let first = first_encoding(Kind::Dsa, tid, consts, encodings)?;
+    let first = first_encoding(t, consts, encodings)?;
     let Some(reference) = first.get_reference() else {
-        return Err(refusal_naming(
-            Kind::Dsa,
-            tid,
-            Code::RejectRequiredParameterNotPresent,
-            &first,
-            1,
-        ));
+        return Err(refusal_naming(t, Code::RejectRequiredParameterNotPresent, &first, 1));
     };
-    let asked = asked_sets(Kind::Dsa, tid, consts, encodings)?;
-    let sets = nested_sets(Kind::Dsa, tid, &first, Sets::dynamic(), &asked)?;
+    let asked = asked_sets(t, consts, encodings)?;
+    let sets = nested_sets(t, &first, Sets::dynamic(), &asked)?;
     Ok(Addition { reference, sets })
 }
 
@@ -330,25 +306,19 @@ pub(crate) fn addition_of(
 pub(crate) fn change_of(
     consts: &Consts,
     flows: &Flows,
-    modem: Modem,
-    tid: u16,
+    t: Transaction,
     encodings: &[FlowTlv],
 ) -> Result<Change, Reply>
-    ensures value { result ≡ change_of consts.now flows.now.flows modem tid encodings.now }
+    requires { t.kind ≢ Dsd }
+    ensures value { result ≡ change_of consts.now flows.now.flows t encodings.now }
     ensures there { IfOk result (λ change. flow_at change.sfid flows.now.flows ≡ Some change.flow) }
 {
-    let first = first_encoding(Kind::Dsc, tid, consts, encodings)?;
+    let first = first_encoding(t, consts, encodings)?;
     let Some(sfid) = first.get_sfid() else {
-        return Err(refusal_naming(
-            Kind::Dsc,
-            tid,
-            Code::RejectRequiredParameterNotPresent,
-            &first,
-            2,
-        ));
+        return Err(refusal_naming(t, Code::RejectRequiredParameterNotPresent, &first, 2));
     };
-    let flow = free_flow(Kind::Dsc, tid, modem, flows.get(sfid))?;
-    let asked = asked_sets(Kind::Dsc, tid, consts, encodings)?;
-    let sets = nested_sets(Kind::Dsc, tid, &first, flow.sets, &asked)?;
+    let flow = free_flow(t, flows.get(sfid))?;
+    let asked = asked_sets(t, consts, encodings)?;
+    let sets = nested_sets(t, &first, flow.sets, &asked)?;
     Ok(Change { sfid, flow, sets })
 }

@@ -6,11 +6,10 @@ ghost use Rattle.slice_table.specs.Row.{IsRowOf};
 ghost use Rattle.operator_machine.specs.declared.action.Unfit.{Unfit};
 ghost use Rattle.operator_machine.specs.declared.action.Action.{Action};
 ghost use Rattle.operator_machine.specs.declared.action.Action.TheVariants as actions;
-ghost use Rattle.operator_machine.specs.State.{opened};
-ghost use Rattle.operator_machine.specs.Machine.{own_step, stranger_of, is_spent, unfit_from, unfit_of, IsAllowed};
-ghost use Rattle.operator_machine.specs.Replay.{IsReplay, acted};
-ghost use Rattle.operator_machine.specs.Sound.{IsSound};
+ghost use Rattle.operator_machine.specs.Machine.{is_spent};
+ghost use Rattle.operator_machine.specs.Replay.{acted};
 ghost use Rattle.operator_book.specs.MostOutputs.{most_outputs_of};
+ghost use Rattle.operator_book.specs.OfBook.{opened_book, outputs_of, stranger_of, unfit_of, unfit_from, IsAllowed, IsReplayed, IsSound};
 ghost use Rattle.operator_book.specs.declared.book.OpenFault.TheVariants as open_faults;
 ghost use Rattle.operator_book.specs.declared.book.BookFault.TheVariants.{NoMemory};
 
@@ -80,7 +79,7 @@ impl Book {
         ranking: Ranking,
     ) -> Result<Book, OpenFault>
         requires { IsRowOf consts.now row.now }
-        ensures ok { IfOk result (λ book. book.kept.book ≡ record { row = row.now; consts = consts.now; state = opened consts.now row.now; history = [] }) }
+        ensures ok { IfOk result (λ book. book.kept.book ≡ opened_book row.now consts.now) }
         ensures mismatch { (result ≡ Err OpenFault.PolicyMismatch) ↔ (ranking.policy ≢ row.now.policy) }
     {
         if ranking.policy() != row.get_fields().policy {
@@ -93,15 +92,17 @@ impl Book {
     /// Does an action, and tells what it puts out. A refused action changes nothing but that there may be more spare room.
     pub fn act(&mut self, alloc: Global, action: Action) -> Result<Vec<Output>, BookFault>
         ensures state { OnOk result (self.new.kept.book ≡ acted self.old.kept.book action) }
-        ensures outputs { IfOk result (λ outputs. outputs.items ≡ (own_step self.old.kept.book.consts self.old.kept.book.row self.old.kept.book.state action).outputs) }
+        ensures outputs { IfOk result (λ outputs. outputs.items ≡ outputs_of self.old.kept.book action) }
 
         // A stranger is refused first, then a tick past the last frame, then a slice that does not fit, and only these are;
         // else only memory can be wanting.
-        ensures not_mine { (modem : Modem) → (result ≡ Err (BookFault.NotMine modem)) ↔ (stranger_of self.old.kept.book.row action ≡ Some modem) }
+        ensures not_mine { (modem : Modem) → (result ≡ Err (BookFault.NotMine modem))
+            ↔ (stranger_of self.old.kept.book action ≡ Some modem) }
         ensures spent { (result ≡ Err BookFault.FramesSpent) ↔ (is_spent self.old.kept.book.state action ≡ true) }
-        ensures unfit { (u : Unfit) → (result ≡ Err (BookFault.Unfit u)) ↔ (unfit_of self.old.kept.book.consts self.old.kept.book.state action ≡ Some u) }
-        ensures allowed { OnOk result (IsAllowed self.old.kept.book.consts self.old.kept.book.row self.old.kept.book.state action) }
+        ensures unfit { (u : Unfit) → (result ≡ Err (BookFault.Unfit u)) ↔ (unfit_of self.old.kept.book action ≡ Some u) }
+        ensures allowed { OnOk result (IsAllowed self.old.kept.book action) }
         ensures err { OnErr result (self.new.kept.book ≡ self.old.kept.book) }
+        ensures ranking { self.new.ranking ≡ self.old.ranking }
     {
         if let Some(modem) = self.stranger_of(&action) {
             return Err(BookFault::NotMine { modem });
@@ -117,8 +118,8 @@ impl Book {
 
     /// Whether a slice and a budget can be taken from this frame on. Takes no memory.
     pub fn offer(&self, from: u32, row: SliceRow) -> Result<(), Unfit>
-        ensures unfit { (u : Unfit) → (result ≡ Err u) ↔ (unfit_from self.now.kept.book.consts self.now.kept.book.state from row ≡ Some u) }
-        ensures fit { OnOk result (unfit_from self.now.kept.book.consts self.now.kept.book.state from row ≡ None) }
+        ensures unfit { (u : Unfit) → (result ≡ Err u) ↔ (unfit_from self.now.kept.book from row ≡ Some u) }
+        ensures fit { OnOk result (unfit_from self.now.kept.book from row ≡ None) }
     {
         match self.kept.machine.unfit_from(from, row) {
             Some(unfit) => Err(unfit),
@@ -136,7 +137,7 @@ impl Book {
 
     /// Takes a slice that `offer` found fit, in the room that `make_room` made. Takes no memory, and cannot fail.
     pub fn reslice(&mut self, from: u32, row: SliceRow)
-        requires fit { unfit_from self.old.kept.book.consts self.old.kept.book.state from row ≡ None }
+        requires fit { unfit_from self.old.kept.book from row ≡ None }
         requires spare { 0 < self.old.kept.spare }
         ensures { self.new.kept.book ≡ acted self.old.kept.book (actions.Reslice from row) }
     {
@@ -148,7 +149,7 @@ impl Book {
     #[tactic(auto, using(crate::proofs::Few::few_outputs))]
     pub fn most_outputs(&self, action: &Action) -> usize
         ensures value { result ≡ most_outputs_of self.now.kept.book.state action.now }
-        ensures bound { length (own_step self.now.kept.book.consts self.now.kept.book.row self.now.kept.book.state action.now).outputs ≤ result }
+        ensures bound { length (outputs_of self.now.kept.book action.now) ≤ result }
         ensures few { result ≤ 65537 }
     {
         match action {
@@ -159,7 +160,7 @@ impl Book {
 
     /// The modem of an Arrive, where it is not of this row.
     fn stranger_of(&self, action: &Action) -> Option<Modem>
-        ensures { result ≡ stranger_of self.now.kept.book.row action.now }
+        ensures { result ≡ stranger_of self.now.kept.book action.now }
     {
         match action {
             Action::Arrive { modem, heard: _ } => {
@@ -187,7 +188,7 @@ impl Book {
 
     /// Why a slice that is offered cannot be taken.
     fn unfit_of(&self, action: &Action) -> Option<Unfit>
-        ensures { result ≡ unfit_of self.now.kept.book.consts self.now.kept.book.state action.now }
+        ensures { result ≡ unfit_of self.now.kept.book action.now }
     {
         match action {
             Action::Reslice { from, row } => self.kept.machine.unfit_from(*from, *row),
@@ -223,9 +224,26 @@ impl Book {
         &self.kept.machine.consts
     }
 
+    /// The book taken apart: its machine with its history, and its ranking, which follows the row's policy.
+    pub fn into_parts(self) -> (Logged, Ranking)
+        requires { self.ranking.policy ≡ self.kept.book.row.policy }
+        ensures { (result.0 ≡ self.kept) × (result.1 ≡ self.ranking) × (result.1.policy ≡ result.0.book.row.policy) }
+    {
+        let Book { kept, ranking } = self;
+        (kept, ranking)
+    }
+
+    /// The book of these parts.
+    pub fn of_parts(kept: Logged, ranking: Ranking) -> Book
+        requires { ranking.policy ≡ kept.book.row.policy }
+        ensures { (result.kept ≡ kept) × (result.ranking ≡ ranking) }
+    {
+        Book { kept, ranking }
+    }
+
     /// A law: the state is the replay of the history, and each entry's outputs are the run's.
     pub fn replay(&self)
-        ensures { IsReplay self.now.kept.book.consts self.now.kept.book.row self.now.kept.book.history self.now.kept.book.state }
+        ensures { IsReplayed self.now.kept.book }
     {
         self.kept.kept();
     }
@@ -234,7 +252,7 @@ impl Book {
     /// inbox never pass the row's limits; what is committed never passes the quota, nor the budget in force, nor one that
     /// waits for its frame.
     pub fn sound(&self)
-        ensures { IsSound self.now.kept.book.consts self.now.kept.book.row self.now.kept.book.state }
+        ensures { IsSound self.now.kept.book }
     {
         self.kept.kept();
     }

@@ -1,6 +1,6 @@
 //! How what was heard is handled.
 
-ghost use Rattle.std.specs.Prelude.{◌≡◌, ◌≢◌, ◌<◌, [], ◌∷◌, ◌++◌, None, IsNone, All, Result, Ok, Err, IfOk, IfErr, IfSome, OnOk, OnErr, length, find, drop};
+ghost use Rattle.std.specs.Prelude.{◌≡◌, ◌≢◌, ◌<◌, [], ◌∷◌, ◌++◌, None, IsNone, All, Result, Ok, Err, IfOk, IfErr, IfSome, IfNone, OnOk, OnErr, length, find, drop};
 ghost use Rattle.dsx_messages.specs.declared.code.Code.TheVariants.{Okay};
 ghost use Rattle.dsx_messages.specs.Spelling.{spell_reply};
 ghost use Rattle.dsx_messages.specs.declared.message.Message.{Message};
@@ -16,9 +16,10 @@ ghost use Rattle.operator_machine.specs.declared.verdict.Verdict.{Verdict};
 ghost use Rattle.operator_machine.specs.declared.verdict.Verdict.TheVariants.{Refused, Put, Deleted};
 ghost use Rattle.operator_machine.specs.declared.output.Output.TheVariants as outputs;
 ghost use Rattle.operator_machine.specs.Asked.{refusal};
-ghost use Rattle.operator_machine.specs.Handle.{change_at, undone, carried_out, transacted, acked, tid_of, kind_of, message_handled, asked_of_flow};
-ghost use Rattle.operator_machine.specs.Machine.{arrived, worked};
-ghost use Rattle.operator_book.specs.Held.{table_of, MayPut, HasRightId, with_state};
+ghost use Rattle.operator_machine.specs.Handle.{transacted, message_handled, undone, tid_of, kind_of};
+ghost use Rattle.operator_book.specs.Held.{table_of, MayPut, HasRightId};
+ghost use Rattle.operator_book.specs.Does.{Does};
+ghost use Rattle.operator_book.specs.Running.{with_flows, with_change, with_inbox, keeping, told, carried_out, IsAnswered, IsNew, acked, asked_of_flow, worked, arrived};
 
 use crate::machine::{Both, Machine, answer, nothing, silent};
 use crate::refusal::{errored, refusal};
@@ -51,7 +52,7 @@ fn tid_of(request: &Request) -> u16
 /// A refusal that is not kept.
 fn unkept(alloc: Global, modem: Modem, kind: Kind, tid: u16, code: Code) -> Result<Both, AllocError>
     requires { code ≢ Okay }
-    ensures { IfOk result (λ both. both.told.items ≡ outputs.Reply modem (spell_reply (refusal kind tid code)) ∷ []) }
+    ensures { IfOk result (λ both. both.told.items ≡ told modem (refusal kind tid code)) }
 {
     let reply = Bytes::from_vec(write_reply(alloc, &refusal(kind, tid, code))?);
     answer(alloc, modem, &reply)
@@ -62,7 +63,7 @@ impl Machine {
     fn keep(&mut self, modem: Modem, kind: Kind, tid: u16, reply: Bytes, sfid: u32, waits: bool)
         requires free { IsNone (find (is_of modem tid) self.old.state.kept) }
         requires room { length self.old.state.kept < self.old.row.transactions }
-        ensures { self.new ≡ record self.old { state = record self.old.state { kept = self.old.state.kept ++ begun self.old.consts.timers modem tid kind reply sfid waits ∷ [] } } }
+        ensures { self.new ≡ keeping self.old modem tid kind reply sfid waits }
     {
         match self.kept.begin(modem, tid, kind, reply, sfid, waits) {
             Ok(()) => {}
@@ -81,9 +82,7 @@ impl Machine {
     ) -> Result<Both, AllocError>
         requires free { IsNone (find (is_of modem tid) self.old.state.kept) }
         requires room { length self.old.state.kept < self.old.row.transactions }
-        ensures state { OnOk result (self.new ≡ with_state self.old (carried_out self.old.consts self.old.state modem kind tid (Refused reply))) }
-        ensures outputs { IfOk result (λ both. both.told.items ≡ (carried_out self.old.consts self.old.state modem kind tid (Refused reply)).outputs) }
-        ensures err { OnErr result (self.new ≡ self.old) }
+        ensures { Does self.old self.new result (carried_out self.old modem kind tid (Refused reply)) }
     {
         let bytes = Bytes::from_vec(write_reply(alloc, &reply)?);
         let both = answer(alloc, modem, &bytes)?;
@@ -105,9 +104,7 @@ impl Machine {
         requires stands { MayStand (table_of self.old) sfid flow }
         requires free { IsNone (find (is_of modem tid) self.old.state.kept) }
         requires room { length self.old.state.kept < self.old.row.transactions }
-        ensures state { OnOk result (self.new ≡ with_state self.old (carried_out self.old.consts self.old.state modem kind tid (Put sfid flow reply))) }
-        ensures outputs { IfOk result (λ both. both.told.items ≡ (carried_out self.old.consts self.old.state modem kind tid (Put sfid flow reply)).outputs) }
-        ensures err { OnErr result (self.new ≡ self.old) }
+        ensures { Does self.old self.new result (carried_out self.old modem kind tid (Put sfid flow reply)) }
     {
         let bytes = Bytes::from_vec(write_reply(alloc, &reply)?);
         let both = answer(alloc, modem, &bytes)?;
@@ -128,9 +125,7 @@ impl Machine {
     ) -> Result<Both, AllocError>
         requires free { IsNone (find (is_of modem tid) self.old.state.kept) }
         requires room { length self.old.state.kept < self.old.row.transactions }
-        ensures state { OnOk result (self.new ≡ with_state self.old (carried_out self.old.consts self.old.state modem kind tid (Deleted sfid reply))) }
-        ensures outputs { IfOk result (λ both. both.told.items ≡ (carried_out self.old.consts self.old.state modem kind tid (Deleted sfid reply)).outputs) }
-        ensures err { OnErr result (self.new ≡ self.old) }
+        ensures { Does self.old self.new result (carried_out self.old modem kind tid (Deleted sfid reply)) }
     {
         let bytes = Bytes::from_vec(write_reply(alloc, &reply)?);
         let both = answer(alloc, modem, &bytes)?;
@@ -151,9 +146,7 @@ impl Machine {
         requires puts { MayPut (table_of self.old) verdict }
         requires free { IsNone (find (is_of modem tid) self.old.state.kept) }
         requires room { length self.old.state.kept < self.old.row.transactions }
-        ensures state { OnOk result (self.new ≡ with_state self.old (carried_out self.old.consts self.old.state modem kind tid verdict)) }
-        ensures outputs { IfOk result (λ both. both.told.items ≡ (carried_out self.old.consts self.old.state modem kind tid verdict).outputs) }
-        ensures err { OnErr result (self.new ≡ self.old) }
+        ensures { Does self.old self.new result (carried_out self.old modem kind tid verdict) }
     {
         match verdict {
             Verdict::Refused { reply } => self.refused_out(alloc, modem, kind, tid, reply),
@@ -175,10 +168,8 @@ impl Machine {
         kind: Kind,
         tid: u16,
     ) -> Result<Option<Both>, AllocError>
-        ensures told { IfOk result (λ early. IfSome early (λ both. (v : Verdict) → transacted self.now.consts self.now.row self.now.state modem kind tid v ≡ record { state = self.now.state; outputs = both.told.items })) }
-        ensures new { IfOk result (λ early. early ≡ None → (v : Verdict) → transacted self.now.consts self.now.row self.now.state modem kind tid v ≡ carried_out self.now.consts self.now.state modem kind tid v) }
-        ensures free { IfOk result (λ early. early ≡ None → IsNone (find (is_of modem tid) self.now.state.kept)) }
-        ensures room { IfOk result (λ early. early ≡ None → length self.now.state.kept < self.now.row.transactions) }
+        ensures told { IfOk result (λ early. IfSome early (λ both. IsAnswered self.now modem kind tid both.told.items)) }
+        ensures new { IfOk result (λ early. IfNone early (IsNew self.now modem kind tid)) }
     {
         if tid >= 0x8000 {
             let both = unkept(alloc, modem, kind, tid, Code::RejectUnknownTransaction)?;
@@ -207,9 +198,7 @@ impl Machine {
         request: &Request,
     ) -> Result<Both, AllocError>
         requires { All (IsIn self.old.row.sids) (sids_of self.old.state.flows) }
-        ensures state { OnOk result (self.new ≡ with_state self.old (message_handled self.old.consts self.old.row self.old.state modem (Ok (messages.Request request.now)))) }
-        ensures outputs { IfOk result (λ both. both.told.items ≡ (message_handled self.old.consts self.old.row self.old.state modem (Ok (messages.Request request.now))).outputs) }
-        ensures err { OnErr result (self.new ≡ self.old) }
+        ensures { Does self.old self.new result (message_handled self.old modem (Ok (messages.Request request.now))) }
     {
         let kind = kind_of(request);
         let tid = tid_of(request);
@@ -231,9 +220,7 @@ impl Machine {
         tid: u16,
         reply: Reply,
     ) -> Result<Both, AllocError>
-        ensures state { OnOk result (self.new ≡ with_state self.old (transacted self.old.consts self.old.row self.old.state modem kind tid (Refused reply))) }
-        ensures outputs { IfOk result (λ both. both.told.items ≡ (transacted self.old.consts self.old.row self.old.state modem kind tid (Refused reply)).outputs) }
-        ensures err { OnErr result (self.new ≡ self.old) }
+        ensures { Does self.old self.new result (transacted self.old modem kind tid (Refused reply)) }
     {
         if let Some(both) = self.early_answer(alloc, modem, kind, tid)? {
             return Ok(both);
@@ -243,7 +230,7 @@ impl Machine {
 
     /// The pending sets of a flow become its sets.
     fn commit(&mut self, sfid: u32)
-        ensures { self.new ≡ record self.old { state = record self.old.state { flows = change_at sfid (acknowledged self.old.state.frame) self.old.state.flows } } }
+        ensures { self.new ≡ with_change self.old sfid (acknowledged self.old.state.frame) }
     {
         if let Some(flow) = self.flows.get(sfid) {
             self.flows.change(sfid, flow.acknowledged(self.frame));
@@ -252,7 +239,7 @@ impl Machine {
 
     /// What a transaction asked for is undone.
     pub(crate) fn undo(&mut self, kind: Kind, sfid: u32)
-        ensures { self.new ≡ record self.old { state = record self.old.state { flows = undone kind sfid self.old.state.flows } } }
+        ensures { self.new ≡ with_flows self.old (undone kind sfid self.old.state.flows) }
     {
         match kind {
             Kind::Dsa => self.flows.remove(sfid),
@@ -274,9 +261,7 @@ impl Machine {
         kind: Kind,
         code: u8,
     ) -> Result<Both, AllocError>
-        ensures state { OnOk result (self.new ≡ with_state self.old (acked self.old.consts self.old.state modem tid kind code)) }
-        ensures outputs { IfOk result (λ both. both.told.items ≡ (acked self.old.consts self.old.state modem tid kind code).outputs) }
-        ensures err { OnErr result (self.new ≡ self.old) }
+        ensures { Does self.old self.new result (acked self.old modem tid kind code) }
     {
         let Some(sfid) = self.kept.acked(modem, tid, kind) else {
             return silent(alloc, Some(modem), Cause::UnknownAck);
@@ -297,21 +282,18 @@ impl Machine {
         sid: u16,
         minislots: u16,
     ) -> Result<Both, AllocError>
-        ensures state { OnOk result (self.new ≡ with_state self.old (asked_of_flow self.old.state modem minislots (flow_with sid self.old.state.flows))) }
-        ensures outputs { IfOk result (λ both. both.told.items ≡ (asked_of_flow self.old.state modem minislots (flow_with sid self.old.state.flows)).outputs) }
-        ensures err { OnErr result (self.new ≡ self.old) }
+        ensures { Does self.old self.new result (asked_of_flow self.old modem sid minislots) }
     {
-        let Some((sfid, flow)) = self.flows.with_sid(sid) else {
+        let Some(asker) = self.flows.asker(sid) else {
             return silent(alloc, Some(modem), Cause::NoSuchSid);
         };
-        if flow.modem != modem {
+        if asker.modem != modem {
             return silent(alloc, Some(modem), Cause::NoSuchSid);
         }
-        if !flow.asks_for_grants() {
+        if !asker.may_ask {
             return silent(alloc, Some(modem), Cause::NotRequesting);
         }
-        self.flows
-            .change(sfid, flow.requested(minislots, self.frame));
+        self.flows.request(asker.sfid, minislots, self.frame);
         Ok(nothing(alloc))
     }
 
@@ -323,10 +305,8 @@ impl Machine {
         fault: MessageFault,
     ) -> Result<Both, AllocError>
         requires { HasRightId fault }
-        ensures state { OnOk result (self.new ≡ with_state self.old (message_handled self.old.consts self.old.row self.old.state modem (Err fault))) }
-        ensures outputs { IfOk result (λ both. both.told.items ≡ (message_handled self.old.consts self.old.row self.old.state modem (Err fault)).outputs) }
-        ensures told { IfOk result (λ _. (read : Result Message MessageFault) → Fails fault read → read ≡ Err fault) }
-        ensures err { OnErr result (self.new ≡ self.old) }
+        ensures does { Does self.old self.new result (message_handled self.old modem (Err fault)) }
+        ensures told { OnOk result ((read : Result Message MessageFault) → Fails fault read → read ≡ Err fault) }
     {
         match fault {
             MessageFault::NoMemory => Err(AllocError),
@@ -358,9 +338,7 @@ impl Machine {
         message: &Message,
     ) -> Result<Both, AllocError>
         requires { All (IsIn self.old.row.sids) (sids_of self.old.state.flows) }
-        ensures state { OnOk result (self.new ≡ with_state self.old (message_handled self.old.consts self.old.row self.old.state modem (Ok message.now))) }
-        ensures outputs { IfOk result (λ both. both.told.items ≡ (message_handled self.old.consts self.old.row self.old.state modem (Ok message.now)).outputs) }
-        ensures err { OnErr result (self.new ≡ self.old) }
+        ensures { Does self.old self.new result (message_handled self.old modem (Ok message.now)) }
     {
         match message {
             Message::Request(request) => self.request_handled(alloc, modem, request),
@@ -377,8 +355,8 @@ impl Machine {
     ) -> Result<Both, AllocError>
         requires sids { All (IsIn self.old.row.sids) (sids_of self.old.state.flows) }
         requires right { IfErr said HasRightId }
-        ensures state { OnOk result ((read : Result Message MessageFault) → Gives (λ m. m) said read → self.new ≡ with_state self.old (message_handled self.old.consts self.old.row self.old.state modem read)) }
-        ensures outputs { IfOk result (λ both. (read : Result Message MessageFault) → Gives (λ m. m) said read → both.told.items ≡ (message_handled self.old.consts self.old.row self.old.state modem read).outputs) }
+        ensures does { (read : Result Message MessageFault) → Gives (λ m. m) said read
+            → Does self.old self.new result (message_handled self.old modem read) }
         ensures err { OnErr result (self.new ≡ self.old) }
     {
         match said {
@@ -389,7 +367,7 @@ impl Machine {
 
     /// What was heard first is taken out of the inbox.
     fn take_first(&mut self)
-        ensures { self.new ≡ record self.old { state = record self.old.state { inbox = drop 1 self.old.state.inbox } } }
+        ensures { self.new ≡ with_inbox self.old (drop 1 self.old.state.inbox) }
     {
         let _first = self.inbox.pop_front();
     }
@@ -397,9 +375,7 @@ impl Machine {
     /// What was heard first is handled, and taken out of the inbox.
     pub(crate) fn work(&mut self, alloc: Global) -> Result<Both, AllocError>
         requires { All (IsIn self.old.row.sids) (sids_of self.old.state.flows) }
-        ensures state { OnOk result (self.new ≡ with_state self.old (worked self.old.consts self.old.row self.old.state self.old.state.inbox)) }
-        ensures outputs { IfOk result (λ both. both.told.items ≡ (worked self.old.consts self.old.row self.old.state self.old.state.inbox).outputs) }
-        ensures err { OnErr result (self.new ≡ self.old) }
+        ensures { Does self.old self.new result (worked self.old) }
     {
         let Some(first) = self.inbox.front() else {
             return silent(alloc, None, Cause::Idle);
@@ -428,9 +404,7 @@ impl Machine {
         modem: Modem,
         heard: &Heard,
     ) -> Result<Both, AllocError>
-        ensures state { OnOk result (self.new ≡ with_state self.old (arrived self.old.row self.old.state modem heard.now)) }
-        ensures outputs { IfOk result (λ both. both.told.items ≡ (arrived self.old.row self.old.state modem heard.now).outputs) }
-        ensures err { OnErr result (self.new ≡ self.old) }
+        ensures { Does self.old self.new result (arrived self.old modem heard.now) }
     {
         if self.inbox.len() >= usize::from(self.row.get_fields().inbox) {
             return silent(alloc, Some(modem), Cause::InboxFull);

@@ -20,6 +20,3 @@ pub use operator_machine::{
     Action, Arrival, Cause, Entry, Heard, NextShare, Output, Outputs, Share, SliceRow, Unfit,
 };
 pub use state_view::StateView;
-
-#[cfg(test)]
-mod tests;

@@ -1,12 +1,10 @@
 //! A machine beside the history of all that was done.
 
-ghost use Rattle.std.specs.Prelude.{◌≡◌, ◌<◌, [], None, IfOk, OnOk, OnErr};
+ghost use Rattle.std.specs.Prelude.{◌≡◌, ◌<◌, None, IfOk, OnOk, OnErr};
 ghost use Rattle.slice_table.specs.Row.{IsRowOf};
-ghost use Rattle.operator_machine.specs.State.{opened};
 ghost use Rattle.operator_machine.specs.declared.action.Action.TheVariants as actions;
-ghost use Rattle.operator_machine.specs.Machine.{own_step, unfit_from, IsAllowed};
-ghost use Rattle.operator_machine.specs.Replay.{IsReplay, acted};
-ghost use Rattle.operator_machine.specs.Sound.{IsSound};
+ghost use Rattle.operator_machine.specs.Replay.{acted};
+ghost use Rattle.operator_book.specs.OfBook.{opened_book, outputs_of, unfit_from, IsAllowed, IsReplayed, IsSound};
 
 use crate::machine::Machine;
 use grant_policy::Ranking;
@@ -46,7 +44,7 @@ impl Logged {
         consts: &Consts,
     ) -> Result<Logged, AllocError>
         requires { IsRowOf consts.now row.now }
-        ensures { IfOk result (λ held. held.book ≡ record { row = row.now; consts = consts.now; state = opened consts.now row.now; history = [] }) }
+        ensures { IfOk result (λ held. held.book ≡ opened_book row.now consts.now) }
     {
         let _some = row.get_fields().slice.get_length();
         Ok(Logged {
@@ -63,9 +61,9 @@ impl Logged {
         action: Action,
     ) -> Result<Vec<Output>, AllocError>
         requires policy { ranking.now.policy ≡ self.old.book.row.policy }
-        requires allowed { IsAllowed self.old.book.consts self.old.book.row self.old.book.state action }
+        requires allowed { IsAllowed self.old.book action }
         ensures state { OnOk result (self.new.book ≡ acted self.old.book action) }
-        ensures outputs { IfOk result (λ outputs. outputs.items ≡ (own_step self.old.book.consts self.old.book.row self.old.book.state action).outputs) }
+        ensures outputs { IfOk result (λ outputs. outputs.items ≡ outputs_of self.old.book action) }
         ensures err { OnErr result (self.new.book ≡ self.old.book) }
     {
         self.kept();
@@ -89,7 +87,7 @@ impl Logged {
     /// Takes a slice that fits from a later frame on, with no memory.
     #[tactic(auto, using(crate::proofs::Replays::resliced_is))]
     pub(crate) fn reslice(&mut self, from: u32, row: SliceRow)
-        requires fit { unfit_from self.old.book.consts self.old.book.state from row ≡ None }
+        requires fit { unfit_from self.old.book from row ≡ None }
         requires spare { 0 < self.old.spare }
         ensures { self.new.book ≡ acted self.old.book (actions.Reslice from row) }
     {
@@ -102,8 +100,8 @@ impl Logged {
 
     /// What always holds, for a caller's proof. Does nothing.
     pub(crate) fn kept(&self)
-        ensures replay { IsReplay self.now.book.consts self.now.book.row self.now.book.history self.now.book.state }
-        ensures sound { IsSound self.now.book.consts self.now.book.row self.now.book.state }
+        ensures replay { IsReplayed self.now.book }
+        ensures sound { IsSound self.now.book }
     {
         replay_is_sound();
         let _ = &self.history;

@@ -27,9 +27,10 @@ pub(crate) struct Machine {
 }
 
 impl Model for Machine {
-    ghost use Rattle.operator_book.specs.Held.{MachineView, IsMachine};
+    ghost use Rattle.operator_machine.specs.State.{Operator};
+    ghost use Rattle.operator_book.specs.Held.{IsMachine};
 
-    ghost Value = { MachineView };
+    ghost Value = { Operator };
 
     ghost view = { λ m. record {
       consts = m.consts;

@@ -9,6 +9,7 @@ ghost use Rattle.operator_machine.specs.Asked.{refusal, id_of, refusal_naming};
 ghost use Rattle.operator_machine.specs.Verdict.{errored};
 
 use dsx_messages::{Code, Detail, FlowId, Kind, Reply, ReplyFields};
+use operator_machine::Transaction;
 use tlv24::{FlowTlv, TlvFault};
 
 /// A refusal that names nothing.
@@ -54,12 +55,12 @@ pub(crate) fn naming(kind: Kind, tid: u16, code: Code, id: Option<FlowId>, subty
 }
 
 /// A refusal that names an encoding and one of its subtypes.
-pub(crate) fn refusal_naming(kind: Kind, tid: u16, code: Code, flow: &FlowTlv, subtype: u8) -> Reply
-    requires kind { kind ≢ Dsd }
+pub(crate) fn refusal_naming(t: Transaction, code: Code, flow: &FlowTlv, subtype: u8) -> Reply
+    requires kind { t.kind ≢ Dsd }
     requires code { code ≢ Okay }
-    ensures { result ≡ refusal_naming kind tid code flow.now subtype }
+    ensures { result ≡ refusal_naming t code flow.now subtype }
 {
-    naming(kind, tid, code, id_of(kind, flow), subtype)
+    naming(t.kind, t.tid, code, id_of(t.kind, flow), subtype)
 }
 
 /// A refusal of what could not be read.

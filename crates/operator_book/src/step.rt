@@ -3,7 +3,7 @@
 ghost use Rattle.std.specs.Prelude.{◌≡◌, false, None, IfOk, OnOk, OnErr};
 ghost use Rattle.operator_machine.specs.Machine.{is_spent, unfit_of, own_step};
 ghost use Rattle.operator_machine.specs.Sound.{IsSound};
-ghost use Rattle.operator_book.specs.Held.{with_state};
+ghost use Rattle.operator_book.specs.Does.{Does};
 
 use crate::machine::{Both, Machine, nothing};
 use grant_policy::Ranking;
@@ -19,13 +19,11 @@ impl Machine {
         ranking: &Ranking,
         action: &Action,
     ) -> Result<Both, AllocError>
-        requires sound { IsSound self.old.consts self.old.row self.old.state }
+        requires sound { IsSound self.old }
         requires policy { ranking.now.policy ≡ self.old.row.policy }
         requires not_spent { is_spent self.old.state action.now ≡ false }
         requires fit { unfit_of self.old.consts self.old.state action.now ≡ None }
-        ensures state { OnOk result (self.new ≡ with_state self.old (own_step self.old.consts self.old.row self.old.state action.now)) }
-        ensures outputs { IfOk result (λ both. both.told.items ≡ (own_step self.old.consts self.old.row self.old.state action.now).outputs) }
-        ensures err { OnErr result (self.new ≡ self.old) }
+        ensures { Does self.old self.new result (own_step self.old action.now) }
     {
         match action {
             Action::Arrive { modem, heard } => self.arrive(alloc, *modem, heard),

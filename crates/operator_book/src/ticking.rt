@@ -2,14 +2,12 @@
 
 ghost use Rattle.std.specs.Prelude.{◌≡◌, ◌<◌, ◌≤◌, ◌+◌, [], ◌∷◌, ◌++◌, map, length, IfOk, OnOk, OnErr, vec_len, vec_capacity};
 ghost use Rattle.transactions.specs.Timers.{resent_in, given_up_in};
-ghost use Rattle.flow_table.specs.Table.{flowing_in};
-ghost use Rattle.slice_scheduler.specs.Schedule.{elements_of, granted_of};
 ghost use Rattle.operator_machine.specs.declared.output.Output.TheVariants as outputs;
-ghost use Rattle.operator_machine.specs.Handle.{change_at};
 ghost use Rattle.flow_table.specs.Flow.{granted};
-ghost use Rattle.operator_machine.specs.Frame.{resent, all_undone, at_frame, all_granted, share_at, next_at, flows_left, ticked};
+ghost use Rattle.operator_machine.specs.Frame.{ticked, resent, all_undone, all_granted, share_at, next_at};
 ghost use Rattle.operator_machine.specs.Sound.{IsSound};
-ghost use Rattle.operator_book.specs.Held.{with_state};
+ghost use Rattle.operator_book.specs.Does.{Does};
+ghost use Rattle.operator_book.specs.Running.{with_flows, with_change, elements_in, granted_in};
 
 use crate::machine::{Both, Machine};
 use grant_policy::Ranking;
@@ -51,10 +49,10 @@ fn frame_outputs(
 impl Machine {
     /// The schedule of the frame. What is given up has no grants, so that it may be scheduled before anything is undone.
     fn served(&self, alloc: Global, ranking: &Ranking) -> Result<Served, AllocError>
-        requires sound { IsSound self.now.consts self.now.row self.now.state }
+        requires sound { IsSound self.now }
         requires policy { ranking.now.policy ≡ self.now.row.policy }
-        ensures elements { IfOk result (λ served. served.elements ≡ elements_of self.now.row.policy (at_frame self.now.consts self.now.state) (flowing_in (flows_left self.now.state))) }
-        ensures granted { IfOk result (λ served. served.granted ≡ granted_of self.now.row.policy (at_frame self.now.consts self.now.state) (flowing_in (flows_left self.now.state))) }
+        ensures elements { IfOk result (λ served. served.elements ≡ elements_in self.now) }
+        ensures granted { IfOk result (λ served. served.granted ≡ granted_in self.now) }
     {
         schedule_can_serve();
         given_up_have_no_grants();
@@ -72,7 +70,7 @@ impl Machine {
 
     /// What is given up is undone, in order.
     fn undo_all(&mut self, given_up: &[GivenUp])
-        ensures { self.new ≡ record self.old { state = record self.old.state { flows = all_undone given_up.now self.old.state.flows } } }
+        ensures { self.new ≡ with_flows self.old (all_undone given_up.now self.old.state.flows) }
     {
         for gone in given_up {
             self.undo(gone.kind, gone.sfid);
@@ -82,17 +80,15 @@ impl Machine {
     /// A grant of this frame lowers its flow's backlog.
     fn grant(&mut self, frame: u32, sfid: u32, minislots: u16)
         requires { frame < 4294967295 }
-        ensures { self.new ≡ record self.old { state = record self.old.state { flows = change_at sfid (granted minislots frame) self.old.state.flows } } }
+        ensures { self.new ≡ with_change self.old sfid (granted minislots frame) }
     {
-        if let Some(flow) = self.flows.get(sfid) {
-            self.flows.change(sfid, flow.granted(minislots, frame));
-        }
+        self.flows.grant(sfid, minislots, frame);
     }
 
     /// Each grant of this frame lowers its flow's backlog.
     fn grant_all(&mut self, frame: u32, grants: &[(u32, u16)])
         requires { frame < 4294967295 }
-        ensures { self.new ≡ record self.old { state = record self.old.state { flows = all_granted frame grants.now self.old.state.flows } } }
+        ensures { self.new ≡ with_flows self.old (all_granted frame grants.now self.old.state.flows) }
     {
         for granted in grants {
             self.grant(frame, granted.0, granted.1);
@@ -121,12 +117,10 @@ impl Machine {
 
     /// Counts the timers one tick on, gives out the frame, and goes on to the next.
     pub(crate) fn tick(&mut self, alloc: Global, ranking: &Ranking) -> Result<Both, AllocError>
-        requires sound { IsSound self.old.consts self.old.row self.old.state }
+        requires sound { IsSound self.old }
         requires policy { ranking.now.policy ≡ self.old.row.policy }
         requires not_spent { self.old.state.frame < 4294967295 }
-        ensures state { OnOk result (self.new ≡ with_state self.old (ticked self.old.consts self.old.row self.old.state)) }
-        ensures outputs { IfOk result (λ both. both.told.items ≡ (ticked self.old.consts self.old.row self.old.state).outputs) }
-        ensures err { OnErr result (self.new ≡ self.old) }
+        ensures { Does self.old self.new result (ticked self.old) }
     {
         let Served { elements, granted } = self.served(alloc, ranking)?;
         let copied = elements.copy(alloc)?;

@@ -3,11 +3,11 @@
 ghost use Rattle.std.specs.Prelude.{◌≡◌, ◌<◌, ◌≤◌, IfOk, IfSome, Some, All, length};
 ghost use Rattle.admission.specs.Free.{IsIn, IsLeastFree};
 ghost use Rattle.dsx_messages.specs.declared.kind.Kind.TheVariants.{Dsd};
-ghost use Rattle.flow_table.specs.Table.{flow_at, with_flow, sids_of, MayStand};
-ghost use Rattle.operator_machine.specs.Asked.{free_flow, addition_of, change_of};
-ghost use Rattle.operator_machine.specs.Verdict.{limit_of, within_limit, no_room, new_flow, added_reply, added_under, added, changed_flow, changed_reply, changed_with, changed_with_new, wants_sid, changed, addition_verdict, change_verdict, deletion_verdict, verdict};
-ghost use Rattle.operator_machine.specs.declared.verdict.Verdict.TheVariants.{Put};
+ghost use Rattle.flow_table.specs.Table.{flow_at, sids_of, MayStand};
+ghost use Rattle.operator_machine.specs.Asked.{transaction, free_flow};
+ghost use Rattle.operator_machine.specs.Verdict.{added, added_under, changed_with, changed, verdict, limit_of, no_room, new_flow, added_reply, changed_flow, changed_reply, wants_sid, deletion_verdict};
 ghost use Rattle.operator_book.specs.Held.{table_of, MayPut};
+ghost use Rattle.operator_book.specs.Running.{put_within_limit, addition_verdict, change_verdict};
 
 use crate::asked::{addition_of, change_of, free_flow};
 use crate::machine::Machine;
@@ -15,7 +15,7 @@ use crate::refusal::refusal;
 use admission::Budget;
 use dsx_messages::{Code, Detail, Kind, Modem, Reply, ReplyFields, Request};
 use flow_table::{Flow, Pending};
-use operator_machine::{Addition, Change, Verdict};
+use operator_machine::{Addition, Change, Transaction, Verdict};
 use param_sets::Sets;
 use std::alloc::{AllocError, Global};
 use tlv24::FlowTlv;
@@ -135,7 +135,7 @@ impl Machine {
     /// A flow that is put under an SFID, unless more would be committed with it than may be.
     fn put_within_limit(&self, kind: Kind, tid: u16, sfid: u32, flow: Flow, reply: Reply) -> Verdict
         requires { MayStand (table_of self.now) sfid flow }
-        ensures value { result ≡ within_limit kind tid self.now.consts.units (limit_of self.now.row self.now.state) (with_flow sfid flow self.now.state.flows) (Put sfid flow reply) }
+        ensures value { result ≡ put_within_limit self.now kind tid sfid flow reply }
         ensures puts { MayPut (table_of self.now) result }
     {
         match self.flows.fits(self.limit(), sfid, &flow) {
@@ -153,7 +153,7 @@ impl Machine {
         tid: u16,
         addition: &Addition,
     ) -> Result<Verdict, AllocError>
-        ensures value { IfOk result (λ v. v ≡ added self.now.consts self.now.row self.now.state modem tid addition.now) }
+        ensures value { IfOk result (λ v. v ≡ added self.now modem tid addition.now) }
         ensures puts { IfOk result (MayPut (table_of self.now)) }
     {
         let row = self.row.get_fields();
@@ -177,7 +177,7 @@ impl Machine {
         requires room { length self.now.state.flows < self.now.row.flows }
         requires free { IfSome sid (IsLeastFree self.now.row.sids (sids_of self.now.state.flows)) }
         ensures puts { MayPut (table_of self.now) result }
-        ensures value { result ≡ added_under self.now.consts self.now.row self.now.state modem tid addition.now sfid sid }
+        ensures value { result ≡ added_under self.now modem tid addition.now sfid sid }
     {
         let (Some(sfid), Some(sid)) = (sfid, sid) else {
             return no_room(Kind::Dsa, tid);
@@ -194,7 +194,7 @@ impl Machine {
         requires stands { MayStand (table_of self.now) change.now.sfid (changed_flow change.now sid sid_is_new) }
         requires range { IfSome sid (λ n. n ≤ 8191) }
         ensures puts { MayPut (table_of self.now) result }
-        ensures value { result ≡ changed_with self.now.consts self.now.row self.now.state tid change.now sid sid_is_new }
+        ensures value { result ≡ changed_with self.now tid change.now sid sid_is_new }
     {
         let flow = changed_flow(change, sid, sid_is_new);
         let reply = changed_reply(tid, change.sfid, change.sets, sid);
@@ -206,7 +206,7 @@ impl Machine {
     fn changed(&self, alloc: Global, tid: u16, change: &Change) -> Result<Verdict, AllocError>
         requires there { flow_at change.now.sfid self.now.state.flows ≡ Some change.now.flow }
         requires range { IfSome change.now.flow.sid (λ n. n ≤ 8191) }
-        ensures value { IfOk result (λ v. v ≡ changed self.now.consts self.now.row self.now.state tid change.now) }
+        ensures value { IfOk result (λ v. v ≡ changed self.now tid change.now) }
         ensures puts { IfOk result (MayPut (table_of self.now)) }
     {
         self.flows.kept();
@@ -227,10 +227,15 @@ impl Machine {
         tid: u16,
         encodings: &[FlowTlv],
     ) -> Result<Verdict, AllocError>
-        ensures value { IfOk result (λ v. v ≡ addition_verdict self.now.consts self.now.row self.now.state modem tid (addition_of self.now.consts tid encodings.now)) }
+        ensures value { IfOk result (λ v. v ≡ addition_verdict self.now modem tid encodings.now) }
         ensures puts { IfOk result (MayPut (table_of self.now)) }
     {
-        match addition_of(&self.consts, tid, encodings) {
+        let t = Transaction {
+            modem,
+            kind: Kind::Dsa,
+            tid,
+        };
+        match addition_of(&self.consts, t, encodings) {
             Err(reply) => Ok(Verdict::Refused { reply }),
             Ok(addition) => self.added(alloc, modem, tid, &addition),
         }
@@ -245,10 +250,15 @@ impl Machine {
         encodings: &[FlowTlv],
     ) -> Result<Verdict, AllocError>
         requires { All (IsIn self.now.row.sids) (sids_of self.now.state.flows) }
-        ensures value { IfOk result (λ v. v ≡ change_verdict self.now.consts self.now.row self.now.state tid (change_of self.now.consts self.now.state.flows modem tid encodings.now)) }
+        ensures value { IfOk result (λ v. v ≡ change_verdict self.now modem tid encodings.now) }
         ensures puts { IfOk result (MayPut (table_of self.now)) }
     {
-        match change_of(&self.consts, &self.flows, modem, tid, encodings) {
+        let t = Transaction {
+            modem,
+            kind: Kind::Dsc,
+            tid,
+        };
+        match change_of(&self.consts, &self.flows, t, encodings) {
             Err(reply) => Ok(Verdict::Refused { reply }),
             Ok(change) => {
                 let _row = self.row.get_fields();
@@ -259,9 +269,14 @@ impl Machine {
 
     /// What becomes of a deletion.
     fn deletion_verdict(&self, modem: Modem, tid: u16, sfid: u32) -> Verdict
-        ensures { result ≡ deletion_verdict tid sfid (free_flow Dsd tid modem (flow_at sfid self.now.state.flows)) }
+        ensures { result ≡ deletion_verdict tid sfid (free_flow (transaction modem Dsd tid) (flow_at sfid self.now.state.flows)) }
     {
-        match free_flow(Kind::Dsd, tid, modem, self.flows.get(sfid)) {
+        let t = Transaction {
+            modem,
+            kind: Kind::Dsd,
+            tid,
+        };
+        match free_flow(t, self.flows.get(sfid)) {
             Err(reply) => Verdict::Refused { reply },
             Ok(_) => Verdict::Deleted {
                 sfid,
@@ -284,7 +299,7 @@ impl Machine {
         request: &Request,
     ) -> Result<Verdict, AllocError>
         requires { All (IsIn self.now.row.sids) (sids_of self.now.state.flows) }
-        ensures value { IfOk result (λ v. v ≡ verdict self.now.consts self.now.row self.now.state modem request.now) }
+        ensures value { IfOk result (λ v. v ≡ verdict self.now modem request.now) }
         ensures puts { IfOk result (MayPut (table_of self.now)) }
     {
         match request {

@@ -2,9 +2,6 @@
 use Rattle.std.proofs.Common.{◌≡◌, ℕ, ◌==◌, ◌&&◌, not, false, List, [], ◌∷◌, Option, Some, None, Result, Ok, Err, IfOk, IfSome, is_some, refl}
 use Rattle.std.proofs.lemmas.Bool.{cond_both}
 use Rattle.tlv24.specs.declared.fields.FlowFields.{FlowFields}
-use Rattle.dsx_messages.specs.declared.modem.Modem.{Modem}
-use Rattle.dsx_messages.specs.declared.kind.Kind.{Kind}
-use Rattle.dsx_messages.specs.declared.kind.Kind.TheVariants.{Dsa, Dsc}
 use Rattle.dsx_messages.specs.declared.code.Code.TheVariants as codes
 use Rattle.dsx_messages.specs.declared.reply.ReplyFields.{ReplyFields}
 use Rattle.param_sets.specs.Reading.{parameter_set_of}
@@ -20,6 +17,7 @@ use Rattle.slice_table.specs.Row.{same_modem}
 use Rattle.flow_table.specs.declared.flow.Flow.{Flow}
 use Rattle.flow_table.specs.declared.flow.Pending.{Pending}
 use Rattle.flow_table.specs.Table.{flow_at}
+use Rattle.operator_machine.specs.declared.verdict.Transaction.{Transaction}
 use Rattle.operator_machine.specs.declared.verdict.AskedSets.{AskedSets}
 use Rattle.operator_machine.specs.declared.verdict.Addition.{Addition}
 use Rattle.operator_machine.specs.declared.verdict.Change.{Change}
@@ -42,37 +40,37 @@ anything (Err reply) = tt
 abbrev AreKept : AskedSets → Type 0
 AreKept asked = IfSome asked.admitted KeepsItsKind × IfSome asked.active KeepsItsKind
 
-module _ (kind : Kind) (tid : ℕ) (consts : ConstsFields) where
-  set-kind : (flow : FlowFields) → IfOk (set_of kind tid consts flow) KeepsItsKind
+module _ (t : Transaction) (consts : ConstsFields) where
+  set-kind : (flow : FlowFields) → IfOk (set_of t consts flow) KeepsItsKind
   unfolding set_of
   set-kind flow = over (asked_of consts.classes flow)
     where
-      unless : (r : Result ParamFields Refusal) → IfOk r KeepsItsKind → IfOk (set_unless kind tid flow r) KeepsItsKind
+      unless : (r : Result ParamFields Refusal) → IfOk r KeepsItsKind → IfOk (set_unless t flow r) KeepsItsKind
       unless (Ok set) h = h
       unless (Err refusal) h = tt
 
-      over : (o : Option FlowFields) → IfOk (set_over_class kind tid consts.units flow o) KeepsItsKind
+      over : (o : Option FlowFields) → IfOk (set_over_class t consts.units flow o) KeepsItsKind
       over None = tt
       over (Some asked) = unless (parameter_set_of asked consts.units) (read_kind asked consts.units)
 
-  by_one : (flow : FlowFields) (n : ℕ) → IfOk (asked_by_type kind tid consts flow n) AreKept
+  by_one : (flow : FlowFields) (n : ℕ) → IfOk (asked_by_type t consts flow n) AreKept
   by_one flow n =
-      cond_both (n == 2) _ _ (λ (r : Result AskedSets ReplyFields). IfOk r AreKept) (λ _. and_then KeepsItsKind AreKept (set_of kind tid consts flow) _ (set-kind flow) (λ set h. (h, tt)))
-      (λ _. cond_both (n == 6) _ _ (λ (r : Result AskedSets ReplyFields). IfOk r AreKept) (λ _. and_then KeepsItsKind AreKept (set_of kind tid consts flow) _ (set-kind flow) (λ set h. (h, h)))
-      (λ _. cond_both (n == 0 && is_change kind) _ _ (λ (r : Result AskedSets ReplyFields). IfOk r AreKept) (λ _. (tt, tt)) (λ _. tt)))
+      cond_both (n == 2) _ _ (λ (r : Result AskedSets ReplyFields). IfOk r AreKept) (λ _. and_then KeepsItsKind AreKept (set_of t consts flow) _ (set-kind flow) (λ set h. (h, tt)))
+      (λ _. cond_both (n == 6) _ _ (λ (r : Result AskedSets ReplyFields). IfOk r AreKept) (λ _. and_then KeepsItsKind AreKept (set_of t consts flow) _ (set-kind flow) (λ set h. (h, h)))
+      (λ _. cond_both (n == 0 && is_change t.kind) _ _ (λ (r : Result AskedSets ReplyFields). IfOk r AreKept) (λ _. (tt, tt)) (λ _. tt)))
 
-  by_two : (first second : FlowFields) → IfOk (asked_by_two kind tid consts first second) AreKept
+  by_two : (first second : FlowFields) → IfOk (asked_by_two t consts first second) AreKept
   by_two first second =
-      and_then KeepsItsKind AreKept (set_of kind tid consts first) _ (set-kind first) (λ a is_a.
-      and_then KeepsItsKind AreKept (set_of kind tid consts second) _ (set-kind second) (λ b is_b.
+      and_then KeepsItsKind AreKept (set_of t consts first) _ (set-kind first) (λ a is_a.
+      and_then KeepsItsKind AreKept (set_of t consts second) _ (set-kind second) (λ b is_b.
       cond_both (has_set_type 2 first) _ _ AreKept (λ _. (is_a, is_b)) (λ _. (is_b, is_a))))
 
-  asked-AreKept : (encodings : List FlowFields) → IfOk (asked_sets kind tid consts encodings) AreKept
+  asked-AreKept : (encodings : List FlowFields) → IfOk (asked_sets t consts encodings) AreKept
   unfolding asked_sets
   asked-AreKept [] = tt
   asked-AreKept (flow ∷ []) = by flow.set_type
     where
-      by : (o : Option ℕ) → IfOk (asked_by_one kind tid consts flow o) AreKept
+      by : (o : Option ℕ) → IfOk (asked_by_one t consts flow o) AreKept
       by None = tt
       by (Some n) = by_one flow n
   asked-AreKept (first ∷ second ∷ []) = by_two first second
@@ -97,11 +95,11 @@ pub record AreAsked (provisioned : Option ParamFields) (sets : SetsFields) : Typ
   pub kinds : AreOfTheirKinds sets
   pub same : sets.provisioned ≡ provisioned
 
-nested-AreAsked : (kind : Kind) (tid : ℕ) (first : FlowFields) (provisioned : Option ParamFields) (asked : AskedSets) → AreKept asked → IfOk (nested_sets kind tid first provisioned asked) (AreAsked provisioned)
+nested-AreAsked : (t : Transaction) (first : FlowFields) (provisioned : Option ParamFields) (asked : AskedSets) → AreKept asked → IfOk (nested_sets t first provisioned asked) (AreAsked provisioned)
 unfolding nested_sets
-nested-AreAsked kind tid first provisioned asked kept = by (failing_active asked.active asked.admitted) (failing_admitted asked.admitted provisioned) refl refl
+nested-AreAsked t first provisioned asked kept = by (failing_active asked.active asked.admitted) (failing_admitted asked.admitted provisioned) refl refl
   where
-    by : (a b : Option ℕ) → failing_active asked.active asked.admitted ≡ a → failing_admitted asked.admitted provisioned ≡ b → IfOk (nested_unless kind tid first provisioned asked a b) (AreAsked provisioned)
+    by : (a b : Option ℕ) → failing_active asked.active asked.admitted ≡ a → failing_admitted asked.admitted provisioned ≡ b → IfOk (nested_unless t first provisioned asked a b) (AreAsked provisioned)
     by (Some subtype) b is_a is_b = tt
     by None (Some subtype) is_a is_b = tt
     by None None is_a is_b = record {
@@ -121,10 +119,10 @@ no_pending : (o : Option Pending) → is_some o ≡ false → o ≡ None
 no_pending None is = refl
 no_pending (Some pending) is = cc
 
-pub free-IsFreeFlow : (kind : Kind) (tid : ℕ) (modem : Modem) (o : Option Flow) → IfOk (free_flow kind tid modem o) (IsFreeFlow o)
-free-IsFreeFlow kind tid modem None = tt
-free-IsFreeFlow kind tid modem (Some flow) =
-    cond_both (not (same_modem flow.modem modem)) _ _ (λ (r : Result Flow ReplyFields). IfOk r (IsFreeFlow (Some flow))) (λ _. tt)
+pub free-IsFreeFlow : (t : Transaction) (o : Option Flow) → IfOk (free_flow t o) (IsFreeFlow o)
+free-IsFreeFlow t None = tt
+free-IsFreeFlow t (Some flow) =
+    cond_both (not (same_modem flow.modem t.modem)) _ _ (λ (r : Result Flow ReplyFields). IfOk r (IsFreeFlow (Some flow))) (λ _. tt)
     (λ _. cond_both (is_some flow.pending) _ _ (λ (r : Result Flow ReplyFields). IfOk r (IsFreeFlow (Some flow))) (λ _. tt)
     (λ none. record { there = refl; free = no_pending flow.pending none }))
 
@@ -133,23 +131,23 @@ free-IsFreeFlow kind tid modem (Some flow) =
 abbrev pub IsAddition : Addition → Type 0
 IsAddition addition = AreAsked None addition.sets
 
-pub addition-IsAddition : (consts : ConstsFields) (tid : ℕ) (encodings : List FlowFields) → IfOk (addition_of consts tid encodings) IsAddition
+pub addition-IsAddition : (consts : ConstsFields) (t : Transaction) (encodings : List FlowFields) → IfOk (addition_of consts t encodings) IsAddition
 unfolding addition_of
-addition-IsAddition consts tid encodings =
-    and_then (λ _. Unit {0}) IsAddition (first_encoding Dsa tid consts.classes encodings) _ (anything (first_encoding Dsa tid consts.classes encodings)) (λ first _.
-    and_then (λ _. Unit {0}) IsAddition (stated first.reference (refusal_naming Dsa tid codes.RejectRequiredParameterNotPresent first 1)) _ (anything (stated first.reference (refusal_naming Dsa tid codes.RejectRequiredParameterNotPresent first 1))) (λ reference _.
-    and_then AreKept IsAddition (asked_sets Dsa tid consts encodings) _ (asked-AreKept Dsa tid consts encodings) (λ asked kept.
-    and_then (AreAsked None) IsAddition (nested_sets Dsa tid first None asked) _ (nested-AreAsked Dsa tid first None asked kept) (λ sets h. h))))
+addition-IsAddition consts t encodings =
+    and_then (λ _. Unit {0}) IsAddition (first_encoding t consts.classes encodings) _ (anything (first_encoding t consts.classes encodings)) (λ first _.
+    and_then (λ _. Unit {0}) IsAddition (stated first.reference (refusal_naming t codes.RejectRequiredParameterNotPresent first 1)) _ (anything (stated first.reference (refusal_naming t codes.RejectRequiredParameterNotPresent first 1))) (λ reference _.
+    and_then AreKept IsAddition (asked_sets t consts encodings) _ (asked-AreKept t consts encodings) (λ asked kept.
+    and_then (AreAsked None) IsAddition (nested_sets t first None asked) _ (nested-AreAsked t first None asked kept) (λ sets h. h))))
 
 pub record IsChange (flows : List (ℕ × Flow)) (change : Change) : Type 0 where
   pub flow : IsFreeFlow (flow_at change.sfid flows) change.flow
   pub sets : AreAsked change.flow.sets.provisioned change.sets
 
-pub change-IsChange : (consts : ConstsFields) (flows : List (ℕ × Flow)) (modem : Modem) (tid : ℕ) (encodings : List FlowFields) → IfOk (change_of consts flows modem tid encodings) (IsChange flows)
+pub change-IsChange : (consts : ConstsFields) (flows : List (ℕ × Flow)) (t : Transaction) (encodings : List FlowFields) → IfOk (change_of consts flows t encodings) (IsChange flows)
 unfolding change_of
-change-IsChange consts flows modem tid encodings =
-    and_then (λ _. Unit {0}) (IsChange flows) (first_encoding Dsc tid consts.classes encodings) _ (anything (first_encoding Dsc tid consts.classes encodings)) (λ first _.
-    and_then (λ _. Unit {0}) (IsChange flows) (stated first.sfid (refusal_naming Dsc tid codes.RejectRequiredParameterNotPresent first 2)) _ (anything (stated first.sfid (refusal_naming Dsc tid codes.RejectRequiredParameterNotPresent first 2))) (λ sfid _.
-    and_then (IsFreeFlow (flow_at sfid flows)) (IsChange flows) (free_flow Dsc tid modem (flow_at sfid flows)) _ (free-IsFreeFlow Dsc tid modem (flow_at sfid flows)) (λ flow free.
-    and_then AreKept (IsChange flows) (asked_sets Dsc tid consts encodings) _ (asked-AreKept Dsc tid consts encodings) (λ asked kept.
-    and_then (AreAsked flow.sets.provisioned) (IsChange flows) (nested_sets Dsc tid first flow.sets.provisioned asked) _ (nested-AreAsked Dsc tid first flow.sets.provisioned asked kept) (λ sets h. record { flow = free; sets = h })))))
+change-IsChange consts flows t encodings =
+    and_then (λ _. Unit {0}) (IsChange flows) (first_encoding t consts.classes encodings) _ (anything (first_encoding t consts.classes encodings)) (λ first _.
+    and_then (λ _. Unit {0}) (IsChange flows) (stated first.sfid (refusal_naming t codes.RejectRequiredParameterNotPresent first 2)) _ (anything (stated first.sfid (refusal_naming t codes.RejectRequiredParameterNotPresent first 2))) (λ sfid _.
+    and_then (IsFreeFlow (flow_at sfid flows)) (IsChange flows) (free_flow t (flow_at sfid flows)) _ (free-IsFreeFlow t (flow_at sfid flows)) (λ flow free.
+    and_then AreKept (IsChange flows) (asked_sets t consts encodings) _ (asked-AreKept t consts encodings) (λ asked kept.
+    and_then (AreAsked flow.sets.provisioned) (IsChange flows) (nested_sets t first flow.sets.provisioned asked) _ (nested-AreAsked t first flow.sets.provisioned asked kept) (λ sets h. record { flow = free; sets = h })))))

@@ -29,7 +29,7 @@ use Rattle.operator_machine.specs.declared.action.Action.{Action}
 use Rattle.operator_machine.specs.declared.action.Action.TheVariants.{Arrive, Work, Tick, Reslice}
 use Rattle.operator_machine.specs.declared.verdict.Verdict.{Verdict}
 use Rattle.operator_machine.specs.declared.verdict.Verdict.TheVariants.{Refused}
-use Rattle.operator_machine.specs.State.{OperatorState}
+use Rattle.operator_machine.specs.State.{operator, OperatorState, Operator}
 use Rattle.operator_machine.specs.Asked.{refusal}
 use Rattle.operator_machine.specs.Verdict.{verdict, errored}
 use Rattle.operator_machine.specs.Handle.{Ran, told, is_of_cmts, new_unless, transacted, acked_if, kind_of, tid_of, message_handled, asked_of_flow, handle}
@@ -49,47 +49,47 @@ pub record StaysAt (state : OperatorState) (ran : Ran) : Type 0 where
   pub share : ran.state.share ≡ state.share
   pub waits : ran.state.next ≡ state.next
 
-module _ (consts : ConstsFields) (row : RowFields) (state : OperatorState) where
+module _ (op : Operator) where
   abbrev PutsNone : Ran → Type 0
-  PutsNone ran = StaysAt state ran
+  PutsNone ran = StaysAt op.state ran
 
-  transacted_none : (modem : Modem) (kind : Kind) (tid : ℕ) (v : Verdict) → PutsNone (transacted consts row state modem kind tid v)
-  transacted_none modem kind tid v = cond_both (is_of_cmts tid) _ _ PutsNone (λ _. record { numbers = refl; frame = refl; share = refl; waits = refl }) (λ _. by (find (is_of modem tid) state.kept))
+  transacted_none : (modem : Modem) (kind : Kind) (tid : ℕ) (v : Verdict) → PutsNone (transacted op modem kind tid v)
+  transacted_none modem kind tid v = cond_both (is_of_cmts tid) _ _ PutsNone (λ _. record { numbers = refl; frame = refl; share = refl; waits = refl }) (λ _. by (find (is_of modem tid) op.state.kept))
     where
-      by : (o : Option KeptEntry) → PutsNone (new_unless consts row state modem kind tid v o)
-      by None = cond_both (nat_le row.transactions (length state.kept)) _ _ PutsNone (λ _. record { numbers = refl; frame = refl; share = refl; waits = refl }) (λ _. record { numbers = refl; frame = refl; share = refl; waits = refl })
+      by : (o : Option KeptEntry) → PutsNone (new_unless op modem kind tid v o)
+      by None = cond_both (nat_le op.row.transactions (length op.state.kept)) _ _ PutsNone (λ _. record { numbers = refl; frame = refl; share = refl; waits = refl }) (λ _. record { numbers = refl; frame = refl; share = refl; waits = refl })
       by (Some entry) = cond_both (same_kind entry.kind kind) _ _ PutsNone (λ _. record { numbers = refl; frame = refl; share = refl; waits = refl }) (λ _. record { numbers = refl; frame = refl; share = refl; waits = refl })
 
-  acked_none : (modem : Modem) (tid : ℕ) (kind : Kind) (code : ℕ) (o : Option ℕ) → PutsNone (acked_if consts state modem tid kind code o)
+  acked_none : (modem : Modem) (tid : ℕ) (kind : Kind) (code : ℕ) (o : Option ℕ) → PutsNone (acked_if op.consts op.state modem tid kind code o)
   acked_none modem tid kind code None = record { numbers = refl; frame = refl; share = refl; waits = refl }
   acked_none modem tid kind code (Some sfid) = record { numbers = refl; frame = refl; share = refl; waits = refl }
 
-  message_none : (modem : Modem) (m : Result Message MessageFault) → PutsNone (message_handled consts row state modem m)
+  message_none : (modem : Modem) (m : Result Message MessageFault) → PutsNone (message_handled op modem m)
   message_none modem (Err faults.Empty) = record { numbers = refl; frame = refl; share = refl; waits = refl }
   message_none modem (Err (faults.NotOurs mtype)) = record { numbers = refl; frame = refl; share = refl; waits = refl }
   message_none modem (Err faults.Short) = record { numbers = refl; frame = refl; share = refl; waits = refl }
   message_none modem (Err (faults.Tlv tid kind id fault)) = transacted_none modem kind tid (Refused (errored kind tid id fault))
   message_none modem (Err (faults.LeftOut tid kind found)) = transacted_none modem kind tid (Refused (refusal kind tid codes.RejectUnrecognizedSetting))
   message_none modem (Err faults.NoMemory) = record { numbers = refl; frame = refl; share = refl; waits = refl }
-  message_none modem (Ok (messages.Ack kind tid code)) = acked_none modem tid kind code (option_map (λ entry. entry.sfid) (find (waits_for modem tid kind) state.kept))
-  message_none modem (Ok (messages.Request request)) = transacted_none modem (kind_of request) (tid_of request) (verdict consts row state modem request)
+  message_none modem (Ok (messages.Ack kind tid code)) = acked_none modem tid kind code (option_map (λ entry. entry.sfid) (find (waits_for modem tid kind) op.state.kept))
+  message_none modem (Ok (messages.Request request)) = transacted_none modem (kind_of request) (tid_of request) (verdict op modem request)
 
-  asked_none : (modem : Modem) (minislots : ℕ) (o : Option (ℕ × Flow)) → PutsNone (asked_of_flow state modem minislots o)
+  asked_none : (modem : Modem) (minislots : ℕ) (o : Option (ℕ × Flow)) → PutsNone (asked_of_flow op.state modem minislots o)
   asked_none modem minislots None = record { numbers = refl; frame = refl; share = refl; waits = refl }
   asked_none modem minislots (Some entry) =
       cond_both (not (same_modem entry.1.modem modem)) _ _ PutsNone (λ _. record { numbers = refl; frame = refl; share = refl; waits = refl })
       (λ _. cond_both (not (asks_for_grants entry.1.sets.active)) _ _ PutsNone (λ _. record { numbers = refl; frame = refl; share = refl; waits = refl }) (λ _. record { numbers = refl; frame = refl; share = refl; waits = refl }))
 
-  handle_none : (modem : Modem) (heard : Heard) → PutsNone (handle consts row state modem heard)
+  handle_none : (modem : Modem) (heard : Heard) → PutsNone (handle op modem heard)
   handle_none modem (heards.Message bytes) = message_none modem (message_of bytes)
-  handle_none modem (heards.Request sid minislots) = asked_none modem minislots (flow_with sid state.flows)
+  handle_none modem (heards.Request sid minislots) = asked_none modem minislots (flow_with sid op.state.flows)
 
-  pub worked_none : (inbox : List Arrival) → PutsNone (worked consts row state inbox)
+  pub worked_none : (inbox : List Arrival) → PutsNone (worked op inbox)
   worked_none [] = record { numbers = refl; frame = refl; share = refl; waits = refl }
   worked_none (first ∷ others) = let ran = handle_none first.modem first.heard in record { numbers = ran.numbers; frame = ran.frame; share = ran.share; waits = ran.waits }
 
-  pub arrived_none : (modem : Modem) (heard : Heard) → PutsNone (arrived row state modem heard)
-  arrived_none modem heard = cond_both (nat_le row.inbox (length state.inbox)) _ _ PutsNone (λ _. record { numbers = refl; frame = refl; share = refl; waits = refl }) (λ _. record { numbers = refl; frame = refl; share = refl; waits = refl })
+  pub arrived_none : (modem : Modem) (heard : Heard) → PutsNone (arrived op.row op.state modem heard)
+  arrived_none modem heard = cond_both (nat_le op.row.inbox (length op.state.inbox)) _ _ PutsNone (λ _. record { numbers = refl; frame = refl; share = refl; waits = refl }) (λ _. record { numbers = refl; frame = refl; share = refl; waits = refl })
 
   -- what is resent is no frame
   pub resent_none : (resends : List Resend) → frames_in (map resent resends) ≡ []
@@ -97,16 +97,16 @@ module _ (consts : ConstsFields) (row : RowFields) (state : OperatorState) where
   resent_none (resend ∷ resends) = resent_none resends
 
   -- a tick puts out one
-  ticked_one : PutsOut state.frame 1 (ticked consts row state)
+  ticked_one : PutsOut op.state.frame 1 (ticked op)
   ticked_one = record {
-    numbers = filter_map-append frame_of (map resent (resent_in state.kept)) _ ∙ ap (λ (ns : List ℕ). ns ++ state.frame ∷ []) (resent_none (resent_in state.kept));
+    numbers = filter_map-append frame_of (map resent (resent_in op.state.kept)) _ ∙ ap (λ (ns : List ℕ). ns ++ op.state.frame ∷ []) (resent_none (resent_in op.state.kept));
     next = refl;
   }
 
-  pub step_puts : (action : Action) → PutsOut state.frame (cond {A = ℕ} (is_tick action) 1 0) (own_step consts row state action)
+  pub step_puts : (action : Action) → PutsOut op.state.frame (cond {A = ℕ} (is_tick action) 1 0) (own_step op action)
   unfolding own_step
   step_puts (Arrive modem heard) = let stays = arrived_none modem heard in record { numbers = stays.numbers; next = omega (arith, stays.frame) }
-  step_puts Work = let stays = worked_none state.inbox in record { numbers = stays.numbers; next = omega (arith, stays.frame) }
+  step_puts Work = let stays = worked_none op.state.inbox in record { numbers = stays.numbers; next = omega (arith, stays.frame) }
   step_puts Tick = ticked_one
   step_puts (Reslice from offered) = record { numbers = refl; next = omega arith }
 
@@ -123,16 +123,16 @@ range-then a (suc n) m =
     ap (λ (b : ℕ). a ∷ range_with_len (a + 1) n ++ range_with_len b m) from ∙ (ap (λ (ns : List ℕ). a ∷ ns) (range-then (a + 1) n m) ∙ ap (range_with_len a) long)
 
 module _ (consts : ConstsFields) (row : RowFields) where
-  pub run_puts : (state : OperatorState) (actions : List Action) → PutsOut state.frame (count_by is_tick actions) (own_run consts row state actions)
+  pub run_puts : (state : OperatorState) (actions : List Action) → PutsOut state.frame (count_by is_tick actions) (own_run (operator consts row state) actions)
   run_puts state [] = record { numbers = refl; next = omega arith }
   run_puts state (action ∷ actions) =
-      let first = step_puts consts row state action in
-      let rest = run_puts (own_step consts row state action).state actions in
+      let first = step_puts (operator consts row state) action in
+      let rest = run_puts (own_step (operator consts row state) action).state actions in
       let count : cond {A = ℕ} (is_tick action) 1 0 + count_by is_tick actions ≡ count_by is_tick (action ∷ actions) = sym (sum_by-cons (λ (a : Action). cond {A = ℕ} (is_tick a) 1 0) action actions) in
       record {
         numbers =
-            filter_map-append frame_of (own_step consts row state action).outputs (own_run consts row (own_step consts row state action).state actions).outputs
-            ∙ (ap (λ (ns : List ℕ). ns ++ frames_in (own_run consts row (own_step consts row state action).state actions).outputs) first.numbers
+            filter_map-append frame_of (own_step (operator consts row state) action).outputs (own_run (operator consts row (own_step (operator consts row state) action).state) actions).outputs
+            ∙ (ap (λ (ns : List ℕ). ns ++ frames_in (own_run (operator consts row (own_step (operator consts row state) action).state) actions).outputs) first.numbers
             ∙ (ap (λ (ns : List ℕ). range_with_len state.frame (cond (is_tick action) 1 0) ++ ns) rest.numbers
             ∙ (ap (λ (n : ℕ). range_with_len state.frame (cond (is_tick action) 1 0) ++ range_with_len n (count_by is_tick actions)) first.next
             ∙ (range-then state.frame (cond {A = ℕ} (is_tick action) 1 0) (count_by is_tick actions) ∙ ap (range_with_len state.frame) count))));
@@ -141,9 +141,9 @@ module _ (consts : ConstsFields) (row : RowFields) where
 
 -- ---- a request that is repeated
 
-module _ (consts : ConstsFields) (row : RowFields) (state : OperatorState) where
-  pub repeat_told : (modem : Modem) (kind : Kind) (tid : ℕ) (v : Verdict) (entry : KeptEntry) → find (is_of modem tid) state.kept ≡ Some entry → same_kind entry.kind kind ≡ true → tid < 32768
-      → transacted consts row state modem kind tid v ≡ told state modem entry.reply
+module _ (op : Operator) where
+  pub repeat_told : (modem : Modem) (kind : Kind) (tid : ℕ) (v : Verdict) (entry : KeptEntry) → find (is_of modem tid) op.state.kept ≡ Some entry → same_kind entry.kind kind ≡ true → tid < 32768
+      → transacted op modem kind tid v ≡ told op.state modem entry.reply
   repeat_told modem kind tid v entry kept same small =
       cond-false (is_of_cmts tid) _ _ (lt-leb 32768 tid small)
-      ∙ (ap (new_unless consts row state modem kind tid v) kept ∙ cond-true (same_kind entry.kind kind) _ _ same)
+      ∙ (ap (new_unless op modem kind tid v) kept ∙ cond-true (same_kind entry.kind kind) _ _ same)

@@ -10,14 +10,12 @@ use Rattle.transactions.specs.declared.entry.KeptEntry.{KeptEntry}
 use Rattle.transactions.specs.Waits.{Waits}
 use Rattle.transactions.specs.Entry.{same_kind, is_waiting, is_of, waits_for}
 use Rattle.transactions.specs.Keeping.{held_entry, acknowledged}
-use Rattle.slice_table.specs.declared.consts.ConstsFields.{ConstsFields}
-use Rattle.slice_table.specs.declared.operator_row.RowFields.{RowFields}
 use Rattle.slice_table.specs.Row.{same_modem}
 use Rattle.flow_table.specs.declared.flow.Flow.{Flow}
 use Rattle.flow_table.specs.Flow.{asks_for_grants, requested}
 use Rattle.flow_table.specs.Flow as flows
 use Rattle.flow_table.specs.Table.{flow_at, flow_with, is_sid, with_flow}
-use Rattle.operator_machine.specs.State.{OperatorState}
+use Rattle.operator_machine.specs.State.{Operator, operator}
 use Rattle.operator_machine.specs.Handle.{Ran, put_if, flows_acked, acked_if, acked, asked_of_flow}
 use Rattle.operator_machine.specs.Sound.{IsWaitingOf, HasItsFlow, IsSound}
 use Rattle.operator_machine.proofs.EntryLemmas.{at-find}
@@ -53,48 +51,48 @@ module _ (waits : Waits) (modem : Modem) (tid : ℕ) (kind : Kind) where
   ack_apart a b false true apart waits_a waits_b = absurd (false≢true waits_b)
   ack_apart a b false false apart waits_a waits_b = apart waits_a waits_b
 
-module _ (consts : ConstsFields) (row : RowFields) (state : OperatorState) (sound : IsSound consts row state) where
-  acked_step : (kind : Kind) (code sfid : ℕ) → MayStep row consts.units state.frame state.flows (flows_acked kind code state.frame sfid state.flows)
-  acked_step kind code sfid = cond_both (code == 0) _ _ (MayStep row consts.units state.frame state.flows)
-      (λ _. change-MayStep (sound-AreFlows sound) sfid (flows.acknowledged state.frame) (follow-acknowledged consts.units state.frame))
+module _ (op : Operator) (sound : IsSound op) where
+  acked_step : (kind : Kind) (code sfid : ℕ) → MayStep op.row op.consts.units op.state.frame op.state.flows (flows_acked kind code op.state.frame sfid op.state.flows)
+  acked_step kind code sfid = cond_both (code == 0) _ _ (MayStep op.row op.consts.units op.state.frame op.state.flows)
+      (λ _. change-MayStep (sound-AreFlows sound) sfid (flows.acknowledged op.state.frame) (follow-acknowledged op.consts.units op.state.frame))
       (λ _. undone-MayStep (sound-AreFlows sound) kind sfid)
 
-  acked_other : (kind : Kind) (code sfid q : ℕ) → q ≢ sfid → flow_at q (flows_acked kind code state.frame sfid state.flows) ≡ flow_at q state.flows
-  acked_other kind code sfid q apart = cond_both (code == 0) _ _ (λ (fs : List (ℕ × Flow)). flow_at q fs ≡ flow_at q state.flows)
-      (λ _. at-change_other q sfid apart state.flows (flows.acknowledged state.frame))
-      (λ _. at-undone_other q sfid apart state.flows kind)
+  acked_other : (kind : Kind) (code sfid q : ℕ) → q ≢ sfid → flow_at q (flows_acked kind code op.state.frame sfid op.state.flows) ≡ flow_at q op.state.flows
+  acked_other kind code sfid q apart = cond_both (code == 0) _ _ (λ (fs : List (ℕ × Flow)). flow_at q fs ≡ flow_at q op.state.flows)
+      (λ _. at-change_other q sfid apart op.state.flows (flows.acknowledged op.state.frame))
+      (λ _. at-undone_other q sfid apart op.state.flows kind)
 
-  pub acked_sound : (modem : Modem) (tid : ℕ) (kind : Kind) (code : ℕ) → IsSound consts row (acked consts state modem tid kind code).state
-  acked_sound modem tid kind code = by (find (waits_for modem tid kind) state.kept) refl
+  pub acked_sound : (modem : Modem) (tid : ℕ) (kind : Kind) (code : ℕ) → IsSound (operator op.consts op.row (acked op.consts op.state modem tid kind code).state)
+  acked_sound modem tid kind code = by (find (waits_for modem tid kind) op.state.kept) refl
     where
-      by : (o : Option KeptEntry) → find (waits_for modem tid kind) state.kept ≡ o → IsSound consts row (acked_if consts state modem tid kind code (option_map (λ entry. entry.sfid) o)).state
+      by : (o : Option KeptEntry) → find (waits_for modem tid kind) op.state.kept ≡ o → IsSound (operator op.consts op.row (acked_if op.consts op.state modem tid kind code (option_map (λ entry. entry.sfid) o)).state)
       by None is = sound
       by (Some x) is =
-          let apart = find-apart (waits_for modem tid kind) (waits_for_waits modem tid kind) state.kept x sound.own_flows is in
-          step_on sound (flows_acked kind code state.frame x.sfid state.flows) (map (acknowledged consts.timers modem tid kind) state.kept) (acked_step kind code x.sfid)
+          let apart = find-apart (waits_for modem tid kind) (waits_for_waits modem tid kind) op.state.kept x sound.own_flows is in
+          step_on sound (flows_acked kind code op.state.frame x.sfid op.state.flows) (map (acknowledged op.consts.timers modem tid kind) op.state.kept) (acked_step kind code x.sfid)
           (simp length-map sound.few_kept)
-          (All-map (HasItsFlow (flows_acked kind code state.frame x.sfid state.flows)) (acknowledged consts.timers modem tid kind) state.kept
-          (λ k d lt. has_flow consts.timers modem tid kind (flows_acked kind code state.frame x.sfid state.flows) (get_or state.kept k d) (waits_for modem tid kind (get_or state.kept k d))
-          (λ fails waiting. subst (λ (o : Option Flow). IsSome o × IfSome o (IsWaitingOf (get_or state.kept k d).kind)) (sym (acked_other kind code x.sfid (get_or state.kept k d).sfid (apart k d lt fails waiting))) (sound.waiting k d lt waiting))))
-          (pairs-map AreApart AreApart (acknowledged consts.timers modem tid kind) (λ a b apart. ack_apart consts.timers modem tid kind a b (waits_for modem tid kind a) (waits_for modem tid kind b) apart) state.kept sound.own_flows)
+          (All-map (HasItsFlow (flows_acked kind code op.state.frame x.sfid op.state.flows)) (acknowledged op.consts.timers modem tid kind) op.state.kept
+          (λ k d lt. has_flow op.consts.timers modem tid kind (flows_acked kind code op.state.frame x.sfid op.state.flows) (get_or op.state.kept k d) (waits_for modem tid kind (get_or op.state.kept k d))
+          (λ fails waiting. subst (λ (o : Option Flow). IsSome o × IfSome o (IsWaitingOf (get_or op.state.kept k d).kind)) (sym (acked_other kind code x.sfid (get_or op.state.kept k d).sfid (apart k d lt fails waiting))) (sound.waiting k d lt waiting))))
+          (pairs-map AreApart AreApart (acknowledged op.consts.timers modem tid kind) (λ a b apart. ack_apart op.consts.timers modem tid kind a b (waits_for modem tid kind a) (waits_for modem tid kind b) apart) op.state.kept sound.own_flows)
 
   -- ---- a request for minislots
 
-  pub asked_sound : (modem : Modem) (sid minislots : ℕ) → IsSound consts row (asked_of_flow state modem minislots (flow_with sid state.flows)).state
-  asked_sound modem sid minislots = by (flow_with sid state.flows) refl
+  pub asked_sound : (modem : Modem) (sid minislots : ℕ) → IsSound (operator op.consts op.row (asked_of_flow op.state modem minislots (flow_with sid op.state.flows)).state)
+  asked_sound modem sid minislots = by (flow_with sid op.state.flows) refl
     where
-      by : (o : Option (ℕ × Flow)) → flow_with sid state.flows ≡ o → IsSound consts row (asked_of_flow state modem minislots o).state
+      by : (o : Option (ℕ × Flow)) → flow_with sid op.state.flows ≡ o → IsSound (operator op.consts op.row (asked_of_flow op.state modem minislots o).state)
       by None is = sound
       by (Some entry) is =
-          let there = at-find (λ (e : ℕ × Flow). is_sid sid e.1.sid) state.flows entry sound.ascending is in
+          let there = at-find (λ (e : ℕ × Flow). is_sid sid e.1.sid) op.state.flows entry sound.ascending is in
           let sound_flow = sound-there (sound-AreFlows sound) entry.0 entry.1 there in
-          let change : Flow → Flow = requested minislots state.frame in
-          let waiting : All (HasItsFlow (with_flow entry.0 (change entry.1) state.flows)) state.kept = λ k d lt waits.
-          subst (λ (fs : List (ℕ × Flow)). IsSome (flow_at (get_or state.kept k d).sfid fs) × IfSome (flow_at (get_or state.kept k d).sfid fs) (IsWaitingOf (get_or state.kept k d).kind))
-          (ap (put_if entry.0 change state.flows) there)
-          (kept-change (IsWaitingOf (get_or state.kept k d).kind) (get_or state.kept k d).sfid entry.0 change state.flows (λ old h. waits_still (get_or state.kept k d).kind old (change old) refl refl h) (sound.waiting k d lt waits)) in
-          cond_both (not (same_modem entry.1.modem modem)) _ _ (λ (ran : Ran). IsSound consts row ran.state) (λ _. sound)
-          (λ _. cond_both (not (asks_for_grants entry.1.sets.active)) _ _ (λ (ran : Ran). IsSound consts row ran.state) (λ _. sound)
-          (λ asks. step_on sound (with_flow entry.0 (change entry.1) state.flows) state.kept
-          (put-MayStep (sound-AreFlows sound) entry.0 entry.1 (change entry.1) there (follow-requested consts.units state.frame entry.1 sound_flow minislots (not-false (asks_for_grants entry.1.sets.active) asks)))
+          let change : Flow → Flow = requested minislots op.state.frame in
+          let waiting : All (HasItsFlow (with_flow entry.0 (change entry.1) op.state.flows)) op.state.kept = λ k d lt waits.
+          subst (λ (fs : List (ℕ × Flow)). IsSome (flow_at (get_or op.state.kept k d).sfid fs) × IfSome (flow_at (get_or op.state.kept k d).sfid fs) (IsWaitingOf (get_or op.state.kept k d).kind))
+          (ap (put_if entry.0 change op.state.flows) there)
+          (kept-change (IsWaitingOf (get_or op.state.kept k d).kind) (get_or op.state.kept k d).sfid entry.0 change op.state.flows (λ old h. waits_still (get_or op.state.kept k d).kind old (change old) refl refl h) (sound.waiting k d lt waits)) in
+          cond_both (not (same_modem entry.1.modem modem)) _ _ (λ (ran : Ran). IsSound (operator op.consts op.row ran.state)) (λ _. sound)
+          (λ _. cond_both (not (asks_for_grants entry.1.sets.active)) _ _ (λ (ran : Ran). IsSound (operator op.consts op.row ran.state)) (λ _. sound)
+          (λ asks. step_on sound (with_flow entry.0 (change entry.1) op.state.flows) op.state.kept
+          (put-MayStep (sound-AreFlows sound) entry.0 entry.1 (change entry.1) there (follow-requested op.consts.units op.state.frame entry.1 sound_flow minislots (not-false (asks_for_grants entry.1.sets.active) asks)))
           sound.few_kept waiting sound.own_flows))

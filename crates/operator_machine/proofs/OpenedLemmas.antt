@@ -17,7 +17,7 @@ use Rattle.slice_table.specs.Provisioned.{sets_of_encoding, Opened, opened_sfids
 use Rattle.slice_table.specs.Row.{need_of_sets, need_of_provision, admits, count_of, IsRowOf}
 use Rattle.flow_table.specs.declared.flow.Flow.{Flow}
 use Rattle.flow_table.specs.Table.{sfids_of, sids_of, committed_minislots, committed_elements}
-use Rattle.operator_machine.specs.State.{opened_flow, opened}
+use Rattle.operator_machine.specs.State.{opened_flow, opened, operator}
 use Rattle.operator_machine.specs.Sound.{IsSoundFlow, HasItsFlow, IsSound}
 use Rattle.operator_machine.proofs.OrderLemmas.{length-insert}
 use Rattle.operator_machine.proofs.FlowsLemmas.{AreFlows, put-AreFlows}
@@ -125,7 +125,7 @@ module _ (consts : ConstsFields) (row : RowFields) where
     few = omega arith;
   }
 
-  pub opened_sound : IsRowOf consts row → 1 ≤ row.slice.length → IsSound consts row (opened consts row)
+  pub opened_sound : IsRowOf consts row → 1 ≤ row.slice.length → IsSound (operator consts row (opened consts row))
   opened_sound is some =
       let last = all [] row.provisions (record {
         are = none;

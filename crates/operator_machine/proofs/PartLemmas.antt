@@ -18,13 +18,11 @@ use Rattle.slice_scheduler.specs.Tiles.{IsTiled}
 use Rattle.slice_scheduler.proofs.TiledLemmas.{elements-tiled}
 use Rattle.slice_scheduler.proofs.NamedLemmas.{spans-named, pending-named}
 use Rattle.slice_scheduler.proofs.FewLemmas.{elements-few, one-nobody}
-use Rattle.slice_table.specs.declared.consts.ConstsFields.{ConstsFields}
-use Rattle.slice_table.specs.declared.operator_row.RowFields.{RowFields}
 use Rattle.slice_table.specs.Row.{IsRow}
 use Rattle.flow_table.specs.declared.flow.Flow.{Flow}
 use Rattle.flow_table.specs.Flow.{is_unsolicited, asks_for_grants}
 use Rattle.flow_table.specs.Table.{flowing_of_set, flowing_in}
-use Rattle.operator_machine.specs.State.{OperatorState}
+use Rattle.operator_machine.specs.State.{Operator}
 use Rattle.operator_machine.specs.Frame.{at_frame, frame_elements}
 use Rattle.operator_machine.specs.Part.{is_own_sid}
 use Rattle.operator_machine.specs.Sound.{KeepsItsKind, IsSoundFlow, IsSound}
@@ -87,47 +85,47 @@ all-list_all p (x ∷ xs) a = ap (λ (b : Bool). b && list_all p xs) a.0 ∙ all
 
 -- ---- the elements
 
-module _ (consts : ConstsFields) (row : RowFields) (state : OperatorState) (sound : IsSound consts row state) where
+module _ (op : Operator) (sound : IsSound op) where
   abbrev flows : List Flowing
-  flows = flowing_in state.flows
+  flows = flowing_in op.state.flows
 
   abbrev made_of : List Flowing → ElementsFields
-  made_of fs = elements_of row.policy (at_frame consts state) fs
+  made_of fs = elements_of op.row.policy (at_frame op.consts op.state) fs
 
-  same : made_of flows ≡ frame_elements consts row state
-  same = ap made_of (sym (flows_left_same consts row state sound))
+  same : made_of flows ≡ frame_elements op
+  same = ap made_of (sym (flows_left_same op sound))
 
   kinds : AllByRecursion IsOfItsKind flows
-  kinds = each-served (IsSoundFlow state.frame) IsOfItsKind (served_kind state.frame) state.flows sound.flows
+  kinds = each-served (IsSoundFlow op.state.frame) IsOfItsKind (served_kind op.state.frame) op.state.flows sound.flows
 
   asks : AllByRecursion AsksWhereItMay flows
-  asks = each-served (IsSoundFlow state.frame) AsksWhereItMay (served_asks state.frame) state.flows sound.flows
+  asks = each-served (IsSoundFlow op.state.frame) AsksWhereItMay (served_asks op.state.frame) op.state.flows sound.flows
 
-  own : AllByRecursion (λ (f : Flowing). is_own_sid row.sids f.sid ≡ true) flows
-  own = each-served (HasSidOf row.sids) (λ f. is_own_sid row.sids f.sid ≡ true) (served_own row.sids) state.flows (sids-each (IsIn row.sids) state.flows sound.sids)
+  own : AllByRecursion (λ (f : Flowing). is_own_sid op.row.sids f.sid ≡ true) flows
+  own = each-served (HasSidOf op.row.sids) (λ f. is_own_sid op.row.sids f.sid ≡ true) (served_own op.row.sids) op.state.flows (sids-each (IsIn op.row.sids) op.state.flows sound.sids)
 
-  some : IsRow row → AllByRecursion (λ (f : Flowing). f.sid ≢ 0) flows
-  some keys = each-served (HasSoundSid row.sids state.frame) (λ f. f.sid ≢ 0) (served_some row.sids state.frame keys.sids_low) state.flows
-      (λ k d lt. (sound.flows k d lt, sids-each (IsIn row.sids) state.flows sound.sids k d lt))
+  some : IsRow op.row → AllByRecursion (λ (f : Flowing). f.sid ≢ 0) flows
+  some keys = each-served (HasSoundSid op.row.sids op.state.frame) (λ f. f.sid ≢ 0) (served_some op.row.sids op.state.frame keys.sids_low) op.state.flows
+      (λ k d lt. (sound.flows k d lt, sids-each (IsIn op.row.sids) op.state.flows sound.sids k d lt))
 
-  pub part_tiled : IsTiled (frame_elements consts row state)
-  part_tiled = subst IsTiled same (elements-tiled row.policy (at_frame consts state) flows (can_ascend consts row state sound) (can_fit consts row state sound) kinds)
+  pub part_tiled : IsTiled (frame_elements op)
+  part_tiled = subst IsTiled same (elements-tiled op.row.policy (at_frame op.consts op.state) flows (can_ascend op sound) (can_fit op sound) kinds)
 
-  pub part_spans : list_all (λ span. is_own_sid row.sids span.sid) (frame_elements consts row state).spans ≡ true
-  part_spans = subst (λ (e : ElementsFields). list_all (λ span. is_own_sid row.sids span.sid) e.spans ≡ true) same
-      (all-list_all (λ (span : Span). is_own_sid row.sids span.sid) (made_of flows).spans (spans-named (λ sid. is_own_sid row.sids sid ≡ true) row.policy (at_frame consts state) flows own refl))
+  pub part_spans : list_all (λ span. is_own_sid op.row.sids span.sid) (frame_elements op).spans ≡ true
+  part_spans = subst (λ (e : ElementsFields). list_all (λ span. is_own_sid op.row.sids span.sid) e.spans ≡ true) same
+      (all-list_all (λ (span : Span). is_own_sid op.row.sids span.sid) (made_of flows).spans (spans-named (λ sid. is_own_sid op.row.sids sid ≡ true) op.row.policy (at_frame op.consts op.state) flows own refl))
 
-  pub part_pending : list_all (is_own_sid row.sids) (frame_elements consts row state).pending ≡ true
-  part_pending = subst (λ (e : ElementsFields). list_all (is_own_sid row.sids) e.pending ≡ true) same
-      (all-list_all (is_own_sid row.sids) (made_of flows).pending (pending-named (λ sid. is_own_sid row.sids sid ≡ true) row.policy (at_frame consts state) flows own))
+  pub part_pending : list_all (is_own_sid op.row.sids) (frame_elements op).pending ≡ true
+  part_pending = subst (λ (e : ElementsFields). list_all (is_own_sid op.row.sids) e.pending ≡ true) same
+      (all-list_all (is_own_sid op.row.sids) (made_of flows).pending (pending-named (λ sid. is_own_sid op.row.sids sid ≡ true) op.row.policy (at_frame op.consts op.state) flows own))
 
-  pub part_some : IsRow row → All (λ sid. sid ≢ 0) (frame_elements consts row state).pending
+  pub part_some : IsRow op.row → All (λ sid. sid ≢ 0) (frame_elements op).pending
   part_some keys = subst (λ (e : ElementsFields). All (λ sid. sid ≢ 0) e.pending) same
-      (All-from_recursion (λ sid. sid ≢ 0) (made_of flows).pending (pending-named (λ sid. sid ≢ 0) row.policy (at_frame consts state) flows (some keys)))
+      (All-from_recursion (λ sid. sid ≢ 0) (made_of flows).pending (pending-named (λ sid. sid ≢ 0) op.row.policy (at_frame op.consts op.state) flows (some keys)))
 
-  pub part_nobody : IsRow row → count_by (λ (span : Span). span.sid == 0) (frame_elements consts row state).spans ≤ 1
-  part_nobody keys = subst (λ (e : ElementsFields). count_by (λ (span : Span). span.sid == 0) e.spans ≤ 1) same (one-nobody row.policy (at_frame consts state) flows (some keys))
+  pub part_nobody : IsRow op.row → count_by (λ (span : Span). span.sid == 0) (frame_elements op).spans ≤ 1
+  part_nobody keys = subst (λ (e : ElementsFields). count_by (λ (span : Span). span.sid == 0) e.spans ≤ 1) same (one-nobody op.row.policy (at_frame op.consts op.state) flows (some keys))
 
-  pub part_few : length (frame_elements consts row state).spans + length (frame_elements consts row state).pending ≤ row.elements + 1
-  part_few = subst (λ (e : ElementsFields). length e.spans + length e.pending ≤ row.elements + 1) same
-      (omega (arith, elements-few row.policy (at_frame consts state) flows asks, elements_within (at_frame consts state) state.flows sound.flows, sound.elements))
+  pub part_few : length (frame_elements op).spans + length (frame_elements op).pending ≤ op.row.elements + 1
+  part_few = subst (λ (e : ElementsFields). length e.spans + length e.pending ≤ op.row.elements + 1) same
+      (omega (arith, elements-few op.row.policy (at_frame op.consts op.state) flows asks, elements_within (at_frame op.consts op.state) op.state.flows sound.flows, sound.elements))

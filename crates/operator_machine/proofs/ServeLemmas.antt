@@ -15,12 +15,10 @@ use Rattle.param_sets.specs.declared.param_set.ParamFields.{ParamFields}
 use Rattle.slice_scheduler.specs.declared.flowing.At.{At}
 use Rattle.slice_scheduler.specs.declared.flowing.Flowing.{Flowing}
 use Rattle.slice_scheduler.specs.Servable.{SfidsAscend, IsPast, needed, elements_needed}
-use Rattle.slice_table.specs.declared.consts.ConstsFields.{ConstsFields}
-use Rattle.slice_table.specs.declared.operator_row.RowFields.{RowFields}
 use Rattle.flow_table.specs.declared.flow.Flow.{Flow}
 use Rattle.flow_table.specs.Flow.{committed_of}
 use Rattle.flow_table.specs.Table.{flowing_of_set, flowing_in, committed_minislots, committed_elements}
-use Rattle.operator_machine.specs.State.{OperatorState}
+use Rattle.operator_machine.specs.State.{Operator}
 use Rattle.operator_machine.specs.Frame.{at_frame}
 use Rattle.operator_machine.specs.Sound.{IsSoundFlow, IsSound}
 use Rattle.operator_machine.proofs.MapLemmas.{Ascends}
@@ -92,12 +90,12 @@ elements_within at flows each = part_within (λ b. b.elements) (λ a b h. h.elem
 
 -- ---- what a schedule asks for
 
-module _ (consts : ConstsFields) (row : RowFields) (state : OperatorState) (sound : IsSound consts row state) where
-  pub can_ascend : SfidsAscend (flowing_in state.flows)
-  can_ascend = ascend state.flows sound.ascending
+module _ (op : Operator) (sound : IsSound op) where
+  pub can_ascend : SfidsAscend (flowing_in op.state.flows)
+  can_ascend = ascend op.state.flows sound.ascending
 
-  pub can_pass : All (IsPast state.frame) (flowing_in state.flows)
-  can_pass = past state.frame state.flows sound.flows
+  pub can_pass : All (IsPast op.state.frame) (flowing_in op.state.flows)
+  can_pass = past op.state.frame op.state.flows sound.flows
 
-  pub can_fit : needed (at_frame consts state) (flowing_in state.flows) ≤ state.share.slice.length
-  can_fit = omega (arith, within (at_frame consts state) state.flows sound.flows, sound.minislots, sound.share.budget)
+  pub can_fit : needed (at_frame op.consts op.state) (flowing_in op.state.flows) ≤ op.state.share.slice.length
+  can_fit = omega (arith, within (at_frame op.consts op.state) op.state.flows sound.flows, sound.minislots, sound.share.budget)

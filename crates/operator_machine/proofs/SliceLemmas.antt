@@ -20,7 +20,7 @@ use Rattle.operator_machine.specs.declared.output.Output.{Output}
 use Rattle.operator_machine.specs.declared.output.Output.TheVariants as outputs
 use Rattle.operator_machine.specs.declared.share.Share.{Share}
 use Rattle.operator_machine.specs.declared.share.NextShare.{NextShare}
-use Rattle.operator_machine.specs.State.{OperatorState, opened}
+use Rattle.operator_machine.specs.State.{operator, OperatorState, opened, Operator}
 use Rattle.operator_machine.specs.Handle.{Ran}
 use Rattle.operator_machine.specs.Frame.{share_at, next_at, resent, frame_elements}
 use Rattle.operator_machine.specs.Frames.{frames_in}
@@ -103,33 +103,33 @@ none_waits : {X : Type 0} (o : Option X) → is_some o ≡ false → o ≡ None
 none_waits None none = refl
 none_waits (Some x) none = cc
 
-module _ (consts : ConstsFields) (row : RowFields) (state : OperatorState) (to_come : IsToCome state.frame state.next) where
-  stays : (ran : Ran) → StaysAt state ran → Slices state [] ran.state
+module _ (op : Operator) (to_come : IsToCome op.state.frame op.state.next) where
+  stays : (ran : Ran) → StaysAt op.state ran → Slices op.state [] ran.state
   stays ran still = record {
     on = omega (arith, still.frame);
-    to_come = subst (λ (m : ℕ). IsToCome m ran.state.next) (sym still.frame) (subst (IsToCome state.frame) (sym still.waits) to_come);
-    same = λ n le. ap (λ (s : Share). slice_then s ran.state.next n) still.share ∙ ap (λ (o : Option NextShare). slice_then state.share o n) still.waits;
+    to_come = subst (λ (m : ℕ). IsToCome m ran.state.next) (sym still.frame) (subst (IsToCome op.state.frame) (sym still.waits) to_come);
+    same = λ n le. ap (λ (s : Share). slice_then s ran.state.next n) still.share ∙ ap (λ (o : Option NextShare). slice_then op.state.share o n) still.waits;
   }
 
-  offered : (from : ℕ) (slice_row : SliceRow) → unfit_from consts state from slice_row ≡ None → Slices state (record { from = from; slice = record { start = slice_row.start; length = slice_row.length } } ∷ []) (resliced state from slice_row).state
+  offered : (from : ℕ) (slice_row : SliceRow) → unfit_from op.consts op.state from slice_row ≡ None → Slices op.state (record { from = from; slice = record { start = slice_row.start; length = slice_row.length } } ∷ []) (resliced op.state from slice_row).state
   offered from slice_row fit =
-      let past = passed (nat_le from state.frame) NotPast _ fit in
-      let free = passed (is_some state.next) Unfinished _ past.1 in
-      let none = none_waits state.next free.0 in
+      let past = passed (nat_le from op.state.frame) NotPast _ fit in
+      let free = passed (is_some op.state.next) Unfinished _ past.1 in
+      let none = none_waits op.state.next free.0 in
       record {
         on = omega arith;
-        to_come = leb-false from state.frame past.0;
-        same = λ n le. ap (λ (o : Option NextShare). cond (nat_le from n) (record { start = slice_row.start; length = slice_row.length }) (slice_then state.share o n)) (sym none);
+        to_come = leb-false from op.state.frame past.0;
+        same = λ n le. ap (λ (o : Option NextShare). cond (nat_le from n) (record { start = slice_row.start; length = slice_row.length }) (slice_then op.state.share o n)) (sym none);
       }
 
-  step_slices : (action : Action) → IsAllowed consts row state action → Slices state (cons_option (slice_from action) []) (own_step consts row state action).state
+  step_slices : (action : Action) → IsAllowed op action → Slices op.state (cons_option (slice_from action) []) (own_step op action).state
   unfolding own_step
-  step_slices (Arrive modem heard) allowed = stays (arrived row state modem heard) (arrived_none consts row state modem heard)
-  step_slices Work allowed = stays (worked consts row state state.inbox) (worked_none consts row state state.inbox)
+  step_slices (Arrive modem heard) allowed = stays (arrived op.row op.state modem heard) (arrived_none op modem heard)
+  step_slices Work allowed = stays (worked op op.state.inbox) (worked_none op op.state.inbox)
   step_slices Tick allowed = record {
     on = omega arith;
-    to_come = turned-to_come state.frame state.next to_come;
-    same = λ n le. turned state.frame n state.share state.next le;
+    to_come = turned-to_come op.state.frame op.state.next to_come;
+    same = λ n le. turned op.state.frame n op.state.share op.state.next le;
   }
   step_slices (Reslice from slice_row) allowed = offered from slice_row allowed.fit
 
@@ -165,12 +165,12 @@ of_its_slice frame f g same (outputs.Frame number elements) is = is.1 ∙ same n
 
 module _ (consts : ConstsFields) (row : RowFields) where
   abbrev after : OperatorState → Action → OperatorState
-  after state action = (own_step consts row state action).state
+  after state action = (own_step (operator consts row state) action).state
 
-  run_slices : (state : OperatorState) (actions : List Action) → IsToCome state.frame state.next → MayRun consts row state actions → Slices state (reslicings_in actions) (own_run consts row state actions).state
+  run_slices : (state : OperatorState) (actions : List Action) → IsToCome state.frame state.next → MayRun (operator consts row state) actions → Slices state (reslicings_in actions) (own_run (operator consts row state) actions).state
   run_slices state [] to_come may = record { on = omega arith; to_come = to_come; same = λ n le. refl }
   run_slices state (action ∷ actions) to_come may =
-      let step = step_slices consts row state to_come action may.0 in
+      let step = step_slices (operator consts row state) to_come action may.0 in
       let rest = run_slices (after state action) actions step.to_come may.1 in
       record {
         on = omega (arith, step.on, rest.on);
@@ -182,14 +182,14 @@ module _ (consts : ConstsFields) (row : RowFields) where
       }
 
   -- what is offered is to come
-  run_later : (state : OperatorState) (actions : List Action) → IsToCome state.frame state.next → MayRun consts row state actions → AllByRecursion (λ (r : SliceFrom). state.frame < r.from) (reslicings_in actions)
+  run_later : (state : OperatorState) (actions : List Action) → IsToCome state.frame state.next → MayRun (operator consts row state) actions → AllByRecursion (λ (r : SliceFrom). state.frame < r.from) (reslicings_in actions)
   run_later state [] to_come may = tt
   run_later state (action ∷ actions) to_come may =
-      let step = step_slices consts row state to_come action may.0 in
+      let step = step_slices (operator consts row state) to_come action may.0 in
       let rest = run_later (after state action) actions step.to_come may.1 in
       by action may.0 (recursion-weaker (λ (r : SliceFrom). (after state action).frame < r.from) (λ (r : SliceFrom). state.frame < r.from) (λ r lt. omega (arith, step.on)) (reslicings_in actions) rest)
     where
-      by : (action : Action) → IsAllowed consts row state action → AllByRecursion (λ (r : SliceFrom). state.frame < r.from) (reslicings_in actions) → AllByRecursion (λ (r : SliceFrom). state.frame < r.from) (cons_option (slice_from action) (reslicings_in actions))
+      by : (action : Action) → IsAllowed (operator consts row state) action → AllByRecursion (λ (r : SliceFrom). state.frame < r.from) (reslicings_in actions) → AllByRecursion (λ (r : SliceFrom). state.frame < r.from) (cons_option (slice_from action) (reslicings_in actions))
       by (Arrive modem heard) allowed rest = rest
       by Work allowed rest = rest
       by Tick allowed rest = rest
@@ -197,50 +197,50 @@ module _ (consts : ConstsFields) (row : RowFields) where
 
   -- what one step puts out
   step_frames : (state : OperatorState) (action : Action) (rs : List SliceFrom) → IsToCome state.frame state.next → AllByRecursion (λ (r : SliceFrom). state.frame < r.from) rs
-      → AllByRecursion (IsFrom state.frame (λ n. then_all (of_state state n) rs n)) (own_step consts row state action).outputs
+      → AllByRecursion (IsFrom state.frame (λ n. then_all (of_state state n) rs n)) (own_step (operator consts row state) action).outputs
   unfolding own_step
-  step_frames state (Arrive modem heard) rs to_come later = no_frame state.frame _ _ (arrived_none consts row state modem heard).numbers
-  step_frames state Work rs to_come later = no_frame state.frame _ _ (worked_none consts row state state.inbox).numbers
+  step_frames state (Arrive modem heard) rs to_come later = no_frame state.frame _ _ (arrived_none (operator consts row state) modem heard).numbers
+  step_frames state Work rs to_come later = no_frame state.frame _ _ (worked_none (operator consts row state) state.inbox).numbers
   step_frames state Tick rs to_come later =
-      recursion-append (IsFrom state.frame (λ n. then_all (of_state state n) rs n)) (map resent (resent_in state.kept)) (outputs.Frame state.frame (frame_elements consts row state) ∷ [])
-      (no_frame state.frame (λ n. then_all (of_state state n) rs n) (map resent (resent_in state.kept)) (resent_none consts row state (resent_in state.kept)))
+      recursion-append (IsFrom state.frame (λ n. then_all (of_state state n) rs n)) (map resent (resent_in state.kept)) (outputs.Frame state.frame (frame_elements (operator consts row state)) ∷ [])
+      (no_frame state.frame (λ n. then_all (of_state state n) rs n) (map resent (resent_in state.kept)) (resent_none (operator consts row state) (resent_in state.kept)))
       ((omega arith, sym (then-later (of_state state state.frame) rs state.frame later ∙ now state.frame state.share state.next to_come)), tt)
   step_frames state (Reslice from slice_row) rs to_come later = tt
 
-  run_frames : (state : OperatorState) (actions : List Action) → IsToCome state.frame state.next → MayRun consts row state actions
-      → AllByRecursion (IsFrom state.frame (λ n. then_all (of_state state n) (reslicings_in actions) n)) (own_run consts row state actions).outputs
+  run_frames : (state : OperatorState) (actions : List Action) → IsToCome state.frame state.next → MayRun (operator consts row state) actions
+      → AllByRecursion (IsFrom state.frame (λ n. then_all (of_state state n) (reslicings_in actions) n)) (own_run (operator consts row state) actions).outputs
   run_frames state [] to_come may = tt
   run_frames state (action ∷ actions) to_come may =
-      let step = step_slices consts row state to_come action may.0 in
+      let step = step_slices (operator consts row state) to_come action may.0 in
       let rs = reslicings_in (action ∷ actions) in
       let of_all : ℕ → Minislots = λ n. then_all (of_state state n) rs n in
       let of_rest : ℕ → Minislots = λ n. then_all (of_state (after state action) n) (reslicings_in actions) n in
-      recursion-append (IsFrom state.frame of_all) (own_step consts row state action).outputs (own_run consts row (after state action) actions).outputs
+      recursion-append (IsFrom state.frame of_all) (own_step (operator consts row state) action).outputs (own_run (operator consts row (after state action)) actions).outputs
       (step_frames state action rs to_come (run_later state (action ∷ actions) to_come may))
       (recursion-weaker (IsFrom (after state action).frame of_rest) (IsFrom state.frame of_all)
       (from_before state.frame (after state action).frame of_all of_rest step.on (λ n le. ap (λ (s : Minislots). then_all s (reslicings_in actions) n) (step.same n le) ∙ one_more (slice_from action) (reslicings_in actions) (of_state state n) n))
-      (own_run consts row (after state action) actions).outputs
+      (own_run (operator consts row (after state action)) actions).outputs
       (run_frames (after state action) actions step.to_come may.1))
 
-  pub run-frames : (actions : List Action) → MayRun consts row (opened consts row) actions → All (IsOfItsSlice (slice_at row.slice (reslicings_in actions))) (own_run consts row (opened consts row) actions).outputs
+  pub run-frames : (actions : List Action) → MayRun (operator consts row (opened consts row)) actions → All (IsOfItsSlice (slice_at row.slice (reslicings_in actions))) (own_run (operator consts row (opened consts row)) actions).outputs
   run-frames actions may =
-      let puts = (own_run consts row (opened consts row) actions).outputs in
+      let puts = (own_run (operator consts row (opened consts row)) actions).outputs in
       let made : ℕ → Minislots = λ n. then_all row.slice (reslicings_in actions) n in
       All-from_recursion (IsOfItsSlice (slice_at row.slice (reslicings_in actions))) puts
       (recursion-weaker (IsFrom consts.first_frame made) (IsOfItsSlice (slice_at row.slice (reslicings_in actions)))
       (of_its_slice consts.first_frame (slice_at row.slice (reslicings_in actions)) made (λ n. sym (slice_at-is row.slice (reslicings_in actions) n)))
       puts (run_frames (opened consts row) actions tt may))
 
-  pub run-in_force : (actions : List Action) → MayRun consts row (opened consts row) actions
-      → (own_run consts row (opened consts row) actions).state.share.slice ≡ slice_at row.slice (reslicings_in actions) (own_run consts row (opened consts row) actions).state.frame
+  pub run-in_force : (actions : List Action) → MayRun (operator consts row (opened consts row)) actions
+      → (own_run (operator consts row (opened consts row)) actions).state.share.slice ≡ slice_at row.slice (reslicings_in actions) (own_run (operator consts row (opened consts row)) actions).state.frame
   run-in_force actions may =
-      let end = (own_run consts row (opened consts row) actions).state in
+      let end = (own_run (operator consts row (opened consts row)) actions).state in
       let all = run_slices (opened consts row) actions tt may in
       sym (now end.frame end.share end.next all.to_come) ∙ (all.same end.frame (omega arith) ∙ sym (slice_at-is row.slice (reslicings_in actions) end.frame))
 
   -- ---- a replay
 
-  told-may : (state : OperatorState) (history : List Entry) → AreTold consts row state history → MayRun consts row state (actions_of history)
+  told-may : (state : OperatorState) (history : List Entry) → AreTold (operator consts row state) history → MayRun (operator consts row state) (actions_of history)
   told-may state [] told = tt
   told-may state (entry ∷ history) told = (told.0, told-may (after state entry.action) history told.2)
 

@@ -7,7 +7,7 @@ use Rattle.flow_table.specs.declared.flow.Flow.{Flow}
 use Rattle.flow_table.specs.Table.{committed_minislots, committed_elements}
 use Rattle.operator_machine.specs.declared.heard.Arrival.{Arrival}
 use Rattle.operator_machine.specs.declared.share.NextShare.{NextShare}
-use Rattle.operator_machine.specs.State.{OperatorState}
+use Rattle.operator_machine.specs.State.{OperatorState, Operator, operator}
 use Rattle.operator_machine.specs.Verdict.{minislots_allowed}
 use Rattle.operator_machine.specs.Sound.{HasItsFlow, HaveOwnFlows, IsNextShare, IsSound}
 use Rattle.operator_machine.proofs.FlowsLemmas.{AreFlows}
@@ -27,15 +27,15 @@ allowed_then consts frame budget before c None le h = tt
 allowed_then consts frame budget before c (Some next) le h = record { share = h.share; to_come = h.to_come; fits = omega arith }
 
 -- flows and kept entries that a state may go on with
-pub record MayGoOn (consts : ConstsFields) (row : RowFields) (state : OperatorState) (flows : List (ℕ × Flow)) (kept : List KeptEntry) : Type 0 where
-  pub are : AreFlows row state.frame flows
-  pub few : length kept ≤ row.transactions
+pub record MayGoOn (op : Operator) (flows : List (ℕ × Flow)) (kept : List KeptEntry) : Type 0 where
+  pub are : AreFlows op.row op.state.frame flows
+  pub few : length kept ≤ op.row.transactions
   pub waiting : All (HasItsFlow flows) kept
   pub own : HaveOwnFlows kept
-  pub minislots : committed_minislots consts.units flows ≤ minislots_allowed state.share.budget state.next
-  pub elements : committed_elements consts.units flows ≤ row.elements
+  pub minislots : committed_minislots op.consts.units flows ≤ minislots_allowed op.state.share.budget op.state.next
+  pub elements : committed_elements op.consts.units flows ≤ op.row.elements
 
-module _ {consts : ConstsFields} {row : RowFields} {state : OperatorState} (sound : IsSound consts row state) where
+module _ {consts : ConstsFields} {row : RowFields} {state : OperatorState} (sound : IsSound (operator consts row state)) where
   pub sound-AreFlows : AreFlows row state.frame state.flows
   sound-AreFlows = record {
     ascending = sound.ascending;
@@ -46,7 +46,7 @@ module _ {consts : ConstsFields} {row : RowFields} {state : OperatorState} (soun
     few = sound.few_flows;
   }
 
-  pub go_on : (flows : List (ℕ × Flow)) (kept : List KeptEntry) → MayGoOn consts row state flows kept → IsSound consts row (record state { flows = flows; kept = kept })
+  pub go_on : (flows : List (ℕ × Flow)) (kept : List KeptEntry) → MayGoOn (operator consts row state) flows kept → IsSound (operator consts row (record state { flows = flows; kept = kept }))
   go_on flows kept may = record {
     ascending = may.are.ascending;
     sfids = may.are.sfids;
@@ -66,7 +66,7 @@ module _ {consts : ConstsFields} {row : RowFields} {state : OperatorState} (soun
 
   -- where no more is committed
   pub step_on : (flows : List (ℕ × Flow)) (kept : List KeptEntry) → MayStep row consts.units state.frame state.flows flows → length kept ≤ row.transactions → All (HasItsFlow flows) kept → HaveOwnFlows kept
-      → IsSound consts row (record state { flows = flows; kept = kept })
+      → IsSound (operator consts row (record state { flows = flows; kept = kept }))
   step_on flows kept step few waiting own = go_on flows kept (record {
     are = step.are;
     few = few;
@@ -77,7 +77,7 @@ module _ {consts : ConstsFields} {row : RowFields} {state : OperatorState} (soun
   })
 
   -- with another inbox
-  pub inbox_on : (inbox : List Arrival) → length inbox ≤ row.inbox → IsSound consts row (record state { inbox = inbox })
+  pub inbox_on : (inbox : List Arrival) → length inbox ≤ row.inbox → IsSound (operator consts row (record state { inbox = inbox }))
   inbox_on inbox few = record {
     ascending = sound.ascending;
     sfids = sound.sfids;

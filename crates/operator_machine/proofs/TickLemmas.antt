@@ -7,12 +7,11 @@ use Rattle.transactions.specs.Timers.{is_due, is_resent, is_given_up, is_forgott
 use Rattle.transactions.specs.Timers as timers
 use Rattle.slice_scheduler.specs.Schedule.{granted_of}
 use Rattle.slice_table.specs.declared.consts.ConstsFields.{ConstsFields}
-use Rattle.slice_table.specs.declared.operator_row.RowFields.{RowFields}
 use Rattle.flow_table.specs.declared.flow.Flow.{Flow}
 use Rattle.flow_table.specs.Table.{flowing_in, committed_minislots}
 use Rattle.operator_machine.specs.declared.share.Share.{Share}
 use Rattle.operator_machine.specs.declared.share.NextShare.{NextShare}
-use Rattle.operator_machine.specs.State.{OperatorState}
+use Rattle.operator_machine.specs.State.{Operator, operator}
 use Rattle.operator_machine.specs.Frame.{at_frame, all_granted, share_at, next_at, flows_left, ticked}
 use Rattle.operator_machine.specs.Sound.{IsWaitingOf, HasItsFlow, IsShare, IsNextShare, IsSound}
 use Rattle.operator_machine.proofs.FlowsLemmas.{then-CommitLess}
@@ -42,33 +41,33 @@ turned consts frame c after share (Some next) are less = by (next.from == frame 
 
 -- ---- the tick
 
-module _ (consts : ConstsFields) (row : RowFields) (state : OperatorState) (sound : IsSound consts row state) where
-  undone-step : MayStep row consts.units state.frame state.flows (flows_left state)
-  undone-step = all_undone-MayStep consts.units (given_up_in state.kept) state.flows (sound-AreFlows sound)
+module _ (op : Operator) (sound : IsSound op) where
+  undone-step : MayStep op.row op.consts.units op.state.frame op.state.flows (flows_left op.state)
+  undone-step = all_undone-MayStep op.consts.units (given_up_in op.state.kept) op.state.flows (sound-AreFlows sound)
 
-  granted-step : (gs : List (ℕ × ℕ)) → MayStep row consts.units (state.frame + 1) (flows_left state) (all_granted state.frame gs (flows_left state))
-  granted-step gs = all_granted-MayStep row consts.units state.frame gs (flows_left state) (later-AreFlows row state.frame (flows_left state) undone-step.are)
+  granted-step : (gs : List (ℕ × ℕ)) → MayStep op.row op.consts.units (op.state.frame + 1) (flows_left op.state) (all_granted op.state.frame gs (flows_left op.state))
+  granted-step gs = all_granted-MayStep op.row op.consts.units op.state.frame gs (flows_left op.state) (later-AreFlows op.row op.state.frame (flows_left op.state) undone-step.are)
 
   -- each that stays and waits has its flow
-  waiting-after : (gs : List (ℕ × ℕ)) → All (HasItsFlow (all_granted state.frame gs (flows_left state))) (kept_after consts.timers state.kept)
+  waiting-after : (gs : List (ℕ × ℕ)) → All (HasItsFlow (all_granted op.state.frame gs (flows_left op.state))) (kept_after op.consts.timers op.state.kept)
   waiting-after gs =
-      let stays = filter_passes (λ (e : KeptEntry). not (is_forgotten e)) state.kept in
-      let has : All (λ (e : KeptEntry). not (is_forgotten e) ≡ true → HasItsFlow (all_granted state.frame gs (flows_left state)) e) state.kept = λ k d lt stay. here (get_or state.kept k d) (others-IsOther state.kept sound.own_flows k d lt) (sound.waiting k d lt) stay in
-      let left = All-filter (λ (e : KeptEntry). not (is_forgotten e)) (λ (e : KeptEntry). not (is_forgotten e) ≡ true → HasItsFlow (all_granted state.frame gs (flows_left state)) e) state.kept has in
-      All-map (HasItsFlow (all_granted state.frame gs (flows_left state))) (timers.ticked consts.timers) (filter (λ (e : KeptEntry). not (is_forgotten e)) state.kept)
-      (λ k d lt. ticked_has consts.timers (all_granted state.frame gs (flows_left state)) (get_or (filter (λ (e : KeptEntry). not (is_forgotten e)) state.kept) k d) (left k d lt (stays k d lt)))
+      let stays = filter_passes (λ (e : KeptEntry). not (is_forgotten e)) op.state.kept in
+      let has : All (λ (e : KeptEntry). not (is_forgotten e) ≡ true → HasItsFlow (all_granted op.state.frame gs (flows_left op.state)) e) op.state.kept = λ k d lt stay. here (get_or op.state.kept k d) (others-IsOther op.state.kept sound.own_flows k d lt) (sound.waiting k d lt) stay in
+      let left = All-filter (λ (e : KeptEntry). not (is_forgotten e)) (λ (e : KeptEntry). not (is_forgotten e) ≡ true → HasItsFlow (all_granted op.state.frame gs (flows_left op.state)) e) op.state.kept has in
+      All-map (HasItsFlow (all_granted op.state.frame gs (flows_left op.state))) (timers.ticked op.consts.timers) (filter (λ (e : KeptEntry). not (is_forgotten e)) op.state.kept)
+      (λ k d lt. ticked_has op.consts.timers (all_granted op.state.frame gs (flows_left op.state)) (get_or (filter (λ (e : KeptEntry). not (is_forgotten e)) op.state.kept) k d) (left k d lt (stays k d lt)))
     where
-      here : (e : KeptEntry) → IsOther state.kept e → HasItsFlow state.flows e → not (is_forgotten e) ≡ true → HasItsFlow (all_granted state.frame gs (flows_left state)) e
+      here : (e : KeptEntry) → IsOther op.state.kept e → HasItsFlow op.state.flows e → not (is_forgotten e) ≡ true → HasItsFlow (all_granted op.state.frame gs (flows_left op.state)) e
       here e other has stay waits =
-          kept-all_granted e.kind e.sfid state.frame gs (flows_left state)
-          (subst (λ (o : Option Flow). IsSome o × IfSome o (IsWaitingOf e.kind)) (sym (at-all_undone e.sfid (given_up_in state.kept) state.flows (other (not_given_up e stay) waits))) (has waits))
+          kept-all_granted e.kind e.sfid op.state.frame gs (flows_left op.state)
+          (subst (λ (o : Option Flow). IsSome o × IfSome o (IsWaitingOf e.kind)) (sym (at-all_undone e.sfid (given_up_in op.state.kept) op.state.flows (other (not_given_up e stay) waits))) (has waits))
 
-  pub tick_sound : IsSound consts row (ticked consts row state).state
+  pub tick_sound : IsSound (operator op.consts op.row (ticked op).state)
   tick_sound =
-      let step = granted-step (granted_of row.policy (at_frame consts state) (flowing_in (flows_left state))) in
+      let step = granted-step (granted_of op.row.policy (at_frame op.consts op.state) (flowing_in (flows_left op.state))) in
       let less = then-CommitLess step.less undone-step.less in
-      let after : List (ℕ × Flow) = all_granted state.frame (granted_of row.policy (at_frame consts state) (flowing_in (flows_left state))) (flows_left state) in
-      let shares = turned consts state.frame (committed_minislots consts.units state.flows) (committed_minislots consts.units after) state.share state.next (record { share = sound.share; budget = sound.minislots; next = sound.next }) less.minislots in
+      let after : List (ℕ × Flow) = all_granted op.state.frame (granted_of op.row.policy (at_frame op.consts op.state) (flowing_in (flows_left op.state))) (flows_left op.state) in
+      let shares = turned op.consts op.state.frame (committed_minislots op.consts.units op.state.flows) (committed_minislots op.consts.units after) op.state.share op.state.next (record { share = sound.share; budget = sound.minislots; next = sound.next }) less.minislots in
       record {
         ascending = step.are.ascending;
         sfids = step.are.sfids;
@@ -76,10 +75,10 @@ module _ (consts : ConstsFields) (row : RowFields) (state : OperatorState) (soun
         own_sids = step.are.own_sids;
         flows = step.are.each;
         few_flows = step.are.few;
-        few_kept = omega (arith, kept-few consts.timers state.kept, sound.few_kept);
+        few_kept = omega (arith, kept-few op.consts.timers op.state.kept, sound.few_kept);
         few_heard = sound.few_heard;
-        waiting = waiting-after (granted_of row.policy (at_frame consts state) (flowing_in (flows_left state)));
-        own_flows = kept-apart consts.timers state.kept sound.own_flows;
+        waiting = waiting-after (granted_of op.row.policy (at_frame op.consts op.state) (flowing_in (flows_left op.state)));
+        own_flows = kept-apart op.consts.timers op.state.kept sound.own_flows;
         elements = omega (arith, less.elements, sound.elements);
         minislots = shares.budget;
         share = shares.share;

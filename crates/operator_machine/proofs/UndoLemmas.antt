@@ -11,13 +11,12 @@ use Rattle.dsx_messages.specs.declared.kind.Kind.TheVariants.{Dsa, Dsc, Dsd}
 use Rattle.transactions.specs.declared.tick.GivenUp.{GivenUp}
 use Rattle.transactions.specs.Timers.{given_up_in}
 use Rattle.slice_scheduler.specs.declared.flowing.Flowing.{Flowing}
-use Rattle.slice_table.specs.declared.consts.ConstsFields.{ConstsFields}
 use Rattle.slice_table.specs.declared.operator_row.RowFields.{RowFields}
 use Rattle.flow_table.specs.declared.flow.Flow.{Flow}
 use Rattle.flow_table.specs.declared.flow.Pending.{Pending}
 use Rattle.flow_table.specs.Flow.{without_pending, taken_back}
 use Rattle.flow_table.specs.Table.{flow_at, flowing_of_set, flowing_in}
-use Rattle.operator_machine.specs.State.{OperatorState}
+use Rattle.operator_machine.specs.State.{Operator}
 use Rattle.operator_machine.specs.Handle.{put_if, undone}
 use Rattle.operator_machine.specs.Frame.{all_undone, flows_left}
 use Rattle.operator_machine.specs.Sound.{IsSoundPending, IsSoundFlow, IsWaitingOf, IsSound}
@@ -81,7 +80,7 @@ all_undone_same {row} {frame} units (g ∷ given_up) flows are have =
     let step : MayStep row units frame flows (undone g.kind g.sfid flows) = undone-MayStep are g.kind g.sfid in
     all_undone_same units given_up (undone g.kind g.sfid flows) step.are (still-HaveFlows flows g.kind g.sfid given_up have.1 have.2) ∙ undone_same are g have.0
 
-module _ (consts : ConstsFields) (row : RowFields) (state : OperatorState) (sound : IsSound consts row state) where
+module _ (op : Operator) (sound : IsSound op) where
   -- what is given up leaves those that are scheduled
-  pub flows_left_same : flowing_in (flows_left state) ≡ flowing_in state.flows
-  flows_left_same = all_undone_same consts.units (given_up_in state.kept) state.flows (sound-AreFlows sound) (given_up-HaveFlows state.flows state.kept sound.waiting sound.own_flows)
+  pub flows_left_same : flowing_in (flows_left op.state) ≡ flowing_in op.state.flows
+  flows_left_same = all_undone_same op.consts.units (given_up_in op.state.kept) op.state.flows (sound-AreFlows sound) (given_up-HaveFlows op.state.flows op.state.kept sound.waiting sound.own_flows)

@@ -26,6 +26,7 @@ use Rattle.slice_table.specs.Classes.{asked_of}
 use Rattle.slice_table.specs.Row.{same_modem}
 use Rattle.flow_table.specs.declared.flow.Flow.{Flow}
 use Rattle.flow_table.specs.Table.{flow_at}
+use Rattle.operator_machine.specs.declared.verdict.Transaction.{Transaction}
 use Rattle.operator_machine.specs.declared.verdict.AskedSets.{AskedSets}
 use Rattle.operator_machine.specs.declared.verdict.Addition.{Addition}
 use Rattle.operator_machine.specs.declared.verdict.Change.{Change}
@@ -35,6 +36,9 @@ infixl 10 ◌>>=◌
 abbrev pub ◌>>=◌ : {A B : Type 0} → Result A ReplyFields → (A → Result B ReplyFields) → Result B ReplyFields
 (Ok x) >>= f = f x
 (Err reply) >>= f = Err reply
+
+abbrev pub transaction : Modem → Kind → ℕ → Transaction
+transaction modem kind tid = record { modem = modem; kind = kind; tid = tid }
 
 -- ---- refusals
 
@@ -49,8 +53,8 @@ id_of Dsc flow = option_map Sfid flow.sfid
 id_of Dsd flow = None
 
 -- a refusal that names an encoding and one of its subtypes
-abbrev pub refusal_naming : Kind → ℕ → Code → FlowFields → ℕ → ReplyFields
-refusal_naming kind tid code flow subtype = record { kind = kind; tid = tid; code = code; detail = Errored (id_of kind flow) subtype }
+abbrev pub refusal_naming : Transaction → Code → FlowFields → ℕ → ReplyFields
+refusal_naming t code flow subtype = record { kind = t.kind; tid = t.tid; code = code; detail = Errored (id_of t.kind flow) subtype }
 
 -- what is stated, or this refusal
 abbrev pub stated : {X : Type 0} → Option X → ReplyFields → Result X ReplyFields
@@ -81,48 +85,48 @@ stand_together (a ∷ b ∷ []) = (has_set_type 2 a && has_set_type 4 b) || (has
 stand_together flows = false
 
 -- the first of the encodings: there is none; their identifiers differ; they do not stand together
-abbrev pub first_of : Kind → ℕ → List FlowFields → Result FlowFields ReplyFields
-first_of kind tid [] = Err (refusal kind tid codes.RejectRequiredParameterNotPresent)
-first_of kind tid (first ∷ others) =
-    if not (list_all (λ other. is_same (number_in kind first) (number_in kind other)) others) then Err (refusal kind tid codes.RejectMultipleUpstreamFlows) else
-    if not (stand_together (first ∷ others)) then Err (refusal kind tid codes.RejectDuplicateReference) else
+abbrev pub first_of : Transaction → List FlowFields → Result FlowFields ReplyFields
+first_of t [] = Err (refusal t.kind t.tid codes.RejectRequiredParameterNotPresent)
+first_of t (first ∷ others) =
+    if not (list_all (λ other. is_same (number_in t.kind first) (number_in t.kind other)) others) then Err (refusal t.kind t.tid codes.RejectMultipleUpstreamFlows) else
+    if not (stand_together (first ∷ others)) then Err (refusal t.kind t.tid codes.RejectDuplicateReference) else
     Ok first
 
 -- no class has the name that an encoding states
 abbrev pub is_unclassed : List Class → FlowFields → Bool
 is_unclassed classes flow = is_none (asked_of classes flow)
 
-abbrev pub first_unless : Option FlowFields → Kind → ℕ → List FlowFields → Result FlowFields ReplyFields
-first_unless (Some flow) kind tid encodings = Err (refusal_naming kind tid codes.RejectPermanent flow 4)
-first_unless None kind tid encodings = first_of kind tid encodings
+abbrev pub first_unless : Option FlowFields → Transaction → List FlowFields → Result FlowFields ReplyFields
+first_unless (Some flow) t encodings = Err (refusal_naming t codes.RejectPermanent flow 4)
+first_unless None t encodings = first_of t encodings
 
 -- the first of the encodings, unless one of them is unclassed: the first such in order of bytes
-unfoldable pub first_encoding : Kind → ℕ → List Class → List FlowFields → Result FlowFields ReplyFields
-first_encoding kind tid classes encodings = first_unless (find (is_unclassed classes) encodings) kind tid encodings
+unfoldable pub first_encoding : Transaction → List Class → List FlowFields → Result FlowFields ReplyFields
+first_encoding t classes encodings = first_unless (find (is_unclassed classes) encodings) t encodings
 
 -- ---- checks 10 to 12: whether the flow may be changed or deleted now
 
 -- there is none; it is another modem's; it waits for an acknowledgement
-abbrev pub free_flow : Kind → ℕ → Modem → Option Flow → Result Flow ReplyFields
-free_flow kind tid modem None = Err (refusal kind tid codes.RejectFlowNotFound)
-free_flow kind tid modem (Some flow) =
-    if not (same_modem flow.modem modem) then Err (refusal kind tid codes.RejectNotOwner) else
-    if is_some flow.pending then Err (refusal kind tid codes.RejectTemporary) else
+abbrev pub free_flow : Transaction → Option Flow → Result Flow ReplyFields
+free_flow t None = Err (refusal t.kind t.tid codes.RejectFlowNotFound)
+free_flow t (Some flow) =
+    if not (same_modem flow.modem t.modem) then Err (refusal t.kind t.tid codes.RejectNotOwner) else
+    if is_some flow.pending then Err (refusal t.kind t.tid codes.RejectTemporary) else
     Ok flow
 
 -- ---- checks 13 and 14: the parameter sets that are asked for
 
-abbrev pub set_unless : Kind → ℕ → FlowFields → Result ParamFields Refusal → Result ParamFields ReplyFields
-set_unless kind tid flow (Ok set) = Ok set
-set_unless kind tid flow (Err r) = Err (refusal_naming kind tid r.code flow r.subtype)
+abbrev pub set_unless : Transaction → FlowFields → Result ParamFields Refusal → Result ParamFields ReplyFields
+set_unless t flow (Ok set) = Ok set
+set_unless t flow (Err r) = Err (refusal_naming t r.code flow r.subtype)
 
-abbrev pub set_over_class : Kind → ℕ → UnitSizes → FlowFields → Option FlowFields → Result ParamFields ReplyFields
-set_over_class kind tid units flow None = Err (refusal_naming kind tid codes.RejectPermanent flow 4)
-set_over_class kind tid units flow (Some asked) = set_unless kind tid flow (parameter_set_of asked units)
+abbrev pub set_over_class : Transaction → UnitSizes → FlowFields → Option FlowFields → Result ParamFields ReplyFields
+set_over_class t units flow None = Err (refusal_naming t codes.RejectPermanent flow 4)
+set_over_class t units flow (Some asked) = set_unless t flow (parameter_set_of asked units)
 
 -- the set of an encoding: it is refused as the set of what it asks for over its class
-unfoldable pub set_of : Kind → ℕ → ConstsFields → FlowFields → Result ParamFields ReplyFields
-set_of kind tid consts flow = set_over_class kind tid consts.units flow (asked_of consts.classes flow)
+unfoldable pub set_of : Transaction → ConstsFields → FlowFields → Result ParamFields ReplyFields
+set_of t consts flow = set_over_class t consts.units flow (asked_of consts.classes flow)
 
 abbrev pub is_change : Kind → Bool
 is_change Dsa = false
@@ -130,16 +134,16 @@ is_change Dsc = true
 is_change Dsd = false
 
 -- one encoding: set type 2 admits a set, 6 admits and activates it, 0 makes both null in a change
-abbrev pub asked_by_type : Kind → ℕ → ConstsFields → FlowFields → ℕ → Result AskedSets ReplyFields
-asked_by_type kind tid consts flow n =
-    if n == 2 then (set_of kind tid consts flow >>= λ set. Ok (record { admitted = Some set; active = None })) else
-    if n == 6 then (set_of kind tid consts flow >>= λ set. Ok (record { admitted = Some set; active = Some set })) else
-    if n == 0 && is_change kind then Ok (record { admitted = None; active = None }) else
-    Err (refusal_naming kind tid codes.RejectInvalidForContext flow 6)
+abbrev pub asked_by_type : Transaction → ConstsFields → FlowFields → ℕ → Result AskedSets ReplyFields
+asked_by_type t consts flow n =
+    if n == 2 then (set_of t consts flow >>= λ set. Ok (record { admitted = Some set; active = None })) else
+    if n == 6 then (set_of t consts flow >>= λ set. Ok (record { admitted = Some set; active = Some set })) else
+    if n == 0 && is_change t.kind then Ok (record { admitted = None; active = None }) else
+    Err (refusal_naming t codes.RejectInvalidForContext flow 6)
 
-abbrev pub asked_by_one : Kind → ℕ → ConstsFields → FlowFields → Option ℕ → Result AskedSets ReplyFields
-asked_by_one kind tid consts flow None = Err (refusal_naming kind tid codes.RejectRequiredParameterNotPresent flow 6)
-asked_by_one kind tid consts flow (Some n) = asked_by_type kind tid consts flow n
+abbrev pub asked_by_one : Transaction → ConstsFields → FlowFields → Option ℕ → Result AskedSets ReplyFields
+asked_by_one t consts flow None = Err (refusal_naming t codes.RejectRequiredParameterNotPresent flow 6)
+asked_by_one t consts flow (Some n) = asked_by_type t consts flow n
 
 -- two encodings in order of bytes, of which one admits and the other activates
 abbrev pub in_order : FlowFields → ParamFields → ParamFields → AskedSets
@@ -147,14 +151,14 @@ in_order first a b =
     if has_set_type 2 first then record { admitted = Some a; active = Some b } else
     record { admitted = Some b; active = Some a }
 
-abbrev pub asked_by_two : Kind → ℕ → ConstsFields → FlowFields → FlowFields → Result AskedSets ReplyFields
-asked_by_two kind tid consts first second =
-    set_of kind tid consts first >>= λ a. set_of kind tid consts second >>= λ b. Ok (in_order first a b)
+abbrev pub asked_by_two : Transaction → ConstsFields → FlowFields → FlowFields → Result AskedSets ReplyFields
+asked_by_two t consts first second =
+    set_of t consts first >>= λ a. set_of t consts second >>= λ b. Ok (in_order first a b)
 
-unfoldable pub asked_sets : Kind → ℕ → ConstsFields → List FlowFields → Result AskedSets ReplyFields
-asked_sets kind tid consts (flow ∷ []) = asked_by_one kind tid consts flow flow.set_type
-asked_sets kind tid consts (first ∷ second ∷ []) = asked_by_two kind tid consts first second
-asked_sets kind tid consts flows = Err (refusal kind tid codes.RejectDuplicateReference)
+unfoldable pub asked_sets : Transaction → ConstsFields → List FlowFields → Result AskedSets ReplyFields
+asked_sets t consts (flow ∷ []) = asked_by_one t consts flow flow.set_type
+asked_sets t consts (first ∷ second ∷ []) = asked_by_two t consts first second
+asked_sets t consts flows = Err (refusal t.kind t.tid codes.RejectDuplicateReference)
 
 -- ---- checks 15 and 16: active within admitted, admitted within provisioned
 
@@ -169,33 +173,33 @@ abbrev pub failing_admitted : Option ParamFields → Option ParamFields → Opti
 failing_admitted None provisioned = None
 failing_admitted (Some admitted) provisioned = failing_in_provisioned admitted provisioned
 
-abbrev pub nested_unless : Kind → ℕ → FlowFields → Option ParamFields → AskedSets → Option ℕ → Option ℕ → Result SetsFields ReplyFields
-nested_unless kind tid first provisioned asked (Some subtype) other = Err (refusal_naming kind tid codes.RejectInvalidForContext first subtype)
-nested_unless kind tid first provisioned asked None (Some subtype) = Err (refusal_naming kind tid codes.RejectAuthorizationFailure first subtype)
-nested_unless kind tid first provisioned asked None None = Ok (record { provisioned = provisioned; admitted = asked.admitted; active = asked.active })
+abbrev pub nested_unless : Transaction → FlowFields → Option ParamFields → AskedSets → Option ℕ → Option ℕ → Result SetsFields ReplyFields
+nested_unless t first provisioned asked (Some subtype) other = Err (refusal_naming t codes.RejectInvalidForContext first subtype)
+nested_unless t first provisioned asked None (Some subtype) = Err (refusal_naming t codes.RejectAuthorizationFailure first subtype)
+nested_unless t first provisioned asked None None = Ok (record { provisioned = provisioned; admitted = asked.admitted; active = asked.active })
 
 -- the flow's sets with those that are asked for
-unfoldable pub nested_sets : Kind → ℕ → FlowFields → Option ParamFields → AskedSets → Result SetsFields ReplyFields
-nested_sets kind tid first provisioned asked =
-    nested_unless kind tid first provisioned asked (failing_active asked.active asked.admitted) (failing_admitted asked.admitted provisioned)
+unfoldable pub nested_sets : Transaction → FlowFields → Option ParamFields → AskedSets → Result SetsFields ReplyFields
+nested_sets t first provisioned asked =
+    nested_unless t first provisioned asked (failing_active asked.active asked.admitted) (failing_admitted asked.admitted provisioned)
 
 -- ---- the checks in their order
 
 -- an addition: checks 5 to 9, 13 and 14, 15 (a new flow has no provisioned set)
-unfoldable pub addition_of : ConstsFields → ℕ → List FlowFields → Result Addition ReplyFields
-addition_of consts tid encodings = do
-  first ← first_encoding Dsa tid consts.classes encodings
-  reference ← stated first.reference (refusal_naming Dsa tid codes.RejectRequiredParameterNotPresent first 1)
-  asked ← asked_sets Dsa tid consts encodings
-  sets ← nested_sets Dsa tid first None asked
+unfoldable pub addition_of : ConstsFields → Transaction → List FlowFields → Result Addition ReplyFields
+addition_of consts t encodings = do
+  first ← first_encoding t consts.classes encodings
+  reference ← stated first.reference (refusal_naming t codes.RejectRequiredParameterNotPresent first 1)
+  asked ← asked_sets t consts encodings
+  sets ← nested_sets t first None asked
   Ok (record { reference = reference; sets = sets })
 
 -- a change: checks 5 to 16
-unfoldable pub change_of : ConstsFields → List (ℕ × Flow) → Modem → ℕ → List FlowFields → Result Change ReplyFields
-change_of consts flows modem tid encodings = do
-  first ← first_encoding Dsc tid consts.classes encodings
-  sfid ← stated first.sfid (refusal_naming Dsc tid codes.RejectRequiredParameterNotPresent first 2)
-  flow ← free_flow Dsc tid modem (flow_at sfid flows)
-  asked ← asked_sets Dsc tid consts encodings
-  sets ← nested_sets Dsc tid first flow.sets.provisioned asked
+unfoldable pub change_of : ConstsFields → List (ℕ × Flow) → Transaction → List FlowFields → Result Change ReplyFields
+change_of consts flows t encodings = do
+  first ← first_encoding t consts.classes encodings
+  sfid ← stated first.sfid (refusal_naming t codes.RejectRequiredParameterNotPresent first 2)
+  flow ← free_flow t (flow_at sfid flows)
+  asked ← asked_sets t consts encodings
+  sets ← nested_sets t first flow.sets.provisioned asked
   Ok (record { sfid = sfid; flow = flow; sets = sets })

@@ -8,7 +8,6 @@ use Rattle.slice_scheduler.specs.declared.flowing.At.{At}
 use Rattle.slice_scheduler.specs.declared.elements.ElementsFields.{ElementsFields}
 use Rattle.slice_scheduler.specs.Schedule.{elements_of, granted_of}
 use Rattle.slice_table.specs.declared.consts.ConstsFields.{ConstsFields}
-use Rattle.slice_table.specs.declared.operator_row.RowFields.{RowFields}
 use Rattle.flow_table.specs.declared.flow.Flow.{Flow}
 use Rattle.flow_table.specs.Flow.{granted}
 use Rattle.flow_table.specs.Table.{flowing_in}
@@ -16,7 +15,7 @@ use Rattle.operator_machine.specs.declared.output.Output.{Output}
 use Rattle.operator_machine.specs.declared.output.Output.TheVariants as outputs
 use Rattle.operator_machine.specs.declared.share.Share.{Share}
 use Rattle.operator_machine.specs.declared.share.NextShare.{NextShare}
-use Rattle.operator_machine.specs.State.{OperatorState}
+use Rattle.operator_machine.specs.State.{OperatorState, Operator}
 use Rattle.operator_machine.specs.Handle.{Ran, change_at, undone}
 
 -- ---- timers
@@ -58,20 +57,20 @@ abbrev pub flows_left : OperatorState → List (ℕ × Flow)
 flows_left state = all_undone (given_up_in state.kept) state.flows
 
 -- the elements that a tick puts out: the frame, scheduled over the flows that are left
-abbrev pub frame_elements : ConstsFields → RowFields → OperatorState → ElementsFields
-frame_elements consts row state = elements_of row.policy (at_frame consts state) (flowing_in (flows_left state))
+abbrev pub frame_elements : Operator → ElementsFields
+frame_elements op = elements_of op.row.policy (at_frame op.consts op.state) (flowing_in (flows_left op.state))
 
 -- resends in the order of their transactions, then the frame; then the next frame
-abbrev pub ticked : ConstsFields → RowFields → OperatorState → Ran
-ticked consts row state = record {
+abbrev pub ticked : Operator → Ran
+ticked op = record {
   state = record {
-    flows = all_granted state.frame (granted_of row.policy (at_frame consts state) (flowing_in (flows_left state))) (flows_left state);
-    kept = kept_after consts.timers state.kept;
-    inbox = state.inbox;
-    frame = state.frame + 1;
-    share = share_at (state.frame + 1) state.share state.next;
-    next = next_at (state.frame + 1) state.next;
+    flows = all_granted op.state.frame (granted_of op.row.policy (at_frame op.consts op.state) (flowing_in (flows_left op.state))) (flows_left op.state);
+    kept = kept_after op.consts.timers op.state.kept;
+    inbox = op.state.inbox;
+    frame = op.state.frame + 1;
+    share = share_at (op.state.frame + 1) op.state.share op.state.next;
+    next = next_at (op.state.frame + 1) op.state.next;
   };
-  outputs = map resent (resent_in state.kept)
-      ++ outputs.Frame state.frame (frame_elements consts row state) ∷ [];
+  outputs = map resent (resent_in op.state.kept)
+      ++ outputs.Frame op.state.frame (frame_elements op) ∷ [];
 }

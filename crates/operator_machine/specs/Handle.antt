@@ -22,7 +22,6 @@ use Rattle.transactions.specs.Entry.{same_kind, is_of, waits_for}
 use Rattle.transactions.specs.Keeping.{begun}
 use Rattle.transactions.specs.Keeping as keeping
 use Rattle.slice_table.specs.declared.consts.ConstsFields.{ConstsFields}
-use Rattle.slice_table.specs.declared.operator_row.RowFields.{RowFields}
 use Rattle.slice_table.specs.Row.{same_modem}
 use Rattle.flow_table.specs.declared.flow.Flow.{Flow}
 use Rattle.flow_table.specs.Flow.{asks_for_grants, acknowledged, taken_back, requested}
@@ -35,7 +34,7 @@ use Rattle.operator_machine.specs.declared.output.Output.{Output}
 use Rattle.operator_machine.specs.declared.output.Output.TheVariants as outputs
 use Rattle.operator_machine.specs.declared.verdict.Verdict.{Verdict}
 use Rattle.operator_machine.specs.declared.verdict.Verdict.TheVariants.{Refused, Put, Deleted}
-use Rattle.operator_machine.specs.State.{OperatorState}
+use Rattle.operator_machine.specs.State.{OperatorState, Operator}
 use Rattle.operator_machine.specs.Asked.{refusal}
 use Rattle.operator_machine.specs.Verdict.{verdict, errored}
 
@@ -115,17 +114,17 @@ abbrev pub repeated : OperatorState → Modem → Kind → KeptEntry → Ran
 repeated state modem kind entry = if same_kind entry.kind kind then told state modem entry.reply else silent state modem causes.TidInUse
 
 -- checks 2 and 3: the transaction is kept already; as many are kept as the row allows
-abbrev pub new_unless : ConstsFields → RowFields → OperatorState → Modem → Kind → ℕ → Verdict → Option KeptEntry → Ran
-new_unless consts row state modem kind tid v (Some entry) = repeated state modem kind entry
-new_unless consts row state modem kind tid v None =
-    if nat_le row.transactions (length state.kept) then told state modem (spell_reply (refusal kind tid codes.RejectTemporary)) else
-    carried_out consts state modem kind tid v
+abbrev pub new_unless : Operator → Modem → Kind → ℕ → Verdict → Option KeptEntry → Ran
+new_unless op modem kind tid v (Some entry) = repeated op.state modem kind entry
+new_unless op modem kind tid v None =
+    if nat_le op.row.transactions (length op.state.kept) then told op.state modem (spell_reply (refusal kind tid codes.RejectTemporary)) else
+    carried_out op.consts op.state modem kind tid v
 
 -- checks 1 to 3, which do not ask what the request says further; then the verdict
-abbrev pub transacted : ConstsFields → RowFields → OperatorState → Modem → Kind → ℕ → Verdict → Ran
-transacted consts row state modem kind tid v =
-    if is_of_cmts tid then told state modem (spell_reply (refusal kind tid codes.RejectUnknownTransaction)) else
-    new_unless consts row state modem kind tid v (find (is_of modem tid) state.kept)
+abbrev pub transacted : Operator → Modem → Kind → ℕ → Verdict → Ran
+transacted op modem kind tid v =
+    if is_of_cmts tid then told op.state modem (spell_reply (refusal kind tid codes.RejectUnknownTransaction)) else
+    new_unless op modem kind tid v (find (is_of modem tid) op.state.kept)
 
 -- ---- an acknowledgement
 
@@ -161,16 +160,16 @@ kind_of (requests.Dsc tid encodings) = Dsc
 kind_of (requests.Dsd tid sfid) = Dsd
 
 -- by what it says, or by its fault
-abbrev pub message_handled : ConstsFields → RowFields → OperatorState → Modem → Result Message MessageFault → Ran
-message_handled consts row state modem (Err faults.Empty) = silent state modem causes.Empty
-message_handled consts row state modem (Err (faults.NotOurs mtype)) = silent state modem causes.NotOurs
-message_handled consts row state modem (Err faults.Short) = silent state modem causes.Short
-message_handled consts row state modem (Err (faults.Tlv tid kind id fault)) = transacted consts row state modem kind tid (Refused (errored kind tid id fault))
-message_handled consts row state modem (Err (faults.LeftOut tid kind found)) = transacted consts row state modem kind tid (Refused (refusal kind tid codes.RejectUnrecognizedSetting))
-message_handled consts row state modem (Err faults.NoMemory) = silent state modem causes.NotOurs
-message_handled consts row state modem (Ok (messages.Ack kind tid code)) = acked consts state modem tid kind code
-message_handled consts row state modem (Ok (messages.Request request)) =
-    transacted consts row state modem (kind_of request) (tid_of request) (verdict consts row state modem request)
+abbrev pub message_handled : Operator → Modem → Result Message MessageFault → Ran
+message_handled op modem (Err faults.Empty) = silent op.state modem causes.Empty
+message_handled op modem (Err (faults.NotOurs mtype)) = silent op.state modem causes.NotOurs
+message_handled op modem (Err faults.Short) = silent op.state modem causes.Short
+message_handled op modem (Err (faults.Tlv tid kind id fault)) = transacted op modem kind tid (Refused (errored kind tid id fault))
+message_handled op modem (Err (faults.LeftOut tid kind found)) = transacted op modem kind tid (Refused (refusal kind tid codes.RejectUnrecognizedSetting))
+message_handled op modem (Err faults.NoMemory) = silent op.state modem causes.NotOurs
+message_handled op modem (Ok (messages.Ack kind tid code)) = acked op.consts op.state modem tid kind code
+message_handled op modem (Ok (messages.Request request)) =
+    transacted op modem (kind_of request) (tid_of request) (verdict op modem request)
 
 -- ---- a request for minislots
 
@@ -184,6 +183,6 @@ asked_of_flow state modem minislots (Some entry) =
 
 -- ---- what was heard
 
-abbrev pub handle : ConstsFields → RowFields → OperatorState → Modem → Heard → Ran
-handle consts row state modem (heards.Message bytes) = message_handled consts row state modem (message_of bytes)
-handle consts row state modem (heards.Request sid minislots) = asked_of_flow state modem minislots (flow_with sid state.flows)
+abbrev pub handle : Operator → Modem → Heard → Ran
+handle op modem (heards.Message bytes) = message_handled op modem (message_of bytes)
+handle op modem (heards.Request sid minislots) = asked_of_flow op.state modem minislots (flow_with sid op.state.flows)

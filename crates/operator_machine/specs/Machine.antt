@@ -14,7 +14,7 @@ use Rattle.operator_machine.specs.declared.action.Unfit.{Unfit}
 use Rattle.operator_machine.specs.declared.action.Unfit.TheVariants.{NotPast, Unfinished, OffFrame, BudgetOverSlice, OverBudget}
 use Rattle.operator_machine.specs.declared.output.Cause.TheVariants.{InboxFull, Idle}
 use Rattle.operator_machine.specs.declared.output.Output.TheVariants as outputs
-use Rattle.operator_machine.specs.State.{OperatorState}
+use Rattle.operator_machine.specs.State.{OperatorState, Operator}
 use Rattle.operator_machine.specs.Handle.{Ran, handle}
 use Rattle.operator_machine.specs.Frame.{ticked}
 
@@ -31,9 +31,9 @@ abbrev pub taken_out : List Arrival → Ran → Ran
 taken_out others ran = record { state = record ran.state { inbox = others }; outputs = ran.outputs }
 
 -- the first of the inbox is handled and taken out; no handling looks at the inbox
-abbrev pub worked : ConstsFields → RowFields → OperatorState → List Arrival → Ran
-worked consts row state [] = record { state = state; outputs = outputs.Silent None Idle ∷ [] }
-worked consts row state (first ∷ others) = taken_out others (handle consts row state first.modem first.heard)
+abbrev pub worked : Operator → List Arrival → Ran
+worked op [] = record { state = op.state; outputs = outputs.Silent None Idle ∷ [] }
+worked op (first ∷ others) = taken_out others (handle op first.modem first.heard)
 
 -- the share that waits for its frame
 abbrev pub resliced : OperatorState → ℕ → SliceRow → Ran
@@ -44,11 +44,11 @@ resliced state from row = record {
   outputs = [];
 }
 
-unfoldable pub own_step : ConstsFields → RowFields → OperatorState → Action → Ran
-own_step consts row state (Arrive modem heard) = arrived row state modem heard
-own_step consts row state Work = worked consts row state state.inbox
-own_step consts row state Tick = ticked consts row state
-own_step consts row state (Reslice from slice_row) = resliced state from slice_row
+unfoldable pub own_step : Operator → Action → Ran
+own_step o (Arrive modem heard) = arrived o.row o.state modem heard
+own_step o Work = worked o o.state.inbox
+own_step o Tick = ticked o
+own_step o (Reslice from slice_row) = resliced o.state from slice_row
 
 -- ---- what is refused
 
@@ -87,17 +87,21 @@ unfit_of consts state Tick = None
 unfit_of consts state (Reslice from row) = unfit_from consts state from row
 
 -- an action that is not refused
-pub record IsAllowed (consts : ConstsFields) (row : RowFields) (state : OperatorState) (action : Action) : Type 0 where
-  pub mine : stranger_of row action ≡ None
-  pub not_spent : is_spent state action ≡ false
-  pub fit : unfit_of consts state action ≡ None
+pub record IsAllowed (o : Operator) (action : Action) : Type 0 where
+  pub mine : stranger_of o.row action ≡ None
+  pub not_spent : is_spent o.state action ≡ false
+  pub fit : unfit_of o.consts o.state action ≡ None
 
 -- ---- runs
 
+-- the operator once the action is done
+abbrev pub after_step : Operator → Action → Operator
+after_step o action = record o { state = (own_step o action).state }
+
 -- the actions one after the other, and all their outputs in order
-abbrev pub own_run : ConstsFields → RowFields → OperatorState → List Action → Ran
-own_run consts row state [] = record { state = state; outputs = [] }
-own_run consts row state (action ∷ actions) = record {
-  state = (own_run consts row (own_step consts row state action).state actions).state;
-  outputs = (own_step consts row state action).outputs ++ (own_run consts row (own_step consts row state action).state actions).outputs;
+abbrev pub own_run : Operator → List Action → Ran
+own_run o [] = record { state = o.state; outputs = [] }
+own_run o (action ∷ actions) = record {
+  state = (own_run (after_step o action) actions).state;
+  outputs = (own_step o action).outputs ++ (own_run (after_step o action) actions).outputs;
 }

@@ -4,25 +4,25 @@ use Rattle.slice_table.specs.declared.consts.ConstsFields.{ConstsFields}
 use Rattle.slice_table.specs.declared.operator_row.RowFields.{RowFields}
 use Rattle.operator_machine.specs.declared.action.Action.{Action}
 use Rattle.operator_machine.specs.declared.action.Entry.{Entry}
-use Rattle.operator_machine.specs.State.{OperatorState, opened}
-use Rattle.operator_machine.specs.Machine.{own_step, own_run, IsAllowed}
+use Rattle.operator_machine.specs.State.{OperatorState, Operator, operator, opened}
+use Rattle.operator_machine.specs.Machine.{own_step, after_step, own_run, IsAllowed}
 
 -- the actions of a history
 abbrev pub actions_of : List Entry → List Action
 actions_of history = map (λ entry. entry.action) history
 
 -- each entry was allowed at its place in the run, and its outputs are the run's
-abbrev pub AreTold : ConstsFields → RowFields → OperatorState → List Entry → Type 0
-AreTold consts row state [] = Unit {0}
-AreTold consts row state (entry ∷ history) =
-    IsAllowed consts row state entry.action
-    × (entry.outputs ≡ (own_step consts row state entry.action).outputs)
-    × AreTold consts row (own_step consts row state entry.action).state history
+abbrev pub AreTold : Operator → List Entry → Type 0
+AreTold o [] = Unit {0}
+AreTold o (entry ∷ history) =
+    IsAllowed o entry.action
+    × (entry.outputs ≡ (own_step o entry.action).outputs)
+    × AreTold (after_step o entry.action) history
 
 -- the state is the run of the history from the opened state, and the outputs are the run's
 pub record IsReplay (consts : ConstsFields) (row : RowFields) (history : List Entry) (state : OperatorState) : Type 0 where
-  pub state_is : state ≡ (own_run consts row (opened consts row) (actions_of history)).state
-  pub told : AreTold consts row (opened consts row) history
+  pub state_is : state ≡ (own_run (operator consts row (opened consts row)) (actions_of history)).state
+  pub told : AreTold (operator consts row (opened consts row)) history
 
 -- what contracts see of a book
 pub record BookView : Type 0 where
@@ -36,6 +36,6 @@ abbrev pub acted : BookView → Action → BookView
 acted b action = record {
   row = b.row;
   consts = b.consts;
-  state = (own_step b.consts b.row b.state action).state;
-  history = b.history ++ record { action = action; outputs = (own_step b.consts b.row b.state action).outputs } ∷ [];
+  state = (own_step (operator b.consts b.row b.state) action).state;
+  history = b.history ++ record { action = action; outputs = (own_step (operator b.consts b.row b.state) action).outputs } ∷ [];
 }

@@ -1,14 +1,12 @@
 -- Which slice each frame of a run has (own).
 use Rattle.std.specs.Prelude.{◌≡◌, ℕ, nat_le, List, [], ◌∷◌, filter_map, find, reverse, Option, Some, None}
 use Rattle.slice_scheduler.specs.Minislots.{Minislots}
-use Rattle.slice_table.specs.declared.consts.ConstsFields.{ConstsFields}
-use Rattle.slice_table.specs.declared.operator_row.RowFields.{RowFields}
 use Rattle.operator_machine.specs.declared.action.Action.{Action}
 use Rattle.operator_machine.specs.declared.action.Action.TheVariants.{Arrive, Work, Tick, Reslice}
 use Rattle.operator_machine.specs.declared.output.Output.{Output}
 use Rattle.operator_machine.specs.declared.output.Output.TheVariants as outputs
-use Rattle.operator_machine.specs.State.{OperatorState}
-use Rattle.operator_machine.specs.Machine.{own_step, IsAllowed}
+use Rattle.operator_machine.specs.State.{Operator}
+use Rattle.operator_machine.specs.Machine.{after_step, IsAllowed}
 
 -- a slice, and the first frame of which it is the slice
 pub record SliceFrom : Type 0 where
@@ -41,6 +39,6 @@ IsOfItsSlice slice (outputs.Silent modem cause) = Unit {0}
 IsOfItsSlice slice (outputs.Frame number elements) = elements.slice ≡ slice number
 
 -- each action is allowed at its place in the run
-abbrev pub MayRun : ConstsFields → RowFields → OperatorState → List Action → Type 0
-MayRun consts row state [] = Unit {0}
-MayRun consts row state (action ∷ actions) = IsAllowed consts row state action × MayRun consts row (own_step consts row state action).state actions
+abbrev pub MayRun : Operator → List Action → Type 0
+MayRun o [] = Unit {0}
+MayRun o (action ∷ actions) = IsAllowed o action × MayRun (after_step o action) actions

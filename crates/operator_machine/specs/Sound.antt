@@ -13,14 +13,13 @@ use Rattle.param_sets.specs.Sets.{AreNested}
 use Rattle.param_sets.specs.declared.param_set.ParamFields.{ParamFields}
 use Rattle.param_sets.specs.declared.sets.SetsFields.{SetsFields}
 use Rattle.slice_table.specs.declared.consts.ConstsFields.{ConstsFields}
-use Rattle.slice_table.specs.declared.operator_row.RowFields.{RowFields}
 use Rattle.flow_table.specs.declared.flow.Flow.{Flow}
 use Rattle.flow_table.specs.declared.flow.Pending.{Pending}
 use Rattle.flow_table.specs.Flow.{asks_for_grants}
 use Rattle.flow_table.specs.Table.{sfids_of, sids_of, flow_at, committed_minislots, committed_elements, HaveOwnSids}
 use Rattle.operator_machine.specs.declared.share.Share.{Share}
 use Rattle.operator_machine.specs.declared.share.NextShare.{NextShare}
-use Rattle.operator_machine.specs.State.{OperatorState}
+use Rattle.operator_machine.specs.State.{Operator}
 
 -- ---- one flow
 
@@ -88,22 +87,22 @@ pub record IsNextShare (consts : ConstsFields) (frame committed : ℕ) (next : N
 
 -- ---- the state
 
-pub record IsSound (consts : ConstsFields) (row : RowFields) (state : OperatorState) : Type 0 where
+pub record IsSound (op : Operator) : Type 0 where
   -- a flow's SFID and SID lie in the row's ranges and are its own
-  pub ascending : IsStrictlySortedBy nat_cmp (keys_of state.flows)
-  pub sfids : All (IsIn row.sfids) (sfids_of state.flows)
-  pub sids : All (IsIn row.sids) (sids_of state.flows)
-  pub own_sids : HaveOwnSids state.flows
-  pub flows : All (IsSoundFlow state.frame) (values_of state.flows)
+  pub ascending : IsStrictlySortedBy nat_cmp (keys_of op.state.flows)
+  pub sfids : All (IsIn op.row.sfids) (sfids_of op.state.flows)
+  pub sids : All (IsIn op.row.sids) (sids_of op.state.flows)
+  pub own_sids : HaveOwnSids op.state.flows
+  pub flows : All (IsSoundFlow op.state.frame) (values_of op.state.flows)
   -- flows, kept responses and inbox never pass the row's limits
-  pub few_flows : length state.flows ≤ row.flows
-  pub few_kept : length state.kept ≤ row.transactions
-  pub few_heard : length state.inbox ≤ row.inbox
+  pub few_flows : length op.state.flows ≤ op.row.flows
+  pub few_kept : length op.state.kept ≤ op.row.transactions
+  pub few_heard : length op.state.inbox ≤ op.row.inbox
   -- each transaction that waits has a flow of its own
-  pub waiting : All (HasItsFlow state.flows) state.kept
-  pub own_flows : HaveOwnFlows state.kept
+  pub waiting : All (HasItsFlow op.state.flows) op.state.kept
+  pub own_flows : HaveOwnFlows op.state.kept
   -- what is committed never passes the quota, the budget in force, nor the one that waits
-  pub elements : committed_elements consts.units state.flows ≤ row.elements
-  pub minislots : committed_minislots consts.units state.flows ≤ state.share.budget
-  pub share : IsShare consts state.share
-  pub next : IfSome state.next (IsNextShare consts state.frame (committed_minislots consts.units state.flows))
+  pub elements : committed_elements op.consts.units op.state.flows ≤ op.row.elements
+  pub minislots : committed_minislots op.consts.units op.state.flows ≤ op.state.share.budget
+  pub share : IsShare op.consts op.state.share
+  pub next : IfSome op.state.next (IsNextShare op.consts op.state.frame (committed_minislots op.consts.units op.state.flows))

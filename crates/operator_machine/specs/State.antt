@@ -45,3 +45,12 @@ opened consts row = record {
   share = record { slice = row.slice; budget = row.budget };
   next = None;
 }
+
+-- an operator: what all operators share, its row, and its state
+pub record Operator : Type 0 where
+  pub consts : ConstsFields
+  pub row : RowFields
+  pub state : OperatorState
+
+abbrev pub operator : ConstsFields → RowFields → OperatorState → Operator
+operator consts row state = record { consts = consts; row = row; state = state }

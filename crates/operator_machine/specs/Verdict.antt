@@ -16,7 +16,6 @@ use Rattle.admission.specs.Free.{least_free_of}
 use Rattle.admission.specs.declared.budget.Budget.{Budget}
 use Rattle.param_sets.specs.Units.{UnitSizes}
 use Rattle.param_sets.specs.declared.sets.SetsFields.{SetsFields}
-use Rattle.slice_table.specs.declared.consts.ConstsFields.{ConstsFields}
 use Rattle.slice_table.specs.declared.operator_row.RowFields.{RowFields}
 use Rattle.flow_table.specs.declared.flow.Flow.{Flow}
 use Rattle.flow_table.specs.Table.{sfids_of, sids_of, flow_at, with_flow, committed_minislots, committed_elements}
@@ -25,8 +24,8 @@ use Rattle.operator_machine.specs.declared.verdict.Addition.{Addition}
 use Rattle.operator_machine.specs.declared.verdict.Change.{Change}
 use Rattle.operator_machine.specs.declared.verdict.Verdict.{Verdict}
 use Rattle.operator_machine.specs.declared.verdict.Verdict.TheVariants.{Refused, Put, Deleted}
-use Rattle.operator_machine.specs.State.{OperatorState}
-use Rattle.operator_machine.specs.Asked.{refusal, free_flow, addition_of, change_of}
+use Rattle.operator_machine.specs.State.{OperatorState, Operator}
+use Rattle.operator_machine.specs.Asked.{transaction, refusal, free_flow, addition_of, change_of}
 
 -- ---- what may be committed
 
@@ -68,18 +67,18 @@ abbrev pub added_reply : ℕ → ℕ → ℕ → ℕ → ReplyFields
 added_reply tid reference sfid sid = record { kind = Dsa; tid = tid; code = codes.Okay; detail = Given (Some reference) sfid (Some sid) }
 
 -- no SFID is free; no SID is free; too much would be committed; else the flow is added
-abbrev pub added_under : ConstsFields → RowFields → OperatorState → Modem → ℕ → Addition → Option ℕ → Option ℕ → Verdict
-added_under consts row state modem tid addition None sid = no_room Dsa tid
-added_under consts row state modem tid addition (Some sfid) None = no_room Dsa tid
-added_under consts row state modem tid addition (Some sfid) (Some sid) =
-    within_limit Dsa tid consts.units (limit_of row state) (with_flow sfid (new_flow modem state.frame addition.sets sid) state.flows)
-    (Put sfid (new_flow modem state.frame addition.sets sid) (added_reply tid addition.reference sfid sid))
+abbrev pub added_under : Operator → Modem → ℕ → Addition → Option ℕ → Option ℕ → Verdict
+added_under op modem tid addition None sid = no_room Dsa tid
+added_under op modem tid addition (Some sfid) None = no_room Dsa tid
+added_under op modem tid addition (Some sfid) (Some sid) =
+    within_limit Dsa tid op.consts.units (limit_of op.row op.state) (with_flow sfid (new_flow modem op.state.frame addition.sets sid) op.state.flows)
+    (Put sfid (new_flow modem op.state.frame addition.sets sid) (added_reply tid addition.reference sfid sid))
 
 -- as many flows stand as the row allows; else the flow gets the least free identifiers
-unfoldable pub added : ConstsFields → RowFields → OperatorState → Modem → ℕ → Addition → Verdict
-added consts row state modem tid addition =
-    if nat_le row.flows (length state.flows) then no_room Dsa tid else
-    added_under consts row state modem tid addition (least_free_of row.sfids (sfids_of state.flows)) (least_free_of row.sids (sids_of state.flows))
+unfoldable pub added : Operator → Modem → ℕ → Addition → Verdict
+added op modem tid addition =
+    if nat_le op.row.flows (length op.state.flows) then no_room Dsa tid else
+    added_under op modem tid addition (least_free_of op.row.sfids (sfids_of op.state.flows)) (least_free_of op.row.sids (sids_of op.state.flows))
 
 -- ---- a change: checks 19 to 21
 
@@ -91,34 +90,34 @@ changed_flow change sid sid_is_new = record change.flow { sid = sid; pending = S
 abbrev pub changed_reply : ℕ → ℕ → SetsFields → Option ℕ → ReplyFields
 changed_reply tid sfid sets sid = record { kind = Dsc; tid = tid; code = codes.Okay; detail = Given None sfid (if is_some sets.admitted then sid else None) }
 
-abbrev pub changed_with : ConstsFields → RowFields → OperatorState → ℕ → Change → Option ℕ → Bool → Verdict
-changed_with consts row state tid change sid sid_is_new =
-    within_limit Dsc tid consts.units (limit_of row state) (with_flow change.sfid (changed_flow change sid sid_is_new) state.flows)
+abbrev pub changed_with : Operator → ℕ → Change → Option ℕ → Bool → Verdict
+changed_with op tid change sid sid_is_new =
+    within_limit Dsc tid op.consts.units (limit_of op.row op.state) (with_flow change.sfid (changed_flow change sid sid_is_new) op.state.flows)
     (Put change.sfid (changed_flow change sid sid_is_new) (changed_reply tid change.sfid change.sets sid))
 
 -- no SID is free; else it is the flow's
-abbrev pub changed_with_new : ConstsFields → RowFields → OperatorState → ℕ → Change → Option ℕ → Verdict
-changed_with_new consts row state tid change None = no_room Dsc tid
-changed_with_new consts row state tid change (Some sid) = changed_with consts row state tid change (Some sid) true
+abbrev pub changed_with_new : Operator → ℕ → Change → Option ℕ → Verdict
+changed_with_new op tid change None = no_room Dsc tid
+changed_with_new op tid change (Some sid) = changed_with op tid change (Some sid) true
 
 -- a set is to be admitted, and the flow has no SID yet
 abbrev pub wants_sid : Change → Bool
 wants_sid change = is_some change.sets.admitted && is_none change.flow.sid
 
-unfoldable pub changed : ConstsFields → RowFields → OperatorState → ℕ → Change → Verdict
-changed consts row state tid change =
-    if wants_sid change then changed_with_new consts row state tid change (least_free_of row.sids (sids_of state.flows)) else
-    changed_with consts row state tid change change.flow.sid false
+unfoldable pub changed : Operator → ℕ → Change → Verdict
+changed op tid change =
+    if wants_sid change then changed_with_new op tid change (least_free_of op.row.sids (sids_of op.state.flows)) else
+    changed_with op tid change change.flow.sid false
 
 -- ---- requests
 
-abbrev pub addition_verdict : ConstsFields → RowFields → OperatorState → Modem → ℕ → Result Addition ReplyFields → Verdict
-addition_verdict consts row state modem tid (Err reply) = Refused reply
-addition_verdict consts row state modem tid (Ok addition) = added consts row state modem tid addition
+abbrev pub addition_verdict : Operator → Modem → ℕ → Result Addition ReplyFields → Verdict
+addition_verdict op modem tid (Err reply) = Refused reply
+addition_verdict op modem tid (Ok addition) = added op modem tid addition
 
-abbrev pub change_verdict : ConstsFields → RowFields → OperatorState → ℕ → Result Change ReplyFields → Verdict
-change_verdict consts row state tid (Err reply) = Refused reply
-change_verdict consts row state tid (Ok change) = changed consts row state tid change
+abbrev pub change_verdict : Operator → ℕ → Result Change ReplyFields → Verdict
+change_verdict op tid (Err reply) = Refused reply
+change_verdict op tid (Ok change) = changed op tid change
 
 -- a deletion: checks 10 to 12
 abbrev pub deletion_verdict : ℕ → ℕ → Result Flow ReplyFields → Verdict
@@ -126,10 +125,10 @@ deletion_verdict tid sfid (Err reply) = Refused reply
 deletion_verdict tid sfid (Ok flow) = Deleted sfid (record { kind = Dsd; tid = tid; code = codes.Okay; detail = Nothing })
 
 -- what becomes of a request whose transaction is new
-unfoldable pub verdict : ConstsFields → RowFields → OperatorState → Modem → Request → Verdict
-verdict consts row state modem (requests.Dsa tid encodings) = addition_verdict consts row state modem tid (addition_of consts tid encodings)
-verdict consts row state modem (requests.Dsc tid encodings) = change_verdict consts row state tid (change_of consts state.flows modem tid encodings)
-verdict consts row state modem (requests.Dsd tid sfid) = deletion_verdict tid sfid (free_flow Dsd tid modem (flow_at sfid state.flows))
+unfoldable pub verdict : Operator → Modem → Request → Verdict
+verdict op modem (requests.Dsa tid encodings) = addition_verdict op modem tid (addition_of op.consts (transaction modem Dsa tid) encodings)
+verdict op modem (requests.Dsc tid encodings) = change_verdict op tid (change_of op.consts op.state.flows (transaction modem Dsc tid) encodings)
+verdict op modem (requests.Dsd tid sfid) = deletion_verdict tid sfid (free_flow (transaction modem Dsd tid) (flow_at sfid op.state.flows))
 
 -- ---- check 4: what could not be read
 

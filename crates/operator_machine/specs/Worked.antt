@@ -14,7 +14,7 @@ use Rattle.operator_machine.specs.declared.action.Action.TheVariants.{Arrive, Wo
 use Rattle.operator_machine.specs.declared.output.Cause.{Cause}
 use Rattle.operator_machine.specs.declared.output.Output.{Output}
 use Rattle.operator_machine.specs.declared.output.Output.TheVariants.{Reply, Silent, Frame}
-use Rattle.operator_machine.specs.State.{OperatorState, opened}
+use Rattle.operator_machine.specs.State.{operator, OperatorState, opened}
 use Rattle.operator_machine.specs.Machine.{own_run}
 
 -- frames of 72 minislots of 16 bytes in 2 ms, the first 8 of them for all modems
@@ -121,11 +121,11 @@ full_addition = codes "0F00011817010200010601060F0106130202001404000007D0160101"
 
 -- a machine is opened, and this is done
 abbrev pub answers : ConstsFields → RowFields → List Action → List Output
-answers consts row actions = (own_run consts row (opened consts row) actions).outputs
+answers consts row actions = (own_run (operator consts row (opened consts row)) actions).outputs
 
 -- and the state that it leads to
 abbrev pub after : ConstsFields → RowFields → List Action → OperatorState
-after consts row actions = (own_run consts row (opened consts row) actions).state
+after consts row actions = (own_run (operator consts row (opened consts row)) actions).state
 
 abbrev pub told : Modem → List ℕ → Output
 told modem text = Reply modem (hex text)

@@ -18,7 +18,7 @@ pub use laws::{
 };
 pub use output::{Cause, Output, Outputs};
 pub use share::{NextShare, Share};
-pub use verdict::{Addition, AskedSets, Change, Verdict};
+pub use verdict::{Addition, AskedSets, Change, Transaction, Verdict};
 pub use worked::{
     worked_additions_compute, worked_changes_compute, worked_classes_compute,
     worked_frames_compute, worked_shares_compute,

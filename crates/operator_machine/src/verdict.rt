@@ -1,8 +1,16 @@
 //! What becomes of a request.
 
-use dsx_messages::Reply;
+use dsx_messages::{Kind, Modem, Reply};
 use flow_table::Flow;
 use param_sets::{ParamSet, Sets};
+
+/// Whose request it is, of which kind, and under which transaction ID.
+#[derive(Clone, Copy, Debug, PartialEq, Eq)]
+pub struct Transaction {
+    pub modem: Modem,
+    pub kind: Kind,
+    pub tid: u16,
+}
 
 /// The sets that the encodings of a request ask for: None is the null set.
 #[derive(Clone, Copy, Debug, PartialEq, Eq)]

@@ -10,6 +10,7 @@ use Rattle.slice_table.specs.Plant.{IsPlant}
 use Rattle.slice_table.specs.Roster.{holder}
 use Rattle.operator_machine.specs.declared.action.Action.{Action}
 use Rattle.operator_machine.specs.declared.action.Action.TheVariants as actions
+use Rattle.operator_machine.specs.State.{operator}
 use Rattle.operator_machine.specs.Machine.{own_step, IsAllowed}
 use Rattle.operator_machine.specs.Replay.{BookView, acted}
 use Rattle.operator_machine.specs.declared.heard.Heard.{Heard}
@@ -62,12 +63,12 @@ step_acts (steps.Reslice from rows) op action old new now goes acts = absurd (cc
 pub acted_reaches : {A E : Type 0} (result : Result A E) (plant : PlantFields) (gathering : Gathering) (books books' : List BookView) (queues queues' : List (List (ℕ × ElementsFields)))
     (op : ℕ) (action : Action) (book : BookView) (waiting : List (ℕ × ElementsFields)) → IsPlant plant → IsGathering gathering → IsOfAStep plant op action
     → slice_get books op ≡ Some book → slice_get queues op ≡ Some waiting
-    → OnOk result (IsAllowed book.consts book.row book.state action)
-    → OnOk result (books' ≡ slice_set books op (acted book action)) → OnOk result (queues' ≡ slice_set queues op (waiting ++ frames_of (own_step book.consts book.row book.state action).outputs))
+    → OnOk result (IsAllowed (operator book.consts book.row book.state) action)
+    → OnOk result (books' ≡ slice_set books op (acted book action)) → OnOk result (queues' ≡ slice_set queues op (waiting ++ frames_of (own_step (operator book.consts book.row book.state) action).outputs))
     → OnErr result (books' ≡ books) → OnErr result (queues' ≡ queues)
     → ∥ IsReachable (core_of plant books queues gathering) ∥₁ → ∥ IsReachable (core_of plant books' queues' gathering) ∥₁
 acted_reaches (Ok x) plant gathering books books' queues queues' op action book waiting valid is goal b q allowed new_books new_queues same_books same_queues reached =
-    let outs = under op (own_step book.consts book.row book.state action).outputs in
+    let outs = under op (own_step (operator book.consts book.row book.state) action).outputs in
     stepped goal.0 (core_of plant books queues gathering) (core_of plant books' queues' gathering) outs valid is refl
     (step_acts goal.0 op action (core_of plant books queues gathering) (core_of plant books' queues' gathering) outs goal.1
     (acts_at plant gathering books books' queues queues' op action book waiting outs b q allowed new_books new_queues refl))

@@ -9,6 +9,7 @@ use Rattle.slice_table.specs.declared.plant.PlantFields.{PlantFields}
 use Rattle.slice_table.specs.Roster.{holder}
 use Rattle.operator_machine.specs.declared.heard.Heard.{Heard}
 use Rattle.operator_machine.specs.declared.action.Action.{Action}
+use Rattle.operator_machine.specs.State.{operator}
 use Rattle.operator_machine.specs.Machine.{own_step, is_spent, IsAllowed}
 use Rattle.operator_machine.specs.Replay.{BookView, acted}
 use Rattle.operator_book.specs.declared.book.BookFault.TheVariants.{FramesSpent}
@@ -38,10 +39,10 @@ same_view plant gathering books books' queues queues' b q = ap₂ (view plant ga
 
 pub acts_at : (plant : PlantFields) (gathering : Gathering) (books books' : List BookView) (queues queues' : List (List (ℕ × ElementsFields)))
     (op : ℕ) (action : Action) (book : BookView) (waiting : List (ℕ × ElementsFields)) (now : List Out)
-    → slice_get books op ≡ Some book → slice_get queues op ≡ Some waiting → IsAllowed book.consts book.row book.state action
+    → slice_get books op ≡ Some book → slice_get queues op ≡ Some waiting → IsAllowed (operator book.consts book.row book.state) action
     → books' ≡ slice_set books op (acted book action)
-    → queues' ≡ slice_set queues op (waiting ++ frames_of (own_step book.consts book.row book.state action).outputs)
-    → now ≡ under op (own_step book.consts book.row book.state action).outputs
+    → queues' ≡ slice_set queues op (waiting ++ frames_of (own_step (operator book.consts book.row book.state) action).outputs)
+    → now ≡ under op (own_step (operator book.consts book.row book.state) action).outputs
     → Acts op action (view plant gathering books queues) (view plant gathering books' queues') now
 acts_at plant gathering books books' queues queues' op action book waiting now book_is waiting_is allowed b q now_is = record {
   book = book;

@@ -13,7 +13,7 @@ use Rattle.operator_machine.specs.declared.action.Action.TheVariants.{Arrive, Wo
 use Rattle.operator_machine.specs.declared.action.Entry.{Entry}
 use Rattle.operator_machine.specs.declared.output.Output.{Output}
 use Rattle.operator_machine.specs.declared.output.Output.TheVariants.{Reply, Silent, Frame}
-use Rattle.operator_machine.specs.State.{OperatorState}
+use Rattle.operator_machine.specs.State.{OperatorState, operator}
 use Rattle.operator_machine.specs.Machine.{own_step}
 use Rattle.operator_machine.specs.Replay.{BookView, AreTold, IsReplay, acted}
 use Rattle.operator_machine.specs.Frames.{frame_of, is_tick}
@@ -32,9 +32,9 @@ frames_one entry = ap frames_of (append-nil entry.outputs)
 
 -- what an action puts out waits behind what waited
 pub waiting_acted : (book : BookView) (action : Action) (place : ℕ) → place ≤ length book.history
-    → waiting_in (acted book action).history place ≡ waiting_in book.history place ++ frames_of (own_step book.consts book.row book.state action).outputs
+    → waiting_in (acted book action).history place ≡ waiting_in book.history place ++ frames_of (own_step (operator book.consts book.row book.state) action).outputs
 waiting_acted book action place within =
-    let entry : Entry = record { action = action; outputs = (own_step book.consts book.row book.state action).outputs } in
+    let entry : Entry = record { action = action; outputs = (own_step (operator book.consts book.row book.state) action).outputs } in
     ap frames_in (drop-append-le place book.history (entry ∷ []) within)
     ∙ (frames_append (drop place book.history) (entry ∷ [])
     ∙ ap (λ (fs : List (ℕ × ElementsFields)). waiting_in book.history place ++ fs) (frames_one entry))
@@ -103,12 +103,12 @@ long : (n count : ℕ) → length (range_with_len n count) ≡ count
 long n zero = refl
 long n (suc count) = ap suc (long (n + 1) count)
 
-one_frame : (consts : ConstsFields) (row : RowFields) (state : OperatorState) (action : Action) → length (frames_of (own_step consts row state action).outputs) ≤ 1
+one_frame : (consts : ConstsFields) (row : RowFields) (state : OperatorState) (action : Action) → length (frames_of (own_step (operator consts row state) action).outputs) ≤ 1
 one_frame consts row state action =
     let puts = run_puts consts row state (action ∷ []) in
-    let plain : (own_step consts row state action).outputs ++ [] ≡ (own_step consts row state action).outputs = append-nil (own_step consts row state action).outputs in
-    let same : length (frames_of (own_step consts row state action).outputs) ≡ count_by is_tick (action ∷ []) =
-    as_many (own_step consts row state action).outputs
+    let plain : (own_step (operator consts row state) action).outputs ++ [] ≡ (own_step (operator consts row state) action).outputs = append-nil (own_step (operator consts row state) action).outputs in
+    let same : length (frames_of (own_step (operator consts row state) action).outputs) ≡ count_by is_tick (action ∷ []) =
+    as_many (own_step (operator consts row state) action).outputs
     ∙ (ap (λ (outputs : List Output). length (filter_map frame_of outputs)) (sym plain)
     ∙ (ap (λ (ns : List ℕ). length ns) puts.numbers ∙ long state.frame (count_by is_tick (action ∷ [])))) in
     omega (arith, same, ticks action)
@@ -118,12 +118,12 @@ all_more : (entry : Entry) (history : List Entry) → IsOneFrame entry → All I
 all_more entry history one others zero d lt = one
 all_more entry history one others (suc k) d lt = others k d (omega (arith, lt))
 
-all_one : (consts : ConstsFields) (row : RowFields) (state : OperatorState) (history : List Entry) → AreTold consts row state history → All IsOneFrame history
+all_one : (consts : ConstsFields) (row : RowFields) (state : OperatorState) (history : List Entry) → AreTold (operator consts row state) history → All IsOneFrame history
 all_one consts row state [] told = λ k d lt. absurd (omega (arith, lt))
 all_one consts row state (entry ∷ history) told =
     all_more entry history
     (subst (λ (outputs : List Output). length (frames_of outputs) ≤ 1) (sym told.1) (one_frame consts row state entry.action))
-    (all_one consts row (own_step consts row state entry.action).state history told.2)
+    (all_one consts row (own_step (operator consts row state) entry.action).state history told.2)
 
 pub replay_one : (book : BookView) → IsReplay book.consts book.row book.history book.state → All IsOneFrame book.history
 replay_one book replay = all_one book.consts book.row _ book.history replay.told

@@ -2,7 +2,7 @@
 
 ghost use Rattle.std.specs.Prelude.{◌≡◌, ◌≢◌, ◌↔◌, ◌≤◌, [], ◌++◌, length, slice_get, IsSome, Err, IfOk, OnOk, OnErr};
 ghost use Rattle.slice_table.specs.Row.{IsRowOf};
-ghost use Rattle.operator_machine.specs.State.{opened};
+ghost use Rattle.operator_machine.specs.State.{opened, operator};
 ghost use Rattle.operator_machine.specs.Machine.{own_step, IsAllowed};
 ghost use Rattle.operator_machine.specs.Replay.{acted};
 ghost use Rattle.plant_runs.specs.Reached.{frames_of};
@@ -19,7 +19,7 @@ use std::alloc::{AllocError, Global};
 
 impl Desk {
     /// The desk of an operator with nothing done.
-    pub(crate) fn open(
+    pub fn open(
         alloc: Global,
         row: &OperatorRow,
         consts: &Consts,
@@ -35,12 +35,12 @@ impl Desk {
     }
 
     /// Does an action, and tells what it puts out. Its frames wait.
-    pub(crate) fn act(&mut self, alloc: Global, action: Action) -> Result<Vec<Output>, BookFault>
+    pub fn act(&mut self, alloc: Global, action: Action) -> Result<Vec<Output>, BookFault>
         requires within { self.old.collected ≤ length (book_at self.old).history }
         ensures book { OnOk result (book_at self.new ≡ acted (book_at self.old) action) }
-        ensures waiting { OnOk result (waiting_at self.new ≡ waiting_at self.old ++ frames_of (own_step (book_at self.old).consts (book_at self.old).row (book_at self.old).state action).outputs) }
-        ensures outputs { IfOk result (λ outputs. outputs.items ≡ (own_step (book_at self.old).consts (book_at self.old).row (book_at self.old).state action).outputs) }
-        ensures allowed { OnOk result (IsAllowed (book_at self.old).consts (book_at self.old).row (book_at self.old).state action) }
+        ensures waiting { OnOk result (waiting_at self.new ≡ waiting_at self.old ++ frames_of (own_step (operator (book_at self.old).consts (book_at self.old).row (book_at self.old).state) action).outputs) }
+        ensures outputs { IfOk result (λ outputs. outputs.items ≡ (own_step (operator (book_at self.old).consts (book_at self.old).row (book_at self.old).state) action).outputs) }
+        ensures allowed { OnOk result (IsAllowed (operator (book_at self.old).consts (book_at self.old).row (book_at self.old).state) action) }
         ensures same_book { OnErr result (book_at self.new ≡ book_at self.old) }
         ensures same_waiting { OnErr result (waiting_at self.new ≡ waiting_at self.old) }
     {
@@ -48,7 +48,7 @@ impl Desk {
     }
 
     /// The frame that waits longest.
-    pub(crate) fn oldest(&self, alloc: Global) -> Result<Option<Oldest>, AllocError>
+    pub fn oldest(&self, alloc: Global) -> Result<Option<Oldest>, AllocError>
         ensures value { IfOk result (IsOldest (book_at self.now).history self.now.collected) }
         ensures some { OnErr result (IsSome (slice_get (waiting_at self.now) 0)) }
     {

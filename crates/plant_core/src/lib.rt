@@ -19,7 +19,8 @@ pub use core_fault::{CoreFault, CoreOpenFault, ResliceFault};
 pub use desk::Desk;
 pub use held::PlantCore;
 pub use plant_runs::{
-    maps_are_shared_out, opened_is_reached, run_is_reached, step_is_reached, two_worlds,
+    equal_books_answer_alike, maps_are_shared_out, opened_is_reached, run_is_reached,
+    step_is_reached, two_cores, two_worlds,
 };
 pub use routes::Routes;
 pub use running::RunStop;

@@ -188,6 +188,24 @@ impl PlantCore {
         }
     }
 
+    /// One step, whose outputs take the place of those that are there. A refused step changes nothing of the core.
+    pub fn step_over(
+        &mut self,
+        alloc: Global,
+        step: Step,
+        outs: &mut Vec<Out>,
+    ) -> Result<(), CoreFault>
+        ensures ok { OnOk result (Steps step (core_view self.old) (core_view self.new) outs.new.items) }
+        ensures reached { OnOk result ((before : List Step) (told : List Out) → Reached (core_view self.old).plant before told (core_view self.old) → Reached (core_view self.old).plant (before ++ step ∷ []) (told ++ outs.new.items) (core_view self.new)) }
+        ensures err { OnErr result (core_view self.new ≡ core_view self.old) }
+        ensures fault { IsTold result (step_fault (core_view self.old) step) }
+    {
+        self.always();
+        outs.clear();
+        self.step_into(alloc, step, outs)?;
+        Ok(())
+    }
+
     /// One step, and what it puts out. A refused step changes nothing.
     pub fn step(&mut self, alloc: Global, step: Step) -> Result<Vec<Out>, CoreFault>
         ensures ok { IfOk result (λ outs. Steps step (core_view self.old) (core_view self.new) outs.items) }

@@ -18,7 +18,7 @@ use Rattle.operator_machine.specs.declared.action.Action.{Action}
 use Rattle.operator_machine.specs.declared.action.Action.TheVariants.{Arrive, Work, Tick, Reslice}
 use Rattle.operator_machine.specs.declared.action.Unfit.TheVariants.{NotPast, Unfinished, OffFrame, BudgetOverSlice, OverBudget}
 use Rattle.operator_machine.specs.declared.share.NextShare.{NextShare}
-use Rattle.operator_machine.specs.State.{OperatorState, opened}
+use Rattle.operator_machine.specs.State.{OperatorState, opened, operator}
 use Rattle.operator_machine.specs.Frame.{next_at}
 use Rattle.operator_machine.specs.Frames.{is_tick}
 use Rattle.operator_machine.specs.Machine.{arrived, worked, own_step, own_run, is_off_frame, unfit_from, IsAllowed}
@@ -99,33 +99,33 @@ stays : (old new : OperatorState) → new.frame ≡ old.frame → new.next ≡ o
 stays old new frame next = let same : reach new ≡ reach old = λ n. reach_of (frame n) (next n) in omega (arith, same)
 
 module _ (consts : ConstsFields) (row : RowFields) where
-  step_reach : (state : OperatorState) (action : Action) → IsAllowed consts row state action → reach state ≤ reach (own_step consts row state action).state
+  step_reach : (state : OperatorState) (action : Action) → IsAllowed (operator consts row state) action → reach state ≤ reach (own_step (operator consts row state) action).state
   unfolding own_step
-  step_reach state (Arrive modem heard) allowed = let same = arrived_none consts row state modem heard in stays state (arrived row state modem heard).state same.frame same.waits
-  step_reach state Work allowed = let same = worked_none consts row state state.inbox in stays state (worked consts row state state.inbox).state same.frame same.waits
+  step_reach state (Arrive modem heard) allowed = let same = arrived_none (operator consts row state) modem heard in stays state (arrived row state modem heard).state same.frame same.waits
+  step_reach state Work allowed = let same = worked_none (operator consts row state) state.inbox in stays state (worked (operator consts row state) state.inbox).state same.frame same.waits
   step_reach state Tick allowed = turned state.frame state.next
   step_reach state (Reslice from offered) allowed =
       let fit = takes consts state from offered allowed.fit in
       omega (arith, none_waits state.frame state.next fit.free, fit.past)
 
-  offered_reach : (state : OperatorState) (from : ℕ) (offered : SliceRow) → reach (own_step consts row state (Reslice from offered)).state ≡ from
+  offered_reach : (state : OperatorState) (from : ℕ) (offered : SliceRow) → reach (own_step (operator consts row state) (Reslice from offered)).state ≡ from
   unfolding own_step
   offered_reach state from offered = refl
 
-  run_reach : (state : OperatorState) (actions : List Action) → MayRun consts row state actions → reach state ≤ reach (own_run consts row state actions).state
+  run_reach : (state : OperatorState) (actions : List Action) → MayRun (operator consts row state) actions → reach state ≤ reach (own_run (operator consts row state) actions).state
   run_reach state [] may = omega arith
   run_reach state (action ∷ actions) may =
-      omega (arith, step_reach state action may.0, run_reach (own_step consts row state action).state actions may.1)
+      omega (arith, step_reach state action may.0, run_reach (own_step (operator consts row state) action).state actions may.1)
 
   -- no re-slicing of a run is from a later frame on
-  within_reach : (state : OperatorState) (actions : List Action) → MayRun consts row state actions
-      → AllByRecursion (λ (r : SliceFrom). r.from ≤ reach (own_run consts row state actions).state) (reslicings_in actions)
+  within_reach : (state : OperatorState) (actions : List Action) → MayRun (operator consts row state) actions
+      → AllByRecursion (λ (r : SliceFrom). r.from ≤ reach (own_run (operator consts row state) actions).state) (reslicings_in actions)
   within_reach state [] may = tt
-  within_reach state (Arrive modem heard ∷ actions) may = within_reach (own_step consts row state (Arrive modem heard)).state actions may.1
-  within_reach state (Work ∷ actions) may = within_reach (own_step consts row state Work).state actions may.1
-  within_reach state (Tick ∷ actions) may = within_reach (own_step consts row state Tick).state actions may.1
+  within_reach state (Arrive modem heard ∷ actions) may = within_reach (own_step (operator consts row state) (Arrive modem heard)).state actions may.1
+  within_reach state (Work ∷ actions) may = within_reach (own_step (operator consts row state) Work).state actions may.1
+  within_reach state (Tick ∷ actions) may = within_reach (own_step (operator consts row state) Tick).state actions may.1
   within_reach state (Reslice from offered ∷ actions) may =
-      let later = own_step consts row state (Reslice from offered) in
+      let later = own_step (operator consts row state) (Reslice from offered) in
       (omega (arith, run_reach later.state actions may.1, offered_reach state from offered), within_reach later.state actions may.1)
 
 before : (i bound from : ℕ) (rs : List Reslicing) → bound < from → AllByRecursion (λ (r : SliceFrom). r.from ≤ bound) (map (own_of i) rs) → AllByRecursion (λ (r : Reslicing). r.from < from) rs

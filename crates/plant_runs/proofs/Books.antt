@@ -7,6 +7,7 @@ use Rattle.slice_table.specs.declared.plant.PlantFields.{PlantFields}
 use Rattle.operator_machine.specs.declared.action.Action.{Action}
 use Rattle.operator_machine.specs.declared.action.Entry.{Entry}
 use Rattle.operator_machine.specs.declared.output.Output.{Output}
+use Rattle.operator_machine.specs.State.{operator}
 use Rattle.operator_machine.specs.Machine.{own_step, IsAllowed}
 use Rattle.operator_machine.specs.Replay.{BookView, IsReplay, actions_of, acted}
 use Rattle.plant_runs.specs.declared.step.Step.{Step}
@@ -19,17 +20,17 @@ use Rattle.plant_runs.proofs.OwnRuns.{own_more, own_same, alone_same, alone_stat
 abbrev pub Moves : Option Action → BookView → BookView → List Output → Type 0
 Moves None book new now = (new ≡ book) × (now ≡ [])
 Moves (Some action) book new now =
-    IsAllowed book.consts book.row book.state action × (new ≡ acted book action) × (now ≡ (own_step book.consts book.row book.state action).outputs)
+    IsAllowed (operator book.consts book.row book.state) action × (new ≡ acted book action) × (now ≡ (own_step (operator book.consts book.row book.state) action).outputs)
 
 module _ (plant : PlantFields) (steps : List Step) (step : Step) (i : ℕ) (row : RowFields) (book new : BookView) (now : List Output) (is : IsBookAfter plant steps i row book) where
   -- the book's own step is the one of the machine run alone
-  step_alone : (action : Action) → own_step book.consts book.row book.state action ≡ own_step plant.consts row (alone plant.consts row i steps).state action
-  step_alone action = λ k. own_step (is.consts_are k) (is.row_is k) (is.state_is k) action
+  step_alone : (action : Action) → own_step (operator book.consts book.row book.state) action ≡ own_step (operator plant.consts row (alone plant.consts row i steps).state) action
+  step_alone action = λ k. own_step (operator (is.consts_are k) (is.row_is k) (is.state_is k)) action
 
   book_more : (action : Action) → action_of row i step ≡ Some action → Moves (Some action) book new now → IsBookAfter plant (steps ++ step ∷ []) i row new
   book_more action e moves =
       let made : new ≡ acted book action = moves.1 in
-      let told : (own_step book.consts book.row book.state action).state ≡ (alone plant.consts row i (steps ++ step ∷ [])).state =
+      let told : (own_step (operator book.consts book.row book.state) action).state ≡ (alone plant.consts row i (steps ++ step ∷ [])).state =
       ap (λ r. r.state) (step_alone action) ∙ sym (alone_state plant.consts row i steps step action e) in
       record {
         row_is = ap (λ (b : BookView). b.row) made ∙ is.row_is;
@@ -37,14 +38,14 @@ module _ (plant : PlantFields) (steps : List Step) (step : Step) (i : ℕ) (row 
         state_is = ap (λ (b : BookView). b.state) made ∙ told;
         actions_are =
             ap (λ (b : BookView). actions_of b.history) made
-            ∙ (map-append (λ (e : Entry). e.action) book.history (record { action = action; outputs = (own_step book.consts book.row book.state action).outputs } ∷ [])
+            ∙ (map-append (λ (e : Entry). e.action) book.history (record { action = action; outputs = (own_step (operator book.consts book.row book.state) action).outputs } ∷ [])
             ∙ (ap (λ (actions : List Action). actions ++ action ∷ []) is.actions_are ∙ sym (own_more row i steps step action e)));
         replay =
             subst (λ (b : BookView). IsReplay plant.consts row b.history b.state) (sym made)
-            (replay_push plant.consts row book.history book.state (own_step book.consts book.row book.state action).state (record { action = action; outputs = (own_step book.consts book.row book.state action).outputs }) is.replay
-            (subst (λ (r : RowFields). IsAllowed plant.consts r book.state action) is.row_is (subst (λ (c : ConstsFields). IsAllowed c book.row book.state action) is.consts_are moves.0))
-            (λ k. (own_step (is.consts_are k) (is.row_is k) book.state action).state)
-            (λ k. (own_step (is.consts_are k) (is.row_is k) book.state action).outputs));
+            (replay_push plant.consts row book.history book.state (own_step (operator book.consts book.row book.state) action).state (record { action = action; outputs = (own_step (operator book.consts book.row book.state) action).outputs }) is.replay
+            (subst (λ (r : RowFields). IsAllowed (operator plant.consts r book.state) action) is.row_is (subst (λ (c : ConstsFields). IsAllowed (operator c book.row book.state) action) is.consts_are moves.0))
+            (λ k. (own_step (operator (is.consts_are k) (is.row_is k) book.state) action).state)
+            (λ k. (own_step (operator (is.consts_are k) (is.row_is k) book.state) action).outputs));
       }
 
   book_same : action_of row i step ≡ None → Moves None book new now → IsBookAfter plant (steps ++ step ∷ []) i row new

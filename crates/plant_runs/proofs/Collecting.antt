@@ -3,7 +3,7 @@ use Rattle.std.proofs.Common.{◌≡◌, ℕ, ◌+◌, false, List, [], ◌∷�
 use Rattle.std.specs.Prelude.{slice_get}
 use Rattle.std.proofs.lemmas.Bool.{cond-true}
 use Rattle.std.proofs.lemmas.List.{length-set, length-map, length_push}
-use Rattle.std.proofs.lemmas.List.Elements.{filter_map-append, All-weaker, All-push}
+use Rattle.std.proofs.lemmas.List.Elements.{filter_map-append, All-weaker, All-push, All-append}
 use Rattle.std.proofs.lemmas.Option.{slice_get-map, same_Some, slice_get_within}
 use Rattle.slice_scheduler.specs.declared.elements.ElementsFields.{ElementsFields}
 use Rattle.slice_table.specs.declared.operator_row.RowFields.{RowFields}
@@ -17,7 +17,7 @@ use Rattle.plant_runs.specs.declared.step.Step.TheVariants as steps
 use Rattle.plant_runs.specs.declared.step.Out.{Out}
 use Rattle.plant_runs.specs.declared.step.Out.TheVariants as out
 use Rattle.plant_runs.specs.OwnSteps.{maps_in, map_in, reslicing_in, reslicings_of}
-use Rattle.plant_runs.specs.Shown.{IsMapIn, IsLeast, AreMaps}
+use Rattle.plant_runs.specs.Shown.{IsMapIn, IsLeast, AreMaps, IsUnder}
 use Rattle.plant_runs.specs.Ordered.{IsCollected}
 use Rattle.plant_runs.specs.Reached.{CoreView, AreFramesAfter, Reached}
 use Rattle.plant_runs.specs.Steps.{Collects, told_map}
@@ -27,6 +27,7 @@ use Rattle.plant_runs.proofs.Moving.{EachMoves, collects_moves}
 use Rattle.plant_runs.proofs.Following.{EachTells, each_tells, books_follow, answers_follow}
 use Rattle.plant_runs.proofs.Kept.{map_kept, one_least}
 use Rattle.plant_runs.proofs.InOrder.{ordered_push}
+use Rattle.plant_runs.proofs.Under.{told_under}
 use Rattle.plant_runs.proofs.Collected.{then_collected, with_it, frames_put, frames_made, still_within}
 use Rattle.plant_runs.proofs.Making.{least_waits, least_made, made_in, frames_pushed}
 
@@ -64,6 +65,7 @@ module _ (plant : PlantFields) (before : List Step) (outs : List Out) (k : ℕ) 
     shown = record {
       answers = answers_follow plant before outs (steps.Collect k) now old new reached moves books;
       maps = subst (AreMaps plant after) (sym maps_are) maps;
+      under_plant = All-append (IsUnder (length plant.rows)) outs now reached.shown.under_plant (told_under (length plant.rows) collects.made now collects.now_is);
     };
     ordered = ordered_push plant before outs (steps.Collect k) now reached.ordered told;
     one_book = books ∙ reached.one_book;

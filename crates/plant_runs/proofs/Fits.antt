@@ -13,7 +13,7 @@ use Rattle.slice_table.specs.declared.plant.PlantFields.{PlantFields}
 use Rattle.slice_table.specs.Row.{IsRowOf}
 use Rattle.slice_table.specs.Plant.{IsPlant}
 use Rattle.operator_machine.specs.declared.action.Action.{Action}
-use Rattle.operator_machine.specs.State.{opened}
+use Rattle.operator_machine.specs.State.{opened, operator}
 use Rattle.operator_machine.specs.Slices.{reslicings_in, slice_at, MayRun}
 use Rattle.operator_machine.specs.Sound.{IsSound}
 use Rattle.operator_machine.proofs.OpenedLemmas.{opened_sound}
@@ -92,11 +92,11 @@ module _ (plant : PlantFields) (done : List Step) (outs : List Out) (core : Core
   shares_long : length core.gathering.shares ≡ length plant.rows
   shares_long = ap length reached.gathered.shares_are ∙ length-map plant.rows share_of
 
-  pub may : MayRun plant.consts row (opened plant.consts row) own
+  pub may : MayRun (operator plant.consts row (opened plant.consts row)) own
   may =
       let book = some_at core.books i (omega (arith, within, reached.one_book)) in
       let after = reached.books i row book.0 here book.1 in
-      subst (MayRun plant.consts row (opened plant.consts row)) after.actions_are (told_may plant.consts row (opened plant.consts row) book.0.history after.replay.told)
+      subst (MayRun (operator plant.consts row (opened plant.consts row))) after.actions_are (told_may plant.consts row (opened plant.consts row) book.0.history after.replay.told)
 
   slice_some : 1 ≤ row.slice.length
   slice_some =
@@ -104,7 +104,7 @@ module _ (plant : PlantFields) (done : List Step) (outs : List Out) (core : Core
       ap (λ (ms : List Minislots). slice_get ms i) reached.gathered.slices_are ∙ (slice_get-map (λ (r : RowFields). r.slice) plant.rows i ∙ ap (option_map (λ (r : RowFields). r.slice)) here) in
       (at_place (IsInFrame core.gathering.layout) core.gathering.slices i row.slice (recursion_from_All (IsInFrame core.gathering.layout) core.gathering.slices is.slices_are.each) first).some
 
-  pub sound : IsSound plant.consts row (opened plant.consts row)
+  pub sound : IsSound (operator plant.consts row (opened plant.consts row))
   sound = opened_sound plant.consts row (at_place (IsRowOf plant.consts) plant.rows i row (recursion_from_All (IsRowOf plant.consts) plant.rows valid.rows) here) slice_some
 
   pub one_each : HaveOne i (reslicings_of done)

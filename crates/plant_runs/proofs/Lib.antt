@@ -1,10 +1,12 @@
 pub mod Entries
 pub mod SharingOut
 pub mod TwoRuns
+pub mod TwoCoreLemmas
 pub mod OwnRuns
 pub mod OwnActions
 pub mod Books
 pub mod Answers
+pub mod Under
 pub mod Moving
 pub mod Following
 pub mod Numbers

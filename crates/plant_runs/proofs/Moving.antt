@@ -10,7 +10,7 @@ use Rattle.slice_table.specs.declared.plant.PlantFields.{PlantFields}
 use Rattle.operator_machine.specs.declared.action.SliceRow.{SliceRow}
 use Rattle.operator_machine.specs.declared.action.Action.{Action}
 use Rattle.operator_machine.specs.declared.action.Action.TheVariants as actions
-use Rattle.operator_machine.specs.State.{OperatorState}
+use Rattle.operator_machine.specs.State.{OperatorState, operator}
 use Rattle.operator_machine.specs.Machine.{own_step}
 use Rattle.operator_machine.specs.Replay.{BookView, acted}
 use Rattle.plant_runs.specs.declared.step.Step.{Step}
@@ -41,13 +41,13 @@ module _ (plant : PlantFields) (step : Step) (k : ℕ) (action : Action) (old ne
       subst (λ (b : BookView). Moves (Some action) b made (answers_of i now)) book_is (
         acts.allowed,
         same_at new.books i made (acted acts.book action) f there,
-        ap (answers_of i) acts.now_is ∙ answers_here i k (own_step acts.book.consts acts.book.row acts.book.state action).outputs same,
+        ap (answers_of i) acts.now_is ∙ answers_here i k (own_step (operator acts.book.consts acts.book.row acts.book.state) action).outputs same,
       )
 
   moves_else : (i : ℕ) (book made : BookView) → (i ≡ k → ⊥) → slice_get old.books i ≡ Some book → slice_get new.books i ≡ Some made → Moves None book made (answers_of i now)
   moves_else i book made other e f =
       let there : slice_get new.books i ≡ Some book = ap (λ (c : CoreView). slice_get c.books i) acts.new_is ∙ (get_other old.books k i (acted acts.book action) other ∙ e) in
-      (same_at new.books i made book f there, ap (answers_of i) acts.now_is ∙ answers_else i k (own_step acts.book.consts acts.book.row acts.book.state action).outputs other)
+      (same_at new.books i made book f there, ap (answers_of i) acts.now_is ∙ answers_else i k (own_step (operator acts.book.consts acts.book.row acts.book.state) action).outputs other)
 
   pub acts_moves : EachMoves plant step old new now
   acts_moves i row book made here e f = by (cases_eq i k)
@@ -67,7 +67,7 @@ collects_moves plant k old new now collects i row book made here e f =
 
 -- ---- a re-slicing
 
-pub silent : (consts : ConstsFields) (row : RowFields) (state : OperatorState) (from : ℕ) (offered : SliceRow) → (own_step consts row state (actions.Reslice from offered)).outputs ≡ []
+pub silent : (consts : ConstsFields) (row : RowFields) (state : OperatorState) (from : ℕ) (offered : SliceRow) → (own_step (operator consts row state) (actions.Reslice from offered)).outputs ≡ []
 unfolding own_step
 silent consts row state from offered = refl
 

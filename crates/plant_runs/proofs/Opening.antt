@@ -7,7 +7,7 @@ use Rattle.std.proofs.lemmas.Option.{slice_get-map, same_Some, none-some}
 use Rattle.slice_table.specs.declared.operator_row.RowFields.{RowFields}
 use Rattle.slice_table.specs.declared.plant.PlantFields.{PlantFields}
 use Rattle.slice_table.specs.Plant.{IsPlant}
-use Rattle.plant_runs.specs.Shown.{IsMapIn}
+use Rattle.plant_runs.specs.Shown.{IsMapIn, IsUnder}
 use Rattle.plant_runs.specs.Reached.{IsBookAfter, Reached}
 use Rattle.plant_runs.specs.Opened.{opened_book, opened_core}
 
@@ -29,6 +29,7 @@ opened_reached plant is = record {
       count = record { at_most = λ i within. omega arith; one = (0, omega (arith, is.some), refl) };
       each = All-nil (IsMapIn plant []);
     };
+    under_plant = All-nil (IsUnder (length plant.rows));
   };
   ordered = refl;
   one_book = length-map plant.rows (opened_book plant.consts);

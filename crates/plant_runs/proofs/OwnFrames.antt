@@ -16,7 +16,7 @@ use Rattle.operator_machine.specs.declared.action.Action.TheVariants.{Arrive, Wo
 use Rattle.operator_machine.specs.declared.action.Entry.{Entry}
 use Rattle.operator_machine.specs.declared.output.Output.{Output}
 use Rattle.operator_machine.specs.declared.output.Output.TheVariants as outputs
-use Rattle.operator_machine.specs.State.{OperatorState}
+use Rattle.operator_machine.specs.State.{OperatorState, operator}
 use Rattle.operator_machine.specs.Frame.{resent, ticked, frame_elements}
 use Rattle.operator_machine.specs.Frames.{frames_in}
 use Rattle.operator_machine.specs.Machine.{arrived, worked, own_step, own_run}
@@ -61,32 +61,32 @@ no_resent [] = refl
 no_resent (resend ∷ resends) = no_resent resends
 
 module _ (consts : ConstsFields) (row : RowFields) where
-  tick_frames : (state : OperatorState) → frames_of (ticked consts row state).outputs ≡ (state.frame, frame_elements consts row state) ∷ []
+  tick_frames : (state : OperatorState) → frames_of (ticked (operator consts row state)).outputs ≡ (state.frame, frame_elements (operator consts row state)) ∷ []
   tick_frames state =
-      filter_map-append numbered (map resent (resent_in state.kept)) (outputs.Frame state.frame (frame_elements consts row state) ∷ [])
-      ∙ ap (λ (frames : List Numbered). frames ++ (state.frame, frame_elements consts row state) ∷ []) (no_resent (resent_in state.kept))
+      filter_map-append numbered (map resent (resent_in state.kept)) (outputs.Frame state.frame (frame_elements (operator consts row state)) ∷ [])
+      ∙ ap (λ (frames : List Numbered). frames ++ (state.frame, frame_elements (operator consts row state)) ∷ []) (no_resent (resent_in state.kept))
 
-  step_own : (state : OperatorState) (action : Action) → IsSound consts row state → OwnFrames row (own_step consts row state action).outputs
+  step_own : (state : OperatorState) (action : Action) → IsSound (operator consts row state) → OwnFrames row (own_step (operator consts row state) action).outputs
   unfolding own_step
-  step_own state (Arrive modem heard) sound = no_frames row (arrived row state modem heard).outputs (arrived_none consts row state modem heard).numbers
-  step_own state Work sound = no_frames row (worked consts row state state.inbox).outputs (worked_none consts row state state.inbox).numbers
+  step_own state (Arrive modem heard) sound = no_frames row (arrived row state modem heard).outputs (arrived_none (operator consts row state) modem heard).numbers
+  step_own state Work sound = no_frames row (worked (operator consts row state) state.inbox).outputs (worked_none (operator consts row state) state.inbox).numbers
   step_own state Tick sound =
       subst (λ (frames : List Numbered). AllByRecursion (λ frame. IsOwn row frame.1) frames) (sym (tick_frames state))
-      (record { spans = part_spans consts row state sound; pending = part_pending consts row state sound; few = part_few consts row state sound }, tt)
+      (record { spans = part_spans (operator consts row state) sound; pending = part_pending (operator consts row state) sound; few = part_few (operator consts row state) sound }, tt)
   step_own state (Reslice from offered) sound = tt
 
-  pub run_own : (state : OperatorState) (actions : List Action) → IsSound consts row state → MayRun consts row state actions → OwnFrames row (own_run consts row state actions).outputs
+  pub run_own : (state : OperatorState) (actions : List Action) → IsSound (operator consts row state) → MayRun (operator consts row state) actions → OwnFrames row (own_run (operator consts row state) actions).outputs
   run_own state [] sound may = tt
   run_own state (action ∷ actions) sound may =
-      let first = own_step consts row state action in
+      let first = own_step (operator consts row state) action in
       subst (λ (frames : List Numbered). AllByRecursion (λ frame. IsOwn row frame.1) frames)
-      (sym (filter_map-append numbered first.outputs (own_run consts row first.state actions).outputs))
-      (recursion-append (λ (frame : Numbered). IsOwn row frame.1) (frames_of first.outputs) (frames_of (own_run consts row first.state actions).outputs)
-      (step_own state action sound) (run_own first.state actions (step_sound consts row state sound action may.0) may.1))
+      (sym (filter_map-append numbered first.outputs (own_run (operator consts row first.state) actions).outputs))
+      (recursion-append (λ (frame : Numbered). IsOwn row frame.1) (frames_of first.outputs) (frames_of (own_run (operator consts row first.state) actions).outputs)
+      (step_own state action sound) (run_own first.state actions (step_sound (operator consts row state) sound action may.0) may.1))
 
-  pub told_may : (state : OperatorState) (history : List Entry) → AreTold consts row state history → MayRun consts row state (actions_of history)
+  pub told_may : (state : OperatorState) (history : List Entry) → AreTold (operator consts row state) history → MayRun (operator consts row state) (actions_of history)
   told_may state [] told = tt
-  told_may state (entry ∷ history) told = (told.0, told_may (own_step consts row state entry.action).state history told.2)
+  told_may state (entry ∷ history) told = (told.0, told_may (own_step (operator consts row state) entry.action).state history told.2)
 
 -- ---- their slices
 

@@ -8,7 +8,7 @@ use Rattle.slice_table.specs.declared.operator_row.RowFields.{RowFields}
 use Rattle.operator_machine.specs.declared.action.Action.{Action}
 use Rattle.operator_machine.specs.declared.action.Entry.{Entry}
 use Rattle.operator_machine.specs.declared.output.Output.{Output}
-use Rattle.operator_machine.specs.State.{OperatorState, opened}
+use Rattle.operator_machine.specs.State.{OperatorState, opened, operator}
 use Rattle.operator_machine.specs.Machine.{own_step, own_run, IsAllowed}
 use Rattle.operator_machine.specs.Replay.{actions_of, AreTold, IsReplay}
 use Rattle.plant_runs.specs.declared.step.Step.{Step}
@@ -19,35 +19,35 @@ use Rattle.plant_runs.specs.Shown.{alone}
 
 module _ (consts : ConstsFields) (row : RowFields) where
   pub state_push : (state : OperatorState) (actions : List Action) (action : Action)
-      → (own_run consts row state (actions ++ action ∷ [])).state ≡ (own_step consts row (own_run consts row state actions).state action).state
+      → (own_run (operator consts row state) (actions ++ action ∷ [])).state ≡ (own_step (operator consts row (own_run (operator consts row state) actions).state) action).state
   state_push state [] action = refl
-  state_push state (first ∷ actions) action = state_push (own_step consts row state first).state actions action
+  state_push state (first ∷ actions) action = state_push (own_step (operator consts row state) first).state actions action
 
   pub outputs_push : (state : OperatorState) (actions : List Action) (action : Action)
-      → (own_run consts row state (actions ++ action ∷ [])).outputs ≡ (own_run consts row state actions).outputs ++ (own_step consts row (own_run consts row state actions).state action).outputs
-  outputs_push state [] action = append-nil (own_step consts row state action).outputs
+      → (own_run (operator consts row state) (actions ++ action ∷ [])).outputs ≡ (own_run (operator consts row state) actions).outputs ++ (own_step (operator consts row (own_run (operator consts row state) actions).state) action).outputs
+  outputs_push state [] action = append-nil (own_step (operator consts row state) action).outputs
   outputs_push state (first ∷ actions) action =
-      let next : OperatorState = (own_step consts row state first).state in
-      ap (λ (outputs : List Output). (own_step consts row state first).outputs ++ outputs) (outputs_push next actions action)
-      ∙ sym (append_assoc (own_step consts row state first).outputs (own_run consts row next actions).outputs (own_step consts row (own_run consts row next actions).state action).outputs)
+      let next : OperatorState = (own_step (operator consts row state) first).state in
+      ap (λ (outputs : List Output). (own_step (operator consts row state) first).outputs ++ outputs) (outputs_push next actions action)
+      ∙ sym (append_assoc (own_step (operator consts row state) first).outputs (own_run (operator consts row next) actions).outputs (own_step (operator consts row (own_run (operator consts row next) actions).state) action).outputs)
 
-  told_push : (state : OperatorState) (history : List Entry) (entry : Entry) → AreTold consts row state history
-      → IsAllowed consts row (own_run consts row state (actions_of history)).state entry.action
-      → entry.outputs ≡ (own_step consts row (own_run consts row state (actions_of history)).state entry.action).outputs → AreTold consts row state (history ++ entry ∷ [])
+  told_push : (state : OperatorState) (history : List Entry) (entry : Entry) → AreTold (operator consts row state) history
+      → IsAllowed (operator consts row (own_run (operator consts row state) (actions_of history)).state) entry.action
+      → entry.outputs ≡ (own_step (operator consts row (own_run (operator consts row state) (actions_of history)).state) entry.action).outputs → AreTold (operator consts row state) (history ++ entry ∷ [])
   told_push state [] entry told allowed outputs = (allowed, outputs, tt)
   told_push state (first ∷ history) entry told allowed outputs =
-      (told.0, told.1, told_push (own_step consts row state first.action).state history entry told.2 allowed outputs)
+      (told.0, told.1, told_push (own_step (operator consts row state) first.action).state history entry told.2 allowed outputs)
 
   pub replay_push : (history : List Entry) (state after : OperatorState) (entry : Entry) → IsReplay consts row history state
-      → IsAllowed consts row state entry.action → after ≡ (own_step consts row state entry.action).state → entry.outputs ≡ (own_step consts row state entry.action).outputs
+      → IsAllowed (operator consts row state) entry.action → after ≡ (own_step (operator consts row state) entry.action).state → entry.outputs ≡ (own_step (operator consts row state) entry.action).outputs
       → IsReplay consts row (history ++ entry ∷ []) after
   replay_push history state after entry replay allowed is outputs = record {
-    state_is = is ∙ (ap (λ (s : OperatorState). (own_step consts row s entry.action).state) replay.state_is
+    state_is = is ∙ (ap (λ (s : OperatorState). (own_step (operator consts row s) entry.action).state) replay.state_is
         ∙ (sym (state_push (opened consts row) (actions_of history) entry.action)
-        ∙ ap (λ (actions : List Action). (own_run consts row (opened consts row) actions).state) (sym (map-append (λ (e : Entry). e.action) history (entry ∷ [])))));
+        ∙ ap (λ (actions : List Action). (own_run (operator consts row (opened consts row)) actions).state) (sym (map-append (λ (e : Entry). e.action) history (entry ∷ [])))));
     told = told_push (opened consts row) history entry replay.told
-        (subst (λ (s : OperatorState). IsAllowed consts row s entry.action) replay.state_is allowed)
-        (outputs ∙ ap (λ (s : OperatorState). (own_step consts row s entry.action).outputs) replay.state_is);
+        (subst (λ (s : OperatorState). IsAllowed (operator consts row s) entry.action) replay.state_is allowed)
+        (outputs ∙ ap (λ (s : OperatorState). (own_step (operator consts row s) entry.action).outputs) replay.state_is);
   }
 
 -- ---- one step more
@@ -71,16 +71,16 @@ module _ (row : RowFields) (i : ℕ) (steps : List Step) (step : Step) where
 
 module _ (consts : ConstsFields) (row : RowFields) (i : ℕ) (steps : List Step) (step : Step) where
   pub alone_same : action_of row i step ≡ None → alone consts row i (steps ++ step ∷ []) ≡ alone consts row i steps
-  alone_same e = ap (own_run consts row (opened consts row)) (own_same row i steps step e)
+  alone_same e = ap (own_run (operator consts row (opened consts row))) (own_same row i steps step e)
 
   pub alone_state : (action : Action) → action_of row i step ≡ Some action
-      → (alone consts row i (steps ++ step ∷ [])).state ≡ (own_step consts row (alone consts row i steps).state action).state
+      → (alone consts row i (steps ++ step ∷ [])).state ≡ (own_step (operator consts row (alone consts row i steps).state) action).state
   alone_state action e =
-      ap (λ (actions : List Action). (own_run consts row (opened consts row) actions).state) (own_more row i steps step action e)
+      ap (λ (actions : List Action). (own_run (operator consts row (opened consts row)) actions).state) (own_more row i steps step action e)
       ∙ state_push consts row (opened consts row) (own_steps row i steps) action
 
   pub alone_outputs : (action : Action) → action_of row i step ≡ Some action
-      → (alone consts row i (steps ++ step ∷ [])).outputs ≡ (alone consts row i steps).outputs ++ (own_step consts row (alone consts row i steps).state action).outputs
+      → (alone consts row i (steps ++ step ∷ [])).outputs ≡ (alone consts row i steps).outputs ++ (own_step (operator consts row (alone consts row i steps).state) action).outputs
   alone_outputs action e =
-      ap (λ (actions : List Action). (own_run consts row (opened consts row) actions).outputs) (own_more row i steps step action e)
+      ap (λ (actions : List Action). (own_run (operator consts row (opened consts row)) actions).outputs) (own_more row i steps step action e)
       ∙ outputs_push consts row (opened consts row) (own_steps row i steps) action

@@ -1,11 +1,13 @@
 -- A run is one of one step more, where that step collects nothing.
-use Rattle.std.proofs.Common.{◌≡◌, ℕ, false, List, [], ◌∷◌, ◌++◌, length, Option, Some, append-nil, refl, sym, ap, ◌∙◌, subst, arith}
-use Rattle.std.specs.Prelude.{slice_get}
+use Rattle.std.proofs.Common.{◌≡◌, ℕ, false, List, [], ◌∷◌, ◌++◌, length, Option, Some, None, append-nil, refl, sym, ap, ◌∙◌, subst, arith}
+use Rattle.std.specs.Prelude.{All, slice_get}
+use Rattle.std.proofs.lemmas.List.Elements.{All-append}
 use Rattle.std.proofs.lemmas.Option.{slice_get_within}
 use Rattle.slice_scheduler.specs.declared.elements.ElementsFields.{ElementsFields}
 use Rattle.slice_table.specs.declared.plant.PlantFields.{PlantFields}
 use Rattle.operator_machine.specs.declared.action.SliceRow.{SliceRow}
 use Rattle.operator_machine.specs.declared.action.Action.{Action}
+use Rattle.operator_machine.specs.State.{operator}
 use Rattle.operator_machine.specs.Machine.{own_step}
 use Rattle.map_assembly.specs.declared.slicing.Reslicing.{Reslicing}
 use Rattle.map_assembly.specs.Gathering.{Gathering}
@@ -14,6 +16,7 @@ use Rattle.plant_runs.specs.declared.step.Step.TheVariants as steps
 use Rattle.plant_runs.specs.declared.step.Out.{Out}
 use Rattle.plant_runs.specs.OwnSteps.{maps_in, is_collect, under, reslicings_of}
 use Rattle.plant_runs.specs.Ordered.{target, IsTold, AreOwn}
+use Rattle.plant_runs.specs.Shown.{IsUnder}
 use Rattle.plant_runs.specs.Reached.{CoreView, AreFramesAfter, Reached}
 use Rattle.plant_runs.specs.Steps.{Acts, Reslices}
 use Rattle.plant_runs.proofs.Entries.{some_at}
@@ -25,6 +28,7 @@ use Rattle.plant_runs.proofs.Numbers.{Numbered}
 use Rattle.plant_runs.proofs.Kept.{maps_same, maps_kept}
 use Rattle.plant_runs.proofs.Waiting.{EachWaits, acts_waits, acts_queues, reslices_waits, frames_follow, gathered_follows}
 use Rattle.plant_runs.proofs.InOrder.{ordered_push}
+use Rattle.plant_runs.proofs.Under.{own_under, told_under}
 
 -- a core beside another: one plant, as many books and queues, and what is gathered, but for the slices that the step gives
 record IsBeside (step : Step) (old new : CoreView) : Type 0 where
@@ -39,8 +43,8 @@ record IsBeside (step : Step) (old new : CoreView) : Type 0 where
   pub next_is : new.gathering.next ≡ old.gathering.next
 
 module _ (plant : PlantFields) (before : List Step) (outs : List Out) (step : Step) (now : List Out) (old new : CoreView) (reached : Reached plant before outs old) (others : (i : ℕ) → is_collect i step ≡ false) where
-  plain_reached : EachMoves plant step old new now → EachWaits old new now → maps_in now ≡ [] → IsTold plant before step (target plant step) now → IsBeside step old new → Reached plant (before ++ step ∷ []) (outs ++ now) new
-  plain_reached moves waits none told beside =
+  plain_reached : EachMoves plant step old new now → EachWaits old new now → maps_in now ≡ [] → All (IsUnder (length plant.rows)) now → IsTold plant before step (target plant step) now → IsBeside step old new → Reached plant (before ++ step ∷ []) (outs ++ now) new
+  plain_reached moves waits none placed told beside =
       let tells : EachTells plant before step now = each_tells plant before outs step now old new reached moves beside.books in
       let same : maps_in (outs ++ now) ≡ maps_in outs = maps_same plant before outs step now tells others none in
       record {
@@ -48,6 +52,7 @@ module _ (plant : PlantFields) (before : List Step) (outs : List Out) (step : St
         shown = record {
           answers = answers_follow plant before outs step now old new reached moves beside.books;
           maps = maps_kept plant before outs step now tells others none reached.shown.maps;
+          under_plant = All-append (IsUnder (length plant.rows)) outs now reached.shown.under_plant placed;
         };
         ordered = ordered_push plant before outs step now reached.ordered told;
         one_book = beside.books ∙ reached.one_book;
@@ -73,13 +78,15 @@ module _ (plant : PlantFields) (before : List Step) (outs : List Out) (step : St
       record {
         row = row.0;
         row_is = row.1;
-        outputs = acts.now_is ∙ (λ n. under k (own_step (is.consts_are n) (is.row_is n) (is.state_is n) action).outputs);
+        outputs = acts.now_is ∙ (λ n. under k (own_step (operator (is.consts_are n) (is.row_is n) (is.state_is n)) action).outputs);
       }
 
   pub acts_reached : (k : ℕ) (action : Action) → reslicings_of (step ∷ []) ≡ [] → IsActionAt plant step k action → target plant step ≡ Some (k, action) → Acts k action old new now → Reached plant (before ++ step ∷ []) (outs ++ now) new
   acts_reached k action none at goes acts =
       plain_reached (acts_moves plant step k action old new now at acts) (acts_waits k action old new now acts)
-      (ap maps_in acts.now_is ∙ no_maps k (own_step acts.book.consts acts.book.row acts.book.state action).outputs)
+      (ap maps_in acts.now_is ∙ no_maps k (own_step (operator acts.book.consts acts.book.row acts.book.state) action).outputs)
+      (let within = slice_get_within old.books k acts.book acts.book_is in
+      own_under (length plant.rows) k (own_step (operator acts.book.consts acts.book.row acts.book.state) action).outputs now (omega (arith, reached.one_book)) acts.now_is)
       (subst (λ (o : Option (ℕ × Action)). IsTold plant before step o now) (sym goes) (own_outputs k action acts))
       (record {
         plant_is = ap (λ (c : CoreView). c.plant) acts.new_is;
@@ -101,7 +108,8 @@ pub reslices_reached : (plant : PlantFields) (before : List Step) (outs : List O
     → Reached plant (before ++ steps.Reslice from rows ∷ []) (outs ++ now) new
 reslices_reached plant before outs from rows now old new reached reslices =
     plain_reached plant before outs (steps.Reslice from rows) now old new reached (λ i. refl)
-    (reslices_moves plant from rows old new now reslices) (reslices_waits from rows old new now reslices) (ap maps_in reslices.now_is) reslices.now_is
+    (reslices_moves plant from rows old new now reslices) (reslices_waits from rows old new now reslices) (ap maps_in reslices.now_is)
+    (told_under (length plant.rows) None now reslices.now_is) reslices.now_is
     (record {
       plant_is = reslices.plant_is;
       books = reslices.books;

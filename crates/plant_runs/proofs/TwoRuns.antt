@@ -5,7 +5,7 @@ use Rattle.slice_table.specs.declared.consts.ConstsFields.{ConstsFields}
 use Rattle.slice_table.specs.declared.operator_row.RowFields.{RowFields}
 use Rattle.slice_table.specs.declared.plant.PlantFields.{PlantFields}
 use Rattle.slice_table.specs.Plant.{AgreeOn}
-use Rattle.operator_machine.specs.State.{opened}
+use Rattle.operator_machine.specs.State.{opened, operator}
 use Rattle.operator_machine.specs.Machine.{own_run}
 use Rattle.map_assembly.specs.Gathering.{front_or}
 use Rattle.map_assembly.specs.Tiled.{own_part}
@@ -17,7 +17,7 @@ use Rattle.plant_runs.specs.TwoWorlds.{NoticeTheSame}
 use Rattle.plant_runs.proofs.SharingOut.{shared_out}
 
 alone_same : (p q : ConstsFields) (row : RowFields) (i j : ℕ) (s t : List Step) → p ≡ q → own_steps row i s ≡ own_steps row j t → (alone p row i s).outputs ≡ (alone q row j t).outputs
-alone_same p q row i j s t e f = λ k. (own_run (e k) row (opened (e k) row) (f k)).outputs
+alone_same p q row i j s t e f = λ k. (own_run (operator (e k) row (opened (e k) row)) (f k)).outputs
 
 one_part : (a b : ElementsFields) (xs ys : List ElementsFields) → xs ≡ a ∷ [] → ys ≡ b ∷ [] → xs ≡ ys → a ≡ b
 one_part a b xs ys e f same = ap (front_or a) (sym e ∙ (same ∙ f))

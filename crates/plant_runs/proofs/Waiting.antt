@@ -11,6 +11,7 @@ use Rattle.slice_table.specs.declared.plant.PlantFields.{PlantFields}
 use Rattle.operator_machine.specs.declared.action.SliceRow.{SliceRow}
 use Rattle.operator_machine.specs.declared.action.Action.{Action}
 use Rattle.operator_machine.specs.declared.output.Output.{Output}
+use Rattle.operator_machine.specs.State.{operator}
 use Rattle.operator_machine.specs.Machine.{own_step}
 use Rattle.map_assembly.specs.declared.slicing.Reslicing.{Reslicing}
 use Rattle.map_assembly.specs.Gathering.{Gathering}
@@ -34,7 +35,7 @@ EachWaits old new now = (i : ℕ) (waiting made : List Numbered) → slice_get o
 
 module _ (k : ℕ) (action : Action) (old new : CoreView) (now : List Out) (acts : Acts k action old new now) where
   abbrev outputs : List Output
-  outputs = (own_step acts.book.consts acts.book.row acts.book.state action).outputs
+  outputs = (own_step (operator acts.book.consts acts.book.row acts.book.state) action).outputs
 
   pub acts_waits : EachWaits old new now
   acts_waits i waiting made e f = by (cases_eq i k)

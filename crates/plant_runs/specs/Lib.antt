@@ -3,6 +3,7 @@ pub mod Shown
 pub mod Ordered
 pub mod Reached
 pub mod TwoWorlds
+pub mod TwoCores
 pub mod Steps
 pub mod Opened
 pub mod Run

@@ -5,6 +5,7 @@ use Rattle.slice_table.specs.declared.plant.PlantFields.{PlantFields}
 use Rattle.slice_table.specs.Roster.{holder}
 use Rattle.operator_machine.specs.declared.action.Action.{Action}
 use Rattle.operator_machine.specs.declared.action.Action.TheVariants as actions
+use Rattle.operator_machine.specs.State.{operator}
 use Rattle.operator_machine.specs.Machine.{own_step}
 use Rattle.plant_runs.specs.declared.step.Step.{Step}
 use Rattle.plant_runs.specs.declared.step.Step.TheVariants as steps
@@ -29,7 +30,7 @@ target plant (steps.Reslice from rows) = None
 pub record AreOwn (plant : PlantFields) (before : List Step) (i : ℕ) (action : Action) (now : List Out) : Type 0 where
   pub row : RowFields
   pub row_is : slice_get plant.rows i ≡ Some row
-  pub outputs : now ≡ under i (own_step plant.consts row (alone plant.consts row i before).state action).outputs
+  pub outputs : now ≡ under i (own_step (operator plant.consts row (alone plant.consts row i before).state) action).outputs
 
 -- a collection gives the MAP where it raises the least number of collections of all operators, else nothing
 abbrev pub IsCollected : PlantFields → List Step → List Step → List Out → Type 0

@@ -7,7 +7,7 @@ use Rattle.slice_table.specs.declared.operator_row.RowFields.{RowFields}
 use Rattle.slice_table.specs.declared.plant.PlantFields.{PlantFields}
 use Rattle.operator_machine.specs.declared.output.Output.{Output}
 use Rattle.operator_machine.specs.declared.output.Output.TheVariants.{Reply, Silent, Frame}
-use Rattle.operator_machine.specs.State.{opened}
+use Rattle.operator_machine.specs.State.{opened, operator}
 use Rattle.operator_machine.specs.Handle.{Ran}
 use Rattle.operator_machine.specs.Machine.{own_run}
 use Rattle.map_assembly.specs.declared.map_bytes.MapBytes.{MapBytes}
@@ -16,11 +16,12 @@ use Rattle.map_assembly.specs.Part.{share_of}
 use Rattle.map_assembly.specs.Assembled.{IsMapOf}
 use Rattle.plant_runs.specs.declared.step.Step.{Step}
 use Rattle.plant_runs.specs.declared.step.Out.{Out}
+use Rattle.plant_runs.specs.declared.step.Out.TheVariants as out
 use Rattle.plant_runs.specs.OwnSteps.{own_steps, answers_of, maps_in, collects_of}
 
 -- the operator's own machine, run alone on its own steps
 abbrev pub alone : ConstsFields → RowFields → ℕ → List Step → Ran
-alone consts row i steps = own_run consts row (opened consts row) (own_steps row i steps)
+alone consts row i steps = own_run (operator consts row (opened consts row)) (own_steps row i steps)
 
 -- ---- frames
 
@@ -59,7 +60,14 @@ pub record AreMaps (plant : PlantFields) (steps : List Step) (made : List MapByt
   pub count : IsLeast plant steps (length made)
   pub each : All (IsMapIn plant steps) made
 
--- to each operator its answers are those of its own machine run alone, and the MAPs are of these machines' frames
+-- an output stands under one of so many operators, or is a MAP
+abbrev pub IsUnder : ℕ → Out → Type 0
+IsUnder count (out.Of op output) = op < count
+IsUnder count (out.Map made) = Unit {0}
+
+-- to each operator its answers are those of its own machine run alone, and the MAPs are of these machines' frames; nothing
+-- stands under anybody else
 pub record Shown (plant : PlantFields) (steps : List Step) (outs : List Out) : Type 0 where
   pub answers : (i : ℕ) (row : RowFields) → slice_get plant.rows i ≡ Some row → answers_of i outs ≡ (alone plant.consts row i steps).outputs
   pub maps : AreMaps plant steps (maps_in outs)
+  pub under_plant : All (IsUnder (length plant.rows)) outs

@@ -6,6 +6,7 @@ use Rattle.slice_table.specs.Roster.{holder}
 use Rattle.operator_machine.specs.declared.action.SliceRow.{SliceRow}
 use Rattle.operator_machine.specs.declared.action.Action.{Action}
 use Rattle.operator_machine.specs.declared.action.Action.TheVariants as actions
+use Rattle.operator_machine.specs.State.{operator}
 use Rattle.operator_machine.specs.Machine.{own_step, unfit_from, IsAllowed}
 use Rattle.operator_machine.specs.Replay.{BookView, acted}
 use Rattle.map_assembly.specs.declared.map_bytes.MapBytes.{MapBytes}
@@ -24,12 +25,12 @@ pub record Acts (i : ℕ) (action : Action) (old new : CoreView) (now : List Out
   pub waiting : List (ℕ × ElementsFields)
   pub book_is : slice_get old.books i ≡ Some book
   pub waiting_is : slice_get old.queues i ≡ Some waiting
-  pub allowed : IsAllowed book.consts book.row book.state action
+  pub allowed : IsAllowed (operator book.consts book.row book.state) action
   pub new_is : new ≡ record old {
     books = slice_set old.books i (acted book action);
-    queues = slice_set old.queues i (waiting ++ frames_of (own_step book.consts book.row book.state action).outputs);
+    queues = slice_set old.queues i (waiting ++ frames_of (own_step (operator book.consts book.row book.state) action).outputs);
   }
-  pub now_is : now ≡ under i (own_step book.consts book.row book.state action).outputs
+  pub now_is : now ≡ under i (own_step (operator book.consts book.row book.state) action).outputs
 
 abbrev pub told_map : Option MapBytes → List Out
 told_map None = []

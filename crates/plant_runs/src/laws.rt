@@ -22,11 +22,23 @@ ghost use Rattle.plant_runs.specs.Opened.{opened_core};
 ghost use Rattle.plant_runs.specs.Run.{IsRun};
 ghost use Rattle.plant_runs.specs.Steps.{Steps};
 ghost use Rattle.plant_runs.specs.TwoWorlds.{TwoWorlds};
+ghost use Rattle.plant_runs.specs.TwoCores.{TwoCores, AnswerAlike};
 
 /// No operator notices what another's modems send: for any two runs of plants that agree on an operator's provisioning and on
 /// its own steps, its answers and its parts of the MAPs are equal.
 pub fn two_worlds()
     ensures { TwoWorlds }
+{}
+
+/// The headline at cores: of two cores, each after its steps, which agree on an operator's provisioning and own steps, the
+/// operator's answers and its parts of the MAPs are equal, and are those of its own machine run alone.
+pub fn two_cores()
+    ensures { TwoCores }
+{}
+
+/// Two operators whose books agree answer an action alike, whatever else stands in their cores.
+pub fn equal_books_answer_alike()
+    ensures { AnswerAlike }
 {}
 
 /// Whatever the bytes of a MAP of a run say, each minislot of the frame is in exactly one span, and each operator's part is the

@@ -6,7 +6,7 @@ mod laws;
 mod step;
 
 pub use laws::{
-    maps_are_shared_out, opened_is_reached, run_is_reached, slices_that_books_take_fit,
-    step_is_reached, two_worlds, waiting_frames_fit,
+    equal_books_answer_alike, maps_are_shared_out, opened_is_reached, run_is_reached,
+    slices_that_books_take_fit, step_is_reached, two_cores, two_worlds, waiting_frames_fit,
 };
 pub use step::{Out, SliceRows, Step};

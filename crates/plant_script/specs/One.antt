@@ -12,7 +12,7 @@ use Rattle.operator_machine.specs.declared.output.Cause.{Cause}
 use Rattle.operator_machine.specs.declared.output.Cause.TheVariants.{InboxFull, Idle, Empty, NotOurs, Short, TidInUse, UnknownAck, NoSuchSid, NotRequesting}
 use Rattle.operator_machine.specs.declared.output.Output.{Output}
 use Rattle.operator_machine.specs.declared.output.Output.TheVariants.{Reply, Silent, Frame}
-use Rattle.operator_machine.specs.State.{opened}
+use Rattle.operator_machine.specs.State.{opened, operator}
 use Rattle.operator_machine.specs.Machine.{own_run}
 use Rattle.plant_script.specs.Lines.{lines_of}
 use Rattle.plant_script.specs.OperatorA.{first_modem, row_a, consts_a}
@@ -46,7 +46,7 @@ abbrev pub actions_of : List (List ℕ) → List Action
 actions_of messages = flat_map (λ message. Arrive first_modem (heards.Message message) ∷ Work ∷ []) messages
 
 abbrev pub outputs_of : List (List ℕ) → List Output
-outputs_of messages = (own_run consts_a row_a (opened consts_a row_a) (actions_of messages)).outputs
+outputs_of messages = (own_run (operator consts_a row_a (opened consts_a row_a)) (actions_of messages)).outputs
 
 -- ---- outputs to text
 

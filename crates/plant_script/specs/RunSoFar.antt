@@ -1,5 +1,6 @@
 -- What was handled so far.
 use Rattle.std.specs.Prelude.{◌≡◌, ℕ, List, ◌++◌, drop}
+use Rattle.operator_machine.specs.State.{operator}
 use Rattle.operator_machine.specs.Machine.{own_run}
 use Rattle.operator_machine.specs.Replay.{BookView}
 use Rattle.plant_script.specs.OperatorA.{row_a, consts_a}
@@ -9,4 +10,4 @@ use Rattle.plant_script.specs.View.{IsOfA}
 -- the book is operator A's, and its run of the messages from the place on ends the text
 pub record IsRunSoFar (messages : List (List ℕ)) (book : BookView) (text : List ℕ) (place : ℕ) : Type 0 where
   pub of_a : IsOfA book
-  pub goes_on : text ++ text_of (own_run consts_a row_a book.state (actions_of (drop place messages))).outputs ≡ text_of (outputs_of messages)
+  pub goes_on : text ++ text_of (own_run (operator consts_a row_a book.state) (actions_of (drop place messages))).outputs ≡ text_of (outputs_of messages)

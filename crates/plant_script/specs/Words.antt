@@ -18,6 +18,12 @@ use Rattle.plant_script.specs.Check.{plant_text, script_text, answer_to_steps, a
 use Rattle.plant_script.specs.Script.{is_named, steps_of}
 use Rattle.plant_script.specs.Run.{outs_text, history_text, IsRunOf}
 
+-- ---- no answer
+
+-- what is written where memory is wanting
+abbrev pub memory_line : List ℕ
+memory_line = codes "fault: memory" ++ 10 ∷ []
+
 -- ---- words that give no order
 
 -- wrong words are told as such, with status 2, and help with 0; want of memory has no status but 5

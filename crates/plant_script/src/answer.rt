@@ -1,8 +1,12 @@
 //! What the program answers.
 
-/// What the program answers: its exit status, and what it writes.
+ghost use Rattle.std.specs.Prelude.{◌≤◌};
+
+/// What the program answers to what it has read: its exit status, 0 to 4, and what it writes. Statuses 5 and 6 are no answers:
+/// they tell that there is none.
 #[derive(Drop)]
 pub struct Answer {
     pub status: u8,
     pub text: Vec<u8>,
+    ghost answered: { status ≤ 4 },
 }

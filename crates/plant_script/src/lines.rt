@@ -1,6 +1,6 @@
 //! The parts of bytes, and the messages in lines.
 
-ghost use Rattle.std.specs.Prelude.{◌≡◌, ◌≤◌, length, take, drop, map, IfOk};
+ghost use Rattle.std.specs.Prelude.{◌≡◌, ◌≤◌, length, take, drop, map, IfOk, OnOk};
 ghost use Rattle.plant_script.specs.Lines.{parts_of};
 ghost use Rattle.plant_script.specs.One.{message_in, messages_of};
 ghost use Rattle.plant_script.specs.LineFault.{Gives};
@@ -51,6 +51,19 @@ pub fn parts_of(alloc: Global, mark: u8, input: &[u8]) -> Result<Vec<&[u8]>, All
     ensures { IfOk result (λ parts. map (λ part. part.now) parts.items ≡ parts_of mark input.now) }
 {
     let mut parts = Vec::new(alloc);
+    put_parts(mark, input, &mut parts)?;
+    Ok(parts)
+}
+
+/// The parts of bytes, in the place of those that are there.
+pub fn put_parts<'a>(
+    mark: u8,
+    input: &'a [u8],
+    parts: &mut Vec<&'a [u8]>,
+) -> Result<(), AllocError>
+    ensures { OnOk result (map (λ part. part.now) parts.new.items ≡ parts_of mark input.now) }
+{
+    parts.clear();
     let mut start = 0;
     for (place, byte) in input.iter().enumerate() {
         if *byte == mark {
@@ -59,7 +72,7 @@ pub fn parts_of(alloc: Global, mark: u8, input: &[u8]) -> Result<Vec<&[u8]>, All
         }
     }
     parts.push(part(input, start, input.len()))?;
-    Ok(parts)
+    Ok(())
 }
 
 /// The message in a line that is not empty; none where it is no message.

@@ -1,6 +1,7 @@
 //! The word `one`: messages to outputs, outputs to text.
 
 ghost use Rattle.std.specs.Prelude.{◌≡◌, ◌++◌, [], ◌∷◌, IfOk, OnOk};
+ghost use Rattle.operator_machine.specs.State.{operator};
 ghost use Rattle.operator_machine.specs.Machine.{own_step, own_run, IsAllowed};
 ghost use Rattle.plant_script.specs.OperatorA.{row_a, consts_a};
 ghost use Rattle.plant_script.specs.One.{actions_of, outputs_of, name_of, line_of, text_of};
@@ -71,10 +72,10 @@ fn put_action(
     action: Action,
 ) -> Result<(), AllocError>
     requires of_a { IsOfA (view_of book.old) }
-    requires allowed { IsAllowed consts_a row_a (view_of book.old).state action }
+    requires allowed { IsAllowed (operator consts_a row_a (view_of book.old).state) action }
     ensures of_a { OnOk result (IsOfA (view_of book.new)) }
-    ensures state { OnOk result ((view_of book.new).state ≡ (own_step consts_a row_a (view_of book.old).state action).state) }
-    ensures text { OnOk result (text.new.items ≡ text.old.items ++ text_of (own_step consts_a row_a (view_of book.old).state action).outputs) }
+    ensures state { OnOk result ((view_of book.new).state ≡ (own_step (operator consts_a row_a (view_of book.old).state) action).state) }
+    ensures text { OnOk result (text.new.items ≡ text.old.items ++ text_of (own_step (operator consts_a row_a (view_of book.old).state) action).outputs) }
 {
     match book.act(alloc, action) {
         Ok(outputs) => put_lines(alloc, text, outputs.as_slice()),
@@ -94,8 +95,8 @@ fn put_message(
 ) -> Result<(), AllocError>
     requires { IsOfA (view_of book.old) }
     ensures of_a { OnOk result (IsOfA (view_of book.new)) }
-    ensures state { OnOk result ((view_of book.new).state ≡ (own_run consts_a row_a (view_of book.old).state (actions_of (message.now ∷ []))).state) }
-    ensures text { OnOk result (text.new.items ≡ text.old.items ++ text_of (own_run consts_a row_a (view_of book.old).state (actions_of (message.now ∷ []))).outputs) }
+    ensures state { OnOk result ((view_of book.new).state ≡ (own_run (operator consts_a row_a (view_of book.old).state) (actions_of (message.now ∷ []))).state) }
+    ensures text { OnOk result (text.new.items ≡ text.old.items ++ text_of (own_run (operator consts_a row_a (view_of book.old).state) (actions_of (message.now ∷ []))).outputs) }
 {
     let heard = Heard::Message(message.copy(alloc)?);
     let modem = first_modem();

@@ -6,7 +6,7 @@ ghost use Rattle.std.specs.Io.KnownBytes.{Appends};
 ghost use Rattle.plant_script.specs.Task.{Comes};
 ghost use Rattle.plant_words.specs.Order.{Order, order_of};
 ghost use Rattle.plant_words.specs.CommandLine.{Names, AsksHelp, AreWrong};
-ghost use Rattle.plant_script.specs.Words.{AnswersFault, Answers};
+ghost use Rattle.plant_script.specs.Words.{memory_line, AnswersFault, Answers};
 ghost use Rattle.plant_script.specs.One.{answer_of, is_readable};
 
 use crate::answer::Answer;
@@ -71,7 +71,8 @@ fn serve<R: Read>(alloc: Global, word: Word<'_>, reader: &mut R) -> Result<Serve
 
 /// Writes why there is no answer.
 fn stopped<W: Write>(writer: &mut W, stop: Stop) -> u8
-    ensures { (result ≢ 5) → (result ≢ 6) → ⊥ }
+    ensures memory { stop ≡ Stop.Memory → result ≢ 6 → (result ≡ 5) × Appends (W.contents writer.old) (W.contents writer.new) memory_line }
+    ensures io { stop ≡ Stop.Io → result ≡ 6 }
 {
     match stop {
         Stop::Memory => finish(writer, 5, b"fault: memory\n"),
@@ -81,7 +82,8 @@ fn stopped<W: Write>(writer: &mut W, stop: Stop) -> u8
 
 /// Answers words that give no order.
 fn answer_to_words<W: Write>(writer: &mut W, fault: WordsFault) -> u8
-    ensures { result ≢ 5 → result ≢ 6 → AnswersFault fault result (λ text. Appends (W.contents writer.old) (W.contents writer.new) text) }
+    ensures answered { result ≢ 5 → result ≢ 6 → AnswersFault fault result (λ text. Appends (W.contents writer.old) (W.contents writer.new) text) }
+    ensures memory { result ≡ 5 → Appends (W.contents writer.old) (W.contents writer.new) memory_line }
 {
     match fault {
         WordsFault::Help { text } => finish(writer, 0, text.as_bytes()),
@@ -106,12 +108,17 @@ pub fn run_program<'a, R: Read, W: Write>(
     // What is written answers what is read.
     ensures served { (order : Order) → Names (texts words.entry.now) order → result ≢ 5 → result ≢ 6 → IfSome (R.remaining reader.old) (λ input.
         (text : List ℕ) × Answers order input result text × Appends (W.contents writer.old) (W.contents writer.new) text) }
-    // Other words are a fault, and nothing is read.
+    // Other words are a fault.
     ensures refused { AreWrong (texts words.entry.now) → result ≢ 5 → result ≢ 6 →
         (result ≡ 2) × Appends (W.contents writer.old) (W.contents writer.new) (codes "fault: words" ++ 10 ∷ []) }
     // Help is told where it is asked for.
     ensures helped { AsksHelp (texts words.entry.now) → result ≢ 5 → result ≢ 6 →
         (text : List ℕ) × (result ≡ 0) × Appends (W.contents writer.old) (W.contents writer.new) text }
+    // Nothing is read for words that are wrong or ask for help.
+    ensures unread_if_wrong { AreWrong (texts words.entry.now) → reader.new ≡ reader.old }
+    ensures unread_for_help { AsksHelp (texts words.entry.now) → reader.new ≡ reader.old }
+    // Want of memory is told as such, and nothing else is.
+    ensures memory { result ≡ 5 → Appends (W.contents writer.old) (W.contents writer.new) memory_line }
 {
     let word = match read_words(alloc, words) {
         Ok(word) => word,

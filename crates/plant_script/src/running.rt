@@ -40,9 +40,10 @@ fn run_outs(
     requires empty { string_bytes text.old ≡ [] }
     ensures { IfOk result (λ refused. HasRun (core_view core.old).plant lines.items (outs_text (core_view core.old).plant) refused (core_view core.new) (string_bytes text.new)) }
 {
+    let mut outs = Vec::new(alloc);
     for LineStep { number, step } in lines {
-        match core.step(alloc, step) {
-            Ok(outs) => put_outs(alloc, text, core.plant(), outs.as_slice())?,
+        match core.step_over(alloc, step, &mut outs) {
+            Ok(()) => put_outs(alloc, text, core.plant(), outs.as_slice())?,
             Err(fault) => return refused(number, fault),
         }
     }

@@ -8,7 +8,7 @@ ghost use Rattle.plant_script.specs.Script.{sender_in, is_named, operator_in, he
 ghost use Rattle.plant_script.specs.StepsSoFar.{GivesSteps};
 
 use crate::fields::{FieldFault, bytes_in, number_in, short_in, three_of, two_of};
-use crate::lines::{LineFault, parts_of};
+use crate::lines::{LineFault, parts_of, put_parts};
 use dsx_messages::Modem;
 use hex::FromHex;
 use operator_book::{Heard, SliceRow};
@@ -254,11 +254,12 @@ fn put_fields(
 
 /// The steps of a line; an empty one says nothing.
 #[tactic(auto, unfolding(crate::specs::Script::line_steps))]
-fn put_line(
+fn put_line<'a>(
     alloc: Global,
     plant: &Plant,
     number: u64,
-    line: &[u8],
+    line: &'a [u8],
+    fields: &mut Vec<&'a [u8]>,
     steps: &mut Vec<LineStep>,
 ) -> Result<(), FieldFault>
     ensures { Gives (λ _. steps.new.items) result (behind steps.old.items (line_steps plant.now number line.now)) }
@@ -266,7 +267,7 @@ fn put_line(
     if line.is_empty() {
         return Ok(());
     }
-    let fields = parts_of(alloc, b' ', line)?;
+    put_parts(b' ', line, fields)?;
     put_fields(alloc, plant, number, fields.as_slice(), steps)
 }
 
@@ -275,9 +276,10 @@ fn steps_of_lines(alloc: Global, plant: &Plant, lines: &[&[u8]]) -> Result<Vec<L
     ensures { GivesSteps result (steps_after plant.now 1 [] (map (λ line. line.now) lines.now)) }
 {
     let mut steps = Vec::new(alloc);
+    let mut fields = Vec::new(alloc);
     let mut number = 1u64;
     for line in lines {
-        match put_line(alloc, plant, number, line, &mut steps) {
+        match put_line(alloc, plant, number, line, &mut fields, &mut steps) {
             Ok(()) => {}
             Err(FieldFault::Shape) => return Err(LineFault::Shape { number }),
             Err(FieldFault::NoMemory) => return Err(LineFault::NoMemory),

@@ -73,7 +73,7 @@ pub(crate) fn claims(
     ensures items { IfOk result (λ claims. claims.items ≡ claims_of ranking.now.policy at.now flows.now) }
     ensures sound { IfOk result (λ claims. All IsClaim claims.items) }
 {
-    let mut claims = Vec::new(alloc);
+    let mut claims = Vec::with_capacity(alloc, flows.len())?;
     for flow in flows {
         claims.push(claim(flow, at, ranking))?;
     }

@@ -46,7 +46,7 @@ pub(crate) fn pack(alloc: Global, slice: &Slice, pieces: &[Piece]) -> Result<Vec
 {
     let end = slice.get_start() + slice.get_length();
     let mut start = slice.get_start();
-    let mut spans = Vec::new(alloc);
+    let mut spans = Vec::with_capacity(alloc, pieces.len().saturating_add(1))?;
     for piece in pieces {
         spans.push(Span {
             sid: piece.sid,

@@ -22,22 +22,26 @@ use std::alloc::{AllocError, Global};
 fn pending(alloc: Global, awards: &[Award]) -> Result<Vec<u16>, AllocError>
     ensures { IfOk result (λ sids. sids.items ≡ map (λ a. a.sid) (filter (λ a. nat_lt a.grant a.backlog) awards.now)) }
 {
-    awards
-        .iter()
-        .filter(|award| award.grant < award.backlog)
-        .map(|award| award.sid)
-        .collect(alloc)
+    let mut sids = Vec::with_capacity(alloc, awards.len())?;
+    for award in awards {
+        if award.grant < award.backlog {
+            sids.push(award.sid)?;
+        }
+    }
+    Ok(sids)
 }
 
 /// The SFID and the minislots of each award that is more than none.
 fn granted(alloc: Global, awards: &[Award]) -> Result<Vec<(u32, u16)>, AllocError>
     ensures { IfOk result (λ grants. grants.items ≡ map (λ a. (a.sfid, a.grant)) (filter (λ a. nat_lt 0 a.grant) awards.now)) }
 {
-    awards
-        .iter()
-        .filter(|award| 0 < award.grant)
-        .map(|award| (award.sfid, award.grant))
-        .collect(alloc)
+    let mut grants = Vec::with_capacity(alloc, awards.len())?;
+    for award in awards {
+        if 0 < award.grant {
+            grants.push((award.sfid, award.grant))?;
+        }
+    }
+    Ok(grants)
 }
 
 /// Who is granted which minislots of a slice in a frame (CM-SP-MULPIv3.1, 7.2: the order and the sums are own).

@@ -16,8 +16,6 @@ mod read_consts;
 mod read_rows;
 mod reading;
 mod roster;
-#[cfg(test)]
-mod tests;
 mod tree;
 
 pub use class_table::{Class, Classes};

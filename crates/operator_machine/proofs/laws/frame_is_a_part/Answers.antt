@@ -4,7 +4,7 @@ use Rattle.operator_machine.proofs.laws.frame_is_a_part.Goals as goal
 
 pub returns : goal.returns
 returns c = record {
-  slice = λ consts row state. refl;
+  slice = λ op. refl;
   tiled = part_tiled;
   spans_mine = part_spans;
   pending_mine = part_pending;

@@ -3,6 +3,6 @@ use Rattle.operator_machine.proofs.laws.frames_have_no_gap.Goals as goal
 
 pub returns : goal.returns
 returns c = record {
-  numbers = λ consts row state actions. (run_puts consts row state actions).numbers;
-  next = λ consts row state actions. (run_puts consts row state actions).next;
+  numbers = λ op actions. (run_puts op.consts op.row op.state actions).numbers;
+  next = λ op actions. (run_puts op.consts op.row op.state actions).next;
 }

@@ -5,6 +5,6 @@ use Rattle.operator_machine.proofs.laws.repeat_changes_nothing.Goals as goal
 
 pub returns : goal.returns
 returns c = record {
-  state = λ consts row state modem kind tid v entry kept same small. ap (λ (ran : Ran). ran.state) (repeat_told consts row state modem kind tid v entry kept same small);
-  outputs = λ consts row state modem kind tid v entry kept same small. ap (λ (ran : Ran). ran.outputs) (repeat_told consts row state modem kind tid v entry kept same small);
+  state = λ op modem kind tid v entry kept same small. ap (λ (ran : Ran). ran.state) (repeat_told op modem kind tid v entry kept same small);
+  outputs = λ op modem kind tid v entry kept same small. ap (λ (ran : Ran). ran.outputs) (repeat_told op modem kind tid v entry kept same small);
 }

@@ -1,5 +1,6 @@
-use Rattle.std.proofs.Common.{◌≡◌}
+use Rattle.std.proofs.Common.{◌≡◌, Ok, subst}
 use Rattle.plant_words.specs.Order.{order_of}
+use Rattle.plant_words.specs.CommandLine.{GivesHelp}
 use Rattle.plant_script.proofs.Tasks.{same_order, run_serves}
 use Rattle.plant_script.proofs.program.run_program.Goals as goal
 
@@ -12,3 +13,12 @@ returns-in-Ok-answer_of_task-clause-served g c = λ order named well served.
     let appended = rw (c.loop-row.invariant.writer, c.as_slice-in-Ok-answer_of_task.ensures.value) at told.1 in
     run_serves (g.R.Read.remaining c.args.reader.now) (order_of c.in-Ok.word) order c.in-Ok-Task.task answer.status done.result answer.text.items (g.W.Write.contents c.args.writer.now) (g.W.Write.contents done.new.writer)
     (rw c.in-Ok-Task.field-0-is at c.in-Ok-Task.ensures) same c.in-Ok-answer_of_task.ensures told.0 appended
+
+-- words that give an order ask for no help
+pub returns-in_default-clause-unread_for_help : goal.returns-in_default-clause-unread_for_help
+returns-in_default-clause-unread_for_help g c = λ asks.
+    let given : GivesHelp (Ok c.in-Ok.word) = subst GivesHelp c.in-Ok.is (c.read_words.ensures.help asks) in absurd given
+
+pub returns-then-is_err-clause-unread_for_help : goal.returns-then-is_err-clause-unread_for_help
+returns-then-is_err-clause-unread_for_help g c = λ asks.
+    let given : GivesHelp (Ok c.in-Ok.word) = subst GivesHelp c.in-Ok.is (c.read_words.ensures.help asks) in absurd given

@@ -1,3 +1,4 @@
+use Rattle.operator_machine.specs.State.{operator}
 use Rattle.std.proofs.Common.{refl, sym, ap, subst, ◌∙◌}
 use Rattle.operator_machine.specs.Machine.{IsAllowed}
 use Rattle.operator_machine.specs.Replay.{BookView}
@@ -12,7 +13,7 @@ invariant_of-self-2 g c =
       valid = c.self.invariant.valid;
       some = c.self.invariant.some;
       replay = replay_push _ _ _ _ _ _ c.self.invariant.replay
-          (subst (λ (b : BookView). IsAllowed b.consts b.row b.state c.args.action) (sym (ap (λ (held : HeldBook). held.book) c.self.view_is)) c.requires.allowed)
+          (subst (λ (b : BookView). IsAllowed (operator b.consts b.row b.state) c.args.action) (sym (ap (λ (held : HeldBook). held.book) c.self.view_is)) c.requires.allowed)
           refl
           (c.from_vec.ensures ∙ (c.in_ok-both.both.same ∙ c.in_ok-both.ensures.outputs));
     }

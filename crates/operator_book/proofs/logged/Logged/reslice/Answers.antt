@@ -1,3 +1,4 @@
+use Rattle.operator_machine.specs.State.{operator}
 use Rattle.std.proofs.Common.{sym, ap, subst, ◌∙◌}
 use Rattle.operator_machine.specs.declared.action.Action.TheVariants as actions
 use Rattle.operator_machine.specs.Machine.{IsAllowed}
@@ -14,8 +15,8 @@ invariant_of-self c =
       valid = c.self.invariant.valid;
       some = c.self.invariant.some;
       replay = replay_push _ _ _ _ _ _ c.self.invariant.replay
-          (subst (λ (b : BookView). IsAllowed b.consts b.row b.state (actions.Reslice c.args.from c.args.row)) (sym (ap (λ (held : HeldBook). held.book) c.self.view_is))
-          (reslice_allowed c.args.self.now.book.consts c.args.self.now.book.row c.args.self.now.book.state c.args.from c.args.row c.requires.fit))
-          (ap (λ (r : Ran). r.state) (sym (resliced_is c.self.inside.machine.consts c.self.inside.machine.row c.self.inside.machine.state c.args.from c.args.row)))
-          (c.from_vec.ensures ∙ (c.new.ensures.items ∙ ap (λ (r : Ran). r.outputs) (sym (resliced_is c.self.inside.machine.consts c.self.inside.machine.row c.self.inside.machine.state c.args.from c.args.row))));
+          (subst (λ (b : BookView). IsAllowed (operator b.consts b.row b.state) (actions.Reslice c.args.from c.args.row)) (sym (ap (λ (held : HeldBook). held.book) c.self.view_is))
+          (reslice_allowed (operator c.args.self.now.book.consts c.args.self.now.book.row c.args.self.now.book.state) c.args.from c.args.row c.requires.fit))
+          (ap (λ (r : Ran). r.state) (sym (resliced_is c.self.inside.machine c.args.from c.args.row)))
+          (c.from_vec.ensures ∙ (c.new.ensures.items ∙ ap (λ (r : Ran). r.outputs) (sym (resliced_is c.self.inside.machine c.args.from c.args.row))));
     }

@@ -1,10 +1,10 @@
+use Rattle.operator_machine.specs.State.{Operator}
 use Rattle.std.proofs.Common.{ℕ, ◌+◌, List, drop, ap, sym, ◌∙◌}
 use Rattle.std.proofs.lemmas.List.{at_drop_more}
 use Rattle.operator_machine.specs.Frame.{all_granted}
-use Rattle.operator_book.specs.Held.{MachineView}
 use Rattle.operator_book.proofs.machine.Machine.grant_all.Goals as goal
 
-abbrev after : ℕ → List (ℕ × ℕ) → MachineView → MachineView
+abbrev after : ℕ → List (ℕ × ℕ) → Operator → Operator
 after frame grants m = record m { state = record m.state { flows = all_granted frame grants m.state.flows } }
 
 pub loop-granted-preserved : goal.loop-granted-preserved

@@ -9,13 +9,13 @@ pub schedule-requires-clause-past : goal.schedule-requires-clause-past
 schedule-requires-clause-past g c =
     let flows : c.as_slice.result.now ≡ flowing_in c.args.self.now.state.flows = search rules in
     let frame : c.self.inside.frame ≡ c.args.self.now.state.frame = search rules in
-    rw (flows, frame) (c.schedule_can_serve.ensures.past c.args.self.now.consts c.args.self.now.row c.args.self.now.state c.requires.sound)
+    rw (flows, frame) (c.schedule_can_serve.ensures.past c.args.self.now c.requires.sound)
 
 pub returns-clause-elements : goal.returns-clause-elements
 returns-clause-elements g c =
     let here : At = record { slice = c.self.inside.share.slice; frame = c.self.inside.frame; short_max = c.get_fields-consts.result.now.short_max; units = c.get_fields-consts.result.now.units } in
     let flows : c.as_slice.result.now ≡ flowing_in c.args.self.now.state.flows = search rules in
-    let left : flowing_in (flows_left c.args.self.now.state) ≡ flowing_in c.args.self.now.state.flows = c.given_up_have_no_grants.ensures c.args.self.now.consts c.args.self.now.row c.args.self.now.state c.requires.sound in
+    let left : flowing_in (flows_left c.args.self.now.state) ≡ flowing_in c.args.self.now.state.flows = c.given_up_have_no_grants.ensures c.args.self.now c.requires.sound in
     let at : here ≡ at_frame c.args.self.now.consts c.args.self.now.state = search rules in
     c.in_ok-served.ensures.elements ∙ same_elements c.args.ranking.now.policy c.args.self.now.row.policy here (at_frame c.args.self.now.consts c.args.self.now.state) c.as_slice.result.now (flowing_in (flows_left c.args.self.now.state)) c.requires.policy at (flows ∙ sym left)
 
@@ -23,6 +23,6 @@ pub returns-clause-granted : goal.returns-clause-granted
 returns-clause-granted g c =
     let here : At = record { slice = c.self.inside.share.slice; frame = c.self.inside.frame; short_max = c.get_fields-consts.result.now.short_max; units = c.get_fields-consts.result.now.units } in
     let flows : c.as_slice.result.now ≡ flowing_in c.args.self.now.state.flows = search rules in
-    let left : flowing_in (flows_left c.args.self.now.state) ≡ flowing_in c.args.self.now.state.flows = c.given_up_have_no_grants.ensures c.args.self.now.consts c.args.self.now.row c.args.self.now.state c.requires.sound in
+    let left : flowing_in (flows_left c.args.self.now.state) ≡ flowing_in c.args.self.now.state.flows = c.given_up_have_no_grants.ensures c.args.self.now c.requires.sound in
     let at : here ≡ at_frame c.args.self.now.consts c.args.self.now.state = search rules in
     c.in_ok-served.ensures.granted ∙ same_grants c.args.ranking.now.policy c.args.self.now.row.policy here (at_frame c.args.self.now.consts c.args.self.now.state) c.as_slice.result.now (flowing_in (flows_left c.args.self.now.state)) c.requires.policy at (flows ∙ sym left)

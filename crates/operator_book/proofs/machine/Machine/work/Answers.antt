@@ -1,24 +1,35 @@
-use Rattle.std.proofs.Common.{rules, refl, ap, ◌∙◌}
-use Rattle.std.specs.Prelude.{drop, length}
+use Rattle.operator_machine.specs.State.{Operator}
+use Rattle.std.proofs.Common.{◌≡◌, rules, refl, ap, ◌∙◌}
+use Rattle.std.specs.Prelude.{Some, drop, length, slice_get}
 use Rattle.std.proofs.lemmas.Option.{slice_get_read}
 use Rattle.dsx_messages.specs.Reading.{message_of}
 use Rattle.operator_machine.specs.declared.heard.Heard.TheVariants as heards
-use Rattle.operator_machine.specs.State.{OperatorState}
-use Rattle.operator_book.specs.Held.{MachineView}
+use Rattle.operator_machine.specs.Handle.{Ran}
+use Rattle.operator_book.specs.Held.{with_state}
 use Rattle.operator_book.proofs.Inbox.{worked_is}
 use Rattle.operator_book.proofs.machine.Machine.work.Goals as goal
 
-abbrev without_first : MachineView → MachineView
+abbrev without_first : Operator → Operator
 without_first m = record m { state = record m.state { inbox = drop 1 m.state.inbox } }
 
-pub returns-in_ok-both-in-Message-clause-state : goal.returns-in_ok-both-in-Message-clause-state
-returns-in_ok-both-in-Message-clause-state c =
-    c.take_first.ensures
-    ∙ ap without_first (c.in_ok-both-in-Message.ensures.state (message_of c.in-Message.bytes) (search rules))
-    ∙ ap (λ (s : OperatorState). record c.args.self.now { state = s }) (worked_is c.args.self.now.consts c.args.self.now.row c.args.self.now.state c.in-Some.first.now (heards.Message c.in-Message.bytes) (slice_get_read c.args.self.now.state.inbox (length c.args.self.now.state.inbox) 0 c.in-Some.first.now refl (search rules) (search rules)) (search rules))
+pub returns-in_ok-both-in-Message : goal.returns-in_ok-both-in-Message
+returns-in_ok-both-in-Message c =
+    let done = c.in_ok-both-in-Message.ensures.does (message_of c.in-Message.bytes) (search rules) in
+    let first : slice_get c.args.self.now.state.inbox 0 ≡ Some c.in-Some.first.now = slice_get_read c.args.self.now.state.inbox (length c.args.self.now.state.inbox) 0 c.in-Some.first.now refl (search rules) (search rules) in
+    let is = worked_is c.args.self.now c.in-Some.first.now (heards.Message c.in-Message.bytes) first (search rules) in
+    record {
+      state = c.take_first.ensures ∙ ap without_first done.state ∙ ap (with_state c.args.self.now) is;
+      outputs = done.outputs ∙ ap (λ (r : Ran). r.outputs) is;
+      err = tt;
+    }
 
-pub returns-in_ok-both-in-Request-clause-state : goal.returns-in_ok-both-in-Request-clause-state
-returns-in_ok-both-in-Request-clause-state c =
-    c.take_first-in-Request.ensures
-    ∙ ap without_first c.in_ok-both-in-Request.ensures.state
-    ∙ ap (λ (s : OperatorState). record c.args.self.now { state = s }) (worked_is c.args.self.now.consts c.args.self.now.row c.args.self.now.state c.in-Some.first.now (heards.Request c.in-Request.sid c.in-Request.minislots) (slice_get_read c.args.self.now.state.inbox (length c.args.self.now.state.inbox) 0 c.in-Some.first.now refl (search rules) (search rules)) (search rules))
+pub returns-in_ok-both-in-Request : goal.returns-in_ok-both-in-Request
+returns-in_ok-both-in-Request c =
+    let done = c.in_ok-both-in-Request.ensures in
+    let first : slice_get c.args.self.now.state.inbox 0 ≡ Some c.in-Some.first.now = slice_get_read c.args.self.now.state.inbox (length c.args.self.now.state.inbox) 0 c.in-Some.first.now refl (search rules) (search rules) in
+    let is = worked_is c.args.self.now c.in-Some.first.now (heards.Request c.in-Request.sid c.in-Request.minislots) first (search rules) in
+    record {
+      state = c.take_first-in-Request.ensures ∙ ap without_first done.state ∙ ap (with_state c.args.self.now) is;
+      outputs = done.outputs ∙ ap (λ (r : Ran). r.outputs) is;
+      err = tt;
+    }

@@ -1,0 +1,62 @@
+-- That a table stays one where a flow's backlog changes.
+use Rattle.std.proofs.Common.{◌≡◌, ℕ, true, false, cond, List, [], ◌∷◌, length, Option, Some, None, IsSome, IfSome, refl, sym, ap, ◌∙◌, subst, arith, inl, inr}
+use Rattle.std.specs.List.Sorted.{IsStrictlySortedBy}
+use Rattle.std.specs.declared.cmp.Ordering.TheVariants.{Less, Equal, Greater}
+use Rattle.std.specs.Ordering.{nat_cmp}
+use Rattle.std.specs.Map.{remove_entry, keys_of, lookup, set_value}
+use Rattle.std.specs.BTreeMap.{insert_entry, is_at}
+use Rattle.std.proofs.lemmas.Option.{none-some, same_Some}
+use Rattle.admission.specs.Ledger.{Committed}
+use Rattle.param_sets.specs.Units.{UnitSizes}
+use Rattle.flow_table.specs.declared.flow.Flow.{Flow}
+use Rattle.flow_table.specs.Flow.{committed_of}
+use Rattle.flow_table.specs.Table.{flow_at, sid_if, is_sid, with_flow}
+use Rattle.flow_table.specs.Index.{IsIndex, IsFlowTable, without_sid_of, rows_of}
+use Rattle.flow_table.specs.Moved.{moved_if, moved_at}
+use Rattle.flow_table.proofs.EntryLemmas.{written, put_same, length_put_there}
+use Rattle.flow_table.proofs.RowLemmas.{rows_put}
+use Rattle.flow_table.proofs.IndexLemmas.{index_changed, is_sid_yes}
+
+-- a flow that is written in place, where there is one
+pub moved_some : (flows : List (ℕ × Flow)) (sfid : ℕ) (change : Flow → Flow) (old : Flow) → IsStrictlySortedBy nat_cmp (keys_of flows) → flow_at sfid flows ≡ Some old
+    → set_value (is_at (nat_cmp sfid)) flows (change old) ≡ moved_at sfid change flows
+moved_some flows sfid change old s at =
+    written flows sfid (change old) s (subst IsSome (sym at) refl) ∙ sym (ap (moved_if sfid change flows) at)
+
+pub moved_none : (flows : List (ℕ × Flow)) (sfid : ℕ) (change : Flow → Flow) → flow_at sfid flows ≡ None → flows ≡ moved_at sfid change flows
+moved_none flows sfid change at = sym (ap (moved_if sfid change flows) at)
+
+-- the index without a SID that the flow has still
+same_index : (o : Option ℕ) (index : List (ℕ × ℕ)) → without_sid_of o o index ≡ index
+same_index None index = refl
+same_index (Some sid) index = ap (λ b. cond b index (remove_entry (is_at (nat_cmp sid)) index)) (is_sid_yes sid (Some sid) refl)
+
+still : (o : Option ℕ) (p : Option ℕ) → p ≡ o → IfSome o (λ sid. p ≡ Some sid)
+still None p e = tt
+still (Some sid) p e = e
+
+module _ {capacity : ℕ} {units : UnitSizes} {flows : List (ℕ × Flow)} {index : List (ℕ × ℕ)} {ledger : Committed} (kept : IsFlowTable capacity units flows index ledger) (sfid : ℕ) (change : Flow → Flow) where
+  some_moved : (old : Flow) → flow_at sfid flows ≡ Some old → (change old).sid ≡ old.sid → committed_of units (change old) ≡ committed_of units old
+      → IsFlowTable capacity units (with_flow sfid (change old) flows) index ledger
+  some_moved old at sid committed =
+      let had : sid_if (flow_at sfid flows) ≡ (change old).sid = ap sid_if at ∙ sym sid in
+      let there : IsSome (flow_at sfid flows) = subst IsSome (sym at) refl in
+      let rows : rows_of units (with_flow sfid (change old) flows) ≡ rows_of units flows =
+      sym (rows_put units flows sfid (change old)) ∙ (ap (λ b. insert_entry nat_cmp (rows_of units flows) sfid b) committed
+      ∙ (rows_put units flows sfid old ∙ ap (rows_of units) (put_same flows sfid old kept.indexed.ascending at))) in
+      record {
+        within = omega (arith, kept.within, length_put_there flows sfid (change old) kept.indexed.ascending there);
+        indexed = subst (λ (l : List (ℕ × ℕ)). IsIndex (with_flow sfid (change old) flows) l)
+            (ap (λ (o : Option ℕ). without_sid_of o (change old).sid index) had ∙ same_index (change old).sid index)
+            (index_changed kept.indexed sfid (change old) (still (change old).sid (sid_if (flow_at sfid flows)) had));
+        room = kept.room;
+        rows = kept.rows ∙ sym rows;
+      }
+
+  pub table_moved : ((f : Flow) → (change f).sid ≡ f.sid) → ((f : Flow) → committed_of units (change f) ≡ committed_of units f)
+      → IsFlowTable capacity units (moved_at sfid change flows) index ledger
+  table_moved sid committed = by (flow_at sfid flows) refl
+    where
+      by : (o : Option Flow) → flow_at sfid flows ≡ o → IsFlowTable capacity units (moved_if sfid change flows o) index ledger
+      by None at = kept
+      by (Some old) at = some_moved old at (sid old) (committed old)

@@ -1,0 +1,20 @@
+-- What a request and a grant make of the flows (own).
+use Rattle.std.specs.Prelude.{ℕ, Bool, List, Option, Some, None}
+use Rattle.dsx_messages.specs.declared.modem.Modem.{Modem}
+use Rattle.flow_table.specs.declared.flow.Flow.{Flow}
+use Rattle.flow_table.specs.declared.flow.Asker.{Asker}
+use Rattle.flow_table.specs.Flow.{asks_for_grants}
+use Rattle.flow_table.specs.Table.{flow_at, with_flow}
+
+-- the flow of an SFID is changed so, if there is one
+abbrev pub moved_if : ℕ → (Flow → Flow) → List (ℕ × Flow) → Option Flow → List (ℕ × Flow)
+moved_if sfid change flows None = flows
+moved_if sfid change flows (Some flow) = with_flow sfid (change flow) flows
+
+abbrev pub moved_at : ℕ → (Flow → Flow) → List (ℕ × Flow) → List (ℕ × Flow)
+moved_at sfid change flows = moved_if sfid change flows (flow_at sfid flows)
+
+-- whose the flow is that has a SID, and whether it may ask
+abbrev pub asker_of : Option (ℕ × Flow) → Option Asker
+asker_of None = None
+asker_of (Some entry) = Some (record { sfid = entry.0; modem = entry.1.modem; may_ask = asks_for_grants entry.1.sets.active })

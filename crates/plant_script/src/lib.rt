@@ -1,0 +1,21 @@
+//! The plant's program. Its words so far: `one` reads messages of a modem, a line each, and prints the answers of the
+//! modem's operator; `check` reads a plant file and a script, and says whether both are well; `run` does the script's steps
+//! on the plant, and prints all that they put out; `history OP` does so too, and prints what the operator OP did.
+#![tactic(auto)]
+
+mod answer;
+mod check;
+mod command;
+mod fields;
+mod input;
+mod lines;
+mod one;
+mod operator_a;
+mod program;
+mod running;
+mod script;
+mod task;
+mod text;
+
+pub use command::{behind_name, exit_code};
+pub use program::run_program;

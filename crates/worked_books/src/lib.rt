@@ -1,0 +1,5 @@
+//! Worked messages and frames of one operator's book, as tests alone: what it answers to them, as the profile's tables give it.
+#![tactic(auto)]
+
+#[cfg(test)]
+mod books;
