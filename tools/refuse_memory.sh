@@ -1,8 +1,8 @@
 #!/bin/bash
 # Refuses the built program its first, second, third .. request for memory, each in a run of its own, until a run meets no refusal.
 # Each run must either answer as the run that is refused nothing (a refused entry of the route cache, for one, changes no answer),
-# or answer status 5 and print `fault: memory` last, or nothing where the words themselves found no room. Prints how many runs
-# there were of each kind.
+# or answer status 5 and print `fault: memory` last, or nothing where the words themselves found no room. A run that has not ended
+# after 60 seconds is wrong. Prints how many runs there were of each kind.
 # Usage: tools/refuse_memory.sh PROGRAM INPUT WORD..   Needs bash and gcc.
 set -euo pipefail
 
@@ -12,10 +12,13 @@ work=$(mktemp -d)
 trap 'rm -rf "$work"' EXIT
 
 cat >"$work/refuse.c" <<'CODE'
-#define _GNU_SOURCE
-#include <dlfcn.h>
 #include <errno.h>
 #include <stdlib.h>
+#include <unistd.h>
+
+extern void *__libc_malloc(size_t);
+extern void *__libc_calloc(size_t, size_t);
+extern void *__libc_realloc(void *, size_t);
 
 static long left = -1;
 static int started = 0;
@@ -23,34 +26,27 @@ static int started = 0;
 __attribute__((constructor)) static void start(void) {
     const char *n = getenv("REFUSE_REQUEST");
     left = n ? atol(n) : -1;
+    alarm(60);
     started = 1;
 }
 
+/* Threads share the count, so that just one request is refused. */
 static int refused(void) {
-    if (!started || left <= 0) return 0;
-    if (--left > 0) return 0;
+    if (!started || __atomic_sub_fetch(&left, 1, __ATOMIC_SEQ_CST) != 0) return 0;
     errno = ENOMEM;
     return 1;
 }
 
-void *malloc(size_t size) {
-    static void *(*next)(size_t);
-    if (!next) next = dlsym(RTLD_NEXT, "malloc");
-    return refused() ? NULL : next(size);
-}
-
-void *realloc(void *old, size_t size) {
-    static void *(*next)(void *, size_t);
-    if (!next) next = dlsym(RTLD_NEXT, "realloc");
-    return refused() ? NULL : next(old, size);
-}
+void *malloc(size_t size) { return refused() ? NULL : __libc_malloc(size); }
+void *calloc(size_t count, size_t size) { return refused() ? NULL : __libc_calloc(count, size); }
+void *realloc(void *old, size_t size) { return refused() ? NULL : __libc_realloc(old, size); }
 
 __attribute__((destructor)) static void end(void) {
     const char *mark = getenv("REFUSE_MARK");
-    if (left > 0 && mark) { int s = system(mark); (void)s; }
+    if (left > 0 && mark) { started = 0; int s = system(mark); (void)s; }
 }
 CODE
-gcc -shared -fPIC -O1 -o "$work/refuse.so" "$work/refuse.c" -ldl
+gcc -shared -fPIC -O1 -o "$work/refuse.so" "$work/refuse.c"
 
 status=0
 "$program" "$@" <"$input" >"$work/right" || status=$?

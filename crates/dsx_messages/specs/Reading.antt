@@ -1,5 +1,5 @@
 -- Messages read from left to right, as functions on their bytes.
-use Rattle.std.specs.Prelude.{◌≡◌, ◌==◌, ℕ, ◌-◌, Bool, ◌||◌, List, [], ◌∷◌, ◌++◌, length, Option, Some, None, Result, Ok, Err, if◌then◌else◌}
+use Rattle.std.specs.Prelude.{◌≡◌, ◌≢◌, ◌==◌, ℕ, ◌-◌, Bool, ◌||◌, ◌⊎◌, List, [], ◌∷◌, ◌++◌, length, Option, Some, None, Result, Ok, Err, if◌then◌else◌}
 use Rattle.std.specs.Option.{option_map}
 use Rattle.std.specs.List.{find}
 use Rattle.tlv24.specs.declared.tlv.Tlv.{Tlv}
@@ -99,3 +99,19 @@ message_of (mtype ∷ body) =
     if mtype == 20 then ack_of Dsc body else
     if mtype == 21 then deletion_of body else
     Err (faults.NotOurs mtype)
+
+-- a whole list of TLVs of which none is left out and some are flow encodings (type 24)
+pub record HoldsFlows (list : List ℕ) : Type 0 where
+  pub whole : length (front_of list).rest ≡ 0
+  pub none_left_out : left_out_in (front_of list).tlvs ≡ None
+  pub some : values_of 24 (front_of list).tlvs ≢ []
+
+-- such a list behind a transaction ID
+abbrev pub HoldsFlowsBehindTid : List ℕ → Type 0
+HoldsFlowsBehindTid (high ∷ low ∷ list) = HoldsFlows list
+HoldsFlowsBehindTid body = ⊥
+
+-- a DSA-REQ (15) or DSC-REQ (18) with such a list: all that reading takes memory for
+abbrev pub BringsFlows : List ℕ → Type 0
+BringsFlows (mtype ∷ body) = ((mtype ≡ 15) ⊎ (mtype ≡ 18)) × HoldsFlowsBehindTid body
+BringsFlows [] = ⊥

@@ -1,12 +1,13 @@
 //! Reading a message.
 
-ghost use Rattle.std.specs.Prelude.{◌≡◌, ◌==◌, ◌||◌, ℕ, List, [], length, Option, Some, None, Result, Ok, Err, IfOk, IfErr, MatchResult};
+ghost use Rattle.std.specs.Prelude.{◌≡◌, ◌≢◌, ◌==◌, ◌||◌, ℕ, List, [], length, Option, Some, None, Result, Ok, Err, IfOk, IfErr, MatchResult};
 ghost use Rattle.tlv24.specs.Tlv.{front_of};
 ghost use Rattle.tlv24.specs.Flow.{word, long, values_of};
-ghost use Rattle.dsx_messages.specs.Reading.{id_of, Gives, Fails, flow_in, flows_after, flows_in, addition_of, change_of, deletion_of, ack_of, message_of};
+ghost use Rattle.dsx_messages.specs.Reading.{id_of, Gives, Fails, flow_in, flows_after, flows_in, addition_of, change_of, deletion_of, ack_of, message_of, HoldsFlows, HoldsFlowsBehindTid, BringsFlows};
 ghost use Rattle.dsx_messages.specs.Survey.{left_out_kind, first_some, flow_count, IsSurveyed, IsCutSurvey};
 ghost use Rattle.dsx_messages.specs.Message.{Says, IsFirstMessageFault};
 ghost use Rattle.dsx_messages.specs.declared.message.Message.{Message};
+ghost use Rattle.dsx_messages.specs.declared.fault.MessageFault.TheVariants.{NoMemory};
 
 use crate::fault::MessageFault;
 use crate::kind::Kind;
@@ -120,7 +121,8 @@ fn flows_of(
 /// What the TLVs of a request say.
 #[tactic(auto, unfolding(crate::specs::Reading::flows_in))]
 fn flows_in(alloc: Global, tid: u16, kind: Kind, list: &[u8]) -> Result<Flows, MessageFault>
-    ensures { Gives (λ flows. flows) result (flows_in tid kind list.now) }
+    ensures exact { Gives (λ flows. flows) result (flows_in tid kind list.now) }
+    ensures memory { result ≡ Err NoMemory → HoldsFlows list.now }
 {
     match survey_of(list) {
         Err(at) => Err(MessageFault::Tlv {
@@ -138,6 +140,12 @@ fn flows_in(alloc: Global, tid: u16, kind: Kind, list: &[u8]) -> Result<Flows, M
         Ok(
             Survey {
                 left_out: None,
+                flows: 0,
+            },
+        ) => Ok(Flows::from_vec(Vec::new(alloc))),
+        Ok(
+            Survey {
+                left_out: None,
                 flows,
             },
         ) => Ok(Flows::from_vec(flows_of(alloc, tid, kind, list, flows)?)),
@@ -145,7 +153,8 @@ fn flows_in(alloc: Global, tid: u16, kind: Kind, list: &[u8]) -> Result<Flows, M
 }
 
 fn addition_of(alloc: Global, body: &[u8]) -> Result<Message, MessageFault>
-    ensures { Gives (λ message. message) result (addition_of body.now) }
+    ensures exact { Gives (λ message. message) result (addition_of body.now) }
+    ensures memory { result ≡ Err NoMemory → HoldsFlowsBehindTid body.now }
 {
     let [high, low, list @ ..] = body else {
         return Err(MessageFault::Short);
@@ -156,7 +165,8 @@ fn addition_of(alloc: Global, body: &[u8]) -> Result<Message, MessageFault>
 }
 
 fn change_of(alloc: Global, body: &[u8]) -> Result<Message, MessageFault>
-    ensures { Gives (λ message. message) result (change_of body.now) }
+    ensures exact { Gives (λ message. message) result (change_of body.now) }
+    ensures memory { result ≡ Err NoMemory → HoldsFlowsBehindTid body.now }
 {
     let [high, low, list @ ..] = body else {
         return Err(MessageFault::Short);
@@ -167,7 +177,8 @@ fn change_of(alloc: Global, body: &[u8]) -> Result<Message, MessageFault>
 }
 
 fn deletion_of(body: &[u8]) -> Result<Message, MessageFault>
-    ensures { result ≡ deletion_of body.now }
+    ensures exact { result ≡ deletion_of body.now }
+    ensures memory { result ≢ Err NoMemory }
 {
     let [high, low, _, _, a, b, c, d, ..] = body else {
         return Err(MessageFault::Short);
@@ -178,7 +189,8 @@ fn deletion_of(body: &[u8]) -> Result<Message, MessageFault>
 }
 
 fn ack_of(kind: Kind, body: &[u8]) -> Result<Message, MessageFault>
-    ensures { result ≡ ack_of kind body.now }
+    ensures exact { result ≡ ack_of kind body.now }
+    ensures memory { result ≢ Err NoMemory }
 {
     let [high, low, code, ..] = body else {
         return Err(MessageFault::Short);
@@ -193,7 +205,8 @@ fn ack_of(kind: Kind, body: &[u8]) -> Result<Message, MessageFault>
 
 #[tactic(auto, unfolding(crate::specs::Reading::message_of))]
 fn message_of(alloc: Global, bytes: &[u8]) -> Result<Message, MessageFault>
-    ensures { Gives (λ message. message) result (message_of bytes.now) }
+    ensures exact { Gives (λ message. message) result (message_of bytes.now) }
+    ensures memory { result ≡ Err NoMemory → BringsFlows bytes.now }
 {
     let [mtype, body @ ..] = bytes else {
         return Err(MessageFault::Empty);
@@ -219,6 +232,8 @@ pub fn read(alloc: Global, bytes: &[u8]) -> Result<Message, MessageFault>
     // Else the first fault.
     ensures fault { IfErr result (IsFirstMessageFault bytes.now) }
     ensures exact { Gives (λ message. message) result (message_of bytes.now) }
+    // Memory runs out only where the flow encodings of a request are kept.
+    ensures memory { result ≡ Err NoMemory → BringsFlows bytes.now }
 {
     message_of(alloc, bytes)
 }

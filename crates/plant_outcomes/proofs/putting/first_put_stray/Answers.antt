@@ -1,0 +1,22 @@
+use Rattle.std.proofs.Common.{List, ◌∙◌, ap, arith}
+use Rattle.operator_book.specs.ViewOf.{view_of}
+use Rattle.plant_outcomes.specs.declared.putting.Frame.{Frame}
+use Rattle.plant_outcomes.specs.Numbering.{numbered}
+use Rattle.plant_outcomes.proofs.Least.{first_more, first_of_all, map_there}
+use Rattle.plant_outcomes.proofs.putting.first_put_stray.Goals as goal
+use Rattle.std.proofs.lemmas.List.{length-map}
+
+pub returns : goal.returns
+returns g c first are =
+    let long = length-map c.args.books.now view_of in
+    first_of_all first c.args.steps.now _ c.args.placings.now c.loop-op.op c.loop-op.least (omega (arith, c.loop-op-test.false, long)) (c.loop-op.invariant first are)
+
+pub loop-op-preserved : goal.loop-op-preserved
+loop-op-preserved g c first are =
+    first_more first c.args.steps.now _ c.args.placings.now c.loop-op.op (view_of c.index-books-op.result)
+    (map_there view_of c.args.books.now c.loop-op.op c.index-books-op.result c.loop-op-test.true c.index-books-op.is)
+    (numbered c.as_slice.result.now) (ap (λ (fs : List Frame). numbered fs) c.as_slice.ensures.value ∙ c.in_ok-due.ensures)
+    c.loop-op.least c.first_missed.result c.lesser-least.result c.lesser-least.ensures are (c.first_missed.ensures first) (c.loop-op.invariant first are)
+
+pub loop-op-init : goal.loop-op-init
+loop-op-init g c first are i book lt = absurd (omega (arith, lt))

@@ -1,0 +1,41 @@
+-- Frames by their numbers (own).
+use Rattle.std.specs.Prelude.{◌≡◌, ℕ, ◌+◌, min, List, [], ◌∷◌, map, slice_get, Option, Some, None}
+use Rattle.slice_scheduler.specs.declared.elements.ElementsFields.{ElementsFields}
+use Rattle.operator_machine.specs.Replay.{BookView}
+use Rattle.plant_runs.specs.declared.step.Step.{Step}
+use Rattle.plant_outcomes.specs.declared.placing.Placing.{Placing}
+use Rattle.plant_outcomes.specs.declared.putting.Frame.{Frame}
+use Rattle.plant_outcomes.specs.Placings.{puts_of}
+use Rattle.plant_outcomes.specs.Outs.{due_of}
+use Rattle.plant_outcomes.specs.Straying.{DifferFirst}
+
+-- a frame with its number
+abbrev pub frame_of : Frame → ℕ × ElementsFields
+frame_of frame = (frame.number, frame.elements.now)
+
+-- frames with their numbers
+abbrev pub numbered : List Frame → List (ℕ × ElementsFields)
+numbered frames = map frame_of frames
+
+-- they are numbered one after the other, from n on
+abbrev pub AreNumbered : ℕ → List (ℕ × ElementsFields) → Type 0
+AreNumbered n [] = Unit {0}
+AreNumbered n (frame ∷ frames) = (frame.0 ≡ n) × AreNumbered (n + 1) frames
+
+-- what each operator put, and what was due of it, is numbered from the first frame on
+abbrev pub AllAreNumbered : ℕ → List Step → List BookView → List Placing → Type 0
+AllAreNumbered first steps books placings =
+    (i : ℕ) (book : BookView) → slice_get books i ≡ Some book
+    → AreNumbered first (puts_of i placings) × AreNumbered first (due_of steps i book)
+
+-- the frame of this number is the first that was not put as it was due
+pub record IsMissed (first : ℕ) (puts due : List (ℕ × ElementsFields)) (frame : ℕ) : Type 0 where
+  pub place : ℕ
+  pub frame_is : frame ≡ first + place
+  pub differ : DifferFirst puts due place
+
+-- the lesser of two numbers, where they are there
+abbrev pub lesser : Option ℕ → Option ℕ → Option ℕ
+lesser None b = b
+lesser (Some a) None = Some a
+lesser (Some a) (Some b) = Some (min a b)

@@ -1,0 +1,101 @@
+-- The first passes of a cell, and passes that are taken in.
+use Rattle.std.proofs.Common.{◌≡◌, ℕ, zero, suc, ◌-◌, ◌<◌, ◌≤◌, false, List, [], ◌∷◌, ◌++◌, map, length, All, Contains, Some, Option, option_map, sym, refl, ap, ◌∙◌, subst, arith, append_assoc}
+use Rattle.std.proofs.lemmas.Bool.{cond_both}
+use Rattle.std.proofs.lemmas.List.{map-append}
+use Rattle.std.proofs.lemmas.List.Elements.{All-pop, All-nil, All-cons, Contains-append_left, Contains-append_right, Contains-push}
+use mathlib.Core.Option.{some}
+use lib.ListN.{get_elem?}
+use Rattle.atomic_table.specs.Table.{State}
+use Rattle.atomic_table.specs.Seated.{TableId}
+use Rattle.grant_policy.specs.declared.policy.Policy.{Policy}
+use Rattle.plant_passes.specs.declared.view.Held.{Held}
+use Rattle.plant_passes.specs.Runs.{origin_of}
+use Rattle.plant_passes.specs.Rule.{Serves}
+use Rattle.plant_passes.proofs.Logs.{begins_self}
+use Rattle.plant_passes.proofs.Moves.{ends}
+use Rattle.plant_passes.proofs.Acting.{has_rest}
+use Rattle.plant_passes.specs.declared.view.Origin.{Origin}
+use Rattle.plant_passes.specs.declared.view.Mark.{Mark}
+use Rattle.plant_passes.specs.declared.view.View.{View}
+use Rattle.plant_passes.specs.Words.{StartsWith, joined}
+use Rattle.plant_passes.specs.Passes.{CellView, PassView, IsOf, first_pass, first_passes, IsLongest}
+use Rattle.plant_passes.specs.Turns.{Gathers}
+
+pub first_passes-step : (cell : TableId) (origin : Origin) (past : List Mark) (n : ℕ) → 0 < n → first_passes cell origin past n ≡ first_pass cell origin past n ∷ first_passes cell origin past (n - 1)
+first_passes-step cell origin past zero h = absurd (omega arith)
+first_passes-step cell origin past (suc n) h = ap (λ (k : ℕ). first_pass cell origin past (suc n) ∷ first_passes cell origin past k) (let e : n ≡ suc n - 1 = omega arith in e)
+
+abbrev head_of : {A : Type 0} → A → List A → A
+head_of d [] = d
+head_of d (x ∷ xs) = x
+
+abbrev tail_of : {A : Type 0} → List A → List A
+tail_of [] = []
+tail_of (x ∷ xs) = xs
+
+-- the first passes are of their cell
+pub first_are_of : {A : Type 0} (c : CellView) (origin : Origin) (past : List Mark) (f : A → PassView) (xs : List A) (n : ℕ) → origin ≡ c.origin → map f xs ≡ first_passes c.cell origin past n → All (λ p. IsOf c (f p)) xs
+first_are_of c origin past f [] n is e = All-nil (λ p. IsOf c (f p))
+first_are_of c origin past f (x ∷ xs) zero is e = absurd (cc e)
+first_are_of c origin past f (x ∷ xs) (suc n) is e =
+    All-cons (λ p. IsOf c (f p)) x xs record { cell = ap (λ l. (head_of (f x) l).cell) e; origin = ap (λ l. (head_of (f x) l).origin) e ∙ is } (first_are_of c origin past f xs n is (ap tail_of e))
+
+abbrev seens : List PassView → List (List Mark)
+seens ps = map (λ (p : PassView). p.seen) ps
+
+pub gathers_one : {X : Type 0} (p : PassView) (v : View X) → v.parts ≡ 1 → 0 < v.me → v.holds ≡ false → v.seen ≡ p.seen → Gathers (p ∷ []) v
+gathers_one p v part named idle same = record {
+  parts = part;
+  named = named;
+  holds = idle;
+  among = subst (Contains (p.seen ∷ [])) (sym same) (Contains-push [] p.seen);
+  begins = λ h begun _. All-cons (λ (q : PassView). StartsWith h q.seen) p [] (subst (StartsWith h) same begun) (All-nil (λ (q : PassView). StartsWith h q.seen));
+}
+
+pub gathers_more : {X : Type 0} (p : PassView) (ps : List PassView) (v w : View X) → Gathers ps v → w.parts ≡ 1 → w.seen ≡ p.seen → Gathers (p ∷ ps) (joined v w)
+gathers_more p ps v w g part same = record {
+  parts = let n = g.parts in omega arith;
+  named = g.named;
+  holds = g.holds;
+  among = cond_both _ w.seen v.seen (Contains (seens (p ∷ ps))) (λ _. subst (Contains (seens (p ∷ ps))) (sym same) (Contains-append_left (p.seen ∷ []) (seens ps) p.seen (Contains-push [] p.seen)))
+      (λ _. Contains-append_right (p.seen ∷ []) (seens ps) v.seen g.among);
+  begins = λ h _ told. All-cons (λ (q : PassView). StartsWith h q.seen) p ps (subst (StartsWith h) same told.1.0) (g.begins h told.0 told.1.1);
+}
+
+-- lists of passes, seen through a function
+
+pub pop_all : {A : Type 0} (xs ys : List A) (x : A) (f : A → TableId) (id : TableId) → xs ≡ ys ++ x ∷ [] → All (λ p. f p ≡ id) xs → All (λ p. f p ≡ id) ys × (f x ≡ id)
+pop_all {A} xs ys x f id e all = let h = All-pop (λ (p : A). f p ≡ id) xs ys (Some x) e all in (h.0, h.1)
+
+pub map_popped : {A : Type 0} (xs ys : List A) (x : A) (f : A → PassView) (ps : List PassView) → xs ≡ ys ++ x ∷ [] → map f ys ++ f x ∷ ps ≡ map f xs ++ ps
+map_popped xs ys x f ps e = sym (append_assoc (map f ys) (f x ∷ []) ps) ∙ ap (λ l. l ++ ps) (sym (ap (map f) e ∙ map-append f ys (x ∷ [])))
+
+length_map : {A B : Type 0} (f : A → B) (xs : List A) → length (map f xs) ≡ length xs
+length_map f [] = refl
+length_map f (x ∷ xs) = ap suc (length_map f xs)
+
+pub gathers_of : {A X : Type 0} (xs ys : List A) (f : A → PassView) (v : View X) → xs ≡ ys → Gathers (map f ys) v → Gathers (map f xs) v × (v.parts ≡ length xs)
+gathers_of {A} xs ys f v e g = let h = subst (λ (l : List A). Gathers (map f l) v) (sym e) g in (h, h.parts ∙ length_map f xs)
+
+pub no_hands : {A : Type 0} (l : List A) → length l ≡ 0 → l ≡ []
+no_hands [] e = refl
+no_hands (x ∷ l) e = absurd (omega arith)
+
+-- the book that lies in the slot, where every pass was taken in
+pub the_book : {A X : Type 0} (policy : X → Policy) (origin : Origin) (passes start : ℕ) (s : State (Option (Held X)) (View X)) → Serves origin passes start s → (id : ℕ) (v : View X) → get_elem? s.views id ≡ some v → length s.homes ≡ 1
+    → (xs ys : List A) (f : A → PassView) → xs ≡ ys → Gathers (map f ys) v → option_map policy v.rest ≡ Some v.origin.row.policy → passes ≤ length xs
+    → (b : Held X) × (get_elem? s.homes 0 ≡ some (some (Some b))) × (origin_of b.kept.book ≡ origin) × IsLongest (map f xs) b.kept.book.history × (policy b.rest ≡ b.kept.book.row.policy)
+the_book {A} {X} policy origin passes start s rule id v at one xs ys f same gathers follows enough =
+    let both = gathers_of xs ys f v same gathers in
+    let g = both.0 in
+    let parts = both.1 in
+    let has = has_rest policy v.rest v.origin.row.policy follows in
+    let e = ends X origin passes start s rule id v has.0 has.1 g.named at one (omega arith) g.holds in
+    let p : Some (policy has.0) ≡ Some v.origin.row.policy = ap (option_map policy) (sym has.1) ∙ follows in
+    let q : policy has.0 ≡ v.origin.row.policy = cc p in (
+      e.0,
+      e.1,
+      e.4,
+      record { longest = v.seen; among = g.among; begins = g.begins v.seen (begins_self v.seen) e.3; entries_are = e.2 },
+      ap policy e.5 ∙ (q ∙ (ap (λ (o : Origin). o.row.policy) e.6 ∙ ap (λ (o : Origin). o.row.policy) (sym e.4))),
+    )

@@ -1,0 +1,207 @@
+//! The calls of a cell.
+
+ghost use Rattle.std.specs.Prelude.{◌≡◌, ◌≢◌, ◌↔◌, ◌<◌, ◌≤◌, true, Some, None, Err, All, map, vec_len, IfOk, OnErr, IfErr, OnOk, IfSome, IsNone};
+ghost use Rattle.dsx_messages.specs.declared.modem.Modem.{Modem};
+ghost use Rattle.operator_machine.specs.declared.action.Action.TheVariants as actions;
+ghost use Rattle.operator_machine.specs.Machine.{stranger_of};
+ghost use Rattle.operator_book.specs.ViewOf.{view_of};
+ghost use Rattle.operator_book.specs.declared.book.BookFault.TheVariants as faults;
+ghost use Rattle.plant_passes.specs.declared.receipt.CellFault.TheVariants as refusals;
+ghost use Rattle.plant_passes.specs.Runs.{origin_of};
+ghost use Rattle.plant_passes.specs.Words.{marks};
+ghost use Rattle.plant_passes.specs.Passes.{IsOf, first_passes, Acts, Refuses, HasMet, IsLongest};
+ghost use Rattle.plant_passes.specs.ViewOf.{cell_of, pass_of};
+
+use crate::dealing::{deal_out, gather, put_in};
+use crate::pass::{Pass, PassedCell};
+use crate::plays::{Look, Take, Tell};
+use crate::receipt::{CellFault, Receipt};
+use crate::turns;
+use crate::view::{Held, Key};
+use atomic_table::Table;
+use dsx_messages::Modem;
+use operator_book::{Action, Book, BookFault, Heard};
+use std::alloc::{AllocError, Global};
+use std::sync::Wait;
+
+impl PassedCell {
+    /// A cell round a book, and its passes, which have seen the book's history.
+    pub fn open(
+        alloc: Global,
+        book: Book,
+        passes: usize,
+    ) -> Result<(PassedCell, Vec<Pass>), AllocError>
+        requires { (0 < passes) × (passes ≤ 64) }
+        ensures cell { IfOk result (λ r. ((cell_of r.0).passes ≡ passes)
+            × ((cell_of r.0).origin ≡ origin_of (view_of book))) }
+        ensures of { IfOk result (λ r. All (λ p. IsOf (cell_of r.0) (pass_of p)) r.1.items) }
+        ensures passes { IfOk result (λ r. map pass_of r.1.items
+            ≡ first_passes (cell_of r.0).cell (cell_of r.0).origin (marks 0 (view_of book).history) passes) }
+    {
+        let given = Vec::with_capacity(alloc, passes)?;
+        let modems = book.row().get_fields().modems.copy(alloc)?;
+        let start = book.history().len() as u64;
+        if start == u64::MAX {
+            return Err(AllocError);
+        }
+        book.replay();
+        let (kept, ranking) = book.into_parts();
+        let key = Key { kept, passes };
+        let (table, mut giver) = Table::vacant(alloc, &[start, start], 1, &key)?;
+        let Key { kept, passes: _ } = key;
+        let held = Held {
+            kept,
+            rest: ranking,
+        };
+        put_in(&table.shared, &mut giver, held);
+        let given = deal_out(&table.shared, giver, given, passes);
+        let cell = PassedCell {
+            table,
+            passes,
+            modems,
+        };
+        Ok((cell, given))
+    }
+
+    /// Puts what was heard of a modem at the end of the inbox, in the pass's turn. Want of memory before the turn
+    /// leaves the cell open.
+    pub fn arrive<R: Wait>(
+        &self,
+        rt: &R,
+        alloc: Global,
+        pass: &mut Pass,
+        modem: Modem,
+        heard: Heard,
+    ) -> Result<Receipt, CellFault>
+        requires of { IsOf (cell_of self.now) (pass_of pass.old) }
+        ensures of { IsOf (cell_of self.now) (pass_of pass.new) }
+        ensures ok { IfOk result (λ r. Acts (pass_of pass.old) (actions.Arrive modem heard) r (pass_of pass.new)) }
+        ensures err { IfErr result (λ fault. Refuses (pass_of pass.old) fault (pass_of pass.new)) }
+
+        // A stranger is refused first, and before a turn is drawn; whoever knows the cell closed is then told so.
+        ensures not_mine { (stranger : Modem) → (result ≡ Err (refusals.Book (faults.NotMine stranger)))
+            ↔ (stranger_of (cell_of self.now).origin.row (actions.Arrive modem heard) ≡ Some stranger) }
+        ensures not_spent { result ≢ Err (refusals.Book faults.FramesSpent) }
+        ensures shut { (pass_of pass.old).closed ≡ true
+            → stranger_of (cell_of self.now).origin.row (actions.Arrive modem heard) ≡ None
+            → result ≡ Err refusals.Closed }
+    {
+        if !self.modems.contains(modem) {
+            return Err(CellFault::Book(BookFault::NotMine { modem }));
+        }
+        if turns::is_closed(&self.table.shared, &mut pass.seat) {
+            return Err(CellFault::Closed);
+        }
+        let action = Action::Arrive { modem, heard };
+        let told = action.copy(alloc)?;
+        let (index, outputs) = turns::act(rt, alloc, &self.table.shared, &mut pass.seat, action)?;
+        Ok(Receipt {
+            index,
+            action: told,
+            outputs,
+        })
+    }
+
+    /// Handles the first of the inbox, in the pass's turn.
+    pub fn work<R: Wait>(
+        &self,
+        rt: &R,
+        alloc: Global,
+        pass: &mut Pass,
+    ) -> Result<Receipt, CellFault>
+        requires of { IsOf (cell_of self.now) (pass_of pass.old) }
+        ensures of { IsOf (cell_of self.now) (pass_of pass.new) }
+        ensures ok { IfOk result (λ r. Acts (pass_of pass.old) actions.Work r (pass_of pass.new)) }
+        ensures err { IfErr result (λ fault. Refuses (pass_of pass.old) fault (pass_of pass.new)) }
+        ensures mine { (stranger : Modem) → result ≢ Err (refusals.Book (faults.NotMine stranger)) }
+        ensures not_spent { result ≢ Err (refusals.Book faults.FramesSpent) }
+        ensures closed { OnErr result ((pass_of pass.new).closed ≡ true) }
+        ensures shut { (pass_of pass.old).closed ≡ true → result ≡ Err refusals.Closed }
+    {
+        let (index, outputs) = turns::act(
+            rt,
+            alloc,
+            &self.table.shared,
+            &mut pass.seat,
+            Action::Work,
+        )?;
+        Ok(Receipt {
+            index,
+            action: Action::Work,
+            outputs,
+        })
+    }
+
+    /// Counts the timers on and gives out one frame, in the pass's turn. A re-slicing that waits takes force as in the
+    /// book.
+    pub fn tick<R: Wait>(
+        &self,
+        rt: &R,
+        alloc: Global,
+        pass: &mut Pass,
+    ) -> Result<Receipt, CellFault>
+        requires of { IsOf (cell_of self.now) (pass_of pass.old) }
+        ensures of { IsOf (cell_of self.now) (pass_of pass.new) }
+        ensures ok { IfOk result (λ r. Acts (pass_of pass.old) actions.Tick r (pass_of pass.new)) }
+        ensures err { IfErr result (λ fault. Refuses (pass_of pass.old) fault (pass_of pass.new)) }
+        ensures mine { (stranger : Modem) → result ≢ Err (refusals.Book (faults.NotMine stranger)) }
+        ensures closed { OnErr result ((pass_of pass.new).closed ≡ true) }
+        ensures shut { (pass_of pass.old).closed ≡ true → result ≡ Err refusals.Closed }
+    {
+        let (index, outputs) = turns::act(
+            rt,
+            alloc,
+            &self.table.shared,
+            &mut pass.seat,
+            Action::Tick,
+        )?;
+        Ok(Receipt {
+            index,
+            action: Action::Tick,
+            outputs,
+        })
+    }
+
+    /// Tells a pass what another has seen. Takes no memory, so it is never refused.
+    pub fn meet(&self, told: &mut Pass, teller: &mut Pass) -> Result<(), AllocError>
+        requires told { IsOf (cell_of self.now) (pass_of told.old) }
+        requires teller { IsOf (cell_of self.now) (pass_of teller.old) }
+        ensures of { IsOf (cell_of self.now) (pass_of told.new) × IsOf (cell_of self.now) (pass_of teller.new) }
+        ensures told { OnOk result (HasMet (pass_of told.old) (pass_of teller.old) (pass_of told.new)) }
+        ensures teller { pass_of teller.new ≡ pass_of teller.old }
+        ensures err { OnErr result (pass_of told.new ≡ pass_of told.old) }
+    {
+        let shared = &self.table.shared;
+        let copy = shared.split_seat::<Tell>(&mut teller.seat);
+        shared.join_seat::<Take>(&mut told.seat, copy);
+        shared.load::<Look>(&mut told.seat, 0);
+        Ok(())
+    }
+
+    /// The book, where every pass of the cell is handed back. Takes no memory.
+    pub fn close(self, mut passes: Vec<Pass>) -> Option<Book>
+        requires of { All (λ p. IsOf (cell_of self) (pass_of p)) passes.items }
+        ensures some { IfSome result (λ book. (origin_of (view_of book) ≡ (cell_of self).origin)
+            × IsLongest (map pass_of passes.items) (view_of book).history) }
+        ensures none { IsNone result ↔ (vec_len passes < (cell_of self).passes) }
+    {
+        let PassedCell {
+            table,
+            passes: all,
+            modems: _,
+        } = self;
+        if passes.len() < all {
+            return None;
+        }
+        let Some(first) = passes.pop() else {
+            unreachable!()
+        };
+        let collector = gather(&table.shared, first, passes);
+        let mut closed = table.close_with(collector);
+        let held = closed.take(0);
+        closed.free();
+        let Some(held) = held else { unreachable!() };
+        let Held { kept, rest } = held;
+        Some(Book::of_parts(kept, rest))
+    }
+}

@@ -1,0 +1,18 @@
+//! A book that threads share, which they act on in the order of their tickets. A pass tells what its holder has seen of
+//! the history.
+#![tactic(auto)]
+
+mod cell;
+mod dealing;
+mod pass;
+mod plays;
+mod receipt;
+mod turns;
+mod view;
+
+pub use pass::{Pass, PassedCell};
+pub use receipt::{CellFault, Receipt};
+pub use view::{Held, Key, Mark, Origin, View};
+
+#[cfg(test)]
+mod tests;

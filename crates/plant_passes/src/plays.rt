@@ -1,0 +1,103 @@
+//! The rule of a cell, and what each kind of step tells.
+use crate::view::{Held, Key, View};
+use atomic_table::{Join, Play, Split, TableRule};
+
+pub struct Law;
+
+impl<X> TableRule<Option<Held<X>>, View<X>, Key> for Law {
+    ghost use Rattle.std.specs.Prelude.{length};
+    ghost use Rattle.plant_passes.specs.Runs.{origin_of};
+    ghost use Rattle.plant_passes.specs.Rule.{Serves};
+    ghost use Rattle.plant_passes.specs.Words.{opener};
+
+    ghost holds = { λ key s. Serves (origin_of key.kept.book) key.passes (length key.kept.book.history) s };
+
+    ghost first = { λ key. opener (origin_of key.kept.book) key.passes };
+}
+
+/// A ticket is drawn.
+pub(crate) struct Draw;
+
+impl<X> Play<Option<Held<X>>, View<X>> for Draw {
+    ghost use Rattle.plant_passes.specs.Steps.{drew};
+
+    ghost then = { drew };
+}
+
+/// Serving is looked at, and at one's turn the book is one's own.
+pub(crate) struct Look;
+
+impl<X> Play<Option<Held<X>>, View<X>> for Look {
+    ghost use Rattle.plant_passes.specs.Steps.{looked};
+
+    ghost then = { looked };
+}
+
+/// The turn ends with an entry.
+pub(crate) struct Advance;
+
+impl<X> Play<Option<Held<X>>, View<X>> for Advance {
+    ghost use Rattle.plant_passes.specs.Steps.{advanced};
+
+    ghost then = { advanced };
+}
+
+/// The turn ends with a refusal, and the cell is closed.
+pub(crate) struct Shut;
+
+impl<X> Play<Option<Held<X>>, View<X>> for Shut {
+    ghost use Rattle.plant_passes.specs.Steps.{shut};
+
+    ghost then = { shut };
+}
+
+/// The first seat takes the empty slot.
+pub(crate) struct Grab;
+
+impl<X> Play<Option<Held<X>>, View<X>> for Grab {
+    ghost use Rattle.plant_passes.specs.Steps.{grabbed};
+
+    ghost then = { grabbed };
+}
+
+/// The first seat puts the book in.
+pub(crate) struct Start;
+
+impl<X> Play<Option<Held<X>>, View<X>> for Start {
+    ghost use Rattle.plant_passes.specs.Steps.{started};
+
+    ghost then = { started };
+}
+
+/// The opener gives a pass.
+pub(crate) struct Deal;
+
+impl<X> Split<View<X>> for Deal {
+    ghost use Rattle.plant_passes.specs.Words.{dealer, dealt};
+
+    ghost left = { dealer };
+
+    ghost right = { dealt };
+}
+
+/// A pass tells what it has seen.
+pub(crate) struct Tell;
+
+impl<X> Split<View<X>> for Tell {
+    ghost use Rattle.plant_passes.specs.Words.{copy};
+
+    ghost left = { λ v. v };
+
+    ghost right = { copy };
+}
+
+/// A seat takes in another.
+pub(crate) struct Take;
+
+impl<X> Join<View<X>> for Take {
+    ghost use Rattle.plant_passes.specs.Words.{joined, spent};
+
+    ghost both = { joined };
+
+    ghost spent = { spent };
+}

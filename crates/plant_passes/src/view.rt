@@ -1,0 +1,47 @@
+//! What the proofs say of a cell. No value of `Origin`, `Mark` or `View` is made.
+
+use operator_book::{Entry, Logged};
+use slice_table::{Consts, OperatorRow};
+use std::collections::LinkedList;
+
+/// What a book was opened with.
+pub struct Origin {
+    pub consts: Consts,
+    pub row: OperatorRow,
+}
+
+/// An entry, and the number of the pass that made it, or 0 for the book's own past.
+pub struct Mark {
+    pub entry: Entry,
+    pub by: u64,
+}
+
+/// What a seat knows: its pass's number and parts, the history that it has seen and was told of, the places of its own
+/// entries in it, and its turn. `rest` is what the book has beside what is kept.
+pub struct View<X> {
+    pub me: u64,
+    pub parts: u64,
+    pub opens: bool,
+    pub closed: bool,
+    pub origin: Origin,
+    pub seen: LinkedList<Mark>,
+    pub told: LinkedList<LinkedList<Mark>>,
+    pub made: LinkedList<u64>,
+    pub ticket: Option<u64>,
+    pub holds: bool,
+    pub rest: Option<X>,
+}
+
+/// What the slot holds: what is kept, beside what the rule does not see.
+#[derive(Drop)]
+pub struct Held<X> {
+    pub kept: Logged,
+    pub rest: X,
+}
+
+/// What a cell is told when it is made: what is kept of the book, as it is then, and how many passes there are to be.
+#[derive(Drop)]
+pub struct Key {
+    pub kept: Logged,
+    pub passes: usize,
+}

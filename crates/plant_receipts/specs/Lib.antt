@@ -1,0 +1,5 @@
+pub mod Merge
+pub mod Straying
+pub mod OwnParts
+pub mod Framing
+pub mod Settling

@@ -1,0 +1,54 @@
+//! Entries with no receipt, or more than one.
+
+ghost use Rattle.std.specs.Prelude.{◌≡◌, ◌↔◌, ◌==◌, ℕ, ◌+◌, ◌<◌, min, map, length};
+ghost use Rattle.std.specs.Prelude.{slice_index, count_by, MatchOption, IfOk, IsTrue};
+ghost use Rattle.operator_book.specs.ViewOf.{view_of};
+ghost use Rattle.plant_receipts.specs.Merge.{times};
+ghost use Rattle.plant_receipts.specs.Settling.{IsFirstShort, NoneIsShort};
+
+use crate::receipt::{Callers, Receipt, Receipts};
+use operator_book::Book;
+use slice_table::Op;
+use std::alloc::{AllocError, Global};
+
+/// Counts the receipts of a caller at their indices, up to 255; an index past the end is not counted.
+fn count_receipts(counts: &mut [u8], receipts: &[Receipt])
+    ensures { (k : ℕ) → k < length counts.old
+        → min (slice_index counts.new k) 255
+        ≡ min (slice_index counts.old k + count_by (λ r. r.index == k) receipts.now) 255 }
+{
+    for receipt in receipts {
+        if receipt.index < counts.len() {
+            counts[receipt.index] = counts[receipt.index].saturating_add(1);
+        }
+    }
+}
+
+/// Whether each of so many entries has just one receipt.
+fn are_told_once(alloc: Global, entries: usize, callers: &[Receipts]) -> Result<bool, AllocError>
+    ensures { IfOk result (λ told. IsTrue told ↔ ((k : ℕ) → k < entries → times k callers.now ≡ 1)) }
+{
+    let mut counts = vec![in alloc; 0u8; entries]?;
+    for receipts in callers {
+        count_receipts(&mut counts, receipts.as_slice());
+    }
+    Ok(counts.iter().all(|count| *count == 1))
+}
+
+/// The first operator of which an entry has no receipt, or more than one.
+pub(crate) fn first_short(
+    alloc: Global,
+    books: &[Book],
+    receipts: &[Callers],
+) -> Result<Option<Op>, AllocError>
+    requires { length books.now ≡ length receipts.now }
+    ensures { IfOk result (λ first. MatchOption first (NoneIsShort (map view_of books.now) receipts.now)
+        (IsFirstShort (map view_of books.now) receipts.now)) }
+{
+    for (op, callers) in receipts.iter().enumerate() {
+        if !are_told_once(alloc, books[op].history().len(), callers.as_slice())? {
+            return Ok(Some(op));
+        }
+    }
+    Ok(None)
+}

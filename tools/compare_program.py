@@ -1,0 +1,18 @@
+"""Runs the built program and the reference on an input: what both answer, as exit status and bytes."""
+
+import pathlib
+import subprocess
+
+from reference.program import answer
+
+PROGRAM = str(pathlib.Path(__file__).resolve().parent.parent / "crates/plant_program/out/plant_program")
+
+
+def program_answer(program, words, data):
+    done = subprocess.run([program, *words], input=data, stdout=subprocess.PIPE, stderr=subprocess.DEVNULL, timeout=120)
+    return done.returncode, done.stdout
+
+
+def reference_answer(words, data):
+    status, text = answer(words, data)
+    return status, text.encode()

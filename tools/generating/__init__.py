@@ -1,0 +1,1 @@
+"""Generated cases: plants, scripts and messages, by seed."""

@@ -1,0 +1,47 @@
+#!/bin/bash
+# Tests of the tools: the reference on the examples and on values typed from docs/PROFILE.md; the generator writes the same twice,
+# and tools/hostile.py meets each check of the table. Where the program is built, it is compared with the reference on 50 generated
+# cases, on the inputs of tools/hostile.py and on those of tools/corners.py, and tools/statuses.sh is run.
+# Usage: tools/test_tools.sh     Needs bash and python3; takes less than 10 seconds.
+set -euo pipefail
+
+here=$(cd "$(dirname "$0")" && pwd)
+examples=$here/../examples
+program=$here/../crates/plant_program/out/plant_program
+work=$(mktemp -d)
+trap 'rm -rf "$work"' EXIT
+
+# The word that an example is for.
+word_of() {
+    case $(basename "$1" .txt) in
+    first_flow | several_messages) echo one ;;
+    *) echo run ;;
+    esac
+}
+
+for input in "$examples"/*.txt; do
+    if [ -e "${input%.txt}.out" ]; then
+        python3 "$here/reference" "$(word_of "$input")" <"$input" >"$work/out"
+        cmp "$work/out" "${input%.txt}.out"
+    fi
+done
+[ "$(python3 "$here/reference" check <"$examples/plant_p2.toml")" = ok ]
+python3 "$here/test_reference.py" 2>"$work/told" || { cat "$work/told" >&2; exit 1; }
+
+for seed in 1 71 1011; do
+    "$here/generate.py" "$seed" >"$work/once"
+    PYTHONHASHSEED=$seed "$here/generate.py" "$seed" | cmp - "$work/once"
+done
+"$here/hostile.py" --met >"$work/met"
+for check in DSA\ {1..9} DSA\ {13,14,15,17,18,19,20,21,22} DSC\ {1..16} DSC\ {19..22} DSD\ {1,2,3,10,11,12,22}; do
+    grep -q " ${check/ / check }\(:\|$\)" "$work/met" || { echo "tools/hostile.py does not meet $check" >&2; exit 1; }
+done
+echo 'the reference and the generator are right'
+
+if [ -x "$program" ]; then
+    "$here/compare" 0 50
+    "$here/hostile.py" --compare >"$work/told" || { cat "$work/told" >&2; exit 1; }
+    "$here/corners.py" >"$work/told" || { cat "$work/told" >&2; exit 1; }
+    "$here/statuses.sh" >"$work/told" || { cat "$work/told" >&2; exit 1; }
+    echo 'the program answers as the reference'
+fi
