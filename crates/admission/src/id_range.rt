@@ -105,15 +105,18 @@ fn first_unmarked(taken: &[bool]) -> Option<usize>
 
 /// One number at most is the least free one.
 pub fn least_free_is_one()
-    ensures { (range : Numbers) (used : List ℕ) (a b : ℕ) → IsLeastFree range used a → IsLeastFree range used b → a ≡ b }
+    ensures { (range : Numbers) (used : List ℕ) (a b : ℕ) → IsLeastFree range used a → IsLeastFree range used b
+        → a ≡ b }
 {}
 
 /// The function gives a number exactly where it is the least free one.
 pub fn least_free_is_given()
-    ensures { (range : Numbers) (used : List ℕ) (number : ℕ) → (least_free_of range used ≡ Some number) ↔ IsLeastFree range used number }
+    ensures { (range : Numbers) (used : List ℕ) (number : ℕ) → (least_free_of range used ≡ Some number)
+        ↔ IsLeastFree range used number }
 {}
 
 /// A number that is no longer used can be given again.
 pub fn unused_is_given()
-    ensures { (range : Numbers) (used : List ℕ) (number : ℕ) → IsIn range number → ¬ Contains used number → IsSome (least_free_of range used) }
+    ensures { (range : Numbers) (used : List ℕ) (number : ℕ) → IsIn range number → ¬ Contains used number
+        → IsSome (least_free_of range used) }
 {}

@@ -56,7 +56,8 @@ impl Totals {
     /// Whether the totals stay within a limit.
     fn within(self, limit: Budget) -> Result<(), Over>
         ensures elements { (result ≡ Err Over.Elements) ↔ (limit.elements < self.elements) }
-        ensures minislots { (result ≡ Err Over.Minislots) ↔ ((self.elements ≤ limit.elements) × (limit.minislots < self.minislots)) }
+        ensures minislots { (result ≡ Err Over.Minislots)
+            ↔ ((self.elements ≤ limit.elements) × (limit.minislots < self.minislots)) }
         ensures ok { IsOk result ↔ ((self.elements ≤ limit.elements) × (self.minislots ≤ limit.minislots)) }
     {
         if self.elements > u64::from(limit.elements) {
@@ -108,11 +109,14 @@ impl Ledger {
     ///
     /// Faults, in this order: `Full`, `Twice`. Each leaves the ledger unchanged.
     pub fn add(&mut self, sfid: u32, budget: Budget) -> Result<(), LedgerFault>
-        ensures ok { OnOk result (self.new ≡ record self.old { rows = insert_entry nat_cmp self.old.rows sfid budget }) }
-        ensures was_free { OnOk result ((length self.old.rows < self.old.room) × IsNone (lookup (is_at (nat_cmp sfid)) self.old.rows)) }
+        ensures ok { OnOk result (self.new
+            ≡ record self.old { rows = insert_entry nat_cmp self.old.rows sfid budget }) }
+        ensures was_free { OnOk result ((length self.old.rows < self.old.room)
+            × IsNone (lookup (is_at (nat_cmp sfid)) self.old.rows)) }
 
         ensures full { (result ≡ Err LedgerFault.Full) ↔ (length self.old.rows ≡ self.old.room) }
-        ensures twice { (result ≡ Err LedgerFault.Twice) ↔ ((length self.old.rows < self.old.room) × HasRow self.old.rows sfid) }
+        ensures twice { (result ≡ Err LedgerFault.Twice)
+            ↔ ((length self.old.rows < self.old.room) × HasRow self.old.rows sfid) }
         ensures only { IfErr result (λ fault. fault ≢ LedgerFault.NotThere) }
         ensures err { OnErr result (self.new ≡ self.old) }
     {
@@ -131,7 +135,8 @@ impl Ledger {
     ///
     /// The fault is `NotThere`, and leaves the ledger unchanged.
     pub fn change(&mut self, sfid: u32, budget: Budget) -> Result<(), LedgerFault>
-        ensures ok { OnOk result (self.new ≡ record self.old { rows = insert_entry nat_cmp self.old.rows sfid budget }) }
+        ensures ok { OnOk result (self.new
+            ≡ record self.old { rows = insert_entry nat_cmp self.old.rows sfid budget }) }
         ensures was_there { OnOk result (HasRow self.old.rows sfid) }
 
         ensures not_there { (result ≡ Err LedgerFault.NotThere) ↔ IsNone (lookup (is_at (nat_cmp sfid)) self.old.rows) }
@@ -151,7 +156,8 @@ impl Ledger {
     ///
     /// The fault is `NotThere`, and leaves the ledger unchanged.
     pub fn remove(&mut self, sfid: u32) -> Result<(), LedgerFault>
-        ensures ok { OnOk result (self.new ≡ record self.old { rows = remove_entry (is_at (nat_cmp sfid)) self.old.rows }) }
+        ensures ok { OnOk result (self.new
+            ≡ record self.old { rows = remove_entry (is_at (nat_cmp sfid)) self.old.rows }) }
         ensures was_there { OnOk result (HasRow self.old.rows sfid) }
 
         ensures not_there { (result ≡ Err LedgerFault.NotThere) ↔ IsNone (lookup (is_at (nat_cmp sfid)) self.old.rows) }
@@ -168,9 +174,12 @@ impl Ledger {
 
     /// Whether the totals, with this row in place of the one of `sfid`, if any, stay within `limit`.
     pub fn fits(&self, limit: Budget, sfid: u32, budget: Budget) -> Result<(), Over>
-        ensures elements { let after = insert_entry nat_cmp self.now.rows sfid budget in (result ≡ Err Over.Elements) ↔ (limit.elements < elements_of after) }
-        ensures minislots { let after = insert_entry nat_cmp self.now.rows sfid budget in (result ≡ Err Over.Minislots) ↔ ((elements_of after ≤ limit.elements) × (limit.minislots < minislots_of after)) }
-        ensures ok { let after = insert_entry nat_cmp self.now.rows sfid budget in IsOk result ↔ ((elements_of after ≤ limit.elements) × (minislots_of after ≤ limit.minislots)) }
+        ensures elements { let after = insert_entry nat_cmp self.now.rows sfid budget in (result ≡ Err Over.Elements)
+            ↔ (limit.elements < elements_of after) }
+        ensures minislots { let after = insert_entry nat_cmp self.now.rows sfid budget in (result
+            ≡ Err Over.Minislots) ↔ ((elements_of after ≤ limit.elements) × (limit.minislots < minislots_of after)) }
+        ensures ok { let after = insert_entry nat_cmp self.now.rows sfid budget in IsOk result
+            ↔ ((elements_of after ≤ limit.elements) × (minislots_of after ≤ limit.minislots)) }
     {
         let old = self.get(sfid).unwrap_or(Budget::NOTHING);
         self.totals.replaced(old, budget).within(limit)

@@ -13,6 +13,7 @@ ghost use Rattle.dsx_messages.specs.declared.fault.MessageFault.TheVariants.{NoM
 pub fn message_is_read()
     ensures found { (bytes : List ℕ) (m : Message) → AreBytes bytes → message_of bytes ≡ Ok m → Says bytes m }
     ensures only { (bytes : List ℕ) (m : Message) → AreBytes bytes → Says bytes m → message_of bytes ≡ Ok m }
-    ensures fault { (bytes : List ℕ) (fault : MessageFault) → AreBytes bytes → message_of bytes ≡ Err fault → IsFirstMessageFault bytes fault }
+    ensures fault { (bytes : List ℕ) (fault : MessageFault) → AreBytes bytes → message_of bytes ≡ Err fault
+        → IsFirstMessageFault bytes fault }
     ensures memory { (bytes : List ℕ) → AreBytes bytes → message_of bytes ≢ Err NoMemory }
 {}

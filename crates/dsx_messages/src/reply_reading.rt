@@ -37,7 +37,9 @@ fn kind_of(mtype: u8) -> Option<Kind>
 /// An accepted addition: the reference, the SFID and the SID of its flow, in this order.
 fn added(tail: &[u8]) -> Option<(u16, u32, u16)>
     ensures spelled { IfSome result (λ n. tail.now ≡ tail_of Dsa Okay (Given (Some n.0) n.1 (Some n.2))) }
-    ensures every { (reference sfid sid : ℕ) → reference < 2 ^ 16 → sfid < 2 ^ 32 → sid < 2 ^ 16 → tail.now ≡ tail_of Dsa Okay (Given (Some reference) sfid (Some sid)) → result ≡ Some (reference, sfid, sid) }
+    ensures every { (reference sfid sid : ℕ) → reference < 2 ^ 16 → sfid < 2 ^ 32 → sid < 2 ^ 16
+        → tail.now ≡ tail_of Dsa Okay (Given (Some reference) sfid (Some sid))
+        → result ≡ Some (reference, sfid, sid) }
 {
     match tail {
         [24, 14, 1, 2, rh, rl, 2, 4, a, b, c, d, 3, 2, sh, sl] => Some((
@@ -52,7 +54,8 @@ fn added(tail: &[u8]) -> Option<(u16, u32, u16)>
 /// An accepted change of a flow that has no SID: its SFID.
 fn changed(tail: &[u8]) -> Option<u32>
     ensures spelled { IfSome result (λ sfid. tail.now ≡ tail_of Dsc Okay (Given None sfid None)) }
-    ensures every { (sfid : ℕ) → sfid < 2 ^ 32 → tail.now ≡ tail_of Dsc Okay (Given None sfid None) → result ≡ Some sfid }
+    ensures every { (sfid : ℕ) → sfid < 2 ^ 32 → tail.now ≡ tail_of Dsc Okay (Given None sfid None)
+        → result ≡ Some sfid }
 {
     match tail {
         [24, 6, 2, 4, a, b, c, d] => Some(u32::from_be_bytes([*a, *b, *c, *d])),
@@ -63,7 +66,8 @@ fn changed(tail: &[u8]) -> Option<u32>
 /// An accepted change of a flow that has a SID: its SFID and its SID, in this order.
 fn changed_with_sid(tail: &[u8]) -> Option<(u32, u16)>
     ensures spelled { IfSome result (λ n. tail.now ≡ tail_of Dsc Okay (Given None n.0 (Some n.1))) }
-    ensures every { (sfid sid : ℕ) → sfid < 2 ^ 32 → sid < 2 ^ 16 → tail.now ≡ tail_of Dsc Okay (Given None sfid (Some sid)) → result ≡ Some (sfid, sid) }
+    ensures every { (sfid sid : ℕ) → sfid < 2 ^ 32 → sid < 2 ^ 16
+        → tail.now ≡ tail_of Dsc Okay (Given None sfid (Some sid)) → result ≡ Some (sfid, sid) }
 {
     match tail {
         [24, 10, 2, 4, a, b, c, d, 3, 2, sh, sl] => Some((
@@ -92,7 +96,9 @@ fn errored(code: Code, tail: &[u8]) -> Option<u8>
 /// A refusal that names a flow by its reference: the reference and the subtype at fault.
 fn errored_reference(code: Code, tail: &[u8]) -> Option<(u16, u8)>
     ensures spelled { IfSome result (λ n. tail.now ≡ spelled (tlvs_in code (Errored (Some (Reference n.0)) n.1))) }
-    ensures every { (reference subtype : ℕ) → reference < 2 ^ 16 → tail.now ≡ spelled (tlvs_in code (Errored (Some (Reference reference)) subtype)) → result ≡ Some (reference, subtype) }
+    ensures every { (reference subtype : ℕ) → reference < 2 ^ 16
+        → tail.now ≡ spelled (tlvs_in code (Errored (Some (Reference reference)) subtype))
+        → result ≡ Some (reference, subtype) }
 {
     let [24, 12, 1, 2, high, low, 5, 6, 1, 1, subtype, 2, 1, number] = tail else {
         return None;
@@ -107,7 +113,8 @@ fn errored_reference(code: Code, tail: &[u8]) -> Option<(u16, u8)>
 /// A refusal that names a flow by its SFID: the SFID and the subtype at fault.
 fn errored_sfid(code: Code, tail: &[u8]) -> Option<(u32, u8)>
     ensures spelled { IfSome result (λ n. tail.now ≡ spelled (tlvs_in code (Errored (Some (Sfid n.0)) n.1))) }
-    ensures every { (sfid subtype : ℕ) → sfid < 2 ^ 32 → tail.now ≡ spelled (tlvs_in code (Errored (Some (Sfid sfid)) subtype)) → result ≡ Some (sfid, subtype) }
+    ensures every { (sfid subtype : ℕ) → sfid < 2 ^ 32
+        → tail.now ≡ spelled (tlvs_in code (Errored (Some (Sfid sfid)) subtype)) → result ≡ Some (sfid, subtype) }
 {
     let [24, 14, 2, 4, a, b, c, d, 5, 6, 1, 1, subtype, 2, 1, number] = tail else {
         return None;
@@ -122,7 +129,9 @@ fn errored_sfid(code: Code, tail: &[u8]) -> Option<(u32, u8)>
 /// What an accepted addition says.
 fn accepted_addition(tail: &[u8]) -> Option<Detail>
     ensures spelled { IfSome result (IsTold Dsa Okay tail.now) }
-    ensures every { (reference sfid sid : ℕ) → reference < 2 ^ 16 → sfid < 2 ^ 32 → sid < 16384 → tail.now ≡ tail_of Dsa Okay (Given (Some reference) sfid (Some sid)) → result ≡ Some (Given (Some reference) sfid (Some sid)) }
+    ensures every { (reference sfid sid : ℕ) → reference < 2 ^ 16 → sfid < 2 ^ 32 → sid < 16384
+        → tail.now ≡ tail_of Dsa Okay (Given (Some reference) sfid (Some sid))
+        → result ≡ Some (Given (Some reference) sfid (Some sid)) }
 {
     let (reference, sfid, sid) = added(tail)?;
     if sid < 16384 {
@@ -139,8 +148,10 @@ fn accepted_addition(tail: &[u8]) -> Option<Detail>
 /// What an accepted change says.
 fn accepted_change(tail: &[u8]) -> Option<Detail>
     ensures spelled { IfSome result (IsTold Dsc Okay tail.now) }
-    ensures every { (sfid : ℕ) → sfid < 2 ^ 32 → tail.now ≡ tail_of Dsc Okay (Given None sfid None) → result ≡ Some (Given None sfid None) }
-    ensures every_with_sid { (sfid sid : ℕ) → sfid < 2 ^ 32 → sid < 16384 → tail.now ≡ tail_of Dsc Okay (Given None sfid (Some sid)) → result ≡ Some (Given None sfid (Some sid)) }
+    ensures every { (sfid : ℕ) → sfid < 2 ^ 32 → tail.now ≡ tail_of Dsc Okay (Given None sfid None)
+        → result ≡ Some (Given None sfid None) }
+    ensures every_with_sid { (sfid sid : ℕ) → sfid < 2 ^ 32 → sid < 16384
+        → tail.now ≡ tail_of Dsc Okay (Given None sfid (Some sid)) → result ≡ Some (Given None sfid (Some sid)) }
 {
     if let Some(sfid) = changed(tail) {
         return Some(Detail::Given {
@@ -165,8 +176,11 @@ fn accepted_change(tail: &[u8]) -> Option<Detail>
 fn refused_addition(code: Code, tail: &[u8]) -> Option<Detail>
     ensures spelled { code ≢ Okay → IfSome result (IsTold Dsa code tail.now) }
     ensures every { tail.now ≡ tail_of Dsa code Nothing → result ≡ Some Nothing }
-    ensures every_errored { (subtype : ℕ) → tail.now ≡ tail_of Dsa code (Errored None subtype) → result ≡ Some (Errored None subtype) }
-    ensures every_reference { (reference subtype : ℕ) → reference < 2 ^ 16 → tail.now ≡ tail_of Dsa code (Errored (Some (Reference reference)) subtype) → result ≡ Some (Errored (Some (Reference reference)) subtype) }
+    ensures every_errored { (subtype : ℕ) → tail.now ≡ tail_of Dsa code (Errored None subtype)
+        → result ≡ Some (Errored None subtype) }
+    ensures every_reference { (reference subtype : ℕ) → reference < 2 ^ 16
+        → tail.now ≡ tail_of Dsa code (Errored (Some (Reference reference)) subtype)
+        → result ≡ Some (Errored (Some (Reference reference)) subtype) }
 {
     if tail.is_empty() {
         return Some(Detail::Nothing);
@@ -185,8 +199,11 @@ fn refused_addition(code: Code, tail: &[u8]) -> Option<Detail>
 fn refused_change(code: Code, tail: &[u8]) -> Option<Detail>
     ensures spelled { code ≢ Okay → IfSome result (IsTold Dsc code tail.now) }
     ensures every { tail.now ≡ tail_of Dsc code Nothing → result ≡ Some Nothing }
-    ensures every_errored { (subtype : ℕ) → tail.now ≡ tail_of Dsc code (Errored None subtype) → result ≡ Some (Errored None subtype) }
-    ensures every_sfid { (sfid subtype : ℕ) → sfid < 2 ^ 32 → tail.now ≡ tail_of Dsc code (Errored (Some (Sfid sfid)) subtype) → result ≡ Some (Errored (Some (Sfid sfid)) subtype) }
+    ensures every_errored { (subtype : ℕ) → tail.now ≡ tail_of Dsc code (Errored None subtype)
+        → result ≡ Some (Errored None subtype) }
+    ensures every_sfid { (sfid subtype : ℕ) → sfid < 2 ^ 32
+        → tail.now ≡ tail_of Dsc code (Errored (Some (Sfid sfid)) subtype)
+        → result ≡ Some (Errored (Some (Sfid sfid)) subtype) }
 {
     if tail.is_empty() {
         return Some(Detail::Nothing);
@@ -233,7 +250,8 @@ fn detail_of(kind: Kind, code: Code, tail: &[u8]) -> Option<Detail>
 /// Reads a reply: some exactly for the bytes that `write_reply` gives for it. Takes no memory.
 pub fn read_reply(bytes: &[u8]) -> Option<Reply>
     ensures spelled { IfSome result (λ reply. bytes.now ≡ spell_reply reply) }
-    ensures every { (reply : ReplyFields) → IsWellFormed reply → FitsReply reply → bytes.now ≡ spell_reply reply → result ≡ Some reply }
+    ensures every { (reply : ReplyFields) → IsWellFormed reply → FitsReply reply → bytes.now ≡ spell_reply reply
+        → result ≡ Some reply }
 {
     let [mtype, high, low, number, tail @ ..] = bytes else {
         return None;

@@ -97,7 +97,8 @@ fn put_given(
     sfid: u32,
     sid: Option<u16>,
 ) -> Result<(), AllocError>
-    ensures { OnOk result (out.new.items ≡ out.old.items ++ spelled (tlv 24 (spelled (given_tlvs reference sfid sid)) ∷ [])) }
+    ensures { OnOk result (out.new.items ≡ out.old.items
+        ++ spelled (tlv 24 (spelled (given_tlvs reference sfid sid)) ∷ [])) }
 {
     let count = word_len(reference) + 6 + word_len(sid);
     out.extend_from_slice(&[24, count])?;
@@ -113,7 +114,8 @@ fn put_errored(
     id: Option<FlowId>,
     subtype: u8,
 ) -> Result<(), AllocError>
-    ensures { OnOk result (out.new.items ≡ out.old.items ++ spelled (tlv 24 (spelled (errored_tlvs code id subtype)) ∷ [])) }
+    ensures { OnOk result (out.new.items ≡ out.old.items
+        ++ spelled (tlv 24 (spelled (errored_tlvs code id subtype)) ∷ [])) }
 {
     let count = id_len(id) + 8;
     out.extend_from_slice(&[24, count])?;

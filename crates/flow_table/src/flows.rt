@@ -117,9 +117,14 @@ impl Flows {
     /// Whether the totals of what is committed, with this flow under this SFID, stay within a limit; elements are tried
     /// first. Takes no memory.
     pub fn fits(&self, limit: Budget, sfid: u32, flow: &Flow) -> Result<(), Over>
-        ensures elements { (result ≡ Err Over.Elements) ↔ (limit.elements < committed_elements self.now.units (with_flow sfid flow.now self.now.flows)) }
-        ensures minislots { (result ≡ Err Over.Minislots) ↔ ((committed_elements self.now.units (with_flow sfid flow.now self.now.flows) ≤ limit.elements) × (limit.minislots < committed_minislots self.now.units (with_flow sfid flow.now self.now.flows))) }
-        ensures ok { IsOk result ↔ ((committed_elements self.now.units (with_flow sfid flow.now self.now.flows) ≤ limit.elements) × (committed_minislots self.now.units (with_flow sfid flow.now self.now.flows) ≤ limit.minislots)) }
+        ensures elements { (result ≡ Err Over.Elements)
+            ↔ (limit.elements < committed_elements self.now.units (with_flow sfid flow.now self.now.flows)) }
+        ensures minislots { (result ≡ Err Over.Minislots)
+            ↔ ((committed_elements self.now.units (with_flow sfid flow.now self.now.flows) ≤ limit.elements)
+            × (limit.minislots < committed_minislots self.now.units (with_flow sfid flow.now self.now.flows))) }
+        ensures ok { IsOk result ↔ ((committed_elements self.now.units (with_flow sfid flow.now self.now.flows) ≤
+            limit.elements) × (committed_minislots self.now.units (with_flow sfid flow.now self.now.flows) ≤
+            limit.minislots)) }
     {
         self.ledger.fits(limit, sfid, flow.committed(self.units))
     }
@@ -317,7 +322,8 @@ fn grow(
 ) -> Result<(), AllocError>
     ensures flows { OnOk result (by_sfid.new.entries ≡ with_flow sfid flow by_sfid.old.entries) }
     ensures index { OnOk result (by_sid.new.entries ≡ with_sid_of flow.sid sfid by_sid.old.entries) }
-    ensures err { OnErr result ((by_sfid.new.entries ≡ by_sfid.old.entries) × (by_sid.new.entries ≡ by_sid.old.entries)) }
+    ensures err { OnErr result ((by_sfid.new.entries ≡ by_sfid.old.entries)
+        × (by_sid.new.entries ≡ by_sid.old.entries)) }
 {
     // Read before the match, so that the check knows the type of this part of the flow.
     let _pending = flow.pending;

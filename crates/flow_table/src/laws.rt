@@ -41,8 +41,10 @@ pub fn known_flow_may_stand_anew()
 /// A flow that is put under an SFID is the flow there, and the flows of the other SFIDs stay.
 #[tactic(auto, using(crate::proofs::StandLemmas::flow_put, crate::proofs::StandLemmas::flow_elsewhere))]
 pub fn put_flow_is_there()
-    ensures there { (flows : List (ℕ × Flow)) (sfid : ℕ) (flow : Flow) → flow_at sfid (with_flow sfid flow flows) ≡ Some flow }
-    ensures others { (flows : List (ℕ × Flow)) (sfid : ℕ) (flow : Flow) (other : ℕ) → other ≢ sfid → flow_at other (with_flow sfid flow flows) ≡ flow_at other flows }
+    ensures there { (flows : List (ℕ × Flow)) (sfid : ℕ) (flow : Flow)
+        → flow_at sfid (with_flow sfid flow flows) ≡ Some flow }
+    ensures others { (flows : List (ℕ × Flow)) (sfid : ℕ) (flow : Flow) (other : ℕ) → other ≢ sfid
+        → flow_at other (with_flow sfid flow flows) ≡ flow_at other flows }
 {}
 
 /// What is found by a SID is the flow that has this SID, with its SFID.

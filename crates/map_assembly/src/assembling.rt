@@ -29,7 +29,9 @@ fn push_filled(
     op: Op,
     part: &Elements,
 ) -> Result<(), AllocError>
-    ensures { OnOk result (list.new.items ≡ list.old.items ++ map element_of_span (filled layout.head layout.frame_minislots (map (part_at queues.now op part.now) order.now))) }
+    ensures { OnOk result (list.new.items ≡ list.old.items
+        ++ map element_of_span (filled layout.head layout.frame_minislots
+        (map (part_at queues.now op part.now) order.now))) }
 {
     let mut from = layout.head;
     for k in order {
@@ -51,7 +53,8 @@ fn push_all_pending(
     op: Op,
     part: &Elements,
 ) -> Result<(), AllocError>
-    ensures { OnOk result (list.new.items ≡ list.old.items ++ map (pending_at end) (map_pending (map (part_at queues.now op part.now) order.now))) }
+    ensures { OnOk result (list.new.items ≡ list.old.items
+        ++ map (pending_at end) (map_pending (map (part_at queues.now op part.now) order.now))) }
 {
     for k in order {
         push_pending(list, part_at(queues, op, part, *k), end)?;
@@ -90,7 +93,9 @@ pub(crate) fn map_bytes(
 ) -> Result<Vec<u8>, AllocError>
     requires few { length (ordered_elements layout order.now queues.now op part.now) ≤ 240 }
     requires fit { All FitsElement (ordered_elements layout order.now queues.now op part.now) }
-    ensures { IfOk result (λ bytes. bytes.items ≡ spelled_map (map_header layout frame (length (ordered_elements layout order.now queues.now op part.now))) (ordered_elements layout order.now queues.now op part.now)) }
+    ensures { IfOk result (λ bytes. bytes.items
+        ≡ spelled_map (map_header layout frame (length (ordered_elements layout order.now queues.now op part.now)))
+        (ordered_elements layout order.now queues.now op part.now)) }
 {
     let list = ordered_elements(alloc, layout, order, queues, op, part)?;
     let header = layout.header(frame, list.len() as u8);

@@ -53,7 +53,8 @@ pub(crate) struct FirstElement<'a> {
 
 /// The element that the bytes begin with; none where there are fewer than four.
 pub(crate) fn first_element(bytes: &[u8]) -> Option<FirstElement<'_>>
-    ensures elements { MatchOption result (elements_in bytes.now ≡ []) (λ first. elements_in bytes.now ≡ first.element ∷ elements_in first.rest.now) }
+    ensures elements { MatchOption result (elements_in bytes.now ≡ []) (λ first. elements_in bytes.now
+        ≡ first.element ∷ elements_in first.rest.now) }
     ensures fits { IfSome result (λ first. FitsElement first.element) }
     ensures rest { MatchOption result (length bytes.now < 4) (λ first. length bytes.now ≡ length first.rest.now + 4) }
 {

@@ -226,7 +226,8 @@ impl Gather {
         ensures next { frame ≡ self.now.next }
         ensures valid { IsGathering (frame_out self.now frame) }
         ensures after { frame_out self.now frame ≡ after_put self.now op part.now }
-        ensures bytes { IfOk result (λ bytes. IsMapOf self.now.layout frame self.now.shares (frame_slices self.now frame) (frame_parts self.now op part.now) bytes.items) }
+        ensures bytes { IfOk result (λ bytes. IsMapOf self.now.layout frame self.now.shares
+            (frame_slices self.now frame) (frame_parts self.now op part.now) bytes.items) }
     {
         part.kept();
         let slicing = slices_at(&self.slices, self.reslicings.as_slice(), frame);
@@ -266,9 +267,12 @@ impl Gather {
         ensures map { IfOk result (IsAnswer self.old op frame elements) }
         ensures goes { OnOk result (put_fault self.old op frame elements ≡ None) }
 
-        ensures fault { (fault : GatherFault) → fault ≢ NoMemory → ((result ≡ Err (record { fault = fault; elements = elements })) ↔ (put_fault self.old op frame elements ≡ Some fault)) }
+        ensures fault { (fault : GatherFault) → fault ≢ NoMemory
+            → ((result ≡ Err (record { fault = fault; elements = elements }))
+            ↔ (put_fault self.old op frame elements ≡ Some fault)) }
         ensures refused { IfErr result (λ refused. refused.elements ≡ elements) }
-        ensures memory { IfErr result (λ refused. refused.fault ≡ NoMemory → put_fault self.old op frame elements ≡ None) }
+        ensures memory { IfErr result (λ refused. refused.fault ≡ NoMemory
+            → put_fault self.old op frame elements ≡ None) }
         ensures err { OnErr result (self.new ≡ self.old) }
     {
         if let Some(fault) = self.fault_of(op, frame, &elements) {
@@ -329,7 +333,8 @@ impl Gather {
     ) -> Result<(), AllocError>
         requires { MayReslice self.old from slices.items }
         ensures state { OnOk result (self.new ≡ resliced self.old from slices.items) }
-        ensures before { OnOk result ((frame : ℕ) → frame < from → frame_slices self.new frame ≡ frame_slices self.old frame) }
+        ensures before { OnOk result ((frame : ℕ) → frame < from
+            → frame_slices self.new frame ≡ frame_slices self.old frame) }
         ensures behind { OnOk result ((frame : ℕ) → from ≤ frame → frame_slices self.new frame ≡ slices.items) }
         ensures err { OnErr result (self.new ≡ self.old) }
     {

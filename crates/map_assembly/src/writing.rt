@@ -47,7 +47,8 @@ pub(crate) fn push_idle(
 
 /// Adds the spans of an operator's part.
 pub(crate) fn push_spans(elements: &mut Vec<MapElement>, part: &Elements) -> Result<(), AllocError>
-    ensures { OnOk result (elements.new.items ≡ elements.old.items ++ map element_of_span (map map_span part.now.spans)) }
+    ensures { OnOk result (elements.new.items ≡ elements.old.items
+        ++ map element_of_span (map map_span part.now.spans)) }
 {
     for span in part.get_spans() {
         elements.push(MapElement {

@@ -99,7 +99,8 @@ impl Book {
         ensures not_mine { (modem : Modem) → (result ≡ Err (BookFault.NotMine modem))
             ↔ (stranger_of self.old.kept.book action ≡ Some modem) }
         ensures spent { (result ≡ Err BookFault.FramesSpent) ↔ (is_spent self.old.kept.book.state action ≡ true) }
-        ensures unfit { (u : Unfit) → (result ≡ Err (BookFault.Unfit u)) ↔ (unfit_of self.old.kept.book action ≡ Some u) }
+        ensures unfit { (u : Unfit) → (result ≡ Err (BookFault.Unfit u))
+            ↔ (unfit_of self.old.kept.book action ≡ Some u) }
         ensures allowed { OnOk result (IsAllowed self.old.kept.book action) }
         ensures err { OnErr result (self.new.kept.book ≡ self.old.kept.book) }
         ensures ranking { self.new.ranking ≡ self.old.ranking }

@@ -168,7 +168,8 @@ impl Machine {
         kind: Kind,
         tid: u16,
     ) -> Result<Option<Both>, AllocError>
-        ensures told { IfOk result (λ early. IfSome early (λ both. IsAnswered self.now modem kind tid both.told.items)) }
+        ensures told { IfOk result (λ early. IfSome early
+            (λ both. IsAnswered self.now modem kind tid both.told.items)) }
         ensures new { IfOk result (λ early. IfNone early (IsNew self.now modem kind tid)) }
     {
         if tid >= 0x8000 {

@@ -62,7 +62,8 @@ fn put_provision(
 ) -> Result<(), AllocError>
     requires { length flows.old.flows < flows.old.capacity }
     ensures few { OnOk result (length flows.new.flows ≤ length flows.old.flows + 1) }
-    ensures ok { OnOk result (flows.new ≡ record flows.old { flows = put_provision consts.now row.now flows.old.flows provision.now }) }
+    ensures ok { OnOk result (flows.new
+        ≡ record flows.old { flows = put_provision consts.now row.now flows.old.flows provision.now }) }
 {
     let Some(sets) = provision.sets(consts) else {
         return Ok(());
@@ -86,7 +87,8 @@ fn put_provisions(
 ) -> Result<(), AllocError>
     requires none { flows.old.flows ≡ [] }
     requires fits { length row.now.provisions ≤ flows.old.capacity }
-    ensures ok { OnOk result (flows.new ≡ record flows.old { flows = put_provisions consts.now row.now [] row.now.provisions }) }
+    ensures ok { OnOk result (flows.new
+        ≡ record flows.old { flows = put_provisions consts.now row.now [] row.now.provisions }) }
 {
     for provision in row.get_fields().provisions.as_slice() {
         put_provision(alloc, consts, row, flows, provision)?;
@@ -103,7 +105,8 @@ impl Machine {
         consts: &Consts,
     ) -> Result<Machine, AllocError>
         requires { IsRowOf consts.now row.now }
-        ensures { IfOk result (λ machine. machine ≡ record { consts = consts.now; row = row.now; state = opened consts.now row.now }) }
+        ensures { IfOk result (λ machine. machine
+            ≡ record { consts = consts.now; row = row.now; state = opened consts.now row.now }) }
     {
         let keys = row.get_fields();
         let shared = consts.get_fields();

@@ -269,7 +269,8 @@ impl Machine {
 
     /// What becomes of a deletion.
     fn deletion_verdict(&self, modem: Modem, tid: u16, sfid: u32) -> Verdict
-        ensures { result ≡ deletion_verdict tid sfid (free_flow (transaction modem Dsd tid) (flow_at sfid self.now.state.flows)) }
+        ensures { result ≡ deletion_verdict tid sfid
+            (free_flow (transaction modem Dsd tid) (flow_at sfid self.now.state.flows)) }
     {
         let t = Transaction {
             modem,

@@ -31,7 +31,8 @@ ghost use Rattle.operator_machine.specs.Sound.{IsSound};
 pub fn schedule_can_serve()
     ensures ascending { (op : Operator) → IsSound op → SfidsAscend (flowing_in op.state.flows) }
     ensures past { (op : Operator) → IsSound op → All (IsPast op.state.frame) (flowing_in op.state.flows) }
-    ensures within { (op : Operator) → IsSound op → needed (at_frame op.consts op.state) (flowing_in op.state.flows) ≤ op.state.share.slice.length }
+    ensures within { (op : Operator) → IsSound op
+        → needed (at_frame op.consts op.state) (flowing_in op.state.flows) ≤ op.state.share.slice.length }
 {}
 
 /// What a tick gives up is not scheduled, and leaves all that is scheduled: a new flow has no set, and a flow of which a
@@ -45,10 +46,14 @@ pub fn given_up_have_no_grants()
 pub fn frame_is_a_part()
     ensures slice { (op : Operator) → (frame_elements op).slice ≡ op.state.share.slice }
     ensures tiled { (op : Operator) → IsSound op → IsTiled (frame_elements op) }
-    ensures spans_mine { (op : Operator) → IsSound op → list_all (λ span. is_own_sid op.row.sids span.sid) (frame_elements op).spans ≡ true }
-    ensures pending_mine { (op : Operator) → IsSound op → list_all (λ sid. is_own_sid op.row.sids sid) (frame_elements op).pending ≡ true }
-    ensures spans_not_null { (op : Operator) → IsSound op → IsRow op.row → count_by (λ span. span.sid == 0) (frame_elements op).spans ≤ 1 }
-    ensures pending_not_null { (op : Operator) → IsSound op → IsRow op.row → All (λ sid. sid ≢ 0) (frame_elements op).pending }
+    ensures spans_mine { (op : Operator) → IsSound op
+        → list_all (λ span. is_own_sid op.row.sids span.sid) (frame_elements op).spans ≡ true }
+    ensures pending_mine { (op : Operator) → IsSound op
+        → list_all (λ sid. is_own_sid op.row.sids sid) (frame_elements op).pending ≡ true }
+    ensures spans_not_null { (op : Operator) → IsSound op → IsRow op.row
+        → count_by (λ span. span.sid == 0) (frame_elements op).spans ≤ 1 }
+    ensures pending_not_null { (op : Operator) → IsSound op → IsRow op.row
+        → All (λ sid. sid ≢ 0) (frame_elements op).pending }
     ensures few { (op : Operator) → IsSound op
         → length (frame_elements op).spans + length (frame_elements op).pending ≤ op.row.elements + 1 }
 {}
@@ -56,35 +61,44 @@ pub fn frame_is_a_part()
 /// A machine is opened sound: its provisioned flows have identifiers of their own in the row's ranges, fit its limits, and
 /// have committed no more than its quota and its budget. That the slice has a minislot is what each `Slice` has.
 pub fn opened_is_sound()
-    ensures { (consts : ConstsFields) (row : RowFields) → IsRowOf consts row → 1 ≤ row.slice.length → IsSound (operator consts row (opened consts row)) }
+    ensures { (consts : ConstsFields) (row : RowFields) → IsRowOf consts row → 1 ≤ row.slice.length
+        → IsSound (operator consts row (opened consts row)) }
 {}
 
 /// An action that is not refused leaves a sound state: no limit of the row is passed, no SFID or SID is given twice, no more
 /// is committed than the quota and the budgets allow, and each transaction that waits has a flow of its own.
 pub fn step_keeps_sound()
-    ensures { (op : Operator) (action : Action) → IsSound op → IsAllowed op action → IsSound (operator op.consts op.row (own_step op action).state) }
+    ensures { (op : Operator) (action : Action) → IsSound op → IsAllowed op action
+        → IsSound (operator op.consts op.row (own_step op action).state) }
 {}
 
 /// The replay of a history is sound, whatever was done.
 pub fn replay_is_sound()
-    ensures { (consts : ConstsFields) (row : RowFields) (history : List Entry) (state : OperatorState) → IsRowOf consts row → 1 ≤ row.slice.length → IsReplay consts row history state → IsSound (operator consts row state) }
+    ensures { (consts : ConstsFields) (row : RowFields) (history : List Entry) (state : OperatorState)
+        → IsRowOf consts row → 1 ≤ row.slice.length → IsReplay consts row history state
+        → IsSound (operator consts row state) }
 {}
 
 /// The frames of a run are numbered from the state's frame number on, one for each tick, in order and with no gap; the next
 /// one follows them.
 pub fn frames_have_no_gap()
-    ensures numbers { (op : Operator) (actions : List Action) → frames_in (own_run op actions).outputs ≡ range_with_len op.state.frame (count_by is_tick actions) }
-    ensures next { (op : Operator) (actions : List Action) → (own_run op actions).state.frame ≡ op.state.frame + count_by is_tick actions }
+    ensures numbers { (op : Operator) (actions : List Action)
+        → frames_in (own_run op actions).outputs ≡ range_with_len op.state.frame (count_by is_tick actions) }
+    ensures next { (op : Operator) (actions : List Action)
+        → (own_run op actions).state.frame ≡ op.state.frame + count_by is_tick actions }
 {}
 
 /// Over a run of actions each of which is allowed at its place, each frame that is put out is of the slice of its number: that
 /// of the newest re-slicing that is not from a later frame on, at first the row's. So is the slice in force after it.
 pub fn frames_are_shares()
-    ensures frames { (consts : ConstsFields) (row : RowFields) (actions : List Action) → MayRun (operator consts row (opened consts row)) actions
+    ensures frames { (consts : ConstsFields) (row : RowFields) (actions : List Action)
+        → MayRun (operator consts row (opened consts row)) actions
         → All (IsOfItsSlice (slice_at row.slice (reslicings_in actions))) (own_run (operator consts row (opened consts row)) actions).outputs }
-    ensures in_force { (consts : ConstsFields) (row : RowFields) (actions : List Action) → MayRun (operator consts row (opened consts row)) actions
+    ensures in_force { (consts : ConstsFields) (row : RowFields) (actions : List Action)
+        → MayRun (operator consts row (opened consts row)) actions
         → (own_run (operator consts row (opened consts row)) actions).state.share.slice ≡ slice_at row.slice (reslicings_in actions) (own_run (operator consts row (opened consts row)) actions).state.frame }
-    ensures replayed { (consts : ConstsFields) (row : RowFields) (history : List Entry) (state : OperatorState) → IsReplay consts row history state
+    ensures replayed { (consts : ConstsFields) (row : RowFields) (history : List Entry) (state : OperatorState)
+        → IsReplay consts row history state
         → state.share.slice ≡ slice_at row.slice (reslicings_in (actions_of history)) state.frame }
 {}
 

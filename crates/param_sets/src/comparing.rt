@@ -13,7 +13,8 @@ use crate::refusal::first_true;
 /// The error is the first subtype in which it fails, in this order.
 #[tactic(auto, using(crate::proofs::WithinLemmas::is_within, crate::proofs::WithinLemmas::nothing_fails))]
 pub fn within(a: &ParamSet, b: &ParamSet) -> Result<(), u8>
-    ensures exact { MatchResult result (λ _. first_failing a.now b.now ≡ None) (λ subtype. first_failing a.now b.now ≡ Some subtype) }
+    ensures exact { MatchResult result (λ _. first_failing a.now b.now ≡ None) (λ subtype. first_failing a.now b.now
+        ≡ Some subtype) }
     ensures ok { IsOk result ↔ IsWithin a.now b.now }
 {
     match failing(&a.get_fields(), &b.get_fields()) {

@@ -28,8 +28,10 @@ pub fn from_tlv(flow: &FlowTlv, units: &Units) -> Result<ParamSet, Refusal>
     ensures exact { result ≡ parameter_set_of flow.now units.now }
     ensures asked { IfOk result (AsksFor flow.now units.now) }
     ensures only { (set : ParamFields) → AsksFor flow.now units.now set → result ≡ Ok set }
-    ensures unknown { (result ≡ Err (record { code = RejectInvalidForContext; subtype = 15 })) ↔ (scheduling_of flow.now.scheduling_type ≡ None) }
-    ensures missing { (subtype : ℕ) → (result ≡ Err (record { code = RejectRequiredParameterNotPresent; subtype = subtype }))
+    ensures unknown { (result ≡ Err (record { code = RejectInvalidForContext; subtype = 15 }))
+        ↔ (scheduling_of flow.now.scheduling_type ≡ None) }
+    ensures missing { (subtype : ℕ)
+        → (result ≡ Err (record { code = RejectRequiredParameterNotPresent; subtype = subtype }))
         ↔ IsLeastMissing flow.now subtype }
 {
     let stated = flow.get_fields();

@@ -77,7 +77,8 @@ impl Sets {
     pub fn admit(&self, set: ParamSet) -> Result<Sets, Refusal>
         ensures exact { result ≡ admit_of self.now set }
         ensures ok { IsOk result ↔ IsWithinProvisioned (Some set) self.now.provisioned }
-        ensures refused { (subtype : ℕ) → (result ≡ Err (record { code = RejectAuthorizationFailure; subtype = subtype }))
+        ensures refused { (subtype : ℕ)
+            → (result ≡ Err (record { code = RejectAuthorizationFailure; subtype = subtype }))
             ↔ (failing_in_provisioned set self.now.provisioned ≡ Some subtype) }
     {
         if let Some(provisioned) = self.fields.provisioned {

@@ -26,7 +26,8 @@ impl Desk {
         ranking: Ranking,
     ) -> Result<Desk, OpenFault>
         requires { IsRowOf consts.now row.now }
-        ensures book { IfOk result (λ desk. book_at desk ≡ record { row = row.now; consts = consts.now; state = opened consts.now row.now; history = [] }) }
+        ensures book { IfOk result (λ desk. book_at desk
+            ≡ record { row = row.now; consts = consts.now; state = opened consts.now row.now; history = [] }) }
         ensures waiting { IfOk result (λ desk. waiting_at desk ≡ []) }
         ensures mismatch { (result ≡ Err OpenFault.PolicyMismatch) ↔ (ranking.policy ≢ row.now.policy) }
     {
@@ -38,9 +39,14 @@ impl Desk {
     pub fn act(&mut self, alloc: Global, action: Action) -> Result<Vec<Output>, BookFault>
         requires within { self.old.collected ≤ length (book_at self.old).history }
         ensures book { OnOk result (book_at self.new ≡ acted (book_at self.old) action) }
-        ensures waiting { OnOk result (waiting_at self.new ≡ waiting_at self.old ++ frames_of (own_step (operator (book_at self.old).consts (book_at self.old).row (book_at self.old).state) action).outputs) }
-        ensures outputs { IfOk result (λ outputs. outputs.items ≡ (own_step (operator (book_at self.old).consts (book_at self.old).row (book_at self.old).state) action).outputs) }
-        ensures allowed { OnOk result (IsAllowed (operator (book_at self.old).consts (book_at self.old).row (book_at self.old).state) action) }
+        ensures waiting { OnOk result (waiting_at self.new ≡ waiting_at self.old
+            ++ frames_of (own_step (operator (book_at self.old).consts (book_at self.old).row
+            (book_at self.old).state) action).outputs) }
+        ensures outputs { IfOk result (λ outputs. outputs.items
+            ≡ (own_step (operator (book_at self.old).consts (book_at self.old).row (book_at self.old).state)
+            action).outputs) }
+        ensures allowed { OnOk result (IsAllowed
+            (operator (book_at self.old).consts (book_at self.old).row (book_at self.old).state) action) }
         ensures same_book { OnErr result (book_at self.new ≡ book_at self.old) }
         ensures same_waiting { OnErr result (waiting_at self.new ≡ waiting_at self.old) }
     {

@@ -28,7 +28,8 @@ impl PlantCore {
 
     /// All that an operator did, in order; none past the last operator. Takes no memory.
     pub fn history(&self, op: Op) -> Option<&[Entry]>
-        ensures { option_map (λ history. history.now) result ≡ option_map (λ book. book.history) (slice_get (core_view self.now).books op) }
+        ensures { option_map (λ history. history.now) result
+            ≡ option_map (λ book. book.history) (slice_get (core_view self.now).books op) }
     {
         let desk = self.desks.get(op)?;
         Some(desk.book.history())

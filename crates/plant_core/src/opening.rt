@@ -70,7 +70,8 @@ impl PlantCore {
         requires { vec_len rankings < 2 ^ 64 }
         ensures ok { IfOk result (λ core. core_view core ≡ opened_core plant) }
         ensures reached { IfOk result (λ core. Reached plant [] [] (core_view core)) }
-        ensures mismatch { (result ≡ Err CoreOpenFault.RankingsMismatch) ↔ (map (λ ranking. ranking.policy) rankings.items ≢ map (λ row. row.policy) plant.rows) }
+        ensures mismatch { (result ≡ Err CoreOpenFault.RankingsMismatch)
+            ↔ (map (λ ranking. ranking.policy) rankings.items ≢ map (λ row. row.policy) plant.rows) }
     {
         let rows = plant.rows();
         if !follow(rankings.as_slice(), rows) {

@@ -122,7 +122,8 @@ impl PlantCore {
     ) -> Result<(), CoreFault>
         ensures ok { OnOk result (Reslices from rows.now (core_view self.old) (core_view self.new) []) }
         ensures err { OnErr result (core_view self.new ≡ core_view self.old) }
-        ensures fault { IsTold result (option_map (λ fault. CoreFault.Reslice fault) (reslice_fault from (core_view self.old).books rows.now)) }
+        ensures fault { IsTold result (option_map
+            (λ fault. CoreFault.Reslice fault) (reslice_fault from (core_view self.old).books rows.now)) }
     {
         if let Some(fault) = self.reslice_fault(from, rows) {
             return Err(CoreFault::Reslice(fault));

@@ -28,10 +28,16 @@ impl PlantCore {
     /// The steps one after the other, up to the first that is refused, and all that they put out in order. The core then stands
     /// as after the steps before it.
     pub fn run(&mut self, alloc: Global, steps: &[Step]) -> Result<Vec<Out>, RunStop>
-        ensures reached { IfOk result (λ outs. (before : List Step) (told : List Out) → Reached (core_view self.old).plant before told (core_view self.old) → Reached (core_view self.old).plant (before ++ steps.now) (told ++ outs.items) (core_view self.new)) }
-        ensures stopped { IfErr result (λ stop. (before : List Step) (told : List Out) → Reached (core_view self.old).plant before told (core_view self.old) → Reached (core_view self.old).plant (before ++ take stop.at steps.now) (told ++ stop.outs.items) (core_view self.new)) }
+        ensures reached { IfOk result (λ outs. (before : List Step) (told : List Out)
+            → Reached (core_view self.old).plant before told (core_view self.old)
+            → Reached (core_view self.old).plant (before ++ steps.now) (told ++ outs.items) (core_view self.new)) }
+        ensures stopped { IfErr result (λ stop. (before : List Step) (told : List Out)
+            → Reached (core_view self.old).plant before told (core_view self.old)
+            → Reached (core_view self.old).plant (before ++ take stop.at steps.now) (told
+            ++ stop.outs.items) (core_view self.new)) }
         ensures within { IfErr result (λ stop. stop.at < length steps.now) }
-        ensures fault { IfErr result (λ stop. (step : Step) → slice_get steps.now stop.at ≡ Some step → IsTold {A = Unit {0}} (Err stop.fault) (step_fault (core_view self.new) step)) }
+        ensures fault { IfErr result (λ stop. (step : Step) → slice_get steps.now stop.at ≡ Some step
+            → IsTold {A = Unit {0}} (Err stop.fault) (step_fault (core_view self.new) step)) }
     {
         let mut outs = Vec::new(alloc);
         for (at, step) in steps.iter().enumerate() {
@@ -50,7 +56,8 @@ impl PlantCore {
         step: &Step,
         outs: &mut Vec<Out>,
     ) -> Result<(), CoreFault>
-        ensures ok { OnOk result ((now : List Out) × (outs.new.items ≡ outs.old.items ++ now) × Steps step.now (core_view self.old) (core_view self.new) now) }
+        ensures ok { OnOk result ((now : List Out) × (outs.new.items ≡ outs.old.items ++ now)
+            × Steps step.now (core_view self.old) (core_view self.new) now) }
         ensures outs { OnErr result (outs.new.items ≡ outs.old.items) }
         ensures err { OnErr result (core_view self.new ≡ core_view self.old) }
         ensures fault { IsTold result (step_fault (core_view self.old) step.now) }
@@ -72,7 +79,8 @@ impl PlantCore {
         heard: &Heard,
         outs: &mut Vec<Out>,
     ) -> Result<(), CoreFault>
-        ensures ok { OnOk result ((now : List Out) × (outs.new.items ≡ outs.old.items ++ now) × Steps (steps.Arrive modem heard.now) (core_view self.old) (core_view self.new) now) }
+        ensures ok { OnOk result ((now : List Out) × (outs.new.items ≡ outs.old.items ++ now)
+            × Steps (steps.Arrive modem heard.now) (core_view self.old) (core_view self.new) now) }
         ensures outs { OnErr result (outs.new.items ≡ outs.old.items) }
         ensures err { OnErr result (core_view self.new ≡ core_view self.old) }
         ensures fault { IsTold result (step_fault (core_view self.old) (steps.Arrive modem heard.now)) }

@@ -64,7 +64,8 @@ impl PlantCore {
     ) -> Result<(), CoreFault>
         requires within { op < vec_len self.old.desks }
         requires of_a_step { IsOfAStep self.old.routes op action }
-        ensures ok { OnOk result ((now : List Out) × (outs.new.items ≡ outs.old.items ++ now) × Acts op action (core_view self.old) (core_view self.new) now) }
+        ensures ok { OnOk result ((now : List Out) × (outs.new.items ≡ outs.old.items ++ now)
+            × Acts op action (core_view self.old) (core_view self.new) now) }
         ensures outs { OnErr result (outs.new.items ≡ outs.old.items) }
         ensures err { OnErr result (core_view self.new ≡ core_view self.old) }
         ensures fault { IsTold result (act_fault op action (slice_get (map book_at self.old.desks.items) op)) }
@@ -97,7 +98,8 @@ impl PlantCore {
         outs: &mut Vec<Out>,
     ) -> Result<(), CoreFault>
         requires { IsOfAStep self.old.routes op action }
-        ensures ok { OnOk result ((now : List Out) × (outs.new.items ≡ outs.old.items ++ now) × Acts op action (core_view self.old) (core_view self.new) now) }
+        ensures ok { OnOk result ((now : List Out) × (outs.new.items ≡ outs.old.items ++ now)
+            × Acts op action (core_view self.old) (core_view self.new) now) }
         ensures outs { OnErr result (outs.new.items ≡ outs.old.items) }
         ensures err { OnErr result (core_view self.new ≡ core_view self.old) }
         ensures fault { IsTold result (act_fault op action (slice_get (core_view self.old).books op)) }
@@ -116,7 +118,8 @@ impl PlantCore {
         heard: Heard,
         outs: &mut Vec<Out>,
     ) -> Result<(), CoreFault>
-        ensures ok { OnOk result ((now : List Out) × (outs.new.items ≡ outs.old.items ++ now) × Steps (steps.Arrive modem heard) (core_view self.old) (core_view self.new) now) }
+        ensures ok { OnOk result ((now : List Out) × (outs.new.items ≡ outs.old.items ++ now)
+            × Steps (steps.Arrive modem heard) (core_view self.old) (core_view self.new) now) }
         ensures outs { OnErr result (outs.new.items ≡ outs.old.items) }
         ensures err { OnErr result (core_view self.new ≡ core_view self.old) }
         ensures fault { IsTold result (step_fault (core_view self.old) (steps.Arrive modem heard)) }
@@ -130,7 +133,8 @@ impl PlantCore {
     /// The oldest frame that waits of the operator at this place goes into the assembly.
     fn collect_at(&mut self, alloc: Global, op: Op, outs: &mut Vec<Out>) -> Result<(), CoreFault>
         requires { op < vec_len self.old.desks }
-        ensures ok { OnOk result ((now : List Out) × (outs.new.items ≡ outs.old.items ++ now) × Collects op (core_view self.old) (core_view self.new) now) }
+        ensures ok { OnOk result ((now : List Out) × (outs.new.items ≡ outs.old.items ++ now)
+            × Collects op (core_view self.old) (core_view self.new) now) }
         ensures outs { OnErr result (outs.new.items ≡ outs.old.items) }
         ensures err { OnErr result (core_view self.new ≡ core_view self.old) }
         ensures fault { IsTold result (collect_fault op (slice_get (core_view self.old).queues op)) }
@@ -161,7 +165,8 @@ impl PlantCore {
         op: Op,
         outs: &mut Vec<Out>,
     ) -> Result<(), CoreFault>
-        ensures ok { OnOk result ((now : List Out) × (outs.new.items ≡ outs.old.items ++ now) × Collects op (core_view self.old) (core_view self.new) now) }
+        ensures ok { OnOk result ((now : List Out) × (outs.new.items ≡ outs.old.items ++ now)
+            × Collects op (core_view self.old) (core_view self.new) now) }
         ensures outs { OnErr result (outs.new.items ≡ outs.old.items) }
         ensures err { OnErr result (core_view self.new ≡ core_view self.old) }
         ensures fault { IsTold result (collect_fault op (slice_get (core_view self.old).queues op)) }
@@ -174,7 +179,8 @@ impl PlantCore {
 
     /// One step, whose outputs are added.
     fn step_into(&mut self, alloc: Global, step: Step, outs: &mut Vec<Out>) -> Result<(), CoreFault>
-        ensures ok { OnOk result ((now : List Out) × (outs.new.items ≡ outs.old.items ++ now) × Steps step (core_view self.old) (core_view self.new) now) }
+        ensures ok { OnOk result ((now : List Out) × (outs.new.items ≡ outs.old.items ++ now)
+            × Steps step (core_view self.old) (core_view self.new) now) }
         ensures outs { OnErr result (outs.new.items ≡ outs.old.items) }
         ensures err { OnErr result (core_view self.new ≡ core_view self.old) }
         ensures fault { IsTold result (step_fault (core_view self.old) step) }
@@ -196,7 +202,10 @@ impl PlantCore {
         outs: &mut Vec<Out>,
     ) -> Result<(), CoreFault>
         ensures ok { OnOk result (Steps step (core_view self.old) (core_view self.new) outs.new.items) }
-        ensures reached { OnOk result ((before : List Step) (told : List Out) → Reached (core_view self.old).plant before told (core_view self.old) → Reached (core_view self.old).plant (before ++ step ∷ []) (told ++ outs.new.items) (core_view self.new)) }
+        ensures reached { OnOk result ((before : List Step) (told : List Out)
+            → Reached (core_view self.old).plant before told (core_view self.old)
+            → Reached (core_view self.old).plant (before ++ step ∷ []) (told
+            ++ outs.new.items) (core_view self.new)) }
         ensures err { OnErr result (core_view self.new ≡ core_view self.old) }
         ensures fault { IsTold result (step_fault (core_view self.old) step) }
     {
@@ -209,7 +218,9 @@ impl PlantCore {
     /// One step, and what it puts out. A refused step changes nothing.
     pub fn step(&mut self, alloc: Global, step: Step) -> Result<Vec<Out>, CoreFault>
         ensures ok { IfOk result (λ outs. Steps step (core_view self.old) (core_view self.new) outs.items) }
-        ensures reached { IfOk result (λ outs. (before : List Step) (told : List Out) → Reached (core_view self.old).plant before told (core_view self.old) → Reached (core_view self.old).plant (before ++ step ∷ []) (told ++ outs.items) (core_view self.new)) }
+        ensures reached { IfOk result (λ outs. (before : List Step) (told : List Out)
+            → Reached (core_view self.old).plant before told (core_view self.old)
+            → Reached (core_view self.old).plant (before ++ step ∷ []) (told ++ outs.items) (core_view self.new)) }
         ensures err { OnErr result (core_view self.new ≡ core_view self.old) }
         ensures fault { IsTold result (step_fault (core_view self.old) step) }
     {

@@ -11,10 +11,11 @@ ghost use Rattle.plant_runs.specs.Reached.{IsBookAfter};
 ghost use Rattle.plant_outcomes.specs.Straying.{DifferFirst, AreOwn, StraysAt, IsStray};
 ghost use Rattle.plant_outcomes.specs.Taken.{taken_by};
 
-use crate::same::{are_same_consts, is_same_heard, is_same_row};
+use crate::same::{are_same_consts, is_same_row};
 use dsx_messages::Modem;
 use operator_book::Book;
 use operator_machine::{Action, Entry};
+use plant_receipts::is_same_heard;
 use plant_runs::Step;
 use slice_table::{Op, Plant};
 

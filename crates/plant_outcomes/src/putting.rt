@@ -12,9 +12,9 @@ ghost use Rattle.plant_outcomes.specs.Numbering.{frame_of, numbered, AreNumbered
 ghost use Rattle.plant_outcomes.specs.declared.putting.Frame.{Frame};
 
 use crate::placing::Placing;
-use crate::same::are_same_elements;
 use operator_book::Book;
 use operator_machine::{Entry, Output};
+use plant_receipts::are_same_elements;
 use plant_runs::Step;
 use slice_scheduler::Elements;
 use slice_table::Op;

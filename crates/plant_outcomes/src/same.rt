@@ -5,53 +5,11 @@ ghost use Rattle.plant_outcomes.specs.Same.{HaveSameLimits, HaveSameRanges, Have
 
 use admission::IdRange;
 use dsx_messages::Modem;
-use operator_machine::Heard;
-use slice_scheduler::{Elements, Slice, Span};
+use slice_scheduler::Slice;
 use slice_table::{
     Class, Consts, ConstsFields, OperatorName, OperatorRow, Plant, Provision, RowFields,
 };
 use tlv24::{ClassName, ErrorEncodings, FlowFields, FlowTlv};
-
-/// Whether the same was heard.
-pub(crate) fn is_same_heard(a: &Heard, b: &Heard) -> bool
-    ensures { IsTrue result ↔ (a.now ≡ b.now) }
-{
-    match (a, b) {
-        (Heard::Message(bytes), Heard::Message(others)) => bytes.as_slice() == others.as_slice(),
-        (
-            Heard::Request { sid, minislots },
-            Heard::Request {
-                sid: other,
-                minislots: others,
-            },
-        ) => sid == other && minislots == others,
-        _ => false,
-    }
-}
-
-/// Whether the spans are the same, in the same order.
-fn are_same_spans(a: &[Span], b: &[Span]) -> bool
-    ensures { IsTrue result ↔ (a.now ≡ b.now) }
-{
-    if a.len() != b.len() {
-        return false;
-    }
-    for (place, span) in a.iter().enumerate() {
-        if *span != b[place] {
-            return false;
-        }
-    }
-    true
-}
-
-/// Whether the elements are the same.
-pub(crate) fn are_same_elements(a: &Elements, b: &Elements) -> bool
-    ensures { IsTrue result ↔ (a.now ≡ b.now) }
-{
-    a.get_slice() == b.get_slice()
-        && are_same_spans(a.get_spans(), b.get_spans())
-        && a.get_pending() == b.get_pending()
-}
 
 /// Whether two flows are provisioned alike.
 fn is_same_provision(a: &Provision, b: &Provision) -> bool

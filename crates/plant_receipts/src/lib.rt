@@ -18,5 +18,6 @@ mod tests;
 
 pub use receipt::{Callers, Receipt, Receipts};
 pub use run_fault::RunFault;
+pub use same::{are_same_elements, is_same_heard};
 pub use settled::Settled;
 pub use settling::settle;

@@ -6,7 +6,7 @@ use operator_machine::{Action, Heard, Output};
 use slice_scheduler::{Elements, Span};
 
 /// Whether the same was heard.
-fn is_same_heard(a: &Heard, b: &Heard) -> bool
+pub fn is_same_heard(a: &Heard, b: &Heard) -> bool
     ensures { IsTrue result ↔ (a.now ≡ b.now) }
 {
     match (a, b) {
@@ -54,7 +54,7 @@ fn are_same_spans(a: &[Span], b: &[Span]) -> bool
 }
 
 /// Whether the elements are the same.
-fn are_same_elements(a: &Elements, b: &Elements) -> bool
+pub fn are_same_elements(a: &Elements, b: &Elements) -> bool
     ensures { IsTrue result ↔ (a.now ≡ b.now) }
 {
     a.get_slice() == b.get_slice()

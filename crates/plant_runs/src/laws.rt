@@ -44,7 +44,9 @@ pub fn equal_books_answer_alike()
 /// Whatever the bytes of a MAP of a run say, each minislot of the frame is in exactly one span, and each operator's part is the
 /// frame of that number of its own machine run alone.
 pub fn maps_are_shared_out()
-    ensures { (plant : PlantFields) (steps : List Step) (outs : List Out) (made : MapBytes) (view : MapView) → Shown plant steps outs → Contains (maps_in outs) made → MapReads made.bytes view → IsSharedOut plant steps made view }
+    ensures { (plant : PlantFields) (steps : List Step) (outs : List Out) (made : MapBytes) (view : MapView)
+        → Shown plant steps outs → Contains (maps_in outs) made → MapReads made.bytes view
+        → IsSharedOut plant steps made view }
 {}
 
 /// A core is opened as it is after no step.
@@ -56,26 +58,32 @@ pub fn opened_is_reached()
 /// machines' frames, and all outputs in order. What the assembly always keeps of what it gathered is asked for, as it is what
 /// its type keeps.
 pub fn step_is_reached()
-    ensures { (plant : PlantFields) (before : List Step) (outs : List Out) (step : Step) (old new : CoreView) (now : List Out) → IsPlant plant → Reached plant before outs old → IsGathering old.gathering → Steps step old new now
+    ensures { (plant : PlantFields) (before : List Step) (outs : List Out) (step : Step) (old new : CoreView)
+        (now : List Out) → IsPlant plant → Reached plant before outs old → IsGathering old.gathering
+        → Steps step old new now
         → Reached plant (before ++ step ∷ []) (outs ++ now) new }
 {}
 
 /// Whatever steps are done to an opened core, one after the other, the core is as it is after them, and the run shows to each
 /// operator its own machine run alone.
 pub fn run_is_reached()
-    ensures { (plant : PlantFields) (steps : List Step) (outs : List Out) (core : CoreView) → IsPlant plant → IsRun steps (opened_core plant) core outs → Reached plant steps outs core }
+    ensures { (plant : PlantFields) (steps : List Step) (outs : List Out) (core : CoreView) → IsPlant plant
+        → IsRun steps (opened_core plant) core outs → Reached plant steps outs core }
 {}
 
 /// The assembly refuses no frame that waits: whatever steps were done, the oldest one of an operator has the number that comes
 /// next of it, the slice of its frame, the operator's own SIDs, and no more elements than its quota and one.
 pub fn waiting_frames_fit()
-    ensures { (plant : PlantFields) (steps : List Step) (outs : List Out) (core : CoreView) (i frame : ℕ) (part : ElementsFields) (waiting : List (ℕ × ElementsFields)) → IsPlant plant → Reached plant steps outs core → IsGathering core.gathering
+    ensures { (plant : PlantFields) (steps : List Step) (outs : List Out) (core : CoreView) (i frame : ℕ)
+        (part : ElementsFields) (waiting : List (ℕ × ElementsFields)) → IsPlant plant → Reached plant steps outs core
+        → IsGathering core.gathering
         → slice_get core.queues i ≡ Some ((frame, part) ∷ waiting) → put_fault core.gathering i frame part ≡ None }
 {}
 
 /// Slices of which no two meet and that each operator's book takes are taken by the assembly too.
 pub fn slices_that_books_take_fit()
-    ensures { (plant : PlantFields) (steps : List Step) (outs : List Out) (core : CoreView) (from : ℕ) (rows : List SliceRow) → IsPlant plant → Reached plant steps outs core → IsGathering core.gathering
+    ensures { (plant : PlantFields) (steps : List Step) (outs : List Out) (core : CoreView) (from : ℕ)
+        (rows : List SliceRow) → IsPlant plant → Reached plant steps outs core → IsGathering core.gathering
         → length rows ≡ length core.books → AllPairs (λ a b. slices_meet (slice_of a) (slice_of b) ≡ false) rows
         → ((i : ℕ) (row : SliceRow) (book : BookView) → slice_get rows i ≡ Some row → slice_get core.books i ≡ Some book → unfit_from book.consts book.state from row ≡ None)
         → MayReslice core.gathering from (map slice_of rows) }

@@ -13,30 +13,38 @@ ghost use Rattle.slice_scheduler.specs.Tiles.{IsTiled};
 
 /// No flow is granted more than it asks.
 pub fn grant_is_within_backlog()
-    ensures { (policy : Policy) (at : At) (flows : List Flowing) (f : Flowing) → grant_of policy at flows f ≤ f.backlog }
+    ensures { (policy : Policy) (at : At) (flows : List Flowing) (f : Flowing)
+        → grant_of policy at flows f ≤ f.backlog }
 {}
 
 /// Each flow is granted what its reserved rate covers of its backlog.
 pub fn base_is_granted()
-    ensures { (policy : Policy) (at : At) (flows : List Flowing) (f : Flowing) → base_of at f ≤ grant_of policy at flows f }
+    ensures { (policy : Policy) (at : At) (flows : List Flowing) (f : Flowing)
+        → base_of at f ≤ grant_of policy at flows f }
 {}
 
 /// The grants that a schedule tells are those of its flows, each SFID with its flow's grant, in the flows' order.
 #[tactic(auto, using(crate::proofs::GrantedLemmas::granted_is))]
 pub fn granted_by_flow()
-    ensures { (policy : Policy) (at : At) (flows : List Flowing) → granted_of policy at flows ≡ map (λ f. (f.sfid, grant_of policy at flows f)) (filter (λ f. nat_lt 0 (grant_of policy at flows f)) flows) }
+    ensures { (policy : Policy) (at : At) (flows : List Flowing)
+        → granted_of policy at flows ≡ map
+        (λ f. (f.sfid, grant_of policy at flows f)) (filter (λ f. nat_lt 0 (grant_of policy at flows f)) flows) }
 {}
 
 /// The spans of a schedule are the minislots of the slice, each in exactly one, where the flows stand by SFID and what their
 /// parameter sets need fits the slice.
 pub fn elements_are_tiled()
-    ensures { (policy : Policy) (at : At) (flows : List Flowing) → SfidsAscend flows → needed at flows ≤ at.slice.length → All IsOfItsKind flows → IsTiled (elements_of policy at flows) }
+    ensures { (policy : Policy) (at : At) (flows : List Flowing) → SfidsAscend flows
+        → needed at flows ≤ at.slice.length → All IsOfItsKind flows → IsTiled (elements_of policy at flows) }
 {}
 
 /// Each span is a flow's, by its SID, or nobody's, by SID 0; each SID that is pending is a flow's.
 pub fn elements_name_flows()
-    ensures spans { (policy : Policy) (at : At) (flows : List Flowing) → All (λ span. (span.sid ≡ 0) ⊎ Contains (map (λ f. f.sid) flows) span.sid) (elements_of policy at flows).spans }
-    ensures pending { (policy : Policy) (at : At) (flows : List Flowing) → All (Contains (map (λ f. f.sid) flows)) (elements_of policy at flows).pending }
+    ensures spans { (policy : Policy) (at : At) (flows : List Flowing)
+        → All (λ span. (span.sid ≡ 0) ⊎ Contains (map
+        (λ f. f.sid) flows) span.sid) (elements_of policy at flows).spans }
+    ensures pending { (policy : Policy) (at : At) (flows : List Flowing)
+        → All (Contains (map (λ f. f.sid) flows)) (elements_of policy at flows).pending }
 {}
 
 /// A schedule has no more elements than the flows' parameter sets need, and one for what is left of the slice.

@@ -41,7 +41,8 @@ pub(crate) fn push_awards(
 pub(crate) fn pack(alloc: Global, slice: &Slice, pieces: &[Piece]) -> Result<Vec<Span>, AllocError>
     requires some { All HasMinislots pieces.now }
     requires fits { minislots_in pieces.now ≤ slice.now.length }
-    ensures items { IfOk result (λ spans. spans.items ≡ packed slice.now.start (pieces.now ++ idle (slice.now.length - minislots_in pieces.now))) }
+    ensures items { IfOk result (λ spans. spans.items
+        ≡ packed slice.now.start (pieces.now ++ idle (slice.now.length - minislots_in pieces.now))) }
     ensures tiles { IfOk result (λ spans. Tiles slice.now.start (slice.now.start + slice.now.length) spans.items) }
 {
     let end = slice.get_start() + slice.get_length();

@@ -33,7 +33,8 @@ fn pending(alloc: Global, awards: &[Award]) -> Result<Vec<u16>, AllocError>
 
 /// The SFID and the minislots of each award that is more than none.
 fn granted(alloc: Global, awards: &[Award]) -> Result<Vec<(u32, u16)>, AllocError>
-    ensures { IfOk result (λ grants. grants.items ≡ map (λ a. (a.sfid, a.grant)) (filter (λ a. nat_lt 0 a.grant) awards.now)) }
+    ensures { IfOk result (λ grants. grants.items
+        ≡ map (λ a. (a.sfid, a.grant)) (filter (λ a. nat_lt 0 a.grant) awards.now)) }
 {
     let mut grants = Vec::with_capacity(alloc, awards.len())?;
     for award in awards {

@@ -28,47 +28,56 @@ ghost use Rattle.slice_table.specs.First.{IsLeastPair, IsFirst, StandsAgain, Hol
 
 /// A number is read exactly where it stands under its key, in its range.
 pub fn number_is_said()
-    ensures { (place : Place) (field : Field) (low high : ℕ) (ms : Members) (n : ℕ) → (number_at place field low high ms ≡ Ok n) ↔ SaysNumber ms field low high n }
+    ensures { (place : Place) (field : Field) (low high : ℕ) (ms : Members) (n : ℕ)
+        → (number_at place field low high ms ≡ Ok n) ↔ SaysNumber ms field low high n }
 {}
 
 /// The default is read exactly where the key is not there.
 pub fn default_is_said()
-    ensures { (place : Place) (field : Field) (low high default : ℕ) (ms : Members) (n : ℕ) → (number_or place field low high default ms ≡ Ok n) ↔ SaysNumberOr ms field low high default n }
+    ensures { (place : Place) (field : Field) (low high default : ℕ) (ms : Members) (n : ℕ)
+        → (number_or place field low high default ms ≡ Ok n) ↔ SaysNumberOr ms field low high default n }
 {}
 
 /// A slice is read exactly where it stands under its key, behind the head and within the frame.
 pub fn slice_is_said()
-    ensures { (consts : ConstsFields) (place : Place) (ms : Members) (slice : Minislots) → (slice_at consts place ms ≡ Ok slice) ↔ SaysSlice consts ms slice }
+    ensures { (consts : ConstsFields) (place : Place) (ms : Members) (slice : Minislots)
+        → (slice_at consts place ms ≡ Ok slice) ↔ SaysSlice consts ms slice }
 {}
 
 /// A range is read exactly where it stands under its key, from 1 to the greatest number, in order.
 pub fn range_is_said()
-    ensures { (place : Place) (field : Field) (high : ℕ) (ms : Members) (range : Numbers) → (range_at place field high ms ≡ Ok range) ↔ SaysRange ms field high range }
+    ensures { (place : Place) (field : Field) (high : ℕ) (ms : Members) (range : Numbers)
+        → (range_at place field high ms ≡ Ok range) ↔ SaysRange ms field high range }
 {}
 
 /// A policy is read exactly where its name stands under its key, with its step where it has one.
 pub fn policy_is_said()
-    ensures { (place : Place) (ms : Members) (policy : Policy) → (policy_at place ms ≡ Ok policy) ↔ SaysPolicy ms policy }
+    ensures { (place : Place) (ms : Members) (policy : Policy) → (policy_at place ms ≡ Ok policy)
+        ↔ SaysPolicy ms policy }
 {}
 
 /// Modems are read exactly where their addresses stand under their key, 1 to 1,024 of them.
 pub fn modems_are_said()
-    ensures { (place : Place) (ms : Members) (modems : List Modem) → (modems_at place ms ≡ Ok modems) ↔ SaysModems ms modems }
+    ensures { (place : Place) (ms : Members) (modems : List Modem) → (modems_at place ms ≡ Ok modems)
+        ↔ SaysModems ms modems }
 {}
 
 /// An operator is read, behind others, exactly where a table says each of its keys.
 pub fn row_is_said()
-    ensures { (consts : ConstsFields) (before : List RowFields) (d : Data) (row : RowFields) → (row_read consts before d ≡ Ok row) ↔ SaysRow consts before d row }
+    ensures { (consts : ConstsFields) (before : List RowFields) (d : Data) (row : RowFields)
+        → (row_read consts before d ≡ Ok row) ↔ SaysRow consts before d row }
 {}
 
 /// All operators are read exactly where the array `operator` says them in turn.
 pub fn rows_are_said()
-    ensures { (consts : ConstsFields) (document : Members) (rows : List RowFields) → (rows_of consts document ≡ Ok rows) ↔ SaysRows consts document rows }
+    ensures { (consts : ConstsFields) (document : Members) (rows : List RowFields)
+        → (rows_of consts document ≡ Ok rows) ↔ SaysRows consts document rows }
 {}
 
 /// What all operators share is read exactly where the table `plant` and the array `class` say it.
 pub fn consts_are_said()
-    ensures { (document : Members) (consts : ConstsFields) → (consts_of document ≡ Ok consts) ↔ SaysConsts document consts }
+    ensures { (document : Members) (consts : ConstsFields) → (consts_of document ≡ Ok consts)
+        ↔ SaysConsts document consts }
 {}
 
 /// A plant is read exactly where the keys of the document say it and it is valid.
@@ -78,22 +87,27 @@ pub fn plant_is_said()
 
 /// The holder of a modem is the first operator that lists it.
 pub fn holder_is_first()
-    ensures { (rows : List RowFields) (modem : Modem) (operator : ℕ) → (holder rows modem ≡ Some operator) ↔ Holds rows modem operator }
+    ensures { (rows : List RowFields) (modem : Modem) (operator : ℕ) → (holder rows modem ≡ Some operator)
+        ↔ Holds rows modem operator }
 {}
 
 /// At most one operator of a valid plant lists a modem.
 pub fn one_operator_lists()
-    ensures { (plant : PlantFields) (modem : Modem) (i j : ℕ) (a b : RowFields) → IsPlant plant → slice_get plant.rows i ≡ Some a → slice_get plant.rows j ≡ Some b → IsTrue (is_listed modem a.modems) → IsTrue (is_listed modem b.modems) → i ≡ j }
+    ensures { (plant : PlantFields) (modem : Modem) (i j : ℕ) (a b : RowFields) → IsPlant plant
+        → slice_get plant.rows i ≡ Some a → slice_get plant.rows j ≡ Some b → IsTrue (is_listed modem a.modems)
+        → IsTrue (is_listed modem b.modems) → i ≡ j }
 {}
 
 /// Of the operators that have something in common, the least pair is named.
 pub fn least_pair_is_named()
-    ensures { (apart : Apart) (rows : List RowFields) (a b : List ℕ) → first_meeting apart rows ≡ Some (a, b) → (p : RowFields) × (q : RowFields) × IsLeastPair (meets apart) rows p q × (p.name ≡ a) × (q.name ≡ b) }
+    ensures { (apart : Apart) (rows : List RowFields) (a b : List ℕ) → first_meeting apart rows ≡ Some (a, b)
+        → (p : RowFields) × (q : RowFields) × IsLeastPair (meets apart) rows p q × (p.name ≡ a) × (q.name ≡ b) }
 {}
 
 /// Of the operators of which something holds, the first is named.
 pub fn first_is_named()
-    ensures { (test : RowFields → Bool) (rows : List RowFields) (name : List ℕ) → first_named test rows ≡ Some name → (row : RowFields) × IsFirst test rows row × (row.name ≡ name) }
+    ensures { (test : RowFields → Bool) (rows : List RowFields) (name : List ℕ) → first_named test rows ≡ Some name
+        → (row : RowFields) × IsFirst test rows row × (row.name ≡ name) }
 {}
 
 /// The address that is found twice is the first that stood before.
@@ -103,7 +117,8 @@ pub fn first_again_is_named()
 
 /// A name is read exactly where it stands under its key and no operator before has it.
 pub fn name_is_said()
-    ensures { (before : List RowFields) (place : Place) (ms : Members) (name : List ℕ) → (name_at before place ms ≡ Ok name) ↔ SaysName before ms name }
+    ensures { (before : List RowFields) (place : Place) (ms : Members) (name : List ℕ)
+        → (name_at before place ms ≡ Ok name) ↔ SaysName before ms name }
 {}
 
 /// An address is read exactly where its twelve digits stand.
@@ -113,5 +128,7 @@ pub fn address_is_said()
 
 /// Provisioned flows are read exactly where the array `flow` says them in turn, or where there is none.
 pub fn provisions_are_said()
-    ensures { (consts : ConstsFields) (operator : ℕ) (modems : List Modem) (ms : Members) (provisions : List Provision) → (provisions_if consts operator modems (at_field Flow ms) ≡ Ok provisions) ↔ SaysProvisions consts modems ms provisions }
+    ensures { (consts : ConstsFields) (operator : ℕ) (modems : List Modem) (ms : Members)
+        (provisions : List Provision) → (provisions_if consts operator modems (at_field Flow ms) ≡ Ok provisions)
+        ↔ SaysProvisions consts modems ms provisions }
 {}

@@ -66,7 +66,8 @@ fn name_at(rows: &[OperatorRow], table: &Table, place: Place) -> Result<Operator
 /// The slice of these minislots, behind the head and within the frame.
 #[tactic(auto, unfolding(crate::specs::ReadRows::is_within))]
 fn slice_of(consts: &Consts, start: u64, length: u64) -> Option<Slice>
-    ensures { result ≡ (if is_within consts.now start length then Some (record { start = start; length = length }) else None) }
+    ensures { result ≡ (if is_within consts.now start length then Some (record { start = start; length = length })
+        else None) }
 {
     let fields = consts.get_fields();
     let (head, frame) = (u64::from(fields.head), u64::from(fields.frame_minislots));
@@ -223,7 +224,8 @@ fn provisions_each(
     modems: &Modems,
     values: &[Value],
 ) -> Result<Vec<Provision>, PlantFault>
-    ensures { Gives (λ provisions. provisions.items) result (each (provision_read consts.now operator modems.now) [] (items_view values.now)) }
+    ensures { Gives (λ provisions. provisions.items) result
+        (each (provision_read consts.now operator modems.now) [] (items_view values.now)) }
 {
     let mut provisions = Vec::with_capacity(alloc, values.len())?;
     for value in values {
@@ -257,7 +259,8 @@ fn provisions_of(
     modems: &Modems,
     table: &Table,
 ) -> Result<Provisions, PlantFault>
-    ensures { Gives (λ provisions. provisions) result (provisions_if consts.now operator modems.now (at_field FlowField (table_view table.now))) }
+    ensures { Gives (λ provisions. provisions) result
+        (provisions_if consts.now operator modems.now (at_field FlowField (table_view table.now))) }
 {
     match entry(table, Field::Flow.text()) {
         Some(value) => provisions_in(alloc, consts, operator, modems, value),

@@ -94,9 +94,11 @@ fn plant_of_text(alloc: Global, text: &str) -> Result<Plant, PlantFault>
 /// text.
 pub fn read_plant(alloc: Global, text: &str) -> Result<Plant, PlantFault>
     // What is read is a plant that the text says.
-    ensures found { IfOk result (λ plant. (document : Members) × (parse_document text.now ≡ Some document) × SaysPlant document plant) }
+    ensures found { IfOk result (λ plant. (document : Members) × (parse_document text.now ≡ Some document)
+        × SaysPlant document plant) }
     // A plant that the text says is read, unless memory runs out.
-    ensures only { (document : Members) (plant : PlantFields) → parse_document text.now ≡ Some document → SaysPlant document plant → Gives (λ p. p) result (Ok plant) }
+    ensures only { (document : Members) (plant : PlantFields) → parse_document text.now ≡ Some document
+        → SaysPlant document plant → Gives (λ p. p) result (Ok plant) }
     // Which fault it is.
     ensures exact { Gives (λ plant. plant) result (text_plant (parse_document text.now)) }
     ensures valid { IfOk result IsPlant }

@@ -19,7 +19,8 @@ fn add_modems(
     modems: &[Modem],
     place: usize,
 ) -> Result<(), PlantFault>
-    ensures fault { (before : List Modem) → Lists places.old before → Gives (λ x. x) result (unless (repeated (first_again before modems.now)) (tt {0})) }
+    ensures fault { (before : List Modem) → Lists places.old before
+        → Gives (λ x. x) result (unless (repeated (first_again before modems.now)) (tt {0})) }
     ensures added { OnOk result (Adds places.old place modems.now places.new) }
 {
     for modem in modems {

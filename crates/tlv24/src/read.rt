@@ -48,7 +48,8 @@ fn errored(value: &[u8]) -> ErrorEncodings
 
 /// The class name that ends in the value's last byte, a 0.
 fn class_name(value: &[u8]) -> Option<ClassName>
-    ensures { 2 ≤ length value.now → length value.now ≤ 16 → is_terminated value.now ≡ true → result ≡ Some (name_of value.now) }
+    ensures { 2 ≤ length value.now → length value.now ≤ 16 → is_terminated value.now ≡ true
+        → result ≡ Some (name_of value.now) }
 {
     let (_, name) = value.split_last()?;
     ClassName::new(name)
@@ -101,7 +102,8 @@ fn in_range(subtype: u8, value: &[u8]) -> bool
 
 /// Whether a known subtype stands among the fields.
 fn stands(fields: &FlowFields, subtype: u8) -> bool
-    ensures { (before : List Tlv) → States before fields.now → is_some (lengths_of subtype) ≡ true → result ≡ is_some (value_of subtype before) }
+    ensures { (before : List Tlv) → States before fields.now → is_some (lengths_of subtype) ≡ true
+        → result ≡ is_some (value_of subtype before) }
 {
     match subtype {
         1 => fields.reference.is_some(),
@@ -148,7 +150,8 @@ fn fault_of(fields: &FlowFields, subtype: u8, value: &[u8]) -> Option<TlvFault>
 /// Adds what a TLV says that is not at fault.
 #[tactic(auto, using(crate::proofs::Values::one_lem, crate::proofs::Values::other_lem))]
 fn put(fields: &mut FlowFields, subtype: u8, value: &[u8])
-    ensures { (before : List Tlv) → States before fields.old → fault_of before (tlv subtype value.now) ≡ None → States (before ++ tlv subtype value.now ∷ []) fields.new }
+    ensures { (before : List Tlv) → States before fields.old → fault_of before (tlv subtype value.now) ≡ None
+        → States (before ++ tlv subtype value.now ∷ []) fields.new }
 {
     match subtype {
         1 => fields.reference = Some(word(value)),

@@ -57,8 +57,10 @@ pub struct FirstTlv<'a> {
 
 /// The TLV that the bytes begin with; none where the bytes end before it does.
 pub fn first_tlv(bytes: &[u8]) -> Option<FirstTlv<'_>>
-    ensures exact { option_map (λ first. record { tlv = tlv first.kind first.value.now; rest = first.rest.now }) result ≡ first_of bytes.now }
-    ensures begins { MatchOption result (NoTlvBegins bytes.now) (λ first. Begins bytes.now (tlv first.kind first.value.now) first.rest.now) }
+    ensures exact { option_map (λ first.
+        record { tlv = tlv first.kind first.value.now; rest = first.rest.now }) result ≡ first_of bytes.now }
+    ensures begins { MatchOption result (NoTlvBegins bytes.now)
+        (λ first. Begins bytes.now (tlv first.kind first.value.now) first.rest.now) }
 {
     let [kind, count, more @ ..] = bytes else {
         return None;

@@ -35,7 +35,8 @@ fn put_byte(out: &mut Vec<u8>, subtype: u8, value: Option<u8>) -> Result<(), All
 
 /// Appends a field of two bytes, where it stands.
 fn put_word(out: &mut Vec<u8>, subtype: u8, value: Option<u16>) -> Result<(), AllocError>
-    ensures bytes { OnOk result (out.new.items ≡ out.old.items ++ spelled (under subtype (option_map (to_be_bytes w16) value))) }
+    ensures bytes { OnOk result (out.new.items ≡ out.old.items
+        ++ spelled (under subtype (option_map (to_be_bytes w16) value))) }
     ensures fits { IfSome value (λ n. n < 2 ^ 16) }
 {
     match value {
@@ -46,7 +47,8 @@ fn put_word(out: &mut Vec<u8>, subtype: u8, value: Option<u16>) -> Result<(), Al
 
 /// Appends a field of four bytes, where it stands.
 fn put_long(out: &mut Vec<u8>, subtype: u8, value: Option<u32>) -> Result<(), AllocError>
-    ensures bytes { OnOk result (out.new.items ≡ out.old.items ++ spelled (under subtype (option_map (to_be_bytes w32) value))) }
+    ensures bytes { OnOk result (out.new.items ≡ out.old.items
+        ++ spelled (under subtype (option_map (to_be_bytes w32) value))) }
     ensures fits { IfSome value (λ n. n < 2 ^ 32) }
 {
     match value {
@@ -61,7 +63,8 @@ fn put_class_name(
     subtype: u8,
     value: Option<ClassName>,
 ) -> Result<(), AllocError>
-    ensures bytes { OnOk result (out.new.items ≡ out.old.items ++ spelled (under subtype (option_map terminated value))) }
+    ensures bytes { OnOk result (out.new.items ≡ out.old.items
+        ++ spelled (under subtype (option_map terminated value))) }
     ensures valid { IfSome value IsClassName }
 {
     let Some(name) = value else {

@@ -76,11 +76,17 @@ impl Kept {
         sfid: u32,
         waits: bool,
     ) -> Result<(), KeptFault>
-        ensures ok { OnOk result (self.new ≡ record self.old { entries = self.old.entries ++ begun self.old.waits modem tid kind reply sfid waits ∷ [] }) }
-        ensures was_free { OnOk result ((length self.old.entries < self.old.capacity) × IsNone (find (is_of modem tid) self.old.entries)) }
+        ensures ok { OnOk result (self.new
+            ≡ record self.old {
+              entries = self.old.entries
+                  ++ begun self.old.waits modem tid kind reply sfid waits ∷ [];
+            }) }
+        ensures was_free { OnOk result ((length self.old.entries < self.old.capacity)
+            × IsNone (find (is_of modem tid) self.old.entries)) }
 
         ensures full { (result ≡ Err KeptFault.Full) ↔ (length self.old.entries ≡ self.old.capacity) }
-        ensures live { (result ≡ Err KeptFault.Live) ↔ ((length self.old.entries < self.old.capacity) × IsSome (find (is_of modem tid) self.old.entries)) }
+        ensures live { (result ≡ Err KeptFault.Live)
+            ↔ ((length self.old.entries < self.old.capacity) × IsSome (find (is_of modem tid) self.old.entries)) }
         ensures err { OnErr result (self.new ≡ self.old) }
     {
         if self.is_full() {
@@ -98,7 +104,8 @@ impl Kept {
     /// entry of this modem and transaction ID waits, or one of another kind; then all is as it was.
     pub fn acked(&mut self, modem: Modem, tid: u16, kind: Kind) -> Option<u32>
         ensures sfid { result ≡ option_map (λ e. e.sfid) (find (waits_for modem tid kind) self.old.entries) }
-        ensures state { self.new ≡ record self.old { entries = map (acknowledged self.old.waits modem tid kind) self.old.entries } }
+        ensures state { self.new ≡ record self.old
+            { entries = map (acknowledged self.old.waits modem tid kind) self.old.entries } }
         ensures none { result ≡ None → self.new ≡ self.old }
     {
         let place = waiting_place(&self.entries, modem, tid, kind)?;
@@ -113,7 +120,8 @@ impl Kept {
     ///
     /// At `AllocError` nothing has changed. A tick that sends nothing again and gives nothing up takes no memory.
     pub fn tick(&mut self, alloc: Global) -> Result<Ticked, AllocError>
-        ensures state { OnOk result (self.new ≡ record self.old { entries = kept_after self.old.waits self.old.entries }) }
+        ensures state { OnOk result (self.new
+            ≡ record self.old { entries = kept_after self.old.waits self.old.entries }) }
         ensures resend { IfOk result (λ told. told.resend ≡ resent_in self.old.entries) }
         ensures given_up { IfOk result (λ told. told.given_up ≡ given_up_in self.old.entries) }
         ensures quiet { resent_in self.old.entries ≡ [] → given_up_in self.old.entries ≡ [] → IsOk result }

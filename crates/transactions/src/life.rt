@@ -11,6 +11,7 @@ ghost use Rattle.transactions.specs.Life.{WaitsInVain, IsOnlyHeld};
 /// An entry that waits and is never acknowledged is resent at the end of each of its first `resends` waits, and given up
 /// at the end of the next. An entry that is held is forgotten at the end of its time, and never resent. Does nothing.
 pub fn timers_keep_time()
-    ensures waiting { (waits : Waits) (modem : Modem) (tid : ℕ) (kind : Kind) (reply : List ℕ) (sfid : ℕ) → IsLasting waits → WaitsInVain waits (begun waits modem tid kind reply sfid true) }
+    ensures waiting { (waits : Waits) (modem : Modem) (tid : ℕ) (kind : Kind) (reply : List ℕ) (sfid : ℕ)
+        → IsLasting waits → WaitsInVain waits (begun waits modem tid kind reply sfid true) }
     ensures held { (waits : Waits) (e : KeptEntry) → IsLasting waits → IsOnlyHeld waits (held_entry waits e) }
 {}
