@@ -26,7 +26,9 @@ for input in "$examples"/*.txt; do
     fi
 done
 [ "$(python3 "$here/reference" check <"$examples/plant_p2.toml")" = ok ]
-python3 "$here/test_reference.py" 2>"$work/told" || { cat "$work/told" >&2; exit 1; }
+for test in test_reference test_message_words; do
+    "$here/$test.py" >"$work/told" 2>&1 || { cat "$work/told" >&2; exit 1; }
+done
 
 for seed in 1 71 1011; do
     "$here/generate.py" "$seed" >"$work/once"
