@@ -26,7 +26,7 @@ for input in "$examples"/*.txt; do
     fi
 done
 [ "$(python3 "$here/reference" check <"$examples/plant_p2.toml")" = ok ]
-for test in test_reference test_message_words; do
+for test in test_reference test_message_words test_plant_view; do
     "$here/$test.py" >"$work/told" 2>&1 || { cat "$work/told" >&2; exit 1; }
 done
 
