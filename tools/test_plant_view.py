@@ -160,9 +160,8 @@ class Page(unittest.TestCase):
         made = picture([("one & two", read_output(OUTPUT.splitlines()))], Budgets())
         self.assertIn(">one &amp; two<", made)
         self.assertEqual(made.count('url(#poll)'), 1)
-        self.assertEqual(made.count('class="waits"'), 1)
-        # No room for the label of four minislots.
-        self.assertEqual(re.findall(r'class="on"[^>]*>(\d+)<', made), ["258", "513"])
+        self.assertEqual(made.count('class="waits"'), 2, "below B's slice, and in the key")
+        self.assertEqual(re.findall(r'class="on"[^>]*>(\d+)<', made), ["257", "258", "513"])
 
 
 class Tool(unittest.TestCase):

@@ -5,7 +5,8 @@ import html
 from .colours import colours, ink_on
 from .said import frame_of, part_of
 
-PANEL, GAP, LEFT, TOP, ROW, MOST_ROWS = 440, 36, 64, 62, 22, 40
+PANEL, GAP, LEFT, TOP, ROW, MOST_ROWS = 500, 36, 64, 62, 22, 40
+KEY = 30
 STYLE = """text { font: 11px "DejaVu Sans", Verdana, sans-serif; fill: #59636e; }
 .title { font-size: 14px; font-weight: bold; fill: #1b1f24; } .name { font-weight: bold; fill: #1b1f24; }
 .head { fill: #c9d1d9; } .idle { opacity: .18; } .waits { fill: #d1242f; } .on { text-anchor: middle; } .number { text-anchor: end; }
@@ -17,12 +18,25 @@ def picture(outputs, budgets):
     """Outputs with their titles, each a panel; an operator has the same colour in all."""
     names = list(dict.fromkeys(name for _, said in outputs for name in said.names))
     inks = dict(zip(names, colours(len(names))))
-    tall = TOP + ROW * max(min(len(said.numbers()), MOST_ROWS) for _, said in outputs) + 10
+    rows = TOP + ROW * max(min(len(said.numbers()), MOST_ROWS) for _, said in outputs)
+    tall = rows + KEY
     wide = len(outputs) * (PANEL + GAP) - GAP + 12
     panels = [f'<g transform="translate({place * (PANEL + GAP)} 0)">{panel(title, said, budgets, inks)}</g>'
               for place, (title, said) in enumerate(outputs)]
     return (f'<svg xmlns="http://www.w3.org/2000/svg" viewBox="0 0 {wide} {tall}" width="{wide}" height="{tall}" role="img">\n'
-            f"<style>{STYLE}</style>\n<defs>{POLL}</defs>\n" + "\n".join(panels) + "\n</svg>\n")
+            f"<style>{STYLE}</style>\n<defs>{POLL}</defs>\n" + "\n".join(panels) + "\n" + key(rows + 8, inks) + "\n</svg>\n")
+
+
+def key(y, inks):
+    """What the colours say, below the panels."""
+    colour = next(iter(inks.values()), "#2f6fb7")
+    kinds = ((f'fill="{colour}"', "grant, with its SID"), (f'fill="{colour}" class="idle"', "idle"), ('class="waits"', "a grant is pending"),
+             ('class="head"', "head: every modem may ask"))
+    lines, x = [], LEFT
+    for how, what in kinds:
+        lines += [rect(x, y + (9 if what.startswith("a ") else 0), 24, 3 if what.startswith("a ") else 12, how), text(x + 30, y + 10, what, "key")]
+        x += 60 + 7 * len(what)
+    return "\n".join(lines)
 
 
 def panel(title, said, budgets, inks):
