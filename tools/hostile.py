@@ -14,49 +14,38 @@ import sys
 
 sys.path.insert(0, str(pathlib.Path(__file__).resolve().parent))
 
+import spelling  # noqa: E402
 from compare_program import PROGRAM, program_answer, reference_answer  # noqa: E402
+from plant_text import channel_text, operator_text  # noqa: E402
 from reference import coverage  # noqa: E402
+from reference.encodings import tlv  # noqa: E402
+from spelling import flow, spelled  # noqa: E402
 
 A1, A2, B1 = "020000000001", "020000000002", "020000000003"
 SET_TYPE, PRIORITY, SUSTAINED, RESERVED, SCHEDULING = 6, 7, 8, 10, 15
 POLLING, GRANT_SIZE, GRANT_INTERVAL, GRANTS = 17, 19, 20, 22
-WIDTH = {1: 2, 2: 4, 3: 2, 6: 1, 7: 1, 8: 4, 9: 4, 10: 4, 15: 1, 16: 4, 17: 4, 18: 4, 19: 2, 20: 4, 21: 4, 22: 1}
 
 
 # Messages
 
-def tlv(kind, value):
-    return bytes([kind, len(value)]) + value
-
-
-def fields(stated):
-    return b"".join(tlv(subtype, value if isinstance(value, bytes) else value.to_bytes(WIDTH[subtype], "big"))
-                    for subtype, value in stated.items())
-
-
-def flow(stated):
-    """A type 24 of these subtypes."""
-    return tlv(24, fields(stated))
-
-
 def dsa(modem, tid, *tlvs):
-    return message(modem, bytes([15]) + tid.to_bytes(2, "big") + b"".join(tlvs))
+    return message(modem, spelling.dsa(tid, *tlvs))
 
 
 def dsc(modem, tid, *tlvs):
-    return message(modem, bytes([18]) + tid.to_bytes(2, "big") + b"".join(tlvs))
+    return message(modem, spelling.dsc(tid, *tlvs))
 
 
 def dsd(modem, tid, sfid):
-    return message(modem, bytes([21]) + tid.to_bytes(2, "big") + bytes(2) + sfid.to_bytes(4, "big"))
+    return message(modem, spelling.dsd(tid, sfid))
 
 
 def dsa_ack(modem, tid, code=0):
-    return message(modem, bytes([17]) + tid.to_bytes(2, "big") + bytes([code]))
+    return message(modem, spelling.dsa_ack(tid, code))
 
 
 def dsc_ack(modem, tid, code=0):
-    return message(modem, bytes([20]) + tid.to_bytes(2, "big") + bytes([code]))
+    return message(modem, spelling.dsc_ack(tid, code))
 
 
 def message(modem, data):
@@ -75,31 +64,19 @@ UNSOLICITED = {SET_TYPE: 6, SCHEDULING: 6, GRANT_SIZE: 32, GRANT_INTERVAL: 4000,
 # Plants
 
 def channel(frame_minislots=72, head=8, **more):
-    keys = {"frame_minislots": frame_minislots, "head": head, "frame_us": 2000, "bytes_per_minislot": 16, "short_max": 4,
-            "channel": 1, "ucd_count": 1, "ack_wait": 2, "resends": 1, "hold": 3, **more}
-    return "[plant]\n" + "".join(f"{key} = {value}\n" for key, value in keys.items())
+    return channel_text(frame_minislots, head, **{"ack_wait": 2, "resends": 1, "hold": 3, **more})
 
 
-def operator(name, modems, start, length, first, last, flows=4, transactions=8, elements=12, budget=None, policy='"strict"', provisions=()):
-    addresses = ", ".join(f'"{modem}"' for modem in modems)
-    text = f"""
-[[operator]]
-name = "{name}"
-slice = [{start}, {length}]
-sfids = [{first}, {last}]
-sids = [{first}, {last}]
-flows = {flows}
-transactions = {transactions}
-inbox = 2
-budget = {length if budget is None else budget}
-elements = {elements}
-policy = {policy}
-modems = [{addresses}]
-"""
-    return text + "".join(f'[[operator.flow]]\nmodem = "{modem}"\nencoding = "{fields(stated).hex()}"\n' for modem, stated in provisions)
+def operator(name, modems, start, length, first, last, elements=12, provisions=(), **more):
+    text = operator_text(name, modems, (start, length), (first, last), elements, **{"inbox": 2, **more})
+    return text + "".join(f'[[operator.flow]]\nmodem = "{modem}"\nencoding = "{fields(stated)}"\n' for modem, stated in provisions)
 
 
-GOLD = '\n[[class]]\nname = "gold"\nencoding = "' + fields({PRIORITY: 5, RESERVED: 64_000}).hex() + '"\n'
+def fields(stated):
+    return spelled(stated.items()).hex()
+
+
+GOLD = '\n[[class]]\nname = "gold"\nencoding = "' + fields({PRIORITY: 5, RESERVED: 64_000}) + '"\n'
 
 
 def two_operators(**of_a):
@@ -308,4 +285,5 @@ def main():
         sys.exit(__doc__)
 
 
-main()
+if __name__ == "__main__":
+    main()

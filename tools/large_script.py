@@ -11,37 +11,9 @@ with different TICKS tell the cost of a tick.
 
 import sys
 
+from plant_text import channel_text, operator_text
+
 LINES = 20_000
-
-
-def plant(frame_minislots, rest=""):
-    return f"""[plant]
-frame_minislots = {frame_minislots}
-head = 0
-frame_us = 2000
-bytes_per_minislot = 16
-short_max = 4
-channel = 1
-ucd_count = 1
-{rest}"""
-
-
-def operator(name, start, length, first, last, modems, elements, flows):
-    addresses = ", ".join(f'"{modem}"' for modem in modems)
-    return f"""
-[[operator]]
-name = "{name}"
-slice = [{start}, {length}]
-sfids = [{first}, {last}]
-sids = [{first}, {last}]
-flows = {flows}
-transactions = 64
-inbox = 16
-budget = {length}
-elements = {elements}
-policy = "strict"
-modems = [{addresses}]
-"""
 
 
 def addresses(place):
@@ -68,9 +40,10 @@ def line(turn, place, modem, address):
 
 
 def of_operators():
-    text = plant(1024, "ack_wait = 4\nhold = 2\n")
+    text = channel_text(1024, 0, ack_wait=4, hold=2)
     for place in range(8):
-        text += operator(f"OP{place + 1}", place * 128, 128, 1 + place * 1000, 1000 + place * 1000, addresses(place), 26, 32)
+        identifiers = (1 + place * 1000, 1000 + place * 1000)
+        text += operator_text(f"OP{place + 1}", addresses(place), (place * 128, 128), identifiers, 26, flows=32, transactions=64)
     lines, turn = [], 0
     while len(lines) < LINES:
         for place in range(8):
@@ -82,7 +55,8 @@ def of_operators():
 
 def of_flows(ticks):
     modem = "020000000001"
-    text = plant(4096) + operator("A", 0, 4096, 1, 2000, [modem], 234, 1024)
+    text = channel_text(4096, 0)
+    text += operator_text("A", [modem], (0, 4096), (1, 2000), 234, flows=1024, transactions=64)
     for place in range(1024):
         set_type = 7 if place % 8 == 0 and place < 8 * 117 else 1
         text += f'[[operator.flow]]\nmodem = "{modem}"\nencoding = "0601{set_type:02X}0F0102"\n'

@@ -1,8 +1,9 @@
 #!/bin/bash
-# Tests of the tools: the reference on the examples and on values typed from docs/PROFILE.md; the generator writes the same twice,
-# and tools/hostile.py meets each check of the table. Where the program is built, it is compared with the reference on 50 generated
-# cases, on the inputs of tools/hostile.py and on those of tools/corners.py, and tools/statuses.sh is run.
-# Usage: tools/test_tools.sh     Needs bash and python3; takes less than 10 seconds.
+# Tests of the tools: the reference on the examples and on values typed from docs/PROFILE.md; messages in words and back; what
+# tools/plant_view shows; the generator writes the same twice, and tools/hostile.py meets each check of the table. Where the program is
+# built, it is compared with the reference on the examples, on 50 generated cases, on the inputs of tools/hostile.py and on those of
+# tools/corners.py, and tools/statuses.sh is run.
+# Usage: tools/test_tools.sh     Needs bash and python3; takes less than 30 seconds.
 set -euo pipefail
 
 here=$(cd "$(dirname "$0")" && pwd)
@@ -11,22 +12,11 @@ program=$here/../crates/plant_program/out/plant_program
 work=$(mktemp -d)
 trap 'rm -rf "$work"' EXIT
 
-# The word that an example is for.
-word_of() {
-    case $(basename "$1" .txt) in
-    first_flow | several_messages) echo one ;;
-    *) echo run ;;
-    esac
-}
-
-for input in "$examples"/*.txt; do
-    if [ -e "${input%.txt}.out" ]; then
-        python3 "$here/reference" "$(word_of "$input")" <"$input" >"$work/out"
-        cmp "$work/out" "${input%.txt}.out"
-    fi
-done
+"$here/examples.sh" >"$work/told" || { cat "$work/told" >&2; exit 1; }
 [ "$(python3 "$here/reference" check <"$examples/plant_p2.toml")" = ok ]
-python3 "$here/test_reference.py" 2>"$work/told" || { cat "$work/told" >&2; exit 1; }
+for test in test_reference test_message_words test_plant_view; do
+    "$here/$test.py" >"$work/told" 2>&1 || { cat "$work/told" >&2; exit 1; }
+done
 
 for seed in 1 71 1011; do
     "$here/generate.py" "$seed" >"$work/once"

@@ -1,6 +1,8 @@
 """Random flow encodings: parameters that suit a channel, and the ways in which an encoding can be at fault."""
 
-WIDTH = {1: 2, 2: 4, 3: 2, 6: 1, 7: 1, 8: 4, 9: 4, 10: 4, 15: 1, 16: 4, 17: 4, 18: 4, 19: 2, 20: 4, 21: 4, 22: 1}
+import spelling
+from spelling import WIDTH
+
 MOST = {subtype: 256 ** width - 1 for subtype, width in WIDTH.items()}
 KNOWN = tuple(WIDTH) + (4, 5)
 SKIPPED = (0, 11, 12, 13, 14, 23, 24, 43, 99, 255)
@@ -12,20 +14,9 @@ def pick(rng, *weighted):
     return rng.choices(values, [weight for _, weight in weighted])[0]
 
 
-def value_of(subtype, value):
-    """The bytes of a field: a number, or bytes as they are."""
-    if isinstance(value, bytes):
-        return value
-    return min(value, MOST[subtype]).to_bytes(WIDTH[subtype], "big")
-
-
-def tlv(kind, value):
-    return bytes([kind, len(value)]) + value
-
-
 def spelled(fields):
-    """A list of pairs of subtype and value as bytes."""
-    return b"".join(tlv(subtype, value_of(subtype, value)) for subtype, value in fields)
+    """Pairs of subtype and value as bytes; a number that is too great is the greatest that there is."""
+    return spelling.spelled((subtype, value if isinstance(value, bytes) else min(value, MOST[subtype])) for subtype, value in fields)
 
 
 # Parameters

@@ -3,10 +3,11 @@
 from dataclasses import dataclass, field
 
 from reference.book import StepRefused, all_committed, may_ask
+from reference.encodings import tlv
 from reference.program import steps_of
 from reference.sets import REQUIRED, NoSet, need_of, parameter_set
 
-from .flows import SKIPPED, fields_of, faulty, lessened, params, pick, spelled, spoilt, tlv, varied
+from .flows import SKIPPED, fields_of, faulty, lessened, params, pick, spelled, spoilt, varied
 
 REQUEST_TYPE = {"DSA": 15, "DSC": 18, "DSD": 21}
 ACK_TYPE = {"DSA": 17, "DSC": 20, "DSD": 20}

@@ -411,11 +411,16 @@ def tick(book):
         raise StepRefused
     outputs = [("R", entry.modem, entry.response) for entry in count_kept(book)]
     outputs.append(schedule_frame(book))
+    next_frame(book)
+    return outputs
+
+
+def next_frame(book):
+    """The frame number rises, and the share that waited for this frame takes force."""
     book.frame += 1
     if book.next_share is not None and book.next_share[0] == book.frame:
         met("tick: another slice takes force")
         book.share, book.next_share = book.next_share[1], None
-    return outputs
 
 
 def count_kept(book):

@@ -1,6 +1,6 @@
 """TLVs, and the upstream flow encoding (Annex C, type 24)."""
 
-from .coverage import met
+from .coverage import MetFault, met
 
 # Subtype: least and greatest length.
 LENGTHS = {
@@ -13,13 +13,11 @@ SUSTAINED, BURST, RESERVED, SCHEDULING, POLICY = 8, 9, 10, 15, 16
 POLLING_INTERVAL, POLL_JITTER, GRANT_SIZE, GRANT_INTERVAL, GRANT_JITTER, GRANTS = 17, 18, 19, 20, 21, 22
 
 
-class FlowFault(Exception):
+class FlowFault(MetFault):
     """The first fault of a flow encoding: its kind, the subtype (None for a cut), and the fields that stood before it."""
 
     def __init__(self, kind, subtype, before):
-        super().__init__(kind, subtype)
-        self.kind, self.subtype, self.before = kind, subtype, before
-        met(f"flow encoding: {kind}" + (f" {subtype}" if subtype else ""))
+        super().__init__(f"flow encoding: {kind}" + (f" {subtype}" if subtype else ""), kind=kind, subtype=subtype, before=before)
 
 
 def split_tlvs(data):

@@ -1,6 +1,6 @@
 """Dynamic service messages (6.4.12 to 6.4.22), confirmation codes, and the replies."""
 
-from .coverage import met
+from .coverage import MetFault, met
 from .encodings import ERRORS, REFERENCE, SFID, SID, FlowFault, read_flow, split_tlvs, tlv
 
 DSA_REQ, DSA_ACK, DSC_REQ, DSC_ACK, DSD_REQ = 15, 17, 18, 20, 21
@@ -21,13 +21,11 @@ MISSING, UNKNOWN_TRANSACTION, DUPLICATE, MULTIPLE_FLOWS, INVALID, AUTHORIZATION 
 IDENTIFIER = {"DSA": REFERENCE, "DSC": SFID}
 
 
-class NoAnswer(Exception):
+class NoAnswer(MetFault):
     """Why a message or a request is answered nothing."""
 
     def __init__(self, cause):
-        super().__init__(cause)
-        self.cause = cause
-        met(f"cause {cause}")
+        super().__init__(f"cause {cause}", cause=cause)
 
 
 class Refused(Exception):

@@ -5,7 +5,7 @@ import tomllib
 from dataclasses import dataclass
 from typing import Optional
 
-from .coverage import met
+from .coverage import MetFault
 from .encodings import CLASS_NAME, SET_TYPE, FlowFault, read_flow
 from .sets import NoSet, need_of, overridden, parameter_set
 
@@ -14,11 +14,11 @@ NOT_TOML, MISSING, BAD_VALUE, SLICES_MEET, SIDS_MEET, SFIDS_MEET, MODEM_TWICE, T
 MOST_ELEMENTS = 240
 
 
-class PlantFault(Exception):
+class PlantFault(MetFault):
     def __init__(self, number, *detail):
-        super().__init__(number, *detail)
-        self.number, self.detail = number, " ".join(str(part) for part in detail)
-        met(f"plant fault {number}" + (" " + re.sub(r"\[\d+\]", "[]", self.detail) if number in (2, 3) else ""))
+        told = " ".join(str(part) for part in detail)
+        where = " " + re.sub(r"\[\d+\]", "[]", told) if number in (2, 3) else ""
+        super().__init__(f"plant fault {number}{where}", number=number, detail=told)
 
 
 @dataclass

@@ -3,7 +3,7 @@
 import re
 
 from .book import LAST_FRAME, Share, StepRefused, arrive, open_book, tick, unfit, work
-from .coverage import met
+from .coverage import MetFault, met
 from .maps import map_of
 from .plant import PlantFault, is_address, read_plant
 
@@ -36,11 +36,9 @@ modems = ["020000000001", "020000000002"]
 MODEM_OF_ONE = "020000000001"
 
 
-class Fault(Exception):
+class Fault(MetFault):
     def __init__(self, status, last_line):
-        super().__init__(status, last_line)
-        self.status, self.last_line = status, last_line
-        met(f"status {status}")
+        super().__init__(f"status {status}", status=status, last_line=last_line)
 
 
 def answer(words, data):

@@ -1,6 +1,6 @@
 """Parameter sets: what a flow may ask for, what that needs, and when one is within another."""
 
-from .coverage import met
+from .coverage import MetFault, met
 from .encodings import (BURST, CLASS_NAME, GRANT_INTERVAL, GRANT_JITTER, GRANT_SIZE, GRANTS, POLICY, POLL_JITTER,
                         POLLING_INTERVAL, PRIORITY, RESERVED, SCHEDULING, SUSTAINED)
 from .messages import INVALID, MISSING
@@ -20,13 +20,11 @@ PARAMETERS = tuple(sorted(KEPT[REAL_TIME] + (GRANT_SIZE, GRANT_INTERVAL, GRANT_J
 POLLING_INTERVAL_OF_NON_REAL_TIME = 1_000_000
 
 
-class NoSet(Exception):
+class NoSet(MetFault):
     """An encoding asks for no parameter set: the confirmation code and the subtype that it names."""
 
     def __init__(self, code, subtype):
-        super().__init__(code, subtype)
-        self.code, self.subtype = code, subtype
-        met(f"no parameter set: {code} naming {subtype}")
+        super().__init__(f"no parameter set: {code} naming {subtype}", code=code, subtype=subtype)
 
 
 def overridden(fields, classes):

@@ -1,0 +1,139 @@
+#!/usr/bin/env python3
+"""Checks examples/: the reference, and the program where it is built, answer each input with what stands beside it, and what each README.md
+shows is so. tools/examples.sh calls it.
+
+    tools/check_examples.py [PROGRAM]     Prints each that differs, and exits with 1 where one does.
+
+An input is `WORD.txt` or `WORD_more.txt`, its output has the same name with `.out`; the first examples have names of their own. A block
+of a README that begins with ``` and the name of an input shows the script of this input, below each line what it prints, and indented
+below a message its words (tools/dsx). All such blocks together are the whole of the script, in order. A block of `toml` stands in one of
+the plant files word by word.
+"""
+
+import pathlib
+import re
+import sys
+
+sys.path.insert(0, str(pathlib.Path(__file__).resolve().parent))
+
+from compare_program import PROGRAM, program_answer, reference_answer  # noqa: E402
+from message_words import WordsFault, octets, parts_of_message, words_of  # noqa: E402
+from reference.book import StepRefused, arrive, open_book, work  # noqa: E402
+from reference.program import MODEM_OF_ONE, Core, answer_line, judged_plant, lines_of, message_of, plant_of_one, steps_of  # noqa: E402
+
+EXAMPLES = pathlib.Path(__file__).resolve().parent.parent / "examples"
+OF_ONE = ("first_flow", "several_messages")
+WORDS = ("one", "check", "run")
+
+
+# Outputs
+
+def word_of(path):
+    """The word that an input is for."""
+    word = path.stem.split("_")[0]
+    return "one" if path.stem in OF_ONE else word if word in WORDS and path.parent != EXAMPLES else "run"
+
+
+def status_of(output):
+    """The status that an output ends with."""
+    return 4 if output.splitlines()[-1:] and output.splitlines()[-1].startswith(b"fault: line ") else 0
+
+
+def wrong_answers(program, path):
+    """Who answers an input otherwise than what stands beside it."""
+    data, output = path.read_bytes(), path.with_suffix(".out").read_bytes()
+    right, word = (status_of(output), output), word_of(path)
+    if reference_answer([word], data) != right:
+        yield f"{path}: the reference answers otherwise"
+    if pathlib.Path(program).exists() and program_answer(program, [word], data) != right:
+        yield f"{path}: the program answers otherwise"
+
+
+# Documents
+
+
+def transcript(word, text):
+    """The lines of a script, each with what it prints behind it."""
+    if word == "one":
+        yield from transcript_of_one(text)
+    elif word == "run":
+        yield from transcript_of_run(text)
+    elif word == "check":
+        yield "ok"
+
+
+def transcript_of_one(text):
+    book = open_book(*plant_of_one())
+    for line in lines_of(text):
+        yield line
+        for output in arrive(book, MODEM_OF_ONE, message_of(line)) + work(book):
+            yield answer_line(output).replace(f" {MODEM_OF_ONE}", "").removeprefix("R ")
+
+
+def transcript_of_run(text):
+    plant, script = judged_plant(text)
+    core = Core(plant)
+    for place, line in enumerate(script, 1):
+        yield line
+        try:
+            for step in steps_of(plant, line.split(" ")):
+                yield from core.step(*step)
+        except StepRefused:
+            yield f"fault: line {place}"
+            return
+
+
+def with_words(lines):
+    """The lines as a README shows them."""
+    for line in lines:
+        yield line
+        found = re.fullmatch("(?:[MR] [0-9A-F]{12} )?((?:[0-9A-F]{2})+)", line)
+        if found:
+            yield "  " + described(found.group(1))
+
+
+def described(text):
+    try:
+        return " ".join(words_of(parts_of_message(octets(text, text))))
+    except WordsFault as fault:
+        return f"({fault})"
+
+
+def blocks(text):
+    """The fenced blocks of a document: their names, and their lines."""
+    return [(name, body.splitlines()) for name, body in re.findall(r"^```(\w+)\n(.*?)^```$", text, re.MULTILINE | re.DOTALL)]
+
+
+def differences(folder):
+    """What a folder's README shows that is not so."""
+    shown = blocks((folder / "README.md").read_text())
+    inputs = {path.stem: path.read_text() for path in sorted(folder.glob("*.txt"))}
+    for name, text in inputs.items():
+        right = list(with_words(transcript(word_of(folder / f"{name}.txt"), text)))
+        said = [line for block, lines in shown if block == name for line in lines]
+        for place in range(max(len(right), len(said))):
+            pair = [lines[place] if place < len(lines) else "(nothing)" for lines in (said, right)]
+            if pair[0] != pair[1]:
+                yield f"{name}: the README has\n    {pair[0]}\nwhere it should have\n    {pair[1]}"
+                break
+    for block, lines in shown:
+        if block == "toml" and not any("\n".join(lines) in text for text in inputs.values()):
+            yield "no plant file has the block that begins with " + lines[0]
+        elif block != "toml" and block not in inputs:
+            yield f"there is no input {block}.txt"
+
+
+def main():
+    program = sys.argv[1] if len(sys.argv) == 2 else PROGRAM
+    inputs = sorted([*EXAMPLES.glob("*.txt"), *EXAMPLES.glob("*/*.txt")])
+    found = [what for path in inputs for what in wrong_answers(program, path)]
+    found += [f"{folder.name}: {what}" for folder in sorted(EXAMPLES.iterdir()) if folder.is_dir() for what in differences(folder)]
+    for line in found:
+        print(line)
+    who = "the program and the reference" if pathlib.Path(program).exists() else "the reference (the program is not built)"
+    print(f"{len(inputs)} examples, {len(found)} faults, by {who}")
+    sys.exit(1 if found else 0)
+
+
+if __name__ == "__main__":
+    main()

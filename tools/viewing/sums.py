@@ -1,0 +1,81 @@
+"""Counts of a run: by operator, by frame, by modem."""
+
+from collections import Counter
+from dataclasses import dataclass, field
+
+from .said import part_of
+
+REQUEST, SHORT_GRANT = 1, 5
+
+
+@dataclass
+class OperatorSums:
+    """What an operator's frames come to. `given` and `of_slice` are minislots; `filled` has both by frame."""
+    name: str
+    frames: int = 0
+    of_slice: int = 0
+    given: int = 0
+    polls: int = 0
+    short_grants: int = 0
+    long_grants: int = 0
+    pending_frames: int = 0
+    most_pending: int = 0
+    filled: dict = field(default_factory=dict)
+
+    @property
+    def share_given(self):
+        return self.given / self.of_slice if self.of_slice else 0
+
+
+@dataclass
+class Sums:
+    """`replies` counts by modem, response and code, `causes` by modem and cause."""
+    operators: list
+    replies: Counter
+    causes: Counter
+
+
+def sums_of(said):
+    return Sums([sums_of_operator(name, said.frames[name]) for name in said.names], Counter(said.replies), Counter(said.causes))
+
+
+def sums_of_operator(name, frames):
+    sums = OperatorSums(name)
+    for number, elements in frames.items():
+        part = part_of(elements)
+        sums.frames += 1
+        sums.of_slice += part.length
+        sums.given += part.given
+        sums.filled[number] = (part.given, part.length)
+        codes = Counter(code for sid, code, _, _ in part.spans if sid)
+        sums.polls += codes[REQUEST]
+        sums.short_grants += codes[SHORT_GRANT]
+        sums.long_grants += sum(codes.values()) - codes[REQUEST] - codes[SHORT_GRANT]
+        sums.pending_frames += bool(part.pending)
+        sums.most_pending = max(sums.most_pending, len(part.pending))
+    return sums
+
+
+def csv_lines(said, sums, budgets):
+    """All numbers, one a line, with what they are of."""
+    yield "table,frame,operator,modem,what,number"
+    for of in sums.operators:
+        for what in ("frames", "of_slice", "given", "polls", "short_grants", "long_grants", "pending_frames", "most_pending"):
+            yield f"operator,,{of.name},,{what},{getattr(of, what)}"
+    for of in sums.operators:
+        for number, (given, length) in of.filled.items():
+            yield f"frame,{number},{of.name},,of_slice,{length}"
+            yield f"frame,{number},{of.name},,given,{given}"
+            yield from share_lines(of.name, number, budgets.at(of.name, number))
+    for (modem, response, code), count in sorted(sums.replies.items()):
+        yield f"reply,,{budgets.operator_of.get(modem, '')},{modem},{response} {code},{count}"
+    for (modem, cause), count in sorted(sums.causes.items()):
+        yield f"silent,,{budgets.operator_of.get(modem, '')},{modem},{cause},{count}"
+    yield f"run,,,,maps,{said.maps}"
+
+
+def share_lines(name, number, share):
+    if share is not None:
+        yield f"frame,{number},{name},,budget,{share.budget}"
+        if share.committed is not None:
+            yield f"frame,{number},{name},,committed,{share.committed}"
