@@ -7,7 +7,8 @@ shows is so. tools/examples.sh calls it.
 An input is `WORD.txt` or `WORD_more.txt`, its output has the same name with `.out`; the first examples have names of their own. A block
 of a README that begins with ``` and the name of an input shows the script of this input, below each line what it prints, and indented
 below a message its words (tools/dsx). All such blocks together are the whole of the script, in order. A block of `toml` stands in one of
-the plant files word by word.
+the plant files word by word. Together the examples meet each check of the table in docs/PROFILE.md, each confirmation code and each cause
+that a script can meet, and the plant file of examples/every_key has each key.
 """
 
 import pathlib
@@ -17,7 +18,8 @@ import sys
 sys.path.insert(0, str(pathlib.Path(__file__).resolve().parent))
 
 from compare_program import PROGRAM, program_answer, reference_answer  # noqa: E402
-from message_words import WordsFault, octets, parts_of_message, words_of  # noqa: E402
+from message_words import CODES, WordsFault, octets, parts_of_message, words_of  # noqa: E402
+from reference import coverage  # noqa: E402
 from reference.book import StepRefused, arrive, open_book, work  # noqa: E402
 from reference.program import MODEM_OF_ONE, Core, answer_line, judged_plant, lines_of, message_of, plant_of_one, steps_of  # noqa: E402
 
@@ -123,11 +125,44 @@ def differences(folder):
             yield f"there is no input {block}.txt"
 
 
+# What the examples leave out
+
+PROFILE = EXAMPLES.parent / "docs/PROFILE.md"
+CAUSES = ("Empty", "NotOurs", "Short", "TidInUse", "UnknownAck", "NoSuchSid", "NotRequesting")
+# The checks by which a request is answered, the last of them code 0.
+CHECKS = range(1, 23)
+
+
+def left_out():
+    """What no example shows. The reference counted what it met when it answered them."""
+    met = [what.split(":")[0] for what in coverage.COUNTS]
+    outputs = "".join(path.read_text() for path in EXAMPLES.glob("*/*.out"))
+    codes = {int(code, 16) for code in re.findall("^R [0-9A-F]{12} [0-9A-F]{6}([0-9A-F]{2})", outputs, re.MULTILINE)}
+    for check in CHECKS:
+        if not any(f"{kind} check {check}" in met for kind in ("DSA", "DSC", "DSD")):
+            yield f"no example meets check {check}"
+    yield from (f"no example is answered {code}" for code in CODES if code not in codes)
+    yield from (f"no example has the cause {cause}" for cause in CAUSES if f" {cause}\n" not in outputs)
+    yield from (f"every_key has no {key}" for key in keys_of_profile() if not re.search(f"^{key} = ", every_key(), re.MULTILINE))
+
+
+def every_key():
+    return (EXAMPLES / "every_key/check.txt").read_text()
+
+
+def keys_of_profile():
+    """The keys in the tables of a plant file, but for the table `flow` itself."""
+    section = PROFILE.read_text().split("\n## The plant file")[1]
+    rows = re.findall(r"^\| ((?:`[a-z_]+`(?:, )?)+) \|", section, re.MULTILINE)
+    return [key for row in rows for key in re.findall("`([a-z_]+)`", row) if key != "flow"]
+
+
 def main():
     program = sys.argv[1] if len(sys.argv) == 2 else PROGRAM
     inputs = sorted([*EXAMPLES.glob("*.txt"), *EXAMPLES.glob("*/*.txt")])
     found = [what for path in inputs for what in wrong_answers(program, path)]
     found += [f"{folder.name}: {what}" for folder in sorted(EXAMPLES.iterdir()) if folder.is_dir() for what in differences(folder)]
+    found += left_out()
     for line in found:
         print(line)
     who = "the program and the reference" if pathlib.Path(program).exists() else "the reference (the program is not built)"

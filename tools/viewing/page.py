@@ -31,7 +31,7 @@ def page(title, said, sums, budgets):
 
 def summary(said):
     numbers = said.numbers()
-    frames = f"{len(numbers):,} frames, {numbers[0]} to {numbers[-1]}" if numbers else "no frame"
+    frames = f"{counted(len(numbers), 'frame')}, {numbers[0]} to {numbers[-1]}" if numbers else "no frame"
     return (f"{frames}; {counted(len(said.names), 'operator')}; {counted(said.maps, 'MAP')}; {counted(len(said.replies), 'reply', 'replies')}; "
             f"{counted(len(said.causes), 'silent cause')}")
 

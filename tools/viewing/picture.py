@@ -10,7 +10,7 @@ KEY = 30
 STYLE = """text { font: 11px "DejaVu Sans", Verdana, sans-serif; fill: #59636e; }
 .title { font-size: 14px; font-weight: bold; fill: #1b1f24; } .name { font-weight: bold; fill: #1b1f24; }
 .head { fill: #c9d1d9; } .idle { opacity: .18; } .waits { fill: #d1242f; } .on { text-anchor: middle; } .number { text-anchor: end; }
-@media (prefers-color-scheme: dark) { text { fill: #9198a1; } .title, .name { fill: #e6edf3; } .head { fill: #30363d; } .waits { fill: #ff6b63; } .idle { opacity: .25; } }"""
+@media (prefers-color-scheme: dark) { text { fill: #9198a1; } .title, .name { fill: #e6edf3; } .head { fill: #30363d; } .waits { fill: #ff4560; } .idle { opacity: .25; } }"""
 POLL = '<pattern id="poll" width="5" height="5" patternUnits="userSpaceOnUse" patternTransform="rotate(45)"><rect width="1.6" height="5" fill="#fff"/></pattern>'
 
 
