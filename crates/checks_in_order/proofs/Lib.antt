@@ -1,0 +1,5 @@
+pub mod ListLemmas
+pub mod EntryLemmas
+pub mod TableLemmas
+pub mod FlowLemmas
+pub mod DeletionLemmas
