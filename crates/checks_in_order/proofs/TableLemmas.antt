@@ -12,9 +12,12 @@ use Rattle.checks_in_order.specs.Table.{table, IsDecidedBy}
 use Rattle.checks_in_order.specs.declared.check.Check.{Check}
 use Rattle.checks_in_order.specs.declared.check.Check.TheVariants.{UnknownClass, NoEncoding, IdentifiersDiffer, NotTogether, NoIdentifier, UnknownFlow, NotOwner, FlowWaits, WrongSetType, NoParameterSet, ActiveNotWithin, AdmittedNotWithin, FlowsFull, NoSfidFree, NoSidFree, ElementsOver, MinislotsOver}
 
--- the checks of the encodings, and up to those of the flow
+-- the checks of which encodings stand together, with that of the identifier, and up to those of the flow
+abbrev pub of_shape : List Check
+of_shape = UnknownClass ∷ NoEncoding ∷ IdentifiersDiffer ∷ NotTogether ∷ []
+
 abbrev pub of_encodings : List Check
-of_encodings = UnknownClass ∷ NoEncoding ∷ IdentifiersDiffer ∷ NotTogether ∷ NoIdentifier ∷ []
+of_encodings = of_shape ++ NoIdentifier ∷ []
 
 abbrev pub up_to_flow : List Check
 up_to_flow = of_encodings ++ UnknownFlow ∷ NotOwner ∷ FlowWaits ∷ []
