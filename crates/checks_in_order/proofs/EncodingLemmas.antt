@@ -134,13 +134,13 @@ shape_types (a ∷ b ∷ []) (inl h) more = inl (ap (λ (x : Option ℕ). x ∷ 
 shape_types (a ∷ b ∷ []) (inr h) more = inr (ap (λ (x : Option ℕ). x ∷ b.set_type ∷ []) h.0 ∙ ap (λ (x : Option ℕ). Some 4 ∷ x ∷ []) h.1)
 shape_types (a ∷ b ∷ c ∷ rest) shape more = absurd shape
 
-together_shape : (es : List FlowFields) → stand_together es ≡ true → IsShape es
+pub together_shape : (es : List FlowFields) → stand_together es ≡ true → IsShape es
 together_shape [] is = absurd (false≢true is)
 together_shape (e ∷ []) is = tt
 together_shape (a ∷ b ∷ []) is = two_types a b is
 together_shape (a ∷ b ∷ c ∷ rest) is = absurd (false≢true is)
 
-apart_more : (first : FlowFields) (others : List FlowFields) → stand_together (first ∷ others) ≡ false
+pub apart_more : (first : FlowFields) (others : List FlowFields) → stand_together (first ∷ others) ≡ false
     → (1 < length (first ∷ others)) × (¬ AreTwoAndFour (map (λ (e : FlowFields). e.set_type) (first ∷ others)))
 apart_more first [] is = absurd (true≢false is)
 apart_more first (b ∷ []) is = (omega arith, λ two. true≢false (sym (types_two first b two) ∙ is))

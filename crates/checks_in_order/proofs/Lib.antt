@@ -8,3 +8,4 @@ pub mod RoomLemmas
 pub mod AdditionLemmas
 pub mod ChangeLemmas
 pub mod DeletionLemmas
+pub mod OnceLemmas

@@ -58,7 +58,7 @@ module _ (op : Operator) (P : FlowFields → Type 0) where
   none_of_one : (e : FlowFields) → ¬ P e → IsSetWhere P op (e ∷ []) None
   none_of_one e fails = All-from_recursion (λ (x : FlowFields). ¬ P x) (e ∷ []) (fails, tt)
 
-only_one : (e a b : FlowFields) → Contains (e ∷ []) a → Contains (e ∷ []) b → a ≡ b
+pub only_one : (e a b : FlowFields) → Contains (e ∷ []) a → Contains (e ∷ []) b → a ≡ b
 only_one e a b has_a has_b = by (contains_cases e [] a has_a) (contains_cases e [] b has_b)
   where
     by : (e ≡ a) ⊎ Contains [] a → (e ≡ b) ⊎ Contains [] b → a ≡ b
@@ -67,7 +67,7 @@ only_one e a b has_a has_b = by (contains_cases e [] a has_a) (contains_cases e 
     by (inr x) c = absurd (contains-nothing a x)
 
 -- of two of which P holds of one alone
-one_of_two : (P : FlowFields → Type 0) (first second a b : FlowFields) → (P first → P second → ⊥) → Contains (first ∷ second ∷ []) a → Contains (first ∷ second ∷ []) b → P a → P b → a ≡ b
+pub one_of_two : (P : FlowFields → Type 0) (first second a b : FlowFields) → (P first → P second → ⊥) → Contains (first ∷ second ∷ []) a → Contains (first ∷ second ∷ []) b → P a → P b → a ≡ b
 one_of_two P first second a b apart has_a has_b p q = by (two a has_a) (two b has_b)
   where
     two : (e : FlowFields) → Contains (first ∷ second ∷ []) e → (first ≡ e) ⊎ (second ≡ e)
@@ -86,6 +86,19 @@ one_of_two P first second a b apart has_a has_b p q = by (two a has_a) (two b ha
     by (inr x) (inr y) = sym x ∙ y
     by (inl x) (inr y) = absurd (apart (subst P (sym x) p) (subst P (sym y) q))
     by (inr x) (inl y) = absurd (apart (subst P (sym y) q) (subst P (sym x) p))
+
+-- of two of set types 2 and 4 just one admits, and just one activates
+pub not_both_admit : (a b : FlowFields) → IsShape (a ∷ b ∷ []) → Admits a → Admits b → ⊥
+not_both_admit a b (inl is) p (inl q) = cc (is.1)
+not_both_admit a b (inl is) p (inr q) = cc (is.1)
+not_both_admit a b (inr is) (inl p) q = cc (is.0)
+not_both_admit a b (inr is) (inr p) q = cc (is.0)
+
+pub not_both_activate : (a b : FlowFields) → IsShape (a ∷ b ∷ []) → Activates a → Activates b → ⊥
+not_both_activate a b (inl is) (inl p) q = cc (is.0)
+not_both_activate a b (inl is) (inr p) q = cc (is.0)
+not_both_activate a b (inr is) p (inl q) = cc (is.1)
+not_both_activate a b (inr is) p (inr q) = cc (is.1)
 
 -- ---- the checks
 
@@ -292,24 +305,6 @@ module _ (op : Operator) (modem : Modem) (kind : Kind) (tid : ℕ) (not_dsd : ki
     two_sets x y asks_x asks_y = all_more (Failing both) (up_to_flow ++ WrongSetType ∷ []) NoParameterSet two_types
         (none_any (GivesNoSet op) both (gives_a_set a x asks_x, (gives_a_set b y asks_y, tt)))
 
-    not_both_admit : Admits a → Admits b → ⊥
-    not_both_admit p q = by shape p q
-      where
-        by : IsShape both → Admits a → Admits b → ⊥
-        by (inl is) p (inl q) = cc (is.1)
-        by (inl is) p (inr q) = cc (is.1)
-        by (inr is) (inl p) q = cc (is.0)
-        by (inr is) (inr p) q = cc (is.0)
-
-    not_both_activate : Activates a → Activates b → ⊥
-    not_both_activate p q = by shape p q
-      where
-        by : IsShape both → Activates a → Activates b → ⊥
-        by (inl is) (inl p) q = cc (is.0)
-        by (inl is) (inr p) q = cc (is.0)
-        by (inr is) p (inl q) = cc (is.1)
-        by (inr is) p (inr q) = cc (is.1)
-
     has_a : Contains both a
     has_a = contains-here a (b ∷ [])
 
@@ -326,8 +321,8 @@ module _ (op : Operator) (modem : Modem) (kind : Kind) (tid : ℕ) (not_dsd : ki
         record {
           admitted = first;
           active = second;
-          only_admitted = λ x h. one_set op Admits both (λ c d has_c has_d p q. one_of_two Admits a b c d not_both_admit has_c has_d p q) x (Some admitted) h first;
-          only_active = λ x h. one_set op Activates both (λ c d has_c has_d p q. one_of_two Activates a b c d not_both_activate has_c has_d p q) x (Some active) h second;
+          only_admitted = λ x h. one_set op Admits both (λ c d has_c has_d p q. one_of_two Admits a b c d (not_both_admit a b shape) has_c has_d p q) x (Some admitted) h first;
+          only_active = λ x h. one_set op Activates both (λ c d has_c has_d p q. one_of_two Activates a b c d (not_both_activate a b shape) has_c has_d p q) x (Some active) h second;
           null = λ h. cc;
           none = rest;
         }

@@ -18,8 +18,8 @@ pub fn verdict_is_decided()
         → (check : Check) × IsDecidedBy op modem (said_by request) check (verdict op modem request) }
 {}
 
-/// Just one check decides a request.
-pub fn one_check_decides()
-    ensures { (op : Operator) (modem : Modem) (said : Said) (a b : Check) (v w : Verdict)
-        → IsDecidedBy op modem said a v → IsDecidedBy op modem said b w → a ≡ b }
+/// Just one check decides a request, with just one answer.
+pub fn decided_once()
+    ensures { (op : Operator) (modem : Modem) (said : Said) (a b : Check) (v w : Verdict) → IsSound op
+        → IsDecidedBy op modem said a v → IsDecidedBy op modem said b w → (a ≡ b) × (v ≡ w) }
 {}

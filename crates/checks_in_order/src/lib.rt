@@ -6,4 +6,4 @@ mod check;
 mod laws;
 
 pub use check::Check;
-pub use laws::{one_check_decides, verdict_is_decided};
+pub use laws::{decided_once, verdict_is_decided};
