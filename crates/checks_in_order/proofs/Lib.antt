@@ -1,0 +1,11 @@
+pub mod ListLemmas
+pub mod EntryLemmas
+pub mod TableLemmas
+pub mod FlowLemmas
+pub mod EncodingLemmas
+pub mod SetLemmas
+pub mod RoomLemmas
+pub mod AdditionLemmas
+pub mod ChangeLemmas
+pub mod DeletionLemmas
+pub mod OnceLemmas

@@ -1,0 +1,5 @@
+pub mod First
+pub mod Said
+pub mod Holding
+pub mod Answering
+pub mod Table

@@ -1,0 +1,9 @@
+//! The table of checks as a table: each check with when it holds and what it answers, in their order, and a law that the
+//! machine's verdict is the answer of the first that holds.
+#![tactic(auto)]
+
+mod check;
+mod laws;
+
+pub use check::Check;
+pub use laws::{decided_once, verdict_is_decided};
