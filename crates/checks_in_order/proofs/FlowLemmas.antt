@@ -23,10 +23,10 @@ use Rattle.checks_in_order.proofs.EntryLemmas.{at_contains, contained_at}
 use Rattle.checks_in_order.proofs.TableLemmas.{of_encodings, up_to_flow, Fails, IsDecided, decided}
 
 -- modems of the same bytes are the same
-same_modems : (a b : Modem) → same_modem a b ≡ true → a ≡ b
+pub same_modems : (a b : Modem) → same_modem a b ≡ true → a ≡ b
 same_modems a b is = ap (λ (bytes : List ℕ). record { 0 = bytes }) ((bytes_eq-Decides a.0 b.0).0 is)
 
-modem_itself : (a b : Modem) → a ≡ b → same_modem a b ≡ true
+pub modem_itself : (a b : Modem) → a ≡ b → same_modem a b ≡ true
 modem_itself a b is = (bytes_eq-Decides a.0 b.0).1 (ap (λ (m : Modem). m.0) is)
 
 true_from_not : (b : Bool) → not b ≡ false → b ≡ true

@@ -8,4 +8,6 @@ pub mod RoomLemmas
 pub mod AdditionLemmas
 pub mod ChangeLemmas
 pub mod DeletionLemmas
+pub mod RequestLemmas
 pub mod OnceLemmas
+pub mod MessageLemmas

@@ -103,3 +103,7 @@ module _ {X : Type 0} where
   first_one P xs a b f g =
       ahead P a b f.before f.after g.before g.after (sym f.split ∙ g.split) (recursion_from_All (λ (x : X). ¬ P x) f.before f.none)
       (recursion_from_All (λ (x : X). ¬ P x) g.before g.none) f.holds g.holds
+
+  -- where none is there is no first
+  pub first_none : (P : X → Type 0) (xs : List X) → AllByRecursion (λ x. ¬ P x) xs → (x : X) → ¬ IsFirst P xs x
+  first_none P xs none x first = none_any P xs none (any_from P xs x (first_contains P xs x first) first.holds)

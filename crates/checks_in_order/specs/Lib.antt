@@ -3,3 +3,4 @@ pub mod Said
 pub mod Holding
 pub mod Answering
 pub mod Table
+pub mod Messages

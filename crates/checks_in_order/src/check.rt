@@ -1,6 +1,23 @@
-//! The checks of a request whose transaction is new.
+//! The checks of a message, and of a request.
 
-/// A check that a request meets once it could be read, in the order of the table (docs/PROFILE.md).
+/// A check that a message with no acknowledgement meets, in the order of the table (docs/PROFILE.md).
+#[derive(Clone, Copy, Debug, PartialEq, Eq)]
+pub enum MessageCheck {
+    /// There is no byte, the type is not ours, or the fixed part is short.
+    Unread,
+    /// The transaction ID of a request is one of the CMTS.
+    OfCmts,
+    /// The transaction of a request is kept already.
+    Repeated,
+    /// As many transactions are kept as the row allows.
+    KeptFull,
+    /// The rest of a request could not be read.
+    Faulty,
+    /// None of those before: the checks of the request decide.
+    Judged,
+}
+
+/// A check that a request meets once it is read and its transaction is new, in the order of the table (docs/PROFILE.md).
 #[derive(Clone, Copy, Debug, PartialEq, Eq)]
 pub enum Check {
     /// An encoding names a service class that the plant has not.

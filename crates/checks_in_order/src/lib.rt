@@ -5,5 +5,5 @@
 mod check;
 mod laws;
 
-pub use check::Check;
-pub use laws::{decided_once, verdict_is_decided};
+pub use check::{Check, MessageCheck};
+pub use laws::{decided_once, message_is_decided, verdict_is_decided};
