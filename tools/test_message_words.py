@@ -1,11 +1,13 @@
 #!/usr/bin/env python3
 """Checks of tools/message_words.py: words and bytes typed from docs/PROFILE.md, the way there and back over every message that stands
-in the repository, in the inputs of tools/hostile.py and in generated cases, with the replies to them, and each fault by its text.
+in the repository, in the inputs of tools/hostile.py and in generated cases, with the replies to them, and over random bytes; and each
+fault by its text.
 
     tools/test_message_words.py
 """
 
 import pathlib
+import random
 import re
 import subprocess
 import sys
@@ -17,6 +19,7 @@ sys.path.insert(0, str(HERE))
 from generate import case  # noqa: E402
 from hostile import all_inputs  # noqa: E402
 from message_words import WordsFault, bytes_of_flow, bytes_of_message, first_fault, parts_of_flow, parts_of_message, words_of  # noqa: E402
+from reference.encodings import LENGTHS, tlv  # noqa: E402
 from reference.messages import FIXED_PART, NoAnswer, read_header  # noqa: E402
 from reference.program import answer  # noqa: E402
 
@@ -120,6 +123,20 @@ class Words(unittest.TestCase):
                 self.assertTrue(str(fault).startswith(("NotOurs", "Short")), (data.hex(), str(fault)))
                 self.assertTrue(data[0] not in FIXED_PART or self.is_unanswered(data), data.hex())
         self.assertGreater(read, 500)
+
+    def test_there_and_back_of_random_bytes(self):
+        rng = random.Random(5)
+        for _ in range(1500):
+            tlvs = b"".join(tlv(rng.choice((24, 24, 24, 22, 43)), self.random_flow(rng)) for _ in range(rng.randrange(4)))
+            data = bytes([rng.choice((15, 16, 18, 19))]) + rng.randbytes(3) + tlvs
+            self.there_and_back(data[:rng.randrange(4, len(data) + 1)])
+        for _ in range(500):
+            self.there_and_back(bytes([rng.randrange(15, 23)]) + rng.randbytes(rng.randrange(8, 40)))
+
+    def random_flow(self, rng):
+        """Fields of known and unknown subtypes, mostly of the right length, at times twice or out of range."""
+        subtypes = rng.choices([*LENGTHS, 99], k=rng.randrange(5))
+        return b"".join(tlv(subtype, rng.randbytes(rng.choice((*LENGTHS.get(subtype, (3, 3)), rng.randrange(5))))) for subtype in subtypes)
 
     def is_unanswered(self, data):
         try:

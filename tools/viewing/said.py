@@ -1,5 +1,6 @@
 """The lines that the word `run` printed."""
 
+import functools
 import re
 from dataclasses import dataclass, field
 
@@ -77,11 +78,11 @@ SPAN = re.compile(r"(\d+)/(\d+)/(\d+)/(\d+)")
 PENDING = re.compile(r"(\d+)/P")
 
 
-@dataclass
+@dataclass(frozen=True)
 class Part:
     """An operator's part of a frame: its spans (SID, IUC, start, length), and the SIDs whose grants are pending."""
-    spans: list
-    pending: list
+    spans: tuple
+    pending: tuple
 
     @property
     def start(self):
@@ -97,6 +98,7 @@ class Part:
         return sum(length for sid, _, _, length in self.spans if sid)
 
 
+@functools.lru_cache(maxsize=100_000)
 def part_of(elements):
     spans, pending = [], []
     for element in elements.split(" "):
@@ -109,7 +111,7 @@ def part_of(elements):
             raise NoOutput(f"`{element}` is no element of a frame")
     if not spans:
         raise NoOutput("a frame without a span")
-    return Part(spans, pending)
+    return Part(tuple(spans), tuple(pending))
 
 
 def frame_of(said, budgets):
