@@ -138,6 +138,27 @@ fn the_greater_rank_goes_first(rt: HostRuntime) -> Result<(), Fail> {
     check(&rt, alloc, &flows, &short, wanted)
 }
 
+/// Ages are held at 255: in steps of 128 a wait of 1,000 frames stands equal with 128, and both go before 127.
+#[test]
+fn an_age_is_held_at_255(rt: HostRuntime) -> Result<(), Fail> {
+    let aged = PlainFrame {
+        number: 1000,
+        order: Order::Aged { step: 128 },
+        ..FRAME
+    };
+    let late = PlainFlow {
+        since: 873,
+        ..flow(300, 300, 40)
+    };
+    let long = PlainFlow {
+        since: 872,
+        ..flow(301, 301, 40)
+    };
+    let flows = [late, long, flow(302, 302, 40)];
+    let wanted = " 301/6/8/32 301/P 302/P 300/P 301+32";
+    check(&rt, rt.alloc(), &flows, &aged, wanted)
+}
+
 /// Grants of 64 bytes twice every second frame, and a poll each frame: in frame 0 both are due, in frame 1 the poll alone.
 #[test]
 fn what_is_due_stands_first(rt: HostRuntime) -> Result<(), Fail> {
