@@ -3,3 +3,7 @@
 
 #[cfg(test)]
 mod books;
+#[cfg(test)]
+mod playing;
+#[cfg(test)]
+mod rules;
