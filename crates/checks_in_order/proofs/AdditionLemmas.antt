@@ -81,9 +81,9 @@ module _ (op : Operator) (sound : IsSound op) (modem : Modem) (tid : ℕ) (encod
     not_full : length op.state.flows < op.row.flows → AllByRecursion (Fails op modem said) (up_to_sets ++ FlowsFull ∷ [])
     not_full few = all_more (Fails op modem said) up_to_sets FlowsFull is.none (λ h. let many = h.1 in absurd (omega arith))
 
-    admitted : (o : Option ParamFields) → is.asked.admitted ≡ o → (set : ParamFields) × IsSetWhere Admits op encodings (Some set)
+    admitted : (o : Option ParamFields) → is.asked.admitted ≡ o → (set : ParamFields) × IsSetWhere Admits op.consts encodings (Some set)
     admitted None none = let change = (is.are.null none).0 in cc
-    admitted (Some set) some = (set, subst (IsSetWhere Admits op encodings) some is.are.admitted)
+    admitted (Some set) some = (set, subst (IsSetWhere Admits op.consts encodings) some is.are.admitted)
 
     added-under : length op.state.flows < op.row.flows → (o p : Option ℕ) → least_free_of op.row.sfids (sfids_of op.state.flows) ≡ o
         → least_free_of op.row.sids (sids_of op.state.flows) ≡ p → IsDecided op modem said (added_under op modem tid addition o p)

@@ -148,7 +148,7 @@ module _ (op : Operator) (sound : IsSound op) (modem : Modem) (tid : ℕ) (encod
         → least_free_of op.row.sids (sids_of op.state.flows) ≡ o → IsDecided op modem said (changed_with_new op tid change o)
     changed-new set some bare None is_o =
         decided op modem said (up_to_sets ++ FlowsFull ∷ NoSfidFree ∷ []) NoSidFree (ElementsOver ∷ MinislotsOver ∷ Accepted ∷ []) _ refl not_added
-        (Some change.flow, set, is_about, subst (IsSetWhere Admits op encodings) some is.are.admitted, bare, used_up op.row.sids (sids_of op.state.flows) is_o) refl
+        (Some change.flow, set, is_about, subst (IsSetWhere Admits op.consts encodings) some is.are.admitted, bare, used_up op.row.sids (sids_of op.state.flows) is_o) refl
     changed-new set some bare (Some sid) is_o =
         let least = least_one op.row.sids (sids_of op.state.flows) sid is_o in
         changed-with (Some sid) true

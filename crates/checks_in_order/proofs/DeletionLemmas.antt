@@ -46,17 +46,17 @@ module _ (op : Operator) (sound : IsSound op) (modem : Modem) (tid sfid : ℕ) w
       all_append (Fails op modem said) up_to_flow asking none (
         (λ h. cc),
         (
-          none_any (GivesNoSet op) [] tt,
+          none_any (GivesNoSet op.consts) [] tt,
           (
-            (λ h. none_any (λ e. Activates e × AsksFor op e h.0) [] tt h.2),
+            (λ h. none_any (λ e. Activates e × AsksFor op.consts e h.0) [] tt h.2),
             (
-              (λ h. none_any (λ e. Admits e × AsksFor op e h.1) [] tt h.4),
+              (λ h. none_any (λ e. Admits e × AsksFor op.consts e h.1) [] tt h.4),
               (
                 (λ h. cc),
                 (
                   (λ h. cc),
                   (
-                    (λ h. none_any (λ e. Admits e × AsksFor op e h.1) [] tt h.3),
+                    (λ h. none_any (λ e. Admits e × AsksFor op.consts e h.1) [] tt h.3),
                     (
                       (λ h. h.1 refl),
                       ((λ h. h.1 refl), tt),

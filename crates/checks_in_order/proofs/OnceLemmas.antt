@@ -91,10 +91,10 @@ agree P apart (x ∷ y ∷ []) together a b has_a has_b p q = one_of_two P x y a
 agree P apart (x ∷ y ∷ z ∷ more) together a b has_a has_b p q = absurd (together (apart_more x (y ∷ z ∷ more) refl))
 
 module _ (op : Operator) (es : List FlowFields) (together : StandTogether es) (x y : Option ParamFields) where
-  admitted_once : IsSetWhere Admits op es x → IsSetWhere Admits op es y → x ≡ y
+  admitted_once : IsSetWhere Admits op.consts es x → IsSetWhere Admits op.consts es y → x ≡ y
   admitted_once h k = one_set op Admits es (agree Admits not_both_admit es together) x y h k
 
-  active_once : IsSetWhere Activates op es x → IsSetWhere Activates op es y → x ≡ y
+  active_once : IsSetWhere Activates op.consts es x → IsSetWhere Activates op.consts es y → x ≡ y
   active_once h k = one_set op Activates es (agree Activates not_both_activate es together) x y h k
 
 -- ---- the answers
@@ -201,9 +201,9 @@ module _ (op : Operator) (s : Ascends op.state.flows) (modem : Modem) (said : Sa
 
     set_once : Answers NoParameterSet op modem said v → Answers NoParameterSet op modem said w → v ≡ w
     set_once h k =
-        let same : h.0 ≡ k.0 = first_one (GivesNoSet op) said.encodings h.0 k.0 h.2 k.2 in
-        let here : IsRefused op k.0 h.1 = subst (λ (e : FlowFields). IsRefused op e h.1) same h.3 in
-        let there : IsRefused op k.0 k.1 = k.3 in
+        let same : h.0 ≡ k.0 = first_one (GivesNoSet op.consts) said.encodings h.0 k.0 h.2 k.2 in
+        let here : IsRefused op.consts k.0 h.1 = subst (λ (e : FlowFields). IsRefused op.consts e h.1) same h.3 in
+        let there : IsRefused op.consts k.0 k.1 = k.3 in
         let refusal : h.1 ≡ k.1 = cc in
         let left = h.4 in
         let right = k.4 in

@@ -42,20 +42,20 @@ match_then P R Q (Err reply) f h next = h
 module _ (op : Operator) (P : FlowFields → Type 0) where
   -- of P's encodings there is one, so there is one set
   pub one_set : (es : List FlowFields) → ((a b : FlowFields) → Contains es a → Contains es b → P a → P b → a ≡ b)
-      → (x y : Option ParamFields) → IsSetWhere P op es x → IsSetWhere P op es y → x ≡ y
+      → (x y : Option ParamFields) → IsSetWhere P op.consts es x → IsSetWhere P op.consts es y → x ≡ y
   one_set es agree None None h k = refl
   one_set es agree None (Some y) h k = absurd (All-contains (λ (e : FlowFields). ¬ P e) es k.1 h (k.0, k.2, k.3) k.4.0)
   one_set es agree (Some x) None h k = absurd (All-contains (λ (e : FlowFields). ¬ P e) es h.1 k (h.0, h.2, h.3) h.4.0)
   one_set es agree (Some x) (Some y) h k =
       let same : h.1 ≡ k.1 = agree h.1 k.1 (h.0, h.2, h.3) (k.0, k.2, k.3) h.4.0 k.4.0 in
-      let left : AsksFor op k.1 x = subst (λ (e : FlowFields). AsksFor op e x) same h.4.1 in
-      let right : AsksFor op k.1 y = k.4.1 in
+      let left : AsksFor op.consts k.1 x = subst (λ (e : FlowFields). AsksFor op.consts e x) same h.4.1 in
+      let right : AsksFor op.consts k.1 y = k.4.1 in
       cc
 
-  set_here : (es : List FlowFields) (e : FlowFields) (set : ParamFields) → Contains es e → P e → AsksFor op e set → IsSetWhere P op es (Some set)
-  set_here es e set has holds asks = any_from (λ (x : FlowFields). P x × AsksFor op x set) es e has (holds, asks)
+  set_here : (es : List FlowFields) (e : FlowFields) (set : ParamFields) → Contains es e → P e → AsksFor op.consts e set → IsSetWhere P op.consts es (Some set)
+  set_here es e set has holds asks = any_from (λ (x : FlowFields). P x × AsksFor op.consts x set) es e has (holds, asks)
 
-  none_of_one : (e : FlowFields) → ¬ P e → IsSetWhere P op (e ∷ []) None
+  none_of_one : (e : FlowFields) → ¬ P e → IsSetWhere P op.consts (e ∷ []) None
   none_of_one e fails = All-from_recursion (λ (x : FlowFields). ¬ P x) (e ∷ []) (fails, tt)
 
 pub only_one : (e a b : FlowFields) → Contains (e ∷ []) a → Contains (e ∷ []) b → a ≡ b
@@ -114,30 +114,30 @@ module _ (op : Operator) (modem : Modem) (kind : Kind) (tid : ℕ) (not_dsd : ki
 
   -- the set of an encoding, or why it has none
   abbrev IsNoSet : FlowFields → ReplyFields → Type 0
-  IsNoSet e reply = (r : Refusal) × IsRefused op e r × (reply ≡ naming_refusal r.code e r.subtype)
+  IsNoSet e reply = (r : Refusal) × IsRefused op.consts e r × (reply ≡ naming_refusal r.code e r.subtype)
 
-  set-view : (e : FlowFields) → ¬ NamesUnknownClass op.consts.classes e → MatchResult (set_of (trans op modem kind tid not_dsd) op.consts e) (AsksFor op e) (IsNoSet e)
+  set-view : (e : FlowFields) → ¬ NamesUnknownClass op.consts.classes e → MatchResult (set_of (trans op modem kind tid not_dsd) op.consts e) (AsksFor op.consts e) (IsNoSet e)
   unfolding set_of
   set-view e known = over (asked_of op.consts.classes e) refl
     where
       unless : (asked : FlowFields) → asked_of op.consts.classes e ≡ Some asked → (r : Result ParamFields Refusal) → parameter_set_of asked op.consts.units ≡ r
-          → MatchResult (set_unless (trans op modem kind tid not_dsd) e r) (AsksFor op e) (IsNoSet e)
+          → MatchResult (set_unless (trans op modem kind tid not_dsd) e r) (AsksFor op.consts e) (IsNoSet e)
       unless asked is (Ok set) was =
           ap (λ (o : Option FlowFields). option_map (λ a. parameter_set_of a op.consts.units) o) is ∙ ap (λ (r : Result ParamFields Refusal). Some r) was
       unless asked is (Err r) was =
           (r, ap (λ (o : Option FlowFields). option_map (λ a. parameter_set_of a op.consts.units) o) is ∙ ap (λ (r : Result ParamFields Refusal). Some r) was, refl)
 
       over : (o : Option FlowFields) → asked_of op.consts.classes e ≡ o
-          → MatchResult (set_over_class (trans op modem kind tid not_dsd) op.consts.units e o) (AsksFor op e) (IsNoSet e)
+          → MatchResult (set_over_class (trans op modem kind tid not_dsd) op.consts.units e o) (AsksFor op.consts e) (IsNoSet e)
       over None is = absurd (known (unclassed op.consts.classes e (ap (λ (o : Option FlowFields). is_none o) is)))
       over (Some asked) is = unless asked is (parameter_set_of asked op.consts.units) refl
 
   -- the sets that are asked for, and that none of the checks up to them holds
   pub record AreAsked (es : List FlowFields) (asked : AskedSets) : Type 0 where
-    pub admitted : IsSetWhere Admits op es asked.admitted
-    pub active : IsSetWhere Activates op es asked.active
-    pub only_admitted : (set : Option ParamFields) → IsSetWhere Admits op es set → set ≡ asked.admitted
-    pub only_active : (set : Option ParamFields) → IsSetWhere Activates op es set → set ≡ asked.active
+    pub admitted : IsSetWhere Admits op.consts es asked.admitted
+    pub active : IsSetWhere Activates op.consts es asked.active
+    pub only_admitted : (set : Option ParamFields) → IsSetWhere Admits op.consts es set → set ≡ asked.admitted
+    pub only_active : (set : Option ParamFields) → IsSetWhere Activates op.consts es set → set ≡ asked.active
     -- only a change admits none, and then makes none active
     pub null : asked.admitted ≡ None → (kind ≡ Dsc) × (asked.active ≡ None)
     pub none : AllByRecursion (Failing es) (up_to_flow ++ WrongSetType ∷ NoParameterSet ∷ [])
@@ -163,17 +163,17 @@ module _ (op : Operator) (modem : Modem) (kind : Kind) (tid : ℕ) (not_dsd : ki
     no_set taken not_null reply is =
         decided op modem (said_of op modem kind tid not_dsd (e ∷ [])) (up_to_flow ++ WrongSetType ∷ []) NoParameterSet
         (ActiveNotWithin ∷ AdmittedNotWithin ∷ FlowsFull ∷ NoSfidFree ∷ NoSidFree ∷ ElementsOver ∷ MinislotsOver ∷ Accepted ∷ [])
-        _ refl (right_type taken) (any_from (GivesNoSet op) (e ∷ []) e (contains-here e []) (not_null, is.0, is.1)) (
+        _ refl (right_type taken) (any_from (GivesNoSet op.consts) (e ∷ []) e (contains-here e []) (not_null, is.0, is.1)) (
           e,
           is.0,
-          first-here (GivesNoSet op) e [] (not_null, is.0, is.1),
+          first-here (GivesNoSet op.consts) e [] (not_null, is.0, is.1),
           is.1,
           ap (λ (r : ReplyFields). Refused r) is.2 ∙ named_refusal op modem kind tid not_dsd (e ∷ []) is.0.code e is.0.subtype,
         )
 
-    some_set : IsTaken kind e.set_type → (set : ParamFields) → AsksFor op e set → AllByRecursion (Failing (e ∷ [])) (up_to_flow ++ WrongSetType ∷ NoParameterSet ∷ [])
+    some_set : IsTaken kind e.set_type → (set : ParamFields) → AsksFor op.consts e set → AllByRecursion (Failing (e ∷ [])) (up_to_flow ++ WrongSetType ∷ NoParameterSet ∷ [])
     some_set taken set asks = all_more (Failing (e ∷ [])) (up_to_flow ++ WrongSetType ∷ []) NoParameterSet (right_type taken)
-        (none_any (GivesNoSet op) (e ∷ []) ((λ h. let refused : IsRefused op e h.1 = h.2 in cc), tt))
+        (none_any (GivesNoSet op.consts) (e ∷ []) ((λ h. let refused : IsRefused op.consts e h.1 = h.2 in cc), tt))
 
     admits_one : e.set_type ≡ Some 2 → View (e ∷ []) (set_of (trans op modem kind tid not_dsd) op.consts e >>= λ set. Ok (record { admitted = Some set; active = None }))
     admits_one is = by (set_of (trans op modem kind tid not_dsd) op.consts e) (set-view e known)
@@ -182,11 +182,11 @@ module _ (op : Operator) (modem : Modem) (kind : Kind) (tid : ℕ) (not_dsd : ki
         idle (inl other) = cc
         idle (inr other) = cc
 
-        by : (r : Result ParamFields ReplyFields) → MatchResult r (AsksFor op e) (IsNoSet e) → View (e ∷ []) (r >>= λ set. Ok (record { admitted = Some set; active = None }))
+        by : (r : Result ParamFields ReplyFields) → MatchResult r (AsksFor op.consts e) (IsNoSet e) → View (e ∷ []) (r >>= λ set. Ok (record { admitted = Some set; active = None }))
         by (Err reply) h = no_set (inl is) (λ other. cc) reply h
         by (Ok set) asks =
-            let admitted : IsSetWhere Admits op (e ∷ []) (Some set) = set_here op Admits (e ∷ []) e set (contains-here e []) (inl is) asks in
-            let active : IsSetWhere Activates op (e ∷ []) None = none_of_one op Activates e idle in
+            let admitted : IsSetWhere Admits op.consts (e ∷ []) (Some set) = set_here op Admits (e ∷ []) e set (contains-here e []) (inl is) asks in
+            let active : IsSetWhere Activates op.consts (e ∷ []) None = none_of_one op Activates e idle in
             record {
               admitted = admitted;
               active = active;
@@ -199,11 +199,11 @@ module _ (op : Operator) (modem : Modem) (kind : Kind) (tid : ℕ) (not_dsd : ki
     activates_one : e.set_type ≡ Some 6 → View (e ∷ []) (set_of (trans op modem kind tid not_dsd) op.consts e >>= λ set. Ok (record { admitted = Some set; active = Some set }))
     activates_one is = by (set_of (trans op modem kind tid not_dsd) op.consts e) (set-view e known)
       where
-        by : (r : Result ParamFields ReplyFields) → MatchResult r (AsksFor op e) (IsNoSet e) → View (e ∷ []) (r >>= λ set. Ok (record { admitted = Some set; active = Some set }))
+        by : (r : Result ParamFields ReplyFields) → MatchResult r (AsksFor op.consts e) (IsNoSet e) → View (e ∷ []) (r >>= λ set. Ok (record { admitted = Some set; active = Some set }))
         by (Err reply) h = no_set (inr (inl is)) (λ other. cc) reply h
         by (Ok set) asks =
-            let admitted : IsSetWhere Admits op (e ∷ []) (Some set) = set_here op Admits (e ∷ []) e set (contains-here e []) (inr is) asks in
-            let active : IsSetWhere Activates op (e ∷ []) (Some set) = set_here op Activates (e ∷ []) e set (contains-here e []) (inr is) asks in
+            let admitted : IsSetWhere Admits op.consts (e ∷ []) (Some set) = set_here op Admits (e ∷ []) e set (contains-here e []) (inr is) asks in
+            let active : IsSetWhere Activates op.consts (e ∷ []) (Some set) = set_here op Activates (e ∷ []) e set (contains-here e []) (inr is) asks in
             record {
               admitted = admitted;
               active = active;
@@ -215,8 +215,8 @@ module _ (op : Operator) (modem : Modem) (kind : Kind) (tid : ℕ) (not_dsd : ki
 
     clears_one : e.set_type ≡ Some 0 → kind ≡ Dsc → AreAsked (e ∷ []) (record { admitted = None; active = None })
     clears_one is dsc =
-        let admitted : IsSetWhere Admits op (e ∷ []) None = none_of_one op Admits e no_admission in
-        let active : IsSetWhere Activates op (e ∷ []) None = none_of_one op Activates e no_activation in
+        let admitted : IsSetWhere Admits op.consts (e ∷ []) None = none_of_one op Admits e no_admission in
+        let active : IsSetWhere Activates op.consts (e ∷ []) None = none_of_one op Activates e no_activation in
         record {
           admitted = admitted;
           active = active;
@@ -224,7 +224,7 @@ module _ (op : Operator) (modem : Modem) (kind : Kind) (tid : ℕ) (not_dsd : ki
           only_active = λ other h. one_set op Activates (e ∷ []) (λ a b has_a has_b p q. only_one e a b has_a has_b) other None h active;
           null = λ h. (dsc, refl);
           none = all_more (Failing (e ∷ [])) (up_to_flow ++ WrongSetType ∷ []) NoParameterSet (right_type (inr (inr (dsc, is))))
-              (none_any (GivesNoSet op) (e ∷ []) ((λ h. h.0 is), tt));
+              (none_any (GivesNoSet op.consts) (e ∷ []) ((λ h. h.0 is), tt));
         }
       where
         no_admission : ¬ Admits e
@@ -278,32 +278,32 @@ module _ (op : Operator) (modem : Modem) (kind : Kind) (tid : ℕ) (not_dsd : ki
     first_no_set not_null reply is =
         decided op modem (said_of op modem kind tid not_dsd both) (up_to_flow ++ WrongSetType ∷ []) NoParameterSet
         (ActiveNotWithin ∷ AdmittedNotWithin ∷ FlowsFull ∷ NoSfidFree ∷ NoSidFree ∷ ElementsOver ∷ MinislotsOver ∷ Accepted ∷ [])
-        _ refl two_types (any_from (GivesNoSet op) both a (contains-here a (b ∷ [])) (not_null, is.0, is.1)) (
+        _ refl two_types (any_from (GivesNoSet op.consts) both a (contains-here a (b ∷ [])) (not_null, is.0, is.1)) (
           a,
           is.0,
-          first-here (GivesNoSet op) a (b ∷ []) (not_null, is.0, is.1),
+          first-here (GivesNoSet op.consts) a (b ∷ []) (not_null, is.0, is.1),
           is.1,
           ap (λ (r : ReplyFields). Refused r) is.2 ∙ named_refusal op modem kind tid not_dsd both is.0.code a is.0.subtype,
         )
 
-    gives_a_set : (e : FlowFields) (set : ParamFields) → AsksFor op e set → ¬ GivesNoSet op e
-    gives_a_set e set asks h = let refused : IsRefused op e h.1 = h.2 in cc
+    gives_a_set : (e : FlowFields) (set : ParamFields) → AsksFor op.consts e set → ¬ GivesNoSet op.consts e
+    gives_a_set e set asks h = let refused : IsRefused op.consts e h.1 = h.2 in cc
 
-    second_no_set : b.set_type ≢ Some 0 → (set : ParamFields) → AsksFor op a set → (reply : ReplyFields) → IsNoSet b reply → Decided both reply
+    second_no_set : b.set_type ≢ Some 0 → (set : ParamFields) → AsksFor op.consts a set → (reply : ReplyFields) → IsNoSet b reply → Decided both reply
     second_no_set not_null set asks reply is =
         decided op modem (said_of op modem kind tid not_dsd both) (up_to_flow ++ WrongSetType ∷ []) NoParameterSet
         (ActiveNotWithin ∷ AdmittedNotWithin ∷ FlowsFull ∷ NoSfidFree ∷ NoSidFree ∷ ElementsOver ∷ MinislotsOver ∷ Accepted ∷ [])
-        _ refl two_types (any_from (GivesNoSet op) both b (contains-later a (b ∷ []) b (contains-here b [])) (not_null, is.0, is.1)) (
+        _ refl two_types (any_from (GivesNoSet op.consts) both b (contains-later a (b ∷ []) b (contains-here b [])) (not_null, is.0, is.1)) (
           b,
           is.0,
-          first-later (GivesNoSet op) a (b ∷ []) b (gives_a_set a set asks) (first-here (GivesNoSet op) b [] (not_null, is.0, is.1)),
+          first-later (GivesNoSet op.consts) a (b ∷ []) b (gives_a_set a set asks) (first-here (GivesNoSet op.consts) b [] (not_null, is.0, is.1)),
           is.1,
           ap (λ (r : ReplyFields). Refused r) is.2 ∙ named_refusal op modem kind tid not_dsd both is.0.code b is.0.subtype,
         )
 
-    two_sets : (x y : ParamFields) → AsksFor op a x → AsksFor op b y → AllByRecursion (Failing both) (up_to_flow ++ WrongSetType ∷ NoParameterSet ∷ [])
+    two_sets : (x y : ParamFields) → AsksFor op.consts a x → AsksFor op.consts b y → AllByRecursion (Failing both) (up_to_flow ++ WrongSetType ∷ NoParameterSet ∷ [])
     two_sets x y asks_x asks_y = all_more (Failing both) (up_to_flow ++ WrongSetType ∷ []) NoParameterSet two_types
-        (none_any (GivesNoSet op) both (gives_a_set a x asks_x, (gives_a_set b y asks_y, tt)))
+        (none_any (GivesNoSet op.consts) both (gives_a_set a x asks_x, (gives_a_set b y asks_y, tt)))
 
     has_a : Contains both a
     has_a = contains-here a (b ∷ [])
@@ -313,11 +313,11 @@ module _ (op : Operator) (modem : Modem) (kind : Kind) (tid : ℕ) (not_dsd : ki
 
     -- the one admits this set, and the other activates that one
     two_asked : (admitted active : ParamFields) (one other : FlowFields) → Contains both one → Contains both other → Admits one → Activates other
-        → AsksFor op one admitted → AsksFor op other active → AllByRecursion (Failing both) (up_to_flow ++ WrongSetType ∷ NoParameterSet ∷ [])
+        → AsksFor op.consts one admitted → AsksFor op.consts other active → AllByRecursion (Failing both) (up_to_flow ++ WrongSetType ∷ NoParameterSet ∷ [])
         → AreAsked both (record { admitted = Some admitted; active = Some active })
     two_asked admitted active one other has_one has_other admits activates asks_admitted asks_active rest =
-        let first : IsSetWhere Admits op both (Some admitted) = set_here op Admits both one admitted has_one admits asks_admitted in
-        let second : IsSetWhere Activates op both (Some active) = set_here op Activates both other active has_other activates asks_active in
+        let first : IsSetWhere Admits op.consts both (Some admitted) = set_here op Admits both one admitted has_one admits asks_admitted in
+        let second : IsSetWhere Activates op.consts both (Some active) = set_here op Activates both other active has_other activates asks_active in
         record {
           admitted = first;
           active = second;
@@ -327,7 +327,7 @@ module _ (op : Operator) (modem : Modem) (kind : Kind) (tid : ℕ) (not_dsd : ki
           none = rest;
         }
 
-    ordered : (x y : ParamFields) → AsksFor op a x → AsksFor op b y → IsShape both → AreAsked both (in_order a x y)
+    ordered : (x y : ParamFields) → AsksFor op.consts a x → AsksFor op.consts b y → IsShape both → AreAsked both (in_order a x y)
     ordered x y asks_x asks_y (inl is) =
         subst (AreAsked both) (sym (cond-true (has_set_type 2 a) _ _ (is_same_from a.set_type (Some 2) is.0)))
         (two_asked x y a b has_a has_b (inl is.0) (inl is.1) asks_x asks_y (two_sets x y asks_x asks_y))
@@ -352,11 +352,11 @@ module _ (op : Operator) (modem : Modem) (kind : Kind) (tid : ℕ) (not_dsd : ki
     two-view : View both (asked_by_two (trans op modem kind tid not_dsd) op.consts a b)
     two-view = by (set_of (trans op modem kind tid not_dsd) op.consts a) (set-view a known_a)
       where
-        then : (x : ParamFields) → AsksFor op a x → (r : Result ParamFields ReplyFields) → MatchResult r (AsksFor op b) (IsNoSet b) → View both (r >>= λ y. Ok (in_order a x y))
+        then : (x : ParamFields) → AsksFor op.consts a x → (r : Result ParamFields ReplyFields) → MatchResult r (AsksFor op.consts b) (IsNoSet b) → View both (r >>= λ y. Ok (in_order a x y))
         then x asks_x (Err reply) h = second_no_set not_null_b x asks_x reply h
         then x asks_x (Ok y) asks_y = ordered x y asks_x asks_y shape
 
-        by : (r : Result ParamFields ReplyFields) → MatchResult r (AsksFor op a) (IsNoSet a)
+        by : (r : Result ParamFields ReplyFields) → MatchResult r (AsksFor op.consts a) (IsNoSet a)
             → View both (r >>= λ x. set_of (trans op modem kind tid not_dsd) op.consts b >>= λ y. Ok (in_order a x y))
         by (Err reply) h = first_no_set not_null_a reply h
         by (Ok x) asks_x = then x asks_x (set_of (trans op modem kind tid not_dsd) op.consts b) (set-view b known_b)
@@ -396,8 +396,8 @@ module _ (op : Operator) (modem : Modem) (kind : Kind) (tid : ℕ) (not_dsd : ki
         by None y is_x is_y fails = cc
         by (Some x) None is_x is_y fails = let none = (is.null is_y).1 in cc
         by (Some x) (Some y) is_x is_y fails =
-            let active : IsSetWhere Activates op es (Some x) = subst (IsSetWhere Activates op es) is_x is.active in
-            let admitted : IsSetWhere Admits op es (Some y) = subst (IsSetWhere Admits op es) is_y is.admitted in
+            let active : IsSetWhere Activates op.consts es (Some x) = subst (IsSetWhere Activates op.consts es) is_x is.active in
+            let admitted : IsSetWhere Admits op.consts es (Some y) = subst (IsSetWhere Admits op.consts es) is_y is.admitted in
             decided op modem (said_of op modem kind tid not_dsd es) (up_to_flow ++ WrongSetType ∷ NoParameterSet ∷ []) ActiveNotWithin
             (AdmittedNotWithin ∷ FlowsFull ∷ NoSfidFree ∷ NoSidFree ∷ ElementsOver ∷ MinislotsOver ∷ Accepted ∷ [])
             _ refl is.none (x, y, active, admitted, λ within. let nothing = nothing_fails x y within in cc)
@@ -417,7 +417,7 @@ module _ (op : Operator) (modem : Modem) (kind : Kind) (tid : ℕ) (not_dsd : ki
         to flow is_flow y is_y None is_z fails = cc
         to flow is_flow y is_y (Some z) is_z fails =
             let there : IsAbout op (said_of op modem kind tid not_dsd es) (Some flow) = subst (IsAbout op (said_of op modem kind tid not_dsd es)) is_flow is_about in
-            let admitted : IsSetWhere Admits op es (Some y) = subst (IsSetWhere Admits op es) is_y is.admitted in
+            let admitted : IsSetWhere Admits op.consts es (Some y) = subst (IsSetWhere Admits op.consts es) is_y is.admitted in
             decided op modem (said_of op modem kind tid not_dsd es) (up_to_flow ++ WrongSetType ∷ NoParameterSet ∷ ActiveNotWithin ∷ []) AdmittedNotWithin
             (FlowsFull ∷ NoSfidFree ∷ NoSidFree ∷ ElementsOver ∷ MinislotsOver ∷ Accepted ∷ [])
             _ refl (active_holds within) (flow, y, z, there, admitted, is_z, λ inside. let nothing = nothing_fails y z inside in cc)

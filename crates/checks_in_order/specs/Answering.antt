@@ -119,7 +119,7 @@ Answers FlowWaits op modem said answer = answer ≡ refused said RejectTemporary
 Answers WrongSetType op modem said answer =
     (encoding : FlowFields) × (said.encodings ≡ encoding ∷ []) × (answer ≡ refused said (set_type_code encoding.set_type) (naming said encoding 6))
 Answers NoParameterSet op modem said answer =
-    (encoding : FlowFields) × (refusal : Refusal) × IsFirst (GivesNoSet op) said.encodings encoding × IsRefused op encoding refusal
+    (encoding : FlowFields) × (refusal : Refusal) × IsFirst (GivesNoSet op.consts) said.encodings encoding × IsRefused op.consts encoding refusal
     × (answer ≡ refused said refusal.code (naming said encoding refusal.subtype))
 Answers ActiveNotWithin op modem said answer =
     (encoding : FlowFields) × (active : ParamFields) × (admitted : ParamFields) × (subtype : ℕ) × Contains said.encodings encoding

@@ -10,6 +10,7 @@ use Rattle.param_sets.specs.Need.{need_if}
 use Rattle.param_sets.specs.Within.{IsWithin}
 use Rattle.param_sets.specs.declared.param_set.ParamFields.{ParamFields}
 use Rattle.param_sets.specs.declared.refusal.Refusal.{Refusal}
+use Rattle.slice_table.specs.declared.consts.ConstsFields.{ConstsFields}
 use Rattle.slice_table.specs.declared.class_table.Class.{Class}
 use Rattle.flow_table.specs.declared.flow.Flow.{Flow}
 use Rattle.flow_table.specs.Flow.{committed_of}
@@ -33,8 +34,8 @@ abbrev pub IsTaken : Kind → Option ℕ → Type 0
 IsTaken kind set_type = (set_type ≡ Some 2) ⊎ ((set_type ≡ Some 6) ⊎ ((kind ≡ Dsc) × (set_type ≡ Some 0)))
 
 -- an encoding that is to give a set, and is refused
-abbrev pub GivesNoSet : Operator → FlowFields → Type 0
-GivesNoSet op encoding = (encoding.set_type ≢ Some 0) × (refusal : Refusal) × IsRefused op encoding refusal
+abbrev pub GivesNoSet : ConstsFields → FlowFields → Type 0
+GivesNoSet consts encoding = (encoding.set_type ≢ Some 0) × (refusal : Refusal) × IsRefused consts encoding refusal
 
 -- no number of the range is free
 abbrev pub IsUsedUp : Numbers → List ℕ → Type 0
@@ -69,7 +70,7 @@ Holds UnknownFlow op modem said =
 Holds NotOwner op modem said = (sfid : ℕ) × (flow : Flow) × IsOfFlow op said sfid flow × (flow.modem ≢ modem)
 Holds FlowWaits op modem said = (sfid : ℕ) × (flow : Flow) × IsOfFlow op said sfid flow × IsSome flow.pending
 Holds WrongSetType op modem said = (encoding : FlowFields) × (said.encodings ≡ encoding ∷ []) × (¬ IsTaken said.kind encoding.set_type)
-Holds NoParameterSet op modem said = Any (GivesNoSet op) said.encodings
+Holds NoParameterSet op modem said = Any (GivesNoSet op.consts) said.encodings
 Holds ActiveNotWithin op modem said =
     (active : ParamFields) × (admitted : ParamFields) × IsToBeActive op said (Some active) × IsToBeAdmitted op said (Some admitted)
     × (¬ IsWithin active admitted)

@@ -11,6 +11,7 @@ use Rattle.dsx_messages.specs.declared.reply.FlowId.TheVariants as ids
 use Rattle.param_sets.specs.Reading.{parameter_set_of}
 use Rattle.param_sets.specs.declared.param_set.ParamFields.{ParamFields}
 use Rattle.param_sets.specs.declared.refusal.Refusal.{Refusal}
+use Rattle.slice_table.specs.declared.consts.ConstsFields.{ConstsFields}
 use Rattle.slice_table.specs.Classes.{asked_of}
 use Rattle.flow_table.specs.declared.flow.Flow.{Flow}
 use Rattle.operator_machine.specs.State.{Operator}
@@ -68,14 +69,14 @@ IsAbout op said (Some flow) = (sfid : ℕ) × IsOfFlow op said sfid flow
 
 -- the parameter set of an encoding, over its class where it names one, or why it has none; a class that the plant has not gives
 -- neither
-abbrev pub set_asked : Operator → FlowFields → Option (Result ParamFields Refusal)
-set_asked op encoding = option_map (λ asked. parameter_set_of asked op.consts.units) (asked_of op.consts.classes encoding)
+abbrev pub set_asked : ConstsFields → FlowFields → Option (Result ParamFields Refusal)
+set_asked consts encoding = option_map (λ asked. parameter_set_of asked consts.units) (asked_of consts.classes encoding)
 
-abbrev pub AsksFor : Operator → FlowFields → ParamFields → Type 0
-AsksFor op encoding set = set_asked op encoding ≡ Some (Ok set)
+abbrev pub AsksFor : ConstsFields → FlowFields → ParamFields → Type 0
+AsksFor consts encoding set = set_asked consts encoding ≡ Some (Ok set)
 
-abbrev pub IsRefused : Operator → FlowFields → Refusal → Type 0
-IsRefused op encoding refusal = set_asked op encoding ≡ Some (Err refusal)
+abbrev pub IsRefused : ConstsFields → FlowFields → Refusal → Type 0
+IsRefused consts encoding refusal = set_asked consts encoding ≡ Some (Err refusal)
 
 -- set types are bits: 2 (binary 010) admits the set of the encoding, 4 (100) activates it, 6 (110) does both
 abbrev pub Admits : FlowFields → Type 0
@@ -85,13 +86,13 @@ abbrev pub Activates : FlowFields → Type 0
 Activates encoding = (encoding.set_type ≡ Some 4) ⊎ (encoding.set_type ≡ Some 6)
 
 -- the set of an encoding of which P holds; the null set where P holds of none
-abbrev pub IsSetWhere : (FlowFields → Type 0) → Operator → List FlowFields → Option ParamFields → Type 0
-IsSetWhere P op encodings None = All (λ encoding. ¬ P encoding) encodings
-IsSetWhere P op encodings (Some set) = Any (λ encoding. P encoding × AsksFor op encoding set) encodings
+abbrev pub IsSetWhere : (FlowFields → Type 0) → ConstsFields → List FlowFields → Option ParamFields → Type 0
+IsSetWhere P consts encodings None = All (λ encoding. ¬ P encoding) encodings
+IsSetWhere P consts encodings (Some set) = Any (λ encoding. P encoding × AsksFor consts encoding set) encodings
 
 -- the set that is to be admitted, and the one that is to be active
 abbrev pub IsToBeAdmitted : Operator → Said → Option ParamFields → Type 0
-IsToBeAdmitted op said set = IsSetWhere Admits op said.encodings set
+IsToBeAdmitted op said set = IsSetWhere Admits op.consts said.encodings set
 
 abbrev pub IsToBeActive : Operator → Said → Option ParamFields → Type 0
-IsToBeActive op said set = IsSetWhere Activates op said.encodings set
+IsToBeActive op said set = IsSetWhere Activates op.consts said.encodings set
