@@ -11,42 +11,7 @@ shift 2
 work=$(mktemp -d)
 trap 'rm -rf "$work"' EXIT
 
-cat >"$work/refuse.c" <<'CODE'
-#include <errno.h>
-#include <stdlib.h>
-#include <unistd.h>
-
-extern void *__libc_malloc(size_t);
-extern void *__libc_calloc(size_t, size_t);
-extern void *__libc_realloc(void *, size_t);
-
-static long left = -1;
-static int started = 0;
-
-__attribute__((constructor)) static void start(void) {
-    const char *n = getenv("REFUSE_REQUEST");
-    left = n ? atol(n) : -1;
-    alarm(60);
-    started = 1;
-}
-
-/* Threads share the count, so that just one request is refused. */
-static int refused(void) {
-    if (!started || __atomic_sub_fetch(&left, 1, __ATOMIC_SEQ_CST) != 0) return 0;
-    errno = ENOMEM;
-    return 1;
-}
-
-void *malloc(size_t size) { return refused() ? NULL : __libc_malloc(size); }
-void *calloc(size_t count, size_t size) { return refused() ? NULL : __libc_calloc(count, size); }
-void *realloc(void *old, size_t size) { return refused() ? NULL : __libc_realloc(old, size); }
-
-__attribute__((destructor)) static void end(void) {
-    const char *mark = getenv("REFUSE_MARK");
-    if (left > 0 && mark) { started = 0; int s = system(mark); (void)s; }
-}
-CODE
-gcc -shared -fPIC -O1 -o "$work/refuse.so" "$work/refuse.c"
+gcc -shared -fPIC -O1 -o "$work/refuse.so" "$(dirname "$0")/refuse.c"
 
 status=0
 "$program" "$@" <"$input" >"$work/right" || status=$?

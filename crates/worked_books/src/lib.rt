@@ -7,3 +7,5 @@ mod books;
 mod playing;
 #[cfg(test)]
 mod rules;
+#[cfg(test)]
+mod want_of_memory;

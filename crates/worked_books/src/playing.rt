@@ -3,10 +3,10 @@
 use dsx_messages::Modem;
 use grant_policy::{Policy, RankInput, Ranking, rank_by};
 use hex::{decode, encode_upper};
-use operator_book::{Action, Book, BookFault, Heard, Output, SliceRow};
+use operator_book::{Action, Book, BookFault, Heard, OpenFault, Output, SliceRow};
 use param_sets::ParamSet;
 use slice_scheduler::{Elements, Iuc};
-use slice_table::read_plant;
+use slice_table::{Plant, PlantFault, read_plant};
 use std::alloc::{AllocError, Global};
 use std::process::Abort;
 use std::test::Fail;
@@ -146,24 +146,6 @@ fn put_output(alloc: Global, text: &mut String, output: &Output) -> Result<(), A
     }
 }
 
-/// Does an action, and writes what it puts out, or why it is refused.
-fn act(alloc: Global, book: &mut Book, text: &mut String, action: Action) -> Result<(), Fail> {
-    match book.act(alloc, action) {
-        Ok(outputs) => {
-            for output in outputs.as_slice() {
-                put_output(alloc, text, output)?;
-            }
-        }
-        Err(BookFault::NotMine { modem: _ }) => text.push_str("\n= NotMine")?,
-        Err(BookFault::FramesSpent) => text.push_str("\n= FramesSpent")?,
-        Err(BookFault::Unfit(unfit)) => text.push_str(format!(in alloc;
-            "\n= {unfit:?}"
-        )?.as_str())?,
-        Err(BookFault::NoMemory) => return Err(Fail::new("no memory")),
-    }
-    Ok(())
-}
-
 /// Writes how many flows, kept responses and arrivals there are, the frame number, how many entries the history has, and how many
 /// outputs a tick can have.
 fn put_counts(alloc: Global, book: &Book, text: &mut String) -> Result<(), AllocError> {
@@ -240,6 +222,55 @@ fn put_waits(alloc: Global, book: &Book, text: &mut String) -> Result<(), AllocE
     Ok(())
 }
 
+/// What a book's state tells.
+fn told(alloc: Global, book: &Book) -> Result<String, AllocError> {
+    let mut text = String::new(alloc);
+    put_counts(alloc, book, &mut text)?;
+    put_waits(alloc, book, &mut text)?;
+    put_rates(alloc, book, &mut text)?;
+    put_share(alloc, book, &mut text)?;
+    Ok(text)
+}
+
+/// Does an action. Where that finds no memory, the book is as it was (else a line says so), and the action is done once more.
+fn done(
+    alloc: Global,
+    book: &mut Book,
+    text: &mut String,
+    action: Action,
+) -> Result<Result<Vec<Output>, BookFault>, AllocError> {
+    let again = action.copy(alloc)?;
+    let before = told(alloc, book)?;
+    match book.act(alloc, action) {
+        Err(BookFault::NoMemory) => {
+            let after = told(alloc, book)?;
+            if after.as_str() != before.as_str() {
+                text.push_str("\n= the book is another")?;
+            }
+            Ok(book.act(alloc, again))
+        }
+        answer => Ok(answer),
+    }
+}
+
+/// Does an action, and writes what it puts out, or why it is refused.
+fn act(alloc: Global, book: &mut Book, text: &mut String, action: Action) -> Result<(), Fail> {
+    match done(alloc, book, text, action)? {
+        Ok(outputs) => {
+            for output in outputs.as_slice() {
+                put_output(alloc, text, output)?;
+            }
+        }
+        Err(BookFault::NotMine { modem: _ }) => text.push_str("\n= NotMine")?,
+        Err(BookFault::FramesSpent) => text.push_str("\n= FramesSpent")?,
+        Err(BookFault::Unfit(unfit)) => text.push_str(format!(in alloc;
+            "\n= {unfit:?}"
+        )?.as_str())?,
+        Err(BookFault::NoMemory) => return Err(Fail::new("no memory")),
+    }
+    Ok(())
+}
+
 /// Takes another share in room that is made for it, and writes why not where it does not fit.
 fn reslice(alloc: Global, book: &mut Book, text: &mut String, words: &[&str]) -> Result<(), Fail> {
     let (from, row) = share(words)?;
@@ -297,6 +328,13 @@ fn play_all(alloc: Global, book: &mut Book, text: &mut String, script: &str) -> 
     Ok(())
 }
 
+/// The plant of a text.
+fn plant_of(rt: &impl Abort, alloc: Global, text: &str) -> Result<Plant, Fail> {
+    let read = read_plant(alloc, text);
+    assert!(rt; matches!(&read, Ok(_) | Err(PlantFault::NoMemory)));
+    Ok(read.ok().ok_or("no memory")?)
+}
+
 /// Plays a script over the book of an operator of a plant: below each line stands, behind `=`, what it puts out.
 pub(crate) fn check_on(
     rt: &impl Abort,
@@ -305,7 +343,7 @@ pub(crate) fn check_on(
     place: usize,
     script: &str,
 ) -> Result<(), Fail> {
-    let plant = read_plant(alloc, plant).ok().ok_or("no plant")?;
+    let plant = plant_of(rt, alloc, plant)?;
     let row = plant.rows().get(place).ok_or("no operator")?;
     let policy = row.get_fields().policy;
     let ranking = Ranking::new(
@@ -315,7 +353,8 @@ pub(crate) fn check_on(
         })?,
     );
     let opened = Book::open(alloc, row, plant.consts(), ranking);
-    let mut book = opened.ok().ok_or("not opened")?;
+    assert!(rt; matches!(&opened, Ok(_) | Err(OpenFault::NoMemory)));
+    let mut book = opened.ok().ok_or("no memory")?;
     let mut text = String::new(alloc);
     play_all(alloc, &mut book, &mut text, script)?;
     assert_eq!(rt; text.as_str(), script);
