@@ -1,0 +1,5 @@
+pub mod HeldView
+pub mod Receiving
+pub mod Refusing
+pub mod Taking
+pub mod Telling

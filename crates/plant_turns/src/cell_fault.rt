@@ -1,0 +1,15 @@
+//! Why an operator's cell refused a call.
+
+use operator_book::BookFault;
+use slice_table::Op;
+
+/// Why an operator's cell refused a call.
+#[derive(Clone, Copy, Debug, PartialEq, Eq)]
+pub enum CellFault {
+    /// The book refused the action.
+    Book(BookFault),
+    /// The history is longer than the place at which the action was to be done.
+    Passed { op: Op, index: usize },
+    /// An earlier turn was refused, or the operator's callers were stopped.
+    Stopped { op: Op },
+}

@@ -1,0 +1,15 @@
+//! What stands behind an operator's lock: its book with the frames that wait to be collected, and whether its turns have
+//! stopped. All that a caller under the lock can do is a call here.
+#![tactic(auto)]
+
+mod cell_fault;
+mod giving;
+mod held;
+mod judging;
+mod refusing;
+mod taking;
+mod turning;
+
+pub use cell_fault::CellFault;
+pub use giving::reslice;
+pub use held::Held;
