@@ -1,27 +1,28 @@
 -- Which check decides, by what a request says.
-use Rattle.std.proofs.Common.{◌≡◌, ◌≢◌, ℕ, ◌<◌, ◌≤◌, List, [], ◌∷◌, ◌++◌, ◌⊎◌, length, Option, Some, None, IsSome, refl, sym, ap, ◌∙◌, subst, arith, inl, inr}
+use Rattle.std.proofs.Common.{◌≡◌, ◌≢◌, ℕ, ◌<◌, ◌≤◌, List, [], ◌∷◌, ◌++◌, ◌⊎◌, length, Option, Some, None, IsSome, is_some, refl, sym, ap, ◌∙◌, subst, arith, inl, inr}
 use Rattle.std.specs.Prelude.{Contains}
 use Rattle.std.specs.List.{AllByRecursion}
 use Rattle.std.proofs.lemmas.List.Elements.{All-head, All-contains, All-from_recursion}
 use Rattle.tlv24.specs.declared.fields.FlowFields.{FlowFields}
 use Rattle.dsx_messages.specs.declared.modem.Modem.{Modem}
-use Rattle.dsx_messages.specs.declared.kind.Kind.TheVariants.{Dsa, Dsd}
-use Rattle.dsx_messages.specs.declared.code.Code.TheVariants.{RejectTemporary, RejectNotOwner, RejectFlowNotFound, RejectRequiredParameterNotPresent, RejectDuplicateReference, RejectMultipleUpstreamFlows}
+use Rattle.dsx_messages.specs.declared.kind.Kind.TheVariants.{Dsa, Dsc, Dsd}
+use Rattle.dsx_messages.specs.declared.code.Code.TheVariants.{RejectTemporary, RejectInvalidForContext, RejectAuthorizationFailure, RejectNotOwner, RejectFlowNotFound, RejectRequiredParameterNotPresent, RejectDuplicateReference, RejectMultipleUpstreamFlows}
 use Rattle.dsx_messages.specs.declared.reply.Detail.TheVariants.{Nothing, Errored}
 use Rattle.dsx_messages.specs.declared.message.Request.TheVariants as requests
 use Rattle.admission.specs.Free.{least_free_of}
-use Rattle.param_sets.specs.Within.{IsWithin}
-use Rattle.param_sets.proofs.WithinLemmas.{within_self}
+use Rattle.param_sets.specs.Within.{IsWithin, first_failing}
+use Rattle.param_sets.proofs.WithinLemmas.{within_self, nothing_fails}
 use Rattle.param_sets.specs.declared.param_set.ParamFields.{ParamFields}
 use Rattle.param_sets.specs.declared.refusal.Refusal.{Refusal}
 use Rattle.flow_table.specs.declared.flow.Flow.{Flow}
+use Rattle.flow_table.specs.declared.flow.Pending.{Pending}
 use Rattle.flow_table.specs.Table.{sfids_of, sids_of}
 use Rattle.operator_machine.specs.State.{Operator}
 use Rattle.operator_machine.specs.Verdict.{new_flow}
 use Rattle.operator_machine.specs.Worked.{first_modem, second_modem}
 use Rattle.slice_table.specs.Row.{same_modem}
 use Rattle.std.proofs.lemmas.Bool.{true≢false}
-use Rattle.checks_in_order.specs.Said.{Said, said_by, identifier, IsAbout, AsksFor, IsRefused, Admits, Activates, IsSetWhere}
+use Rattle.checks_in_order.specs.Said.{Said, said_by, identifier, Names, IsAbout, AsksFor, IsRefused, Admits, Activates, IsSetWhere}
 use Rattle.checks_in_order.specs.Holding.{would_commit, NamesUnknownClass, AreTwoAndFour, IsTaken, GivesNoSet}
 use Rattle.checks_in_order.specs.Answering.{refused, naming, set_type_code}
 use Rattle.checks_in_order.specs.Table.{IsDecidedBy}
@@ -72,6 +73,52 @@ module _ (op : Operator) (modem : Modem) (tid : ℕ) where
       where
         each : (e : FlowFields) → Contains two e → e.reference ≡ a.reference
         each e has = All-contains (λ (x : FlowFields). x.reference ≡ a.reference) two e (All-from_recursion (λ (x : FlowFields). x.reference ≡ a.reference) two same) has
+
+    -- the one of set type 2 and the other of set type 4, of one reference
+    module _ (n : ℕ) (is_a : a.reference ≡ Some n) (is_b : b.reference ≡ Some n) (is_two : a.set_type ≡ Some 2) (is_four : b.set_type ≡ Some 4)
+        (x y : ParamFields) (asks_x : AsksFor op.consts a x) (asks_y : AsksFor op.consts b y) where
+      two_one : (e : FlowFields) → Contains two e → e.reference ≡ Some n
+      two_one e has =
+          All-contains (λ (z : FlowFields). z.reference ≡ Some n) two e (All-from_recursion (λ (z : FlowFields). z.reference ≡ Some n) two (is_a, (is_b, tt))) has
+
+      two_flow : AllByRecursion (Fails op modem (adds two)) up_to_flow
+      two_flow =
+          all_append (Fails op modem (adds two)) (UnknownClass ∷ NoEncoding ∷ []) (IdentifiersDiffer ∷ NotTogether ∷ NoIdentifier ∷ UnknownFlow ∷ NotOwner ∷ FlowWaits ∷ []) two_named (
+            (λ h. h.4 (two_one h.0 h.2 ∙ sym (two_one h.1 h.3))),
+            (
+              (λ h. h.1 (inl (ap (λ (t : Option ℕ). t ∷ b.set_type ∷ []) is_two ∙ ap (λ (t : Option ℕ). Some 2 ∷ t ∷ []) is_four))),
+              (
+                none_any (λ (e : FlowFields). e.reference ≡ None) two ((λ h. cc), ((λ h. cc), tt)),
+                ((λ h. h.1), ((λ h. h.2.0), ((λ h. h.2.0), tt))),
+              ),
+            ),
+          )
+
+      two_sets : AllByRecursion (Fails op modem (adds two)) (up_to_flow ++ WrongSetType ∷ NoParameterSet ∷ [])
+      two_sets =
+          all_append (Fails op modem (adds two)) up_to_flow (WrongSetType ∷ NoParameterSet ∷ []) two_flow (
+            (λ h. cc (h.1)),
+            (
+              none_any (GivesNoSet op.consts) two
+                  ((λ h. let no : IsRefused op.consts a h.1 = h.2 in cc), ((λ h. let no : IsRefused op.consts b h.1 = h.2 in cc), tt)),
+              tt,
+            ),
+          )
+
+      pub two_beyond : (subtype : ℕ) → first_failing y x ≡ Some subtype
+          → IsDecidedBy op modem (adds two) ActiveNotWithin (refused (adds two) RejectInvalidForContext (naming (adds two) a subtype))
+      two_beyond subtype fails =
+          decided_by op modem (adds two) (up_to_flow ++ WrongSetType ∷ NoParameterSet ∷ []) ActiveNotWithin
+          (AdmittedNotWithin ∷ FlowsFull ∷ NoSfidFree ∷ NoSidFree ∷ ElementsOver ∷ MinislotsOver ∷ Accepted ∷ [])
+          (refused (adds two) RejectInvalidForContext (naming (adds two) a subtype)) refl two_sets
+          (y, x, active, admitted, λ within. let nothing = nothing_fails y x within in cc)
+          (a, y, x, subtype, contains-here a (b ∷ []), active, admitted, fails, refl)
+        where
+          active : IsSetWhere Activates op.consts two (Some y)
+          active = any_from (λ (e : FlowFields). Activates e × AsksFor op.consts e y) two b (contains-later a (b ∷ []) b (contains-here b [])) (inl is_four, asks_y)
+
+          admitted : IsSetWhere Admits op.consts two (Some x)
+          admitted = any_from (λ (e : FlowFields). Admits e × AsksFor op.consts e x) two a (contains-here a (b ∷ [])) (inl is_two, asks_x)
 
   module _ (e : FlowFields) (plain : e.class_name ≡ None) where
     abbrev one : List FlowFields
@@ -205,6 +252,91 @@ module _ (op : Operator) (modem : Modem) (tid : ℕ) where
                   ∙ ap (λ (o : Option ParamFields). would_commit (λ need. need.elements) op None o) (alone h.2.1 h.2.3)) in
                   absurd (omega arith)))
                   (would_commit (λ need. need.minislots) op None (Some set), (λ h. cc), (None, Some set, refl, is_set, refl), inl over) refl
+
+  -- ---- changes
+
+  -- one encoding that admits and activates a set of the one flow that stands
+  module _ (e : FlowFields) (plain : e.class_name ≡ None) (n : ℕ) (is : e.sfid ≡ Some n) (six : e.set_type ≡ Some 6) (set : ParamFields) (asks : AsksFor op.consts e set)
+      (flow : Flow) (there : op.state.flows ≡ (n, flow) ∷ []) (mine : flow.modem ≡ modem) (rests : flow.pending ≡ None) where
+    abbrev changes : Said
+    changes = said_by (requests.Dsc tid (e ∷ []))
+
+    stands : Contains op.state.flows (n, flow)
+    stands = subst (λ (flows : List (ℕ × Flow)). Contains flows (n, flow)) (sym there) (contains-here (n, flow) [])
+
+    named : (m : ℕ) → Names Dsc (e ∷ []) None m → m ≡ n
+    named m h =
+        let same = only_one e h.1 e (h.0, h.2, h.3) (contains-here e []) in
+        let other : h.1.sfid ≡ Some m = h.4 in
+        let number = ap (λ (x : FlowFields). x.sfid) same in
+        cc
+
+    the_one : (m : ℕ) (f : Flow) → Contains op.state.flows (m, f) → f ≡ flow
+    the_one m f has = by (contains_cases (n, flow) [] (m, f) (subst (λ (flows : List (ℕ × Flow)). Contains flows (m, f)) there has))
+      where
+        by : ◌≡◌ {A = ℕ × Flow} (n, flow) (m, f) ⊎ Contains {X = ℕ × Flow} [] (m, f) → f ≡ flow
+        by (inl same) = sym (ap (λ (entry : ℕ × Flow). entry.1) same)
+        by (inr none) = absurd (contains-nothing (m, f) none)
+
+    used : (m : ℕ) → m ≡ n → Contains (sfids_of op.state.flows) m
+    used m same = subst (λ (flows : List (ℕ × Flow)). Contains (sfids_of flows) m) (sym there) (subst (λ (k : ℕ). Contains (n ∷ []) k) (sym same) (contains-here n []))
+
+    the_set_of : (P : FlowFields → Type 0) (x : ParamFields) → IsSetWhere P op.consts (e ∷ []) (Some x) → x ≡ set
+    the_set_of P x h =
+        let same : h.1 ≡ e = only_one e h.1 e (h.0, h.2, h.3) (contains-here e []) in
+        let asked : AsksFor op.consts e x = subst (λ (y : FlowFields). AsksFor op.consts y x) same h.4.1 in
+        cc
+
+    change_within : AllByRecursion (Fails op modem changes) (up_to_flow ++ WrongSetType ∷ NoParameterSet ∷ ActiveNotWithin ∷ [])
+    change_within = (
+      none_any (NamesUnknownClass op.consts.classes) (e ∷ []) (unclassed_fails e plain, tt),
+      (
+        (λ h. cc (h.1)),
+        (
+          (λ h. h.4 (ap (λ (x : FlowFields). x.sfid) (only_one e h.0 h.1 h.2 h.3))),
+          (
+            (λ h. absurd (omega (arith, h.0))),
+            (
+              none_any (λ (x : FlowFields). x.sfid ≡ None) (e ∷ []) ((λ h. cc), tt),
+              (
+                (λ h. h.2 (used h.0 (named h.0 h.1))),
+                (
+                  (λ h. h.3 (ap (λ (f : Flow). f.modem) (the_one h.0 h.1 h.2.1) ∙ mine)),
+                  (
+                    (λ h. true≢false (sym h.3 ∙ (ap (λ (f : Flow). is_some f.pending) (the_one h.0 h.1 h.2.1) ∙ ap (λ (p : Option Pending). is_some p) rests))),
+                    (
+                      (λ h. let same : e ≡ h.0 = cc in h.2 (inr (inl (sym (ap (λ (x : FlowFields). x.set_type) same) ∙ six)))),
+                      (
+                        none_any (GivesNoSet op.consts) (e ∷ []) ((λ h. let no : IsRefused op.consts e h.1 = h.2 in cc), tt),
+                        (
+                          (λ h. h.4 (subst (λ (x : ParamFields). IsWithin x h.1) (sym (the_set_of Activates h.0 h.2)) (subst (IsWithin set) (sym (the_set_of Admits h.1 h.3)) (within_self set)))),
+                          tt,
+                        ),
+                      ),
+                    ),
+                  ),
+                ),
+              ),
+            ),
+          ),
+        ),
+      ),
+    )
+
+    pub change_beyond : (provisioned : ParamFields) → flow.sets.provisioned ≡ Some provisioned → (subtype : ℕ) → first_failing set provisioned ≡ Some subtype
+        → IsDecidedBy op modem changes AdmittedNotWithin (refused changes RejectAuthorizationFailure (naming changes e subtype))
+    change_beyond provisioned is_provisioned subtype fails =
+        decided_by op modem changes (up_to_flow ++ WrongSetType ∷ NoParameterSet ∷ ActiveNotWithin ∷ []) AdmittedNotWithin
+        (FlowsFull ∷ NoSfidFree ∷ NoSidFree ∷ ElementsOver ∷ MinislotsOver ∷ Accepted ∷ [])
+        (refused changes RejectAuthorizationFailure (naming changes e subtype)) refl change_within
+        (flow, set, provisioned, about, admitted, is_provisioned, λ within. let nothing = nothing_fails set provisioned within in cc)
+        (e, flow, set, provisioned, subtype, contains-here e [], about, admitted, is_provisioned, fails, refl)
+      where
+        about : IsAbout op changes (Some flow)
+        about = (n, (any_from (λ (x : FlowFields). x.sfid ≡ Some n) (e ∷ []) e (contains-here e []) is, stands))
+
+        admitted : IsSetWhere Admits op.consts (e ∷ []) (Some set)
+        admitted = any_from (λ (x : FlowFields). Admits x × AsksFor op.consts x set) (e ∷ []) e (contains-here e []) (inr six, asks)
 
   -- ---- deletions
 

@@ -1,5 +1,5 @@
 -- A request worked through by the table (own).
-use Rattle.std.specs.Prelude.{◌≡◌, ℕ, List, Result, Ok}
+use Rattle.std.specs.Prelude.{codes, ◌≡◌, ℕ, List, [], ◌∷◌, Result, Ok}
 use Rattle.dsx_messages.specs.declared.modem.Modem.{Modem}
 use Rattle.dsx_messages.specs.declared.message.Message.{Message}
 use Rattle.dsx_messages.specs.declared.message.Message.TheVariants as messages
@@ -8,13 +8,16 @@ use Rattle.dsx_messages.specs.Reading.{message_of}
 use Rattle.dsx_messages.specs.Spelling.{spell_reply}
 use Rattle.slice_table.specs.declared.operator_row.RowFields.{RowFields}
 use Rattle.operator_machine.specs.declared.action.Action.{Action}
+use Rattle.operator_machine.specs.declared.output.Output.{Output}
 use Rattle.operator_machine.specs.declared.verdict.Verdict.{Verdict}
 use Rattle.operator_machine.specs.State.{Operator, operator}
-use Rattle.operator_machine.specs.Handle.{reply_of}
-use Rattle.operator_machine.specs.Worked.{worked_consts, hex, after}
+use Rattle.operator_machine.specs.Handle.{Ran, reply_of}
+use Rattle.operator_machine.specs.Worked.{worked_consts, worked_row, first_modem, hex, after}
 use Rattle.checks_in_order.specs.declared.check.Check.{Check}
+use Rattle.checks_in_order.specs.declared.check.MessageCheck.{MessageCheck}
 use Rattle.checks_in_order.specs.Said.{said_by}
 use Rattle.checks_in_order.specs.Table.{IsDecidedBy}
+use Rattle.checks_in_order.specs.Messages.{IsHandledBy}
 
 -- the worked plant's operator with this row, once this was done
 abbrev pub worked : RowFields → List Action → Operator
@@ -29,3 +32,11 @@ IsAnsweredAs op modem check reply reading = ⊥
 -- the message of this text of a modem is decided by this check, and the reply is this one
 abbrev pub Decides : Operator → Modem → List ℕ → Check → List ℕ → Type 0
 Decides op modem text check reply = IsAnsweredAs op modem check (hex reply) (message_of (hex text))
+
+-- the worked row, with a flow of the first modem that is provisioned with best effort and 100 bits a second
+abbrev pub provisioned_row : RowFields
+provisioned_row = record worked_row { provisions = record { modem = first_modem; encoding = hex (codes "0601010F01020A0400000064") } ∷ [] }
+
+-- the message of this text of a modem is decided by this check, and this is put out
+abbrev pub HandlesAs : Operator → Modem → List ℕ → MessageCheck → List Output → Type 0
+HandlesAs op modem text check outputs = (ran : Ran) × IsHandledBy op modem (message_of (hex text)) check ran × (ran.outputs ≡ outputs)

@@ -1,9 +1,10 @@
 //! Which check decides, worked through on a plant.
 
-ghost use Rattle.std.specs.Prelude.{codes, [], ◌++◌};
-ghost use Rattle.checks_in_order.specs.declared.check.Check.TheVariants.{NoEncoding, IdentifiersDiffer, NotTogether, NoIdentifier, UnknownFlow, NotOwner, FlowWaits, WrongSetType, NoParameterSet, FlowsFull, NoSfidFree, NoSidFree, ElementsOver, MinislotsOver};
-ghost use Rattle.checks_in_order.specs.Examples.{worked, Decides};
-ghost use Rattle.operator_machine.specs.Worked.{worked_row, first_modem, second_modem, sent, addition, addition_ack, full_addition};
+ghost use Rattle.std.specs.Prelude.{codes, [], ◌∷◌, ◌++◌};
+ghost use Rattle.checks_in_order.specs.declared.check.Check.TheVariants.{NoEncoding, IdentifiersDiffer, NotTogether, NoIdentifier, UnknownFlow, NotOwner, FlowWaits, WrongSetType, NoParameterSet, ActiveNotWithin, AdmittedNotWithin, FlowsFull, NoSfidFree, NoSidFree, ElementsOver, MinislotsOver};
+ghost use Rattle.checks_in_order.specs.declared.check.MessageCheck.TheVariants.{Faulty};
+ghost use Rattle.checks_in_order.specs.Examples.{worked, provisioned_row, Decides, HandlesAs};
+ghost use Rattle.operator_machine.specs.Worked.{worked_row, first_modem, second_modem, sent, addition, addition_ack, full_addition, told};
 
 /// Which check of the encodings decides.
 pub fn worked_encodings()
@@ -41,4 +42,18 @@ pub fn worked_room()
         (codes "0F0002180A010200020601060F0102") ElementsOver (codes "10000203") }
     ensures minislots { Decides (worked worked_row (sent first_modem full_addition ++ sent first_modem addition_ack)) first_modem
         (codes "0F00021810010200020601060F01020A0400000001") MinislotsOver (codes "10000203") }
+{}
+
+/// Which check of the sets decides: of an active set that asks for more than the admitted one, and of an admitted set that
+/// asks for more than the flow was provisioned with.
+pub fn worked_sets()
+    ensures active { Decides (worked worked_row []) first_modem (codes "0F00021810010200010601020F01020A04000000641810010200010601040F01020A0400000065")
+        ActiveNotWithin (codes "10000217180C01020001050601010A020117") }
+    ensures admitted { Decides (worked provisioned_row []) first_modem (codes "12000218120204000001010601060F01020A0400000065")
+        AdmittedNotWithin (codes "13000218180E020400000101050601010A020118") }
+{}
+
+/// A request with a type that is left out is refused before its request is judged.
+pub fn worked_messages()
+    ensures left_out { HandlesAs (worked worked_row []) first_modem (codes "0F00011900") Faulty (told first_modem (codes "10000102") ∷ []) }
 {}
