@@ -11,3 +11,4 @@ pub mod DeletionLemmas
 pub mod RequestLemmas
 pub mod OnceLemmas
 pub mod MessageLemmas
+pub mod ExampleLemmas

@@ -1,5 +1,5 @@
 -- A message is decided.
-use Rattle.std.proofs.Common.{◌≡◌, ◌≢◌, ℕ, ◌⊎◌, ◌==◌, true, false, List, [], ◌∷◌, ◌++◌, length, nat_le, Option, Some, None, Result, Ok, Err, refl, sym, ap, ◌∙◌, subst, arith, inl, inr}
+use Rattle.std.proofs.Common.{◌≡◌, ◌≢◌, ℕ, ◌<◌, ◌⊎◌, ◌==◌, true, false, List, [], ◌∷◌, ◌++◌, length, nat_le, Option, Some, None, Result, Ok, Err, refl, sym, ap, ◌∙◌, subst, arith, inl, inr}
 use Rattle.std.specs.Prelude.{find, MatchOption}
 use Rattle.std.specs.List.{AllByRecursion}
 use Rattle.std.proofs.lemmas.Bool.{cond_both, and_parts, and_from, eqb-true, eq-eqb, leb-true, leb-false, true≢false, false≢true}
@@ -52,15 +52,17 @@ module _ (op : Operator) (modem : Modem) where
   abbrev Handled : Result Message MessageFault → Ran → Type 0
   Handled reading ran = (check : MessageCheck) × IsHandledBy op modem reading check ran
 
+  pub handled_by : (reading : Result Message MessageFault) (before : List MessageCheck) (check : MessageCheck) (after : List MessageCheck) (ran : Ran)
+      → message_table ≡ before ++ check ∷ after → AllByRecursion (Off reading) before → HoldsOf check op modem reading → AnswersOf check op modem reading ran
+      → IsHandledBy op modem reading check ran
+  handled_by reading before check after ran split none holds answers = record {
+    first = record { before = before; after = after; split = split; none = All-from_recursion (Off reading) before none; holds = holds };
+    answers = answers;
+  }
+
   handled : (reading : Result Message MessageFault) (before : List MessageCheck) (check : MessageCheck) (after : List MessageCheck) (ran : Ran)
       → message_table ≡ before ++ check ∷ after → AllByRecursion (Off reading) before → HoldsOf check op modem reading → AnswersOf check op modem reading ran → Handled reading ran
-  handled reading before check after ran split none holds answers = (
-    check,
-    record {
-      first = record { before = before; after = after; split = split; none = All-from_recursion (Off reading) before none; holds = holds };
-      answers = answers;
-    },
-  )
+  handled reading before check after ran split none holds answers = (check, handled_by reading before check after ran split none holds answers)
 
   -- ---- whose entry it is
 
@@ -233,3 +235,22 @@ tlv_memory bytes are tid kind id is = by (message_fault bytes (faults.Tlv tid ki
 
 pub bytes-handled : (op : Operator) (modem : Modem) (bytes : List ℕ) → IsSound op → AreBytes bytes → IsNoAck (message_of bytes) → Handled op modem (message_of bytes) (handle op modem (heards.Message bytes))
 bytes-handled op modem bytes sound are no_ack = read-handled op modem sound (message_of bytes) no_ack (message_memory bytes are) (tlv_memory bytes are)
+
+-- a type that is left out, where nothing is kept
+pub left_out_handled : (op : Operator) (modem : Modem) (tid : ℕ) (kind : Kind) (found : ℕ) → tid < 32768 → op.state.kept ≡ [] → 0 < op.row.transactions
+    → IsHandledBy op modem (Err (faults.LeftOut tid kind found)) Faulty
+    (carried_out op.consts op.state modem kind tid (Refused (record { kind = kind; tid = tid; code = RejectUnrecognizedSetting; detail = Nothing })))
+left_out_handled op modem tid kind found low nothing some =
+    handled_by op modem (Err (faults.LeftOut tid kind found)) (Unread ∷ OfCmts ∷ Repeated ∷ KeptFull ∷ []) Faulty (Judged ∷ [])
+    (carried_out op.consts op.state modem kind tid (Refused (record { kind = kind; tid = tid; code = RejectUnrecognizedSetting; detail = Nothing }))) refl (
+      left_out_read op modem tid kind found,
+      (
+        (λ h. let high = h.3 in let same = h.2.1 in absurd (omega arith)),
+        (
+          (λ h. first_none (λ (e : KeptEntry). (e.modem ≡ modem) × (e.tid ≡ h.1)) [] tt h.2 (subst (λ (kept : List KeptEntry). IsFirst (λ e. (e.modem ≡ modem) × (e.tid ≡ h.1)) kept h.2) nothing h.4)),
+          ((λ h. let many = h.3 in let none = ap (λ (kept : List KeptEntry). length kept) nothing in absurd (omega arith)), tt),
+        ),
+      ),
+    )
+    (kind, tid, faults.LeftOut tid kind found, (refl, refl), refl)
+    (kind, tid, faults.LeftOut tid kind found, RejectUnrecognizedSetting, Nothing, (refl, refl), refl, (refl, refl), refl)

@@ -42,12 +42,13 @@ module _ (op : Operator) (modem : Modem) (said : Said) where
   abbrev pub IsDecided : Verdict → Type 0
   IsDecided answer = (check : Check) × IsDecidedBy op modem said check answer
 
+  pub decided_by : (before : List Check) (check : Check) (after : List Check) (answer : Verdict)
+      → table ≡ before ++ check ∷ after → AllByRecursion Fails before → Holds check op modem said → Answers check op modem said answer → IsDecidedBy op modem said check answer
+  decided_by before check after answer split none holds answers = record {
+    first = record { before = before; after = after; split = split; none = All-from_recursion Fails before none; holds = holds };
+    answers = answers;
+  }
+
   pub decided : (before : List Check) (check : Check) (after : List Check) (answer : Verdict)
       → table ≡ before ++ check ∷ after → AllByRecursion Fails before → Holds check op modem said → Answers check op modem said answer → IsDecided answer
-  decided before check after answer split none holds answers = (
-    check,
-    record {
-      first = record { before = before; after = after; split = split; none = All-from_recursion Fails before none; holds = holds };
-      answers = answers;
-    },
-  )
+  decided before check after answer split none holds answers = (check, decided_by before check after answer split none holds answers)

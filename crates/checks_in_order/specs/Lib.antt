@@ -4,3 +4,4 @@ pub mod Holding
 pub mod Answering
 pub mod Table
 pub mod Messages
+pub mod Examples
