@@ -17,7 +17,8 @@ pub enum MessageCheck {
     Judged,
 }
 
-/// A check that a request meets once it is read and its transaction is new, in the order of the table (docs/PROFILE.md).
+/// A check that a request meets once it is read and its transaction is new, in the order of the table
+/// (docs/PROFILE.md).
 #[derive(Clone, Copy, Debug, PartialEq, Eq)]
 pub enum Check {
     /// An encoding names a service class that the plant has not.
