@@ -56,18 +56,23 @@ pub record IsAdded (op : Operator) (modem : Modem) (said : Said) (answer : Verdi
         modem = modem;
         sid = Some sid;
         sets = record { provisioned = None; admitted = None; active = None };
-        pending = Some (record { sets = record { provisioned = None; admitted = admitted; active = active }; sid_is_new = true });
+        pending = Some (record {
+          sets = record { provisioned = None; admitted = admitted; active = active };
+          sid_is_new = true;
+        });
         start = op.state.frame;
         backlog = 0;
         since = op.state.frame;
       })
       (record { kind = Dsa; tid = said.tid; code = Okay; detail = Given (Some reference) sfid (Some sid) })
 
--- the SID of a changed flow, and whether it is new: its own; where it has none and a set is to be admitted, the least free one
+-- the SID of a changed flow, and whether it is new: its own; where it has none and a set is to be admitted, the least
+-- free one
 abbrev pub GetsSid : Operator → Option ℕ → Option ParamFields → Option ℕ → Bool → Type 0
 GetsSid op (Some own) set sid is_new = (sid ≡ Some own) × (is_new ≡ false)
 GetsSid op None None sid is_new = (sid ≡ None) × (is_new ≡ false)
-GetsSid op None (Some set) sid is_new = (n : ℕ) × IsLeastFree op.row.sids (sids_of op.state.flows) n × (sid ≡ Some n) × (is_new ≡ true)
+GetsSid op None (Some set) sid is_new =
+    (n : ℕ) × IsLeastFree op.row.sids (sids_of op.state.flows) n × (sid ≡ Some n) × (is_new ≡ true)
 
 -- the SID is told where a set is to be admitted
 abbrev pub told_sid : Option ParamFields → Option ℕ → Option ℕ
@@ -89,7 +94,10 @@ pub record IsChanged (op : Operator) (said : Said) (answer : Verdict) : Type 0 w
   pub is : answer ≡ Put sfid
       (record flow {
         sid = sid;
-        pending = Some (record { sets = record { provisioned = flow.sets.provisioned; admitted = admitted; active = active }; sid_is_new = sid_is_new });
+        pending = Some (record {
+          sets = record { provisioned = flow.sets.provisioned; admitted = admitted; active = active };
+          sid_is_new = sid_is_new;
+        });
       })
       (record { kind = Dsc; tid = said.tid; code = Okay; detail = Given None sfid (told_sid admitted sid) })
 
@@ -108,27 +116,36 @@ IsAccepted Dsd op modem said answer = IsDeleted said answer
 
 abbrev pub Answers : Check → Operator → Modem → Said → Verdict → Type 0
 Answers UnknownClass op modem said answer =
-    (encoding : FlowFields) × IsFirst (NamesUnknownClass op.consts.classes) said.encodings encoding × (answer ≡ refused said RejectPermanent (naming said encoding 4))
+    (encoding : FlowFields) × IsFirst (NamesUnknownClass op.consts.classes) said.encodings encoding
+    × (answer ≡ refused said RejectPermanent (naming said encoding 4))
 Answers NoEncoding op modem said answer = answer ≡ refused said RejectRequiredParameterNotPresent Nothing
 Answers IdentifiersDiffer op modem said answer = answer ≡ refused said RejectMultipleUpstreamFlows Nothing
 Answers NotTogether op modem said answer = answer ≡ refused said RejectDuplicateReference Nothing
-Answers NoIdentifier op modem said answer = answer ≡ refused said RejectRequiredParameterNotPresent (Errored None (identifier_subtype said.kind))
+Answers NoIdentifier op modem said answer =
+    answer ≡ refused said RejectRequiredParameterNotPresent (Errored None (identifier_subtype said.kind))
 Answers UnknownFlow op modem said answer = answer ≡ refused said RejectFlowNotFound Nothing
 Answers NotOwner op modem said answer = answer ≡ refused said RejectNotOwner Nothing
 Answers FlowWaits op modem said answer = answer ≡ refused said RejectTemporary Nothing
 Answers WrongSetType op modem said answer =
-    (encoding : FlowFields) × (said.encodings ≡ encoding ∷ []) × (answer ≡ refused said (set_type_code encoding.set_type) (naming said encoding 6))
+    (encoding : FlowFields) × (said.encodings ≡ encoding ∷ [])
+    × (answer ≡ refused said (set_type_code encoding.set_type) (naming said encoding 6))
 Answers NoParameterSet op modem said answer =
-    (encoding : FlowFields) × (refusal : Refusal) × IsFirst (GivesNoSet op.consts) said.encodings encoding × IsRefused op.consts encoding refusal
+    (encoding : FlowFields) × (refusal : Refusal) × IsFirst (GivesNoSet op.consts) said.encodings encoding
+    × IsRefused op.consts encoding refusal
     × (answer ≡ refused said refusal.code (naming said encoding refusal.subtype))
 Answers ActiveNotWithin op modem said answer =
-    (encoding : FlowFields) × (active : ParamFields) × (admitted : ParamFields) × (subtype : ℕ) × Contains said.encodings encoding
-    × IsToBeActive op said (Some active) × IsToBeAdmitted op said (Some admitted) × (first_failing active admitted ≡ Some subtype)
+    (encoding : FlowFields) × (active : ParamFields) × (admitted : ParamFields) × (subtype : ℕ)
+    × Contains said.encodings encoding
+    × IsToBeActive op said (Some active) × IsToBeAdmitted op said (Some admitted)
+    × (first_failing active admitted ≡ Some subtype)
     × (answer ≡ refused said RejectInvalidForContext (naming said encoding subtype))
 Answers AdmittedNotWithin op modem said answer =
-    (encoding : FlowFields) × (flow : Flow) × (admitted : ParamFields) × (provisioned : ParamFields) × (subtype : ℕ) × Contains said.encodings encoding
-    × IsAbout op said (Some flow) × IsToBeAdmitted op said (Some admitted) × (flow.sets.provisioned ≡ Some provisioned)
-    × (first_failing admitted provisioned ≡ Some subtype) × (answer ≡ refused said RejectAuthorizationFailure (naming said encoding subtype))
+    (encoding : FlowFields) × (flow : Flow) × (admitted : ParamFields) × (provisioned : ParamFields) × (subtype : ℕ)
+    × Contains said.encodings encoding
+    × IsAbout op said (Some flow) × IsToBeAdmitted op said (Some admitted)
+    × (flow.sets.provisioned ≡ Some provisioned)
+    × (first_failing admitted provisioned ≡ Some subtype)
+    × (answer ≡ refused said RejectAuthorizationFailure (naming said encoding subtype))
 Answers FlowsFull op modem said answer = answer ≡ refused said RejectTemporary Nothing
 Answers NoSfidFree op modem said answer = answer ≡ refused said RejectTemporary Nothing
 Answers NoSidFree op modem said answer = answer ≡ refused said RejectTemporary Nothing

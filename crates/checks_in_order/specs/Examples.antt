@@ -1,5 +1,5 @@
 -- A request worked through by the table (own).
-use Rattle.std.specs.Prelude.{codes, ◌≡◌, ℕ, List, [], ◌∷◌, Result, Ok}
+use Rattle.std.specs.Prelude.{codes, ◌≡◌, ℕ, List, [], ◌∷◌, ◌++◌, Result, Ok}
 use Rattle.dsx_messages.specs.declared.modem.Modem.{Modem}
 use Rattle.dsx_messages.specs.declared.message.Message.{Message}
 use Rattle.dsx_messages.specs.declared.message.Message.TheVariants as messages
@@ -12,7 +12,7 @@ use Rattle.operator_machine.specs.declared.output.Output.{Output}
 use Rattle.operator_machine.specs.declared.verdict.Verdict.{Verdict}
 use Rattle.operator_machine.specs.State.{Operator, operator}
 use Rattle.operator_machine.specs.Handle.{Ran, reply_of}
-use Rattle.operator_machine.specs.Worked.{worked_consts, worked_row, first_modem, hex, after}
+use Rattle.operator_machine.specs.Worked.{worked_consts, worked_row, first_modem, hex, sent, addition, addition_ack, full_addition, after}
 use Rattle.checks_in_order.specs.declared.check.Check.{Check}
 use Rattle.checks_in_order.specs.declared.check.MessageCheck.{MessageCheck}
 use Rattle.checks_in_order.specs.Said.{said_by}
@@ -22,6 +22,13 @@ use Rattle.checks_in_order.specs.Messages.{IsHandledBy}
 -- the worked plant's operator with this row, once this was done
 abbrev pub worked : RowFields → List Action → Operator
 worked row actions = operator worked_consts row (after worked_consts row actions)
+
+-- a best-effort flow is added and acknowledged; likewise one that needs the whole budget
+abbrev pub one_added : List Action
+one_added = sent first_modem addition ++ sent first_modem addition_ack
+
+abbrev pub full_added : List Action
+full_added = sent first_modem full_addition ++ sent first_modem addition_ack
 
 -- what is read is a request that this check decides, and it is answered with this reply
 abbrev pub IsAnsweredAs : Operator → Modem → Check → List ℕ → Result Message MessageFault → Type 0
@@ -35,8 +42,10 @@ Decides op modem text check reply = IsAnsweredAs op modem check (hex reply) (mes
 
 -- the worked row, with a flow of the first modem that is provisioned with best effort and 100 bits a second
 abbrev pub provisioned_row : RowFields
-provisioned_row = record worked_row { provisions = record { modem = first_modem; encoding = hex (codes "0601010F01020A0400000064") } ∷ [] }
+provisioned_row =
+    record worked_row { provisions = record { modem = first_modem; encoding = hex (codes "0601010F01020A0400000064") } ∷ [] }
 
 -- the message of this text of a modem is decided by this check, and this is put out
 abbrev pub HandlesAs : Operator → Modem → List ℕ → MessageCheck → List Output → Type 0
-HandlesAs op modem text check outputs = (ran : Ran) × IsHandledBy op modem (message_of (hex text)) check ran × (ran.outputs ≡ outputs)
+HandlesAs op modem text check outputs =
+    (ran : Ran) × IsHandledBy op modem (message_of (hex text)) check ran × (ran.outputs ≡ outputs)

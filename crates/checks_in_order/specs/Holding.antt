@@ -23,7 +23,8 @@ use Rattle.checks_in_order.specs.Said.{Said, identifier, Names, IsOfFlow, IsAbou
 
 -- an encoding names a class, and no class of the plant has that name
 abbrev pub NamesUnknownClass : List Class → FlowFields → Type 0
-NamesUnknownClass classes encoding = (name : List ℕ) × (encoding.class_name ≡ Some name) × All (λ class. class.name ≢ name) classes
+NamesUnknownClass classes encoding =
+    (name : List ℕ) × (encoding.class_name ≡ Some name) × All (λ class. class.name ≢ name) classes
 
 -- two encodings, one of set type 2 and one of set type 4
 abbrev pub AreTwoAndFour : List (Option ℕ) → Type 0
@@ -41,46 +42,56 @@ GivesNoSet consts encoding = (encoding.set_type ≢ Some 0) × (refusal : Refusa
 abbrev pub IsUsedUp : Numbers → List ℕ → Type 0
 IsUsedUp range used = (n : ℕ) → ¬ IsFree range used n
 
--- what all flows would have committed of minislots or of elements, with this set as what waits for the flow: what they have
--- now, in place of what that flow has the greater of what its admitted set needs and of what this one needs
+-- what all flows would have committed of minislots or of elements, with this set as what waits for the flow: what
+-- they have now, in place of what that flow has the greater of what its admitted set needs and of what this one needs
 abbrev pub would_commit : (Budget → ℕ) → Operator → Option Flow → Option ParamFields → ℕ
-would_commit part op None set = sum_by (λ entry. part (committed_of op.consts.units entry.1)) op.state.flows + part (need_if op.consts.units set)
+would_commit part op None set =
+    sum_by (λ entry. part (committed_of op.consts.units entry.1)) op.state.flows + part (need_if op.consts.units set)
 would_commit part op (Some flow) set =
-    sum_by (λ entry. part (committed_of op.consts.units entry.1)) op.state.flows - part (committed_of op.consts.units flow)
+    sum_by (λ entry. part (committed_of op.consts.units entry.1)) op.state.flows
+    - part (committed_of op.consts.units flow)
     + max (part (need_if op.consts.units flow.sets.admitted)) (part (need_if op.consts.units set))
 
 -- this is what an addition or a change would have all flows commit
 abbrev pub WouldCommit : (Budget → ℕ) → Operator → Said → ℕ → Type 0
 WouldCommit part op said n =
-    (flow : Option Flow) × (set : Option ParamFields) × IsAbout op said flow × IsToBeAdmitted op said set × (n ≡ would_commit part op flow set)
+    (flow : Option Flow) × (set : Option ParamFields) × IsAbout op said flow × IsToBeAdmitted op said set
+    × (n ≡ would_commit part op flow set)
 
 -- more minislots than the budget in force, or than the one that waits for its frame
 abbrev pub IsOverBudget : Operator → ℕ → Type 0
-IsOverBudget op n = (op.state.share.budget < n) ⊎ ((next : NextShare) × (op.state.next ≡ Some next) × (next.share.budget < n))
+IsOverBudget op n =
+    (op.state.share.budget < n) ⊎ ((next : NextShare) × (op.state.next ≡ Some next) × (next.share.budget < n))
 
 abbrev pub Holds : Check → Operator → Modem → Said → Type 0
 Holds UnknownClass op modem said = Any (NamesUnknownClass op.consts.classes) said.encodings
 Holds NoEncoding op modem said = (said.kind ≢ Dsd) × (said.encodings ≡ [])
 Holds IdentifiersDiffer op modem said =
-    (a : FlowFields) × (b : FlowFields) × Contains said.encodings a × Contains said.encodings b × (identifier said.kind a ≢ identifier said.kind b)
-Holds NotTogether op modem said = (1 < length said.encodings) × (¬ AreTwoAndFour (map (λ encoding. encoding.set_type) said.encodings))
+    (a : FlowFields) × (b : FlowFields) × Contains said.encodings a × Contains said.encodings b
+    × (identifier said.kind a ≢ identifier said.kind b)
+Holds NotTogether op modem said =
+    (1 < length said.encodings) × (¬ AreTwoAndFour (map (λ encoding. encoding.set_type) said.encodings))
 Holds NoIdentifier op modem said = Any (λ encoding. identifier said.kind encoding ≡ None) said.encodings
 Holds UnknownFlow op modem said =
     (sfid : ℕ) × Names said.kind said.encodings said.sfid sfid × (¬ Contains (sfids_of op.state.flows) sfid)
 Holds NotOwner op modem said = (sfid : ℕ) × (flow : Flow) × IsOfFlow op said sfid flow × (flow.modem ≢ modem)
 Holds FlowWaits op modem said = (sfid : ℕ) × (flow : Flow) × IsOfFlow op said sfid flow × IsSome flow.pending
-Holds WrongSetType op modem said = (encoding : FlowFields) × (said.encodings ≡ encoding ∷ []) × (¬ IsTaken said.kind encoding.set_type)
+Holds WrongSetType op modem said =
+    (encoding : FlowFields) × (said.encodings ≡ encoding ∷ []) × (¬ IsTaken said.kind encoding.set_type)
 Holds NoParameterSet op modem said = Any (GivesNoSet op.consts) said.encodings
 Holds ActiveNotWithin op modem said =
-    (active : ParamFields) × (admitted : ParamFields) × IsToBeActive op said (Some active) × IsToBeAdmitted op said (Some admitted)
+    (active : ParamFields) × (admitted : ParamFields) × IsToBeActive op said (Some active)
+    × IsToBeAdmitted op said (Some admitted)
     × (¬ IsWithin active admitted)
 Holds AdmittedNotWithin op modem said =
-    (flow : Flow) × (admitted : ParamFields) × (provisioned : ParamFields) × IsAbout op said (Some flow) × IsToBeAdmitted op said (Some admitted)
+    (flow : Flow) × (admitted : ParamFields) × (provisioned : ParamFields) × IsAbout op said (Some flow)
+    × IsToBeAdmitted op said (Some admitted)
     × (flow.sets.provisioned ≡ Some provisioned) × (¬ IsWithin admitted provisioned)
 Holds FlowsFull op modem said = (said.kind ≡ Dsa) × (op.row.flows ≤ length op.state.flows)
 Holds NoSfidFree op modem said = (said.kind ≡ Dsa) × IsUsedUp op.row.sfids (sfids_of op.state.flows)
 Holds NoSidFree op modem said =
-    (flow : Option Flow) × (set : ParamFields) × IsAbout op said flow × IsToBeAdmitted op said (Some set) × (sid_if flow ≡ None)
+    (flow : Option Flow) × (set : ParamFields) × IsAbout op said flow × IsToBeAdmitted op said (Some set)
+    × (sid_if flow ≡ None)
     × IsUsedUp op.row.sids (sids_of op.state.flows)
 Holds ElementsOver op modem said =
     (n : ℕ) × (said.kind ≢ Dsd) × WouldCommit (λ need. need.elements) op said n × (op.row.elements < n)

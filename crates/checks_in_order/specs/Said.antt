@@ -50,7 +50,8 @@ identifier_subtype Dsa = 1
 identifier_subtype Dsc = 2
 identifier_subtype Dsd = 0
 
--- the SFID that a request names: of its encodings in a change, of its fixed part in a deletion; an addition names none
+-- the SFID that a request names: of its encodings in a change, of its fixed part in a deletion; an addition names
+-- none
 abbrev pub Names : Kind → List FlowFields → Option ℕ → ℕ → Type 0
 Names Dsa encodings fixed sfid = ⊥
 Names Dsc encodings fixed sfid = Any (λ encoding. encoding.sfid ≡ Some sfid) encodings
@@ -67,10 +68,11 @@ IsAbout op said (Some flow) = (sfid : ℕ) × IsOfFlow op said sfid flow
 
 -- ---- the sets
 
--- the parameter set of an encoding, over its class where it names one, or why it has none; a class that the plant has not gives
--- neither
+-- the parameter set of an encoding, over its class where it names one, or why it has none; a class that the plant has
+-- not gives neither
 abbrev pub set_asked : ConstsFields → FlowFields → Option (Result ParamFields Refusal)
-set_asked consts encoding = option_map (λ asked. parameter_set_of asked consts.units) (asked_of consts.classes encoding)
+set_asked consts encoding =
+    option_map (λ asked. parameter_set_of asked consts.units) (asked_of consts.classes encoding)
 
 abbrev pub AsksFor : ConstsFields → FlowFields → ParamFields → Type 0
 AsksFor consts encoding set = set_asked consts encoding ≡ Some (Ok set)

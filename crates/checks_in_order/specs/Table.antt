@@ -13,8 +13,10 @@ use Rattle.checks_in_order.specs.declared.check.Check.TheVariants.{UnknownClass,
 -- the checks in their order
 abbrev pub table : List Check
 table =
-    UnknownClass ∷ NoEncoding ∷ IdentifiersDiffer ∷ NotTogether ∷ NoIdentifier ∷ UnknownFlow ∷ NotOwner ∷ FlowWaits ∷ WrongSetType
-    ∷ NoParameterSet ∷ ActiveNotWithin ∷ AdmittedNotWithin ∷ FlowsFull ∷ NoSfidFree ∷ NoSidFree ∷ ElementsOver ∷ MinislotsOver ∷ Accepted ∷ []
+    UnknownClass ∷ NoEncoding ∷ IdentifiersDiffer ∷ NotTogether ∷ NoIdentifier ∷ UnknownFlow ∷ NotOwner ∷ FlowWaits
+    ∷ WrongSetType
+    ∷ NoParameterSet ∷ ActiveNotWithin ∷ AdmittedNotWithin ∷ FlowsFull ∷ NoSfidFree ∷ NoSidFree ∷ ElementsOver
+    ∷ MinislotsOver ∷ Accepted ∷ []
 
 -- this check decides a request of a modem, and so it is answered
 pub record IsDecidedBy (op : Operator) (modem : Modem) (said : Said) (check : Check) (answer : Verdict) : Type 0 where

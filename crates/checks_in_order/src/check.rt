@@ -1,5 +1,19 @@
 //! The checks of a message, and of a request.
 
+ghost use Rattle.std.specs.Prelude.{◌≡◌, ◌⊎◌, ◌↔◌, ◌≤◌, ◌-◌, Some, None, IfSome};
+ghost use Rattle.std.specs.List.{slice_get};
+ghost use Rattle.dsx_messages.specs.declared.modem.Modem.{Modem};
+ghost use Rattle.operator_machine.specs.declared.verdict.Verdict.{Verdict};
+ghost use Rattle.operator_machine.specs.Handle.{reply_of};
+ghost use Rattle.operator_machine.specs.State.{Operator};
+ghost use Rattle.checks_in_order.specs.declared.check.Check.TheVariants.{WrongSetType, NoParameterSet};
+ghost use Rattle.checks_in_order.specs.Said.{Said};
+ghost use Rattle.checks_in_order.specs.Answering.{Answers};
+ghost use Rattle.checks_in_order.specs.Table.{table};
+ghost use Rattle.checks_in_order.specs.Messages.{message_table};
+
+use dsx_messages::Code;
+
 /// A check that a message with no acknowledgement meets, in the order of the table (docs/PROFILE.md).
 #[derive(Clone, Copy, Debug, PartialEq, Eq)]
 pub enum MessageCheck {
@@ -17,7 +31,8 @@ pub enum MessageCheck {
     Judged,
 }
 
-/// A check that a request meets once it is read and its transaction is new, in the order of the table (docs/PROFILE.md).
+/// A check that a request meets once it is read and its transaction is new, in the order of the table
+/// (docs/PROFILE.md).
 #[derive(Clone, Copy, Debug, PartialEq, Eq)]
 pub enum Check {
     /// An encoding names a service class that the plant has not.
@@ -56,4 +71,76 @@ pub enum Check {
     MinislotsOver,
     /// None of those before: the request is accepted.
     Accepted,
+}
+
+impl MessageCheck {
+    /// Its number in the table of docs/PROFILE.md; 5, the first of those of a request, where these decide.
+    pub fn number(self) -> u8
+        ensures { slice_get message_table result ≡ Some self }
+    {
+        match self {
+            MessageCheck::Unread => 0,
+            MessageCheck::OfCmts => 1,
+            MessageCheck::Repeated => 2,
+            MessageCheck::KeptFull => 3,
+            MessageCheck::Faulty => 4,
+            MessageCheck::Judged => 5,
+        }
+    }
+}
+
+impl Check {
+    /// Its number in the table of docs/PROFILE.md.
+    pub fn number(self) -> u8
+        ensures { (5 ≤ result) × (slice_get table (result - 5) ≡ Some self) }
+    {
+        match self {
+            Check::UnknownClass => 5,
+            Check::NoEncoding => 6,
+            Check::IdentifiersDiffer => 7,
+            Check::NotTogether => 8,
+            Check::NoIdentifier => 9,
+            Check::UnknownFlow => 10,
+            Check::NotOwner => 11,
+            Check::FlowWaits => 12,
+            Check::WrongSetType => 13,
+            Check::NoParameterSet => 14,
+            Check::ActiveNotWithin => 15,
+            Check::AdmittedNotWithin => 16,
+            Check::FlowsFull => 17,
+            Check::NoSfidFree => 18,
+            Check::NoSidFree => 19,
+            Check::ElementsOver => 20,
+            Check::MinislotsOver => 21,
+            Check::Accepted => 22,
+        }
+    }
+
+    /// The code of each of its answers; none where that depends on the encoding at fault.
+    pub fn code(self) -> Option<Code>
+        ensures answered { (op : Operator) (modem : Modem) (said : Said) (answer : Verdict) → Answers self op modem said answer
+            → IfSome result (λ code. (reply_of answer).code ≡ code) }
+        ensures none { (result ≡ None) ↔ ((self ≡ WrongSetType) ⊎ (self ≡ NoParameterSet)) }
+    {
+        match self {
+            Check::WrongSetType | Check::NoParameterSet => None,
+            Check::UnknownClass => Some(Code::RejectPermanent),
+            Check::NoEncoding | Check::NoIdentifier => {
+                Some(Code::RejectRequiredParameterNotPresent)
+            }
+            Check::IdentifiersDiffer => Some(Code::RejectMultipleUpstreamFlows),
+            Check::NotTogether => Some(Code::RejectDuplicateReference),
+            Check::UnknownFlow => Some(Code::RejectFlowNotFound),
+            Check::NotOwner => Some(Code::RejectNotOwner),
+            Check::ActiveNotWithin => Some(Code::RejectInvalidForContext),
+            Check::AdmittedNotWithin => Some(Code::RejectAuthorizationFailure),
+            Check::FlowWaits
+            | Check::FlowsFull
+            | Check::NoSfidFree
+            | Check::NoSidFree
+            | Check::ElementsOver
+            | Check::MinislotsOver => Some(Code::RejectTemporary),
+            Check::Accepted => Some(Code::Okay),
+        }
+    }
 }

@@ -17,8 +17,8 @@ ghost use Rattle.checks_in_order.specs.Said.{Said, said_by};
 ghost use Rattle.checks_in_order.specs.Table.{IsDecidedBy};
 ghost use Rattle.checks_in_order.specs.Messages.{IsNoAck, IsHandledBy};
 
-/// Whatever the state that a machine can have, the modem and the request: a check of the table decides, the first that holds,
-/// and the machine's verdict is what that check answers.
+/// Whatever the state that a machine can have, the modem and the request: a check of the table decides, the first
+/// that holds, and the machine's verdict is what that check answers.
 pub fn verdict_is_decided()
     ensures { (op : Operator) (modem : Modem) (request : Request) → IsSound op
         → (check : Check) × IsDecidedBy op modem (said_by request) check (verdict op modem request) }
@@ -30,9 +30,11 @@ pub fn decided_once()
         → IsDecidedBy op modem said a v → IsDecidedBy op modem said b w → (a ≡ b) × (v ≡ w) }
 {}
 
-/// Whatever the state that a machine can have, the modem and the bytes of a message that is no acknowledgement: a check of the
-/// table decides, the first that holds, and what handling the message comes to is what that check answers.
+/// Whatever the state that a machine can have, the modem and the bytes of a message that is no acknowledgement: a
+/// check of the table decides, the first that holds, and what handling the message comes to is what that check
+/// answers.
 pub fn message_is_decided()
-    ensures { (op : Operator) (modem : Modem) (bytes : List ℕ) → IsSound op → AreBytes bytes → IsNoAck (message_of bytes)
-        → (check : MessageCheck) × IsHandledBy op modem (message_of bytes) check (handle op modem (heards.Message bytes)) }
+    ensures { (op : Operator) (modem : Modem) (bytes : List ℕ) → IsSound op → AreBytes bytes
+        → IsNoAck (message_of bytes) → (check : MessageCheck)
+        × IsHandledBy op modem (message_of bytes) check (handle op modem (heards.Message bytes)) }
 {}

@@ -1,5 +1,5 @@
-//! The table of checks as a table: each check with when it holds and what it answers, in their order, and a law that the
-//! machine's verdict is the answer of the first that holds.
+//! The table of checks as a table: each check with when it holds and what it answers, in their order, and a law that
+//! the machine's verdict is the answer of the first that holds.
 #![tactic(auto)]
 
 mod check;

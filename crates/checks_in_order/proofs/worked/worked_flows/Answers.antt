@@ -1,4 +1,4 @@
-use Rattle.std.proofs.Common.{[], ◌++◌, refl}
+use Rattle.std.proofs.Common.{[], refl}
 use Rattle.tlv24.specs.Flow.{fault_of, flow_of}
 use Rattle.tlv24.specs.Tlv.{front_of}
 use Rattle.dsx_messages.specs.Reading.{flow_in, flows_in, message_of}
@@ -6,8 +6,8 @@ use Rattle.admission.specs.Free.{first_free, least_free_of}
 use Rattle.operator_machine.specs.Asked.{first_encoding, set_of, asked_sets, nested_sets, addition_of, change_of}
 use Rattle.operator_machine.specs.Verdict.{added, changed, verdict}
 use Rattle.operator_machine.specs.Machine.{own_step}
-use Rattle.operator_machine.specs.Worked.{worked_row, first_modem, second_modem, sent, addition, addition_ack}
-use Rattle.checks_in_order.specs.Examples.{worked}
+use Rattle.operator_machine.specs.Worked.{worked_row, first_modem, second_modem, sent, addition}
+use Rattle.checks_in_order.specs.Examples.{worked, one_added}
 use Rattle.checks_in_order.proofs.ExampleLemmas.{first_flow, other_modem, none_deleted, not_owned, waits}
 use Rattle.checks_in_order.proofs.ListLemmas.{contains-nothing}
 use Rattle.checks_in_order.proofs.worked.worked_flows.Goals as goal
@@ -20,8 +20,8 @@ pub returns-clause-not_owner : goal.returns-clause-not_owner
 unfolding flow_in flows_in message_of fault_of flow_of front_of first_free least_free_of first_encoding set_of asked_sets nested_sets addition_of change_of added changed verdict own_step
 returns-clause-not_owner c = (
   _,
-  not_owned (worked worked_row (sent first_modem addition ++ sent first_modem addition_ack)) second_modem 1 257
-      (first_flow (worked worked_row (sent first_modem addition ++ sent first_modem addition_ack)).state.flows) refl other_modem,
+  not_owned (worked worked_row one_added) second_modem 1 257
+      (first_flow (worked worked_row one_added).state.flows) refl other_modem,
   refl,
 )
 
