@@ -12,3 +12,4 @@ pub mod RequestLemmas
 pub mod OnceLemmas
 pub mod MessageLemmas
 pub mod ExampleLemmas
+pub mod HandledLemmas

@@ -10,12 +10,12 @@ ghost use Rattle.operator_machine.specs.declared.verdict.Verdict.{Verdict};
 ghost use Rattle.operator_machine.specs.State.{Operator};
 ghost use Rattle.operator_machine.specs.Sound.{IsSound};
 ghost use Rattle.operator_machine.specs.Verdict.{verdict};
-ghost use Rattle.operator_machine.specs.Handle.{handle};
+ghost use Rattle.operator_machine.specs.Handle.{Ran, handle};
 ghost use Rattle.checks_in_order.specs.declared.check.Check.{Check};
 ghost use Rattle.checks_in_order.specs.declared.check.MessageCheck.{MessageCheck};
 ghost use Rattle.checks_in_order.specs.Said.{Said, said_by};
 ghost use Rattle.checks_in_order.specs.Table.{IsDecidedBy};
-ghost use Rattle.checks_in_order.specs.Messages.{IsNoAck, IsHandledBy};
+ghost use Rattle.checks_in_order.specs.Messages.{Reading, IsNoAck, IsHandledBy};
 
 /// Whatever the state that a machine can have, the modem and the request: a check of the table decides, the first
 /// that holds, and the machine's verdict is what that check answers.
@@ -37,4 +37,10 @@ pub fn message_is_decided()
     ensures { (op : Operator) (modem : Modem) (bytes : List ℕ) → IsSound op → AreBytes bytes
         → IsNoAck (message_of bytes) → (check : MessageCheck)
         × IsHandledBy op modem (message_of bytes) check (handle op modem (heards.Message bytes)) }
+{}
+
+/// Just one check decides a message, and handling it comes to just one thing.
+pub fn handled_once()
+    ensures { (op : Operator) (modem : Modem) (reading : Reading) (a b : MessageCheck) (v w : Ran) → IsSound op
+        → IsHandledBy op modem reading a v → IsHandledBy op modem reading b w → (a ≡ b) × (v ≡ w) }
 {}
