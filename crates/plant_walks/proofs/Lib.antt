@@ -1,0 +1,6 @@
+pub mod Counts
+pub mod Waiting
+pub mod Firsts
+pub mod Spent
+pub mod Courses
+pub mod Turned

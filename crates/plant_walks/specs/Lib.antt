@@ -1,0 +1,4 @@
+pub mod Serving
+pub mod Spending
+pub mod Turns
+pub mod Courses
