@@ -1,6 +1,6 @@
 //! An operator's cell.
 
-ghost use Rattle.std.specs.Prelude.{◌≡◌, ◌≤◌, length, IfOk, IfErr};
+ghost use Rattle.std.specs.Prelude.{◌≡◌, ◌<◌, ◌≤◌, ◌^◌, length, IfOk, IfErr};
 ghost use Rattle.operator_book.specs.ViewOf.{view_of};
 ghost use Rattle.operator_machine.specs.declared.action.Action.TheVariants as actions;
 ghost use Rattle.plant_turns.specs.Taking.{frames_at};
@@ -30,6 +30,7 @@ pub struct OperatorCell {
 impl OperatorCell {
     /// A cell round a book. The frames that are in its history count as collected. Takes no memory.
     pub fn new(op: Op, book: Book) -> OperatorCell
+        requires { book.ranking.policy ≡ book.kept.book.row.policy }
         ensures { result.op ≡ op }
     {
         OperatorCell::holding(op, Held::of(book))
@@ -57,6 +58,7 @@ impl OperatorCell {
 
     /// The book, and how many of its frames were collected. Takes no memory.
     pub fn into_parts(self) -> (Book, usize)
+        requires { self.op < 2 ^ 64 }
         ensures { result.1 ≤ length (frames_at (view_of result.0)) }
     {
         let OperatorCell {
