@@ -1,6 +1,6 @@
 //! Giving other slices to all operators.
 
-ghost use Rattle.std.specs.Prelude.{◌≡◌, length, map, option_map, vec_len, OnOk};
+ghost use Rattle.std.specs.Prelude.{◌≡◌, ◌<◌, ◌^◌, length, map, option_map, vec_len, OnOk};
 ghost use Rattle.plant_core.specs.declared.core_fault.CoreFault.TheVariants as core_faults;
 ghost use Rattle.plant_core.specs.Faults.{IsTold};
 ghost use Rattle.plant_core.specs.Giving.{HaveTaken};
@@ -45,6 +45,7 @@ pub fn reslice(
     from: u32,
     rows: &[SliceRow],
 ) -> Result<Vec<Receipt>, CoreFault>
+    requires { vec_len helds.old < 2 ^ 64 }
     ensures books { OnOk result (HaveTaken from rows.now (map book_of helds.old.items) (map book_of helds.new.items)) }
     ensures waiting { OnOk result (map waiting_of helds.new.items ≡ map waiting_of helds.old.items) }
     ensures fault { IsTold result

@@ -37,6 +37,7 @@ impl Held {
 
     /// Does an action, and tells its caller. All memory is taken first.
     pub fn act(&mut self, alloc: Global, action: Action) -> Result<Receipt, BookFault>
+        requires within { self.old.desk.collected ≤ length (book_of self.old).history }
         ensures receipt { IfOk result (IsReceiptOf (book_of self.old) action) }
         ensures book { OnOk result (book_of self.new ≡ acted (book_of self.old) action) }
         ensures waiting { OnOk result (waiting_of self.new
@@ -66,6 +67,7 @@ impl Held {
 
     /// Takes the oldest frame that waits, as a copy of what the history says; none where none waits.
     pub fn collect(&mut self, alloc: Global) -> Result<Option<(u32, Elements)>, AllocError>
+        requires within { self.old.desk.collected ≤ length (book_of self.old).history }
         ensures taken { IfOk result (IsTaken (waiting_of self.old) (waiting_of self.new)) }
         ensures book { book_of self.new ≡ book_of self.old }
         ensures stopped { self.new.stopped ≡ self.old.stopped }

@@ -65,6 +65,7 @@ fn behind(history: &[Entry], taken: usize) -> usize
 impl Held {
     /// A book of which all frames count as collected. Takes no memory.
     pub fn of(book: Book) -> Held
+        requires { book.ranking.policy ≡ book.kept.book.row.policy }
         ensures book { book_of result ≡ view_of book }
         ensures waiting { waiting_of result ≡ [] }
         ensures stopped { result.stopped ≡ false }
@@ -93,6 +94,7 @@ impl Held {
 
     /// The book, and how many of its frames were collected. Takes no memory.
     pub fn into_parts(self) -> (Book, usize)
+        requires { self.desk.collected ≤ length (book_of self).history }
         ensures book { view_of result.0 ≡ book_of self }
         ensures within { result.1 ≤ length (frames_at (view_of result.0)) }
         ensures taken { waiting_of self ≡ drop result.1 (frames_at (view_of result.0)) }

@@ -1,6 +1,6 @@
 //! Turns at an operator's book.
 
-ghost use Rattle.std.specs.Prelude.{◌≡◌, ◌≢◌, ◌↔◌, ◌++◌, true, false, length, Some, Ok, Err, IfOk, IfErr, OnOk, OnErr};
+ghost use Rattle.std.specs.Prelude.{◌≡◌, ◌≢◌, ◌↔◌, ◌++◌, ◌≤◌, true, false, length, Some, Ok, Err, IfOk, IfErr, OnOk, OnErr};
 ghost use Rattle.operator_machine.specs.Replay.{acted};
 ghost use Rattle.operator_book.specs.OfBook.{outputs_of};
 ghost use Rattle.operator_book.specs.declared.book.BookFault.{BookFault};
@@ -32,6 +32,7 @@ impl Held {
         index: usize,
         action: Action,
     ) -> Result<Receipt, CellFault>
+        requires within { self.old.desk.collected ≤ length (book_of self.old).history }
         ensures index { IfOk result (λ receipt. receipt.index ≡ index) }
         ensures receipt { IfOk result (IsReceiptOf (book_of self.old) action) }
         ensures book { OnOk result (book_of self.new ≡ acted (book_of self.old) action) }
@@ -69,6 +70,7 @@ impl Held {
     ///
     /// Faults, in this order: `Stopped`; `Book` of `NoMemory`.
     pub fn take(&mut self, alloc: Global, op: Op) -> Result<Option<(u32, Elements)>, CellFault>
+        requires within { self.old.desk.collected ≤ length (book_of self.old).history }
         ensures taken { IfOk result (IsTaken (waiting_of self.old) (waiting_of self.new)) }
         ensures stopped { (result ≡ Err (CellFault.Stopped op)) ↔ (self.old.stopped ≡ true) }
         ensures fault { IfErr result (IsOfTaking op) }
@@ -87,6 +89,7 @@ impl Held {
 
     /// Stops the turns: each that waits, and each later one, is refused.
     pub fn stop(&mut self)
+        requires within { self.old.desk.collected ≤ length (book_of self.old).history }
         ensures stopped { self.new.stopped ≡ true }
         ensures desk { self.new.desk ≡ self.old.desk }
     {

@@ -1,0 +1,160 @@
+//! An operator's cell.
+
+ghost use Rattle.std.specs.Prelude.{◌≡◌, ◌<◌, ◌≤◌, ◌^◌, length, IfOk, IfErr};
+ghost use Rattle.operator_book.specs.ViewOf.{view_of};
+ghost use Rattle.operator_machine.specs.declared.action.Action.TheVariants as actions;
+ghost use Rattle.plant_turns.specs.Taking.{frames_at};
+ghost use Rattle.plant_turns.specs.Telling.{IsOfBook, IsOfTurn, IsOfTaking};
+
+use crate::gate::Gate;
+use crate::turn::Turn;
+use dsx_messages::Modem;
+use operator_book::Book;
+use operator_machine::{Action, Heard};
+use plant_receipts::Receipt;
+use plant_turns::{CellFault, Held};
+use slice_scheduler::Elements;
+use slice_table::Op;
+use std::alloc::{AllocError, Global};
+use std::sync::{Condvar, Mutex, Wait};
+
+/// An operator's book behind a lock, with its frames that wait to be collected and a mark that its turns have stopped.
+/// Threads share it by reference.
+#[derive(Drop)]
+pub struct OperatorCell {
+    pub op: Op,
+    held: Mutex<Held>,
+    changed: Condvar,
+}
+
+impl OperatorCell {
+    /// A cell round a book. The frames that are in its history count as collected. Takes no memory.
+    pub fn new(op: Op, book: Book) -> OperatorCell
+        requires { book.ranking.policy ≡ book.kept.book.row.policy }
+        ensures { result.op ≡ op }
+    {
+        OperatorCell::holding(op, Held::of(book))
+    }
+
+    /// A cell round a book of which so many frames are collected: what `into_parts` gives, put together again. Takes no
+    /// memory.
+    pub fn again(op: Op, book: Book, taken: usize) -> OperatorCell
+        requires { taken ≤ length (frames_at (view_of book)) }
+        ensures { result.op ≡ op }
+    {
+        OperatorCell::holding(op, Held::again(book, taken))
+    }
+
+    /// The cell round this.
+    fn holding(op: Op, held: Held) -> OperatorCell
+        ensures { result.op ≡ op }
+    {
+        OperatorCell {
+            op,
+            held: Mutex::new(held),
+            changed: Condvar::new(),
+        }
+    }
+
+    /// The book, and how many of its frames were collected. Takes no memory.
+    pub fn into_parts(self) -> (Book, usize)
+        requires { self.op < 2 ^ 64 }
+        ensures { result.1 ≤ length (frames_at (view_of result.0)) }
+    {
+        let OperatorCell {
+            op: _,
+            held,
+            changed: _,
+        } = self;
+        held.into_inner().into_parts()
+    }
+
+    /// What is done under the lock.
+    fn turn(&self) -> Turn<'_>
+        ensures { result.op ≡ self.now.op }
+    {
+        Turn {
+            op: self.op,
+            held: &self.held,
+            changed: &self.changed,
+        }
+    }
+
+    /// Puts what was heard of a modem into the inbox.
+    pub fn arrive<R: Wait>(
+        &self,
+        rt: &R,
+        alloc: Global,
+        modem: Modem,
+        heard: Heard,
+    ) -> Result<Receipt, CellFault>
+        ensures action { IfOk result (λ receipt. receipt.action ≡ actions.Arrive modem heard) }
+        ensures fault { IfErr result IsOfBook }
+    {
+        self.turn().act(rt, alloc, Action::Arrive { modem, heard })
+    }
+
+    /// Handles the first of the inbox.
+    pub fn work<R: Wait>(&self, rt: &R, alloc: Global) -> Result<Receipt, CellFault>
+        ensures action { IfOk result (λ receipt. receipt.action ≡ actions.Work) }
+        ensures fault { IfErr result IsOfBook }
+    {
+        self.turn().act(rt, alloc, Action::Work)
+    }
+
+    /// Counts the timers on, and schedules a frame, which then waits to be collected.
+    pub fn tick<R: Wait>(&self, rt: &R, alloc: Global) -> Result<Receipt, CellFault>
+        ensures action { IfOk result (λ receipt. receipt.action ≡ actions.Tick) }
+        ensures fault { IfErr result IsOfBook }
+    {
+        self.turn().act(rt, alloc, Action::Tick)
+    }
+
+    /// Takes the oldest frame that waits, as a copy of what the history says; none where none waits.
+    pub fn collect<R: Wait>(
+        &self,
+        rt: &R,
+        alloc: Global,
+    ) -> Result<Option<(u32, Elements)>, AllocError> {
+        self.turn().collect(rt, alloc)
+    }
+
+    /// Waits until the history has so many entries, and does an action, which is then the entry at this place. The gate's
+    /// `inside` is called before the lock is released, and its `outside` after.
+    ///
+    /// Faults, in this order: `Stopped`; `Passed` where the history is longer; those of the book, and then the cell's
+    /// turns are stopped.
+    pub fn in_turn<R: Wait, G: Gate<R>>(
+        &self,
+        rt: &R,
+        alloc: Global,
+        index: usize,
+        action: Action,
+        gate: &G,
+    ) -> Result<Receipt, CellFault>
+        ensures index { IfOk result (λ receipt. receipt.index ≡ index) }
+        ensures action { IfOk result (λ receipt. receipt.action ≡ action) }
+        ensures fault { IfErr result (IsOfTurn self.now.op index) }
+    {
+        self.turn().in_turn(rt, alloc, index, action, gate)
+    }
+
+    /// Waits until the history has at least so many entries, and takes the oldest frame that waits.
+    ///
+    /// Faults, in this order: `Stopped`; `Book` of `NoMemory`.
+    pub fn collect_after<R: Wait>(
+        &self,
+        rt: &R,
+        alloc: Global,
+        index: usize,
+    ) -> Result<Option<(u32, Elements)>, CellFault>
+        ensures fault { IfErr result (IsOfTaking self.now.op) }
+    {
+        self.turn().collect_after(rt, alloc, index)
+    }
+
+    /// Stops the turns: each that waits, and each later one, is refused.
+    pub fn stop<R: Wait>(&self, rt: &R) {
+        self.turn().stop(rt);
+    }
+}

@@ -1,0 +1,106 @@
+//! What is done under an operator's lock.
+
+ghost use Rattle.std.specs.Prelude.{◌≡◌, IfOk, IfErr};
+ghost use Rattle.plant_turns.specs.Telling.{IsOfBook, IsOfTurn, IsOfTaking};
+
+use crate::gate::Gate;
+use operator_machine::Action;
+use plant_receipts::Receipt;
+use plant_turns::{CellFault, Held};
+use slice_scheduler::Elements;
+use slice_table::Op;
+use std::alloc::{AllocError, Global};
+use std::sync::{Condvar, Mutex, MutexGuard, Wait};
+
+/// An operator's lock, and what tells those who wait for a turn that the history has grown or the turns have stopped.
+#[derive(Clone, Copy)]
+pub(crate) struct Turn<'a> {
+    pub op: Op,
+    pub held: &'a Mutex<Held>,
+    pub changed: &'a Condvar,
+}
+
+impl<'a> Turn<'a> {
+    /// The lock, once the history has so many entries or the turns have stopped.
+    fn wait_for<R: Wait>(self, rt: &R, index: usize) -> MutexGuard<'a, Held> {
+        self.changed.wait_while(rt, self.held.lock(rt), |held| {
+            held.count() < index && !held.stopped
+        })
+    }
+
+    /// Does an action at once.
+    pub(crate) fn act<R: Wait>(
+        self,
+        rt: &R,
+        alloc: Global,
+        action: Action,
+    ) -> Result<Receipt, CellFault>
+        ensures action { IfOk result (λ receipt. receipt.action ≡ action) }
+        ensures fault { IfErr result IsOfBook }
+    {
+        let mut held = self.held.lock(rt);
+        match held.act(alloc, action) {
+            Ok(receipt) => {
+                self.changed.notify_all();
+                Ok(receipt)
+            }
+            Err(fault) => Err(CellFault::Book(fault)),
+        }
+    }
+
+    /// Waits for the turn, and does an action.
+    pub(crate) fn in_turn<R: Wait, G: Gate<R>>(
+        self,
+        rt: &R,
+        alloc: Global,
+        index: usize,
+        action: Action,
+        gate: &G,
+    ) -> Result<Receipt, CellFault>
+        ensures index { IfOk result (λ receipt. receipt.index ≡ index) }
+        ensures action { IfOk result (λ receipt. receipt.action ≡ action) }
+        ensures fault { IfErr result (IsOfTurn self.entry.op index) }
+    {
+        let mut held = self.wait_for(rt, index);
+        let told = held.turn(alloc, self.op, index, action);
+        if told.is_ok() {
+            gate.inside(rt, self.op, index);
+        }
+        self.changed.notify_all();
+        drop(held);
+        if told.is_ok() {
+            gate.outside(rt, self.op, index);
+        }
+        told
+    }
+
+    /// Takes the oldest frame that waits.
+    pub(crate) fn collect<R: Wait>(
+        self,
+        rt: &R,
+        alloc: Global,
+    ) -> Result<Option<(u32, Elements)>, AllocError> {
+        let mut held = self.held.lock(rt);
+        held.collect(alloc)
+    }
+
+    /// Waits until the history has so many entries, and takes the oldest frame that waits.
+    pub(crate) fn collect_after<R: Wait>(
+        self,
+        rt: &R,
+        alloc: Global,
+        index: usize,
+    ) -> Result<Option<(u32, Elements)>, CellFault>
+        ensures fault { IfErr result (IsOfTaking self.entry.op) }
+    {
+        let mut held = self.wait_for(rt, index);
+        held.take(alloc, self.op)
+    }
+
+    /// Stops the turns, and wakes all that wait for one.
+    pub(crate) fn stop<R: Wait>(self, rt: &R) {
+        let mut held = self.held.lock(rt);
+        held.stop();
+        self.changed.notify_all();
+    }
+}
