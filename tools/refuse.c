@@ -31,5 +31,10 @@ void *realloc(void *old, size_t size) { return refused() ? NULL : __libc_realloc
 
 __attribute__((destructor)) static void end(void) {
     const char *mark = getenv("REFUSE_MARK");
-    if (left > 0 && mark) { started = 0; int s = system(mark); (void)s; }
+    if (left > 0 && mark) {
+        started = 0;
+        unsetenv("LD_PRELOAD"); /* the shell that runs the command is refused nothing */
+        int s = system(mark);
+        (void)s;
+    }
 }

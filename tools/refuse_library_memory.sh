@@ -1,15 +1,16 @@
 #!/bin/bash
-# Refuses the tests of library calls each of their requests for memory in turn: those whose module is named `want_of_memory`, as `rt test` built
-# them. A run is right where the test passes, since the call whose request was refused answered its want of memory and left its
-# value as it was, and answered aright when it was made again; or where it ends early with status 101, since a request of its own was
-# refused. A failed assertion ends a test by a signal, and is wrong. Prints a table: test, requests, how many were refused to the calls
-# under test, how many to the test itself, and how many runs were wrong (none may be).
+# Refuses the tests of library calls each of their requests for memory in turn: all tests of worked_memory, and those of the modules
+# `want_of_memory` of other crates, as `rt test` built them. A run is right where the test passes, since the call whose request was
+# refused answered its want of memory and left its value as it was, and answered aright when it was made again; or where it ends
+# early with status 101, since a request of its own was refused. A failed assertion ends a test by a signal, and is wrong. Prints a
+# table: test, requests, how many were refused to the calls under test, how many to the test itself, and how many runs were wrong
+# (none may be).
 # Usage: tools/refuse_library_memory.sh [CRATE..]   Needs bash and gcc, and `rt test` in each of these crates.
 set -euo pipefail
 
 here=$(cd "$(dirname "$0")" && pwd)
 crates=("$@")
-[ $# -gt 0 ] || crates=(worked_want_of_memory worked_books worked_rows)
+[ $# -gt 0 ] || crates=(worked_memory worked_schedules worked_books)
 work=$(mktemp -d)
 trap 'rm -rf "$work"' EXIT
 gcc -shared -fPIC -O1 -o "$work/refuse.so" "$here/refuse.c"
@@ -46,8 +47,10 @@ refuse() {
 printf "$row" test requests calls own wrong
 for crate in "${crates[@]}"; do
     program=$here/../crates/$crate/out/${crate}_tests
-    while IFS=: read -r module _ name _; do
-        [ "$module" != want_of_memory ] || refuse "$program" "want_of_memory::$name"
+    while read -r name kind; do
+        if [ "$kind" = test ] && [[ $crate = worked_memory || $name == want_of_memory::* ]]; then
+            refuse "$program" "${name%:}"
+        fi
     done < <("$program" --list)
 done
 # shellcheck disable=SC2059

@@ -645,3 +645,62 @@ fn the_most_operators_and_modems(rt: HostRuntime) -> Result<(), Fail> {
     assert_eq!(rt; plant.operator_of(Modem([2, 0, 0, 31, 4, 0])), None);
     Ok(())
 }
+
+/// So many operators of one modem each.
+fn operators(alloc: Global, count: u8) -> Result<String, Fail> {
+    let (keys, _) = PLANT.split_once("[[operator]]").ok_or("operator")?;
+    let mut text = String::from_str(alloc, keys)?;
+    for operator in 0..u32::from(count) {
+        let (minislot, id) = (8 + operator, 1 + operator);
+        let row = format!(in alloc;
+            "[[operator]]\nname = \"O{operator}\"\nslice = [{minislot}, 1]\nsfids = [{id}, {id}]\nsids = [{id}, {id}]\nflows = 1\ntransactions = 1\ninbox = 1\nbudget = 1\nelements = 3\npolicy = \"short\"\nmodems = [\"0200000000{operator:02x}\"]\n"
+        )?;
+        text.push_str(row.as_str())?;
+    }
+    Ok(text)
+}
+
+#[test]
+fn one_to_thirty_two_operators(rt: HostRuntime) -> Result<(), Fail> {
+    let alloc = rt.alloc();
+    for count in 1..=32u8 {
+        check_text(&rt, alloc, operators(alloc, count)?.as_str(), "ok")?;
+    }
+    check_text(&rt, alloc, operators(alloc, 33)?.as_str(), "3 operator")
+}
+
+/// The plant's text with so many modems in the first operator's list.
+fn with_modems(alloc: Global, count: u16) -> Result<String, Fail> {
+    let mut list = String::from_str(alloc, "\"020000000001\"")?;
+    for last in 1..count {
+        list.push_str(format!(in alloc; ", \"02000001{last:04x}\"")?.as_str())?;
+    }
+    let old = "\"020000000001\", \"020000000002\"";
+    changed(alloc, PLANT, old, list.as_str())
+}
+
+#[test]
+fn one_to_1024_modems_of_an_operator(rt: HostRuntime) -> Result<(), Fail> {
+    let alloc = rt.alloc();
+    check_text(&rt, alloc, with_modems(alloc, 1)?.as_str(), "ok")?;
+    check_text(&rt, alloc, with_modems(alloc, 1024)?.as_str(), "ok")?;
+    let verdict = "3 operator[0].modems";
+    check_text(&rt, alloc, with_modems(alloc, 1025)?.as_str(), verdict)
+}
+
+/// The plant's text with so many classes.
+fn with_classes(alloc: Global, count: u8) -> Result<String, Fail> {
+    let mut text = String::from_str(alloc, PLANT)?;
+    for class in 0..count {
+        let row = format!(in alloc; "[[class]]\nname = \"C{class}\"\nencoding = \"\"\n")?;
+        text.push_str(row.as_str())?;
+    }
+    Ok(text)
+}
+
+#[test]
+fn none_to_64_classes(rt: HostRuntime) -> Result<(), Fail> {
+    let alloc = rt.alloc();
+    check_text(&rt, alloc, with_classes(alloc, 64)?.as_str(), "ok")?;
+    check_text(&rt, alloc, with_classes(alloc, 65)?.as_str(), "3 class")
+}

@@ -8,3 +8,5 @@ mod plain;
 mod schedules;
 #[cfg(test)]
 mod serving;
+#[cfg(test)]
+mod want_of_memory;

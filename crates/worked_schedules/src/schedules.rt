@@ -7,7 +7,7 @@ use std::process::Abort;
 use std::test::Fail;
 
 /// A frame of 2 milliseconds and minislots of 16 bytes, with short grants of up to 4 minislots, and a slice of 32 minislots from 8 on.
-const FRAME: PlainFrame = PlainFrame {
+pub(crate) const FRAME: PlainFrame = PlainFrame {
     number: 0,
     first: 8,
     length: 32,
@@ -18,7 +18,7 @@ const FRAME: PlainFrame = PlainFrame {
 };
 
 /// A best-effort flow of no priority and no reserved rate, whose waiting begins with frame 0.
-fn flow(sfid: u32, sid: u16, backlog: u16) -> PlainFlow {
+pub(crate) fn flow(sfid: u32, sid: u16, backlog: u16) -> PlainFlow {
     PlainFlow {
         sfid,
         sid,
@@ -32,7 +32,7 @@ fn flow(sfid: u32, sid: u16, backlog: u16) -> PlainFlow {
 }
 
 /// Asserts the schedule of some flows, which the plain one has too.
-fn check(
+pub(crate) fn check(
     rt: &impl Abort,
     alloc: Global,
     flows: &[PlainFlow],
