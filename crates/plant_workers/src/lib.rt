@@ -1,9 +1,19 @@
-//! Operators' cells, which threads share.
+//! Operators' cells, which threads share, and a plant run on threads.
 #![tactic(auto)]
 
 mod cell;
+mod crew;
+mod finishing;
 mod gate;
+mod job;
+mod lists;
+mod opening;
+mod part;
 mod ranking;
+mod running;
+mod shared;
+mod tale;
+mod threads;
 mod turn;
 
 pub use cell::OperatorCell;
@@ -11,3 +21,4 @@ pub use gate::{Gate, OpenGate};
 pub use plant_receipts::{Callers, Receipt, Receipts, RunFault, Settled, settle};
 pub use plant_turns::CellFault;
 pub use ranking::are_ranked;
+pub use running::{run_workers, run_workers_on};

@@ -1,0 +1,155 @@
+//! A run between its pieces: no thread is there.
+
+ghost use Rattle.std.specs.Prelude.{◌≡◌, List, IfErr};
+ghost use Rattle.plant_runs.specs.declared.step.Step.{Step};
+ghost use Rattle.plant_workers.specs.Faulting.{IsReslice, IsOfRun};
+
+use crate::gate::Gate;
+use crate::job::Job;
+use crate::lists::{Lists, add_owned, add_tales, no_lists};
+use crate::part::parts_of;
+use crate::shared::run_shared;
+use crate::tale::first_fault;
+use operator_machine::SliceRow;
+use plant_core::CoreFault;
+use plant_outcomes::Assembly;
+use plant_receipts::RunFault;
+use plant_runs::Step;
+use plant_turns::{Held, reslice};
+use slice_table::Plant;
+use std::alloc::{AllocError, Global};
+use std::sync::{Condvar, Mutex, Wait};
+use std::thread::Threads;
+
+/// A run between its pieces: what stands behind each operator's lock, the assembly, and the receipts so far.
+#[derive(Drop)]
+pub(crate) struct Crew {
+    pub helds: Vec<Held>,
+    pub assembly: Assembly,
+    pub lists: Vec<Lists>,
+}
+
+/// Each behind a lock.
+fn locked(alloc: Global, helds: Vec<Held>) -> Result<Vec<Mutex<Held>>, AllocError> {
+    let mut locks = Vec::with_capacity(alloc, helds.len())?;
+    for held in helds {
+        locks.push(Mutex::new(held))?;
+    }
+    Ok(locks)
+}
+
+/// Each taken from behind its lock.
+fn unlocked(alloc: Global, locks: Vec<Mutex<Held>>) -> Result<Vec<Held>, AllocError> {
+    let mut helds = Vec::with_capacity(alloc, locks.len())?;
+    for lock in locks {
+        helds.push(lock.into_inner())?;
+    }
+    Ok(helds)
+}
+
+/// What tells that an operator's book has changed, for each operator.
+fn signals(alloc: Global, operators: usize) -> Result<Vec<Condvar>, AllocError> {
+    let mut signals = Vec::with_capacity(alloc, operators)?;
+    for _ in 0..operators {
+        signals.push(Condvar::new())?;
+    }
+    Ok(signals)
+}
+
+impl Crew {
+    /// A run with nothing done.
+    pub(crate) fn new(alloc: Global, plant: &Plant, helds: Vec<Held>) -> Result<Crew, AllocError> {
+        let lists = no_lists(alloc, helds.len())?;
+        let assembly = Assembly::new(alloc, plant)?;
+        Ok(Crew {
+            helds,
+            assembly,
+            lists,
+        })
+    }
+
+    /// Does these jobs, none of which is of a Reslice, in threads that have all ended when this answers.
+    pub(crate) fn run_piece<R: Threads + Wait + Sync, G: Gate<R> + Sync>(
+        self,
+        rt: &R,
+        alloc: Global,
+        jobs: &[Job],
+        gate: &G,
+        stacks: &[usize],
+    ) -> Result<Crew, RunFault>
+        ensures { IfErr result (λ fault. (steps : List Step) → IsOfRun steps fault) }
+    {
+        if jobs.is_empty() {
+            return Ok(self);
+        }
+        let Crew {
+            helds,
+            assembly,
+            mut lists,
+        } = self;
+        let parts = parts_of(alloc, helds.len())?;
+        let changed = signals(alloc, helds.len())?;
+        let locks = locked(alloc, helds)?;
+        let assembly = Mutex::new(assembly);
+        let tales = run_shared(
+            rt,
+            alloc,
+            locks.as_slice(),
+            changed.as_slice(),
+            &assembly,
+            jobs,
+            gate,
+            parts.as_slice(),
+            stacks,
+        )?;
+        if let Some(fault) = first_fault(tales.as_slice()) {
+            return Err(fault);
+        }
+        if tales.len() != parts.len() {
+            return Err(RunFault::NoMemory);
+        }
+        add_tales(&mut lists, tales)?;
+        Ok(Crew {
+            helds: unlocked(alloc, locks)?,
+            assembly: assembly.into_inner(),
+            lists,
+        })
+    }
+
+    /// Does the step of this place, where it is a Reslice.
+    pub(crate) fn reslice_at(
+        &mut self,
+        alloc: Global,
+        steps: &[Step],
+        at: usize,
+    ) -> Result<(), RunFault>
+        ensures { IfErr result (IsOfRun steps.now) }
+    {
+        match steps.get(at) {
+            Some(Step::Reslice { from, rows }) => self.reslice(alloc, at, *from, rows.as_slice()),
+            _ => Ok(()),
+        }
+    }
+
+    /// Gives the operators other slices, at the step of this place.
+    fn reslice(
+        &mut self,
+        alloc: Global,
+        at: usize,
+        from: u32,
+        rows: &[SliceRow],
+    ) -> Result<(), RunFault>
+        ensures { IfErr result (λ fault. (steps : List Step) → IsReslice steps at → IsOfRun steps fault) }
+    {
+        match reslice(alloc, &mut self.helds, from, rows) {
+            Ok(told) => add_owned(&mut self.lists, told)?,
+            Err(CoreFault::Reslice(fault)) => return Err(RunFault::ResliceRefused { at, fault }),
+            Err(_) => return Err(RunFault::NoMemory),
+        }
+        if self.assembly.reslice(alloc, from, rows)? {
+            Ok(())
+        } else {
+            Err(RunFault::MapStrayed { frame: from })
+        }
+    }
+}

@@ -1,0 +1,87 @@
+//! What a run comes to, once its last thread has ended.
+
+ghost use Rattle.std.specs.Prelude.{◌≡◌, ◌<◌, ◌^◌, map, vec_len, IfOk, IfErr};
+ghost use Rattle.operator_book.specs.ViewOf.{view_of};
+ghost use Rattle.plant_outcomes.specs.Outcome.{AreTicked, IsOutcome};
+ghost use Rattle.plant_workers.specs.Faulting.{IsOfRun};
+
+use crate::crew::Crew;
+use crate::lists::callers_of;
+use map_assembly::MapBytes;
+use operator_book::Book;
+use plant_outcomes::{Assembly, compare};
+use plant_receipts::{Callers, RunFault, Settled, settle};
+use plant_runs::Step;
+use plant_turns::Held;
+use slice_table::Plant;
+use std::alloc::{AllocError, Global};
+
+/// The books, with no lock round them.
+fn books_of(alloc: Global, helds: Vec<Held>) -> Result<Vec<Book>, AllocError>
+    requires { vec_len helds < 2 ^ 64 }
+{
+    let mut books = Vec::with_capacity(alloc, helds.len())?;
+    for held in helds {
+        let (book, _) = held.into_parts();
+        books.push(book)?;
+    }
+    Ok(books)
+}
+
+/// Equal MAPs with memory of their own.
+fn copies_of(alloc: Global, maps: &[MapBytes]) -> Result<Vec<MapBytes>, AllocError>
+    ensures { IfOk result (λ copies. copies.items ≡ maps.now) }
+{
+    let mut copies = Vec::with_capacity(alloc, maps.len())?;
+    for made in maps {
+        copies.push(MapBytes {
+            frame: made.frame,
+            bytes: made.bytes.copy(alloc)?,
+        })?;
+    }
+    Ok(copies)
+}
+
+/// Settles what was done, and compares it with the steps.
+fn settle_all(
+    alloc: Global,
+    plant: &Plant,
+    books: Vec<Book>,
+    callers: Vec<Callers>,
+    assembly: Assembly,
+    steps: &[Step],
+) -> Result<Settled, RunFault>
+    requires ticked { AreTicked plant.now steps.now }
+    ensures ok { IfOk result (λ s.
+        IsOutcome plant.now steps.now (map view_of s.books.items) s.receipts.items s.maps.items) }
+    ensures err { IfErr result (IsOfRun steps.now) }
+{
+    if books.len() != plant.rows().len() || callers.len() != books.len() {
+        return Err(RunFault::NoMemory);
+    }
+    let maps = copies_of(alloc, assembly.maps())?;
+    let settled = settle(alloc, books, callers, maps)?;
+    compare(alloc, plant, settled, assembly, steps)
+}
+
+/// What the run comes to.
+pub(crate) fn finish(
+    alloc: Global,
+    plant: &Plant,
+    crew: Crew,
+    steps: &[Step],
+) -> Result<Settled, RunFault>
+    requires ticked { AreTicked plant.now steps.now }
+    ensures ok { IfOk result (λ s.
+        IsOutcome plant.now steps.now (map view_of s.books.items) s.receipts.items s.maps.items) }
+    ensures err { IfErr result (IsOfRun steps.now) }
+{
+    let Crew {
+        helds,
+        assembly,
+        lists,
+    } = crew;
+    let books = books_of(alloc, helds)?;
+    let callers = callers_of(alloc, lists)?;
+    settle_all(alloc, plant, books, callers, assembly, steps)
+}

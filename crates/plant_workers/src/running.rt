@@ -1,0 +1,152 @@
+//! A plant run on threads.
+
+ghost use Rattle.std.specs.Prelude.{◌≡◌, ◌⊎◌, map, Err, IfOk, IfErr, OnOk};
+ghost use Rattle.operator_book.specs.ViewOf.{view_of, policy_of};
+ghost use Rattle.plant_core.specs.declared.core_fault.CoreFault.{CoreFault};
+ghost use Rattle.plant_receipts.specs.declared.run_fault.RunFault.TheVariants.{Core, NoMemory};
+ghost use Rattle.plant_outcomes.specs.Outcome.{AreTicked, IsOutcome};
+ghost use Rattle.plant_walks.specs.Serving.{IsServable, IsFirstUnserved};
+ghost use Rattle.plant_workers.specs.Faulting.{IsOfRun, IsFault};
+
+use crate::crew::Crew;
+use crate::finishing::finish;
+use crate::gate::Gate;
+use crate::job::{Job, jobs_of};
+use crate::opening::opened;
+use grant_policy::Ranking;
+use plant_receipts::{RunFault, Settled};
+use plant_runs::Step;
+use plant_walks::first_unserved;
+use slice_table::Plant;
+use std::alloc::Global;
+use std::sync::Wait;
+use std::thread::Threads;
+
+/// The jobs from one place up to another.
+fn between<'a, 'b>(jobs: &'a [Job<'b>], from: usize, to: usize) -> &'a [Job<'b>] {
+    let end = to.min(jobs.len());
+    let begin = from.min(end);
+    &jobs[begin..end]
+}
+
+/// Does all jobs: in pieces between the Reslices, each of which is done while no thread is there.
+fn run_steps<R: Threads + Wait + Sync, G: Gate<R> + Sync>(
+    rt: &R,
+    alloc: Global,
+    crew: Crew,
+    steps: &[Step],
+    jobs: &[Job],
+    gate: &G,
+    stacks: &[usize],
+) -> Result<Crew, RunFault>
+    ensures { IfErr result (IsOfRun steps.now) }
+{
+    let mut crew = crew;
+    let mut begin = 0;
+    for (at, step) in steps.iter().enumerate() {
+        if let Step::Reslice { from: _, rows: _ } = step {
+            crew = match crew.run_piece(rt, alloc, between(jobs, begin, at), gate, stacks) {
+                Ok(crew) => crew,
+                Err(fault) => return Err(fault),
+            };
+            crew.reslice_at(alloc, steps, at)?;
+            begin = at + 1;
+        }
+    }
+    crew.run_piece(rt, alloc, between(jobs, begin, jobs.len()), gate, stacks)
+}
+
+/// Does steps each of which finds what it asks for.
+fn run_served<R: Threads + Wait + Sync, G: Gate<R> + Sync>(
+    rt: &R,
+    alloc: Global,
+    plant: &Plant,
+    rankings: Vec<Ranking>,
+    steps: &[Step],
+    gate: &G,
+    stacks: &[usize],
+) -> Result<Settled, RunFault>
+    requires ticked { AreTicked plant.now steps.now }
+    ensures ok { IfOk result (λ s.
+        IsOutcome plant.now steps.now (map view_of s.books.items) s.receipts.items s.maps.items) }
+    ensures err { IfErr result (IsOfRun steps.now) }
+{
+    let helds = opened(alloc, plant, rankings)?;
+    let crew = Crew::new(alloc, plant, helds)?;
+    let jobs = jobs_of(alloc, plant, steps)?;
+    let crew = run_steps(rt, alloc, crew, steps, jobs.as_slice(), gate, stacks)?;
+    finish(alloc, plant, crew, steps)
+}
+
+/// Does steps, once it is known that each finds what it asks for.
+#[tactic(auto, using(crate::proofs::FaultLemmas::not_unserved, crate::proofs::FaultLemmas::of_walk, crate::proofs::FaultLemmas::of_run))]
+fn run_walked<R: Threads + Wait + Sync, G: Gate<R> + Sync>(
+    rt: &R,
+    alloc: Global,
+    plant: &Plant,
+    rankings: Vec<Ranking>,
+    steps: &[Step],
+    gate: &G,
+    stacks: &[usize],
+) -> Result<Settled, RunFault>
+    ensures ok { IfOk result (λ s.
+        IsOutcome plant.now steps.now (map view_of s.books.items) s.receipts.items s.maps.items) }
+    ensures walked { OnOk result (IsServable plant.now steps.now) }
+    ensures walk { (fault : CoreFault) → IsFirstUnserved plant.now steps.now fault
+        → (result ≡ Err (Core fault)) ⊎ (result ≡ Err NoMemory) }
+    ensures err { IfErr result (IsFault plant.now steps.now) }
+{
+    match first_unserved(alloc, plant, steps) {
+        Ok(()) => run_served(rt, alloc, plant, rankings, steps, gate, stacks),
+        Err(fault) => Err(fault),
+    }
+}
+
+/// As `run_workers`, with the bytes of each thread's stack: the dispatcher's, the ticker's, and the worker's of each
+/// operator. Those for which none are given get 2 MiB. A thread that cannot be made is want of memory.
+pub fn run_workers_on<R: Threads + Wait + Sync, G: Gate<R> + Sync>(
+    rt: &R,
+    alloc: Global,
+    plant: Plant,
+    rankings: Vec<Ranking>,
+    steps: Vec<Step>,
+    gate: &G,
+    stacks: &[usize],
+) -> Result<Settled, RunFault>
+    requires ranked { map policy_of rankings.items ≡ map (λ row. row.policy) plant.rows }
+    ensures ok { IfOk result (λ s.
+        IsOutcome plant steps.items (map view_of s.books.items) s.receipts.items s.maps.items) }
+    ensures walked { OnOk result (IsServable plant steps.items) }
+    ensures walk { (fault : CoreFault) → IsFirstUnserved plant steps.items fault
+        → (result ≡ Err (Core fault)) ⊎ (result ≡ Err NoMemory) }
+    ensures err { IfErr result (IsFault plant steps.items) }
+{
+    run_walked(rt, alloc, &plant, rankings, steps.as_slice(), gate, stacks)
+}
+
+/// Runs a plant's steps on threads: one dispatcher does the Arrives, one ticker the Ticks, and one worker for each operator
+/// that operator's Works and Collects, each in the order of the steps. An action waits for the earlier actions of its own
+/// operator and of its own thread, and for nothing else. Reslices are done while no thread is there.
+///
+/// Faults: `Core` of the first step that does not find its modem, its operator or a frame to collect, before a thread
+/// starts; that of the least operator that refused an action, and then that of the assembly; `ResliceRefused`; those of
+/// `settle` and of `compare`. Nothing is left of what was handed in. It answers once all threads have ended; that they do
+/// is not claimed.
+pub fn run_workers<R: Threads + Wait + Sync, G: Gate<R> + Sync>(
+    rt: &R,
+    alloc: Global,
+    plant: Plant,
+    rankings: Vec<Ranking>,
+    steps: Vec<Step>,
+    gate: &G,
+) -> Result<Settled, RunFault>
+    requires ranked { map policy_of rankings.items ≡ map (λ row. row.policy) plant.rows }
+    ensures ok { IfOk result (λ s.
+        IsOutcome plant steps.items (map view_of s.books.items) s.receipts.items s.maps.items) }
+    ensures walked { OnOk result (IsServable plant steps.items) }
+    ensures walk { (fault : CoreFault) → IsFirstUnserved plant steps.items fault
+        → (result ≡ Err (Core fault)) ⊎ (result ≡ Err NoMemory) }
+    ensures err { IfErr result (IsFault plant steps.items) }
+{
+    run_workers_on(rt, alloc, plant, rankings, steps, gate, &[])
+}

@@ -1,0 +1,186 @@
+//! What the threads of a run share, and what each does with it.
+
+use crate::gate::Gate;
+use crate::job::Job;
+use crate::part::Part;
+use crate::tale::{Refusal, Tale, Told};
+use crate::threads::run_threads;
+use crate::turn::Turn;
+use operator_book::BookFault;
+use operator_machine::Action;
+use plant_outcomes::Assembly;
+use plant_turns::{CellFault, Held};
+use slice_table::Op;
+use std::alloc::{AllocError, Global};
+use std::sync::{Condvar, Mutex, Wait};
+use std::thread::Threads;
+
+/// What the threads of a run share: each operator's lock with what tells that it changed, and the assembly's lock.
+#[derive(Clone, Copy)]
+pub(crate) struct Shared<'a> {
+    pub helds: &'a [Mutex<Held>],
+    pub changed: &'a [Condvar],
+    pub assembly: &'a Mutex<Assembly>,
+    pub jobs: &'a [Job<'a>],
+}
+
+/// That an operator's turn found no memory.
+fn no_memory(op: Op) -> Refusal {
+    Refusal::Turn {
+        op,
+        fault: CellFault::Book(BookFault::NoMemory),
+    }
+}
+
+impl<'a> Shared<'a> {
+    /// The lock of an operator, if there is one.
+    fn turn(self, op: Op) -> Option<Turn<'a>> {
+        Some(Turn {
+            op,
+            held: self.helds.get(op)?,
+            changed: self.changed.get(op)?,
+        })
+    }
+
+    /// Does an action in its turn, and keeps its receipt.
+    fn act<R: Wait, G: Gate<R>>(
+        self,
+        rt: &R,
+        alloc: Global,
+        turn: Turn<'a>,
+        index: usize,
+        action: Action,
+        gate: &G,
+        told: &mut Vec<Told>,
+    ) -> Result<(), Refusal> {
+        let op = turn.op;
+        if told.reserve(1).is_err() {
+            return Err(no_memory(op));
+        }
+        match turn.in_turn(rt, alloc, index, action, gate) {
+            Ok(receipt) => {
+                told.push_reserved(Told { op, receipt });
+                Ok(())
+            }
+            Err(fault) => Err(Refusal::Turn { op, fault }),
+        }
+    }
+
+    /// Puts the operator's oldest frame that waits into the assembly.
+    fn put<R: Wait>(
+        self,
+        rt: &R,
+        alloc: Global,
+        turn: Turn<'a>,
+        index: usize,
+    ) -> Result<(), Refusal> {
+        let op = turn.op;
+        let taken = match turn.collect_after(rt, alloc, index) {
+            Ok(taken) => taken,
+            Err(fault) => return Err(Refusal::Turn { op, fault }),
+        };
+        let Some((frame, elements)) = taken else {
+            return Ok(());
+        };
+        let mut assembly = self.assembly.lock(rt);
+        match assembly.put(alloc, op, frame, elements) {
+            Ok(()) => Ok(()),
+            Err(fault) => Err(Refusal::Assembly(fault)),
+        }
+    }
+
+    /// Does a job.
+    fn do_job<R: Wait, G: Gate<R>>(
+        self,
+        rt: &R,
+        alloc: Global,
+        job: &Job,
+        gate: &G,
+        told: &mut Vec<Told>,
+    ) -> Result<(), Refusal> {
+        let Some(turn) = self.turn(job.op) else {
+            return Ok(());
+        };
+        match job.action(alloc) {
+            Ok(Some(action)) => self.act(rt, alloc, turn, job.index, action, gate, told),
+            Ok(None) => self.put(rt, alloc, turn, job.index),
+            Err(_) => Err(no_memory(job.op)),
+        }
+    }
+
+    /// Does the jobs of a part, in order, up to the first that is refused.
+    fn do_jobs<R: Wait, G: Gate<R>>(
+        self,
+        rt: &R,
+        alloc: Global,
+        gate: &G,
+        part: Part,
+        told: &mut Vec<Told>,
+    ) -> Result<(), Refusal> {
+        for job in self.jobs {
+            if part.has(job) {
+                self.do_job(rt, alloc, job, gate, told)?;
+            }
+        }
+        Ok(())
+    }
+}
+
+/// What the threads of a run do, each its part of it. A trait of its own, so that a thread that borrows it asks for no
+/// more of it than that it may be shared.
+pub(crate) trait Chores<R: Wait, G: Gate<R>> {
+    /// What one thread does: its part of the jobs. Where one is refused all operators are stopped, so that no other thread
+    /// waits for it.
+    fn run_part(&self, rt: &R, alloc: Global, gate: &G, part: Part) -> Tale;
+
+    /// Stops the turns of all operators.
+    fn stop_all(&self, rt: &R);
+}
+
+impl<R: Wait, G: Gate<R>> Chores<R, G> for Shared<'_> {
+    fn run_part(&self, rt: &R, alloc: Global, gate: &G, part: Part) -> Tale {
+        let mut told = Vec::new(alloc);
+        let refused = match self.do_jobs(rt, alloc, gate, part, &mut told) {
+            Ok(()) => None,
+            Err(refusal) => {
+                Chores::<R, G>::stop_all(self, rt);
+                Some(refusal)
+            }
+        };
+        Tale {
+            part,
+            told,
+            refused,
+        }
+    }
+
+    fn stop_all(&self, rt: &R) {
+        for op in 0..self.helds.len() {
+            if let Some(turn) = self.turn(op) {
+                turn.stop(rt);
+            }
+        }
+    }
+}
+
+/// Runs each part of the jobs in a thread of its own, and joins them all. Where a thread cannot be made there are fewer
+/// tales than parts.
+pub(crate) fn run_shared<R: Threads + Wait + Sync, G: Gate<R> + Sync>(
+    rt: &R,
+    alloc: Global,
+    helds: &[Mutex<Held>],
+    changed: &[Condvar],
+    assembly: &Mutex<Assembly>,
+    jobs: &[Job],
+    gate: &G,
+    parts: &[Part],
+    stacks: &[usize],
+) -> Result<Vec<Tale>, AllocError> {
+    let shared = Shared {
+        helds,
+        changed,
+        assembly,
+        jobs,
+    };
+    run_threads(rt, alloc, &shared, gate, parts, stacks)
+}

@@ -1,0 +1,58 @@
+//! The threads of a run.
+
+use crate::gate::Gate;
+use crate::part::Part;
+use crate::shared::Chores;
+use crate::tale::Tale;
+use std::alloc::{AllocError, Global};
+use std::sync::Wait;
+use std::thread;
+use std::thread::{Builder, Threads};
+
+/// The bytes of a thread's stack, where its caller wants no other.
+const STACK: usize = 2 * 1024 * 1024;
+
+/// The bytes of the stack of the thread at this place.
+fn stack_at(stacks: &[usize], place: usize) -> usize {
+    match stacks.get(place) {
+        Some(stack) => *stack,
+        None => STACK,
+    }
+}
+
+/// Runs each part in a thread of its own, and joins them all. Where a thread cannot be made all operators are stopped, and
+/// there are fewer tales than parts.
+pub(crate) fn run_threads<R: Threads + Wait + Sync, G: Gate<R> + Sync, C: Chores<R, G> + Sync>(
+    rt: &R,
+    alloc: Global,
+    chores: &C,
+    gate: &G,
+    parts: &[Part],
+    stacks: &[usize],
+) -> Result<Vec<Tale>, AllocError> {
+    thread::scope(
+        thread::scope_env(),
+        rt,
+        |scope| -> Result<Vec<Tale>, AllocError> {
+            let mut handles = Vec::with_capacity(alloc, parts.len())?;
+            let mut tales = Vec::with_capacity(alloc, parts.len())?;
+            for (place, part) in parts.iter().enumerate() {
+                let part = *part;
+                let made = Builder::new()
+                    .stack_size(stack_at(stacks, place))
+                    .spawn_scoped(scope, move || { chores.run_part(rt, alloc, gate, part) });
+                match made {
+                    Ok(handle) => handles.push(handle)?,
+                    Err(_refused) => {
+                        chores.stop_all(rt);
+                        break;
+                    }
+                }
+            }
+            for handle in handles {
+                tales.push(handle.join(rt))?;
+            }
+            Ok(tales)
+        },
+    )
+}
