@@ -2,6 +2,7 @@
    the program after 60 seconds. Where fewer requests were made, it runs the command REFUSE_MARK at the end. */
 #include <errno.h>
 #include <stdlib.h>
+#include <sys/syscall.h>
 #include <unistd.h>
 
 extern void *__libc_malloc(size_t);
@@ -37,4 +38,10 @@ __attribute__((destructor)) static void end(void) {
         int s = system(mark);
         (void)s;
     }
+}
+
+/* A program with threads ends by this, which runs no destructor. */
+void _exit(int status) {
+    end();
+    for (;;) syscall(SYS_exit_group, status);
 }

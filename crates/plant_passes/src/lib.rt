@@ -13,6 +13,3 @@ mod view;
 pub use pass::{Pass, PassedCell};
 pub use receipt::{CellFault, Receipt};
 pub use view::{Held, Key, Mark, Origin, View};
-
-#[cfg(test)]
-mod tests;

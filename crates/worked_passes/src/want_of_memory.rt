@@ -6,31 +6,20 @@ ghost use Rattle.std.specs.Prelude.{All, IfSome};
 ghost use Rattle.plant_passes.specs.Passes.{IsOf};
 ghost use Rattle.plant_passes.specs.ViewOf.{cell_of, pass_of};
 
-use crate::cells::{MODEM, book};
-use grant_policy::{Policy, RankInput, Ranking, rank_by};
+use crate::cells::{MODEM, book, next_of, opened, strict};
 use operator_book::{Book, BookFault, Heard};
 use plant_passes::{CellFault, Pass, PassedCell, Receipt};
 use std::alloc::Global;
 use std::sync::Wait;
 use std::test::Fail;
 
-/// A cell with two passes.
-fn opened(alloc: Global, book: Book) -> Option<(PassedCell, Vec<Pass>)>
-    ensures { IfSome result (λ r. All (λ p. IsOf (cell_of r.0) (pass_of p)) r.1.items) }
-{
-    let Ok((cell, passes)) = PassedCell::open(alloc, book, 2) else {
-        return None;
-    };
-    Some((cell, passes))
-}
-
 /// A cell with two passes; where memory is refused, round the other book.
 fn opened_again(alloc: Global, first: Book, spare: Book) -> Option<(PassedCell, Vec<Pass>)>
     ensures { IfSome result (λ r. All (λ p. IsOf (cell_of r.0) (pass_of p)) r.1.items) }
 {
-    match opened(alloc, first) {
+    match opened(alloc, first, 2) {
         Some(made) => Some(made),
-        None => opened(alloc, spare),
+        None => opened(alloc, spare, 2),
     }
 }
 
@@ -96,15 +85,6 @@ fn arrives_again<R: Wait>(
     }
 }
 
-/// The next of some passes.
-fn next_of(cell: &PassedCell, passes: &mut Vec<Pass>) -> Option<Pass>
-    requires { All (λ p. IsOf (cell_of cell.now) (pass_of p)) passes.old.items }
-    ensures one { IfSome result (λ p. IsOf (cell_of cell.now) (pass_of p)) }
-    ensures others { All (λ p. IsOf (cell_of cell.now) (pass_of p)) passes.new.items }
-{
-    passes.pop()
-}
-
 /// Whether two arrivals succeed, with passes that meet between them.
 fn meets_between<R: Wait>(rt: &R, alloc: Global, cell: &PassedCell, mut passes: Vec<Pass>) -> bool
     requires { All (λ p. IsOf (cell_of cell.now) (pass_of p)) passes.items }
@@ -131,18 +111,6 @@ fn calls_again<R: Wait>(rt: &R, alloc: Global, first: Book, spare: Book) -> bool
         Some((cell, passes)) => meets_between(rt, alloc, &cell, passes),
         None => false,
     }
-}
-
-/// The ranking of operator A. A function that hands out a ranking is not proved, so each test makes its own.
-macro_rules! strict {
-    ($alloc:expr) => {
-        Ranking::new(
-            Policy::Strict,
-            Box::new($alloc, |input: RankInput| -> u8 {
-                rank_by(Policy::Strict, &input)
-            })?,
-        )
-    };
 }
 
 #[test]
