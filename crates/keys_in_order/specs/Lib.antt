@@ -1,0 +1,5 @@
+pub mod First
+pub mod Held
+pub mod Keys
+pub mod Stands
+pub mod Faults
