@@ -1,0 +1,3 @@
+pub mod WaitLemmas
+pub mod FlowLemmas
+pub mod StepLemmas
