@@ -7,6 +7,10 @@
 #[cfg(test)]
 mod again;
 #[cfg(test)]
+mod copies;
+#[cfg(test)]
+mod maps;
+#[cfg(test)]
 mod messages;
 #[cfg(test)]
 mod tables;

@@ -1,12 +1,58 @@
-//! Ledgers and kept responses.
+//! Ledgers, kept responses, and plant files.
 
-use crate::again::again;
+use crate::again::{again, again_if};
 use admission::{Budget, Ledger};
 use dsx_messages::{Kind, Modem};
+use slice_table::{Consts, OperatorRow, Plant, PlantFault, read_plant};
 use std::alloc::{AllocError, Global};
 use std::test::Fail;
 use tlv24::Bytes;
 use transactions::{Kept, KeptEntry, Timers};
+
+/// An operator with a class and a provisioned flow.
+const PLANT: &str = "[plant]
+frame_minislots = 72
+head = 8
+frame_us = 2000
+bytes_per_minislot = 16
+short_max = 4
+channel = 1
+ucd_count = 1
+
+[[class]]
+name = \"gold\"
+encoding = \"0F0102070105\"
+
+[[operator]]
+name = \"A\"
+slice = [8, 32]
+sfids = [257, 512]
+sids = [257, 272]
+flows = 4
+transactions = 4
+inbox = 4
+budget = 32
+elements = 8
+policy = \"strict\"
+modems = [\"020000000001\", \"020000000002\"]
+
+[[operator.flow]]
+modem = \"020000000001\"
+encoding = \"0405676F6C6400060107\"
+
+[[operator]]
+name = \"B\"
+slice = [40, 32]
+sfids = [513, 768]
+sids = [513, 528]
+flows = 4
+transactions = 4
+inbox = 4
+budget = 32
+elements = 8
+policy = \"short\"
+modems = [\"020000000003\"]
+";
 
 const ONE: Modem = Modem([2, 0, 0, 0, 0, 1]);
 
@@ -72,5 +118,56 @@ fn kept_responses_are_copied(rt: HostRuntime) -> Result<(), Fail> {
     assert_eq!(rt; resend_count(alloc, &kept)?, 2);
     let entry = copied(alloc, kept.entries().first().ok_or("no entry")?)?;
     assert_eq!(rt; entry.reply.as_slice(), [16, 0, 1, 0].as_slice());
+    Ok(())
+}
+
+/// Whether a plant is the one of the text.
+fn is_the_plant(plant: &Plant) -> bool {
+    plant.operator_of(ONE) == Some(0)
+        && plant.operator_of(THREE) == Some(1)
+        && plant.rows().len() == 2
+        && plant.consts().get_fields().classes.as_slice().len() == 1
+}
+
+#[test]
+fn a_plant_is_read(rt: HostRuntime) -> Result<(), Fail> {
+    let plant = again_if!(&rt, read_plant(rt.alloc(), PLANT), PlantFault::NoMemory);
+    assert!(rt; is_the_plant(&plant));
+    Ok(())
+}
+
+/// The plant of the text.
+pub(crate) fn plant(alloc: Global) -> Result<Plant, Fail> {
+    Ok(read_plant(alloc, PLANT).ok().ok_or("no memory")?)
+}
+
+#[test]
+fn a_plant_is_copied(rt: HostRuntime) -> Result<(), Fail> {
+    let plant = plant(rt.alloc())?;
+    let copied = again!(plant.copy(rt.alloc()));
+    assert!(rt; is_the_plant(&copied));
+    Ok(())
+}
+
+/// How many classes a copy of what all operators share has.
+fn classes_copied(alloc: Global, consts: &Consts) -> Result<usize, AllocError> {
+    let copied = again!(consts.copy(alloc));
+    Ok(copied.get_fields().classes.as_slice().len())
+}
+
+/// How many modems a copy of a row has, and how many provisioned flows.
+fn row_copied(alloc: Global, row: &OperatorRow) -> Result<(usize, usize), AllocError> {
+    let copied = again!(row.copy(alloc));
+    let fields = copied.get_fields();
+    let (modems, provisions) = (fields.modems.as_slice(), fields.provisions.as_slice());
+    Ok((modems.len(), provisions.len()))
+}
+
+#[test]
+fn parts_of_a_plant_are_copied(rt: HostRuntime) -> Result<(), Fail> {
+    let plant = plant(rt.alloc())?;
+    assert_eq!(rt; classes_copied(rt.alloc(), plant.consts())?, 1);
+    let row = plant.rows().first().ok_or("no row")?;
+    assert_eq!(rt; row_copied(rt.alloc(), row)?, (2, 1));
     Ok(())
 }
