@@ -1,6 +1,6 @@
 //! To which operator a modem's messages go.
 
-ghost use Rattle.std.specs.Prelude.{◌≡◌, IfOk};
+ghost use Rattle.std.specs.Prelude.{◌≡◌, Some, IfOk};
 ghost use Rattle.slice_table.specs.Plant.{IsPlant};
 ghost use Rattle.slice_table.specs.Roster.{holder};
 
@@ -14,12 +14,16 @@ use std::num::NonZeroUsize;
 /// How many addresses are remembered.
 const REMEMBERED: usize = 16;
 
-/// A plant behind a cache of the addresses that were asked for last. Contracts see the plant: the cache is no part of any
-/// answer. The type keeps that each cached address stands beside its operator.
+/// A plant behind a cache of addresses that were asked for lately. An address that the cache lacks is put into it where the
+/// address that it lacked before was the same: most come once among many, and to put one in costs more than to ask the
+/// plant. Contracts see the plant: the cache is no part of any answer. The type keeps that each cached address stands beside
+/// its operator.
 #[derive(Drop)]
 pub struct Routes {
     plant: Plant,
     cache: LruCache<Modem, Op>,
+    /// The address that the cache lacked last.
+    lacked: Option<Modem>,
 }
 
 impl Model for Routes {
@@ -42,7 +46,11 @@ impl Routes {
             unreachable!()
         };
         let cache = LruCache::new(alloc, size)?;
-        Ok(Routes { plant, cache })
+        Ok(Routes {
+            plant,
+            cache,
+            lacked: None,
+        })
     }
 
     /// The operator that lists this modem, if one does. Where no memory is left to remember it, it is not remembered.
@@ -54,8 +62,20 @@ impl Routes {
             return Some(place);
         }
         let place = self.plant.operator_of(modem)?;
-        let _ = self.cache.put(modem, place);
+        self.remember(modem, place);
         Some(place)
+    }
+
+    /// Puts the operator of an address into the cache, where the cache lacked it the last time too.
+    fn remember(&mut self, modem: Modem, place: Op)
+        requires { holder self.old.rows modem ≡ Some place }
+        ensures { self.new ≡ self.old }
+    {
+        if self.lacked == Some(modem) {
+            let _ = self.cache.put(modem, place);
+        } else {
+            self.lacked = Some(modem);
+        }
     }
 
     /// The plant.

@@ -5,6 +5,7 @@ pub mod PackedLemmas
 pub mod WantedLemmas
 pub mod TotalLemmas
 pub mod GrantedLemmas
+pub mod AskingLemmas
 pub mod ServableLemmas
 pub mod TiledLemmas
 pub mod NamedLemmas

@@ -3,12 +3,12 @@
 ghost use Rattle.std.specs.Prelude.{◌≡◌, ◌≤◌, All, IfOk, sum_by};
 ghost use Rattle.slice_scheduler.specs.Claims.{base_of, claim_of, claims_of, taken_of, room_of};
 ghost use Rattle.slice_scheduler.specs.Servable.{IsPast, need_at, needed};
-ghost use Rattle.slice_scheduler.specs.Wanted.{IsClaim};
+ghost use Rattle.slice_scheduler.specs.Wanted.{IsClaim, asking};
 
 use crate::claim::Claim;
 use crate::due::minislots_due;
 use crate::flowing::{At, Flowing};
-use grant_policy::{RankInput, Ranking};
+use grant_policy::{RankInput, Ranking, rank_at_most_63};
 use std::alloc::{AllocError, Global};
 
 /// The minislots of a flow's backlog that its reserved rate covers.
@@ -62,7 +62,19 @@ fn claim(flow: &Flowing, at: &At, ranking: &Ranking) -> Claim
     }
 }
 
-/// What each flow claims, in the flows' order.
+/// A law: what a flow claims has the numbers of a claim, whether it asks or not. Does nothing.
+fn always_claims(flow: &Flowing, at: &At, ranking: &Ranking)
+    requires { IsPast at.now.frame flow.now }
+    ensures { IsClaim (claim_of ranking.now.policy at.now flow.now) }
+{
+    rank_at_most_63();
+    let _priority = flow.set.get_priority();
+    let _backlog = flow.backlog;
+    let _frame = at.frame;
+    let _policy = ranking.policy();
+}
+
+/// What each flow that asks claims, in the flows' order.
 pub(crate) fn claims(
     alloc: Global,
     flows: &[Flowing],
@@ -70,12 +82,16 @@ pub(crate) fn claims(
     ranking: &Ranking,
 ) -> Result<Vec<Claim>, AllocError>
     requires { All (IsPast at.now.frame) flows.now }
-    ensures items { IfOk result (λ claims. claims.items ≡ claims_of ranking.now.policy at.now flows.now) }
+    ensures items { IfOk result (λ claims. claims.items ≡ claims_of ranking.now.policy at.now (asking flows.now)) }
     ensures sound { IfOk result (λ claims. All IsClaim claims.items) }
+    ensures all_sound { IfOk result (λ _. All IsClaim (claims_of ranking.now.policy at.now flows.now)) }
 {
     let mut claims = Vec::with_capacity(alloc, flows.len())?;
     for flow in flows {
-        claims.push(claim(flow, at, ranking))?;
+        always_claims(flow, at, ranking);
+        if 0 < flow.backlog {
+            claims.push(claim(flow, at, ranking))?;
+        }
     }
     Ok(claims)
 }

@@ -1,10 +1,11 @@
 use Rattle.std.proofs.Common.{◌≡◌, All, take}
 use Rattle.slice_scheduler.specs.Claims.{claims_of}
-use Rattle.slice_scheduler.specs.Wanted.{IsClaim}
+use Rattle.slice_scheduler.specs.Wanted.{IsClaim, asking}
 use Rattle.slice_scheduler.proofs.claiming.claims.Given as goal
 
 abbrev pub invariant-loop-flow : goal.invariant-loop-flow
 invariant-loop-flow g l = record {
-  items : l.claims.items ≡ claims_of l.ranking.policy l.at (take l.flow-index l.flows);
+  items : l.claims.items ≡ claims_of l.ranking.policy l.at (asking (take l.flow-index l.flows));
   sound : All IsClaim l.claims.items;
+  all_sound : All IsClaim (claims_of l.ranking.policy l.at (take l.flow-index l.flows));
 }

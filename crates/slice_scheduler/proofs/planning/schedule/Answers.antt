@@ -1,4 +1,4 @@
-use Rattle.std.proofs.Common.{◌≡◌, ◌≤◌, ℕ, ◌++◌, List, All, map, filter, ap, ◌∙◌, subst, sym}
+use Rattle.std.proofs.Common.{◌≡◌, ◌≤◌, ◌-◌, ℕ, ◌++◌, List, All, map, filter, ap, ◌∙◌, subst, sym}
 use Rattle.std.specs.Prelude.{nat_lt}
 use Rattle.std.specs.List.{flat_map}
 use Rattle.slice_scheduler.specs.declared.claim.Claim.{Claim}
@@ -7,31 +7,37 @@ use Rattle.slice_scheduler.specs.declared.piece.Piece.{Piece}
 use Rattle.slice_scheduler.specs.Due.{due_pieces}
 use Rattle.slice_scheduler.specs.Claims.{claims_of, room_of}
 use Rattle.slice_scheduler.specs.Awards.{award_of, awards_of}
-use Rattle.slice_scheduler.specs.Schedule.{by_rank, award_pieces, pieces_of, minislots_in}
-use Rattle.slice_scheduler.specs.Wanted.{IsClaim}
+use Rattle.slice_scheduler.specs.Schedule.{by_rank, award_pieces, pieces_of, minislots_in, spans_of, pending_of, packed, idle}
+use Rattle.slice_scheduler.specs.declared.span.Span.{Span}
+use Rattle.slice_scheduler.specs.Wanted.{asking}
+use Rattle.slice_scheduler.specs.declared.flowing.Flowing.{Flowing}
+use Rattle.slice_scheduler.proofs.RankLemmas.{Ascends-filter}
+use Rattle.slice_scheduler.proofs.AskingLemmas.{counts, asking-awards, asking-pieces, asking-pending, asking-granted}
 use Rattle.slice_scheduler.proofs.TotalLemmas.{claims-ascend, pieces-fit, nothing-idle}
 use Rattle.slice_scheduler.proofs.planning.schedule.Goals as goal
 
 pub awards-requires-clause-ascending : goal.awards-requires-clause-ascending
 awards-requires-clause-ascending g c =
-    rw (c.as_slice.ensures.value, c.in_ok-claims.ensures.items) (claims-ascend c.args.ranking.now.policy c.args.at.now c.args.flows.now c.requires.ascending)
+    rw (c.as_slice.ensures.value, c.in_ok-claims.ensures.items)
+    (claims-ascend c.args.ranking.now.policy c.args.at.now (asking c.args.flows.now) (Ascends-filter (λ (f : Flowing). f.sfid) (λ (f : Flowing). nat_lt 0 f.backlog) c.args.flows.now c.requires.ascending))
 
 pub pack-requires-clause-fits : goal.pack-requires-clause-fits
 pack-requires-clause-fits g c =
     let policy = c.args.ranking.now.policy in
     let at = c.args.at.now in
     let flows = c.args.flows.now in
-    let claims : c.as_slice.result.now ≡ claims_of policy at flows = c.as_slice.ensures.value ∙ c.in_ok-claims.ensures.items in
-    let awards : c.as_slice-2.result.now ≡ awards_of policy at flows =
+    let claims : c.as_slice.result.now ≡ claims_of policy at (asking flows) = c.as_slice.ensures.value ∙ c.in_ok-claims.ensures.items in
+    let awards : c.as_slice-2.result.now ≡ filter counts (awards_of policy at flows) =
     c.as_slice-2.ensures.value ∙ (c.in_ok-awards.ensures.items
     ∙ (ap (λ (r : ℕ). map (award_of r c.as_slice.result.now) c.as_slice.result.now) c.room-room.ensures.value
-    ∙ ap (λ (cs : List Claim). map (award_of (room_of at flows) cs) cs) claims)) in
-    let ordered : c.as_slice-3.result.now ≡ by_rank (awards_of policy at flows) =
+    ∙ (ap (λ (cs : List Claim). map (award_of (room_of at flows) cs) cs) claims ∙ asking-awards policy at flows))) in
+    let ordered : c.as_slice-3.result.now ≡ by_rank (filter counts (awards_of policy at flows)) =
     c.as_slice-3.ensures.value ∙ (c.in_ok-ordered.ensures ∙ ap (λ (xs : List Award). by_rank xs) awards) in
     let pieces : c.as_slice-4.result.now ≡ pieces_of policy at flows =
     c.as_slice-4.ensures.value ∙ (c.in_ok-push_awards.ensures.items
     ∙ (ap (λ (ps : List Piece). ps ++ flat_map (award_pieces at) c.as_slice-3.result.now) c.in_ok-pieces.ensures.items
-    ∙ ap (λ (xs : List Award). flat_map (due_pieces at) flows ++ flat_map (award_pieces at) xs) ordered)) in
+    ∙ (ap (λ (xs : List Award). flat_map (due_pieces at) flows ++ flat_map (award_pieces at) xs) ordered
+    ∙ ap (λ (ps : List Piece). flat_map (due_pieces at) flows ++ ps) (asking-pieces at (awards_of policy at flows))))) in
     subst (λ (ps : List Piece). minislots_in ps ≤ at.slice.length) (sym pieces)
     (pieces-fit policy at flows c.requires.ascending c.room-room.ensures.fits)
 
@@ -40,15 +46,44 @@ returns-clause-granted g c =
     let policy = c.args.ranking.now.policy in
     let at = c.args.at.now in
     let flows = c.args.flows.now in
-    let claims : c.as_slice.result.now ≡ claims_of policy at flows = c.as_slice.ensures.value ∙ c.in_ok-claims.ensures.items in
-    let awards : c.in_ok-awards.awards.items ≡ awards_of policy at flows =
+    let claims : c.as_slice.result.now ≡ claims_of policy at (asking flows) = c.as_slice.ensures.value ∙ c.in_ok-claims.ensures.items in
+    let awards : c.in_ok-awards.awards.items ≡ filter counts (awards_of policy at flows) =
     c.in_ok-awards.ensures.items
     ∙ (ap (λ (r : ℕ). map (award_of r c.as_slice.result.now) c.as_slice.result.now) c.room-room.ensures.value
-    ∙ ap (λ (cs : List Claim). map (award_of (room_of at flows) cs) cs) claims) in
+    ∙ (ap (λ (cs : List Claim). map (award_of (room_of at flows) cs) cs) claims ∙ asking-awards policy at flows)) in
     c.from_vec-3.ensures ∙ (c.in_ok-granted.ensures
-    ∙ ap (λ (xs : List Award). map (λ (a : Award). (a.sfid, a.grant)) (filter (λ (a : Award). nat_lt 0 a.grant) xs)) (c.as_slice-6.ensures.value ∙ awards))
+    ∙ (ap (λ (xs : List Award). map (λ (a : Award). (a.sfid, a.grant)) (filter (λ (a : Award). nat_lt 0 a.grant) xs)) (c.as_slice-6.ensures.value ∙ awards)
+    ∙ ap (map (λ (a : Award). (a.sfid, a.grant))) (asking-granted (awards_of policy at flows))))
 
 pub returns-clause-busy : goal.returns-clause-busy
 returns-clause-busy g c =
     nothing-idle c.args.ranking.now.policy c.args.at.now c.args.flows.now
-    (subst (λ (cs : List Claim). All IsClaim cs) c.in_ok-claims.ensures.items c.in_ok-claims.ensures.sound) c.requires.ascending c.room-room.ensures.fits
+    c.in_ok-claims.ensures.all_sound c.requires.ascending c.room-room.ensures.fits
+
+pub returns-clause-elements : goal.returns-clause-elements
+returns-clause-elements g c =
+    let policy = c.args.ranking.now.policy in
+    let at = c.args.at.now in
+    let flows = c.args.flows.now in
+    let claims : c.as_slice.result.now ≡ claims_of policy at (asking flows) = c.as_slice.ensures.value ∙ c.in_ok-claims.ensures.items in
+    let awards : c.as_slice-2.result.now ≡ filter counts (awards_of policy at flows) =
+    c.as_slice-2.ensures.value ∙ (c.in_ok-awards.ensures.items
+    ∙ (ap (λ (r : ℕ). map (award_of r c.as_slice.result.now) c.as_slice.result.now) c.room-room.ensures.value
+    ∙ (ap (λ (cs : List Claim). map (award_of (room_of at flows) cs) cs) claims ∙ asking-awards policy at flows))) in
+    let ordered : c.in_ok-ordered.ordered.items ≡ by_rank (filter counts (awards_of policy at flows)) =
+    c.in_ok-ordered.ensures ∙ ap (λ (xs : List Award). by_rank xs) awards in
+    let pieces : c.as_slice-4.result.now ≡ pieces_of policy at flows =
+    c.as_slice-4.ensures.value ∙ (c.in_ok-push_awards.ensures.items
+    ∙ (ap (λ (ps : List Piece). ps ++ flat_map (award_pieces at) c.as_slice-3.result.now) c.in_ok-pieces.ensures.items
+    ∙ (ap (λ (xs : List Award). flat_map (due_pieces at) flows ++ flat_map (award_pieces at) xs) (c.as_slice-3.ensures.value ∙ ordered)
+    ∙ ap (λ (ps : List Piece). flat_map (due_pieces at) flows ++ ps) (asking-pieces at (awards_of policy at flows))))) in
+    let spans : c.from_vec.result ≡ spans_of policy at flows =
+    c.from_vec.ensures ∙ (c.in_ok-spans.ensures.items
+    ∙ ap (λ (ps : List Piece). packed at.slice.start (ps ++ idle (at.slice.length - minislots_in ps))) pieces) in
+    let pending : c.from_vec-2.result ≡ pending_of policy at flows =
+    c.from_vec-2.ensures ∙ (c.in_ok-pending.ensures
+    ∙ (ap (λ (xs : List Award). map (λ (a : Award). a.sid) (filter (λ (a : Award). nat_lt a.grant a.backlog) xs)) (c.as_slice-5.ensures.value ∙ ordered)
+    ∙ ap (map (λ (a : Award). a.sid)) (asking-pending (awards_of policy at flows)))) in
+    c.new.ensures
+    ∙ (ap (λ (ss : List Span). record { slice = at.slice; spans = ss; pending = c.from_vec-2.result }) spans
+    ∙ ap (λ (sids : List ℕ). record { slice = at.slice; spans = spans_of policy at flows; pending = sids }) pending)

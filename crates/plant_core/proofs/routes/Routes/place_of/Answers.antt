@@ -21,5 +21,4 @@ invariant_of-self-in_err-place c = let kept = promoted_right c.self.inside.plant
 
 pub invariant_of-self-2 : goal.invariant_of-self-2
 invariant_of-self-2 c = let kept = promoted_right c.self.inside.plant.rows (same_modem c.args.modem) c.self.inside.cache.entries c.self.invariant in
-    after_put_right c.self.inside.plant.rows c.put.result c.get.follows.lender-at-none c.put.new.self c.args.modem c.in_ok-place.place
-    (rw c.get.follows.holds-at-none kept) (sym c.operator_of.ensures ∙ c.in_ok-place.was) c.put.ensures.entries c.put.ensures.err
+    rw c.get.follows.holds-at-none kept

@@ -1,0 +1,27 @@
+use Rattle.std.proofs.Common.{◌∙◌, ap, List, ◌++◌, ◌∷◌, []}
+use Rattle.std.proofs.lemmas.List.Elements.{All-push}
+use Rattle.slice_scheduler.specs.declared.claim.Claim.{Claim}
+use Rattle.slice_scheduler.specs.Wanted.{IsClaim}
+use Rattle.slice_scheduler.proofs.AskingLemmas.{claims-more, claims-same, sound-more}
+use Rattle.slice_scheduler.proofs.claiming.claims.Goals as goal
+use Rattle.slice_scheduler.proofs.claiming.claims.Goals.{then-flow-gt0+in_ok-push, else-flow-gt0}
+
+pub loop-flow-preserved : goal.loop-flow-preserved
+loop-flow-preserved g c =
+    let policy = c.args.ranking.now.policy in
+    let at = c.args.at.now in
+    let flows = c.args.flows.now in
+    let i = c.loop-flow.flow-index in
+    let flow = c.flow-item.result in
+    record {
+      items = elim c.if-flow-gt0.branch [
+        | then-flow-gt0+in_ok-push w ↦ rw w.claims-is (claims-more policy at flows i flow c.loop-flow.claims.items _ c.loop-flow-test.true c.flow-item.is w.if-flow-gt0.true c.loop-flow.invariant.items
+            (w.in_ok-push.ensures.items ∙ ap (λ (claim : Claim). c.loop-flow.claims.items ++ claim ∷ []) w.claim.ensures.value))
+        | else-flow-gt0 w ↦ rw w.claims-is (claims-same policy at flows i flow c.loop-flow.claims.items c.loop-flow-test.true c.flow-item.is w.if-flow-gt0.false c.loop-flow.invariant.items)
+      ];
+      sound = elim c.if-flow-gt0.branch [
+        | then-flow-gt0+in_ok-push w ↦ rw (w.claims-is, w.in_ok-push.ensures.items) (All-push IsClaim c.loop-flow.claims.items w.claim.result c.loop-flow.invariant.sound w.claim.ensures.sound)
+        | else-flow-gt0 w ↦ rw w.claims-is c.loop-flow.invariant.sound
+      ];
+      all_sound = sound-more policy at flows i flow c.loop-flow-test.true c.flow-item.is c.loop-flow.invariant.all_sound c.always_claims.ensures;
+    }
