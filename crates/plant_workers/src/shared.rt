@@ -102,8 +102,8 @@ impl<'a> Shared<'a> {
             return Ok(());
         };
         match job.action(alloc) {
-            Ok(Some(action)) => self.act(rt, alloc, turn, job.index, action, gate, told),
-            Ok(None) => self.put(rt, alloc, turn, job.index),
+            Ok(Some(action)) => self.act(rt, alloc, turn, job.turn, action, gate, told),
+            Ok(None) => self.put(rt, alloc, turn, job.turn),
             Err(_) => Err(no_memory(job.op)),
         }
     }
