@@ -1,9 +1,9 @@
 #!/bin/bash
-# Tests of the tools: the reference on the examples and on values typed from docs/PROFILE.md; messages in words and back; what
-# tools/plant_view shows; the generator writes the same twice, and tools/hostile.py meets each check of the table. Where the program is
-# built, it is compared with the reference on the examples, on 50 generated cases, on the inputs of tools/hostile.py and on those of
+# Tests of the tools: the reference on the examples and on values typed from docs/PROFILE.md; the generator writes the same twice,
+# and tools/hostile.py meets each check of the table. Where the program is built, it is compared with the reference on 50 generated
+# cases, by `run` and by `threads`, and `threads` with `run` on the examples; then on the inputs of tools/hostile.py and of
 # tools/corners.py, and tools/statuses.sh is run.
-# Usage: tools/test_tools.sh     Needs bash and python3; takes less than 30 seconds.
+# Usage: tools/test_tools.sh     Needs bash and python3; takes less than 10 seconds.
 set -euo pipefail
 
 here=$(cd "$(dirname "$0")" && pwd)
@@ -30,6 +30,8 @@ echo 'the reference and the generator are right'
 
 if [ -x "$program" ]; then
     "$here/compare" 0 50
+    "$here/compare" --threads 0 50
+    "$here/threads_as_run.py" >"$work/told" || { cat "$work/told" >&2; exit 1; }
     "$here/hostile.py" --compare >"$work/told" || { cat "$work/told" >&2; exit 1; }
     "$here/corners.py" >"$work/told" || { cat "$work/told" >&2; exit 1; }
     "$here/statuses.sh" >"$work/told" || { cat "$work/told" >&2; exit 1; }

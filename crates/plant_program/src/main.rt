@@ -4,6 +4,8 @@
 use plant_script::{behind_name, exit_code, run_program};
 use std::process::ExitCode;
 use std::rt::Env;
+use std::sync::Wait;
+use std::thread::Threads;
 use std::{env, io};
 
 /// Runs the program over its words, standard input and standard output.
@@ -12,7 +14,7 @@ fn main(rt: HostRuntime) -> ExitCode {
 }
 
 /// The status that the program answers to its words.
-fn run(rt: &(impl Env + Input + Print + AllocGlobal)) -> io::Result<u8> {
+fn run(rt: &(impl Env + Input + Print + AllocGlobal + Threads + Wait + Sync)) -> io::Result<u8> {
     let mut words = Vec::new(rt.alloc());
     for word in env::args(rt)? {
         words.push(word)?;
@@ -24,6 +26,7 @@ fn run(rt: &(impl Env + Input + Print + AllocGlobal)) -> io::Result<u8> {
     let mut reader = rt.reader();
     let mut writer = io::writer(rt);
     Ok(run_program(
+        rt,
         rt.alloc(),
         behind_name(texts.as_slice()),
         &mut reader,

@@ -1,5 +1,8 @@
-pub mod Splits
-pub mod Scripts
 pub mod Bars
-pub mod Tasks
+pub mod Marked
+pub mod Scripts
+pub mod Splits
 pub mod StepRuns
+pub mod Tasks
+pub mod Telling
+pub mod Unreadable

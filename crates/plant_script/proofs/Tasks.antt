@@ -1,20 +1,18 @@
 -- What a task's run answers.
-use Rattle.std.proofs.Common.{◌≡◌, ℕ, suc, ◌+◌, inl, inr, Bool, List, [], ◌∷◌, Option, Some, None, Result, Ok, Err, IfOk, IfSome, sym, ap, subst, arith, refl}
+use Rattle.std.proofs.Common.{◌≡◌, ℕ, suc, ◌+◌, inl, inr, Bool, List, [], ◌∷◌, Option, Some, None, Result, Ok, Err, IfOk, IfSome, sym, subst, arith, refl}
 use Rattle.std.specs.Prelude.{slice_get}
 use Rattle.std.specs.Io.KnownBytes.{Appends}
 use Rattle.std.specs.List.{position_from}
 use Rattle.std.proofs.lemmas.Bool.{cases_Bool}
 use Rattle.slice_table.specs.declared.operator_row.RowFields.{RowFields}
 use Rattle.slice_table.specs.declared.plant.PlantFields.{PlantFields}
-use Rattle.plant_runs.specs.declared.step.Step.{Step}
-use Rattle.plant_runs.specs.declared.step.Out.{Out}
 use Rattle.plant_script.specs.declared.script.LineStep.{LineStep}
 use Rattle.plant_script.specs.declared.task.Told.TheVariants.{History}
 use Rattle.plant_script.specs.declared.task.Task.{Task}
 use Rattle.plant_script.specs.declared.task.Served.{Served}
 use Rattle.plant_script.specs.declared.task.Served.TheVariants as served
 use Rattle.plant_script.specs.Run.{history_text, IsRunOf}
-use Rattle.plant_script.specs.Task.{history_at, said, Comes}
+use Rattle.plant_script.specs.Task.{history_at, RunsTo, Comes}
 use Rattle.plant_words.specs.Order.{Order, order_of}
 use Rattle.plant_words.specs.declared.asked.Word.{Word}
 use Rattle.plant_words.specs.declared.asked.WordsFault.{WordsFault}
@@ -42,14 +40,17 @@ found_at test xs i h =
     let is : found.0 ≡ i = omega (arith, found.1) in
     (found.2, subst (λ (k : ℕ). slice_get xs k ≡ Some found.2) is found.3)
 
+-- what is answered of an operator, whose row may be known or not
+abbrev TellsOf : PlantFields → ℕ → Result (List LineStep) ℕ → ℕ → List ℕ → Option RowFields → Type 0
+TellsOf plant op lines status text row = AnswersSteps (λ ran. IsRunOf plant ran (λ done told. history_at row op done)) lines status text
+
 -- a run that is told of an operator tells its own steps
 pub comes_of_operator : (plant : PlantFields) (op : ℕ) (row : RowFields) (lines : Result (List LineStep) ℕ) (what : Served) → slice_get plant.rows op ≡ Some row
-    → Comes what (AnswersSteps plant (said plant (History op)) lines)
-    → Comes what (λ status text. (row : RowFields) × (slice_get plant.rows op ≡ Some row) × AnswersSteps plant (λ done told. history_text row op done) lines status text)
-comes_of_operator plant op row lines (served.Answer answer) here h =
-    (row, here, subst (λ (say : List Step → List Out → List ℕ). AnswersSteps plant say lines answer.status answer.text.items) (ap (λ (o : Option RowFields). λ (done : List Step). λ (told : List Out). history_at o op done) here) h)
-comes_of_operator plant op row lines (served.Task task) here h = λ status text run.
-    (row, here, subst (λ (say : List Step → List Out → List ℕ). AnswersSteps plant say lines status text) (ap (λ (o : Option RowFields). λ (done : List Step). λ (told : List Out). history_at o op done) here) (h status text run))
+    → Comes what (AnswersSteps (RunsTo plant (History op)) lines)
+    → Comes what (λ status text. (row : RowFields) × (slice_get plant.rows op ≡ Some row)
+    × AnswersSteps (λ ran. IsRunOf plant ran (λ done told. history_text row op done)) lines status text)
+comes_of_operator plant op row lines (served.Answer answer) here h = (row, here, subst (TellsOf plant op lines answer.status answer.text.items) here h)
+comes_of_operator plant op row lines (served.Task task) here h = λ status text run. (row, here, subst (TellsOf plant op lines status text) here (h status text run))
 
 pub if_ok : {T E : Type 0} (r : Result T E) (P Q : T → Type 0) → ((x : T) → P x → Q x) → IfOk r P → IfOk r Q
 if_ok (Ok x) P Q f h = f x h
@@ -62,7 +63,7 @@ same_order order read word gives is = subst (GivesOrder order) is gives
 -- what the run of a task came to is the answer, and is written
 pub run_serves : (left : Option (List ℕ)) (order asked : Order) (task : Task) (status result : ℕ) (text : List ℕ) (before after : Option (List ℕ))
     → IfSome left (λ input. Comes (served.Task task) (Answers order input)) → order ≡ asked
-    → IsRunOf task.plant task.lines.items (said task.plant task.told) status text → result ≡ status → Appends before after text
+    → RunsTo task.plant task.told task.lines.items status text → result ≡ status → Appends before after text
     → IfSome left (λ input. (x : List ℕ) × Answers asked input result x × Appends before after x)
 run_serves None order asked task status result text before after serves same ran is appended = tt
 run_serves (Some input) order asked task status result text before after serves same ran is appended =

@@ -8,10 +8,10 @@ pub mod Script
 pub mod StepsSoFar
 pub mod Check
 pub mod LineFault
-pub mod ReadSoFar
 pub mod SplitSoFar
 pub mod SaidSoFar
 pub mod RunSoFar
 pub mod Run
 pub mod DoneSoFar
+pub mod OnThreads
 pub mod Task

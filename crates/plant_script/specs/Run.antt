@@ -16,6 +16,7 @@ use Rattle.operator_machine.specs.declared.action.Action.{Action}
 use Rattle.operator_machine.specs.declared.action.Action.TheVariants as actions
 use Rattle.operator_machine.specs.declared.output.Output.{Output}
 use Rattle.operator_machine.specs.declared.output.Output.TheVariants.{Reply, Silent, Frame}
+use Rattle.map_assembly.specs.declared.map_bytes.MapBytes.{MapBytes}
 use Rattle.plant_runs.specs.declared.step.Step.{Step}
 use Rattle.plant_runs.specs.declared.step.Out.{Out}
 use Rattle.plant_runs.specs.declared.step.Out.TheVariants as outs
@@ -69,10 +70,14 @@ output_line name (Reply modem bytes) = codes "R " ++ (address modem ++ (codes " 
 output_line name (Silent modem cause) = codes "S " ++ (sender_text modem ++ (codes " " ++ (name_of cause ++ 10 ∷ [])))
 output_line name (Frame number elements) = codes "F " ++ (name ++ (codes " " ++ (decimal number ++ (elements_text elements ++ 10 ∷ []))))
 
--- or `MAP frame bytes`
+-- `MAP frame bytes`
+abbrev pub map_line : MapBytes → List ℕ
+map_line made = codes "MAP " ++ (decimal made.frame ++ (codes " " ++ (encode_upper made.bytes ++ 10 ∷ [])))
+
+-- the line of an operator's output, or of a MAP
 abbrev pub out_line : PlantFields → Out → List ℕ
 out_line plant (outs.Of op output) = output_line (named (slice_get plant.rows op)) output
-out_line plant (outs.Map made) = codes "MAP " ++ (decimal made.frame ++ (codes " " ++ (encode_upper made.bytes ++ 10 ∷ [])))
+out_line plant (outs.Map made) = map_line made
 
 -- all lines, in the order of the outputs
 abbrev pub outs_text : PlantFields → List Out → List ℕ

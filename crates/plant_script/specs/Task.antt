@@ -4,27 +4,41 @@ use Rattle.std.specs.Fmt.{decimal}
 use Rattle.slice_table.specs.declared.operator_row.RowFields.{RowFields}
 use Rattle.slice_table.specs.declared.plant.PlantFields.{PlantFields}
 use Rattle.plant_runs.specs.declared.step.Step.{Step}
-use Rattle.plant_runs.specs.declared.step.Out.{Out}
 use Rattle.plant_script.specs.declared.answer.Answer.{Answer}
 use Rattle.plant_script.specs.declared.task.Told.{Told}
-use Rattle.plant_script.specs.declared.task.Told.TheVariants.{Outs, History}
+use Rattle.plant_script.specs.declared.script.LineStep.{LineStep}
+use Rattle.plant_script.specs.declared.task.Told.TheVariants.{Outs, History, Threads}
+use Rattle.plant_script.specs.declared.task.Wanted.{Wanted}
+use Rattle.plant_script.specs.declared.task.Wanted.TheVariants as wanted
 use Rattle.plant_script.specs.declared.task.Served.{Served}
 use Rattle.plant_script.specs.declared.task.Served.TheVariants as served
 use Rattle.plant_script.specs.Run.{outs_text, history_text, IsRunOf}
+use Rattle.plant_script.specs.OnThreads.{IsThreadedRunOf}
+use Rattle.plant_script.specs.Words.{AnswersRun, AnswersThreads, AnswersHistory}
 
 -- nothing of an operator that the plant does not have
 abbrev pub history_at : Option RowFields → ℕ → List Step → List ℕ
 history_at None op done = []
 history_at (Some row) op done = history_text row op done
 
-abbrev pub said : PlantFields → Told → List Step → List Out → List ℕ
-said plant Outs done told = outs_text plant told
-said plant (History op) done told = history_at (slice_get plant.rows op) op done
+-- what the run of a script's steps comes to, told in one of these ways
+abbrev pub RunsTo : PlantFields → Told → List LineStep → ℕ → List ℕ → Type 0
+RunsTo plant Outs lines status text = IsRunOf plant lines (λ done told. outs_text plant told) status text
+RunsTo plant (History op) lines status text =
+    IsRunOf plant lines (λ done told. history_at (slice_get plant.rows op) op done) status text
+RunsTo plant Threads lines status text = IsThreadedRunOf plant lines status text
+
+-- what is answered to a plant and a script, by what is wanted of them
+abbrev pub asked : Wanted → PlantFields → List ℕ → ℕ → List ℕ → Type 0
+asked wanted.Run = AnswersRun
+asked wanted.Threads = AnswersThreads
+asked (wanted.History name) = AnswersHistory name.now
 
 -- what is served is such an answer: at once, or whatever the run of the task comes to
 abbrev pub Comes : Served → (ℕ → List ℕ → Type 0) → Type 0
 Comes (served.Answer answer) answers = answers answer.status answer.text.items
-Comes (served.Task task) answers = (status : ℕ) (text : List ℕ) → IsRunOf task.plant task.lines.items (said task.plant task.told) status text → answers status text
+Comes (served.Task task) answers =
+    (status : ℕ) (text : List ℕ) → RunsTo task.plant task.told task.lines.items status text → answers status text
 
 -- the status and the text of an answer: what is said, and behind it the line at fault, if there is one
 abbrev pub IsEnded : List ℕ → Option ℕ → Answer → Type 0

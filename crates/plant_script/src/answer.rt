@@ -1,12 +1,13 @@
 //! What the program answers.
 
-ghost use Rattle.std.specs.Prelude.{◌≤◌};
+ghost use Rattle.std.specs.Prelude.{◌≢◌};
 
-/// What the program answers to what it has read: its exit status, 0 to 4, and what it writes. Statuses 5 and 6 are no answers:
-/// they tell that there is none.
+/// What the program answers to what it has read: its exit status, 0 to 4 or 7, and what it writes. Statuses 5 and 6 are no
+/// answers: they tell that there is none.
 #[derive(Drop)]
 pub struct Answer {
     pub status: u8,
     pub text: Vec<u8>,
-    ghost answered: { status ≤ 4 },
+    ghost no_want: { status ≢ 5 },
+    ghost no_failure: { status ≢ 6 },
 }

@@ -64,7 +64,8 @@ fn plant_line(alloc: Global, fault: PlantFault) -> Result<String, AllocError>
 
 /// What is answered to a plant at fault.
 pub fn answer_to_fault(alloc: Global, fault: PlantFault) -> Result<Answer, AllocError>
-    ensures { IfOk result (λ answer. (answer.status ≡ 3) × (answer.text.items ≡ codes "fault: plant " ++ fault_text fault)) }
+    ensures { IfOk result (λ answer. (answer.status ≡ 3)
+        × (answer.text.items ≡ codes "fault: plant " ++ fault_text fault)) }
 {
     let line = plant_line(alloc, fault)?;
     let text = line.into_bytes();
@@ -73,7 +74,8 @@ pub fn answer_to_fault(alloc: Global, fault: PlantFault) -> Result<Answer, Alloc
 
 /// What is answered to a line at fault.
 pub fn answer_to_line(alloc: Global, number: u64) -> Result<Answer, AllocError>
-    ensures { IfOk result (λ answer. (answer.status ≡ 4) × (answer.text.items ≡ codes "fault: line " ++ (decimal number ++ 10 ∷ []))) }
+    ensures { IfOk result (λ answer. (answer.status ≡ 4)
+        × (answer.text.items ≡ codes "fault: line " ++ (decimal number ++ 10 ∷ []))) }
 {
     let line = format!(in alloc; "fault: line {number}\n")?;
     let text = line.into_bytes();
@@ -110,7 +112,8 @@ pub fn script_text(input: &[u8], place: usize) -> &[u8]
 
 /// What is answered to the script of a plant.
 fn answer_to_script(alloc: Global, plant: &Plant, script: &[u8]) -> Result<Answer, Stop>
-    ensures value { IfOk result (λ answer. (answer.status ≡ (answer_to_steps (steps_of plant.now script.now)).status) × (answer.text.items ≡ (answer_to_steps (steps_of plant.now script.now)).text)) }
+    ensures value { IfOk result (λ answer. (answer.status ≡ (answer_to_steps (steps_of plant.now script.now)).status)
+        × (answer.text.items ≡ (answer_to_steps (steps_of plant.now script.now)).text)) }
     ensures memory { IfErr result (λ stop. stop ≡ Memory) }
 {
     match steps_of(alloc, plant, script) {
@@ -127,7 +130,8 @@ fn answer_to_script(alloc: Global, plant: &Plant, script: &[u8]) -> Result<Answe
 #[tactic(auto, unfolding(crate::specs::Check::check_of))]
 pub fn check_of(alloc: Global, input: &[u8]) -> Result<Answer, Stop>
     requires { is_readable input.now ≡ true }
-    ensures value { IfOk result (λ answer. (answer.status ≡ (check_of input.now).status) × (answer.text.items ≡ (check_of input.now).text)) }
+    ensures value { IfOk result (λ answer. (answer.status ≡ (check_of input.now).status)
+        × (answer.text.items ≡ (check_of input.now).text)) }
     ensures memory { IfErr result (λ stop. stop ≡ Memory) }
 {
     let place = before_bar(input);

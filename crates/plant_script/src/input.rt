@@ -1,6 +1,8 @@
 //! Reading the input, at most so much of it.
 
-ghost use Rattle.std.specs.Prelude.{◌≡◌, ◌≤◌, List, length, true, IfOk, IfSome};
+ghost use Rattle.std.specs.Prelude.{◌≡◌, ◌⊎◌, ◌↔◌, ◌<◌, ◌≤◌, List, length, true, false, Err, IsErr, IfOk, IfSome};
+ghost use Rattle.std.specs.Io.{ReadsAtMost};
+ghost use Rattle.std.specs.Io.KnownBytes.{ReadConsumes};
 ghost use Rattle.plant_script.specs.One.{is_readable};
 ghost use Rattle.plant_script.specs.declared.input.Stop.TheVariants.{Memory};
 
@@ -36,16 +38,31 @@ impl<T: Drop> From<AllocFailed<T>> for Stop {
     }
 }
 
-/// All bytes of a reader, which are at most the limit. It reads at most once more than the limit has bytes, and never
-/// tries a failed read again.
-fn read_bytes<R: Read>(alloc: Global, reader: &mut R) -> Result<Vec<u8>, Stop>
+/// The next bytes of a reader, into the chunk. Whether the read failed is noted, and none is tried behind one that failed.
+fn read_chunk<R: Read>(reader: &mut R, chunk: &mut [u8], failed: &mut bool) -> io::Result<usize>
+    requires untried { failed.old ≡ false }
+    ensures bound { ReadsAtMost result chunk.new }
+    ensures bytes { ReadConsumes (R.remaining reader.old) (R.remaining reader.new) result chunk.new }
+    ensures failed { IsErr result ↔ (failed.new ≡ true) }
+{
+    let told = reader.read(chunk);
+    *failed = told.is_err();
+    told
+}
+
+/// All bytes of a reader, which are at most the limit. It reads at most once more than the limit has bytes.
+#[tactic(auto, using(crate::proofs::Unreadable::too_long))]
+fn read_bytes<R: Read>(alloc: Global, reader: &mut R, failed: &mut bool) -> Result<Vec<u8>, Stop>
+    requires untried { failed.old ≡ false }
     ensures fits { IfOk result (λ input. length input.items ≤ 1048576) }
     ensures all { IfOk result (λ input. IfSome (R.remaining reader.old) (λ bytes. input.items ≡ bytes)) }
+    ensures io { (result ≡ Err Stop.Io)
+        → (failed.new ≡ true) ⊎ IfSome (R.remaining reader.old) (λ bytes. 1048576 < length bytes) }
 {
     let mut input = Vec::new(alloc);
     let mut chunk = [0u8; 4096];
     for _ in 0..LIMIT + 1 {
-        let Ok(count) = reader.read(&mut chunk) else {
+        let Ok(count) = read_chunk(reader, &mut chunk, failed) else {
             return Err(Stop::Io);
         };
         if count == 0 {
@@ -59,11 +76,21 @@ fn read_bytes<R: Read>(alloc: Global, reader: &mut R) -> Result<Vec<u8>, Stop>
     unreachable!()
 }
 
-/// The whole input, where it can be read.
-pub fn read_input<R: Read>(alloc: Global, reader: &mut R) -> Result<Vec<u8>, Stop>
-    ensures { IfOk result (λ input. (is_readable input.items ≡ true) × IfSome (R.remaining reader.old) (λ bytes. input.items ≡ bytes)) }
+/// The whole input, where it can be read. `Stop::Io` comes only where a read has failed, which is noted, or where the input is too long
+/// or no UTF-8.
+#[tactic(auto, using(crate::proofs::Unreadable::unreadable_long, crate::proofs::Unreadable::unreadable_text))]
+pub fn read_input<R: Read>(
+    alloc: Global,
+    reader: &mut R,
+    failed: &mut bool,
+) -> Result<Vec<u8>, Stop>
+    requires untried { failed.old ≡ false }
+    ensures read { IfOk result (λ input. (is_readable input.items ≡ true)
+        × IfSome (R.remaining reader.old) (λ bytes. input.items ≡ bytes)) }
+    ensures io { (result ≡ Err Stop.Io)
+        → (failed.new ≡ true) ⊎ IfSome (R.remaining reader.old) (λ bytes. is_readable bytes ≡ false) }
 {
-    let input = read_bytes(alloc, reader)?;
+    let input = read_bytes(alloc, reader, failed)?;
     match str::from_utf8(input.as_slice()) {
         Ok(_text) => Ok(input),
         Err(_error) => Err(Stop::Io),

@@ -1,14 +1,17 @@
-//! The plant's program. Its words so far: `one` reads messages of a modem, a line each, and prints the answers of the
-//! modem's operator; `check` reads a plant file and a script, and says whether both are well; `run` does the script's steps
-//! on the plant, and prints all that they put out; `history OP` does so too, and prints what the operator OP did.
+//! The plant's program. Its words: `one` reads messages of a modem, a line each, and prints the answers of the modem's
+//! operator; `check` reads a plant file and a script, and says whether both are well; `run` does the script's steps on the
+//! plant, and prints all that they put out; `threads` does them on a thread for each operator, and prints the same operator
+//! by operator; `history OP` runs them too, and prints what the operator OP did.
 #![tactic(auto)]
 
 mod answer;
 mod check;
 mod command;
+mod digits;
 mod fields;
 mod input;
 mod lines;
+mod on_threads;
 mod one;
 mod operator_a;
 mod program;

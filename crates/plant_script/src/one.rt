@@ -74,8 +74,10 @@ fn put_action(
     requires of_a { IsOfA (view_of book.old) }
     requires allowed { IsAllowed (operator consts_a row_a (view_of book.old).state) action }
     ensures of_a { OnOk result (IsOfA (view_of book.new)) }
-    ensures state { OnOk result ((view_of book.new).state ≡ (own_step (operator consts_a row_a (view_of book.old).state) action).state) }
-    ensures text { OnOk result (text.new.items ≡ text.old.items ++ text_of (own_step (operator consts_a row_a (view_of book.old).state) action).outputs) }
+    ensures state { OnOk result ((view_of book.new).state
+        ≡ (own_step (operator consts_a row_a (view_of book.old).state) action).state) }
+    ensures text { OnOk result (text.new.items ≡ text.old.items
+        ++ text_of (own_step (operator consts_a row_a (view_of book.old).state) action).outputs) }
 {
     match book.act(alloc, action) {
         Ok(outputs) => put_lines(alloc, text, outputs.as_slice()),
@@ -95,8 +97,10 @@ fn put_message(
 ) -> Result<(), AllocError>
     requires { IsOfA (view_of book.old) }
     ensures of_a { OnOk result (IsOfA (view_of book.new)) }
-    ensures state { OnOk result ((view_of book.new).state ≡ (own_run (operator consts_a row_a (view_of book.old).state) (actions_of (message.now ∷ []))).state) }
-    ensures text { OnOk result (text.new.items ≡ text.old.items ++ text_of (own_run (operator consts_a row_a (view_of book.old).state) (actions_of (message.now ∷ []))).outputs) }
+    ensures state { OnOk result ((view_of book.new).state
+        ≡ (own_run (operator consts_a row_a (view_of book.old).state) (actions_of (message.now ∷ []))).state) }
+    ensures text { OnOk result (text.new.items ≡ text.old.items
+        ++ text_of (own_run (operator consts_a row_a (view_of book.old).state) (actions_of (message.now ∷ []))).outputs) }
 {
     let heard = Heard::Message(message.copy(alloc)?);
     let modem = first_modem();

@@ -7,16 +7,19 @@ ghost use Rattle.plant_core.specs.declared.core_fault.CoreFault.TheVariants.{NoM
 ghost use Rattle.plant_core.specs.CoreView.{core_view};
 ghost use Rattle.plant_script.specs.DoneSoFar.{HasRun, book_text};
 ghost use Rattle.plant_script.specs.Run.{outs_text, IsRunOf};
-ghost use Rattle.plant_script.specs.Task.{history_at, said, IsEnded};
+ghost use Rattle.plant_script.specs.Task.{history_at, RunsTo, IsEnded};
 
 use crate::answer::Answer;
+use crate::on_threads::answer_of_threads;
 use crate::script::LineStep;
 use crate::task::{Task, Told};
 use crate::text::{put_actions, put_outs};
 use grant_policy::Ranking;
 use plant_core::{CoreFault, CoreOpenFault, PlantCore};
-use slice_table::Op;
+use slice_table::{Op, Plant};
 use std::alloc::{AllocError, Global};
+use std::sync::Wait;
+use std::thread::Threads;
 
 /// The number of a line whose step is refused, other than for want of memory.
 fn refused(number: u64, fault: CoreFault) -> Result<Option<u64>, AllocError>
@@ -38,7 +41,8 @@ fn run_outs(
 ) -> Result<Option<u64>, AllocError>
     requires opened { Reached (core_view core.old).plant [] [] (core_view core.old) }
     requires empty { string_bytes text.old ≡ [] }
-    ensures { IfOk result (λ refused. HasRun (core_view core.old).plant lines.items (outs_text (core_view core.old).plant) refused (core_view core.new) (string_bytes text.new)) }
+    ensures { IfOk result (λ refused. HasRun (core_view core.old).plant lines.items (outs_text (core_view core.old).plant)
+        refused (core_view core.new) (string_bytes text.new)) }
 {
     let mut outs = Vec::new(alloc);
     for LineStep { number, step } in lines {
@@ -57,7 +61,8 @@ fn run_unheard(
     lines: Vec<LineStep>,
 ) -> Result<Option<u64>, AllocError>
     requires { Reached (core_view core.old).plant [] [] (core_view core.old) }
-    ensures { IfOk result (λ refused. HasRun (core_view core.old).plant lines.items (λ told. []) refused (core_view core.new) []) }
+    ensures { IfOk result (λ refused.
+        HasRun (core_view core.old).plant lines.items (λ told. []) refused (core_view core.new) []) }
 {
     for LineStep { number, step } in lines {
         match core.step(alloc, step) {
@@ -88,7 +93,8 @@ fn answer_of_outs(
     lines: Vec<LineStep>,
 ) -> Result<Answer, AllocError>
     requires { Reached (core_view core.old).plant [] [] (core_view core.old) }
-    ensures { IfOk result (λ answer. IsRunOf (core_view core.old).plant lines.items (λ done told. outs_text (core_view core.old).plant told) answer.status answer.text.items) }
+    ensures { IfOk result (λ answer. IsRunOf (core_view core.old).plant lines.items
+        (λ done told. outs_text (core_view core.old).plant told) answer.status answer.text.items) }
 {
     let mut text = String::new(alloc);
     let refused = run_outs(alloc, core, lines, &mut text)?;
@@ -97,7 +103,8 @@ fn answer_of_outs(
 
 /// The lines of all that an operator did; none past the last operator.
 fn put_history(alloc: Global, text: &mut String, core: &PlantCore, op: Op) -> Result<(), AllocError>
-    ensures { OnOk result (string_bytes text.new ≡ string_bytes text.old ++ book_text (slice_get (core_view core.now).books op)) }
+    ensures { OnOk result (string_bytes text.new ≡ string_bytes text.old
+        ++ book_text (slice_get (core_view core.now).books op)) }
 {
     match core.history(op) {
         Some(history) => put_actions(alloc, text, history),
@@ -113,7 +120,8 @@ fn answer_of_history(
     lines: Vec<LineStep>,
 ) -> Result<Answer, AllocError>
     requires { Reached (core_view core.old).plant [] [] (core_view core.old) }
-    ensures { IfOk result (λ answer. IsRunOf (core_view core.old).plant lines.items (λ done told. history_at (slice_get (core_view core.old).plant.rows op) op done) answer.status answer.text.items) }
+    ensures { IfOk result (λ answer. IsRunOf (core_view core.old).plant lines.items
+        (λ done told. history_at (slice_get (core_view core.old).plant.rows op) op done) answer.status answer.text.items) }
 {
     let refused = run_unheard(alloc, core, lines)?;
     let mut text = String::new(alloc);
@@ -121,23 +129,38 @@ fn answer_of_history(
     ended(text, refused)
 }
 
-/// What the run of a task answers. The rankings stand in the plant's order of operators.
-pub fn answer_of_task(
+/// A core of the plant, as it is opened. The rankings stand in the plant's order of operators.
+fn core_of(alloc: Global, plant: Plant, rankings: Vec<Ranking>) -> Result<PlantCore, AllocError>
+    requires { map (λ ranking. ranking.policy) rankings.items ≡ map (λ row. row.policy) plant.rows }
+    ensures { IfOk result (λ core. Reached plant [] [] (core_view core)) }
+{
+    match PlantCore::open(alloc, plant, rankings) {
+        Ok(core) => Ok(core),
+        Err(CoreOpenFault::NoMemory) => Err(AllocError),
+        Err(CoreOpenFault::RankingsMismatch) => unreachable!(),
+    }
+}
+
+/// What the run of a task answers. The rankings stand in the plant's order of operators. Only a run on threads may wait.
+pub fn answer_of_task<R: Threads + Wait + Sync>(
+    rt: &R,
     alloc: Global,
     task: Task,
     rankings: Vec<Ranking>,
 ) -> Result<Answer, AllocError>
     requires { map (λ ranking. ranking.policy) rankings.items ≡ map (λ row. row.policy) task.plant.rows }
-    ensures { IfOk result (λ answer. IsRunOf task.plant task.lines.items (said task.plant task.told) answer.status answer.text.items) }
+    ensures { IfOk result (λ answer. RunsTo task.plant task.told task.lines.items answer.status answer.text.items) }
 {
     let Task { plant, lines, told } = task;
-    let mut core = match PlantCore::open(alloc, plant, rankings) {
-        Ok(core) => core,
-        Err(CoreOpenFault::NoMemory) => return Err(AllocError),
-        Err(CoreOpenFault::RankingsMismatch) => unreachable!(),
-    };
     match told {
-        Told::Outs => answer_of_outs(alloc, &mut core, lines),
-        Told::History(op) => answer_of_history(alloc, &mut core, op, lines),
+        Told::Outs => {
+            let mut core = core_of(alloc, plant, rankings)?;
+            answer_of_outs(alloc, &mut core, lines)
+        }
+        Told::History(op) => {
+            let mut core = core_of(alloc, plant, rankings)?;
+            answer_of_history(alloc, &mut core, op, lines)
+        }
+        Told::Threads => answer_of_threads(rt, alloc, plant, lines, rankings),
     }
 }

@@ -95,7 +95,8 @@ fn put_message(
     fields: &[&[u8]],
     steps: &mut Vec<LineStep>,
 ) -> Result<(), FieldFault>
-    ensures { Gives (λ _. steps.new.items) result (behind steps.old.items (message_steps plant.now number (map (λ field. field.now) fields.now))) }
+    ensures { Gives (λ _. steps.new.items) result
+        (behind steps.old.items (message_steps plant.now number (map (λ field. field.now) fields.now))) }
 {
     let (address, message) = two_of(fields)?;
     let sender = sender_in(plant, address)?;
@@ -111,7 +112,8 @@ fn put_request(
     fields: &[&[u8]],
     steps: &mut Vec<LineStep>,
 ) -> Result<(), FieldFault>
-    ensures { Gives (λ _. steps.new.items) result (behind steps.old.items (request_steps plant.now number (map (λ field. field.now) fields.now))) }
+    ensures { Gives (λ _. steps.new.items) result
+        (behind steps.old.items (request_steps plant.now number (map (λ field. field.now) fields.now))) }
 {
     let (address, sid, minislots) = three_of(fields)?;
     let sender = sender_in(plant, address)?;
@@ -153,7 +155,8 @@ fn put_ticked(
     fields: &[&[u8]],
     steps: &mut Vec<LineStep>,
 ) -> Result<(), FieldFault>
-    ensures { Gives (λ _. steps.new.items) result (behind steps.old.items (ticked_steps plant.now number (map (λ field. field.now) fields.now))) }
+    ensures { Gives (λ _. steps.new.items) result
+        (behind steps.old.items (ticked_steps plant.now number (map (λ field. field.now) fields.now))) }
 {
     match fields {
         [] => put_all_ticks(number, plant.rows(), steps),
@@ -213,7 +216,8 @@ fn put_resliced(
     fields: &[&[u8]],
     steps: &mut Vec<LineStep>,
 ) -> Result<(), FieldFault>
-    ensures { Gives (λ _. steps.new.items) result (behind steps.old.items (resliced_steps plant.now number (map (λ field. field.now) fields.now))) }
+    ensures { Gives (λ _. steps.new.items) result
+        (behind steps.old.items (resliced_steps plant.now number (map (λ field. field.now) fields.now))) }
 {
     let [first, fields @ ..] = fields else {
         return Err(FieldFault::Shape);
@@ -234,7 +238,8 @@ fn put_fields(
     fields: &[&[u8]],
     steps: &mut Vec<LineStep>,
 ) -> Result<(), FieldFault>
-    ensures { Gives (λ _. steps.new.items) result (behind steps.old.items (steps_in plant.now number (map (λ field. field.now) fields.now))) }
+    ensures { Gives (λ _. steps.new.items) result
+        (behind steps.old.items (steps_in plant.now number (map (λ field. field.now) fields.now))) }
 {
     let [word, fields @ ..] = fields else {
         return Err(FieldFault::Shape);

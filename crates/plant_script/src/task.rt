@@ -2,13 +2,12 @@
 
 ghost use Rattle.std.specs.Prelude.{◌≡◌, map, true, IfOk, IfErr};
 ghost use Rattle.std.specs.List.{position_from};
-ghost use Rattle.std.specs.Option.{option_copied};
 ghost use Rattle.toml.specs.Parse.{parse_document};
 ghost use Rattle.slice_table.specs.ReadPlant.{text_plant};
 ghost use Rattle.plant_script.specs.One.{is_readable};
 ghost use Rattle.plant_script.specs.Script.{is_named, steps_of};
-ghost use Rattle.plant_script.specs.Task.{said, Comes};
-ghost use Rattle.plant_script.specs.Words.{AnswersSteps, AnswersHistory, AnswersScript, AnswersPlant, AnswersInput};
+ghost use Rattle.plant_script.specs.Task.{RunsTo, asked, Comes};
+ghost use Rattle.plant_script.specs.Words.{AnswersSteps, AnswersOperator, AnswersPlant, AnswersInput};
 ghost use Rattle.plant_script.specs.declared.input.Stop.TheVariants.{Memory};
 
 use crate::answer::Answer;
@@ -26,6 +25,19 @@ pub enum Told {
     Outs,
     /// A line for each of an operator's own steps.
     History(Op),
+    /// A line for each output of a run on threads: operator by operator, and then the MAPs.
+    Threads,
+}
+
+/// What is wanted of a plant and a script.
+#[derive(Clone, Copy, Debug)]
+pub enum Wanted<'a> {
+    /// The outputs of their run.
+    Run,
+    /// The outputs of their run on threads.
+    Threads,
+    /// What the operator of this name did in their run.
+    History(&'a str),
 }
 
 /// A run that is asked for: its plant and its script are well.
@@ -48,7 +60,8 @@ pub enum Served {
 
 /// The run of a script, where it is well.
 fn task_of_script(alloc: Global, plant: Plant, told: Told, script: &[u8]) -> Result<Served, Stop>
-    ensures value { IfOk result (λ served. Comes served (AnswersSteps plant (said plant told) (steps_of plant script.now))) }
+    ensures value { IfOk result (λ served.
+        Comes served (AnswersSteps (RunsTo plant told) (steps_of plant script.now))) }
     ensures memory { IfErr result (λ stop. stop ≡ Memory) }
 {
     match steps_of(alloc, &plant, script) {
@@ -63,7 +76,8 @@ fn task_of_script(alloc: Global, plant: Plant, told: Told, script: &[u8]) -> Res
 
 /// The run of a script, told of the operator of this name.
 fn task_of_operator(alloc: Global, plant: Plant, name: &str, script: &[u8]) -> Result<Served, Stop>
-    ensures value { IfOk result (λ served. Comes served (AnswersHistory plant script.now (position_from (is_named name.now) 0 plant.rows))) }
+    ensures value { IfOk result (λ served.
+        Comes served (AnswersOperator plant script.now (position_from (is_named name.now) 0 plant.rows))) }
     ensures memory { IfErr result (λ stop. stop ≡ Memory) }
 {
     match place_of(plant.rows(), name.as_bytes()) {
@@ -75,31 +89,32 @@ fn task_of_operator(alloc: Global, plant: Plant, name: &str, script: &[u8]) -> R
     }
 }
 
-/// The run of a script, told of the operator of this name, if one is named.
+/// The run of a script, told as it is wanted.
 fn task_of_plant(
     alloc: Global,
     plant: Plant,
-    operator: Option<&str>,
+    wanted: Wanted<'_>,
     script: &[u8],
 ) -> Result<Served, Stop>
-    ensures value { IfOk result (λ served. Comes served (AnswersScript (option_copied operator.entry) plant script.now)) }
+    ensures value { IfOk result (λ served. Comes served (asked wanted.entry plant script.now)) }
     ensures memory { IfErr result (λ stop. stop ≡ Memory) }
 {
-    match operator {
-        None => task_of_script(alloc, plant, Told::Outs, script),
-        Some(name) => task_of_operator(alloc, plant, name, script),
+    match wanted {
+        Wanted::Run => task_of_script(alloc, plant, Told::Outs, script),
+        Wanted::Threads => task_of_script(alloc, plant, Told::Threads, script),
+        Wanted::History(name) => task_of_operator(alloc, plant, name, script),
     }
 }
 
-/// The run of an input's script on its plant, told of the operator of this name, if one is named.
-pub fn task_of(alloc: Global, operator: Option<&str>, input: &[u8]) -> Result<Served, Stop>
+/// The run of an input's script on its plant, told as it is wanted.
+pub fn task_of(alloc: Global, wanted: Wanted<'_>, input: &[u8]) -> Result<Served, Stop>
     requires { is_readable input.now ≡ true }
-    ensures value { IfOk result (λ served. Comes served (AnswersInput (option_copied operator.entry) input.now)) }
+    ensures value { IfOk result (λ served. Comes served (AnswersInput (asked wanted.entry) input.now)) }
     ensures memory { IfErr result (λ stop. stop ≡ Memory) }
 {
     let place = before_bar(input);
     match read_plant(alloc, plant_text(input, place)) {
-        Ok(plant) => task_of_plant(alloc, plant, operator, script_text(input, place)),
+        Ok(plant) => task_of_plant(alloc, plant, wanted, script_text(input, place)),
         Err(PlantFault::NoMemory) => Err(Stop::Memory),
         Err(fault) => {
             let answer = answer_to_fault(alloc, fault)?;

@@ -1,14 +1,13 @@
 //! The text of what a run puts out, and of an operator's own steps.
 
-ghost use Rattle.std.specs.Prelude.{◌≡◌, [], ◌∷◌, ◌++◌, slice_get, codes, OnOk};
-ghost use Rattle.std.specs.Fmt.{decimal};
+ghost use Rattle.std.specs.Prelude.{◌≡◌, [], ◌∷◌, ◌++◌, codes, slice_get, OnOk};
 ghost use Rattle.std.specs.List.{flat_map};
 ghost use Rattle.std.specs.String.{string_bytes};
-ghost use Rattle.hex.specs.Hex.{encode_upper};
 ghost use Rattle.operator_machine.specs.declared.output.Output.TheVariants.{Silent};
 ghost use Rattle.operator_machine.specs.Replay.{actions_of};
-ghost use Rattle.plant_script.specs.Run.{spaced, span_text, pending_text, elements_text, named, sender_text, output_line, out_line, outs_text, heard_line, action_line, actions_text};
+ghost use Rattle.plant_script.specs.Run.{address, spaced, span_text, pending_text, elements_text, named, sender_text, output_line, map_line, out_line, outs_text, heard_line, action_line, actions_text};
 
+use crate::digits::{put_address, put_one_pending, put_span};
 use crate::one::name_of;
 use dsx_messages::Modem;
 use hex::encode_upper;
@@ -19,23 +18,10 @@ use slice_scheduler::{Elements, Span};
 use slice_table::{Op, Plant};
 use std::alloc::{AllocError, Global};
 
-/// A span behind a space.
-fn put_span(text: &mut String, span: Span) -> Result<(), AllocError>
-    ensures { OnOk result (string_bytes text.new ≡ string_bytes text.old ++ spaced (span_text span)) }
-{
-    let Span {
-        sid,
-        iuc,
-        start,
-        len,
-    } = span;
-    let iuc = iuc.number();
-    write!(text, " {sid}/{iuc}/{start}/{len}")
-}
-
 /// Spans, each behind a space.
 fn put_spans(text: &mut String, spans: &[Span]) -> Result<(), AllocError>
-    ensures { OnOk result (string_bytes text.new ≡ string_bytes text.old ++ flat_map (λ span. spaced (span_text span)) spans.now) }
+    ensures { OnOk result (string_bytes text.new ≡ string_bytes text.old
+        ++ flat_map (λ span. spaced (span_text span)) spans.now) }
 {
     for span in spans {
         put_span(text, *span)?;
@@ -45,10 +31,11 @@ fn put_spans(text: &mut String, spans: &[Span]) -> Result<(), AllocError>
 
 /// The SIDs of grants pending, each behind a space.
 fn put_pending(text: &mut String, pending: &[u16]) -> Result<(), AllocError>
-    ensures { OnOk result (string_bytes text.new ≡ string_bytes text.old ++ flat_map (λ sid. spaced (pending_text sid)) pending.now) }
+    ensures { OnOk result (string_bytes text.new ≡ string_bytes text.old
+        ++ flat_map (λ sid. spaced (pending_text sid)) pending.now) }
 {
     for sid in pending {
-        write!(text, " {sid}/P")?;
+        put_one_pending(text, *sid)?;
     }
     Ok(())
 }
@@ -62,7 +49,7 @@ fn put_elements(text: &mut String, elements: &Elements) -> Result<(), AllocError
 }
 
 /// The name of an operator.
-fn put_name(text: &mut String, plant: &Plant, op: Op) -> Result<(), AllocError>
+pub fn put_name(text: &mut String, plant: &Plant, op: Op) -> Result<(), AllocError>
     ensures { OnOk result (string_bytes text.new ≡ string_bytes text.old ++ named (slice_get plant.now.rows op)) }
 {
     match plant.rows().get(op) {
@@ -79,7 +66,7 @@ fn put_sender(text: &mut String, modem: Option<Modem>) -> Result<(), AllocError>
     ensures { OnOk result (string_bytes text.new ≡ string_bytes text.old ++ sender_text modem) }
 {
     match modem {
-        Some(modem) => write!(text, "{modem}"),
+        Some(modem) => put_address(text, modem),
         None => text.push_str("-"),
     }
 }
@@ -95,28 +82,49 @@ fn put_silent(text: &mut String, modem: Option<Modem>, cause: Cause) -> Result<(
 }
 
 /// The line of a MAP.
-fn put_map(alloc: Global, text: &mut String, made: &MapBytes) -> Result<(), AllocError>
-    ensures { OnOk result (string_bytes text.new ≡ string_bytes text.old ++ codes "MAP " ++ (decimal made.now.frame ++ (codes " " ++ (encode_upper made.now.bytes ++ 10 ∷ [])))) }
+pub fn put_map(alloc: Global, text: &mut String, made: &MapBytes) -> Result<(), AllocError>
+    ensures { OnOk result (string_bytes text.new ≡ string_bytes text.old ++ map_line made.now) }
 {
     let digits = encode_upper(alloc, made.bytes.as_slice())?;
     let frame = made.frame;
     write!(text, "MAP {frame} {digits}\n")
 }
 
+/// The rest of a reply's line.
+fn put_rest(text: &mut String, reply: &str) -> Result<(), AllocError>
+    ensures { OnOk result (string_bytes text.new ≡ string_bytes text.old
+        ++ (codes " " ++ (reply.now ++ 10 ∷ []))) }
+{
+    text.push_str(" ")?;
+    text.push_str(reply)?;
+    text.push_str("\n")
+}
+
+/// The line of a reply.
+fn put_reply(text: &mut String, modem: Modem, reply: &str) -> Result<(), AllocError>
+    ensures { OnOk result (string_bytes text.new ≡ string_bytes text.old
+        ++ (codes "R " ++ (address modem ++ (codes " " ++ (reply.now ++ 10 ∷ []))))) }
+{
+    text.push_str("R ")?;
+    put_address(text, modem)?;
+    put_rest(text, reply)
+}
+
 /// The line of an operator's output.
-fn put_output(
+pub fn put_output(
     alloc: Global,
     text: &mut String,
     plant: &Plant,
     op: Op,
     output: &Output,
 ) -> Result<(), AllocError>
-    ensures { OnOk result (string_bytes text.new ≡ string_bytes text.old ++ output_line (named (slice_get plant.now.rows op)) output.now) }
+    ensures { OnOk result (string_bytes text.new ≡ string_bytes text.old
+        ++ output_line (named (slice_get plant.now.rows op)) output.now) }
 {
     match output {
         Output::Reply { modem, bytes } => {
             let digits = encode_upper(alloc, bytes.as_slice())?;
-            write!(text, "R {modem} {digits}\n")
+            put_reply(text, *modem, digits.as_str())
         }
         Output::Silent { modem, cause } => put_silent(text, *modem, *cause),
         Output::Frame { number, elements } => {

@@ -11,11 +11,11 @@ use Rattle.clap.specs.declared.error.kind.ErrorKind.TheVariants as kind
 use Rattle.clap.proofs.OnLiterals.{clap_on_literals}
 use Rattle.plant_words.specs.ClapLine.{IsFaultOf, StandsFor, entered, faults}
 use Rattle.plant_words.specs.CommandLine.{Allows, AreWrong, AsksHelp, GivesHelp, GivesOrder, GivesWrong, IsHelpFlag, IsHelpWord, MayLead, Names, first_flag, hyphens}
-use Rattle.plant_words.specs.Order.{Order, one, check, run, history, order_of}
+use Rattle.plant_words.specs.Order.{Order, one, check, run, threads, history, order_of}
 use Rattle.plant_words.specs.declared.asked.Word.{Word}
 use Rattle.plant_words.specs.declared.asked.WordsFault.{WordsFault}
 use Rattle.plant_words.specs.declared.asked.WordsFault.TheVariants as fault
-use Rattle.plant_words.proofs.WalkSteps.{one_below, check_below, run_below, history_below}
+use Rattle.plant_words.proofs.WalkSteps.{one_below, check_below, run_below, threads_below, history_below}
 use Rattle.plant_words.proofs.Shapes.{IsRefused, OperandShape, no_hyphen, odd_hyphen, flag_helps, none_is_some, shape_of_operand}
 use Rattle.plant_words.proofs.Outcomes.{named, helped, failing, outcome, plain_meets, operand_meets, after_meets, top_meets}
 
@@ -48,6 +48,14 @@ run_taken = (refl, refl)
 run_ended : Takes (codes "run" ∷ hyphens ∷ []) run
 unfolding faults entered clap_on_literals
 run_ended = (refl, refl)
+
+threads_taken : Takes (codes "threads" ∷ []) threads
+unfolding faults entered clap_on_literals
+threads_taken = (refl, refl)
+
+threads_ended : Takes (codes "threads" ∷ hyphens ∷ []) threads
+unfolding faults entered clap_on_literals
+threads_ended = (refl, refl)
 
 operand_taken : (w : Text) → OperandShape w → Takes (codes "history" ∷ w ∷ []) (history w)
 unfolding faults entered clap_on_literals
@@ -85,6 +93,8 @@ names_taken words check (inl e) = at_words words _ check e check_taken
 names_taken words check (inr e) = at_words words _ check e check_ended
 names_taken words run (inl e) = at_words words _ run e run_taken
 names_taken words run (inr e) = at_words words _ run e run_ended
+names_taken words threads (inl e) = at_words words _ threads e threads_taken
+names_taken words threads (inr e) = at_words words _ threads e threads_ended
 names_taken words (history name) (inl (operand, inl e)) = at_words words _ (history name) e (operand_taken name (shape_of_operand name operand))
 names_taken words (history name) (inl (operand, inr e)) = at_words words _ (history name) e (operand_ended name (shape_of_operand name operand))
 names_taken words (history name) (inr e) = at_words words _ (history name) e (operand_behind name)
@@ -94,6 +104,7 @@ letter : Order → ℕ
 letter one = 111
 letter check = 99
 letter run = 114
+letter threads = 116
 letter (history name) = 104
 
 letter_at : (o : Order) (s : Text × List Row) → StandsFor o s → slice_index s.0 0 ≡ letter o
@@ -101,6 +112,7 @@ unfolding letter
 letter_at one s e = ap (λ (t : Text). slice_index t 0) e
 letter_at check s e = ap (λ (t : Text). slice_index t 0) e
 letter_at run s e = ap (λ (t : Text). slice_index t 0) e
+letter_at threads s e = ap (λ (t : Text). slice_index t 0) e
 letter_at (history name) s e = ap (λ (t : Text). slice_index t 0) e.0
 
 same_letter : (o p : Order) (s : Text × List Row) → letter o ≡ letter p → StandsFor o s → StandsFor p s → o ≡ p
@@ -108,6 +120,7 @@ unfolding letter
 same_letter one one s e a b = refl
 same_letter check check s e a b = refl
 same_letter run run s e a b = refl
+same_letter threads threads s e a b = refl
 same_letter (history n) (history m) s e a b = let same = sym a.1 ∙ b.1 in let is : n ≡ m = cc in ap history is
 same_letter o p s e a b = absurd (omega arith)
 
@@ -134,6 +147,7 @@ help_behind [] flag behind lead help = flag_helps flag _ (top_meets flag behind
     (not_name (codes "one") flag refl (other_letter _ 111 refl (λ e. omega arith)) help)
     (not_name (codes "check") flag refl (other_letter _ 99 refl (λ e. omega arith)) help)
     (not_name (codes "run") flag refl (other_letter _ 114 refl (λ e. omega arith)) help)
+    (not_name (codes "threads") flag refl (other_letter _ 116 refl (λ e. omega arith)) help)
     (not_name (codes "history") flag refl (other_letter _ 104 refl (λ e. omega arith)) help)
     (not_name (codes "help") flag refl (other_letter _ 104 refl (λ e. omega arith)) help)) help
 help_behind (w ∷ []) flag behind (inl e) help = subst (λ (x : Text). faults (x ∷ flag ∷ behind) ≡ kind.DisplayHelp ∷ []) (sym e)
@@ -142,7 +156,9 @@ help_behind (w ∷ []) flag behind (inr (inl e)) help = subst (λ (x : Text). fa
     (check_below (flag ∷ behind) ∙ flag_helps flag _ (plain_meets (codes "check") flag behind) help)
 help_behind (w ∷ []) flag behind (inr (inr (inl e))) help = subst (λ (x : Text). faults (x ∷ flag ∷ behind) ≡ kind.DisplayHelp ∷ []) (sym e)
     (run_below (flag ∷ behind) ∙ flag_helps flag _ (plain_meets (codes "run") flag behind) help)
-help_behind (w ∷ []) flag behind (inr (inr (inr e))) help = subst (λ (x : Text). faults (x ∷ flag ∷ behind) ≡ kind.DisplayHelp ∷ []) (sym e)
+help_behind (w ∷ []) flag behind (inr (inr (inr (inl e)))) help = subst (λ (x : Text). faults (x ∷ flag ∷ behind) ≡ kind.DisplayHelp ∷ []) (sym e)
+    (threads_below (flag ∷ behind) ∙ flag_helps flag _ (plain_meets (codes "threads") flag behind) help)
+help_behind (w ∷ []) flag behind (inr (inr (inr (inr e)))) help = subst (λ (x : Text). faults (x ∷ flag ∷ behind) ≡ kind.DisplayHelp ∷ []) (sym e)
     (history_below (flag ∷ behind) ∙ flag_helps flag _ (operand_meets flag behind) help)
 help_behind (w ∷ u ∷ []) flag behind lead help = subst (λ (x : Text). faults (x ∷ u ∷ flag ∷ behind) ≡ kind.DisplayHelp ∷ []) (sym lead.0)
     (history_below (u ∷ flag ∷ behind) ∙ flag_helps flag _ (after_meets u flag behind (shape_of_operand u lead.1)) help)

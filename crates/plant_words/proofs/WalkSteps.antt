@@ -63,3 +63,8 @@ pub run_below : (rest : List Text) → faults (codes "run" ∷ rest) ≡ sub_fau
 unfolding faults clap_on_literals
 run_below rest = rw (words_collected top_rules top_names (codes "run") [] rest, words_pass (built program).top top_names (codes "run") [] rest)
     (or_nothing (sub_fault (plain_shape (codes "run")) rest))
+
+pub threads_below : (rest : List Text) → faults (codes "threads" ∷ rest) ≡ sub_fault (plain_shape (codes "threads")) rest
+unfolding faults clap_on_literals
+threads_below rest = rw (words_collected top_rules top_names (codes "threads") [] rest, words_pass (built program).top top_names (codes "threads") [] rest)
+    (or_nothing (sub_fault (plain_shape (codes "threads")) rest))

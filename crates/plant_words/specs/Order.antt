@@ -3,11 +3,12 @@ use Rattle.std.specs.Prelude.{ℕ, List}
 use Rattle.plant_words.specs.declared.asked.Word.{Word}
 use Rattle.plant_words.specs.declared.asked.Word.TheVariants as word
 
--- the messages of one modem, a check of a plant and a script, a run, or one operator's history (own)
+-- the messages of one modem, a check of a plant and a script, a run, a run on threads, or one operator's history (own)
 pub data Order : Type 0 where
   one : Order
   check : Order
   run : Order
+  threads : Order
   history : List ℕ → Order
 
 -- the word, with the operator's name as its bytes
@@ -15,4 +16,5 @@ abbrev pub order_of : Word → Order
 order_of word.One = one
 order_of word.Check = check
 order_of word.Run = run
+order_of word.Threads = threads
 order_of (word.History operator) = history operator.now

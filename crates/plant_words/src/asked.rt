@@ -13,6 +13,8 @@ pub enum Word<'a> {
     Check,
     /// Run a script over a plant.
     Run,
+    /// Run a script over a plant on threads.
+    Threads,
     /// Tell an operator's history.
     History {
         /// The operator's name, as it was written.

@@ -28,6 +28,11 @@ fn command_line<'a>(alloc: Global) -> Result<Command<'a>, AllocError>
         ))?
         .subcommand(plain_command(alloc, "check", "Say whether a plant and a script are well"))?
         .subcommand(plain_command(alloc, "run", "Run a script over a plant"))?
+        .subcommand(plain_command(
+            alloc,
+            "threads",
+            "Run a script over a plant, on a thread for each operator",
+        ))?
         .subcommand(history_command(alloc)?)
 }
 

@@ -49,6 +49,7 @@ fn word_named<'a>(name: &str, inner: &ArgMatches<'a>) -> Option<Word<'a>>
         "one" => Some(Word::One),
         "check" => Some(Word::Check),
         "run" => Some(Word::Run),
+        "threads" => Some(Word::Threads),
         "history" => {
             let operator = inner.get_str("operator")?;
             Some(Word::History { operator })

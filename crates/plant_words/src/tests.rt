@@ -21,6 +21,7 @@ fn each_word_is_read(rt: HostRuntime) -> Result<(), Fail> {
     assert!(rt; read_words(alloc, &["one"])? == Word::One);
     assert!(rt; read_words(alloc, &["check"])? == Word::Check);
     assert!(rt; read_words(alloc, &["run"])? == Word::Run);
+    assert!(rt; read_words(alloc, &["threads"])? == Word::Threads);
     assert!(rt; read_words(alloc, &["history", "A"])? == Word::History { operator: "A" });
     Ok(())
 }
@@ -40,6 +41,7 @@ fn help_is_shown(rt: HostRuntime) {
     assert!(rt; shows(alloc, &["history", "--help"], "Usage: plant_script history"));
     assert!(rt; shows(alloc, &["history", "--help"], "OPERATOR"));
     assert!(rt; shows(alloc, &["run", "-h"], "Usage: plant_script run"));
+    assert!(rt; shows(alloc, &["threads", "-h"], "Usage: plant_script threads"));
 }
 
 #[test]
@@ -58,6 +60,7 @@ fn other_words_are_wrong(rt: HostRuntime) {
     assert!(rt; is_wrong(alloc, &["wrong"]));
     assert!(rt; is_wrong(alloc, &["plant_script", "one"]));
     assert!(rt; is_wrong(alloc, &["one", "more"]));
+    assert!(rt; is_wrong(alloc, &["threads", "2"]));
     assert!(rt; is_wrong(alloc, &["--check"]));
     assert!(rt; is_wrong(alloc, &["history"]));
     assert!(rt; is_wrong(alloc, &["history", "A", "B"]));

@@ -3,6 +3,10 @@
 #![tactic(auto)]
 
 #[cfg(test)]
+mod failing;
+#[cfg(test)]
+mod on_threads;
+#[cfg(test)]
 mod programs;
 #[cfg(test)]
 mod runs;

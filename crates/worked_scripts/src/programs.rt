@@ -5,7 +5,9 @@ use std::alloc::Global;
 use std::io;
 use std::io::{Read, Write};
 use std::process::Abort;
+use std::sync::Wait;
 use std::test::Fail;
+use std::thread::Threads;
 
 const ADDITION: &str = "0F0001180A010200010601060F0102\n";
 
@@ -49,22 +51,22 @@ modems = [\"020000000003\"]
 ";
 
 /// The status and the text that an input gets under a word.
-fn told(alloc: Global, word: &str, input: &str) -> (u8, Vec<u8>) {
+fn told<R: Threads + Wait + Sync>(rt: &R, alloc: Global, word: &str, input: &str) -> (u8, Vec<u8>) {
     let mut reader = input.as_bytes();
     let mut text = Vec::new(alloc);
-    let status = run_program(alloc, &[word], &mut reader, &mut text);
+    let status = run_program(rt, alloc, &[word], &mut reader, &mut text);
     (status, text)
 }
 
 /// Asserts the status and the text that an input of `one` gets.
 fn check_one(
-    rt: &impl Abort,
+    rt: &(impl Abort + Threads + Wait + Sync),
     alloc: Global,
     input: &str,
     status: u8,
     text: &str,
 ) -> Result<(), Fail> {
-    let answer = told(alloc, "one", input);
+    let answer = told(rt, alloc, "one", input);
     assert_eq!(rt; answer.0, status, "at {input}");
     assert_eq!(rt; answer.1.as_slice(), text.as_bytes(), "at {input}");
     Ok(())
@@ -72,13 +74,13 @@ fn check_one(
 
 /// Asserts the status and the text that an input of `check` gets.
 fn check_file(
-    rt: &impl Abort,
+    rt: &(impl Abort + Threads + Wait + Sync),
     alloc: Global,
     input: &str,
     status: u8,
     text: &str,
 ) -> Result<(), Fail> {
-    let answer = told(alloc, "check", input);
+    let answer = told(rt, alloc, "check", input);
     assert_eq!(rt; answer.0, status, "at {input}");
     assert_eq!(rt; answer.1.as_slice(), text.as_bytes(), "at {input}");
     Ok(())
@@ -86,7 +88,7 @@ fn check_file(
 
 /// Asserts what `check` says of the plant with its first `old` changed to `new`.
 fn check_changed(
-    rt: &impl Abort,
+    rt: &(impl Abort + Threads + Wait + Sync),
     alloc: Global,
     old: &str,
     new: &str,
@@ -100,7 +102,7 @@ fn check_changed(
 
 /// Asserts what `check` says of the plant with a script.
 fn check_script(
-    rt: &impl Abort,
+    rt: &(impl Abort + Threads + Wait + Sync),
     alloc: Global,
     script: &str,
     status: u8,
@@ -291,19 +293,19 @@ fn lines_at_fault(rt: HostRuntime) -> Result<(), Fail> {
 }
 
 /// The status and the text that words get.
-fn said(alloc: Global, words: &[&str]) -> (u8, Vec<u8>) {
+fn said<R: Threads + Wait + Sync>(rt: &R, alloc: Global, words: &[&str]) -> (u8, Vec<u8>) {
     let mut reader = ADDITION.as_bytes();
     let mut text = Vec::new(alloc);
-    let status = run_program(alloc, words, &mut reader, &mut text);
+    let status = run_program(rt, alloc, words, &mut reader, &mut text);
     (status, text)
 }
 
 #[test]
 fn other_words_are_refused(rt: HostRuntime) -> Result<(), Fail> {
-    let none = said(rt.alloc(), &[]);
-    let other = said(rt.alloc(), &["two"]);
-    let more = said(rt.alloc(), &["one", "one"]);
-    let nobody = said(rt.alloc(), &["history"]);
+    let none = said(&rt, rt.alloc(), &[]);
+    let other = said(&rt, rt.alloc(), &["two"]);
+    let more = said(&rt, rt.alloc(), &["one", "one"]);
+    let nobody = said(&rt, rt.alloc(), &["history"]);
     for answer in [none, other, more, nobody] {
         assert_eq!(rt; answer.0, 2);
         assert_eq!(rt; answer.1.as_slice(), b"fault: words\n".as_slice());
@@ -411,7 +413,7 @@ fn a_read_that_fails_is_status_6(rt: HostRuntime) -> Result<(), Fail> {
             fails_at,
         };
         let mut text = Vec::new(rt.alloc());
-        let status = run_program(rt.alloc(), &["one"], &mut reader, &mut text);
+        let status = run_program(&rt, rt.alloc(), &["one"], &mut reader, &mut text);
         let (wanted, line) = if fails_at < 32 {
             (6, "fault: io\n")
         } else {
@@ -430,7 +432,7 @@ fn a_flush_that_fails_is_status_6_and_told_if_it_can_be(rt: HostRuntime) -> Resu
     let mut reader = ADDITION.as_bytes();
     let held = Vec::new(rt.alloc());
     let mut writer = Unflushed { held };
-    let status = run_program(rt.alloc(), &["one"], &mut reader, &mut writer);
+    let status = run_program(&rt, rt.alloc(), &["one"], &mut reader, &mut writer);
     assert_eq!(rt; status, 6);
     let wanted = format!(in rt.alloc(); "{REPLY}fault: io\n")?;
     assert_eq!(rt; writer.held.as_slice(), wanted.as_bytes());
@@ -442,7 +444,7 @@ fn nothing_is_read_for_words_that_are_no_order(rt: HostRuntime) -> Result<(), Fa
     for word in ["two", "--help"] {
         let mut reader = Endless { reads: 0 };
         let mut text = Vec::new(rt.alloc());
-        let _status = run_program(rt.alloc(), &[word], &mut reader, &mut text);
+        let _status = run_program(&rt, rt.alloc(), &[word], &mut reader, &mut text);
         assert_eq!(rt; reader.reads, 0, "at {word}");
     }
     Ok(())
@@ -457,7 +459,7 @@ fn a_write_that_fails_is_status_6(rt: HostRuntime) -> Result<(), Fail> {
             writes: 0,
             fails_at,
         };
-        let status = run_program(rt.alloc(), &["one"], &mut reader, &mut writer);
+        let status = run_program(&rt, rt.alloc(), &["one"], &mut reader, &mut writer);
         let wanted = if fails_at < 41 { 6 } else { 0 };
         assert_eq!(rt; status, wanted, "at {fails_at}");
         assert_eq!(rt; writer.held.len(), fails_at, "at {fails_at}");
@@ -469,13 +471,13 @@ fn a_write_that_fails_is_status_6(rt: HostRuntime) -> Result<(), Fail> {
 fn an_input_that_is_too_long_or_no_text_is_status_6(rt: HostRuntime) -> Result<(), Fail> {
     let mut reader = Endless { reads: 0 };
     let mut text = Vec::new(rt.alloc());
-    let status = run_program(rt.alloc(), &["one"], &mut reader, &mut text);
+    let status = run_program(&rt, rt.alloc(), &["one"], &mut reader, &mut text);
     assert_eq!(rt; status, 6);
     assert_eq!(rt; text.as_slice(), b"fault: io\n".as_slice());
     assert_eq!(rt; reader.reads, 1_048_577);
     let mut reader = b"\xFF\n".as_slice();
     let mut text = Vec::new(rt.alloc());
-    let status = run_program(rt.alloc(), &["one"], &mut reader, &mut text);
+    let status = run_program(&rt, rt.alloc(), &["one"], &mut reader, &mut text);
     assert_eq!(rt; status, 6);
     assert_eq!(rt; text.as_slice(), b"fault: io\n".as_slice());
     Ok(())
@@ -483,7 +485,7 @@ fn an_input_that_is_too_long_or_no_text_is_status_6(rt: HostRuntime) -> Result<(
 
 #[test]
 fn help_is_told_where_it_is_asked_for(rt: HostRuntime) -> Result<(), Fail> {
-    let (status, text) = said(rt.alloc(), &["--help"]);
+    let (status, text) = said(&rt, rt.alloc(), &["--help"]);
     assert_eq!(rt; status, 0);
     let Ok(text) = str::from_utf8(text.as_slice()) else {
         return Err(Fail::new("help is no text"));

@@ -4,10 +4,12 @@ use crate::programs::PLANT;
 use plant_script::run_program;
 use std::alloc::Global;
 use std::process::Abort;
+use std::sync::Wait;
 use std::test::Fail;
+use std::thread::Threads;
 
 /// A modem of each operator asks for a flow and for minislots of it, and all tick.
-const BOTH: &str = "M 020000000001 0F0001180A010200010601060F0102
+pub const BOTH: &str = "M 020000000001 0F0001180A010200010601060F0102
 M 020000000001 11000100
 Q 020000000001 257 5
 M 020000000003 0F0001180A010200010601060F0102
@@ -28,8 +30,8 @@ T
 ";
 
 /// Asserts the status and the text that an input gets under words.
-fn check_input(
-    rt: &impl Abort,
+pub fn check_input(
+    rt: &(impl Abort + Threads + Wait + Sync),
     alloc: Global,
     words: &[&str],
     input: &str,
@@ -38,7 +40,7 @@ fn check_input(
 ) -> Result<(), Fail> {
     let mut reader = input.as_bytes();
     let mut written = Vec::new(alloc);
-    let told = run_program(alloc, words, &mut reader, &mut written);
+    let told = run_program(rt, alloc, words, &mut reader, &mut written);
     assert_eq!(rt; told, status, "at {input}");
     assert_eq!(rt;
         str::from_utf8(written.as_slice()).ok().ok_or("no text")?,
@@ -49,8 +51,8 @@ fn check_input(
 }
 
 /// Asserts the status and the text that a script on the plant gets under words.
-fn check_script(
-    rt: &impl Abort,
+pub fn check_script(
+    rt: &(impl Abort + Threads + Wait + Sync),
     alloc: Global,
     words: &[&str],
     script: &str,
@@ -191,10 +193,11 @@ fn operators_that_are_not_there(rt: HostRuntime) -> Result<(), Fail> {
         let text = "fault: plant 1\n";
         check_input(&rt, rt.alloc(), words.as_slice(), "x\n---\nT C\n", 3, text)?;
     }
-    let words: [&[&str]; 4] = [
+    let words: [&[&str]; 5] = [
         &["history"],
         &["history", "A", "B"],
         &["run", "A"],
+        &["threads", "A"],
         &["Run"],
     ];
     for words in words {
@@ -223,7 +226,7 @@ F A 1 258/1/8/1 0/6/9/31
 }
 
 /// Other slices are given from the next frame on.
-const OTHER_SLICES: &str = "M 020000000001 0F0001180A010200010601060F0102
+pub const OTHER_SLICES: &str = "M 020000000001 0F0001180A010200010601060F0102
 M 020000000001 11000100
 Q 020000000001 257 20
 Z 1 8/16/16 24/48/32

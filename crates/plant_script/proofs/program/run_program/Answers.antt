@@ -12,7 +12,7 @@ returns-in-Ok-answer_of_task-clause-served g c = λ order named well served.
     let same : order_of c.in-Ok.word ≡ order = same_order order c.read_words.result c.in-Ok.word (c.read_words.ensures.named order named) c.in-Ok.is in
     let appended = rw (c.loop-row.invariant.writer, c.as_slice-in-Ok-answer_of_task.ensures.value) at told.1 in
     run_serves (g.R.Read.remaining c.args.reader.now) (order_of c.in-Ok.word) order c.in-Ok-Task.task answer.status done.result answer.text.items (g.W.Write.contents c.args.writer.now) (g.W.Write.contents done.new.writer)
-    (rw c.in-Ok-Task.field-0-is at c.in-Ok-Task.ensures) same c.in-Ok-answer_of_task.ensures told.0 appended
+    (rw c.in-Ok-Task.field-0-is at c.in-Ok-Task.ensures.served) same c.in-Ok-answer_of_task.ensures told.0 appended
 
 -- words that give an order ask for no help
 pub returns-in_default-clause-unread_for_help : goal.returns-in_default-clause-unread_for_help

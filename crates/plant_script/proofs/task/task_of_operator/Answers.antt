@@ -2,7 +2,7 @@ use Rattle.std.proofs.Common.{◌≡◌, ℕ, Option, Some, sym, subst}
 use Rattle.std.specs.List.{position_from}
 use Rattle.plant_script.specs.Script.{is_named, steps_of}
 use Rattle.plant_script.specs.Task.{Comes}
-use Rattle.plant_script.specs.Words.{AnswersHistory}
+use Rattle.plant_script.specs.Words.{AnswersOperator}
 use Rattle.plant_script.proofs.Tasks.{found_at, comes_of_operator, if_ok}
 use Rattle.plant_script.proofs.task.task_of_operator.Goals as goal
 
@@ -13,5 +13,5 @@ returns-in-Some-clause-value c =
     let found : position_from (is_named c.args.name.now) 0 plant.rows ≡ Some c.in-Some.op = cc in
     let row = found_at (is_named c.args.name.now) plant.rows c.in-Some.op found in
     if_ok c.task_of_script.result _ _
-    (λ what h. subst (λ (o : Option ℕ). Comes what (AnswersHistory plant script o)) (sym found) (comes_of_operator plant c.in-Some.op row.0 (steps_of plant script) what row.1 h))
+    (λ what h. subst (λ (o : Option ℕ). Comes what (AnswersOperator plant script o)) (sym found) (comes_of_operator plant c.in-Some.op row.0 (steps_of plant script) what row.1 h))
     c.task_of_script.ensures.value

@@ -9,6 +9,7 @@ returns c =
     let one = added_subcommand _ _ c.in_ok-subcommand.field-0 _ _ c.in_ok-top_command.ensures c.plain_command.ensures refl c.in_ok-subcommand.ensures in
     let check = added_subcommand _ _ c.in_ok-subcommand-2.field-0 _ _ one c.plain_command-2.ensures refl c.in_ok-subcommand-2.ensures in
     let run = added_subcommand _ _ c.in_ok-subcommand-3.field-0 _ _ check c.plain_command-3.ensures refl c.in_ok-subcommand-3.ensures in
-    IfOk-weaker c.subcommand-4.result _ _
-    (λ command added. added_subcommand _ _ command _ _ run c.in_ok-history_command.ensures refl added)
-    c.subcommand-4.ensures
+    let threads = added_subcommand _ _ c.in_ok-subcommand-4.field-0 _ _ run c.plain_command-4.ensures refl c.in_ok-subcommand-4.ensures in
+    IfOk-weaker c.subcommand-5.result _ _
+    (λ command added. added_subcommand _ _ command _ _ threads c.in_ok-history_command.ensures refl added)
+    c.subcommand-5.ensures

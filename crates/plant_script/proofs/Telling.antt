@@ -1,0 +1,113 @@
+-- The lines of books and MAPs, one after the other, and what they tell of a run on threads.
+use Rattle.std.proofs.Common.{◌≡◌, ◌⊎◌, inl, inr, ℕ, ◌+◌, ◌<◌, List, [], ◌∷◌, ◌++◌, length, map, drop, get_or, refl, sym, ap, subst, ◌∙◌, append_assoc}
+use Rattle.std.specs.Prelude.{slice_get}
+use Rattle.std.specs.List.{flat_map}
+use Rattle.std.proofs.lemmas.Grind.{flat_map-append}
+use Rattle.std.proofs.lemmas.List.{drop_more}
+use Rattle.std.proofs.lemmas.List.Folds.{flat_map-map}
+use Rattle.slice_table.specs.declared.plant.PlantFields.{PlantFields}
+use Rattle.operator_machine.specs.declared.action.Entry.{Entry}
+use Rattle.operator_machine.specs.declared.output.Output.{Output}
+use Rattle.operator_machine.specs.Replay.{BookView}
+use Rattle.map_assembly.specs.declared.map_bytes.MapBytes.{MapBytes}
+use Rattle.plant_runs.specs.OwnSteps.{under}
+use Rattle.plant_runs.specs.declared.step.Step.{Step}
+use Rattle.plant_runs.specs.declared.step.Out.{Out}
+use Rattle.plant_runs.specs.declared.step.Out.TheVariants as outs
+use Rattle.plant_receipts.specs.OwnParts.{outputs_of}
+use Rattle.plant_receipts.specs.declared.receipt.Receipt.{Receipt}
+use Rattle.plant_receipts.specs.declared.run_fault.RunFault.{RunFault}
+use Rattle.plant_outcomes.specs.Outcome.{IsOutcome}
+use Rattle.plant_outcomes.specs.Outs.{outs_from, outs_of}
+use Rattle.plant_script.specs.declared.answer.Answer.{Answer}
+use Rattle.plant_script.specs.declared.script.LineStep.{LineStep}
+use Rattle.plant_script.specs.Run.{named, map_line, out_line, output_line, outs_text, steps_in}
+use Rattle.plant_script.specs.OnThreads.{TellsFault, IsThreadedRunOf}
+
+-- what is left of a list, seen by f, begins with what is read
+pub map_left : {X Y : Type 0} (f : X → Y) (xs : List X) (i : ℕ) (x : X) → i < length xs → x ≡ get_or xs i x
+    → map f (drop i xs) ≡ f x ∷ map f (drop (i + 1) xs)
+map_left f xs i x lt is = ap (map f) (drop_more xs i x lt ∙ ap (λ (y : _). y ∷ drop (i + 1) xs) (sym is))
+
+-- ---- an operator's outputs
+
+-- the lines of one entry more
+pub entries_more : (f : Output → List ℕ) (history : List Entry) (i : ℕ) (entry : Entry) (outputs : List Output) (old new whole : List ℕ)
+    → i < length history → entry ≡ get_or history i entry → outputs ≡ entry.outputs → new ≡ old ++ flat_map f outputs
+    → old ++ flat_map f (outputs_of (drop i history)) ≡ whole → new ++ flat_map f (outputs_of (drop (i + 1) history)) ≡ whole
+entries_more f history i entry outputs old new whole lt is same grown so_far =
+    let later = outputs_of (drop (i + 1) history) in
+    let split : drop i history ≡ entry ∷ drop (i + 1) history = drop_more history i entry lt ∙ ap (λ (e : Entry). e ∷ drop (i + 1) history) (sym is) in
+    let here : flat_map f (outputs_of (drop i history)) ≡ flat_map f outputs ++ flat_map f later =
+    ap (λ (es : List Entry). flat_map f (outputs_of es)) split
+    ∙ (flat_map-append f entry.outputs later ∙ ap (λ (os : List Output). flat_map f os ++ flat_map f later) (sym same)) in
+    ap (λ (t : List ℕ). t ++ flat_map f later) grown
+    ∙ (append_assoc old (flat_map f outputs) (flat_map f later) ∙ (ap (λ (t : List ℕ). old ++ t) (sym here) ∙ so_far))
+
+-- ---- books
+
+-- what stands under an operator, line by line
+under_text : (plant : PlantFields) (op : ℕ) (outputs : List Output)
+    → outs_text plant (under op outputs) ≡ flat_map (output_line (named (slice_get plant.rows op))) outputs
+under_text plant op outputs = flat_map-map (out_line plant) (λ (output : Output). outs.Of op output) outputs
+
+-- the lines of one book more
+pub books_more : (plant : PlantFields) (op : ℕ) (view : BookView) (views later : List BookView) (history : List Entry) (old new whole : List ℕ)
+    → views ≡ view ∷ later → history ≡ view.history
+    → new ≡ old ++ flat_map (output_line (named (slice_get plant.rows op))) (outputs_of history)
+    → old ++ outs_text plant (outs_from op views) ≡ whole → new ++ outs_text plant (outs_from (op + 1) later) ≡ whole
+books_more plant op view views later history old new whole split same grown so_far =
+    let lines = flat_map (output_line (named (slice_get plant.rows op))) (outputs_of history) in
+    let rest = outs_text plant (outs_from (op + 1) later) in
+    let here : outs_text plant (outs_from op views) ≡ lines ++ rest =
+    ap (λ (vs : List BookView). outs_text plant (outs_from op vs)) split
+    ∙ (flat_map-append (out_line plant) (under op (outputs_of view.history)) (outs_from (op + 1) later)
+    ∙ ap (λ (t : List ℕ). t ++ rest) (under_text plant op (outputs_of view.history)
+    ∙ ap (λ (h : List Entry). flat_map (output_line (named (slice_get plant.rows op))) (outputs_of h)) (sym same))) in
+    ap (λ (t : List ℕ). t ++ rest) grown
+    ∙ (append_assoc old lines rest ∙ (ap (λ (t : List ℕ). old ++ t) (sym here) ∙ so_far))
+
+-- ---- books and MAPs
+
+pub outs_told : (plant : PlantFields) (books : List BookView) (maps : List MapBytes)
+    → outs_text plant (outs_from 0 books) ++ flat_map map_line maps ≡ outs_text plant (outs_of books maps)
+outs_told plant books maps =
+    ap (λ (t : List ℕ). outs_text plant (outs_from 0 books) ++ t) (sym (flat_map-map (out_line plant) (λ (made : MapBytes). outs.Map made) maps))
+    ∙ sym (flat_map-append (out_line plant) (outs_from 0 books) (map (λ (made : MapBytes). outs.Map made) maps))
+
+-- all of them, behind nothing
+pub all_told : (plant : PlantFields) (books these : List BookView) (maps those : List MapBytes) (start first second : List ℕ) → start ≡ []
+    → first ≡ start ++ outs_text plant (outs_from 0 these) → second ≡ first ++ flat_map map_line those → these ≡ books → those ≡ maps
+    → second ≡ outs_text plant (outs_of books maps)
+all_told plant books these maps those start first second empty begun grown same_books same_maps =
+    grown
+    ∙ (ap (λ (t : List ℕ). t ++ flat_map map_line those) (begun ∙ ap (λ (t : List ℕ). t ++ outs_text plant (outs_from 0 these)) empty)
+    ∙ (ap (λ (bs : List BookView). outs_text plant (outs_from 0 bs) ++ flat_map map_line those) same_books
+    ∙ (ap (λ (ms : List MapBytes). outs_text plant (outs_from 0 books) ++ flat_map map_line ms) same_maps
+    ∙ outs_told plant books maps)))
+
+-- ---- the run
+
+-- what is told of a run that is settled, by a plant that is the same
+pub settled_run : (plant shown : PlantFields) (lines : List LineStep) (steps : List Step) (books : List BookView) (receipts : List (List (List Receipt)))
+    (maps : List MapBytes) (answer : Answer) → shown ≡ plant → steps ≡ steps_in lines → IsOutcome plant steps books receipts maps
+    → (answer.status ≡ 0) × (answer.text.items ≡ outs_text shown (outs_of books maps)) → IsThreadedRunOf plant lines answer.status answer.text.items
+settled_run plant shown lines steps books receipts maps answer same are outcome told = inl (
+  told.0,
+  record {
+    books = books;
+    receipts = receipts;
+    maps = maps;
+    outcome = subst (λ (s : List Step). IsOutcome plant s books receipts maps) are outcome;
+    text_is = told.1 ∙ ap (λ (p : PlantFields). outs_text p (outs_of books maps)) same;
+  },
+)
+
+pub fault_run : (plant shown : PlantFields) (lines these : List LineStep) (fault : RunFault) (answer : Answer) → shown ≡ plant → these ≡ lines
+    → TellsFault shown these fault answer.status answer.text.items → IsThreadedRunOf plant lines answer.status answer.text.items
+fault_run plant shown lines these fault answer same are told =
+    inr (
+      fault,
+      subst (λ (l : List LineStep). TellsFault plant l fault answer.status answer.text.items) are
+          (subst (λ (p : PlantFields). TellsFault p these fault answer.status answer.text.items) same told),
+    )

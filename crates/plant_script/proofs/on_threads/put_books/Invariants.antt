@@ -1,0 +1,11 @@
+use Rattle.std.proofs.Common.{◌≡◌, ◌++◌, drop, map}
+use Rattle.std.specs.String.{string_bytes}
+use Rattle.operator_book.specs.ViewOf.{view_of}
+use Rattle.plant_outcomes.specs.Outs.{outs_from}
+use Rattle.plant_script.specs.Run.{outs_text}
+use Rattle.plant_script.proofs.on_threads.put_books.Given as goal
+
+abbrev pub invariant-loop-op : goal.invariant-loop-op
+invariant-loop-op g l =
+    string_bytes l.text ++ outs_text l.plant (outs_from l.op (map view_of (drop l.op l.books)))
+    ≡ string_bytes l.fn.text ++ outs_text l.plant (outs_from 0 (map view_of l.books))

@@ -1,0 +1,12 @@
+use Rattle.std.proofs.Common.{◌≡◌, ◌++◌, drop}
+use Rattle.std.specs.Prelude.{slice_get}
+use Rattle.std.specs.List.{flat_map}
+use Rattle.std.specs.String.{string_bytes}
+use Rattle.plant_receipts.specs.OwnParts.{outputs_of}
+use Rattle.plant_script.specs.Run.{named, output_line}
+use Rattle.plant_script.proofs.on_threads.put_history.Given as goal
+
+abbrev pub invariant-loop-entry : goal.invariant-loop-entry
+invariant-loop-entry l =
+    string_bytes l.text ++ flat_map (output_line (named (slice_get l.plant.rows l.op))) (outputs_of (drop l.entry-index l.history))
+    ≡ string_bytes l.fn.text ++ flat_map (output_line (named (slice_get l.plant.rows l.op))) (outputs_of l.history)

@@ -1,0 +1,8 @@
+use Rattle.std.proofs.Common.{◌≡◌, ◌++◌, take}
+use Rattle.std.specs.List.{flat_map}
+use Rattle.std.specs.String.{string_bytes}
+use Rattle.plant_script.specs.Run.{map_line}
+use Rattle.plant_script.proofs.on_threads.put_maps.Given as goal
+
+abbrev pub invariant-loop-made : goal.invariant-loop-made
+invariant-loop-made l = string_bytes l.text ≡ string_bytes l.fn.text ++ flat_map map_line (take l.made-index l.maps)

@@ -1,0 +1,215 @@
+//! A script's run on threads.
+
+ghost use Rattle.std.specs.Prelude.{◌≡◌, ◌++◌, map, slice_get, IfOk, OnOk};
+ghost use Rattle.std.specs.List.{flat_map};
+ghost use Rattle.std.specs.String.{string_bytes};
+ghost use Rattle.operator_book.specs.ViewOf.{view_of, policy_of};
+ghost use Rattle.plant_outcomes.specs.Outs.{outs_from, outs_of};
+ghost use Rattle.plant_receipts.specs.OwnParts.{outputs_of};
+ghost use Rattle.plant_script.specs.Run.{named, map_line, output_line, outs_text, steps_in};
+ghost use Rattle.plant_script.specs.OnThreads.{IsThreadedRunOf, TellsFault, TellsLine, TellsSpent, number_at, place_text, resliced_in, stray_line};
+
+use crate::answer::Answer;
+use crate::check::answer_to_line;
+use crate::script::LineStep;
+use crate::text::{put_map, put_name, put_output};
+use grant_policy::Ranking;
+use map_assembly::MapBytes;
+use operator_book::{Book, Entry, Output};
+use plant_core::CoreFault;
+use plant_receipts::{RunFault, Settled};
+use plant_runs::Step;
+use plant_walks::first_spent;
+use plant_workers::{OpenGate, run_workers};
+use slice_table::{Op, Plant};
+use std::alloc::{AllocError, Global};
+use std::sync::Wait;
+use std::thread::Threads;
+
+/// The steps of lines, with memory of their own.
+fn steps_in(alloc: Global, lines: &[LineStep]) -> Result<Vec<Step>, AllocError>
+    ensures { IfOk result (λ steps. steps.items ≡ steps_in lines.now) }
+{
+    let mut steps = Vec::with_capacity(alloc, lines.len())?;
+    for line in lines {
+        steps.push(line.step.copy(alloc)?)?;
+    }
+    Ok(steps)
+}
+
+/// The lines of an operator's outputs.
+fn put_outputs(
+    alloc: Global,
+    text: &mut String,
+    plant: &Plant,
+    op: Op,
+    outputs: &[Output],
+) -> Result<(), AllocError>
+    ensures { OnOk result (string_bytes text.new ≡ string_bytes text.old
+        ++ flat_map (output_line (named (slice_get plant.now.rows op))) outputs.now) }
+{
+    for output in outputs {
+        put_output(alloc, text, plant, op, output)?;
+    }
+    Ok(())
+}
+
+/// The lines of all that an operator's history put out.
+fn put_history(
+    alloc: Global,
+    text: &mut String,
+    plant: &Plant,
+    op: Op,
+    history: &[Entry],
+) -> Result<(), AllocError>
+    ensures { OnOk result (string_bytes text.new ≡ string_bytes text.old
+        ++ flat_map (output_line (named (slice_get plant.now.rows op))) (outputs_of history.now)) }
+{
+    for entry in history {
+        put_outputs(alloc, text, plant, op, entry.outputs.as_slice())?;
+    }
+    Ok(())
+}
+
+/// The lines of all that the operators' books put out, book by book.
+fn put_books(
+    alloc: Global,
+    text: &mut String,
+    plant: &Plant,
+    books: &[Book],
+) -> Result<(), AllocError>
+    ensures { OnOk result (string_bytes text.new ≡ string_bytes text.old
+        ++ outs_text plant.now (outs_from 0 (map view_of books.now))) }
+{
+    for (op, book) in books.iter().enumerate() {
+        put_history(alloc, text, plant, op, book.history())?;
+    }
+    Ok(())
+}
+
+/// The lines of MAPs.
+fn put_maps(alloc: Global, text: &mut String, maps: &[MapBytes]) -> Result<(), AllocError>
+    ensures { OnOk result (string_bytes text.new ≡ string_bytes text.old ++ flat_map map_line maps.now) }
+{
+    for made in maps {
+        put_map(alloc, text, made)?;
+    }
+    Ok(())
+}
+
+/// What is answered where the run is settled.
+fn answer_of_settled(alloc: Global, plant: &Plant, settled: &Settled) -> Result<Answer, AllocError>
+    ensures { IfOk result (λ answer. (answer.status ≡ 0) × (answer.text.items
+        ≡ outs_text plant.now (outs_of (map view_of settled.now.books.items) settled.now.maps.items))) }
+{
+    let mut text = String::new(alloc);
+    put_books(alloc, &mut text, plant, settled.books.as_slice())?;
+    put_maps(alloc, &mut text, settled.maps.as_slice())?;
+    let text = text.into_bytes();
+    Ok(Answer { status: 0, text })
+}
+
+/// The number of the line at a place.
+fn number_at(lines: &[LineStep], place: Option<usize>) -> Option<u64>
+    ensures { result ≡ number_at lines.now place }
+{
+    let line = lines.get(place?)?;
+    Some(line.number)
+}
+
+/// The number of the line at a place, where that line gives other slices.
+fn resliced_at(lines: &[LineStep], at: usize) -> Option<u64>
+    ensures { result ≡ resliced_in (slice_get lines.now at) }
+{
+    let line = lines.get(at)?;
+    match &line.step {
+        Step::Reslice { from: _, rows: _ } => Some(line.number),
+        _ => None,
+    }
+}
+
+/// What is answered to a fault that a line of the script has, or none.
+fn answer_at(alloc: Global, number: Option<u64>) -> Result<Answer, AllocError>
+    ensures { IfOk result (λ answer. TellsLine number answer.status answer.text.items) }
+{
+    match number {
+        Some(number) => answer_to_line(alloc, number),
+        None => Ok(Answer {
+            status: 7,
+            text: Vec::from_slice(alloc, b"fault: strayed - -\n")?,
+        }),
+    }
+}
+
+/// What is answered where an operator has no frame number left: the line of the first Tick that finds it so.
+fn answer_to_spent(alloc: Global, plant: &Plant, lines: &[LineStep]) -> Result<Answer, AllocError>
+    ensures { IfOk result (λ answer. TellsSpent plant.now lines.now answer.status answer.text.items) }
+{
+    let steps = steps_in(alloc, lines)?;
+    answer_at(
+        alloc,
+        number_at(lines, first_spent(plant, steps.as_slice())),
+    )
+}
+
+/// What is answered where an operator's history strays, at this place or at none.
+fn answer_to_stray(
+    alloc: Global,
+    plant: &Plant,
+    op: Op,
+    index: Option<usize>,
+) -> Result<Answer, AllocError>
+    ensures { IfOk result (λ answer. (answer.status ≡ 7) × (answer.text.items
+        ≡ stray_line (named (slice_get plant.now.rows op)) (place_text index))) }
+{
+    let mut text = String::from_str(alloc, "fault: strayed ")?;
+    put_name(&mut text, plant, op)?;
+    match index {
+        Some(index) => write!(text, " {index}\n")?,
+        None => text.push_str(" -\n")?,
+    }
+    let text = text.into_bytes();
+    Ok(Answer { status: 7, text })
+}
+
+/// What is answered to a fault of the run.
+fn answer_of_fault(
+    alloc: Global,
+    plant: &Plant,
+    lines: &[LineStep],
+    fault: RunFault,
+) -> Result<Answer, AllocError>
+    ensures { IfOk result (λ answer. TellsFault plant.now lines.now fault answer.status answer.text.items) }
+{
+    match fault {
+        RunFault::Strayed { op, index } => answer_to_stray(alloc, plant, op, Some(index)),
+        RunFault::Short { op } => answer_to_stray(alloc, plant, op, None),
+        RunFault::MapStrayed { frame } => {
+            let line = format!(in alloc; "fault: strayed - {frame}\n")?;
+            let text = line.into_bytes();
+            Ok(Answer { status: 7, text })
+        }
+        RunFault::NoMemory | RunFault::Core(CoreFault::NoMemory) => Err(AllocError),
+        RunFault::Core(_) => answer_to_spent(alloc, plant, lines),
+        RunFault::ResliceRefused { at, fault: _ } => answer_at(alloc, resliced_at(lines, at)),
+    }
+}
+
+/// What `threads` answers. The rankings stand in the plant's order of operators.
+pub fn answer_of_threads<R: Threads + Wait + Sync>(
+    rt: &R,
+    alloc: Global,
+    plant: Plant,
+    lines: Vec<LineStep>,
+    rankings: Vec<Ranking>,
+) -> Result<Answer, AllocError>
+    requires { map policy_of rankings.items ≡ map (λ row. row.policy) plant.rows }
+    ensures { IfOk result (λ answer. IsThreadedRunOf plant lines.items answer.status answer.text.items) }
+{
+    let steps = steps_in(alloc, lines.as_slice())?;
+    let shown = plant.copy(alloc)?;
+    match run_workers(rt, alloc, plant, rankings, steps, &OpenGate) {
+        Ok(settled) => answer_of_settled(alloc, &shown, &settled),
+        Err(fault) => answer_of_fault(alloc, &shown, lines.as_slice(), fault),
+    }
+}
