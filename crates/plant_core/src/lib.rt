@@ -22,5 +22,6 @@ pub use plant_runs::{
     equal_books_answer_alike, maps_are_shared_out, opened_is_reached, run_is_reached,
     step_is_reached, two_cores, two_worlds,
 };
+pub use reslicing::{is_refused, least_meeting};
 pub use routes::Routes;
 pub use running::RunStop;

@@ -1,6 +1,6 @@
 //! Opening a plant's core.
 
-ghost use Rattle.std.specs.Prelude.{◌≡◌, ◌≢◌, ◌↔◌, ◌<◌, ◌≤◌, ◌^◌, [], map, length, replicate, All, IsTrue, vec_len, Err, IfOk};
+ghost use Rattle.std.specs.Prelude.{◌≡◌, ◌≢◌, ◌↔◌, [], map, length, replicate, All, IsTrue, Err, IfOk};
 ghost use Rattle.slice_table.specs.Row.{IsRowOf};
 ghost use Rattle.plant_runs.specs.Opened.{opened_book, opened_core};
 ghost use Rattle.plant_runs.specs.Reached.{Reached};
@@ -67,7 +67,6 @@ impl PlantCore {
         plant: Plant,
         rankings: Vec<Ranking>,
     ) -> Result<PlantCore, CoreOpenFault>
-        requires { vec_len rankings < 2 ^ 64 }
         ensures ok { IfOk result (λ core. core_view core ≡ opened_core plant) }
         ensures reached { IfOk result (λ core. Reached plant [] [] (core_view core)) }
         ensures mismatch { (result ≡ Err CoreOpenFault.RankingsMismatch)

@@ -2,7 +2,8 @@
 
 ghost use Rattle.std.specs.Prelude.{◌≡◌, ℕ, ◌+◌, [], map, length, vec_len, drop, option_map, ◌≤◌, Some, OnOk, OnErr};
 ghost use Rattle.std.specs.List.{position_from};
-ghost use Rattle.operator_machine.specs.Machine.{unfit_from};
+ghost use Rattle.operator_book.specs.OfBook.{unfit_from};
+ghost use Rattle.operator_book.specs.ViewOf.{view_of};
 ghost use Rattle.plant_core.specs.Reslicing.{is_unfit, least_unfit, do_meet, least_meeting, row_fault, reslice_fault};
 ghost use Rattle.plant_runs.specs.Steps.{Reslices};
 ghost use Rattle.plant_core.specs.Faults.{IsTold};
@@ -22,9 +23,9 @@ fn is_same(a: Unfit, b: Unfit) -> bool
     a == b
 }
 
-/// Whether a book refuses a row with this fault.
-fn is_refused(book: &Book, from: u32, row: SliceRow, unfit: Unfit) -> bool
-    ensures { result ≡ is_unfit unfit (unfit_from book.now.kept.book.consts book.now.kept.book.state from row) }
+/// Whether a book refuses a row from a frame on with this fault. Takes no memory.
+pub fn is_refused(book: &Book, from: u32, row: SliceRow, unfit: Unfit) -> bool
+    ensures { result ≡ is_unfit unfit (unfit_from (view_of book.now) from row) }
 {
     match book.offer(from, row) {
         Ok(()) => false,
@@ -53,8 +54,8 @@ fn first_met(row: &SliceRow, rows: &[SliceRow], from: usize) -> Option<Op>
     None
 }
 
-/// The least pair of operators whose slices have a minislot in common.
-fn least_meeting(rows: &[SliceRow]) -> Option<(Op, Op)>
+/// The least pair of operators whose slices have a minislot in common: the least first one, and the least second one of it.
+pub fn least_meeting(rows: &[SliceRow]) -> Option<(Op, Op)>
     ensures { result ≡ least_meeting 0 rows.now }
 {
     for (a, row) in rows.iter().enumerate() {
