@@ -8,6 +8,3 @@ mod ledger;
 pub use budget::Budget;
 pub use id_range::{IdRange, least_free_is_given, least_free_is_one, unused_is_given};
 pub use ledger::{Ledger, LedgerFault, Over};
-
-#[cfg(test)]
-mod tests;

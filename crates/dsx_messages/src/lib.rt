@@ -23,6 +23,3 @@ pub use reading::read;
 pub use reply::{Detail, FlowId, Reply, ReplyFields};
 pub use reply_reading::{read_back, read_reply};
 pub use spell::write_reply;
-
-#[cfg(test)]
-mod tests;

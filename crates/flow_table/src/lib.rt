@@ -11,6 +11,3 @@ pub use laws::{
     flow_keeps_its_sid, known_flow_may_stand, known_flow_may_stand_anew, new_flow_may_stand,
     put_flow_is_there, sid_finds_its_flow,
 };
-
-#[cfg(test)]
-mod tests;

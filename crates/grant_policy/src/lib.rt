@@ -4,8 +4,6 @@
 mod policy;
 mod rank_input;
 mod ranking;
-#[cfg(test)]
-mod tests;
 
 pub use policy::{Policy, Step};
 pub use rank_input::RankInput;

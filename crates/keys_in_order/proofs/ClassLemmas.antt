@@ -25,6 +25,7 @@ use Rattle.slice_table.proofs.Parsed.{ok_same, bind_ok, checked_ok}
 use Rattle.slice_table.proofs.Values.{at_most, none_passes, told_apart}
 use Rattle.slice_table.proofs.ClassReading.{parameters}
 use Rattle.slice_table.proofs.SaidKeys.{bind_both, checked_said, both_true, le_true, array_is, text_said, text_again, bytes_is, table_said, under}
+use Rattle.slice_table.proofs.SaidConsts.{class_name_is, parameters_again, stated_said, encoding_is}
 use Rattle.slice_table.proofs.SaidRows.{differ, not_again}
 use Rattle.keys_in_order.specs.Held.{item_in, items_or_none, items_in, standing_at, held}
 use Rattle.keys_in_order.specs.Keys.{in_turn, class_keys}
@@ -34,53 +35,6 @@ use Rattle.keys_in_order.proofs.FoundLemmas.{blame, Blames, blames_bind, blames_
 use Rattle.keys_in_order.proofs.KeyLemmas.{held_in, found_table, blames_text, blames_bytes}
 
 -- ---- what is read of a class
-
-class_name_is : (classes : List Class) (place : Place) (ms : Members) (name : List ℕ) → (class_name_at classes place ms ≡ Ok name) ↔ SaysClassName classes ms name
-unfolding class_name_at is_class_name
-class_name_is classes place ms name = (
-  λ h.
-      let text = bind_ok (text_at place field.Name ms) _ name h in
-      let test = checked_ok (Entry place field.Name) (is_class_name text.0 && not (list_any (is_named text.0) classes)) text.0 name text.2 in
-      let parts = and_parts (is_class_name text.0) (not (list_any (is_named text.0) classes)) test.0 in
-      let valid = and_parts (nat_le 1 (length text.0) && nat_le (length text.0) 15) (list_all is_ascii_alphanumeric text.0) parts.0 in
-      let sizes = and_parts (nat_le 1 (length text.0)) (nat_le (length text.0) 15) valid.0 in
-      subst (SaysClassName classes ms) test.1 (record {
-        held = text_said place field.Name ms text.0 text.1;
-        some = at_most 1 (length text.0) sizes.0;
-        few = at_most (length text.0) 15 sizes.1;
-        letters = valid.1;
-        new = λ k d lt. told_apart (get_or classes k d).name text.0 (none_passes (is_named text.0) classes k d (not-true (list_any (is_named text.0) classes) parts.1) lt);
-      }),
-  λ s.
-      let new : list_any (is_named name) classes ≡ false = list_any_none (is_named name) classes (λ k d lt. differ (get_or classes k d).name name (s.new k d lt)) in
-      let valid = both_true (nat_le 1 (length name) && nat_le (length name) 15) (list_all is_ascii_alphanumeric name)
-      (both_true (nat_le 1 (length name)) (nat_le (length name) 15) (le_true 1 (length name) s.some) (le_true (length name) 15 s.few)) s.letters in
-      bind_both (text_at place field.Name ms) _ name name (text_again place field.Name ms name s.held)
-      (checked_said (Entry place field.Name) (is_class_name name && not (list_any (is_named name) classes)) name
-      (both_true (is_class_name name) (not (list_any (is_named name) classes)) valid (not_again (list_any (is_named name) classes) new))),
-)
-
-parameters_again : (flow : FlowFields) → StatesParameters flow → states_parameters flow ≡ true
-unfolding states_parameters
-parameters_again flow h = rw (h.reference, h.sfid, h.sid, h.class_name, h.errored, h.set_type) refl
-
-stated_said : (key : Key) (read : Result FlowFields FlowFault) (flow : FlowFields) → parameters_in key read ≡ Ok flow → (read ≡ Ok flow) × StatesParameters flow
-stated_said key (Ok x) flow h =
-    let test = checked_ok key (states_parameters x) x flow h in
-    (ap (λ (f : FlowFields). Ok f) test.1, subst StatesParameters test.1 (parameters x test.0))
-stated_said key (Err fault) flow h = cc
-
-encoding_is : (place : Place) (ms : Members) (flow : FlowFields) → (class_encoding_at place ms ≡ Ok flow) ↔ SaysParameters ms flow
-unfolding class_encoding_at
-encoding_is place ms flow = (
-  λ h.
-      let bytes = bind_ok (bytes_at place field.Encoding ms) (λ b. parameters_in (Entry place field.Encoding) (flow_of b)) flow h in
-      let said = stated_said (Entry place field.Encoding) (flow_of bytes.0) flow bytes.2 in
-      record { bytes = bytes.0; held = (bytes_is place field.Encoding ms bytes.0).0 bytes.1; stated = said.0; parameters = said.1 },
-  λ s.
-      bind_both (bytes_at place field.Encoding ms) (λ b. parameters_in (Entry place field.Encoding) (flow_of b)) s.bytes flow ((bytes_is place field.Encoding ms s.bytes).1 s.held)
-      (ap (parameters_in (Entry place field.Encoding)) s.stated ∙ checked_said (Entry place field.Encoding) (states_parameters flow) flow (parameters_again flow s.parameters)),
-)
 
 blames_parameters : (key : Key) (o : Option Data) (d : Data) (read : Result FlowFields FlowFault) → o ≡ Some d → Blames key o (parameters_in key read)
 blames_parameters key o d (Ok flow) at other h = blames_checked key o d (states_parameters flow) flow at other h

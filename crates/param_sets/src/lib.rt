@@ -24,6 +24,3 @@ pub use refusal::Refusal;
 pub use scheduling::Scheduling;
 pub use sets::{Sets, SetsFields};
 pub use units::Units;
-
-#[cfg(test)]
-mod tests;

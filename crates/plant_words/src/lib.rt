@@ -5,8 +5,6 @@ mod asked;
 mod command;
 mod laws_of_words;
 mod reading;
-#[cfg(test)]
-mod tests;
 
 pub use asked::{Word, WordsFault};
 pub use laws_of_words::{help_is_asked, orders_are_named, others_are_wrong, words_come_to_one};

@@ -158,7 +158,7 @@ keys_of_again document ms consts keys held h =
 
 -- ---- the classes
 
-class_name_is : (classes : List Class) (place : Place) (ms : Members) (name : List ℕ) → (class_name_at classes place ms ≡ Ok name) ↔ SaysClassName classes ms name
+pub class_name_is : (classes : List Class) (place : Place) (ms : Members) (name : List ℕ) → (class_name_at classes place ms ≡ Ok name) ↔ SaysClassName classes ms name
 unfolding class_name_at is_class_name
 class_name_is classes place ms name = (
   λ h.
@@ -183,17 +183,17 @@ class_name_is classes place ms name = (
       (both_true (is_class_name name) (not (list_any (is_named name) classes)) valid (not_again (list_any (is_named name) classes) new))),
 )
 
-parameters_again : (flow : FlowFields) → StatesParameters flow → states_parameters flow ≡ true
+pub parameters_again : (flow : FlowFields) → StatesParameters flow → states_parameters flow ≡ true
 unfolding states_parameters
 parameters_again flow h = rw (h.reference, h.sfid, h.sid, h.class_name, h.errored, h.set_type) refl
 
-stated_said : (key : Key) (read : Result FlowFields FlowFault) (flow : FlowFields) → parameters_in key read ≡ Ok flow → (read ≡ Ok flow) × StatesParameters flow
+pub stated_said : (key : Key) (read : Result FlowFields FlowFault) (flow : FlowFields) → parameters_in key read ≡ Ok flow → (read ≡ Ok flow) × StatesParameters flow
 stated_said key (Ok x) flow h =
     let test = checked_ok key (states_parameters x) x flow h in
     (ap (λ (f : FlowFields). Ok f) test.1, subst StatesParameters test.1 (parameters x test.0))
 stated_said key (Err fault) flow h = cc
 
-encoding_is : (place : Place) (ms : Members) (flow : FlowFields) → (class_encoding_at place ms ≡ Ok flow) ↔ SaysParameters ms flow
+pub encoding_is : (place : Place) (ms : Members) (flow : FlowFields) → (class_encoding_at place ms ≡ Ok flow) ↔ SaysParameters ms flow
 unfolding class_encoding_at
 encoding_is place ms flow = (
   λ h.

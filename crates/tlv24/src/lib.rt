@@ -8,8 +8,6 @@ mod fields;
 mod flow;
 mod laws;
 mod read;
-#[cfg(test)]
-mod tests;
 mod tlv;
 mod write;
 

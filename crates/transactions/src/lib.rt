@@ -12,6 +12,3 @@ pub use kept::{Kept, KeptFault};
 pub use life::timers_keep_time;
 pub use tick::{GivenUp, GivenUps, Resend, Resends, Ticked};
 pub use timers::Timers;
-
-#[cfg(test)]
-mod tests;

@@ -2,7 +2,10 @@
 
 ghost use Rattle.dsx_messages.specs.WellFormed.{IsWellFormed};
 
-use super::*;
+use dsx_messages::{
+    Code, Detail, FlowId, Flows, Kind, Message, MessageFault, Modem, Reply, ReplyFields, Request,
+    message_is_read, read, read_back, read_reply, write_reply,
+};
 use std::alloc::Global;
 use std::process::Abort;
 use std::test::Fail;

@@ -1,8 +1,6 @@
 //! Examples of identifiers and of a ledger.
 
-use crate::budget::Budget;
-use crate::id_range::IdRange;
-use crate::ledger::{Ledger, LedgerFault, Over};
+use admission::{Budget, IdRange, Ledger, LedgerFault, Over};
 use std::test::Fail;
 
 #[test]

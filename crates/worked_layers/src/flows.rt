@@ -2,10 +2,9 @@
 
 ghost use Rattle.std.specs.Prelude.{◌≡◌, Some};
 
-use crate::flow::{Flow, Pending};
-use crate::flows::Flows;
 use admission::{Budget, IdRange, Over};
 use dsx_messages::Modem;
+use flow_table::{Flow, Flows, Pending};
 use param_sets::{ParamFields, ParamSet, Scheduling, Sets, Units};
 use std::test::Fail;
 

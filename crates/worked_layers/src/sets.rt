@@ -3,17 +3,12 @@
 ghost use Rattle.tlv24.specs.Range.{AreInRange};
 ghost use Rattle.param_sets.specs.ParamSet.{IsParameterSet};
 
-use crate::comparing::within;
-use crate::needing::need;
-use crate::overriding::overridden;
-use crate::param_set::{ParamFields, ParamSet};
-use crate::reading::from_tlv;
-use crate::refusal::Refusal;
-use crate::scheduling::Scheduling;
-use crate::sets::{Sets, SetsFields};
-use crate::units::Units;
 use admission::Budget;
 use dsx_messages::Code;
+use param_sets::{
+    ParamFields, ParamSet, Refusal, Scheduling, Sets, SetsFields, Units, from_tlv, need,
+    overridden, within,
+};
 use std::test::Fail;
 use tlv24::{ClassName, FlowFields, FlowTlv};
 

@@ -1,4 +1,4 @@
-use crate::{Policy, RankInput, Ranking, rank_by};
+use grant_policy::{Policy, RankInput, Ranking, rank_by};
 use std::alloc::{AllocError, Global};
 use std::process::Abort;
 use std::test::Fail;

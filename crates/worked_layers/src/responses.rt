@@ -1,14 +1,11 @@
 //! Examples of transactions, tick by tick.
 
-use crate::entry::Standing;
-use crate::kept::{Kept, KeptFault};
-use crate::tick::GivenUp;
-use crate::timers::Timers;
 use dsx_messages::{Kind, Modem};
 use std::alloc::{AllocError, Global};
 use std::process::Abort;
 use std::test::Fail;
 use tlv24::Bytes;
+use transactions::{GivenUp, Kept, KeptFault, Standing, Timers};
 
 const ONE: Modem = Modem([0, 0, 0, 0, 0, 1]);
 
@@ -284,9 +281,4 @@ fn a_tick_that_lacks_memory_changes_nothing(rt: HostRuntime) -> Result<(), Fail>
         }
     }
     Err(Fail::new("the tick never had memory"))
-}
-
-#[test]
-fn timers_keep_time() {
-    crate::life::timers_keep_time();
 }

@@ -2,8 +2,11 @@
 
 ghost use Rattle.tlv24.specs.Range.{AreInRange};
 
-use super::*;
 use std::test::Fail;
+use tlv24::{
+    Bytes, ClassName, ErrorEncodings, FlowFault, FlowFields, FlowTlv, TlvFault, Tlvs, first_tlv,
+    flow_is_read, one_meaning, read_back, read_flow, write_flow,
+};
 
 /// An encoding with every known subtype.
 const WHOLE: &[u8] = &[

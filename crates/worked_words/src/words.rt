@@ -1,4 +1,4 @@
-use crate::{Word, WordsFault, read_words};
+use plant_words::{Word, WordsFault, read_words};
 use std::alloc::Global;
 use std::test::Fail;
 

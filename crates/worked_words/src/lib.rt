@@ -1,0 +1,5 @@
+//! The program's words, as tests alone.
+#![tactic(auto)]
+
+#[cfg(test)]
+mod words;
