@@ -1,10 +1,11 @@
 //! Crafted and cut messages: what a modem of A is told on a plant of its own.
 
-use crate::playing::{check, check_on, plant_with};
 use hex::{decode, encode_upper};
 use std::alloc::Global;
 use std::process::Abort;
 use std::test::Fail;
+use worked_plants::{OPERATORS, SHARED};
+use worked_playing::{check, check_on};
 
 /// An addition of a best-effort flow under reference 1.
 const ADDITION: &str = "0F0001180A010200010601060F0102";
@@ -15,7 +16,7 @@ const SERVED: &str = "R 10000100180E0102000102040000010103020101";
 /// Asserts that a message is answered so on a plant where nothing else was sent: `R` and the reply, or `S` and the cause.
 fn check_answer(rt: &impl Abort, alloc: Global, sent: &str, answer: &str) -> Result<(), Fail> {
     let (word, told) = answer.split_once(' ').ok_or("no answer")?;
-    let script = format!(in alloc; "\nM 020000000001 {sent}\n= {word} 0 020000000001 {told}")?;
+    let script = format!(in alloc; "\nM 020000000001 {sent}\n= {word} A 020000000001 {told}")?;
     check(rt, alloc, script.as_str())
 }
 
@@ -128,15 +129,15 @@ fn bytes_behind_a_fixed_part_are_skipped(rt: HostRuntime) -> Result<(), Fail> {
         rt.alloc(),
         "
 M 020000000001 0F0001180A010200010601060F0102
-= R 0 020000000001 10000100180E0102000102040000010103020101
+= R A 020000000001 10000100180E0102000102040000010103020101
 M 020000000001 11000100FFFFFF
 Q 020000000001 257 1
-K 0
-= F 0 0 257/5/8/1 0/6/9/31
+K A
+= F A 0 257/5/8/1 0/6/9/31
 M 020000000001 150002DEAD00000101FFFFFF
-= R 0 020000000001 1600020000
+= R A 020000000001 1600020000
 Q 020000000001 257 1
-= S 0 020000000001 NoSuchSid",
+= S A 020000000001 NoSuchSid",
     )
 }
 
@@ -148,13 +149,13 @@ fn a_request_for_the_sid_of_another_operator_is_silent(rt: HostRuntime) -> Resul
         rt.alloc(),
         "
 M 020000000003 0F0001180A010200010601060F0102
-= R 1 020000000003 10000100180E0102000102040000020103020201
+= R B 020000000003 10000100180E0102000102040000020103020201
 M 020000000003 11000100
 Q 020000000001 513 1
-= S 0 020000000001 NoSuchSid
+= S A 020000000001 NoSuchSid
 T
-= F 0 0 0/6/8/32
-= F 1 0 0/6/40/32
+= F A 0 0/6/8/32
+= F B 0 0/6/40/32
 = MAP 0 01010400000000000000000000000000FFFC400000018008000180280001C048",
     )
 }
@@ -163,24 +164,20 @@ T
 #[test]
 fn at_the_last_frame_number_messages_are_served(rt: HostRuntime) -> Result<(), Fail> {
     let alloc = rt.alloc();
-    let plant = plant_with(
-        alloc,
-        "ucd_count = 1\n",
-        "ucd_count = 1\nfirst_frame = 4294967295\n",
-    )?;
+    let plant = format!(in alloc; "{SHARED}first_frame = 4294967295\n{OPERATORS}")?;
     check_on(
         &rt,
         alloc,
         plant.as_str(),
         "
-K 0
+K A
 = refused: Book(FramesSpent)
-K 0
+K A
 = refused: Book(FramesSpent)
-H 0
+H A
 M 020000000001 0F0001180A010200010601060F0102
-= R 0 020000000001 10000100180E0102000102040000010103020101
-H 0
+= R A 020000000001 10000100180E0102000102040000010103020101
+H A
 = M 020000000001 0F0001180A010200010601060F0102
 = W",
     )

@@ -7,10 +7,6 @@ mod crafted;
 #[cfg(test)]
 mod limits;
 #[cfg(test)]
-mod playing;
-#[cfg(test)]
 mod spoilt;
 #[cfg(test)]
 mod tables;
-#[cfg(test)]
-mod telling;

@@ -1,6 +1,5 @@
 //! Spoilt messages to A beside a flow of B: what B has done and its next frame are as if A had heard nothing.
 
-use crate::playing::{OPERATOR_A, OPERATOR_B, SHARED, opened, play_all};
 use dsx_messages::Modem;
 use hex::decode;
 use operator_machine::Heard;
@@ -11,6 +10,8 @@ use std::alloc::Global;
 use std::process::Abort;
 use std::test::Fail;
 use tlv24::Bytes;
+use worked_plants::PLANT;
+use worked_playing::{Want, opened, play_all};
 
 /// A flow of B, which asks for three minislots.
 const FLOW_OF_B: &str = "
@@ -20,15 +21,15 @@ Q 020000000003 513 3";
 
 /// What B has done, and its frame.
 const TOLD_OF_B: &str = "
-H 1
+H B
 = M 020000000003 0F0001180A010200010601060F0102
 = W
 = M 020000000003 11000100
 = W
 = Q 020000000003 513 3
 = W
-K 1
-= F 1 0 513/5/40/3 0/6/43/29";
+K B
+= F B 0 513/5/40/3 0/6/43/29";
 
 /// What a modem of A sends in turn: a flow that is refused for its interval; a flow and its changes; additions and a deletion
 /// where the budget is taken; a change that frees a part of it.
@@ -53,8 +54,7 @@ fn bytes(alloc: Global, digits: &str) -> Result<Vec<u8>, Fail> {
 
 /// The plant of the two operators.
 fn plant(alloc: Global) -> Result<Plant, Fail> {
-    let text = format!(in alloc; "{SHARED}{OPERATOR_A}{OPERATOR_B}")?;
-    Ok(read_plant(alloc, text.as_str()).ok().ok_or("no plant")?)
+    Ok(read_plant(alloc, PLANT).ok().ok_or("no plant")?)
 }
 
 /// A modem of A sends a message, and A works it.
@@ -68,6 +68,27 @@ fn send(alloc: Global, core: &mut PlantCore, message: &[u8]) -> Result<(), Fail>
     Ok(())
 }
 
+/// A modem of A sends these messages, and then bytes.
+fn send_all(
+    alloc: Global,
+    core: &mut PlantCore,
+    before: &[&str],
+    message: &[u8],
+) -> Result<(), Fail> {
+    for earlier in before {
+        let earlier = bytes(alloc, earlier)?;
+        send(alloc, core, earlier.as_slice())?;
+    }
+    send(alloc, core, message)
+}
+
+/// What lines come to over a core.
+fn told_by(alloc: Global, core: &mut PlantCore, lines: &str) -> Result<String, Fail> {
+    let mut text = String::new(alloc);
+    play_all(alloc, core, &mut text, lines, Want::Told)?;
+    Ok(text)
+}
+
 /// What is told of B where a modem of A sends these messages, and then bytes.
 fn told_of_b(
     alloc: Global,
@@ -76,16 +97,9 @@ fn told_of_b(
     message: &[u8],
 ) -> Result<String, Fail> {
     let mut core = opened!(alloc, plant.copy(alloc)?);
-    let mut heard = String::new(alloc);
-    play_all(alloc, &mut core, &mut heard, FLOW_OF_B)?;
-    for earlier in before {
-        let earlier = bytes(alloc, earlier)?;
-        send(alloc, &mut core, earlier.as_slice())?;
-    }
-    send(alloc, &mut core, message)?;
-    let mut text = String::new(alloc);
-    play_all(alloc, &mut core, &mut text, "\nH 1\nK 1")?;
-    Ok(text)
+    let _heard = told_by(alloc, &mut core, FLOW_OF_B)?;
+    send_all(alloc, &mut core, before, message)?;
+    told_by(alloc, &mut core, "\nH B\nK B")
 }
 
 /// A message with a bit changed.

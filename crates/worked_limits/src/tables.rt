@@ -1,8 +1,9 @@
 //! Full tables: modems, flows, transactions and service classes up to their limits.
 
-use crate::playing::{OPERATOR_A, SHARED, changed, check_on};
 use std::alloc::{AllocError, Global};
 use std::test::Fail;
+use worked_plants::{OPERATOR_A, SHARED};
+use worked_playing::{changed, check_on};
 
 /// What operator A alone has, with room for 1,024 flows and 256 transactions, and one SID.
 fn roomy(alloc: Global, timers: &str) -> Result<String, Fail> {
@@ -41,10 +42,10 @@ fn addition(alloc: Global, last: u32) -> Result<String, AllocError> {
     format!(in alloc;
         "
 M {modem} 0F0001180A010200010601060F0102
-= R 0 {modem} 10000100180E010200010204{last:08X}03020001
+= R A {modem} 10000100180E010200010204{last:08X}03020001
 M {modem} 11000100
 M {modem} 12000218090204{last:08X}060100
-= R 0 {modem} 1300020018060204{last:08X}
+= R A {modem} 1300020018060204{last:08X}
 M {modem} 14000200"
     )
 }
@@ -55,7 +56,7 @@ fn put_additions(alloc: Global, text: &mut String, frame: u32) -> Result<(), All
         let lines = addition(alloc, frame.saturating_mul(128).saturating_add(place))?;
         text.push_str(lines.as_str())?;
     }
-    text.push_str(format!(in alloc; "\nK 0\n= F 0 {frame} 0/6/8/32")?.as_str())
+    text.push_str(format!(in alloc; "\nK A\n= F A {frame} 0/6/8/32")?.as_str())
 }
 
 /// 1,024 modems of one operator add 1,024 flows. One more is refused; the last is deleted, and its SFID is given again.
@@ -70,13 +71,13 @@ fn flows_of_1024_modems_are_added(rt: HostRuntime) -> Result<(), Fail> {
     script.push_str(
         "
 M 020000000001 0F0003180A010200010601060F0102
-= R 0 020000000001 10000303
+= R A 020000000001 10000303
 M 020000000001 150004000000000400
-= R 0 020000000001 1600040500
+= R A 020000000001 1600040500
 M 020000000400 150004000000000400
-= R 0 020000000400 1600040000
+= R A 020000000400 1600040000
 M 020000000001 0F0005180A010200010601060F0102
-= R 0 020000000001 10000500180E0102000102040000040003020001
+= R A 020000000001 10000500180E0102000102040000040003020001
 M 020000000401 00
 = refused: UnknownModem { modem: Modem([2, 0, 0, 0, 4, 1]) }",
     )?;
@@ -105,7 +106,7 @@ fn put_changes(alloc: Global, text: &mut String) -> Result<(), Fail> {
         let lines = format!(in alloc;
             "
 M 020000000001 12{tid:04X}18090204{sfid:08X}060100
-= R 0 020000000001 13{tid:04X}0018060204{sfid:08X}"
+= R A 020000000001 13{tid:04X}0018060204{sfid:08X}"
         )?;
         text.push_str(lines.as_str())?;
     }
@@ -116,7 +117,7 @@ M 020000000001 12{tid:04X}18090204{sfid:08X}060100
 fn put_replies(alloc: Global, text: &mut String) -> Result<(), Fail> {
     for tid in 1..=256u32 {
         let sfid = 768 + tid;
-        let line = format!(in alloc; "\n= R 0 020000000001 13{tid:04X}0018060204{sfid:08X}")?;
+        let line = format!(in alloc; "\n= R A 020000000001 13{tid:04X}0018060204{sfid:08X}")?;
         text.push_str(line.as_str())?;
     }
     Ok(())
@@ -133,19 +134,19 @@ fn a_tick_sends_256_responses_again(rt: HostRuntime) -> Result<(), Fail> {
     script.push_str(
         "
 M 020000000001 1201011809020400000001060100
-= R 0 020000000001 13010103
-K 0",
+= R A 020000000001 13010103
+K A",
     )?;
     put_replies(alloc, &mut script)?;
     script.push_str(
         "
-= F 0 0 0/6/8/32
-K 0
-= F 0 1 0/6/8/32
+= F A 0 0/6/8/32
+K A
+= F A 1 0/6/8/32
 M 020000000001 1201011809020400000001060100
-= R 0 020000000001 130101001806020400000001
+= R A 020000000001 130101001806020400000001
 M 020000000001 0F0102180A010200010601060F0102
-= R 0 020000000001 10010203",
+= R A 020000000001 10010203",
     )?;
     check_on(&rt, alloc, plant.as_str(), script.as_str())
 }
@@ -185,15 +186,15 @@ fn the_last_of_64_classes_is_found(rt: HostRuntime) -> Result<(), Fail> {
         plant.as_str(),
         "
 M 020000000001 0F000118190102000104104142434445464748494A4B4C4D4E4F00060106
-= R 0 020000000001 10000100180E0102000102040000010103020101
+= R A 020000000001 10000100180E0102000102040000010103020101
 M 020000000001 11000100
 M 020000000001 0F0002180D01020002040443303000060106
-= R 0 020000000001 10000200180E0102000202040000010203020102
+= R A 020000000001 10000200180E0102000202040000010203020102
 M 020000000001 0F0003180D01020003040443363200060106
-= R 0 020000000001 10000300180E0102000302040000010303020103
+= R A 020000000001 10000300180E0102000302040000010303020103
 M 020000000001 0F0004180D01020004040443363300060106
-= R 0 020000000001 10000404180C010200040506010104020104
-K 0
-= F 0 0 257/5/8/1 0/6/9/31",
+= R A 020000000001 10000404180C010200040506010104020104
+K A
+= F A 0 257/5/8/1 0/6/9/31",
     )
 }

@@ -1,7 +1,8 @@
 //! Ticks and collections through the core: each operator's part of a frame, and the MAP that all parts give.
 
-use crate::playing::{OPERATOR_A, OPERATOR_B, SHARED, check, plant_of, played};
 use std::test::Fail;
+use worked_plants::{OPERATORS, SHARED};
+use worked_playing::{check, check_on};
 
 /// Five minislots are a long grant and three a short one: short ones have at most `short_max`, 4.
 #[test]
@@ -116,7 +117,6 @@ T
 /// A frame number is four bytes: the last frame is 4294967294, and a tick at 4294967295 is refused.
 #[test]
 fn ticks_behind_the_last_frame_are_refused(rt: HostRuntime) -> Result<(), Fail> {
-    let shared = format!(in rt.alloc(); "{SHARED}first_frame = 4294967294\n")?;
     let script = "
 T
 = F A 4294967294 0/6/8/32
@@ -128,7 +128,7 @@ T B
 = refused at 0: Book(FramesSpent)
 K A
 = refused: Book(FramesSpent)";
-    let plant = plant_of(rt.alloc(), shared.as_str(), OPERATOR_A, OPERATOR_B)?;
-    assert_eq!(rt; played(rt.alloc(), plant, script)?.as_str(), script);
-    Ok(())
+    let alloc = rt.alloc();
+    let plant = format!(in alloc; "{SHARED}first_frame = 4294967294\n{OPERATORS}")?;
+    check_on(&rt, alloc, plant.as_str(), script)
 }

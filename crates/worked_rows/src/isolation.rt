@@ -1,11 +1,13 @@
 //! The headline by example: a modem of B floods its operator between all steps of A, and A is told what it is told where B is
 //! silent, and where there is no B.
 
-use crate::playing::{OPERATOR_A, OPERATOR_B, SHARED, changed, plant_of, played};
 use hex::decode;
 use map_assembly::{MapSpan, read_map};
 use std::alloc::{AllocError, Global};
+use std::process::Abort;
 use std::test::Fail;
+use worked_plants::{OPERATOR_A, OPERATOR_B, SHARED};
+use worked_playing::{Want, changed, plant_of, played};
 
 /// The flood: four flows take all of B's SIDs (513 to 516) and its budget (8 minislots each); refusals fill its eight kept
 /// transactions; then faulty messages, requests for minislots of A's SID, of unsolicited grants and of all it may ask for, and
@@ -216,7 +218,8 @@ fn tell(alloc: Global, told: &mut Told, line: &str) -> Result<(), Fail> {
 
 /// What is told in the world of A and this B by a script.
 fn told_in(alloc: Global, b: &str, script: &str) -> Result<Told, Fail> {
-    let text = played(alloc, plant_of(alloc, SHARED, OPERATOR_A, b)?, script)?;
+    let plant = plant_of(alloc, SHARED, OPERATOR_A, b)?;
+    let text = played(alloc, plant, script, Want::Told)?;
     let mut told = Told {
         outputs: String::new(alloc),
         parts: String::new(alloc),
@@ -255,6 +258,12 @@ fn crowded(alloc: Global) -> Result<String, Fail> {
     changed(alloc, row.as_str(), "transactions = 4", "transactions = 8")
 }
 
+/// Asserts that A is told its outputs and its part of each MAP.
+fn check_a(rt: &impl Abort, told: &Told) {
+    assert_eq!(rt; told.outputs.as_str(), OUTPUTS);
+    assert_eq!(rt; told.parts.as_str(), PARTS);
+}
+
 /// The flood is answered by B's own limits, and its flows take all of B's slice.
 #[test]
 fn the_flood_is_answered(rt: HostRuntime) -> Result<(), Fail> {
@@ -262,7 +271,7 @@ fn the_flood_is_answered(rt: HostRuntime) -> Result<(), Fail> {
     let row = crowded(alloc)?;
     let script = format!(in alloc; "{FLOOD}{CROWDED_FRAME}")?;
     let plant = plant_of(alloc, SHARED, OPERATOR_A, row.as_str())?;
-    let text = played(alloc, plant, script.as_str())?;
+    let text = played(alloc, plant, script.as_str(), Want::Told)?;
     assert_eq!(rt; text.as_str(), script.as_str());
     Ok(())
 }
@@ -273,8 +282,7 @@ fn an_operator_alone_is_told_its_own(rt: HostRuntime) -> Result<(), Fail> {
     let alloc = rt.alloc();
     let lines = without_b(alloc, STEPS)?;
     let told = told_in(alloc, "", lines.as_str())?;
-    assert_eq!(rt; told.outputs.as_str(), OUTPUTS);
-    assert_eq!(rt; told.parts.as_str(), PARTS);
+    check_a(&rt, &told);
     assert_eq!(rt; told.others.as_str(), "");
     Ok(())
 }
@@ -287,10 +295,8 @@ fn a_flood_of_one_operator_is_not_noticed_by_another(rt: HostRuntime) -> Result<
     let quiet = told_in(alloc, row.as_str(), STEPS)?;
     let script = flooded(alloc, STEPS)?;
     let flooded = told_in(alloc, row.as_str(), script.as_str())?;
-    assert_eq!(rt; flooded.outputs.as_str(), quiet.outputs.as_str());
-    assert_eq!(rt; flooded.parts.as_str(), quiet.parts.as_str());
-    assert_eq!(rt; flooded.outputs.as_str(), OUTPUTS);
-    assert_eq!(rt; flooded.parts.as_str(), PARTS);
+    check_a(&rt, &quiet);
+    check_a(&rt, &flooded);
     assert_eq!(rt; quiet.others.as_str(), SILENT);
     assert!(rt; flooded.others.as_str().split_once(CROWDED_LAST).is_some());
     Ok(())

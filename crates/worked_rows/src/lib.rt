@@ -10,12 +10,10 @@ mod frames;
 #[cfg(test)]
 mod isolation;
 #[cfg(test)]
-mod playing;
-#[cfg(test)]
 mod refusals;
 #[cfg(test)]
 mod reslicing;
 #[cfg(test)]
 mod routes;
 #[cfg(test)]
-mod telling;
+mod want_of_memory;

@@ -1,13 +1,13 @@
 //! Steps that the core refuses, cores that are not opened, and that a refusal changes nothing.
 
-use crate::playing::{OPERATOR_A, OPERATOR_B, SHARED, check, plant_of, ranking};
-use crate::telling::put_outs;
 use grant_policy::Policy;
-use plant_core::{CoreFault, CoreOpenFault, PlantCore};
+use plant_core::{CoreFault, CoreOpenFault, PlantCore, RunStop};
 use plant_runs::{Out, Step};
 use std::alloc::Global;
 use std::process::Abort;
 use std::test::Fail;
+use worked_plants::{OPERATOR_A, OPERATOR_B, SHARED};
+use worked_playing::{check, opened, plant_of, put_outs, ranking};
 
 /// A modem that no row holds is unknown, whatever it sends, and no history has it.
 #[test]
@@ -103,34 +103,39 @@ fn check_outs(rt: &impl Abort, alloc: Global, outs: &[Out], lines: &str) -> Resu
     Ok(())
 }
 
+/// Asserts where a run is stopped, by which fault, and what the steps before it put out.
+fn check_stop(
+    rt: &impl Abort,
+    alloc: Global,
+    answer: Result<Vec<Out>, RunStop>,
+    told: (usize, CoreFault),
+    lines: &str,
+) -> Result<(), Fail> {
+    match answer {
+        Ok(_) => Err(Fail::new("not stopped")),
+        Err(stop) => {
+            assert_eq!(rt; (stop.at, stop.fault), told);
+            check_outs(rt, alloc, stop.outs.as_slice(), lines)
+        }
+    }
+}
+
 /// A run stops at the step that is refused, with what the steps before it put out: the step behind it is not done.
 #[test]
 fn a_run_stops_at_the_refused_step(rt: HostRuntime) -> Result<(), Fail> {
     let alloc = rt.alloc();
-    let plant = plant_of(alloc, SHARED, OPERATOR_A, OPERATOR_B)?;
-    let mut rankings = Vec::new(alloc);
-    rankings.push(ranking!(alloc, Policy::Strict))?;
-    rankings.push(ranking!(alloc, Policy::Strict))?;
-    let opened = PlantCore::open(alloc, plant, rankings);
-    let mut core = opened.ok().ok_or("not opened")?;
+    let mut core = opened!(alloc, plant_of(alloc, SHARED, OPERATOR_A, OPERATOR_B)?);
     let steps = [
         Step::Work { op: 0 },
         Step::Collect { op: 0 },
         Step::Work { op: 1 },
     ];
-    match core.run(alloc, &steps) {
-        Ok(_) => return Err(Fail::new("not stopped")),
-        Err(stop) => {
-            assert_eq!(rt; stop.at, 1);
-            assert_eq!(rt; stop.fault, CoreFault::NothingToCollect { op: 0 });
-            check_outs(&rt, alloc, stop.outs.as_slice(), "\n= S A - Idle")?;
-        }
-    }
+    let told = (1, CoreFault::NothingToCollect { op: 0 });
+    check_stop(&rt, alloc, core.run(alloc, &steps), told, "\n= S A - Idle")?;
     match core.run(alloc, &[Step::Work { op: 1 }]) {
-        Ok(outs) => check_outs(&rt, alloc, outs.as_slice(), "\n= S B - Idle")?,
-        Err(_) => return Err(Fail::new("stopped")),
+        Ok(outs) => check_outs(&rt, alloc, outs.as_slice(), "\n= S B - Idle"),
+        Err(_) => Err(Fail::new("stopped")),
     }
-    Ok(())
 }
 
 /// Refused steps among others change nothing: the frame that waits is there, and its MAP comes out whole.

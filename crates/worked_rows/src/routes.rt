@@ -1,8 +1,9 @@
 //! More modems than the core remembers where they belong: each message still goes to the operator that lists its modem.
 
-use crate::playing::{OPERATOR_A, OPERATOR_B, SHARED, changed, plant_of, played};
 use std::alloc::Global;
 use std::test::Fail;
+use worked_plants::{OPERATOR_A, OPERATOR_B, SHARED};
+use worked_playing::{changed, check_on};
 
 /// The modems of A: 020000000101 to 020000000111, counted in hexadecimal.
 const MODEMS: usize = 17;
@@ -42,8 +43,6 @@ fn more_modems_than_are_remembered_reach_their_operators(rt: HostRuntime) -> Res
     let row = many_modems(alloc)?;
     let lines = short_lines(alloc)?;
     let script = format!(in alloc; "{lines}\nH B\n= M 020000000003 0F00\n= W")?;
-    let plant = plant_of(alloc, SHARED, row.as_str(), OPERATOR_B)?;
-    let text = played(alloc, plant, script.as_str())?;
-    assert_eq!(rt; text.as_str(), script.as_str());
-    Ok(())
+    let plant = format!(in alloc; "{SHARED}{row}{OPERATOR_B}")?;
+    check_on(&rt, alloc, plant.as_str(), script.as_str())
 }

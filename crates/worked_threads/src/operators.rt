@@ -1,6 +1,5 @@
 //! As many operators as a plant may have, each with a worker: 34 threads.
 
-use crate::playing::{SHARED, ranking, steps_in};
 use grant_policy::Policy;
 use operator_book::Book;
 use operator_machine::{Entry, Output};
@@ -13,6 +12,8 @@ use std::process::Abort;
 use std::sync::Wait;
 use std::test::Fail;
 use std::thread::Threads;
+use worked_plants::SHARED;
+use worked_playing::{ranking, steps_in};
 
 /// 32 operators with a slice of two minislots each.
 fn operators(alloc: Global) -> Result<String, Fail> {

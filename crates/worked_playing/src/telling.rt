@@ -1,4 +1,4 @@
-//! What a core puts out, as lines of text.
+//! What operators and the assembly put out, as lines of text.
 
 use dsx_messages::Modem;
 use hex::encode_upper;
@@ -8,12 +8,12 @@ use slice_scheduler::{Elements, Iuc};
 use slice_table::Op;
 use std::alloc::{AllocError, Global};
 
-/// The name of an operator of the plants here.
-fn name_of(op: Op) -> &'static str {
+/// The name of an operator: a letter of the first two, the number of another's place.
+fn name_of(alloc: Global, op: Op) -> Result<String, AllocError> {
     match op {
-        0 => "A",
-        1 => "B",
-        _ => "?",
+        0 => String::from_str(alloc, "A"),
+        1 => String::from_str(alloc, "B"),
+        _ => format!(in alloc; "{op}"),
     }
 }
 
@@ -39,9 +39,15 @@ fn put_elements(alloc: Global, text: &mut String, elements: &Elements) -> Result
     Ok(())
 }
 
-/// Writes the line of an operator's output: a reply's digits, the cause of silence, or a frame.
-fn put_output(alloc: Global, text: &mut String, op: Op, output: &Output) -> Result<(), AllocError> {
-    let name = name_of(op);
+/// Writes the line of an operator's output: `R`, the modem and a reply's digits; `S`, the modem and the cause of silence; or `F`, a
+/// frame's number and elements.
+pub fn put_output(
+    alloc: Global,
+    text: &mut String,
+    op: Op,
+    output: &Output,
+) -> Result<(), AllocError> {
+    let name = name_of(alloc, op)?;
     match output {
         Output::Reply { modem, bytes } => {
             let digits = encode_upper(alloc, bytes.as_slice())?;
@@ -72,8 +78,8 @@ fn put_out(alloc: Global, text: &mut String, out: &Out) -> Result<(), AllocError
     }
 }
 
-/// Writes each of some outputs.
-pub(crate) fn put_outs(alloc: Global, text: &mut String, outs: &[Out]) -> Result<(), AllocError> {
+/// Writes each of some outputs: a line of an operator, or `MAP`, its frame and its digits.
+pub fn put_outs(alloc: Global, text: &mut String, outs: &[Out]) -> Result<(), AllocError> {
     for out in outs {
         put_out(alloc, text, out)?;
     }
@@ -98,8 +104,20 @@ fn put_heard(
     }
 }
 
-/// Writes the lines of what an operator did, where there is the operator.
-pub(crate) fn put_history(
+/// Writes the line of an action.
+fn put_action(alloc: Global, text: &mut String, action: &Action) -> Result<(), AllocError> {
+    match action {
+        Action::Arrive { modem, heard } => put_heard(alloc, text, *modem, heard),
+        Action::Work => text.push_str("\n= W"),
+        Action::Tick => text.push_str("\n= K"),
+        Action::Reslice { from, row: _ } => {
+            text.push_str(format!(in alloc; "\n= Z {from}")?.as_str())
+        }
+    }
+}
+
+/// Writes the lines of what an operator did; `none` where there is no operator.
+pub fn put_history(
     alloc: Global,
     text: &mut String,
     history: Option<&[Entry]>,
@@ -108,14 +126,7 @@ pub(crate) fn put_history(
         return text.push_str("\n= none");
     };
     for entry in entries {
-        match &entry.action {
-            Action::Arrive { modem, heard } => put_heard(alloc, text, *modem, heard)?,
-            Action::Work => text.push_str("\n= W")?,
-            Action::Tick => text.push_str("\n= K")?,
-            Action::Reslice { from, row: _ } => {
-                text.push_str(format!(in alloc; "\n= Z {from}")?.as_str())?
-            }
-        }
+        put_action(alloc, text, &entry.action)?;
     }
     Ok(())
 }

@@ -1,0 +1,68 @@
+//! Texts of the plants of the worked examples: two operators, A and B, that share a frame of 72 minislots.
+#![tactic(auto)]
+
+/// The tables of these names, behind the texts that stand behind the brackets.
+macro_rules! tables {
+    ([] $($text:tt)*) => { concat!($($text),*) };
+    ([shared $($more:ident)*] $($text:tt)*) => {
+        tables!([$($more)*] $($text)* "[plant]
+frame_minislots = 72
+head = 8
+frame_us = 2000
+bytes_per_minislot = 16
+short_max = 4
+channel = 1
+ucd_count = 1
+")
+    };
+    ([operator_a $($more:ident)*] $($text:tt)*) => {
+        tables!([$($more)*] $($text)* "
+[[operator]]
+name = \"A\"
+slice = [8, 32]
+sfids = [257, 512]
+sids = [257, 272]
+flows = 4
+transactions = 4
+inbox = 4
+budget = 32
+elements = 8
+policy = \"strict\"
+modems = [\"020000000001\", \"020000000002\"]
+")
+    };
+    ([operator_b $($more:ident)*] $($text:tt)*) => {
+        tables!([$($more)*] $($text)* "
+[[operator]]
+name = \"B\"
+slice = [40, 32]
+sfids = [513, 768]
+sids = [513, 528]
+flows = 4
+transactions = 4
+inbox = 4
+budget = 32
+elements = 8
+policy = \"strict\"
+modems = [\"020000000003\"]
+")
+    };
+}
+
+/// What the operators share: a head of 8 minislots, and no service class.
+pub const SHARED: &str = tables!([shared]);
+
+/// Operator A's table: minislots 8 to 39, the modems 020000000001 and 020000000002.
+pub const OPERATOR_A: &str = tables!([operator_a]);
+
+/// Operator B's table: minislots 40 to 71, the modem 020000000003.
+pub const OPERATOR_B: &str = tables!([operator_b]);
+
+/// The tables of both operators, behind what they share.
+pub const OPERATORS: &str = tables!([operator_a operator_b]);
+
+/// A plant of operator A alone.
+pub const ALONE: &str = tables!([shared operator_a]);
+
+/// A plant of both operators.
+pub const PLANT: &str = tables!([shared operator_a operator_b]);

@@ -1,0 +1,181 @@
+//! The lines of a script, done with a core.
+
+use crate::lines::{place, steps_of};
+use crate::telling::{put_history, put_outs};
+use plant_core::{CoreFault, PlantCore, RunStop};
+use plant_runs::{Out, Step};
+use std::alloc::{AllocError, Global};
+use std::test::Fail;
+
+/// What comes of a step that finds no memory.
+#[derive(Clone, Copy, PartialEq, Eq)]
+pub enum Want {
+    /// It is told like another fault.
+    Told,
+    /// Nothing was done, and the step is done once more.
+    Again,
+}
+
+/// How many entries the histories of the first two operators have.
+fn done_by(core: &PlantCore) -> (usize, usize) {
+    let first = core.history(0).map_or(0, |entries| entries.len());
+    let second = core.history(1).map_or(0, |entries| entries.len());
+    (first, second)
+}
+
+/// Writes what a step puts out, or its fault.
+fn put_answer(
+    alloc: Global,
+    text: &mut String,
+    answer: Result<Vec<Out>, CoreFault>,
+) -> Result<(), AllocError> {
+    match answer {
+        Ok(outs) => put_outs(alloc, text, outs.as_slice()),
+        Err(fault) => text.push_str(format!(in alloc; "\n= refused: {fault:?}")?.as_str()),
+    }
+}
+
+/// Does a step, and writes what it puts out, or its fault.
+fn play_step(
+    alloc: Global,
+    core: &mut PlantCore,
+    text: &mut String,
+    step: &Step,
+) -> Result<(), AllocError> {
+    let step = step.copy(alloc)?;
+    put_answer(alloc, text, core.step(alloc, step))
+}
+
+/// The same; where the step finds no memory it is done once more, and a line says so if something was done before.
+fn play_step_again(
+    alloc: Global,
+    core: &mut PlantCore,
+    text: &mut String,
+    step: &Step,
+) -> Result<(), AllocError> {
+    let once = step.copy(alloc)?;
+    let before = done_by(core);
+    let answer = core.step(alloc, once);
+    if !matches!(answer, Err(CoreFault::NoMemory)) {
+        return put_answer(alloc, text, answer);
+    }
+    if done_by(core) != before {
+        text.push_str("\n= something was done")?;
+    }
+    play_step(alloc, core, text, step)
+}
+
+/// Writes what a run puts out, and the fault of the step that is refused.
+fn put_run(
+    alloc: Global,
+    text: &mut String,
+    answer: Result<Vec<Out>, RunStop>,
+) -> Result<(), AllocError> {
+    match answer {
+        Ok(outs) => put_outs(alloc, text, outs.as_slice()),
+        Err(stop) => {
+            put_outs(alloc, text, stop.outs.as_slice())?;
+            let (at, fault) = (stop.at, stop.fault);
+            text.push_str(format!(in alloc; "\n= refused at {at}: {fault:?}")?.as_str())
+        }
+    }
+}
+
+/// Does steps in one run, and writes what they put out, and the fault of the step that is refused.
+fn play_steps(
+    alloc: Global,
+    core: &mut PlantCore,
+    text: &mut String,
+    steps: &[Step],
+) -> Result<(), AllocError> {
+    put_run(alloc, text, core.run(alloc, steps))
+}
+
+/// The place of the step for which a run found no memory.
+fn wanting_at(answer: &Result<Vec<Out>, RunStop>) -> Option<usize> {
+    match answer {
+        Err(stop) if stop.fault == CoreFault::NoMemory => Some(stop.at),
+        _ => None,
+    }
+}
+
+/// Writes what a run put out up to its end or to the step that was refused.
+fn put_front(
+    alloc: Global,
+    text: &mut String,
+    answer: &Result<Vec<Out>, RunStop>,
+) -> Result<(), AllocError> {
+    match answer {
+        Ok(outs) => put_outs(alloc, text, outs.as_slice()),
+        Err(stop) => put_outs(alloc, text, stop.outs.as_slice()),
+    }
+}
+
+/// The same; where a step finds no memory the steps before it are done, and the others are done in a run of their own.
+fn play_steps_again(
+    alloc: Global,
+    core: &mut PlantCore,
+    text: &mut String,
+    steps: &[Step],
+) -> Result<(), AllocError> {
+    let answer = core.run(alloc, steps);
+    let Some(at) = wanting_at(&answer) else {
+        return put_run(alloc, text, answer);
+    };
+    put_front(alloc, text, &answer)?;
+    match steps.get(at..) {
+        Some(left) => play_steps(alloc, core, text, left),
+        None => Ok(()),
+    }
+}
+
+/// Does the steps of a line.
+fn play_line(
+    alloc: Global,
+    core: &mut PlantCore,
+    text: &mut String,
+    steps: &[Step],
+    want: Want,
+) -> Result<(), AllocError> {
+    match (steps, want) {
+        ([step], Want::Told) => play_step(alloc, core, text, step),
+        ([step], Want::Again) => play_step_again(alloc, core, text, step),
+        (_, Want::Told) => play_steps(alloc, core, text, steps),
+        (_, Want::Again) => play_steps_again(alloc, core, text, steps),
+    }
+}
+
+/// Plays a line: `H` writes the history of an operator, another does its steps.
+fn play(
+    alloc: Global,
+    core: &mut PlantCore,
+    text: &mut String,
+    line: &str,
+    want: Want,
+) -> Result<(), Fail> {
+    if let Some(name) = line.strip_prefix("H ") {
+        put_history(alloc, text, core.history(place(name)?))?;
+        return Ok(());
+    }
+    let steps = steps_of(alloc, core.plant(), line)?;
+    play_line(alloc, core, text, steps.as_slice(), want)?;
+    Ok(())
+}
+
+/// Plays the lines of a script but those behind `=`, and writes each with what is put out behind `=` below it.
+pub fn play_all(
+    alloc: Global,
+    core: &mut PlantCore,
+    text: &mut String,
+    all: &str,
+    want: Want,
+) -> Result<(), Fail> {
+    for line in all.split('\n') {
+        if !line.is_empty() && !line.starts_with('=') {
+            text.push_str("\n")?;
+            text.push_str(line)?;
+            play(alloc, core, text, line, want)?;
+        }
+    }
+    Ok(())
+}
