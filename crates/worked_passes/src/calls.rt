@@ -74,8 +74,9 @@ fn replies<R: Wait>(rt: &R, alloc: Global, cell: &PassedCell, pass: &mut Pass) -
     Some(receipt.index == 1 && is_reply(alloc, receipt.outputs.as_slice(), REPLY)?)
 }
 
+/// A reply is told at once. A cell that is always closed is seen here, since no clause can refuse it.
 #[test]
-fn a_reply_is_told_at_once(rt: HostRuntime) -> Result<(), Fail> {
+fn passed_cell_always_closed(rt: HostRuntime) -> Result<(), Fail> {
     let alloc = rt.alloc();
     let book = book_from(alloc, FIRST, strict!(alloc)).ok_or("no book")?;
     let (cell, mut pass, _) = with_two(alloc, book).ok_or("no cell")?;

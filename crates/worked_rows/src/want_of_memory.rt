@@ -43,9 +43,10 @@ H B
     )
 }
 
-/// Steps of each kind, one by one: a frame waits to be collected while others are refused.
+/// Steps of each kind, one by one: a frame waits to be collected while others are refused. A body that always answers want of
+/// memory is seen here, since no clause can refuse it.
 #[test]
-fn steps_one_by_one(rt: HostRuntime) -> Result<(), Fail> {
+fn always_no_memory(rt: HostRuntime) -> Result<(), Fail> {
     check_again(
         &rt,
         rt.alloc(),

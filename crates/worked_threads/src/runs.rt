@@ -29,8 +29,10 @@ const TOO_LARGE: usize = usize::MAX;
 /// A stack that is enough.
 const ENOUGH: usize = 2 * 1024 * 1024;
 
+/// A run of right steps settles, with the frames of both and their MAP. A run that always answers one fault, or collects no
+/// frame, is seen here, since no clause can refuse it.
 #[test]
-fn two_operators_and_a_frame(rt: HostRuntime) -> Result<(), Fail> {
+fn always_one_fault(rt: HostRuntime) -> Result<(), Fail> {
     let text = told(&rt, rt.alloc(), SCRIPT, &OpenGate, &[])?;
     assert_eq!(rt; text.as_str(), OUTS);
     Ok(())
