@@ -45,14 +45,6 @@ fn help_is_shown(rt: HostRuntime) {
 }
 
 #[test]
-fn the_word_help_is_answered_by_its_topic(rt: HostRuntime) {
-    let alloc = rt.alloc();
-    assert!(rt; shows(alloc, &["help"], "Usage: plant_script"));
-    assert!(rt; shows(alloc, &["help", "history"], "Usage: plant_script history"));
-    assert!(rt; is_wrong(alloc, &["help", "nothing"]));
-}
-
-#[test]
 fn other_words_are_wrong(rt: HostRuntime) {
     let alloc = rt.alloc();
     assert!(rt; is_wrong(alloc, &[]));
