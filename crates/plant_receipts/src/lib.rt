@@ -13,8 +13,6 @@ mod same;
 mod settled;
 mod settling;
 mod straying;
-#[cfg(test)]
-mod tests;
 
 pub use receipt::{Callers, Receipt, Receipts};
 pub use run_fault::RunFault;

@@ -17,8 +17,6 @@ mod planning;
 mod served;
 mod slice;
 mod span;
-#[cfg(test)]
-mod tests;
 
 pub use elements::{Elements, ElementsFields};
 pub use flowing::{At, Flowing};

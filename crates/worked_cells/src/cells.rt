@@ -1,58 +1,22 @@
 //! What no clause says: that calls on a cell succeed and a turn comes, and what they answer.
 
 use dsx_messages::Modem;
-use grant_policy::Ranking;
+use grant_policy::{Policy, Ranking};
 use hex::{decode, encode_upper};
 use operator_book::{Action, Book, BookFault, Heard, Output};
 use plant_workers::{CellFault, OpenGate, OperatorCell, Receipt};
-use slice_scheduler::Elements;
+use slice_scheduler::{Elements, Span};
 use slice_table::read_plant;
 use std::alloc::{AllocError, Global};
 use std::process::Abort;
 use std::sync::Wait;
 use std::test::Fail;
 use tlv24::Bytes;
-
-/// A plant of operator A alone.
-const PLANT: &str = "[plant]
-frame_minislots = 72
-head = 8
-frame_us = 2000
-bytes_per_minislot = 16
-short_max = 4
-channel = 1
-ucd_count = 1
-
-[[operator]]
-name = \"A\"
-slice = [8, 32]
-sfids = [257, 512]
-sids = [257, 272]
-flows = 4
-transactions = 4
-inbox = 4
-budget = 32
-elements = 8
-policy = \"strict\"
-modems = [\"020000000001\", \"020000000002\"]
-";
+use worked_plants::ALONE;
+use worked_playing::ranking;
 
 /// A message that adds a flow.
 pub(crate) const ADDITION: &str = "0F0001180A010200010601060F0102";
-
-/// The ranking of operator A. A function that hands out a ranking is not proved, so each test makes its own.
-macro_rules! strict {
-    ($alloc:expr) => {
-        grant_policy::Ranking::new(
-            grant_policy::Policy::Strict,
-            Box::new($alloc, |input: grant_policy::RankInput| -> u8 {
-                grant_policy::rank_by(grant_policy::Policy::Strict, &input)
-            })?,
-        )
-    };
-}
-
-pub(crate) use strict;
 
 /// The modem whose address ends with this byte.
 pub(crate) fn modem(last: u8) -> Modem {
@@ -67,7 +31,7 @@ pub(crate) fn message(alloc: Global, digits: &str) -> Result<Heard, Fail> {
 
 /// The cell of operator A with nothing done.
 pub(crate) fn opened(alloc: Global, ranking: Ranking) -> Result<OperatorCell, Fail> {
-    let plant = read_plant(alloc, PLANT).ok().ok_or("no plant")?;
+    let plant = read_plant(alloc, ALONE).ok().ok_or("no plant")?;
     let row = plant.rows().get(0).ok_or("no row")?;
     let book = Book::open(alloc, row, plant.consts(), ranking)
         .ok()
@@ -92,6 +56,14 @@ fn put_output(alloc: Global, text: &mut String, output: &Output) -> Result<(), A
     }
 }
 
+/// Writes some outputs.
+fn put_outputs(alloc: Global, text: &mut String, outputs: &[Output]) -> Result<(), AllocError> {
+    for output in outputs {
+        put_output(alloc, text, output)?;
+    }
+    Ok(())
+}
+
 /// Writes a line of a receipt: its index and its outputs; or of a fault.
 fn put_answer(
     alloc: Global,
@@ -101,9 +73,7 @@ fn put_answer(
     match answer {
         Ok(receipt) => {
             text.push_str(format!(in alloc; "\n{}", receipt.index)?.as_str())?;
-            for output in receipt.outputs.as_slice() {
-                put_output(alloc, text, output)?;
-            }
+            put_outputs(alloc, text, receipt.outputs.as_slice())?;
         }
         Err(CellFault::Book(BookFault::NotMine { modem: _ })) => text.push_str("\nnot mine")?,
         Err(CellFault::Book(_)) => text.push_str("\nrefused")?,
@@ -113,6 +83,16 @@ fn put_answer(
         Err(CellFault::Stopped { op }) => {
             text.push_str(format!(in alloc; "\nstopped {op}")?.as_str())?;
         }
+    }
+    Ok(())
+}
+
+/// Writes spans.
+fn put_spans(alloc: Global, text: &mut String, spans: &[Span]) -> Result<(), AllocError> {
+    for span in spans {
+        let iuc = span.iuc;
+        let line = format!(in alloc; " {}/{iuc:?}/{}/{}", span.sid, span.start, span.len)?;
+        text.push_str(line.as_str())?;
     }
     Ok(())
 }
@@ -127,26 +107,88 @@ fn put_frame(
         return text.push_str("\nnone");
     };
     text.push_str(format!(in alloc; "\nframe {number}")?.as_str())?;
-    for span in elements.get_spans() {
-        let iuc = span.iuc;
-        let line = format!(in alloc; " {}/{iuc:?}/{}/{}", span.sid, span.start, span.len)?;
-        text.push_str(line.as_str())?;
+    put_spans(alloc, text, elements.get_spans())
+}
+
+/// Works, and writes what is answered.
+fn work<R: Wait>(
+    rt: &R,
+    alloc: Global,
+    cell: &OperatorCell,
+    text: &mut String,
+) -> Result<(), Fail> {
+    put_answer(alloc, text, cell.work(rt, alloc))
+}
+
+/// Ticks, and writes what is answered.
+fn tick<R: Wait>(
+    rt: &R,
+    alloc: Global,
+    cell: &OperatorCell,
+    text: &mut String,
+) -> Result<(), Fail> {
+    put_answer(alloc, text, cell.tick(rt, alloc))
+}
+
+/// Collects a frame, and writes it.
+fn collect<R: Wait>(
+    rt: &R,
+    alloc: Global,
+    cell: &OperatorCell,
+    text: &mut String,
+) -> Result<(), Fail> {
+    put_frame(alloc, text, cell.collect(rt, alloc)?)?;
+    Ok(())
+}
+
+/// Acts in a turn, and writes what is answered.
+fn turn<R: Wait>(
+    rt: &R,
+    alloc: Global,
+    cell: &OperatorCell,
+    text: &mut String,
+    index: usize,
+    action: Action,
+) -> Result<(), Fail> {
+    let answer = cell.in_turn(rt, alloc, index, action, &OpenGate);
+    put_answer(alloc, text, answer)
+}
+
+/// Collects a frame behind so many actions, and writes it, or that the turns have stopped.
+fn collect_after<R: Wait>(
+    rt: &R,
+    alloc: Global,
+    cell: &OperatorCell,
+    text: &mut String,
+    index: usize,
+) -> Result<(), Fail> {
+    match cell.collect_after(rt, alloc, index) {
+        Ok(taken) => put_frame(alloc, text, taken)?,
+        Err(fault) => put_answer(alloc, text, Err(fault))?,
     }
     Ok(())
 }
 
-/// Two actions, a tick and its frame, and a tick in its turn and its frame.
-fn play<R: Wait>(rt: &R, alloc: Global, cell: &OperatorCell) -> Result<String, Fail> {
-    let mut text = String::new(alloc);
+/// Two actions, a tick and its frame.
+fn play<R: Wait>(
+    rt: &R,
+    alloc: Global,
+    cell: &OperatorCell,
+    text: &mut String,
+) -> Result<(), Fail> {
     let heard = message(alloc, ADDITION)?;
-    put_answer(alloc, &mut text, cell.arrive(rt, alloc, modem(1), heard))?;
-    put_answer(alloc, &mut text, cell.work(rt, alloc))?;
-    put_answer(alloc, &mut text, cell.tick(rt, alloc))?;
-    put_frame(alloc, &mut text, cell.collect(rt, alloc)?)?;
-    let turn = cell.in_turn(rt, alloc, 3, Action::Tick, &OpenGate);
-    put_answer(alloc, &mut text, turn)?;
-    let taken = cell.collect_after(rt, alloc, 4).ok().ok_or("refused")?;
-    put_frame(alloc, &mut text, taken)?;
+    put_answer(alloc, text, cell.arrive(rt, alloc, modem(1), heard))?;
+    work(rt, alloc, cell, text)?;
+    tick(rt, alloc, cell, text)?;
+    collect(rt, alloc, cell, text)
+}
+
+/// The same, and a tick in its turn and its frame.
+fn played<R: Wait>(rt: &R, alloc: Global, cell: &OperatorCell) -> Result<String, Fail> {
+    let mut text = String::new(alloc);
+    play(rt, alloc, cell, &mut text)?;
+    turn(rt, alloc, cell, &mut text, 3, Action::Tick)?;
+    collect_after(rt, alloc, cell, &mut text, 4)?;
     Ok(text)
 }
 
@@ -154,8 +196,8 @@ fn play<R: Wait>(rt: &R, alloc: Global, cell: &OperatorCell) -> Result<String, F
 #[test]
 fn a_cell_answers_receipts_and_frames(rt: HostRuntime) -> Result<(), Fail> {
     let alloc = rt.alloc();
-    let cell = opened(alloc, strict!(alloc))?;
-    let text = play(&rt, alloc, &cell)?;
+    let cell = opened(alloc, ranking!(alloc, Policy::Strict))?;
+    let text = played(&rt, alloc, &cell)?;
     let wanted = "
 0
 1 10000100180E0102000102040000010103020101
@@ -167,74 +209,100 @@ frame 1 0/Long/8/32";
     Ok(())
 }
 
+/// Work, and work in the turn that it took.
+fn passed<R: Wait>(rt: &R, alloc: Global, cell: &OperatorCell) -> Result<String, Fail> {
+    let mut text = String::new(alloc);
+    work(rt, alloc, cell, &mut text)?;
+    turn(rt, alloc, cell, &mut text, 0, Action::Work)?;
+    Ok(text)
+}
+
 /// A place that the history has passed is told, with the operator and the place.
 #[test]
 fn a_turn_that_is_past_is_refused(rt: HostRuntime) -> Result<(), Fail> {
     let alloc = rt.alloc();
-    let cell = opened(alloc, strict!(alloc))?;
-    let mut text = String::new(alloc);
-    put_answer(alloc, &mut text, cell.work(&rt, alloc))?;
-    let turn = cell.in_turn(&rt, alloc, 0, Action::Work, &OpenGate);
-    put_answer(alloc, &mut text, turn)?;
+    let cell = opened(alloc, ranking!(alloc, Policy::Strict))?;
+    let text = passed(&rt, alloc, &cell)?;
     assert_eq!(rt; text.as_str(), "\n0 Idle\npassed 0 0");
     Ok(())
+}
+
+/// Work, and behind a stop three turns, a frame in its turn, and work again.
+fn stopped<R: Wait>(rt: &R, alloc: Global, cell: &OperatorCell) -> Result<String, Fail> {
+    let mut text = String::new(alloc);
+    work(rt, alloc, cell, &mut text)?;
+    cell.stop(rt);
+    for index in [0, 1, 9] {
+        turn(rt, alloc, cell, &mut text, index, Action::Work)?;
+    }
+    collect_after(rt, alloc, cell, &mut text, 9)?;
+    work(rt, alloc, cell, &mut text)?;
+    Ok(text)
 }
 
 /// Where the turns have stopped each is refused, also one that would be past; what waits for no turn goes on.
 #[test]
 fn stopped_turns_are_refused(rt: HostRuntime) -> Result<(), Fail> {
     let alloc = rt.alloc();
-    let cell = opened(alloc, strict!(alloc))?;
-    let mut text = String::new(alloc);
-    put_answer(alloc, &mut text, cell.work(&rt, alloc))?;
-    cell.stop(&rt);
-    for index in [0, 1, 9] {
-        let turn = cell.in_turn(&rt, alloc, index, Action::Work, &OpenGate);
-        put_answer(alloc, &mut text, turn)?;
-    }
-    match cell.collect_after(&rt, alloc, 9) {
-        Err(CellFault::Stopped { op }) => {
-            text.push_str(format!(in alloc; "\nstopped {op}")?.as_str())?;
-        }
-        _ => return Err(Fail::new("not stopped")),
-    }
-    put_answer(alloc, &mut text, cell.work(&rt, alloc))?;
+    let cell = opened(alloc, ranking!(alloc, Policy::Strict))?;
+    let text = stopped(&rt, alloc, &cell)?;
     let wanted = "\n0 Idle\nstopped 0\nstopped 0\nstopped 0\nstopped 0\n1 Idle";
     assert_eq!(rt; text.as_str(), wanted);
     Ok(())
+}
+
+/// The turn of a modem of another operator, and the turn that would have been next.
+fn refused<R: Wait>(rt: &R, alloc: Global, cell: &OperatorCell) -> Result<String, Fail> {
+    let mut text = String::new(alloc);
+    let action = Action::Arrive {
+        modem: modem(3),
+        heard: message(alloc, ADDITION)?,
+    };
+    turn(rt, alloc, cell, &mut text, 0, action)?;
+    turn(rt, alloc, cell, &mut text, 0, Action::Work)?;
+    Ok(text)
 }
 
 /// A turn that is refused stops the cell: a modem of another operator, and then the turn that would have been next.
 #[test]
 fn a_refused_turn_stops_the_cell(rt: HostRuntime) -> Result<(), Fail> {
     let alloc = rt.alloc();
-    let cell = opened(alloc, strict!(alloc))?;
-    let mut text = String::new(alloc);
-    let action = Action::Arrive {
-        modem: modem(3),
-        heard: message(alloc, ADDITION)?,
-    };
-    let turn = cell.in_turn(&rt, alloc, 0, action, &OpenGate);
-    put_answer(alloc, &mut text, turn)?;
-    let turn = cell.in_turn(&rt, alloc, 0, Action::Work, &OpenGate);
-    put_answer(alloc, &mut text, turn)?;
+    let cell = opened(alloc, ranking!(alloc, Policy::Strict))?;
+    let text = refused(&rt, alloc, &cell)?;
     assert_eq!(rt; text.as_str(), "\nnot mine\nstopped 0");
     Ok(())
+}
+
+/// Two ticks, and the first frame.
+fn ticked<R: Wait>(rt: &R, alloc: Global, cell: &OperatorCell) -> Result<String, Fail> {
+    let mut text = String::new(alloc);
+    tick(rt, alloc, cell, &mut text)?;
+    tick(rt, alloc, cell, &mut text)?;
+    collect(rt, alloc, cell, &mut text)?;
+    Ok(text)
+}
+
+/// The same cell taken apart and put together, and two frames of it, behind a text.
+fn again<R: Wait>(
+    rt: &R,
+    alloc: Global,
+    cell: OperatorCell,
+    mut text: String,
+) -> Result<String, Fail> {
+    let (book, taken) = cell.into_parts();
+    let again = OperatorCell::again(0, book, taken);
+    collect(rt, alloc, &again, &mut text)?;
+    collect(rt, alloc, &again, &mut text)?;
+    Ok(text)
 }
 
 /// Taken apart and put together again, a cell goes on where it was: the frame that was collected is not given again.
 #[test]
 fn a_cell_goes_on_from_its_parts(rt: HostRuntime) -> Result<(), Fail> {
     let alloc = rt.alloc();
-    let cell = opened(alloc, strict!(alloc))?;
-    let mut text = String::new(alloc);
-    put_answer(alloc, &mut text, cell.tick(&rt, alloc))?;
-    put_answer(alloc, &mut text, cell.tick(&rt, alloc))?;
-    put_frame(alloc, &mut text, cell.collect(&rt, alloc)?)?;
-    let (book, taken) = cell.into_parts();
-    let again = OperatorCell::again(0, book, taken);
-    put_frame(alloc, &mut text, again.collect(&rt, alloc)?)?;
-    put_frame(alloc, &mut text, again.collect(&rt, alloc)?)?;
+    let cell = opened(alloc, ranking!(alloc, Policy::Strict))?;
+    let text = ticked(&rt, alloc, &cell)?;
+    let text = again(&rt, alloc, cell, text)?;
     let wanted = "
 0 frame 0
 1 frame 1

@@ -1,15 +1,17 @@
 //! Two threads on one cell.
 
-use crate::cells::{ADDITION, message, modem, opened, strict};
+use crate::cells::{ADDITION, message, modem, opened};
 use dsx_messages::Modem;
-use operator_book::Heard;
+use grant_policy::Policy;
+use operator_book::{Book, Heard};
 use plant_workers::{Callers, OperatorCell, Receipts, settle};
-use std::alloc::Global;
+use std::alloc::{AllocError, Global};
 use std::process::Abort;
 use std::sync::Wait;
 use std::test::Fail;
 use std::thread;
 use std::thread::{Builder, Threads};
+use worked_playing::ranking;
 
 /// What a thread does with what threads share. A trait of its own, so that a thread that borrows it asks for no more of it
 /// than that it may be shared.
@@ -65,16 +67,13 @@ fn race_on<R: Threads + Wait + Sync>(
     race(rt, alloc, cell, first, second)
 }
 
-/// Each thread makes three calls: six entries, whose receipts settle.
-#[test]
-fn receipts_of_two_threads_settle(rt: HostRuntime) -> Result<(), Fail> {
-    let alloc = rt.alloc();
-    let cell = opened(alloc, strict!(alloc))?;
-    let (first, second) = (message(alloc, ADDITION)?, message(alloc, ADDITION)?);
-    let told = race_on(&rt, alloc, &cell, first, second);
-    let (first, second) = told.ok_or("a call was refused")?;
-    let (book, _) = cell.into_parts();
-    assert_eq!(rt; book.history().len(), 6);
+/// Whether these receipts of two callers settle over a book.
+fn settles(
+    alloc: Global,
+    book: Book,
+    first: Receipts,
+    second: Receipts,
+) -> Result<bool, AllocError> {
     let mut callers = Vec::new(alloc);
     callers.push(first)?;
     callers.push(second)?;
@@ -82,7 +81,31 @@ fn receipts_of_two_threads_settle(rt: HostRuntime) -> Result<(), Fail> {
     books.push(book)?;
     let mut receipts = Vec::new(alloc);
     receipts.push(Callers::from_vec(callers))?;
-    let settled = settle(alloc, books, receipts, Vec::new(alloc));
-    assert!(&rt; settled.is_ok(), "the receipts do not settle");
+    Ok(settle(alloc, books, receipts, Vec::new(alloc)).is_ok())
+}
+
+/// The receipts of two threads that play on a cell, each with an addition.
+fn receipts<R: Threads + Wait + Sync>(
+    rt: &R,
+    alloc: Global,
+    cell: &OperatorCell,
+) -> Result<(Receipts, Receipts), Fail> {
+    let (first, second) = (message(alloc, ADDITION)?, message(alloc, ADDITION)?);
+    let told = race_on(rt, alloc, cell, first, second);
+    Ok(told.ok_or("a call was refused")?)
+}
+
+/// Each thread makes three calls: six entries, whose receipts settle.
+#[test]
+fn receipts_of_two_threads_settle(rt: HostRuntime) -> Result<(), Fail> {
+    let alloc = rt.alloc();
+    let cell = opened(alloc, ranking!(alloc, Policy::Strict))?;
+    let (first, second) = receipts(&rt, alloc, &cell)?;
+    let (book, _) = cell.into_parts();
+    assert_eq!(rt; book.history().len(), 6);
+    assert!(&rt;
+        settles(alloc, book, first, second)?,
+        "the receipts do not settle"
+    );
     Ok(())
 }

@@ -12,46 +12,7 @@ use slice_table::{PlantFault, read_plant};
 use std::alloc::{AllocError, Global};
 use std::process::Abort;
 use std::test::Fail;
-
-/// What two operators share.
-const SHARED: &str = "[plant]
-frame_minislots = 72
-head = 8
-frame_us = 2000
-bytes_per_minislot = 16
-short_max = 4
-channel = 1
-ucd_count = 1
-";
-
-/// Two operators.
-const OPERATORS: &str = "
-[[operator]]
-name = \"A\"
-slice = [8, 32]
-sfids = [257, 512]
-sids = [257, 272]
-flows = 4
-transactions = 4
-inbox = 4
-budget = 32
-elements = 8
-policy = \"strict\"
-modems = [\"020000000001\", \"020000000002\"]
-
-[[operator]]
-name = \"B\"
-slice = [40, 32]
-sfids = [513, 768]
-sids = [513, 528]
-flows = 4
-transactions = 4
-inbox = 4
-budget = 32
-elements = 8
-policy = \"strict\"
-modems = [\"020000000003\"]
-";
+use worked_plants::{OPERATORS, SHARED};
 
 /// Nothing is put yet of the plant of this text.
 fn gather_of(alloc: Global, text: &str) -> Result<Gather, PlantFault> {

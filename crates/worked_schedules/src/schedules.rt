@@ -1,7 +1,8 @@
 //! Schedules typed from the rules, and schedules that are the plain one's.
 
 use crate::plain::{Kind, Order, PlainFlow, PlainFrame, plain_need, plain_schedule};
-use crate::serving::{told_need, told_schedule};
+use crate::serving::{told_copy, told_need, told_schedule};
+use slice_scheduler::Slice;
 use std::alloc::Global;
 use std::process::Abort;
 use std::test::Fail;
@@ -69,7 +70,24 @@ fn agree(
 
 #[test]
 fn a_slice_without_flows_is_idle(rt: HostRuntime) -> Result<(), Fail> {
-    check(&rt, rt.alloc(), &[], &FRAME, " 0/6/8/32")
+    check(&rt, rt.alloc(), &[], &FRAME, " 0/6/8/32")?;
+    let short = PlainFrame {
+        order: Order::Short,
+        ..FRAME
+    };
+    check(&rt, rt.alloc(), &[], &short, " 0/6/8/32")
+}
+
+/// One backlog of 5 in 32 minislots. The schedule knows its slice, and a copy says the same.
+#[test]
+fn a_copy_says_the_same(rt: HostRuntime) -> Result<(), Fail> {
+    let flows = [flow(257, 257, 5)];
+    let wanted = " 257/6/8/5 0/6/13/27 257+5";
+    check(&rt, rt.alloc(), &flows, &FRAME, wanted)?;
+    let (slice, copy) = told_copy(&rt, rt.alloc(), &flows, &FRAME)?;
+    assert_eq!(rt; slice, Slice::new(8, 32));
+    assert_eq!(rt; copy.as_str(), wanted);
+    Ok(())
 }
 
 /// Two backlogs of 20 in 32 minislots: the smaller SFID goes first, whatever the SIDs are.
@@ -182,6 +200,17 @@ fn what_is_due_stands_first(rt: HostRuntime) -> Result<(), Fail> {
     check(&rt, rt.alloc(), &flows, &next, wanted)
 }
 
+/// A flow that asks for nothing is polled all the same.
+#[test]
+fn a_poll_is_due_without_a_backlog(rt: HostRuntime) -> Result<(), Fail> {
+    let polled = PlainFlow {
+        kind: Kind::Polling { interval: 2000 },
+        ..flow(258, 258, 0)
+    };
+    let next = PlainFrame { number: 1, ..FRAME };
+    check(&rt, rt.alloc(), &[polled], &next, " 258/1/8/1 0/6/9/31")
+}
+
 /// A reserved rate of 64,000 is a minislot a frame of 2 milliseconds, 64,001 is two: the base of 302, though 301 goes first.
 #[test]
 fn a_reserved_rate_is_granted_before_the_rest(rt: HostRuntime) -> Result<(), Fail> {
@@ -262,8 +291,9 @@ fn a_flow_of_each_rank(rt: HostRuntime) -> Result<(), Fail> {
     agree(&rt, alloc, flows.as_slice(), &short)
 }
 
-/// Sixty flows of all kinds, with sizes and rates that are no whole minislots.
-fn mixed(alloc: Global) -> Result<Vec<PlainFlow>, Fail> {
+/// Sixty flows of all kinds, with sizes and rates that are no whole minislots. Those of unsolicited grants have a backlog only where
+/// all ask.
+fn mixed(alloc: Global, all_ask: bool) -> Result<Vec<PlainFlow>, Fail> {
     let mut flows = Vec::new(alloc);
     for number in 0..60u16 {
         let kind = match number % 4 {
@@ -275,7 +305,8 @@ fn mixed(alloc: Global) -> Result<Vec<PlainFlow>, Fail> {
             1 => Kind::Polling { interval: 7999 },
             _ => Kind::BestEffort,
         };
-        let backlog = if number % 4 == 0 { 0 } else { number * 53 % 90 };
+        let asks = all_ask || number % 4 != 0;
+        let backlog = if asks { number * 53 % 90 } else { 0 };
         flows.push(PlainFlow {
             kind,
             priority: (number % 8) as u8,
@@ -292,9 +323,8 @@ fn mixed(alloc: Global) -> Result<Vec<PlainFlow>, Fail> {
     Ok(flows)
 }
 
-#[test]
-fn flows_of_all_kinds_in_six_frames(rt: HostRuntime) -> Result<(), Fail> {
-    let flows = mixed(rt.alloc())?;
+/// Asserts that the schedules of frames 10 to 15 are the plain ones, by age and by backlog.
+fn agree_in_six_frames(rt: &impl Abort, alloc: Global, flows: &[PlainFlow]) -> Result<(), Fail> {
     for number in 10..16u32 {
         let aged = PlainFrame {
             number,
@@ -303,12 +333,24 @@ fn flows_of_all_kinds_in_six_frames(rt: HostRuntime) -> Result<(), Fail> {
             order: Order::Aged { step: 3 },
             ..FRAME
         };
-        agree(&rt, rt.alloc(), flows.as_slice(), &aged)?;
+        agree(rt, alloc, flows, &aged)?;
         let short = PlainFrame {
             order: Order::Short,
             ..aged
         };
-        agree(&rt, rt.alloc(), flows.as_slice(), &short)?;
+        agree(rt, alloc, flows, &short)?;
     }
     Ok(())
+}
+
+#[test]
+fn flows_of_all_kinds_in_six_frames(rt: HostRuntime) -> Result<(), Fail> {
+    let flows = mixed(rt.alloc(), false)?;
+    agree_in_six_frames(&rt, rt.alloc(), flows.as_slice())
+}
+
+#[test]
+fn flows_of_all_kinds_that_all_ask(rt: HostRuntime) -> Result<(), Fail> {
+    let flows = mixed(rt.alloc(), true)?;
+    agree_in_six_frames(&rt, rt.alloc(), flows.as_slice())
 }

@@ -2,54 +2,18 @@
 
 ghost use Rattle.std.specs.Prelude.{◌≡◌, []};
 
-use crate::{Callers, Receipt, Receipts, RunFault, settle};
 use dsx_messages::Modem;
-use grant_policy::{RankInput, Ranking, rank_by};
 use hex::decode;
 use map_assembly::MapBytes;
-use operator_book::{Action, Book, Heard, Outputs};
+use operator_book::{Action, Book, Entry, Heard, Outputs};
 use plant_core::{CoreFault, ResliceFault};
+use plant_receipts::{Callers, Receipt, Receipts, RunFault, settle};
 use slice_table::read_plant;
 use std::alloc::{AllocError, Global};
 use std::test::Fail;
 use tlv24::Bytes;
-
-/// A plant of two operators, of which the first one's book is settled.
-const PLANT: &str = "[plant]
-frame_minislots = 72
-head = 8
-frame_us = 2000
-bytes_per_minislot = 16
-short_max = 4
-channel = 1
-ucd_count = 1
-
-[[operator]]
-name = \"A\"
-slice = [8, 32]
-sfids = [257, 512]
-sids = [257, 272]
-flows = 4
-transactions = 4
-inbox = 4
-budget = 32
-elements = 8
-policy = \"strict\"
-modems = [\"020000000001\", \"020000000002\"]
-
-[[operator]]
-name = \"B\"
-slice = [40, 32]
-sfids = [513, 768]
-sids = [513, 528]
-flows = 4
-transactions = 4
-inbox = 4
-budget = 32
-elements = 8
-policy = \"strict\"
-modems = [\"020000000003\"]
-";
+use worked_plants::PLANT;
+use worked_playing::ranking;
 
 /// A message that adds a flow.
 const ADDITION: &str = "0F0001180A010200010201060F0102";
@@ -75,20 +39,39 @@ fn bytes(alloc: Global, digits: &str) -> Result<Bytes, Fail> {
     Ok(Bytes::from_slice(alloc, bytes.as_slice())?)
 }
 
-/// The receipt of an entry.
-fn receipt(alloc: Global, book: &Book, index: usize, empty: bool) -> Result<Receipt, Fail> {
-    let entry = book.history().get(index).ok_or("no entry")?;
+/// Copies of an entry's outputs, or none of them.
+fn outputs(alloc: Global, entry: &Entry, empty: bool) -> Result<Outputs, Fail> {
     let mut outputs = Vec::new(alloc);
     if !empty {
         for output in entry.outputs.as_slice() {
             outputs.push(output.copy(alloc)?)?;
         }
     }
+    Ok(Outputs::from_vec(outputs))
+}
+
+/// The receipt of an entry.
+fn receipt(alloc: Global, book: &Book, index: usize, empty: bool) -> Result<Receipt, Fail> {
+    let entry = book.history().get(index).ok_or("no entry")?;
     Ok(Receipt {
         index,
         action: entry.action.copy(alloc)?,
-        outputs: Outputs::from_vec(outputs),
+        outputs: outputs(alloc, entry, empty)?,
     })
+}
+
+/// The receipts of a caller with these indices.
+fn receipts(
+    alloc: Global,
+    book: &Book,
+    list: &[usize],
+    emptied: Option<usize>,
+) -> Result<Receipts, Fail> {
+    let mut receipts = Receipts::new(alloc);
+    for index in list {
+        receipts.push(receipt(alloc, book, *index, emptied == Some(*index))?)?;
+    }
+    Ok(receipts)
 }
 
 /// The receipts of callers with these indices.
@@ -100,11 +83,7 @@ fn callers(
 ) -> Result<Callers, Fail> {
     let mut callers = Vec::new(alloc);
     for list in lists {
-        let mut receipts = Receipts::new(alloc);
-        for index in *list {
-            receipts.push(receipt(alloc, book, *index, emptied == Some(*index))?)?;
-        }
-        callers.push(receipts)?;
+        callers.push(receipts(alloc, book, list, emptied)?)?;
     }
     Ok(Callers::from_vec(callers))
 }
@@ -162,17 +141,11 @@ fn played(alloc: Global, mut book: Book, case: &Case) -> Result<Option<RunFault>
     judged(alloc, book, case)
 }
 
-/// Why a case is not settled.
+/// Why a case is not settled, over the book of operator A.
 fn fault(alloc: Global, case: &Case) -> Result<Option<RunFault>, Fail> {
     let plant = read_plant(alloc, PLANT).ok().ok_or("no plant")?;
     let row = plant.rows().get(0).ok_or("no operator")?;
-    let policy = row.get_fields().policy;
-    let ranking = Ranking::new(
-        policy,
-        Box::new(alloc, move |input: RankInput| -> u8 {
-            rank_by(policy, &input)
-        })?,
-    );
+    let ranking = ranking!(alloc, row.get_fields().policy);
     let opened = Book::open(alloc, row, plant.consts(), ranking);
     let book = opened.ok().ok_or("not opened")?;
     played(alloc, book, case)
@@ -197,12 +170,18 @@ fn fault_of(
 fn receipts_are_settled(rt: HostRuntime) -> Result<(), Fail> {
     let alloc = rt.alloc();
     assert_eq!(rt; fault_of(alloc, &[&[0], &[1]], None)?, None);
+    let short = fault_of(alloc, &[&[0]], None)?;
+    assert_eq!(rt; short, Some(RunFault::Short { op: 0 }));
+    Ok(())
+}
+
+#[test]
+fn receipts_that_stray_are_told(rt: HostRuntime) -> Result<(), Fail> {
+    let alloc = rt.alloc();
     let strayed = fault_of(alloc, &[&[0], &[1]], Some(1))?;
     assert_eq!(rt; strayed, Some(RunFault::Strayed { op: 0, index: 1 }));
     let strayed = fault_of(alloc, &[&[1, 0]], None)?;
     assert_eq!(rt; strayed, Some(RunFault::Strayed { op: 0, index: 0 }));
-    let short = fault_of(alloc, &[&[0]], None)?;
-    assert_eq!(rt; short, Some(RunFault::Short { op: 0 }));
     Ok(())
 }
 
