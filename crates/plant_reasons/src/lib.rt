@@ -18,4 +18,4 @@ mod unread;
 mod values;
 mod wanted;
 
-pub use reasons::{Trouble, reason_of, reason_of_words};
+pub use reasons::{Trouble, reason_of, reason_of_trouble, reason_of_words};

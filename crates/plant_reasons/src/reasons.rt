@@ -11,37 +11,41 @@ use slice_table::{Plant, PlantFault, read_plant};
 use std::alloc::{AllocError, Global};
 use toml::Table;
 
-/// Why an input or an output came to no end.
+/// Why a run came to no end.
 #[derive(Clone, Copy, Debug, PartialEq, Eq)]
 pub enum Trouble {
     /// No memory was left.
     Memory,
     /// A read failed.
     Read,
-    /// The input has more bytes than are read, or is no UTF-8.
-    Input,
+    /// The input has more bytes than are read.
+    TooLong,
+    /// The input is no UTF-8 behind so many bytes.
+    NoText { valid: usize },
     /// A write failed.
     Write,
     /// The threads strayed from the script.
     Strayed,
 }
 
-impl Trouble {
-    /// The reason, with its line's end. Takes no memory.
-    pub fn text(self) -> &'static str {
-        match self {
-            Trouble::Memory =>
-                "no memory was left: the run needs more than this process may have\n",
-            Trouble::Read => "a read of standard input failed\n",
-            Trouble::Input => {
-                "the input has more than 1048576 bytes, or bytes that are no UTF-8 text\n"
-            }
-            Trouble::Write => "a write to standard output failed: what was written is not whole\n",
-            Trouble::Strayed => {
-                "what the threads did is not what the script says: the word run tells what it says\n"
-            }
+/// The reason of a run that came to no end.
+pub fn reason_of_trouble(alloc: Global, trouble: Trouble) -> Result<String, AllocError> {
+    let reason = match trouble {
+        Trouble::Memory => "no memory was left: the run needs more than this process may have\n",
+        Trouble::Read => "a read of standard input failed\n",
+        Trouble::TooLong => "the input has more than 1048576 bytes, and no more are read\n",
+        Trouble::NoText { valid } => {
+            let place = valid.saturating_add(1);
+            return format!(in alloc;
+                "the input is no UTF-8 text: byte {place} is of no character\n"
+            );
         }
-    }
+        Trouble::Write => "a write to standard output failed: what was written is not whole\n",
+        Trouble::Strayed => {
+            "what the threads did is not what the script says: the word run tells what it says\n"
+        }
+    };
+    String::from_str(alloc, reason)
 }
 
 /// The reason of words that give no order: clap's own message and usage, and where a script is read.

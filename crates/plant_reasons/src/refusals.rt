@@ -1,5 +1,8 @@
 //! Why a step of a script is refused: the script is run again up to there.
 
+ghost use Rattle.slice_table.specs.Plant.{IsPlant};
+ghost use Rattle.plant_core.specs.CoreView.{core_view};
+
 use crate::joint::name_of;
 use crate::lines::{LineReason, LineStep};
 use grant_policy::{RankInput, Ranking, rank_by};
@@ -175,7 +178,9 @@ fn first_refused(
     alloc: Global,
     core: &mut PlantCore,
     steps: Vec<LineStep>,
-) -> Result<Option<LineReason>, AllocError> {
+) -> Result<Option<LineReason>, AllocError>
+    requires { IsPlant (core_view core.old).plant }
+{
     let mut outs = Vec::new(alloc);
     for LineStep { number, step } in steps {
         let asked = asked_of(alloc, &step)?;
@@ -205,7 +210,10 @@ pub(crate) fn refused_of(
         rankings.push(ranking)?;
     }
     match PlantCore::open(alloc, plant, rankings) {
-        Ok(mut core) => first_refused(alloc, &mut core, steps),
+        Ok(mut core) => {
+            core.always();
+            first_refused(alloc, &mut core, steps)
+        }
         Err(CoreOpenFault::NoMemory) => Err(AllocError),
         Err(CoreOpenFault::RankingsMismatch) => Ok(None),
     }

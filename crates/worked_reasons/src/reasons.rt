@@ -1,6 +1,6 @@
 //! A test for each mistake: what the reason says.
 
-use plant_reasons::{Trouble, reason_of, reason_of_words};
+use plant_reasons::{Trouble, reason_of, reason_of_trouble, reason_of_words};
 use plant_words::Word;
 use std::alloc::Global;
 use std::process::Abort;
@@ -768,7 +768,7 @@ fn words_that_give_no_order(rt: HostRuntime) -> Result<(), Fail> {
 }
 
 #[test]
-fn causes_of_statuses_5_to_7(rt: HostRuntime) {
+fn causes_of_statuses_5_to_7(rt: HostRuntime) -> Result<(), Fail> {
     for (trouble, wanted) in [
         (
             Trouble::Memory,
@@ -776,8 +776,12 @@ fn causes_of_statuses_5_to_7(rt: HostRuntime) {
         ),
         (Trouble::Read, "a read of standard input failed\n"),
         (
-            Trouble::Input,
-            "the input has more than 1048576 bytes, or bytes that are no UTF-8 text\n",
+            Trouble::TooLong,
+            "the input has more than 1048576 bytes, and no more are read\n",
+        ),
+        (
+            Trouble::NoText { valid: 0 },
+            "the input is no UTF-8 text: byte 1 is of no character\n",
         ),
         (
             Trouble::Write,
@@ -788,6 +792,8 @@ fn causes_of_statuses_5_to_7(rt: HostRuntime) {
             "what the threads did is not what the script says: the word run tells what it says\n",
         ),
     ] {
-        assert_eq!(rt; trouble.text(), wanted);
+        let reason = reason_of_trouble(rt.alloc(), trouble)?;
+        assert_eq!(rt; reason.as_str(), wanted);
     }
+    Ok(())
 }
