@@ -2,4 +2,6 @@
 #![tactic(auto)]
 
 #[cfg(test)]
+mod program;
+#[cfg(test)]
 mod reasons;

@@ -7,7 +7,7 @@ use std::process::Abort;
 use std::test::Fail;
 
 /// A plant of two operators.
-const PLANT: &str = "[plant]
+pub(crate) const PLANT: &str = "[plant]
 frame_minislots = 72
 head = 8
 frame_us = 2000
