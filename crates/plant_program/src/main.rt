@@ -1,20 +1,51 @@
 //! The plant's program, started: its words and standard streams are handed to `plant_script`.
 #![tactic(auto)]
 
-use plant_script::{behind_name, exit_code, run_program};
+use plant_script::{behind_name, exit_code, run_program_with_reasons};
+use std::io::{IsTerminal, Read, Write};
 use std::process::ExitCode;
 use std::rt::Env;
 use std::sync::Wait;
 use std::thread::Threads;
 use std::{env, io};
 
-/// Runs the program over its words, standard input and standard output.
+/// What is told a person at a terminal.
+const AWAITED: &[u8] =
+    b"a plant file, a line --- and a script are read from here, up to Ctrl-D (run has --help)\n";
+
+/// An input of which the first read tells what is awaited, where a person types it.
+#[derive(Drop)]
+struct Awaited<'a, R, N> {
+    reader: R,
+    note: Option<&'a mut N>,
+}
+
+impl<R: Read, N: Write> Read for Awaited<'_, R, N> {
+    fn read(&mut self, buf: &mut [u8]) -> io::Result<usize> {
+        if let Some(note) = self.note.take() {
+            let _lost = note.write_all(AWAITED);
+        }
+        self.reader.read(buf)
+    }
+}
+
+/// Runs the program over its words, standard input and standard output. Reasons go to standard error.
 fn main(rt: HostRuntime) -> ExitCode {
-    exit_code(run(&rt))
+    let (mut note, mut reasons) = (rt.stderr(), rt.stderr());
+    let note = if rt.stdin().is_terminal() {
+        Some(&mut note)
+    } else {
+        None
+    };
+    exit_code(run(&rt, note, &mut reasons))
 }
 
 /// The status that the program answers to its words.
-fn run(rt: &(impl Env + Input + Print + AllocGlobal + Threads + Wait + Sync)) -> io::Result<u8> {
+fn run<N: Write>(
+    rt: &(impl Env + Input + Print + AllocGlobal + Threads + Wait + Sync),
+    note: Option<&mut N>,
+    reasons: &mut impl Write,
+) -> io::Result<u8> {
     let mut words = Vec::new(rt.alloc());
     for word in env::args(rt)? {
         words.push(word)?;
@@ -23,13 +54,17 @@ fn run(rt: &(impl Env + Input + Print + AllocGlobal + Threads + Wait + Sync)) ->
     for word in &words {
         texts.push(word.as_str())?;
     }
-    let mut reader = rt.reader();
+    let mut reader = Awaited {
+        reader: rt.reader(),
+        note,
+    };
     let mut writer = io::writer(rt);
-    Ok(run_program(
+    Ok(run_program_with_reasons(
         rt,
         rt.alloc(),
         behind_name(texts.as_slice()),
         &mut reader,
         &mut writer,
+        reasons,
     ))
 }

@@ -77,12 +77,13 @@ fn read_bytes<R: Read>(alloc: Global, reader: &mut R, failed: &mut bool) -> Resu
 }
 
 /// The whole input, where it can be read. `Stop::Io` comes only where a read has failed, which is noted, or where the input is too long
-/// or no UTF-8.
+/// or no UTF-8; of the latter it is noted how many bytes are.
 #[tactic(auto, using(crate::proofs::Unreadable::unreadable_long, crate::proofs::Unreadable::unreadable_text))]
 pub fn read_input<R: Read>(
     alloc: Global,
     reader: &mut R,
     failed: &mut bool,
+    valid: &mut Option<usize>,
 ) -> Result<Vec<u8>, Stop>
     requires untried { failed.old ≡ false }
     ensures read { IfOk result (λ input. (is_readable input.items ≡ true)
@@ -93,6 +94,9 @@ pub fn read_input<R: Read>(
     let input = read_bytes(alloc, reader, failed)?;
     match str::from_utf8(input.as_slice()) {
         Ok(_text) => Ok(input),
-        Err(_error) => Err(Stop::Io),
+        Err(error) => {
+            *valid = Some(error.valid_up_to());
+            Err(Stop::Io)
+        }
     }
 }

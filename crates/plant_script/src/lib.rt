@@ -21,4 +21,4 @@ mod task;
 mod text;
 
 pub use command::{behind_name, exit_code};
-pub use program::run_program;
+pub use program::{run_program, run_program_with_reasons};

@@ -17,11 +17,88 @@ use crate::one::text_of;
 use crate::running::answer_of_task;
 use crate::task::{Served, Wanted, task_of};
 use grant_policy::{RankInput, Ranking, rank_by};
+use plant_reasons::{Trouble, reason_of, reason_of_trouble, reason_of_words};
 use plant_words::{Word, WordsFault, read_words};
-use std::alloc::Global;
+use std::alloc::{AllocError, Global};
 use std::io::{Read, Write};
 use std::sync::Wait;
 use std::thread::Threads;
+
+/// What was seen on the way to an answer: what its reasons are made of.
+#[derive(Drop)]
+struct Seen<'a> {
+    /// What the words ask for, where they give an order.
+    word: Option<Word<'a>>,
+    /// Whether a read failed.
+    failed: bool,
+    /// Of an input that is no UTF-8, how many bytes are.
+    valid: Option<usize>,
+    /// The input, where it could be read.
+    input: Option<Vec<u8>>,
+}
+
+impl<'a> Seen<'a> {
+    /// Nothing yet.
+    fn new() -> Seen<'a>
+        ensures { result.failed ≡ false }
+    {
+        Seen {
+            word: None,
+            failed: false,
+            valid: None,
+            input: None,
+        }
+    }
+}
+
+/// Why an input or an output came to no end.
+fn trouble_of(seen: &Seen<'_>, status: u8) -> Trouble {
+    match (status, seen.valid) {
+        (5, _) => Trouble::Memory,
+        (7, _) => Trouble::Strayed,
+        (_, Some(valid)) => Trouble::NoText { valid },
+        _ if seen.failed => Trouble::Read,
+        _ if seen.word.is_some() && seen.input.is_none() => Trouble::TooLong,
+        _ => Trouble::Write,
+    }
+}
+
+/// The reasons of a status that has some in what was read.
+fn reasons_of<'a>(
+    alloc: Global,
+    words: &'a [&'a str],
+    seen: &Seen<'a>,
+    status: u8,
+) -> Result<String, AllocError> {
+    match (seen.word, &seen.input) {
+        (Some(word), Some(input)) => {
+            let text = str::from_utf8(input.as_slice()).unwrap_or("");
+            reason_of(alloc, word, text, status)
+        }
+        (None, _) if status == 2 => reason_of_words(alloc, words),
+        _ => Ok(String::new(alloc)),
+    }
+}
+
+/// Writes the reasons of a status. What fails in it is lost.
+fn tell_reasons<'a, E: Write>(
+    alloc: Global,
+    words: &'a [&'a str],
+    seen: &Seen<'a>,
+    status: u8,
+    reasons: &mut E,
+) {
+    let told = if status < 5 {
+        reasons_of(alloc, words, seen, status)
+    } else {
+        reason_of_trouble(alloc, trouble_of(seen, status))
+    };
+    let _lost = match told {
+        Ok(text) => reasons.write_all(text.as_bytes()),
+        Err(_full) => reasons.write_all(b"no memory was left to say why\n"),
+    };
+    let _lost = reasons.flush();
+}
 
 /// Writes the text, and answers the status. Where that fails, it tries to write the line of a failed write, which may be
 /// lost too, and answers 6.
@@ -60,26 +137,37 @@ fn answer_of(alloc: Global, input: &[u8]) -> Result<Answer, Stop>
 }
 
 /// What is done for an input.
+fn serve_input(alloc: Global, word: Word<'_>, input: &[u8]) -> Result<Served, Stop>
+    requires { is_readable input.now ≡ true }
+    ensures served { IfOk result (λ served. Comes served (Answers (order_of word.entry) input.now)) }
+    ensures memory { IfErr result (λ stop. stop ≡ Stop.Memory) }
+{
+    match word {
+        Word::One => Ok(Served::Answer(answer_of(alloc, input)?)),
+        Word::Check => Ok(Served::Answer(check_of(alloc, input)?)),
+        Word::Run => task_of(alloc, Wanted::Run, input),
+        Word::Threads => task_of(alloc, Wanted::Threads, input),
+        Word::History { operator } => task_of(alloc, Wanted::History(operator), input),
+    }
+}
+
+/// What is done for what a reader has left. The input is noted where it can be read.
 fn serve<R: Read>(
     alloc: Global,
     word: Word<'_>,
     reader: &mut R,
-    failed: &mut bool,
+    seen: &mut Seen<'_>,
 ) -> Result<Served, Stop>
-    requires untried { failed.old ≡ false }
+    requires untried { seen.old.failed ≡ false }
     ensures served { IfOk result (λ served.
         IfSome (R.remaining reader.old) (λ input. Comes served (Answers (order_of word.entry) input))) }
     ensures io { (result ≡ Err Stop.Io)
-        → (failed.new ≡ true) ⊎ IfSome (R.remaining reader.old) (λ input. is_readable input ≡ false) }
+        → (seen.new.failed ≡ true) ⊎ IfSome (R.remaining reader.old) (λ input. is_readable input ≡ false) }
 {
-    let input = read_input(alloc, reader, failed)?;
-    match word {
-        Word::One => Ok(Served::Answer(answer_of(alloc, input.as_slice())?)),
-        Word::Check => Ok(Served::Answer(check_of(alloc, input.as_slice())?)),
-        Word::Run => task_of(alloc, Wanted::Run, input.as_slice()),
-        Word::Threads => task_of(alloc, Wanted::Threads, input.as_slice()),
-        Word::History { operator } => task_of(alloc, Wanted::History(operator), input.as_slice()),
-    }
+    let input = read_input(alloc, reader, &mut seen.failed, &mut seen.valid)?;
+    let served = serve_input(alloc, word, input.as_slice());
+    seen.input = Some(input);
+    served
 }
 
 /// Writes why there is no answer.
@@ -104,6 +192,63 @@ fn answer_to_words<W: Write>(writer: &mut W, fault: WordsFault) -> u8
         WordsFault::Help { text } => finish(writer, 0, text.as_bytes()),
         WordsFault::Wrong => finish(writer, 2, b"fault: words\n"),
         WordsFault::NoMemory => stopped(writer, Stop::Memory),
+    }
+}
+
+/// Answers the words, and notes what was seen on the way.
+fn answer_of_words<'a, H: Threads + Wait + Sync, R: Read, W: Write>(
+    rt: &H,
+    alloc: Global,
+    words: &'a [&'a str],
+    reader: &mut R,
+    writer: &mut W,
+    seen: &mut Seen<'a>,
+) -> u8
+    requires untried { seen.old.failed ≡ false }
+    // What is written answers what is read.
+    ensures served { (order : Order) → Names (texts words.entry.now) order → result ≢ 5 → result ≢ 6
+        → IfSome (R.remaining reader.old) (λ input.
+        (text : List ℕ) × Answers order input result text × Appends (W.contents writer.old) (W.contents writer.new) text) }
+    // Other words are a fault.
+    ensures refused { AreWrong (texts words.entry.now) → result ≢ 5 → result ≢ 6 →
+        (result ≡ 2) × Appends (W.contents writer.old) (W.contents writer.new) (codes "fault: words" ++ 10 ∷ []) }
+    // Help is told where it is asked for.
+    ensures helped { AsksHelp (texts words.entry.now) → result ≢ 5 → result ≢ 6 →
+        (text : List ℕ) × (result ≡ 0) × Appends (W.contents writer.old) (W.contents writer.new) text }
+    // Nothing is read for words that are wrong or ask for help.
+    ensures unread_if_wrong { AreWrong (texts words.entry.now) → reader.new ≡ reader.old }
+    ensures unread_for_help { AsksHelp (texts words.entry.now) → reader.new ≡ reader.old }
+    // Want of memory is told as such, and nothing else is.
+    ensures memory { result ≡ 5 → Appends (W.contents writer.old) (W.contents writer.new) memory_line }
+{
+    let word = match read_words(alloc, words) {
+        Ok(word) => word,
+        Err(fault) => return answer_to_words(writer, fault),
+    };
+    seen.word = Some(word);
+    let task = match serve(alloc, word, reader, seen) {
+        Ok(Served::Task(task)) => task,
+        Ok(Served::Answer(answer)) => {
+            return finish(writer, answer.status, answer.text.as_slice());
+        }
+        Err(stop) => return stopped(writer, stop),
+    };
+    let mut rankings = Vec::new(alloc);
+    for row in task.plant.rows() {
+        let policy = row.get_fields().policy;
+        let Ok(rank) = Box::new(alloc, move |input: RankInput| -> u8 {
+            rank_by(policy, &input)
+        }) else {
+            return stopped(writer, Stop::Memory);
+        };
+        let ranking = Ranking::new(row.get_fields().policy, rank);
+        if rankings.push(ranking).is_err() {
+            return stopped(writer, Stop::Memory);
+        }
+    }
+    match answer_of_task(rt, alloc, task, rankings) {
+        Ok(answer) => finish(writer, answer.status, answer.text.as_slice()),
+        Err(_full) => stopped(writer, Stop::Memory),
     }
 }
 
@@ -139,33 +284,39 @@ pub fn run_program<'a, H: Threads + Wait + Sync, R: Read, W: Write>(
     // Want of memory is told as such, and nothing else is.
     ensures memory { result ≡ 5 → Appends (W.contents writer.old) (W.contents writer.new) memory_line }
 {
-    let word = match read_words(alloc, words) {
-        Ok(word) => word,
-        Err(fault) => return answer_to_words(writer, fault),
-    };
-    let mut failed = false;
-    let task = match serve(alloc, word, reader, &mut failed) {
-        Ok(Served::Task(task)) => task,
-        Ok(Served::Answer(answer)) => {
-            return finish(writer, answer.status, answer.text.as_slice());
-        }
-        Err(stop) => return stopped(writer, stop),
-    };
-    let mut rankings = Vec::new(alloc);
-    for row in task.plant.rows() {
-        let policy = row.get_fields().policy;
-        let Ok(rank) = Box::new(alloc, move |input: RankInput| -> u8 {
-            rank_by(policy, &input)
-        }) else {
-            return stopped(writer, Stop::Memory);
-        };
-        let ranking = Ranking::new(row.get_fields().policy, rank);
-        if rankings.push(ranking).is_err() {
-            return stopped(writer, Stop::Memory);
-        }
-    }
-    match answer_of_task(rt, alloc, task, rankings) {
-        Ok(answer) => finish(writer, answer.status, answer.text.as_slice()),
-        Err(_full) => stopped(writer, Stop::Memory),
-    }
+    let mut seen = Seen::new();
+    answer_of_words(rt, alloc, words, reader, writer, &mut seen)
+}
+
+/// Runs the program as `run_program` does, under the same contract, and writes the reasons of its status to one writer more: what
+/// was wrong, where, and the numbers that disagree. Of a plant that is well it tells keys that nothing reads. What fails in
+/// writing reasons is lost, and changes no status. No clause says what the reasons are.
+pub fn run_program_with_reasons<'a, H: Threads + Wait + Sync, R: Read, W: Write, E: Write>(
+    rt: &H,
+    alloc: Global,
+    words: &'a [&'a str],
+    reader: &mut R,
+    writer: &mut W,
+    reasons: &mut E,
+) -> u8
+    // What is written answers what is read.
+    ensures served { (order : Order) → Names (texts words.entry.now) order → result ≢ 5 → result ≢ 6
+        → IfSome (R.remaining reader.old) (λ input.
+        (text : List ℕ) × Answers order input result text × Appends (W.contents writer.old) (W.contents writer.new) text) }
+    // Other words are a fault.
+    ensures refused { AreWrong (texts words.entry.now) → result ≢ 5 → result ≢ 6 →
+        (result ≡ 2) × Appends (W.contents writer.old) (W.contents writer.new) (codes "fault: words" ++ 10 ∷ []) }
+    // Help is told where it is asked for.
+    ensures helped { AsksHelp (texts words.entry.now) → result ≢ 5 → result ≢ 6 →
+        (text : List ℕ) × (result ≡ 0) × Appends (W.contents writer.old) (W.contents writer.new) text }
+    // Nothing is read for words that are wrong or ask for help.
+    ensures unread_if_wrong { AreWrong (texts words.entry.now) → reader.new ≡ reader.old }
+    ensures unread_for_help { AsksHelp (texts words.entry.now) → reader.new ≡ reader.old }
+    // Want of memory is told as such, and nothing else is.
+    ensures memory { result ≡ 5 → Appends (W.contents writer.old) (W.contents writer.new) memory_line }
+{
+    let mut seen = Seen::new();
+    let status = answer_of_words(rt, alloc, words, reader, writer, &mut seen);
+    tell_reasons(alloc, words, &seen, status, reasons);
+    status
 }

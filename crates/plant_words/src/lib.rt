@@ -8,4 +8,4 @@ mod reading;
 
 pub use asked::{Word, WordsFault};
 pub use laws_of_words::{help_is_asked, orders_are_named, others_are_wrong, words_come_to_one};
-pub use reading::read_words;
+pub use reading::{read_words, text_of_wrong};

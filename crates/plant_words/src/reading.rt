@@ -10,7 +10,7 @@ use crate::asked::{Word, WordsFault};
 use crate::command::matches_of;
 use clap::error::ErrorKind;
 use clap::{ArgMatches, Error};
-use std::alloc::Global;
+use std::alloc::{AllocError, Global};
 
 /// Reads the words that follow the program's name, which is not among them.
 ///
@@ -69,5 +69,14 @@ fn fault_of_error(alloc: Global, error: &Error) -> WordsFault
             Err(_error) => WordsFault::NoMemory,
         },
         _ => WordsFault::Wrong,
+    }
+}
+
+/// What clap says of words that give no order: its message and the usage. Of the text no clause says anything: clap
+/// promises nothing of it. Empty where the words give an order.
+pub fn text_of_wrong<'a>(alloc: Global, words: &'a [&'a str]) -> Result<String, AllocError> {
+    match matches_of(alloc, words) {
+        Ok(_matches) => Ok(String::new(alloc)),
+        Err(error) => format!(in alloc; "{error}"),
     }
 }

@@ -2,7 +2,7 @@ use Rattle.std.proofs.Common.{◌≡◌, Ok, subst}
 use Rattle.plant_words.specs.Order.{order_of}
 use Rattle.plant_words.specs.CommandLine.{GivesHelp}
 use Rattle.plant_script.proofs.Tasks.{same_order, run_serves}
-use Rattle.plant_script.proofs.program.run_program.Goals as goal
+use Rattle.plant_script.proofs.program.answer_of_words.Goals as goal
 
 pub returns-in-Ok-answer_of_task-clause-served : goal.returns-in-Ok-answer_of_task-clause-served
 returns-in-Ok-answer_of_task-clause-served g c = λ order named well served.

@@ -1,0 +1,138 @@
+//! Provisioned flows that do not fit their operator's keys.
+
+use crate::encodings::{need_of, units_of};
+use crate::fault::Fault;
+use crate::joint::name_of;
+use crate::tree::{named, number, pair, text, values};
+use param_sets::Units;
+use slice_table::{Field, OperatorName};
+use std::alloc::{AllocError, Global};
+use toml::{Table, Value};
+
+/// What the provisioned flows of an operator need together.
+#[derive(Clone, Copy)]
+struct Demand {
+    flows: u64,
+    sids: u64,
+    minislots: u64,
+    elements: u64,
+}
+
+/// Adds what a provisioned flow needs.
+fn add_flow(
+    alloc: Global,
+    document: &Table,
+    units: Units,
+    value: &Value,
+    demand: &mut Demand,
+) -> Result<(), Fault> {
+    let Some(table) = value.as_table() else {
+        return Ok(());
+    };
+    let digits = text(table, Field::Encoding).unwrap_or("");
+    if let Some(need) = need_of(alloc, document, units, digits)? {
+        demand.sids = demand.sids.saturating_add(1);
+        demand.minislots = demand.minislots.saturating_add(u64::from(need.minislots));
+        demand.elements = demand.elements.saturating_add(u64::from(need.elements));
+    }
+    Ok(())
+}
+
+/// What provisioned flows need together.
+fn demand_of(
+    alloc: Global,
+    document: &Table,
+    units: Units,
+    flows: &[Value],
+) -> Result<Demand, Fault> {
+    let mut demand = Demand {
+        flows: flows.len() as u64,
+        sids: 0,
+        minislots: 0,
+        elements: 0,
+    };
+    for value in flows {
+        add_flow(alloc, document, units, value, &mut demand)?;
+    }
+    Ok(demand)
+}
+
+/// How many numbers stand under a key of an operator that is a range.
+fn count(table: &Table, field: Field) -> u64 {
+    let (first, last) = pair(table, field).unwrap_or((1, 0));
+    last.saturating_add(1).saturating_sub(first)
+}
+
+/// The first key that the flows do not fit: what they need of it, and what there is.
+fn over(table: &Table, demand: Demand) -> Option<(&'static str, u64, Field, u64)> {
+    let tests = [
+        (
+            "flows",
+            demand.flows,
+            Field::Flows,
+            number(table, Field::Flows).unwrap_or(0),
+        ),
+        (
+            "SFIDs",
+            demand.flows,
+            Field::Sfids,
+            count(table, Field::Sfids),
+        ),
+        ("SIDs", demand.sids, Field::Sids, count(table, Field::Sids)),
+        (
+            "minislots of a frame",
+            demand.minislots,
+            Field::Budget,
+            number(table, Field::Budget).unwrap_or(0),
+        ),
+        (
+            "elements of a MAP",
+            demand.elements,
+            Field::Elements,
+            number(table, Field::Elements).unwrap_or(0),
+        ),
+    ];
+    tests.iter().find(|test| test.1 > test.3).copied()
+}
+
+/// The operator's provisioned flows, their demand and the first key that they do not fit.
+fn over_of(
+    alloc: Global,
+    document: &Table,
+    operator: OperatorName,
+) -> Result<Option<(usize, (&'static str, u64, Field, u64))>, Fault> {
+    let (Some((_number, table)), Some(units)) = (
+        named(document, "operator", name_of(&operator)),
+        units_of(document),
+    ) else {
+        return Ok(None);
+    };
+    let flows = values(table, "flow");
+    let demand = demand_of(alloc, document, units, flows)?;
+    match over(table, demand) {
+        Some(over) => Ok(Some((flows.len(), over))),
+        None => Ok(None),
+    }
+}
+
+/// Provisioned flows that do not fit.
+pub(crate) fn provisioned_over(
+    alloc: Global,
+    document: &Table,
+    operator: OperatorName,
+) -> Result<String, AllocError> {
+    match over_of(alloc, document, operator) {
+        Ok(Some((count, (what, need, field, have)))) => {
+            let key = field.text();
+            let verb = match field {
+                Field::Sfids | Field::Sids => "has",
+                _ => "is",
+            };
+            format!(in alloc;
+                "operator {operator}: its {count} provisioned flows need {need} {what}, its {key} {verb} {have}"
+            )
+        }
+        Err(Fault::NoMemory) => Err(AllocError),
+        _ => format!(in alloc; "operator {operator}: its provisioned flows do not fit"),
+    }
+}

@@ -1,0 +1,192 @@
+//! The reasons of a status.
+
+use crate::lines::{LineReason, first_no_message, put_steps, stranger};
+use crate::parts::{Parts, parts_of};
+use crate::plants::{fault_reason, put_no_bar, toml_reason};
+use crate::refusals::refused_of;
+use crate::show::quoted;
+use crate::unread::put_unread;
+use plant_words::{Word, text_of_wrong};
+use slice_table::{Plant, PlantFault, read_plant};
+use std::alloc::{AllocError, Global};
+use toml::Table;
+
+/// Why a run came to no end.
+#[derive(Clone, Copy, Debug, PartialEq, Eq)]
+pub enum Trouble {
+    /// No memory was left.
+    Memory,
+    /// A read failed.
+    Read,
+    /// The input has more bytes than are read.
+    TooLong,
+    /// The input is no UTF-8 behind so many bytes.
+    NoText { valid: usize },
+    /// A write failed.
+    Write,
+    /// The threads strayed from the script.
+    Strayed,
+}
+
+/// The reason of a run that came to no end.
+pub fn reason_of_trouble(alloc: Global, trouble: Trouble) -> Result<String, AllocError> {
+    let reason = match trouble {
+        Trouble::Memory => "no memory was left: the run needs more than this process may have\n",
+        Trouble::Read => "a read of standard input failed\n",
+        Trouble::TooLong => "the input has more than 1048576 bytes, and no more are read\n",
+        Trouble::NoText { valid } => {
+            let place = valid.saturating_add(1);
+            return format!(in alloc;
+                "the input is no UTF-8 text: byte {place} is of no character\n"
+            );
+        }
+        Trouble::Write => "a write to standard output failed: what was written is not whole\n",
+        Trouble::Strayed => {
+            "what the threads did is not what the script says: the word run tells what it says\n"
+        }
+    };
+    String::from_str(alloc, reason)
+}
+
+/// The reason of words that give no order: clap's own message and usage, and where a script is read.
+pub fn reason_of_words<'a>(alloc: Global, words: &'a [&'a str]) -> Result<String, AllocError> {
+    let mut reason = text_of_wrong(alloc, words)?;
+    reason.push_str(
+        "\nA plant file and a script are read from standard input: plant_script run < script.txt\n",
+    )?;
+    Ok(reason)
+}
+
+/// Adds the reason of a line at fault. The lines of a script are counted on from that of the three dashes.
+fn put_line(
+    alloc: Global,
+    reason: &mut String,
+    text: &str,
+    bar: usize,
+    wrong: LineReason,
+) -> Result<(), AllocError> {
+    let number = wrong.number;
+    let line = text.split('\n').nth(number.saturating_sub(1)).unwrap_or("");
+    let line = quoted(alloc, line)?;
+    let wrong = wrong.reason.as_str();
+    if bar == 0 {
+        return write!(reason, "line {number}, {line}: {wrong}\n");
+    }
+    let in_input = number.saturating_add(bar);
+    write!(
+        reason,
+        "line {in_input} of the input, {number} of the script, {line}: {wrong}\n"
+    )
+}
+
+/// Adds why a script is at fault: a line of another shape, or else a step that is refused.
+fn put_script(
+    alloc: Global,
+    reason: &mut String,
+    plant: Plant,
+    parts: Parts<'_>,
+) -> Result<(), AllocError> {
+    let script = parts.script.unwrap_or("");
+    let mut steps = Vec::new(alloc);
+    let wrong = match put_steps(alloc, &plant, script, &mut steps)? {
+        Some(wrong) => Some(wrong),
+        None => refused_of(alloc, plant, steps)?,
+    };
+    match wrong {
+        Some(wrong) => put_line(alloc, reason, script, parts.bar, wrong),
+        None => Ok(()),
+    }
+}
+
+/// Adds why a plant that is well has no answer.
+fn put_behind_plant(
+    alloc: Global,
+    reason: &mut String,
+    word: Word<'_>,
+    plant: Plant,
+    parts: Parts<'_>,
+    status: u8,
+) -> Result<(), AllocError> {
+    match (word, status) {
+        (Word::History { operator }, 2) => {
+            let wrong = stranger(alloc, plant.rows(), operator)?;
+            write!(reason, "{wrong}\n")
+        }
+        (_, 4) => put_script(alloc, reason, plant, parts),
+        (Word::Check, _) => Ok(()),
+        (_, 0) => put_no_bar(alloc, reason, &parts),
+        _ => Ok(()),
+    }
+}
+
+/// Adds why a plant file is at fault.
+fn put_plant(
+    alloc: Global,
+    reason: &mut String,
+    document: &Table,
+    parts: Parts<'_>,
+    fault: PlantFault,
+) -> Result<(), AllocError> {
+    if parts.plant.trim().is_empty() && parts.script.is_none() {
+        return reason.push_str(
+            "the input is empty: a plant file is read from standard input, then a line ---, then a script\n",
+        );
+    }
+    if parts.plant.trim().is_empty() {
+        return reason.push_str("no plant file stands before the line ---\n");
+    }
+    let wrong = fault_reason(alloc, document, fault)?;
+    write!(reason, "{wrong}\n")
+}
+
+/// The reason of the status that an input of a plant and a script has.
+fn reason_of_plant(
+    alloc: Global,
+    word: Word<'_>,
+    input: &str,
+    status: u8,
+) -> Result<String, AllocError> {
+    let parts = parts_of(input);
+    let mut reason = String::new(alloc);
+    let document = match toml::table_from_str(alloc, parts.plant) {
+        Ok(document) => document,
+        Err(error) if error.is_memory() => return Err(AllocError),
+        Err(error) => {
+            let wrong = toml_reason(alloc, parts.plant, &error)?;
+            write!(reason, "{wrong}\n")?;
+            put_no_bar(alloc, &mut reason, &parts)?;
+            return Ok(reason);
+        }
+    };
+    if status != 0 || parts.script.is_none() {
+        match read_plant(alloc, parts.plant) {
+            Ok(plant) => put_behind_plant(alloc, &mut reason, word, plant, parts, status)?,
+            Err(PlantFault::NoMemory) => return Err(AllocError),
+            Err(fault) => put_plant(alloc, &mut reason, &document, parts, fault)?,
+        }
+    }
+    put_unread(alloc, &mut reason, &document)?;
+    Ok(reason)
+}
+
+/// The reason of the status that an input has under a word; of status 0 what nothing reads of its plant file. Empty where there is
+/// nothing to say.
+pub fn reason_of(
+    alloc: Global,
+    word: Word<'_>,
+    input: &str,
+    status: u8,
+) -> Result<String, AllocError> {
+    let mut reason = String::new(alloc);
+    match word {
+        Word::One => {
+            if status == 4 {
+                if let Some(wrong) = first_no_message(alloc, input)? {
+                    put_line(alloc, &mut reason, input, 0, wrong)?;
+                }
+            }
+            Ok(reason)
+        }
+        _ => reason_of_plant(alloc, word, input, status),
+    }
+}

@@ -1,0 +1,103 @@
+//! What stands at places of a plant file that is TOML.
+
+use slice_table::{Field, Key, Place};
+use toml::{Table, Value};
+
+/// A table of an array of tables.
+fn item<'a>(table: &'a Table, name: &str, number: usize) -> Option<&'a Value> {
+    table.get(name)?.as_array()?.as_slice().get(number)
+}
+
+/// What stands in a table's place.
+pub(crate) fn value_at(document: &Table, place: Place) -> Option<&Value> {
+    match place {
+        Place::Plant => document.get("plant"),
+        Place::Class(class) => item(document, "class", class),
+        Place::Operator(operator) => item(document, "operator", operator),
+        Place::Flow(operator, flow) => {
+            let table = item(document, "operator", operator)?.as_table()?;
+            item(table, "flow", flow)
+        }
+    }
+}
+
+/// The table at a place.
+pub(crate) fn table_at(document: &Table, place: Place) -> Option<&Table> {
+    value_at(document, place)?.as_table()
+}
+
+/// What stands under a key.
+pub(crate) fn value_of(document: &Table, key: Key) -> Option<&Value> {
+    match key {
+        Key::Classes => document.get("class"),
+        Key::Operators => document.get("operator"),
+        Key::Table(place) => value_at(document, place),
+        Key::Entry(place, field) => table_at(document, place)?.get(field.text()),
+    }
+}
+
+/// The number of 0 or more that a value is.
+pub(crate) fn natural(value: &Value) -> Option<u64> {
+    match value.as_integer() {
+        Some(number) if number >= 0 => Some(number as u64),
+        _ => None,
+    }
+}
+
+/// The number of 0 or more under a key.
+pub(crate) fn number(table: &Table, field: Field) -> Option<u64> {
+    natural(table.get(field.text())?)
+}
+
+/// The two numbers that a value is.
+pub(crate) fn pair_in(value: &Value) -> Option<(u64, u64)> {
+    match value.as_array()?.as_slice() {
+        [a, b] => Some((natural(a)?, natural(b)?)),
+        _ => None,
+    }
+}
+
+/// The two numbers under a key.
+pub(crate) fn pair(table: &Table, field: Field) -> Option<(u64, u64)> {
+    pair_in(table.get(field.text())?)
+}
+
+/// The values of an array; none where there is no such array.
+pub(crate) fn values<'a>(table: &'a Table, name: &str) -> &'a [Value] {
+    match table.get(name) {
+        Some(value) => values_in(value),
+        None => &[],
+    }
+}
+
+/// The values of an array; none where it is none.
+pub(crate) fn values_in(value: &Value) -> &[Value] {
+    match value.as_array() {
+        Some(values) => values.as_slice(),
+        None => &[],
+    }
+}
+
+/// The text under a key.
+pub(crate) fn text(table: &Table, field: Field) -> Option<&str> {
+    table.get(field.text())?.as_str()
+}
+
+/// Whether a value is a table of this name.
+fn is_called(value: &Value, name: &str) -> bool {
+    match value.as_table() {
+        Some(table) => text(table, Field::Name) == Some(name),
+        None => false,
+    }
+}
+
+/// The first table of an array that has this name, and its number.
+pub(crate) fn named<'a>(
+    document: &'a Table,
+    array: &str,
+    name: &str,
+) -> Option<(usize, &'a Table)> {
+    let values = values(document, array);
+    let number = values.iter().position(|value| is_called(value, name))?;
+    Some((number, values.get(number)?.as_table()?))
+}
