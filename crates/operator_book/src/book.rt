@@ -60,11 +60,12 @@ impl From<AllocError> for BookFault {
 }
 
 /// One operator's book. What contracts say of it they say of `kept.book`: its row, what all operators share, its state and
-/// its history; and of `kept.spare`: how many actions more its history takes without memory. The type keeps that the state is the replay of the history from the opened state, and that the ranking follows
-/// the row's policy.
+/// its history; and of `kept.spare`: how many actions more its history takes without memory. Nobody outside can put another
+/// in its place. The type keeps that the state is the replay of the history from the opened state, and that the ranking
+/// follows the row's policy.
 #[derive(Drop)]
 pub struct Book {
-    pub kept: Logged,
+    kept: Logged,
     ranking: Ranking,
     ghost same_policy: { ranking.policy ≡ kept.book.row.policy },
 }

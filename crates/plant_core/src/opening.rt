@@ -67,7 +67,6 @@ impl PlantCore {
         plant: Plant,
         rankings: Vec<Ranking>,
     ) -> Result<PlantCore, CoreOpenFault>
-        requires { vec_len rankings < 2 ^ 64 }
         ensures ok { IfOk result (λ core. core_view core ≡ opened_core plant) }
         ensures reached { IfOk result (λ core. Reached plant [] [] (core_view core)) }
         ensures mismatch { (result ≡ Err CoreOpenFault.RankingsMismatch)
