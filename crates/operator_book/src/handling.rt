@@ -65,10 +65,7 @@ impl Machine {
         requires room { length self.old.state.kept < self.old.row.transactions }
         ensures { self.new ≡ keeping self.old modem tid kind reply sfid waits }
     {
-        match self.kept.begin(modem, tid, kind, reply, sfid, waits) {
-            Ok(()) => {}
-            Err(_) => unreachable!(),
-        }
+        self.kept.begin_new(modem, tid, kind, reply, sfid, waits);
     }
 
     /// A refusal is told and kept.

@@ -1,6 +1,6 @@
 //! A machine beside the history of all that was done.
 
-ghost use Rattle.std.specs.Prelude.{◌≡◌, ◌<◌, None, IfOk, OnOk, OnErr};
+ghost use Rattle.std.specs.Prelude.{◌≡◌, ◌<◌, None, IfOk, OnOk, OnErr, vec_len, vec_capacity};
 ghost use Rattle.slice_table.specs.Row.{IsRowOf};
 ghost use Rattle.operator_machine.specs.declared.action.Action.TheVariants as actions;
 ghost use Rattle.operator_machine.specs.Replay.{acted};
@@ -36,6 +36,18 @@ impl Model for Logged {
     ghost invariant = { λ b. IsBook b.machine.consts b.machine.row b.history.items b.machine.state };
 }
 
+/// Room for one entry more. A history that is full takes room for three times as many as it has, so that a long one is seldom
+/// moved.
+fn room_for_one(history: &mut Vec<Entry>) -> Result<(), AllocError>
+    ensures room { OnOk result (vec_len history.new < vec_capacity history.new) }
+    ensures items { history.new.items ≡ history.old.items }
+{
+    if history.len() < history.capacity() {
+        return Ok(());
+    }
+    history.reserve(history.len().saturating_mul(3).max(4))
+}
+
 impl Logged {
     /// The machine of an operator as it is opened, with nothing done.
     pub(crate) fn open(
@@ -67,7 +79,7 @@ impl Logged {
         ensures err { OnErr result (self.new.book ≡ self.old.book) }
     {
         self.kept();
-        self.history.reserve(1)?;
+        room_for_one(&mut self.history)?;
         let both = self.machine.step(alloc, ranking, &action)?;
         self.history.push_reserved(Entry {
             action,
@@ -81,7 +93,7 @@ impl Logged {
         ensures ok { OnOk result (0 < self.new.spare) }
         ensures book { self.new.book ≡ self.old.book }
     {
-        self.history.reserve(1)
+        room_for_one(&mut self.history)
     }
 
     /// Takes a slice that fits from a later frame on, with no memory.

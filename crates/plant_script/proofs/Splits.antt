@@ -1,14 +1,14 @@
 -- Lines and the messages in them, one after the other.
-use Rattle.std.proofs.Common.{◌≡◌, ℕ, suc, ◌+◌, ◌<◌, ◌≤◌, ◌==◌, Bool, true, false, List, [], ◌∷◌, ◌++◌, length, map, take, drop, get_or, Option, Some, None, Err, refl, sym, ap, ◌∙◌, append_assoc, add-one, drop-cons, arith}
+use Rattle.std.proofs.Common.{◌≡◌, ℕ, zero, suc, ◌+◌, ◌<◌, ◌≤◌, ◌==◌, Bool, true, false, List, [], ◌∷◌, ◌++◌, length, map, take, drop, get_or, Option, Some, None, Err, refl, sym, ap, ◌∙◌, append_assoc, append-nil, add-one, drop-cons, arith}
 use Rattle.std.specs.Str.{IsUtf8}
 use Rattle.std.proofs.lemmas.Str.{is_utf8-from_IsUtf8}
-use Rattle.std.proofs.lemmas.Bool.{le-leb}
-use Rattle.std.proofs.lemmas.List.{take_more, take_all, length-take, drop-append-le, drop_all}
+use Rattle.std.proofs.lemmas.Bool.{le-leb, false_from_ne_true}
+use Rattle.std.proofs.lemmas.List.{take_all}
 use Rattle.std.specs.List.{drop-map}
 use Rattle.std.specs.Borrow.{Bor}
 use Rattle.plant_script.specs.Lines.{parts_from, parts_of}
 use Rattle.plant_script.specs.One.{message_in, messages_after, is_readable}
-use Rattle.plant_script.specs.SplitSoFar.{IsSplitSoFar}
+use Rattle.memchr.specs.Find.{Nowhere, NoneBefore, Passes, is_byte}
 use Rattle.plant_script.specs.SaidSoFar.{IsSaidSoFar}
 
 pub readable : (input : List ℕ) → length input ≤ 1048576 → IsUtf8 input → is_readable input ≡ true
@@ -19,40 +19,42 @@ readable input fits utf8 = rw (le-leb (length input) 1048576 fits, is_utf8-from_
 from_byte : (mark : ℕ) (line : List ℕ) (b : ℕ) (bytes : List ℕ) (t : Bool) → (b == mark) ≡ t → parts_from mark line (b ∷ bytes) ≡ elim t [ true ↦ line ∷ parts_from mark [] bytes | false ↦ parts_from mark (line ++ b ∷ []) bytes ]
 from_byte mark line b bytes t e = ap (λ (v : Bool). elim v [ true ↦ line ∷ parts_from mark [] bytes | false ↦ parts_from mark (line ++ b ∷ []) bytes ]) e
 
-module _ (mark : ℕ) (input : List ℕ) (start place : ℕ) (lt : place < length input) where
-  line_more : start ≤ place → drop start (take (place + 1) input) ≡ drop start (take place input) ++ get_or input place 0 ∷ []
-  line_more begun =
-      let fits : start ≤ length (take place input) = omega (arith, length-take place input) in
-      ap (drop start) (take_more input place 0 lt) ∙ drop-append-le start (take place input) (get_or input place 0 ∷ []) fits
+-- the bytes up to the first mark are a part
+pub split_first : (mark : ℕ) (before rest : List ℕ) (place : ℕ) → place < length rest → Nowhere (Passes (is_byte mark) rest) 0 place → Passes (is_byte mark) rest place
+    → parts_from mark before rest ≡ (before ++ take place rest) ∷ parts_from mark [] (drop (suc place) rest)
+split_first mark before [] place lt none is = absurd (omega arith)
+split_first mark before (b ∷ bytes) zero lt none is =
+    from_byte mark before b bytes true is ∙ ap (λ (x : List ℕ). x ∷ parts_from mark [] bytes) (sym (append-nil before))
+split_first mark before (b ∷ bytes) (suc place) lt none is =
+    from_byte mark before b bytes false (false_from_ne_true (b == mark) (λ hit. none 0 (omega arith) (omega arith) hit))
+    ∙ split_first mark (before ++ b ∷ []) bytes place (omega (arith, lt)) (λ k low high hit. none (suc k) (omega arith) (omega (arith, high)) hit) is
+    ∙ ap (λ (x : List ℕ). x ∷ parts_from mark [] (drop (suc place) bytes)) (append_assoc before (b ∷ []) (take place bytes))
 
-  at_place : drop place input ≡ get_or input place 0 ∷ drop (place + 1) input
-  at_place = rw (add-one, drop-cons input place 0) refl
+-- bytes with no mark are one part
+pub split_none : (mark : ℕ) (before rest : List ℕ) → Nowhere (Passes (is_byte mark) rest) 0 (length rest) → parts_from mark before rest ≡ (before ++ rest) ∷ []
+split_none mark before [] none = ap (λ (x : List ℕ). x ∷ []) (sym (append-nil before))
+split_none mark before (b ∷ bytes) none =
+    from_byte mark before b bytes false (false_from_ne_true (b == mark) (λ hit. none 0 (omega arith) (omega arith) hit))
+    ∙ split_none mark (before ++ b ∷ []) bytes (λ k low high hit. none (suc k) (omega arith) (omega (arith, high)) hit)
+    ∙ ap (λ (x : List ℕ). x ∷ []) (append_assoc before (b ∷ []) bytes)
 
-  line_none : drop (place + 1) (take (place + 1) input) ≡ []
-  line_none = drop_all (place + 1) (take (place + 1) input) (omega (arith, length-take (place + 1) input))
+-- one part more, up to the first mark of what is left
+pub split_more : (mark : ℕ) (input rest part behind : List ℕ) (parts : List (List ℕ)) (place : ℕ) → NoneBefore (Passes (is_byte mark) rest) 0 (length rest) place × Passes (is_byte mark) rest place
+    → part ≡ drop 0 (take place rest) → behind ≡ drop (place + 1) (take (length rest) rest)
+    → parts ++ parts_from mark [] rest ≡ parts_from mark [] input → (parts ++ part ∷ []) ++ parts_from mark [] behind ≡ parts_from mark [] input
+split_more mark input rest part behind parts place found part_is behind_is so_far =
+    let left : behind ≡ drop (suc place) rest =
+    behind_is ∙ (ap (λ (n : ℕ). drop n (take (length rest) rest)) (add-one place) ∙ ap (drop (suc place)) (take_all (length rest) rest (omega arith))) in
+    append_assoc parts (part ∷ []) (parts_from mark [] behind)
+    ∙ (ap (λ (x : List ℕ). parts ++ (x ∷ parts_from mark [] behind)) part_is
+    ∙ (ap (λ (x : List ℕ). parts ++ (take place rest ∷ parts_from mark [] x)) left
+    ∙ (ap (λ (xs : List (List ℕ)). parts ++ xs) (sym (split_first mark [] rest place found.0.high found.0.before found.1)) ∙ so_far)))
 
-  pub split_line : (lines : List (List ℕ)) (line : List ℕ) → IsSplitSoFar mark input lines start place → line ≡ drop start (take place input) → (get_or input place 0 == mark) ≡ true
-      → IsSplitSoFar mark input (lines ++ line ∷ []) (place + 1) (place + 1)
-  split_line lines line s line_is lf = record {
-    begun = omega arith;
-    goes_on =
-        ap (λ (x : List ℕ). (lines ++ line ∷ []) ++ parts_from mark x (drop (place + 1) input)) line_none
-        ∙ append_assoc lines (line ∷ []) (parts_from mark [] (drop (place + 1) input))
-        ∙ ap (λ (x : List ℕ). lines ++ (x ∷ parts_from mark [] (drop (place + 1) input))) line_is
-        ∙ ap (λ (x : List (List ℕ)). lines ++ x) (sym (from_byte mark (drop start (take place input)) (get_or input place 0) (drop (place + 1) input) true lf))
-        ∙ ap (λ (x : List ℕ). lines ++ parts_from mark (drop start (take place input)) x) (sym at_place)
-        ∙ s.goes_on;
-  }
-
-  pub split_byte : (lines : List (List ℕ)) → IsSplitSoFar mark input lines start place → (get_or input place 0 == mark) ≡ false → IsSplitSoFar mark input lines start (place + 1)
-  split_byte lines s other = record {
-    begun = let b : start ≤ place = s.begun in omega arith;
-    goes_on =
-        ap (λ (x : List ℕ). lines ++ parts_from mark x (drop (place + 1) input)) (line_more s.begun)
-        ∙ ap (λ (x : List (List ℕ)). lines ++ x) (sym (from_byte mark (drop start (take place input)) (get_or input place 0) (drop (place + 1) input) false other))
-        ∙ ap (λ (x : List ℕ). lines ++ parts_from mark (drop start (take place input)) x) (sym at_place)
-        ∙ s.goes_on;
-  }
+-- what is left has no mark: it is the last part
+pub split_last : (mark : ℕ) (input rest : List ℕ) (parts : List (List ℕ)) → Nowhere (Passes (is_byte mark) rest) 0 (length rest)
+    → parts ++ parts_from mark [] rest ≡ parts_from mark [] input → parts ++ rest ∷ [] ≡ parts_of mark input
+unfolding parts_of
+split_last mark input rest parts none so_far = ap (λ (xs : List (List ℕ)). parts ++ xs) (sym (split_none mark [] rest none)) ∙ so_far
 
 -- ---- messages
 
@@ -87,13 +89,3 @@ line_at lines place d lt =
     ∙ ap (map (λ (l : Bor (List ℕ)). l.now)) (drop-cons lines place d lt)
     ∙ ap (λ (x : List (List ℕ)). (get_or lines place d).now ∷ x) (sym (drop-map (λ (l : Bor (List ℕ)). l.now) (suc place) lines))
     ∙ ap (λ (n : ℕ). (get_or lines place d).now ∷ drop n (map (λ (l : Bor (List ℕ)). l.now) lines)) (sym (add-one place))
-
-pub split_end : (mark : ℕ) (input : List ℕ) (lines : List (List ℕ)) (start place : ℕ) (line : List ℕ) → IsSplitSoFar mark input lines start place → length input ≤ place → line ≡ drop start (take (length input) input) → lines ++ line ∷ [] ≡ parts_of mark input
-unfolding parts_of
-split_end mark input lines start place line s past line_is =
-    let whole : take place input ≡ input = take_all place input past in
-    let same : take (length input) input ≡ input = take_all (length input) input (omega arith) in
-    let none : drop place input ≡ [] = drop_all place input past in
-    ap (λ (x : List ℕ). lines ++ x ∷ []) (line_is ∙ ap (drop start) (same ∙ sym whole))
-    ∙ ap (λ (x : List ℕ). lines ++ parts_from mark (drop start (take place input)) x) (sym none)
-    ∙ s.goes_on

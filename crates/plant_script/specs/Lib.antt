@@ -8,7 +8,6 @@ pub mod Script
 pub mod StepsSoFar
 pub mod Check
 pub mod LineFault
-pub mod SplitSoFar
 pub mod SaidSoFar
 pub mod RunSoFar
 pub mod Run

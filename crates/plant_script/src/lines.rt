@@ -7,6 +7,7 @@ ghost use Rattle.plant_script.specs.LineFault.{Gives};
 ghost use Rattle.plant_script.specs.declared.lines.LineFault.TheVariants.{NoMemory};
 
 use hex::{FromHexError, decode};
+use memchr::memchr;
 use std::alloc::{AllocError, AllocFailed, Global};
 use tlv24::Bytes;
 
@@ -60,14 +61,12 @@ pub fn put_parts<'a>(mark: u8, input: &'a [u8], parts: &mut Vec<&'a [u8]>) -> Re
     ensures { OnOk result (map (λ part. part.now) parts.new.items ≡ parts_of mark input.now) }
 {
     parts.clear();
-    let mut start = 0;
-    for (place, byte) in input.iter().enumerate() {
-        if *byte == mark {
-            parts.push(part(input, start, place))?;
-            start = place + 1;
-        }
+    let mut rest = input;
+    while let Some(place) = memchr(mark, rest) {
+        parts.push(part(rest, 0, place))?;
+        rest = part(rest, place + 1, rest.len());
     }
-    parts.push(part(input, start, input.len()))?;
+    parts.push(rest)?;
     Ok(())
 }
 

@@ -18,6 +18,7 @@ use grant_policy::Ranking;
 use plant_core::{CoreFault, CoreOpenFault, PlantCore};
 use slice_table::{Op, Plant};
 use std::alloc::{AllocError, Global};
+use std::mem::forget;
 use std::sync::Wait;
 use std::thread::Threads;
 
@@ -142,6 +143,8 @@ fn core_of(alloc: Global, plant: Plant, rankings: Vec<Ranking>) -> Result<PlantC
 }
 
 /// What the run of a task answers. The rankings stand in the plant's order of operators. Only a run on threads may wait.
+///
+/// The core is not taken apart behind the last step: the program ends there, and its memory goes with it.
 pub fn answer_of_task<R: Threads + Wait + Sync>(
     rt: &R,
     alloc: Global,
@@ -155,11 +158,15 @@ pub fn answer_of_task<R: Threads + Wait + Sync>(
     match told {
         Told::Outs => {
             let mut core = core_of(alloc, plant, rankings)?;
-            answer_of_outs(alloc, &mut core, lines)
+            let answer = answer_of_outs(alloc, &mut core, lines)?;
+            forget(core);
+            Ok(answer)
         }
         Told::History(op) => {
             let mut core = core_of(alloc, plant, rankings)?;
-            answer_of_history(alloc, &mut core, op, lines)
+            let answer = answer_of_history(alloc, &mut core, op, lines)?;
+            forget(core);
+            Ok(answer)
         }
         Told::Threads => answer_of_threads(rt, alloc, plant, lines, rankings),
     }

@@ -1,5 +1,5 @@
 -- What a schedule gives, it gives to the flows that ask: those that do not ask may be left out before anything is shared.
-use Rattle.std.proofs.Common.{◌≡◌, ℕ, zero, suc, ◌-◌, ◌+◌, ◌<◌, ◌≤◌, inl, inr, Bool, true, false, cond, List, [], ◌∷◌, ◌++◌, refl, sym, ap, ◌∙◌, arith, filter, map, min, sum_by, eq-zero-or-pos, take, get_or, length, All, subst, add-one}
+use Rattle.std.proofs.Common.{◌≡◌, ℕ, zero, suc, ◌-◌, ◌+◌, ◌<◌, ◌≤◌, inl, inr, Bool, true, false, cond, List, [], ◌∷◌, ◌++◌, refl, sym, ap, ◌∙◌, arith, filter, map, min, sum_by, eq-zero-or-pos, take, get_or, length, All, subst}
 use Rattle.std.specs.Prelude.{nat_lt, ◌==◌}
 use Rattle.std.specs.List.{flat_map}
 use Rattle.std.proofs.lemmas.Bool.{lt-ltb, le-ltb}
@@ -7,7 +7,6 @@ use Rattle.std.proofs.lemmas.List.{take_more, map-append, append-nil}
 use Rattle.std.proofs.lemmas.List.Elements.{filter-append, All-push}
 use Rattle.std.proofs.lemmas.List.Sums.{sum_by-cons}
 use Rattle.grant_policy.specs.declared.policy.Policy.{Policy}
-use Rattle.slice_scheduler.specs.declared.piece.Piece.{Piece}
 use Rattle.slice_scheduler.specs.declared.claim.Claim.{Claim}
 use Rattle.slice_scheduler.specs.declared.award.Award.{Award}
 use Rattle.slice_scheduler.specs.declared.flowing.At.{At}

@@ -107,3 +107,7 @@ sfid_none modem tid kind entries none =
 pub none_found : {found : Option KeptEntry} (r : Option (Bor KeptEntry)) → is_some r ≡ false → option_copied r ≡ found → found ≡ None
 none_found None none same = sym same
 none_found (Some x) none same = absurd (true≢false none)
+
+pub none_is : {A : Type 0} {r : Option A} → is_some r ≡ false → r ≡ None
+none_is {r = None} none = refl
+none_is {r = Some x} none = absurd (true≢false none)

@@ -94,7 +94,7 @@ impl KeptEntry {
     pub(crate) fn is_of(&self, modem: Modem, tid: u16) -> bool
         ensures { result ≡ is_of modem tid self.now }
     {
-        self.modem == modem && self.tid == tid
+        self.tid == tid && self.modem == modem
     }
 
     /// Whether it waits for an acknowledgement of this kind, from this modem and under this transaction ID.

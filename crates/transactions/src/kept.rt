@@ -100,6 +100,27 @@ impl Kept {
         Ok(())
     }
 
+    /// Begins an entry as `begin` does, for a caller who knows that there is room and that no entry of this modem and
+    /// transaction ID stands. Looks at no other entry.
+    pub fn begin_new(
+        &mut self,
+        modem: Modem,
+        tid: u16,
+        kind: Kind,
+        reply: Bytes,
+        sfid: u32,
+        waits: bool,
+    )
+        requires room { length self.old.entries < self.old.capacity }
+        requires free { IsNone (find (is_of modem tid) self.old.entries) }
+        ensures { self.new ≡ record self.old {
+          entries = self.old.entries ++ begun self.old.waits modem tid kind reply sfid waits ∷ [];
+        } }
+    {
+        let entry = KeptEntry::begin(self.timers, modem, tid, kind, reply, sfid, waits);
+        self.entries.push_reserved(entry);
+    }
+
     /// Takes an acknowledgement: the SFID of the entry that waited for it, which is only held from now on. `None` where no
     /// entry of this modem and transaction ID waits, or one of another kind; then all is as it was.
     pub fn acked(&mut self, modem: Modem, tid: u16, kind: Kind) -> Option<u32>

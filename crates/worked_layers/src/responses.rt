@@ -89,6 +89,21 @@ fn a_begin_of_a_live_pair(rt: HostRuntime) -> Result<(), Fail> {
 }
 
 #[test]
+fn a_new_pair_is_held_for_its_ticks(rt: HostRuntime) -> Result<(), Fail> {
+    let alloc = rt.alloc();
+    let mut kept = Kept::new(alloc, 2, Timers::new(3, 1, 5))?;
+    kept.begin_new(TWO, 8, Kind::Dsd, reply(alloc, 6)?, 10, false);
+    let entries = kept.entries();
+    assert_eq!(rt; entries.len(), 1);
+    assert_eq!(rt; (entries[0].modem, entries[0].tid), (TWO, 8));
+    assert_eq!(rt; (entries[0].kind, entries[0].sfid), (Kind::Dsd, 10));
+    assert_eq!(rt; entries[0].reply.as_slice(), [6].as_slice());
+    assert_eq!(rt; entries[0].standing, Standing::Held);
+    assert_eq!(rt; (entries[0].ticks_left, entries[0].resends_left), (5, 0));
+    Ok(())
+}
+
+#[test]
 fn an_acknowledgement_is_taken_once_and_of_its_own_kind(rt: HostRuntime) -> Result<(), Fail> {
     let alloc = rt.alloc();
     let mut kept = Kept::new(alloc, 4, Timers::new(2, 2, 5))?;

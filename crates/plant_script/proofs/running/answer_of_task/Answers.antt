@@ -4,21 +4,18 @@ use Rattle.slice_table.specs.declared.plant.PlantFields.{PlantFields}
 use Rattle.plant_script.specs.declared.task.Told.{Told}
 use Rattle.plant_script.specs.Run.{outs_text, IsRunOf}
 use Rattle.plant_script.specs.Task.{history_at, RunsTo}
-use Rattle.plant_script.proofs.Tasks.{if_ok}
 use Rattle.plant_script.proofs.running.answer_of_task.Goals as goal
 
-pub returns-in_ok-core-in-Outs : goal.returns-in_ok-core-in-Outs
-returns-in_ok-core-in-Outs g c =
+pub returns-in_ok-answer-in-Outs : goal.returns-in_ok-answer-in-Outs
+returns-in_ok-answer-in-Outs g c =
     let task = c.args.task in
-    if_ok c.answer_of_outs.result _ _
-    (λ answer ran. subst (λ (t : Told). RunsTo task.plant t task.lines.items answer.status answer.text.items) (sym c.in-Outs.is)
-    (subst (λ (p : PlantFields). IsRunOf p task.lines.items (λ done told. outs_text p told) answer.status answer.text.items) c.in_ok-core-in-Outs.ensures.plant_is ran))
-    c.answer_of_outs.ensures
+    let answer = c.in_ok-answer-in-Outs.answer in
+    subst (λ (t : Told). RunsTo task.plant t task.lines.items answer.status answer.text.items) (sym c.in-Outs.is)
+    (subst (λ (p : PlantFields). IsRunOf p task.lines.items (λ done told. outs_text p told) answer.status answer.text.items) c.in_ok-core-in-Outs.ensures.plant_is c.in_ok-answer-in-Outs.ensures)
 
-pub returns-in_ok-core-in-History : goal.returns-in_ok-core-in-History
-returns-in_ok-core-in-History g c =
+pub returns-in_ok-answer-in-History : goal.returns-in_ok-answer-in-History
+returns-in_ok-answer-in-History g c =
     let task = c.args.task in
-    if_ok c.answer_of_history.result _ _
-    (λ answer ran. subst (λ (t : Told). RunsTo task.plant t task.lines.items answer.status answer.text.items) (sym c.in-History.is)
-    (subst (λ (p : PlantFields). IsRunOf p task.lines.items (λ done told. history_at (slice_get p.rows c.in-History.op) c.in-History.op done) answer.status answer.text.items) c.in_ok-core-in-History.ensures.plant_is ran))
-    c.answer_of_history.ensures
+    let answer = c.in_ok-answer-in-History.answer in
+    subst (λ (t : Told). RunsTo task.plant t task.lines.items answer.status answer.text.items) (sym c.in-History.is)
+    (subst (λ (p : PlantFields). IsRunOf p task.lines.items (λ done told. history_at (slice_get p.rows c.in-History.op) c.in-History.op done) answer.status answer.text.items) c.in_ok-core-in-History.ensures.plant_is c.in_ok-answer-in-History.ensures)

@@ -1,4 +1,4 @@
-use Rattle.std.proofs.Common.{◌∙◌, ap, List, ◌++◌, ◌∷◌, []}
+use Rattle.std.proofs.Common.{◌∙◌, ap, ◌++◌, ◌∷◌, []}
 use Rattle.std.proofs.lemmas.List.Elements.{All-push}
 use Rattle.slice_scheduler.specs.declared.claim.Claim.{Claim}
 use Rattle.slice_scheduler.specs.Wanted.{IsClaim}

@@ -8,7 +8,7 @@ use Rattle.operator_book.proofs.logged.Logged.act.Goals as goal
 
 pub invariant_of-self-2 : goal.invariant_of-self-2
 invariant_of-self-2 g c =
-    rw (c.in_ok-both.ensures.state, c.push_reserved.ensures.items, c.reserve.ensures.items)
+    rw (c.in_ok-both.ensures.state, c.push_reserved.ensures.items, c.room_for_one.ensures.items)
     record {
       valid = c.self.invariant.valid;
       some = c.self.invariant.some;
