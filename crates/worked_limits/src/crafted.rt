@@ -1,11 +1,11 @@
 //! Crafted and cut messages: what a modem of A is told on a plant of its own.
 
+use crate::checking::{check, check_on};
 use hex::{decode, encode_upper};
 use std::alloc::Global;
 use std::process::Abort;
 use std::test::Fail;
 use worked_plants::{OPERATORS, SHARED};
-use worked_playing::{check, check_on};
 
 /// An addition of a best-effort flow under reference 1.
 const ADDITION: &str = "0F0001180A010200010601060F0102";

@@ -1,10 +1,11 @@
 //! Limits at their ends: as many operators, minislots, elements and entries as a plant may have, and the least and greatest numbers.
 
+use crate::checking::check_on;
 use std::alloc::Global;
 use std::process::Abort;
 use std::test::Fail;
 use worked_plants::{ALONE, PLANT, SHARED};
-use worked_playing::{changed, check_on};
+use worked_playing::changed;
 
 /// The text of some tables with each change made: the first `old` becomes `new`.
 fn all_changed(alloc: Global, text: &str, changes: &[(&str, &str)]) -> Result<String, Fail> {

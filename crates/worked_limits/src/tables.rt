@@ -1,9 +1,10 @@
 //! Full tables: modems, flows, transactions and service classes up to their limits.
 
+use crate::checking::check_on;
 use std::alloc::{AllocError, Global};
 use std::test::Fail;
 use worked_plants::{OPERATOR_A, SHARED};
-use worked_playing::{changed, check_on};
+use worked_playing::changed;
 
 /// What operator A alone has, with room for 1,024 flows and 256 transactions, and one SID.
 fn roomy(alloc: Global, timers: &str) -> Result<String, Fail> {

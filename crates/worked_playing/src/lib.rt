@@ -9,7 +9,7 @@ mod playing;
 mod rankings;
 mod telling;
 
-pub use checking::{check, check_again, check_on, played};
+pub use checking::{played, played_on};
 pub use lines::{modem, steps_in, steps_of};
 pub use plants::{changed, plant_of};
 pub use playing::{Want, play_all};

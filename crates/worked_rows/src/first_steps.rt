@@ -1,7 +1,7 @@
 //! Messages through the core, each to the operator that lists its modem.
 
+use crate::checking::check;
 use std::test::Fail;
-use worked_playing::check;
 
 /// The modem's first addition gets the operator's least SFID and SID, 257 both; the second operator's are 513.
 #[test]

@@ -1,8 +1,8 @@
 //! Ticks and collections through the core: each operator's part of a frame, and the MAP that all parts give.
 
+use crate::checking::{check, check_on};
 use std::test::Fail;
 use worked_plants::{OPERATORS, SHARED};
-use worked_playing::{check, check_on};
 
 /// Five minislots are a long grant and three a short one: short ones have at most `short_max`, 4.
 #[test]

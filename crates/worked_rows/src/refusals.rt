@@ -1,5 +1,6 @@
 //! Steps that the core refuses, cores that are not opened, and that a refusal changes nothing.
 
+use crate::checking::check;
 use grant_policy::Policy;
 use plant_core::{CoreFault, CoreOpenFault, PlantCore, RunStop};
 use plant_runs::{Out, Step};
@@ -7,7 +8,7 @@ use std::alloc::Global;
 use std::process::Abort;
 use std::test::Fail;
 use worked_plants::{OPERATOR_A, OPERATOR_B, SHARED};
-use worked_playing::{check, opened, plant_of, put_outs, ranking};
+use worked_playing::{opened, plant_of, put_outs, ranking};
 
 /// A modem that no row holds is unknown, whatever it sends, and no history has it.
 #[test]

@@ -1,7 +1,7 @@
 //! Other slices while the plant runs.
 
+use crate::checking::check;
 use std::test::Fail;
-use worked_playing::check;
 
 /// The faults are tried in their order, at the least operator or pair: there is one row for each operator, behind each frame
 /// number, within the frame and behind its head (8), apart from one another, with a budget within the slice.

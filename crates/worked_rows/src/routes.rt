@@ -1,9 +1,10 @@
 //! More modems than the core remembers where they belong: each message still goes to the operator that lists its modem.
 
+use crate::checking::check_on;
 use std::alloc::Global;
 use std::test::Fail;
 use worked_plants::{OPERATOR_A, OPERATOR_B, SHARED};
-use worked_playing::{changed, check_on};
+use worked_playing::changed;
 
 /// The modems of A: 020000000101 to 020000000111, counted in hexadecimal.
 const MODEMS: usize = 17;

@@ -2,8 +2,8 @@
 //! another request in each run. A step that asked answers its want of memory and does nothing, and done once more it answers what
 //! it answers otherwise; a run keeps the steps before it (`check_again`). Want of memory elsewhere ends a test early, and it says so.
 
+use crate::checking::check_again;
 use std::test::Fail;
-use worked_playing::check_again;
 
 /// Runs: flows of both operators, their grants, the MAP, and the next frame with other slices.
 #[test]
