@@ -750,21 +750,22 @@ fn a_long_line_is_cut(rt: HostRuntime) -> Result<(), Fail> {
     )
 }
 
+/// Asserts that the reason of words has clap's usage, and where a script is read from.
+fn check_words<'a>(rt: &impl Abort, alloc: Global, words: &'a [&'a str]) -> Result<(), Fail> {
+    let reason = reason_of_words(alloc, words)?;
+    assert!(rt; reason.as_str().contains("Usage: plant_script"));
+    let end =
+        "\nA plant file and a script are read from standard input: plant_script run < script.txt\n";
+    assert!(rt; reason.as_str().ends_with(end));
+    Ok(())
+}
+
 #[test]
 fn words_that_give_no_order(rt: HostRuntime) -> Result<(), Fail> {
-    for words in [
-        &["walk"].as_slice(),
-        &[].as_slice(),
-        &["history"].as_slice(),
-        &["run", "run"].as_slice(),
-    ] {
-        let reason = reason_of_words(rt.alloc(), words)?;
-        assert!(rt; reason.as_str().contains("Usage: plant_script"));
-        let end =
-            "\nA plant file and a script are read from standard input: plant_script run < script.txt\n";
-        assert!(rt; reason.as_str().ends_with(end));
-    }
-    Ok(())
+    check_words(&rt, rt.alloc(), &["walk"])?;
+    check_words(&rt, rt.alloc(), &[])?;
+    check_words(&rt, rt.alloc(), &["history"])?;
+    check_words(&rt, rt.alloc(), &["run", "run"])
 }
 
 #[test]
