@@ -89,14 +89,14 @@ impl Kept {
             ↔ ((length self.old.entries < self.old.capacity) × IsSome (find (is_of modem tid) self.old.entries)) }
         ensures err { OnErr result (self.new ≡ self.old) }
     {
+        let _ = &self.capacity;
         if self.is_full() {
             return Err(KeptFault::Full);
         }
         if self.find(modem, tid).is_some() {
             return Err(KeptFault::Live);
         }
-        let entry = KeptEntry::begin(self.timers, modem, tid, kind, reply, sfid, waits);
-        self.entries.push_reserved(entry);
+        self.begin_new(modem, tid, kind, reply, sfid, waits);
         Ok(())
     }
 
