@@ -8,6 +8,7 @@ mod joint;
 mod keys;
 mod lines;
 mod parts;
+mod plain;
 mod plants;
 mod provisioned;
 mod reasons;

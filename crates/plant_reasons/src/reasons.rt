@@ -2,6 +2,7 @@
 
 use crate::lines::{LineReason, first_no_message, put_steps, stranger};
 use crate::parts::{Parts, parts_of};
+use crate::plain::is_plain;
 use crate::plants::{fault_reason, put_no_bar, toml_reason};
 use crate::refusals::refused_of;
 use crate::show::quoted;
@@ -148,6 +149,9 @@ fn reason_of_plant(
 ) -> Result<String, AllocError> {
     let parts = parts_of(input);
     let mut reason = String::new(alloc);
+    if status == 0 && parts.script.is_some() && is_plain(parts.plant) {
+        return Ok(reason);
+    }
     let document = match toml::table_from_str(alloc, parts.plant) {
         Ok(document) => document,
         Err(error) if error.is_memory() => return Err(AllocError),

@@ -2,7 +2,7 @@
 
 use crate::show::cut;
 use crate::tree::values;
-use crate::wanted::{OF_CLASS, OF_FLOW, OF_OPERATOR, OF_PLANT};
+use crate::wanted::{OF_CLASS, OF_FLOW, OF_OPERATOR, OF_PLANT, has};
 use slice_table::{Field, Place};
 use std::alloc::{AllocError, Global};
 use strsim::osa_distance;
@@ -39,11 +39,6 @@ fn texts_of(alloc: Global, fields: &[Field]) -> Result<Vec<&'static str>, AllocE
         texts.push(field.text())?;
     }
     Ok(texts)
-}
-
-/// Whether one of the keys has this name.
-fn has(fields: &[Field], word: &str) -> bool {
-    fields.iter().any(|field| field.text() == word)
 }
 
 /// The table that has a key of this name.

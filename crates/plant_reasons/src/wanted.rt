@@ -44,6 +44,11 @@ pub(crate) const OF_OPERATOR: [Field; 13] = [
 /// The keys of a provisioned flow.
 pub(crate) const OF_FLOW: [Field; 2] = [Field::Modem, Field::Encoding];
 
+/// Whether one of the keys has this name.
+pub(crate) fn has(fields: &[Field], word: &str) -> bool {
+    fields.iter().any(|field| field.text() == word)
+}
+
 /// What may stand under a key of the table `plant`.
 fn wanted_of_plant(field: Field) -> &'static str {
     match field {

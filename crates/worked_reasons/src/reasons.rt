@@ -481,6 +481,11 @@ fn keys_that_nothing_reads(rt: HostRuntime) -> Result<(), Fail> {
             "[[class]]\nname = \"a\"\nencoding = \"\"\nencodin = \"\"\n[plant]",
             "class[0].encodin: is encoding meant?",
         ),
+        (
+            "policy = \"strict\"\n",
+            "policy = \"strict\"\nflow = [{ modem = \"020000000001\", encoding = \"\", colour = 1 }]\n",
+            "operator[0].flow[0].colour",
+        ),
     ] {
         let (head, tail) = PLANT.split_once(old).ok_or("not there")?;
         let input = format!(in alloc; "{head}{new}{tail}---\nT\n")?;
