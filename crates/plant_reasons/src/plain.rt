@@ -1,16 +1,28 @@
 //! Plant files of which each line is seen at once to be read.
 
-use crate::wanted::{OF_CLASS, OF_FLOW, OF_OPERATOR, OF_PLANT, has};
+use crate::wanted::has;
+use keys_in_order::{class_fields, flow_fields, operator_fields, plant_fields};
 use slice_table::Field;
 
-/// The keys of the table that a line begins. None where it begins no table, or one that nothing reads.
-fn fields_of(line: &str) -> Option<&'static [Field]> {
-    match line {
-        "[plant]" => Some(&OF_PLANT),
-        "[[class]]" => Some(&OF_CLASS),
-        "[[operator]]" => Some(&OF_OPERATOR),
-        "[[operator.flow]]" => Some(&OF_FLOW),
-        _ => None,
+/// The keys of each table that is read.
+#[derive(Drop)]
+struct Known {
+    plant: [Field; 15],
+    class: [Field; 2],
+    operator: [Field; 13],
+    flow: [Field; 2],
+}
+
+impl Known {
+    /// The keys of the table that a line begins. None where it begins no table, or one that nothing reads.
+    fn of_head(&self, line: &str) -> Option<&[Field]> {
+        match line {
+            "[plant]" => Some(&self.plant),
+            "[[class]]" => Some(&self.class),
+            "[[operator]]" => Some(&self.operator),
+            "[[operator.flow]]" => Some(&self.flow),
+            _ => None,
+        }
     }
 }
 
@@ -29,10 +41,16 @@ fn is_entry(line: &str, fields: &[Field]) -> bool {
 /// Whether each line of a plant file is empty, a comment, the head of a table that is read, or a key of that table that is read:
 /// then nothing in it is unread. Of a file that is written in another way nothing is said.
 pub(crate) fn is_plain(text: &str) -> bool {
+    let known = Known {
+        plant: plant_fields(),
+        class: class_fields(),
+        operator: operator_fields(),
+        flow: flow_fields(),
+    };
     let mut fields: &[Field] = &[];
     for line in text.split('\n') {
         let line = line.trim();
-        if let Some(found) = fields_of(line) {
+        if let Some(found) = known.of_head(line) {
             fields = found;
         } else if !line.is_empty() && !line.starts_with('#') && !is_entry(line, fields) {
             return false;

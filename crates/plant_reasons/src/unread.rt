@@ -2,7 +2,8 @@
 
 use crate::show::cut;
 use crate::tree::values;
-use crate::wanted::{OF_CLASS, OF_FLOW, OF_OPERATOR, OF_PLANT, has};
+use crate::wanted::has;
+use keys_in_order::{class_fields, flow_fields, operator_fields, plant_fields};
 use slice_table::{Field, Place};
 use std::alloc::{AllocError, Global};
 use strsim::osa_distance;
@@ -43,11 +44,11 @@ fn texts_of(alloc: Global, fields: &[Field]) -> Result<Vec<&'static str>, AllocE
 
 /// The table that has a key of this name.
 fn table_with(word: &str) -> Option<&'static str> {
-    if has(&OF_OPERATOR, word) {
+    if has(&operator_fields(), word) {
         Some("operator")
-    } else if has(&OF_PLANT, word) {
+    } else if has(&plant_fields(), word) {
         Some("plant")
-    } else if has(&OF_FLOW, word) {
+    } else if has(&flow_fields(), word) {
         Some("operator.flow")
     } else {
         None
@@ -127,7 +128,7 @@ fn put_head(alloc: Global, reason: &mut String, document: &Table) -> Result<(), 
 fn put_classes(alloc: Global, reason: &mut String, document: &Table) -> Result<(), AllocError> {
     for (class, value) in values(document, "class").iter().enumerate() {
         if let Some(table) = value.as_table() {
-            put_table(alloc, reason, table, Place::Class(class), &OF_CLASS)?;
+            put_table(alloc, reason, table, Place::Class(class), &class_fields())?;
         }
     }
     Ok(())
@@ -142,7 +143,13 @@ fn put_flows(
 ) -> Result<(), AllocError> {
     for (flow, value) in values(table, "flow").iter().enumerate() {
         if let Some(table) = value.as_table() {
-            put_table(alloc, reason, table, Place::Flow(operator, flow), &OF_FLOW)?;
+            put_table(
+                alloc,
+                reason,
+                table,
+                Place::Flow(operator, flow),
+                &flow_fields(),
+            )?;
         }
     }
     Ok(())
@@ -157,7 +164,7 @@ fn put_operators(alloc: Global, reason: &mut String, document: &Table) -> Result
                 reason,
                 table,
                 Place::Operator(operator),
-                &OF_OPERATOR,
+                &operator_fields(),
             )?;
             put_flows(alloc, reason, operator, table)?;
         }
@@ -173,7 +180,7 @@ pub(crate) fn put_unread(
 ) -> Result<(), AllocError> {
     put_head(alloc, reason, document)?;
     if let Some(Value::Table(table)) = document.get("plant") {
-        put_table(alloc, reason, table, Place::Plant, &OF_PLANT)?;
+        put_table(alloc, reason, table, Place::Plant, &plant_fields())?;
     }
     put_classes(alloc, reason, document)?;
     put_operators(alloc, reason, document)

@@ -2,48 +2,6 @@
 
 use slice_table::{Field, Place};
 
-/// The keys of the table `plant`, in their order.
-pub(crate) const OF_PLANT: [Field; 15] = [
-    Field::FrameMinislots,
-    Field::Head,
-    Field::FrameUs,
-    Field::BytesPerMinislot,
-    Field::ShortMax,
-    Field::Channel,
-    Field::UcdCount,
-    Field::RangingStart,
-    Field::RangingEnd,
-    Field::DataStart,
-    Field::DataEnd,
-    Field::AckWait,
-    Field::Resends,
-    Field::Hold,
-    Field::FirstFrame,
-];
-
-/// The keys of a class.
-pub(crate) const OF_CLASS: [Field; 2] = [Field::Name, Field::Encoding];
-
-/// The keys of an operator, in their order.
-pub(crate) const OF_OPERATOR: [Field; 13] = [
-    Field::Name,
-    Field::Slice,
-    Field::Sfids,
-    Field::Sids,
-    Field::Flows,
-    Field::Transactions,
-    Field::Inbox,
-    Field::Budget,
-    Field::Elements,
-    Field::Policy,
-    Field::Step,
-    Field::Modems,
-    Field::Flow,
-];
-
-/// The keys of a provisioned flow.
-pub(crate) const OF_FLOW: [Field; 2] = [Field::Modem, Field::Encoding];
-
 /// Whether one of the keys has this name.
 pub(crate) fn has(fields: &[Field], word: &str) -> bool {
     fields.iter().any(|field| field.text() == word)
