@@ -11,4 +11,5 @@ pub mod SortLemmas
 pub mod LastLemmas
 pub mod StateLemmas
 pub mod NewLemmas
+pub mod GoneLemmas
 pub mod ApartLemmas

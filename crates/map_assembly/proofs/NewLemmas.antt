@@ -114,7 +114,7 @@ slices_before slices reslicings r frame lt =
     ap (λ (rs : List Reslicing). slices_or slices (find (λ (x : Reslicing). leb x.from frame) rs)) (newest-first reslicings r)
     ∙ ap (λ (b : Bool). slices_or slices (cond b (Some r) (find (λ (x : Reslicing). leb x.from frame) (reverse reslicings)))) (lt-leb r.from frame lt)
 
-queued-agree : (f g : ℕ → Option Minislots) (share : Share) (n : ℕ) (queue : List ElementsFields) → ((m : ℕ) → n ≤ m → m < n + length queue → f m ≡ g m) → AreQueued f share n queue → AreQueued g share n queue
+pub queued-agree : (f g : ℕ → Option Minislots) (share : Share) (n : ℕ) (queue : List ElementsFields) → ((m : ℕ) → n ≤ m → m < n + length queue → f m ≡ g m) → AreQueued f share n queue → AreQueued g share n queue
 queued-agree f g share n [] agree h = tt
 queued-agree f g share n (q ∷ queue) agree h = (
   subst (λ (o : Option Minislots). IsPartAt o share q) (agree n (omega arith) (omega arith)) h.0,

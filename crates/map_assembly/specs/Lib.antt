@@ -9,4 +9,5 @@ pub mod Tiled
 pub mod Plan
 pub mod Gathering
 pub mod Assembled
+pub mod LettingGo
 pub mod Apart

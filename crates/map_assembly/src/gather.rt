@@ -7,6 +7,7 @@ ghost use Rattle.slice_scheduler.specs.declared.elements.ElementsFields.{Element
 ghost use Rattle.map_assembly.specs.Part.{share_of};
 ghost use Rattle.map_assembly.specs.Gathering.{gathering_of, fits_at, queue_of, put_fault, with_part, is_whole, is_last, after_put, frame_out, next_of, frame_slices, frame_parts, MayReslice, resliced, IsGathering};
 ghost use Rattle.map_assembly.specs.Assembled.{IsMapOf, IsAnswer};
+ghost use Rattle.map_assembly.specs.LettingGo.{has_begun, GoesOnAlike};
 ghost use Rattle.map_assembly.specs.declared.refused.GatherFault.{GatherFault};
 ghost use Rattle.map_assembly.specs.declared.refused.GatherFault.TheVariants.{NoMemory};
 
@@ -342,5 +343,35 @@ impl Gather {
         let slicing = Slicing::new(alloc, slices)?;
         self.reslicings.push_reserved(Reslicing { from, slicing });
         Ok(())
+    }
+
+    /// Whether the earliest re-slicing is from the next frame on, or from one before it.
+    fn has_begun(&self) -> bool
+        ensures { result ≡ has_begun self.now }
+    {
+        match self.reslicings.first() {
+            Some(reslicing) => u64::from(reslicing.from) <= self.next,
+            None => false,
+        }
+    }
+
+    /// Lets go the slices before the earliest re-slicing, which has begun.
+    fn let_go_first(&mut self)
+        requires { has_begun self.old ≡ true }
+        ensures alike { GoesOnAlike self.old self.new }
+        ensures fewer { length self.new.reslicings + 1 ≡ length self.old.reslicings }
+    {
+        self.slices = self.reslicings.remove(0).slicing;
+    }
+
+    /// Lets go the slices that no frame to come needs: those of frames whose MAPs are made. What is left of the re-slicings
+    /// is of later frames than that whose MAP comes next. Takes no memory.
+    pub fn let_go(&mut self)
+        ensures alike { GoesOnAlike self.old self.new }
+        ensures begun { has_begun self.new ≡ false }
+    {
+        while self.has_begun() {
+            self.let_go_first();
+        }
     }
 }

@@ -3,6 +3,7 @@ pub mod Opens
 pub mod Replies
 pub mod Faults
 pub mod Inbox
+pub mod Judged
 pub mod Nested
 pub mod Replays
 pub mod Room

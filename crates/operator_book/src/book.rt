@@ -106,14 +106,8 @@ impl Book {
         ensures err { OnErr result (self.new.kept.book ≡ self.old.kept.book) }
         ensures ranking { self.new.ranking ≡ self.old.ranking }
     {
-        if let Some(modem) = self.stranger_of(&action) {
-            return Err(BookFault::NotMine { modem });
-        }
-        if self.is_spent(&action) {
-            return Err(BookFault::FramesSpent);
-        }
-        if let Some(unfit) = self.unfit_of(&action) {
-            return Err(BookFault::Unfit(unfit));
+        if let Err(fault) = self.kept.machine.judge(&action) {
+            return Err(fault);
         }
         Ok(self.kept.act(alloc, &self.ranking, action)?)
     }
@@ -148,54 +142,19 @@ impl Book {
 
     /// How many outputs an action has at most, if it is done next: a tick what it sends again and its frame, any other action one.
     /// At most 65,537.
-    #[tactic(auto, using(crate::proofs::Few::few_outputs))]
     pub fn most_outputs(&self, action: &Action) -> usize
         ensures value { result ≡ most_outputs_of self.now.kept.book.state action.now }
         ensures bound { length (outputs_of self.now.kept.book action.now) ≤ result }
         ensures few { result ≤ 65537 }
     {
-        match action {
-            Action::Tick => 1 + self.kept.machine.kept.resend_count(),
-            _ => 1,
-        }
-    }
-
-    /// The modem of an Arrive, where it is not of this row.
-    fn stranger_of(&self, action: &Action) -> Option<Modem>
-        ensures { result ≡ stranger_of self.now.kept.book action.now }
-    {
-        match action {
-            Action::Arrive { modem, heard: _ } => {
-                if self.row().get_fields().modems.contains(*modem) {
-                    None
-                } else {
-                    Some(*modem)
-                }
-            }
-            Action::Work | Action::Tick | Action::Reslice { from: _, row: _ } => None,
-        }
+        self.kept.machine.most_outputs(action)
     }
 
     /// Whether this is a tick past the last frame.
     pub fn is_spent(&self, action: &Action) -> bool
         ensures { result ≡ is_spent self.now.kept.book.state action.now }
     {
-        match action {
-            Action::Tick => self.kept.machine.frame == u32::MAX,
-            Action::Arrive { modem: _, heard: _ }
-            | Action::Work
-            | Action::Reslice { from: _, row: _ } => false,
-        }
-    }
-
-    /// Why a slice that is offered cannot be taken.
-    fn unfit_of(&self, action: &Action) -> Option<Unfit>
-        ensures { result ≡ unfit_of self.now.kept.book action.now }
-    {
-        match action {
-            Action::Reslice { from, row } => self.kept.machine.unfit_from(*from, *row),
-            Action::Arrive { modem: _, heard: _ } | Action::Work | Action::Tick => None,
-        }
+        self.kept.machine.is_spent(action)
     }
 
     /// A copy of the state.

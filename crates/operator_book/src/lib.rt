@@ -1,9 +1,12 @@
-//! One operator's book: its machine beside the history of all that was done. The state is the replay of the history.
+//! One operator's book: its machine beside the history of all that was done. The state is the replay of the history. And the
+//! machine alone, at work with no history.
 #![tactic(auto)]
 
 mod asked;
 mod book;
 mod handling;
+mod judging;
+mod live;
 mod logged;
 mod machine;
 mod opening;
@@ -15,6 +18,7 @@ mod ticking;
 mod verdict;
 
 pub use book::{Book, BookFault, OpenFault};
+pub use live::{Live, SoundMachine};
 pub use logged::Logged;
 pub use operator_machine::{
     Action, Arrival, Cause, Entry, Heard, NextShare, Output, Outputs, Share, SliceRow, Unfit,

@@ -46,7 +46,7 @@ heard_goal plant None op heard action h = absurd (cc)
 heard_goal plant (Some i) op heard action h = let same = same_goal i op heard action h in (ap (λ (k : ℕ). let o : Option ℕ = Some k in o) same.0, same.1)
 
 -- the step does it
-step_acts : (step : Step) (op : ℕ) (action : Action) (old new : CoreView) (now : List Out) → target old.plant step ≡ Some (op, action) → Acts op action old new now → Steps step old new now
+pub step_acts : (step : Step) (op : ℕ) (action : Action) (old new : CoreView) (now : List Out) → target old.plant step ≡ Some (op, action) → Acts op action old new now → Steps step old new now
 step_acts (steps.Arrive modem heard) op action old new now goes acts =
     let goal = heard_goal old.plant (holder old.plant.rows modem) op (actions.Arrive modem heard) action goes in
     (op, goal.0, subst (λ (a : Action). Acts op a old new now) (sym goal.1) acts)

@@ -46,11 +46,11 @@ waiting_more history place d lt =
     ap frames_in (drop_more history place d lt)
     ∙ filter_map-append numbered (get_or history place d).outputs (flat_map (λ (entry : Entry). entry.outputs) (drop (place + 1) history))
 
-first_none : {X : Type 0} (xs : List X) → slice_get xs 0 ≡ None → xs ≡ []
+pub first_none : {X : Type 0} (xs : List X) → slice_get xs 0 ≡ None → xs ≡ []
 first_none [] h = refl
 first_none (x ∷ xs) h = cc
 
-first_alone : {X : Type 0} (xs : List X) (x : X) → slice_get xs 0 ≡ Some x → length xs ≤ 1 → xs ≡ x ∷ []
+pub first_alone : {X : Type 0} (xs : List X) (x : X) → slice_get xs 0 ≡ Some x → length xs ≤ 1 → xs ≡ x ∷ []
 first_alone [] x h few = cc
 first_alone (y ∷ []) x h few = let same : y ≡ x = cc in ap (λ z. z ∷ []) same
 first_alone (y ∷ z ∷ xs) x h few = absurd (omega (arith, few))
@@ -103,7 +103,7 @@ long : (n count : ℕ) → length (range_with_len n count) ≡ count
 long n zero = refl
 long n (suc count) = ap suc (long (n + 1) count)
 
-one_frame : (consts : ConstsFields) (row : RowFields) (state : OperatorState) (action : Action) → length (frames_of (own_step (operator consts row state) action).outputs) ≤ 1
+pub one_frame : (consts : ConstsFields) (row : RowFields) (state : OperatorState) (action : Action) → length (frames_of (own_step (operator consts row state) action).outputs) ≤ 1
 one_frame consts row state action =
     let puts = run_puts consts row state (action ∷ []) in
     let plain : (own_step (operator consts row state) action).outputs ++ [] ≡ (own_step (operator consts row state) action).outputs = append-nil (own_step (operator consts row state) action).outputs in

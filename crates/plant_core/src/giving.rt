@@ -66,7 +66,7 @@ fn give(desks: &mut Vec<Desk>, from: u32, rows: &[SliceRow])
 }
 
 /// The slices of rows.
-fn slices_of(alloc: Global, rows: &[SliceRow]) -> Result<Vec<Slice>, AllocError>
+pub fn slices_of(alloc: Global, rows: &[SliceRow]) -> Result<Vec<Slice>, AllocError>
     requires { All IsOfASlice rows.now }
     ensures { IfOk result (λ slices. slices.items ≡ map slice_of rows.now) }
 {

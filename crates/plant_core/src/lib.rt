@@ -17,11 +17,14 @@ mod stepping;
 pub use collecting::Oldest;
 pub use core_fault::{CoreFault, CoreOpenFault, ResliceFault};
 pub use desk::Desk;
+pub use giving::slices_of;
 pub use held::PlantCore;
+pub use opening::follow;
 pub use plant_runs::{
     equal_books_answer_alike, maps_are_shared_out, opened_is_reached, run_is_reached,
     step_is_reached, two_cores, two_worlds,
 };
-pub use reslicing::{is_refused, least_meeting};
+pub use reslicing::{is_refused, is_same, least_meeting};
 pub use routes::Routes;
 pub use running::RunStop;
+pub use stepping::{append, append_map, core_fault};

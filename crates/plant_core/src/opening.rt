@@ -24,7 +24,7 @@ fn follows(ranking: &Ranking, row: &OperatorRow) -> bool
 }
 
 /// Whether there is one ranking for each row, and each follows its row's policy.
-fn follow(rankings: &[Ranking], rows: &[OperatorRow]) -> bool
+pub fn follow(rankings: &[Ranking], rows: &[OperatorRow]) -> bool
     ensures { IsTrue result ↔ (map (λ ranking. ranking.policy) rankings.now ≡ map (λ row. row.policy) rows.now) }
 {
     if rankings.len() != rows.len() {

@@ -17,7 +17,7 @@ use slice_table::Op;
 use std::alloc::Global;
 
 /// Whether two faults are the same.
-fn is_same(a: Unfit, b: Unfit) -> bool
+pub fn is_same(a: Unfit, b: Unfit) -> bool
     ensures { result ≡ is_unfit a (Some b) }
 {
     a == b

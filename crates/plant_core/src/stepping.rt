@@ -24,7 +24,7 @@ use slice_table::Op;
 use std::alloc::Global;
 
 /// Adds an operator's outputs, for which there is room.
-fn append(outs: &mut Vec<Out>, op: Op, told: Vec<Output>)
+pub fn append(outs: &mut Vec<Out>, op: Op, told: Vec<Output>)
     requires { vec_len outs.old + vec_len told ≤ vec_capacity outs.old }
     ensures { outs.new.items ≡ outs.old.items ++ under op told.items }
 {
@@ -34,7 +34,7 @@ fn append(outs: &mut Vec<Out>, op: Op, told: Vec<Output>)
 }
 
 /// Adds a MAP that is made, for which there is room.
-fn append_map(outs: &mut Vec<Out>, made: Option<MapBytes>)
+pub fn append_map(outs: &mut Vec<Out>, made: Option<MapBytes>)
     requires { vec_len outs.old < vec_capacity outs.old }
     ensures { outs.new.items ≡ outs.old.items ++ told_map made }
 {
@@ -44,7 +44,7 @@ fn append_map(outs: &mut Vec<Out>, made: Option<MapBytes>)
 }
 
 /// What the core answers where the assembly refuses a frame.
-fn core_fault(fault: GatherFault) -> CoreFault
+pub fn core_fault(fault: GatherFault) -> CoreFault
     ensures { result ≡ core_fault_of fault }
 {
     match fault {

@@ -1,0 +1,161 @@
+-- What one step makes of a live core, it makes of each core of which that is held.
+use Rattle.std.proofs.Common.{◌≡◌, ℕ, ◌<◌, List, [], ◌∷◌, ◌++◌, length, map, Option, Some, None, option_map, AllPairs, false, refl, sym, ap, ap₂, subst, ◌∙◌, arith}
+use Rattle.std.specs.Prelude.{slice_get, slice_set}
+use Rattle.std.proofs.lemmas.List.{map-set, length-map}
+use Rattle.std.proofs.lemmas.Option.{slice_get-map, same_Some, slice_get_within}
+use Rattle.std.proofs.Math.Logic.{∥∥₁_map, ∥∥₁_elim}
+use Rattle.slice_scheduler.specs.Minislots.{Minislots}
+use Rattle.slice_scheduler.specs.declared.elements.ElementsFields.{ElementsFields}
+use Rattle.slice_table.specs.declared.plant.PlantFields.{PlantFields}
+use Rattle.slice_table.specs.Plant.{IsPlant, slices_meet}
+use Rattle.slice_table.specs.Roster.{holder}
+use Rattle.operator_machine.specs.declared.action.SliceRow.{SliceRow}
+use Rattle.operator_machine.specs.declared.action.Action.{Action}
+use Rattle.operator_machine.specs.declared.action.Action.TheVariants as actions
+use Rattle.operator_machine.specs.State.{operator}
+use Rattle.operator_machine.specs.Machine.{own_step, unfit_from, IsAllowed}
+use Rattle.operator_machine.specs.Replay.{BookView, acted}
+use Rattle.map_assembly.specs.declared.map_bytes.MapBytes.{MapBytes}
+use Rattle.map_assembly.specs.declared.refused.GatherFault.{GatherFault}
+use Rattle.map_assembly.specs.Gathering.{Gathering, put_fault, after_put, resliced, IsGathering, MayReslice}
+use Rattle.map_assembly.specs.Assembled.{IsAnswer}
+use Rattle.map_assembly.specs.LettingGo.{GoesOnAlike}
+use Rattle.plant_runs.specs.declared.step.Step.{Step}
+use Rattle.plant_runs.specs.declared.step.Step.TheVariants as steps
+use Rattle.plant_runs.specs.declared.step.Out.{Out}
+use Rattle.plant_runs.specs.OwnSteps.{under, slice_of}
+use Rattle.plant_runs.specs.Ordered.{target}
+use Rattle.plant_runs.specs.Reached.{CoreView, Reached, frames_of}
+use Rattle.plant_runs.specs.Steps.{Acts, Collects, Reslices, Steps, told_map}
+use Rattle.plant_runs.proofs.OneStep.{step_reached}
+use Rattle.plant_runs.proofs.Fits.{waiting_fits}
+use Rattle.plant_runs.proofs.Anew.{slices_anew}
+use Rattle.plant_core.specs.Reachable.{core_of, IsOfAStep}
+use Rattle.plant_core.specs.Giving.{NoneRefuses, HaveTaken}
+use Rattle.plant_core.specs.Reslicing.{reslice_fault}
+use Rattle.plant_core.proofs.FreeLemmas.{are_free}
+use Rattle.plant_core.proofs.ReachLemmas.{step_acts}
+use Rattle.live_core.specs.GoingOn.{forgotten, went, IsOf, GoesOn}
+use Rattle.live_core.specs.After.{IsAfter, IsReachable}
+use Rattle.live_core.proofs.AlikeLemmas.{same_fault, same_answer, alike_put, held_put, alike_resliced, held_resliced, may_too}
+
+-- ---- a book behind one without its history
+
+pub found : (books lives : List BookView) (op : ℕ) (b : BookView) → map forgotten books ≡ lives → slice_get lives op ≡ Some b → (book : BookView) × (slice_get books op ≡ Some book) × (forgotten book ≡ b)
+found books lives op b are there = by (slice_get books op) refl (sym (slice_get-map forgotten books op) ∙ (ap (λ (bs : List BookView). slice_get bs op) are ∙ there))
+  where
+    by : (o : Option BookView) → slice_get books op ≡ o → option_map forgotten (slice_get books op) ≡ Some b → (book : BookView) × (slice_get books op ≡ Some book) × (forgotten book ≡ b)
+    by None e is = absurd (let wrong : ◌≡◌ {A = Option BookView} None (Some b) = sym (ap (option_map forgotten) e) ∙ is in cc)
+    by (Some book) e is = (book, e, same_Some (forgotten book) b (sym (ap (option_map forgotten) e) ∙ is))
+
+-- ---- an action
+
+acts_behind : (plant : PlantFields) (gathering : Gathering) (lives : List BookView) (queues : List (List (ℕ × ElementsFields))) (op : ℕ) (action : Action) (book : BookView) (waiting : List (ℕ × ElementsFields))
+    (core : CoreView) → IsOf (core_of plant lives queues gathering) core → slice_get core.books op ≡ Some book → slice_get queues op ≡ Some waiting → IsAllowed (operator book.consts book.row book.state) action
+    → (after : CoreView) × Acts op action core after (under op (own_step (operator book.consts book.row book.state) action).outputs)
+    × IsOf (core_of plant (slice_set lives op (went (forgotten book) action)) (slice_set queues op (waiting ++ frames_of (own_step (operator book.consts book.row book.state) action).outputs)) gathering) after
+acts_behind plant gathering lives queues op action book waiting core is there waits allowed = (
+  record core {
+      books = slice_set core.books op (acted book action);
+      queues = slice_set core.queues op (waiting ++ frames_of (own_step (operator book.consts book.row book.state) action).outputs);
+    },
+  record {
+      book = book;
+      waiting = waiting;
+      book_is = there;
+      waiting_is = ap (λ (qs : List (List (ℕ × ElementsFields))). slice_get qs op) is.queues_are ∙ waits;
+      allowed = allowed;
+      new_is = refl;
+      now_is = refl;
+    },
+  record {
+      plant_is = is.plant_is;
+      books_are = map-set forgotten core.books op (acted book action) ∙ ap (λ (bs : List BookView). slice_set bs op (went (forgotten book) action)) is.books_are;
+      queues_are = ap (λ (qs : List (List (ℕ × ElementsFields))). slice_set qs op (waiting ++ frames_of (own_step (operator book.consts book.row book.state) action).outputs)) is.queues_are;
+      gathering_is = is.gathering_is;
+      held = is.held;
+    },
+)
+
+pub acts_on : (plant : PlantFields) (gathering : Gathering) (lives lives' : List BookView) (queues queues' : List (List (ℕ × ElementsFields))) (op : ℕ) (action : Action) (b : BookView) (waiting : List (ℕ × ElementsFields)) (now : List Out)
+    → slice_get lives op ≡ Some b → slice_get queues op ≡ Some waiting → IsAllowed (operator b.consts b.row b.state) action
+    → lives' ≡ slice_set lives op (went b action) → queues' ≡ slice_set queues op (waiting ++ frames_of (own_step (operator b.consts b.row b.state) action).outputs)
+    → now ≡ under op (own_step (operator b.consts b.row b.state) action).outputs
+    → GoesOn (Acts op action) (core_of plant lives queues gathering) (core_of plant lives' queues' gathering) now
+acts_on plant gathering lives lives' queues queues' op action b waiting now there waits allowed bs qs now_is = λ core is.
+    let at = found core.books lives op b is.books_are there in
+    let book = at.0 in
+    let same : forgotten book ≡ b = at.2 in
+    let after = acts_behind plant gathering lives queues op action book waiting core is at.1 waits
+    (subst (λ (x : BookView). IsAllowed (operator x.consts x.row x.state) action) (sym same) allowed) in (
+      after.0,
+      subst (λ (os : List Out). Acts op action core after.0 os) (ap (λ (x : BookView). under op (own_step (operator x.consts x.row x.state) action).outputs) same ∙ sym now_is) after.1,
+      subst (λ (v : CoreView). IsOf v after.0)
+          (ap₂ (λ (ls : List BookView) (qs : List (List (ℕ × ElementsFields))). core_of plant ls qs gathering)
+          (ap (λ (x : BookView). slice_set lives op (went x action)) same ∙ sym bs)
+          (ap (λ (x : BookView). slice_set queues op (waiting ++ frames_of (own_step (operator x.consts x.row x.state) action).outputs)) same ∙ sym qs))
+          after.2,
+    )
+
+-- ---- a collection
+
+pub collects_on : (plant : PlantFields) (gathering gathering' : Gathering) (lives lives' : List BookView) (queues queues' : List (List (ℕ × ElementsFields))) (op frame : ℕ) (part : ElementsFields) (waiting rest : List (ℕ × ElementsFields)) (made : Option MapBytes)
+    → slice_get queues op ≡ Some waiting → waiting ≡ (frame, part) ∷ rest → put_fault gathering op frame part ≡ None → IsAnswer gathering op frame part made
+    → lives' ≡ lives → queues' ≡ slice_set queues op rest → gathering' ≡ after_put gathering op part → IsGathering gathering'
+    → GoesOn (Collects op) (core_of plant lives queues gathering) (core_of plant lives' queues' gathering') (told_map made)
+collects_on plant gathering gathering' lives lives' queues queues' op frame part waiting rest made there front fits answer bs qs gs held = λ core is. (
+  record core { queues = slice_set core.queues op rest; gathering = after_put core.gathering op part },
+  record {
+      frame = frame;
+      part = part;
+      waiting = rest;
+      waiting_is = ap (λ (q : List (List (ℕ × ElementsFields))). slice_get q op) is.queues_are ∙ (there ∙ ap (λ (fs : List (ℕ × ElementsFields)). Some fs) front);
+      fits = same_fault core.gathering gathering op frame part is.gathering_is ∙ fits;
+      made = made;
+      made_is = same_answer core.gathering gathering op frame part made is.gathering_is answer;
+      new_is = refl;
+      now_is = refl;
+    },
+  record {
+      plant_is = is.plant_is;
+      books_are = is.books_are ∙ sym bs;
+      queues_are = ap (λ (q : List (List (ℕ × ElementsFields))). slice_set q op rest) is.queues_are ∙ sym qs;
+      gathering_is = subst (λ (x : Gathering). GoesOnAlike (after_put core.gathering op part) x) (sym gs) (alike_put core.gathering gathering op part is.gathering_is);
+      held = held_put core.gathering gathering op part is.gathering_is is.held (subst IsGathering gs held);
+    },
+)
+
+-- ---- one step more
+
+pub after_more : (plant : PlantFields) (before : List Step) (told : List Out) (step : Step) (old new : CoreView) (now : List Out) → IsPlant plant → GoesOn (Steps step) old new now
+    → IsAfter plant before told old → IsAfter plant (before ++ step ∷ []) (told ++ now) new
+after_more plant before told step old new now valid goes so_far =
+    let done = goes so_far.core so_far.is_of in
+    record {
+      core = done.0;
+      reached = step_reached plant before told step so_far.core done.0 now valid so_far.reached so_far.is_of.held done.1;
+      is_of = done.2;
+    }
+
+pub stepped_on : (step : Step) (old new : CoreView) (now : List Out) → IsPlant old.plant → new.plant ≡ old.plant → GoesOn (Steps step) old new now → ∥ IsReachable old ∥₁ → ∥ IsReachable new ∥₁
+stepped_on step old new now valid same goes reached = ∥∥₁_map reached (λ r. (
+  r.0 ++ step ∷ [],
+  r.1 ++ now,
+  subst (λ (p : PlantFields). IsAfter p (r.0 ++ step ∷ []) (r.1 ++ now) new) (sym same) (after_more old.plant r.0 r.1 step old new now valid goes r.2),
+))
+
+pub acts_step : (step : Step) (op : ℕ) (action : Action) (old new : CoreView) (now : List Out) → target old.plant step ≡ Some (op, action) → GoesOn (Acts op action) old new now → GoesOn (Steps step) old new now
+acts_step step op action old new now goal goes = λ core is.
+    let done = goes core is in
+    (done.0, step_acts step op action core done.0 now (ap (λ (p : PlantFields). target p step) is.plant_is ∙ goal) done.1, done.2)
+
+-- ---- what the core that has the histories knows
+
+pub none_refused : (plant : PlantFields) (gathering : Gathering) (lives : List BookView) (queues : List (List (ℕ × ElementsFields))) (op frame : ℕ) (part : ElementsFields) (rest : List (ℕ × ElementsFields)) (fault : GatherFault)
+    → IsPlant plant → ∥ IsReachable (core_of plant lives queues gathering) ∥₁ → slice_get queues op ≡ Some ((frame, part) ∷ rest) → put_fault gathering op frame part ≡ Some fault → ⊥
+none_refused plant gathering lives queues op frame part rest fault valid reached there refused =
+    ∥∥₁_elim reached (λ x y. absurd x) (λ r.
+    let core = r.2.core in
+    let is = r.2.is_of in
+    let fits = waiting_fits plant r.0 r.1 core op frame part rest valid r.2.reached is.held (ap (λ (q : List (List (ℕ × ElementsFields))). slice_get q op) is.queues_are ∙ there) in
+    let wrong : None ≡ Some fault = sym fits ∙ (same_fault core.gathering gathering op frame part is.gathering_is ∙ refused) in cc)

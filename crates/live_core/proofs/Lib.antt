@@ -1,0 +1,4 @@
+pub mod DeskLemmas
+pub mod AlikeLemmas
+pub mod GoLemmas
+pub mod LawLemmas

@@ -1,0 +1,20 @@
+-- What contracts see of an operator's live desk (own).
+use Rattle.std.specs.Prelude.{ℕ, List, []}
+use Rattle.slice_scheduler.specs.declared.elements.ElementsFields.{ElementsFields}
+use Rattle.operator_machine.specs.declared.action.Action.{Action}
+use Rattle.operator_machine.specs.State.{Operator, operator}
+use Rattle.operator_machine.specs.Machine.{own_step}
+use Rattle.operator_machine.specs.Replay.{BookView}
+use Rattle.live_core.specs.declared.desk.LiveDesk.{LiveDesk}
+
+-- the book of an operator of which no history is kept
+abbrev pub book_of : Operator → BookView
+book_of o = record { row = o.row; consts = o.consts; state = o.state; history = [] }
+
+-- the desk's book, without a history
+abbrev pub book_at : {D : Type 0} {F : D → Type 0} {m : _} → LiveDesk D F m → BookView
+book_at desk = book_of desk.live.sound
+
+-- its frames that wait
+abbrev pub waiting_at : {D : Type 0} {F : D → Type 0} {m : _} → LiveDesk D F m → List (ℕ × ElementsFields)
+waiting_at desk = desk.waiting.items

@@ -1,0 +1,36 @@
+-- A core whose histories are forgotten goes on as the core that has them (own).
+use Rattle.std.specs.Prelude.{◌≡◌, List, [], map}
+use Rattle.operator_machine.specs.declared.action.Action.{Action}
+use Rattle.operator_machine.specs.State.{operator}
+use Rattle.operator_machine.specs.Machine.{own_step}
+use Rattle.operator_machine.specs.Replay.{BookView}
+use Rattle.map_assembly.specs.Gathering.{IsGathering}
+use Rattle.map_assembly.specs.LettingGo.{GoesOnAlike}
+use Rattle.plant_runs.specs.declared.step.Out.{Out}
+use Rattle.plant_runs.specs.Reached.{CoreView}
+
+-- a book of which the history is forgotten
+abbrev pub forgotten : BookView → BookView
+forgotten book = record { row = book.row; consts = book.consts; state = book.state; history = [] }
+
+-- such a book after an action
+abbrev pub went : BookView → Action → BookView
+went book action = record {
+  row = book.row;
+  consts = book.consts;
+  state = (own_step (operator book.consts book.row book.state) action).state;
+  history = [];
+}
+
+-- this is what a live core holds of a core: its books without their histories, its frames that wait, and what is gathered but
+-- for slices that no frame to come needs
+pub record IsOf (live core : CoreView) : Type 0 where
+  pub plant_is : core.plant ≡ live.plant
+  pub books_are : map forgotten core.books ≡ live.books
+  pub queues_are : core.queues ≡ live.queues
+  pub gathering_is : GoesOnAlike core.gathering live.gathering
+  pub held : IsGathering core.gathering
+
+-- whatever core this is held of, that core does the same, with these outputs
+abbrev pub GoesOn : (CoreView → CoreView → List Out → Type 0) → CoreView → CoreView → List Out → Type 0
+GoesOn does old new now = (core : CoreView) → IsOf old core → (after : CoreView) × does core after now × IsOf new after

@@ -1,0 +1,4 @@
+pub mod DeskView
+pub mod GoingOn
+pub mod After
+pub mod LiveView

@@ -1,0 +1,61 @@
+//! What a live core always keeps, and laws of its runs.
+
+ghost use Rattle.std.specs.Prelude.{◌≡◌, [], ◌∷◌, ◌++◌, List};
+ghost use Rattle.slice_table.specs.declared.plant.PlantFields.{PlantFields};
+ghost use Rattle.slice_table.specs.Plant.{IsPlant};
+ghost use Rattle.map_assembly.specs.Gathering.{IsGathering};
+ghost use Rattle.plant_runs.specs.declared.step.Step.{Step};
+ghost use Rattle.plant_runs.specs.declared.step.Out.{Out};
+ghost use Rattle.plant_runs.specs.Ordered.{Ordered};
+ghost use Rattle.plant_runs.specs.Reached.{CoreView};
+ghost use Rattle.plant_runs.specs.Shown.{Shown};
+ghost use Rattle.plant_runs.specs.Steps.{Steps};
+ghost use Rattle.live_core.specs.GoingOn.{GoesOn};
+ghost use Rattle.live_core.specs.After.{IsAfter, TwoLiveCores};
+ghost use Rattle.live_core.specs.LiveView.{live_view};
+
+use crate::held::LiveCore;
+use slice_table::Plant;
+
+impl LiveCore {
+    /// A law: the plant is valid, and what is gathered is as the assembly always keeps it. Does nothing.
+    pub fn always(&self)
+        ensures plant { IsPlant (live_view self.now).plant }
+        ensures gathering { IsGathering (live_view self.now).gathering }
+    {
+        let _rows = self.routes.plant().rows();
+        self.gather.kept();
+    }
+
+    /// The plant.
+    pub fn plant(&self) -> &Plant
+        ensures { result.now ≡ (live_view self.now).plant }
+    {
+        self.routes.plant()
+    }
+}
+
+/// A step leaves a live core as it is after that step more.
+#[tactic(auto, using(crate::proofs::GoLemmas::after_more))]
+pub fn step_goes_on()
+    ensures { (plant : PlantFields) (before : List Step) (told : List Out) (step : Step) (old new : CoreView)
+        (now : List Out) → IsPlant plant → GoesOn (Steps step) old new now → IsAfter plant before told old
+        → IsAfter plant (before ++ step ∷ []) (told ++ now) new }
+{}
+
+/// What a live core has put out is shown and in order: to each operator its own machine run alone, and the MAPs of these
+/// machines' frames.
+#[tactic(auto, using(crate::proofs::LawLemmas::live_shown, crate::proofs::LawLemmas::live_ordered))]
+pub fn live_run_is_shown()
+    ensures shown { (plant : PlantFields) (steps : List Step) (outs : List Out) (live : CoreView)
+        → IsAfter plant steps outs live → Shown plant steps outs }
+    ensures ordered { (plant : PlantFields) (steps : List Step) (outs : List Out) (live : CoreView)
+        → IsAfter plant steps outs live → Ordered plant steps outs }
+{}
+
+/// The headline, at a live core beside any run: where they agree on an operator's provisioning and own steps, the operator
+/// notices the same.
+#[tactic(auto, using(crate::proofs::LawLemmas::two_live))]
+pub fn two_live_cores()
+    ensures { TwoLiveCores }
+{}

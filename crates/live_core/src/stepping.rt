@@ -1,0 +1,183 @@
+//! One step of a live core.
+
+ghost use Rattle.std.specs.Prelude.{◌≡◌, ◌<◌, [], ◌∷◌, ◌++◌, List, map, slice_get, vec_len, OnOk, OnErr, IfOk};
+ghost use Rattle.plant_runs.specs.declared.step.Out.{Out};
+ghost use Rattle.plant_runs.specs.declared.step.Step.{Step};
+ghost use Rattle.plant_runs.specs.declared.step.Step.TheVariants as steps;
+ghost use Rattle.plant_runs.specs.Steps.{Acts, Collects, Steps};
+ghost use Rattle.plant_core.specs.Faults.{act_fault, collect_fault, step_fault, IsTold};
+ghost use Rattle.plant_core.specs.Reachable.{IsOfAStep};
+ghost use Rattle.live_core.specs.DeskView.{book_at};
+ghost use Rattle.live_core.specs.GoingOn.{GoesOn};
+ghost use Rattle.live_core.specs.After.{IsAfter};
+ghost use Rattle.live_core.specs.LiveView.{live_view};
+
+use crate::held::LiveCore;
+use dsx_messages::Modem;
+use operator_book::BookFault;
+use operator_machine::{Action, Heard};
+use plant_core::{CoreFault, append, append_map, core_fault};
+use plant_runs::{Out, Step};
+use slice_table::Op;
+use std::alloc::Global;
+
+impl LiveCore {
+    /// An operator takes an action that is its own.
+    fn act_at(
+        &mut self,
+        alloc: Global,
+        op: Op,
+        action: &Action,
+        outs: &mut Vec<Out>,
+    ) -> Result<(), CoreFault>
+        requires within { op < vec_len self.old.desks }
+        requires of_a_step { IsOfAStep self.old.routes op action.now }
+        ensures ok { OnOk result ((now : List Out) × (outs.new.items ≡ outs.old.items ++ now)
+            × GoesOn (Acts op action.now) (live_view self.old) (live_view self.new) now) }
+        ensures outs { OnErr result (outs.new.items ≡ outs.old.items) }
+        ensures err { OnErr result (live_view self.new ≡ live_view self.old) }
+        ensures fault { IsTold result (act_fault op action.now (slice_get (map book_at self.old.desks.items) op)) }
+    {
+        self.always();
+        if self.desks[op].live.is_spent(action) {
+            return Err(CoreFault::Book(BookFault::FramesSpent));
+        }
+        if outs
+            .reserve(self.desks[op].live.most_outputs(action))
+            .is_err()
+        {
+            return Err(CoreFault::NoMemory);
+        }
+        match self.desks[op].act(alloc, action) {
+            Ok(told) => {
+                append(outs, op, told);
+                Ok(())
+            }
+            Err(_) => Err(CoreFault::NoMemory),
+        }
+    }
+
+    /// The operator at this place acts, if there is one.
+    fn act_if(
+        &mut self,
+        alloc: Global,
+        op: Op,
+        action: &Action,
+        outs: &mut Vec<Out>,
+    ) -> Result<(), CoreFault>
+        requires { IsOfAStep self.old.routes op action.now }
+        ensures ok { OnOk result ((now : List Out) × (outs.new.items ≡ outs.old.items ++ now)
+            × GoesOn (Acts op action.now) (live_view self.old) (live_view self.new) now) }
+        ensures outs { OnErr result (outs.new.items ≡ outs.old.items) }
+        ensures err { OnErr result (live_view self.new ≡ live_view self.old) }
+        ensures fault { IsTold result (act_fault op action.now (slice_get (live_view self.old).books op)) }
+    {
+        if op >= self.desks.len() {
+            return Err(CoreFault::UnknownOperator { op });
+        }
+        self.act_at(alloc, op, action, outs)
+    }
+
+    /// The operator that has this modem takes what was heard of it into its inbox.
+    fn arrive(
+        &mut self,
+        alloc: Global,
+        modem: Modem,
+        heard: Heard,
+        outs: &mut Vec<Out>,
+    ) -> Result<(), CoreFault>
+        ensures ok { OnOk result ((now : List Out) × (outs.new.items ≡ outs.old.items ++ now)
+            × GoesOn (Steps (steps.Arrive modem heard)) (live_view self.old) (live_view self.new) now) }
+        ensures outs { OnErr result (outs.new.items ≡ outs.old.items) }
+        ensures err { OnErr result (live_view self.new ≡ live_view self.old) }
+        ensures fault { IsTold result (step_fault (live_view self.old) (steps.Arrive modem heard)) }
+    {
+        match self.routes.place_of(modem) {
+            None => Err(CoreFault::UnknownModem { modem }),
+            Some(op) => self.act_if(alloc, op, &Action::Arrive { modem, heard }, outs),
+        }
+    }
+
+    /// The oldest frame that waits of the operator at this place goes into the assembly.
+    fn collect_at(&mut self, alloc: Global, op: Op, outs: &mut Vec<Out>) -> Result<(), CoreFault>
+        requires { op < vec_len self.old.desks }
+        ensures ok { OnOk result ((now : List Out) × (outs.new.items ≡ outs.old.items ++ now)
+            × GoesOn (Collects op) (live_view self.old) (live_view self.new) now) }
+        ensures outs { OnErr result (outs.new.items ≡ outs.old.items) }
+        ensures err { OnErr result (live_view self.new ≡ live_view self.old) }
+        ensures fault { IsTold result (collect_fault op (slice_get (live_view self.old).queues op)) }
+    {
+        self.always();
+        let Some((number, elements)) = self.desks[op].waiting.front() else {
+            return Err(CoreFault::NothingToCollect { op });
+        };
+        let number = *number;
+        let Ok(elements) = elements.copy(alloc) else {
+            return Err(CoreFault::NoMemory);
+        };
+        if outs.reserve(1).is_err() {
+            return Err(CoreFault::NoMemory);
+        }
+        match self.gather.put(alloc, op, number, elements) {
+            Ok(made) => {
+                self.gather.kept();
+                let _collected = self.desks[op].waiting.pop_front();
+                append_map(outs, made);
+                Ok(())
+            }
+            Err(refused) => Err(core_fault(refused.fault)),
+        }
+    }
+
+    /// The oldest frame that waits of the operator at this place goes into the assembly, if there is one.
+    fn collect(&mut self, alloc: Global, op: Op, outs: &mut Vec<Out>) -> Result<(), CoreFault>
+        ensures ok { OnOk result ((now : List Out) × (outs.new.items ≡ outs.old.items ++ now)
+            × GoesOn (Collects op) (live_view self.old) (live_view self.new) now) }
+        ensures outs { OnErr result (outs.new.items ≡ outs.old.items) }
+        ensures err { OnErr result (live_view self.new ≡ live_view self.old) }
+        ensures fault { IsTold result (collect_fault op (slice_get (live_view self.old).queues op)) }
+    {
+        if op >= self.desks.len() {
+            return Err(CoreFault::UnknownOperator { op });
+        }
+        self.collect_at(alloc, op, outs)
+    }
+
+    /// One step, whose outputs are added. A refused step changes nothing, and adds nothing.
+    pub fn step_into(
+        &mut self,
+        alloc: Global,
+        step: Step,
+        outs: &mut Vec<Out>,
+    ) -> Result<(), CoreFault>
+        // Whatever core with histories goes on as this one, that core does the step, with the outputs that are added.
+        ensures ok { OnOk result ((now : List Out) × (outs.new.items ≡ outs.old.items ++ now)
+            × GoesOn (Steps step) (live_view self.old) (live_view self.new) now) }
+        ensures outs { OnErr result (outs.new.items ≡ outs.old.items) }
+        ensures err { OnErr result (live_view self.new ≡ live_view self.old) }
+        ensures fault { IsTold result (step_fault (live_view self.old) step) }
+    {
+        match step {
+            Step::Arrive { modem, heard } => self.arrive(alloc, modem, heard, outs),
+            Step::Work { op } => self.act_if(alloc, op, &Action::Work, outs),
+            Step::Tick { op } => self.act_if(alloc, op, &Action::Tick, outs),
+            Step::Collect { op } => self.collect(alloc, op, outs),
+            Step::Reslice { from, rows } => self.reslice(alloc, from, rows.as_slice()),
+        }
+    }
+
+    /// One step, and what it puts out. A refused step changes nothing.
+    pub fn step(&mut self, alloc: Global, step: Step) -> Result<Vec<Out>, CoreFault>
+        ensures ok { IfOk result (λ outs. GoesOn (Steps step) (live_view self.old) (live_view self.new) outs.items) }
+        ensures reached { IfOk result (λ outs. (before : List Step) (told : List Out)
+            → IsAfter (live_view self.old).plant before told (live_view self.old)
+            → IsAfter (live_view self.old).plant (before ++ step ∷ []) (told ++ outs.items) (live_view self.new)) }
+        ensures err { OnErr result (live_view self.new ≡ live_view self.old) }
+        ensures fault { IsTold result (step_fault (live_view self.old) step) }
+    {
+        self.always();
+        let mut outs = Vec::new(alloc);
+        self.step_into(alloc, step, &mut outs)?;
+        Ok(outs)
+    }
+}

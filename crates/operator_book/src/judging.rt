@@ -1,0 +1,90 @@
+//! Why an action is refused, and how many outputs it has at most.
+
+ghost use Rattle.std.specs.Prelude.{◌≡◌, ◌≤◌, ◌↔◌, true, length, Err, None, Some, OnOk};
+ghost use Rattle.dsx_messages.specs.declared.modem.Modem.{Modem};
+ghost use Rattle.operator_machine.specs.declared.action.Unfit.{Unfit};
+ghost use Rattle.operator_machine.specs.Machine.{stranger_of, is_spent, unfit_of, own_step, IsAllowed};
+ghost use Rattle.operator_book.specs.MostOutputs.{most_outputs_of};
+
+use crate::book::BookFault;
+use crate::machine::Machine;
+use dsx_messages::Modem;
+use operator_machine::{Action, Unfit};
+
+impl Machine {
+    /// The modem of an Arrive, where it is not of this row.
+    fn stranger_of(&self, action: &Action) -> Option<Modem>
+        ensures { result ≡ stranger_of self.now.row action.now }
+    {
+        match action {
+            Action::Arrive { modem, heard: _ } => {
+                if self.row.get_fields().modems.contains(*modem) {
+                    None
+                } else {
+                    Some(*modem)
+                }
+            }
+            Action::Work | Action::Tick | Action::Reslice { from: _, row: _ } => None,
+        }
+    }
+
+    /// Whether this is a tick past the last frame.
+    pub(crate) fn is_spent(&self, action: &Action) -> bool
+        ensures { result ≡ is_spent self.now.state action.now }
+    {
+        match action {
+            Action::Tick => self.frame == u32::MAX,
+            Action::Arrive { modem: _, heard: _ }
+            | Action::Work
+            | Action::Reslice { from: _, row: _ } => false,
+        }
+    }
+
+    /// Why a slice that is offered cannot be taken.
+    fn unfit_of(&self, action: &Action) -> Option<Unfit>
+        ensures { result ≡ unfit_of self.now.consts self.now.state action.now }
+    {
+        match action {
+            Action::Reslice { from, row } => self.unfit_from(*from, *row),
+            Action::Arrive { modem: _, heard: _ } | Action::Work | Action::Tick => None,
+        }
+    }
+
+    /// Why an action is refused: a stranger first, then a tick past the last frame, then a slice that does not fit.
+    pub(crate) fn judge(&self, action: &Action) -> Result<(), BookFault>
+        ensures not_mine { (modem : Modem) → (result ≡ Err (BookFault.NotMine modem))
+            ↔ (stranger_of self.now.row action.now ≡ Some modem) }
+        ensures spent { (result ≡ Err BookFault.FramesSpent) ↔ (is_spent self.now.state action.now ≡ true) }
+        ensures unfit { (u : Unfit) → (result ≡ Err (BookFault.Unfit u))
+            ↔ (unfit_of self.now.consts self.now.state action.now ≡ Some u) }
+        ensures allowed { OnOk result (IsAllowed self.now action.now) }
+        ensures memory { result ≡ Err BookFault.NoMemory → ⊥ }
+    {
+        if let Some(modem) = self.stranger_of(action) {
+            return Err(BookFault::NotMine { modem });
+        }
+        if self.is_spent(action) {
+            return Err(BookFault::FramesSpent);
+        }
+        match self.unfit_of(action) {
+            Some(unfit) => Err(BookFault::Unfit(unfit)),
+            None => Ok(()),
+        }
+    }
+
+    /// How many outputs an action has at most, if it is done next: a tick what it sends again and its frame, any other action one.
+    #[tactic(auto, using(crate::proofs::Few::few_outputs))]
+    pub(crate) fn most_outputs(&self, action: &Action) -> usize
+        ensures value { result ≡ most_outputs_of self.now.state action.now }
+        ensures bound { length (own_step self.now action.now).outputs ≤ result }
+        ensures few { result ≤ 65537 }
+    {
+        let _row = self.row.get_fields();
+        match action {
+            Action::Tick => 1 + self.kept.resend_count(),
+            Action::Arrive { modem: _, heard: _ }
+            | Action::Work
+            | Action::Reslice { from: _, row: _ } => 1,
+        }
+    }
+}

@@ -1,0 +1,190 @@
+//! One operator's machine at work, with no history.
+
+ghost use Rattle.std.specs.Prelude.{◌≡◌, ◌≢◌, ◌↔◌, ◌≤◌, true, length, Err, Some, None, IfOk, OnOk, OnErr};
+ghost use Rattle.dsx_messages.specs.declared.modem.Modem.{Modem};
+ghost use Rattle.slice_table.specs.Row.{IsRowOf};
+ghost use Rattle.operator_machine.specs.declared.action.Unfit.{Unfit};
+ghost use Rattle.operator_machine.specs.declared.action.Action.TheVariants as actions;
+ghost use Rattle.operator_machine.specs.State.{operator, opened};
+ghost use Rattle.operator_machine.specs.Machine.{stranger_of, is_spent, unfit_of, unfit_from, own_step, after_step, IsAllowed};
+ghost use Rattle.operator_machine.specs.Sound.{IsSound};
+ghost use Rattle.operator_book.specs.MostOutputs.{most_outputs_of};
+
+use crate::book::{BookFault, OpenFault};
+use crate::machine::{Both, Machine};
+use crate::state_view::StateView;
+use grant_policy::Ranking;
+use operator_machine::{Action, Output, SliceRow, Unfit, opened_is_sound, step_keeps_sound};
+use slice_table::{Consts, OperatorRow};
+use std::alloc::{AllocError, Global};
+use std::marker::Model;
+
+/// A machine of which the state is sound. Contracts see the operator.
+#[derive(Drop)]
+pub struct SoundMachine {
+    machine: Machine,
+}
+
+impl Model for SoundMachine {
+    ghost use Rattle.operator_machine.specs.State.{Operator};
+    ghost use Rattle.operator_machine.specs.Sound.{IsSound};
+
+    ghost Value = { Operator };
+
+    ghost view = { λ s. s.machine };
+
+    ghost invariant = { λ s. IsSound s.machine };
+}
+
+/// One operator's machine at work, with the ranking of its flows and no history: what a `Book` is but for what it remembers, so
+/// that its memory does not grow with what is done. What contracts say of it they say of `sound`: what all operators share,
+/// the row and the state, which is sound. The type keeps that the ranking follows the row's policy.
+#[derive(Drop)]
+pub struct Live {
+    sound: SoundMachine,
+    ranking: Ranking,
+    ghost same_policy: { ranking.policy ≡ sound.row.policy },
+}
+
+impl SoundMachine {
+    /// The machine of an operator as it is opened.
+    fn open(alloc: Global, row: &OperatorRow, consts: &Consts) -> Result<SoundMachine, AllocError>
+        requires { IsRowOf consts.now row.now }
+        ensures { IfOk result (λ sound. sound ≡ operator consts.now row.now (opened consts.now row.now)) }
+    {
+        opened_is_sound();
+        let _some = row.get_fields().slice.get_length();
+        let machine = Machine::open(alloc, row, consts)?;
+        Ok(SoundMachine { machine })
+    }
+
+    /// Does an action that is not refused, and tells what it puts out, twice.
+    fn act(&mut self, alloc: Global, ranking: &Ranking, action: &Action) -> Result<Both, AllocError>
+        requires policy { ranking.now.policy ≡ self.old.row.policy }
+        requires allowed { IsAllowed self.old action.now }
+        ensures state { OnOk result (self.new ≡ after_step self.old action.now) }
+        ensures outputs { IfOk result (λ both. both.told.items ≡ (own_step self.old action.now).outputs) }
+        ensures err { OnErr result (self.new ≡ self.old) }
+    {
+        step_keeps_sound();
+        self.machine.step(alloc, ranking, action)
+    }
+
+    /// Takes a slice that fits from a later frame on, with no memory.
+    #[tactic(auto, using(crate::proofs::Replays::resliced_is, crate::proofs::Replays::reslice_allowed))]
+    fn reslice(&mut self, from: u32, row: SliceRow)
+        requires { unfit_from self.old.consts self.old.state from row ≡ None }
+        ensures { self.new ≡ after_step self.old (actions.Reslice from row) }
+    {
+        step_keeps_sound();
+        self.machine.reslice(from, row);
+    }
+
+    /// What always holds, for a caller's proof. Does nothing.
+    fn always(&self)
+        ensures { IsSound self.now }
+    {
+        let _ = &self.machine;
+    }
+}
+
+impl Live {
+    /// The machine of an operator with nothing done: its provisioned flows stand, and nothing else. The caller knows that the
+    /// row is one of a plant with these constants.
+    pub fn open(
+        alloc: Global,
+        row: &OperatorRow,
+        consts: &Consts,
+        ranking: Ranking,
+    ) -> Result<Live, OpenFault>
+        requires { IsRowOf consts.now row.now }
+        ensures ok { IfOk result (λ live. live.sound ≡ operator consts.now row.now (opened consts.now row.now)) }
+        ensures mismatch { (result ≡ Err OpenFault.PolicyMismatch) ↔ (ranking.policy ≢ row.now.policy) }
+    {
+        if ranking.policy() != row.get_fields().policy {
+            return Err(OpenFault::PolicyMismatch);
+        }
+        let sound = SoundMachine::open(alloc, row, consts)?;
+        Ok(Live { sound, ranking })
+    }
+
+    /// Does an action, and tells what it puts out, twice: for the caller, and for what the caller keeps of it. A refused action changes
+    /// nothing.
+    pub fn act(
+        &mut self,
+        alloc: Global,
+        action: &Action,
+    ) -> Result<(Vec<Output>, Vec<Output>), BookFault>
+        ensures state { OnOk result (self.new.sound ≡ after_step self.old.sound action.now) }
+        ensures outputs { IfOk result (λ both. (both.0.items ≡ (own_step self.old.sound action.now).outputs)
+            × (both.1.items ≡ (own_step self.old.sound action.now).outputs)) }
+
+        // A stranger is refused first, then a tick past the last frame, then a slice that does not fit, and only these are;
+        // else only memory can be wanting.
+        ensures not_mine { (modem : Modem) → (result ≡ Err (BookFault.NotMine modem))
+            ↔ (stranger_of self.old.sound.row action.now ≡ Some modem) }
+        ensures spent { (result ≡ Err BookFault.FramesSpent) ↔ (is_spent self.old.sound.state action.now ≡ true) }
+        ensures unfit { (u : Unfit) → (result ≡ Err (BookFault.Unfit u))
+            ↔ (unfit_of self.old.sound.consts self.old.sound.state action.now ≡ Some u) }
+        ensures allowed { OnOk result (IsAllowed self.old.sound action.now) }
+        ensures err { OnErr result (self.new.sound ≡ self.old.sound) }
+    {
+        if let Err(fault) = self.sound.machine.judge(action) {
+            return Err(fault);
+        }
+        let Both { kept, told } = self.sound.act(alloc, &self.ranking, action)?;
+        Ok((told, kept))
+    }
+
+    /// Whether a slice and a budget can be taken from this frame on. Takes no memory.
+    pub fn offer(&self, from: u32, row: SliceRow) -> Result<(), Unfit>
+        ensures unfit { (u : Unfit) → (result ≡ Err u)
+            ↔ (unfit_from self.now.sound.consts self.now.sound.state from row ≡ Some u) }
+        ensures fit { OnOk result (unfit_from self.now.sound.consts self.now.sound.state from row ≡ None) }
+    {
+        match self.sound.machine.unfit_from(from, row) {
+            Some(unfit) => Err(unfit),
+            None => Ok(()),
+        }
+    }
+
+    /// Takes a slice that `offer` found fit. Takes no memory, and cannot fail.
+    pub fn reslice(&mut self, from: u32, row: SliceRow)
+        requires { unfit_from self.old.sound.consts self.old.sound.state from row ≡ None }
+        ensures { self.new.sound ≡ after_step self.old.sound (actions.Reslice from row) }
+    {
+        self.sound.reslice(from, row);
+    }
+
+    /// How many outputs an action has at most, if it is done next. At most 65,537.
+    pub fn most_outputs(&self, action: &Action) -> usize
+        ensures value { result ≡ most_outputs_of self.now.sound.state action.now }
+        ensures bound { length (own_step self.now.sound action.now).outputs ≤ result }
+        ensures few { result ≤ 65537 }
+    {
+        self.sound.machine.most_outputs(action)
+    }
+
+    /// Whether this is a tick past the last frame.
+    pub fn is_spent(&self, action: &Action) -> bool
+        ensures { result ≡ is_spent self.now.sound.state action.now }
+    {
+        self.sound.machine.is_spent(action)
+    }
+
+    /// A copy of the state.
+    pub fn state_view(&self, alloc: Global) -> Result<StateView, AllocError>
+        ensures { IfOk result (λ view. view ≡ self.now.sound.state) }
+    {
+        self.sound.machine.state_view(alloc)
+    }
+
+    /// A law: the state is sound. A flow's SFID and SID lie in the row's ranges and are its own; flows, kept responses and
+    /// inbox never pass the row's limits; what is committed never passes the quota, nor the budget in force, nor one that
+    /// waits for its frame.
+    pub fn sound(&self)
+        ensures { IsSound self.now.sound }
+    {
+        self.sound.always();
+    }
+}
