@@ -1,11 +1,14 @@
 -- What one step makes of a live core, it makes of each core of which that is held.
-use Rattle.std.proofs.Common.{◌≡◌, ℕ, ◌<◌, List, [], ◌∷◌, ◌++◌, length, map, Option, Some, None, option_map, AllPairs, false, refl, sym, ap, ap₂, subst, ◌∙◌, arith}
-use Rattle.std.specs.Prelude.{slice_get, slice_set}
+use Rattle.std.proofs.Common.{◌≡◌, ℕ, zero, suc, ◌<◌, List, [], ◌∷◌, ◌++◌, length, map, Option, Some, None, option_map, AllPairs, false, refl, sym, ap, ap₂, subst, ◌∙◌, arith}
+use Rattle.std.specs.Prelude.{slice_get, slice_set, replicate}
 use Rattle.std.proofs.lemmas.List.{map-set, length-map}
 use Rattle.std.proofs.lemmas.Option.{slice_get-map, same_Some, slice_get_within}
 use Rattle.std.proofs.Math.Logic.{∥∥₁_map, ∥∥₁_elim}
+use Rattle.std.proofs.Props.{props}
 use Rattle.slice_scheduler.specs.Minislots.{Minislots}
 use Rattle.slice_scheduler.specs.declared.elements.ElementsFields.{ElementsFields}
+use Rattle.slice_table.specs.declared.consts.ConstsFields.{ConstsFields}
+use Rattle.slice_table.specs.declared.operator_row.RowFields.{RowFields}
 use Rattle.slice_table.specs.declared.plant.PlantFields.{PlantFields}
 use Rattle.slice_table.specs.Plant.{IsPlant, slices_meet}
 use Rattle.slice_table.specs.Roster.{holder}
@@ -17,21 +20,25 @@ use Rattle.operator_machine.specs.Machine.{own_step, unfit_from, IsAllowed}
 use Rattle.operator_machine.specs.Replay.{BookView, acted}
 use Rattle.map_assembly.specs.declared.map_bytes.MapBytes.{MapBytes}
 use Rattle.map_assembly.specs.declared.refused.GatherFault.{GatherFault}
-use Rattle.map_assembly.specs.Gathering.{Gathering, put_fault, after_put, resliced, IsGathering, MayReslice}
+use Rattle.map_assembly.specs.Plan.{AreSlices}
+use Rattle.map_assembly.specs.Gathering.{Gathering, gathering_of, put_fault, after_put, resliced, IsGathering, MayReslice}
 use Rattle.map_assembly.specs.Assembled.{IsAnswer}
 use Rattle.map_assembly.specs.LettingGo.{GoesOnAlike}
+use Rattle.map_assembly.proofs.GoneLemmas.{alike_again, alike_self}
 use Rattle.plant_runs.specs.declared.step.Step.{Step}
 use Rattle.plant_runs.specs.declared.step.Step.TheVariants as steps
 use Rattle.plant_runs.specs.declared.step.Out.{Out}
 use Rattle.plant_runs.specs.OwnSteps.{under, slice_of}
+use Rattle.plant_runs.specs.Opened.{opened_book, opened_core}
 use Rattle.plant_runs.specs.Ordered.{target}
 use Rattle.plant_runs.specs.Reached.{CoreView, Reached, frames_of}
 use Rattle.plant_runs.specs.Steps.{Acts, Collects, Reslices, Steps, told_map}
 use Rattle.plant_runs.proofs.OneStep.{step_reached}
+use Rattle.plant_runs.proofs.Opening.{opened_reached}
 use Rattle.plant_runs.proofs.Fits.{waiting_fits}
 use Rattle.plant_runs.proofs.Anew.{slices_anew}
 use Rattle.plant_core.specs.Reachable.{core_of, IsOfAStep}
-use Rattle.plant_core.specs.Giving.{NoneRefuses, HaveTaken}
+use Rattle.plant_core.specs.Giving.{NoneRefuses, HaveTakenAs}
 use Rattle.plant_core.specs.Reslicing.{reslice_fault}
 use Rattle.plant_core.proofs.FreeLemmas.{are_free}
 use Rattle.plant_core.proofs.ReachLemmas.{step_acts}
@@ -56,25 +63,25 @@ acts_behind : (plant : PlantFields) (gathering : Gathering) (lives : List BookVi
     × IsOf (core_of plant (slice_set lives op (went (forgotten book) action)) (slice_set queues op (waiting ++ frames_of (own_step (operator book.consts book.row book.state) action).outputs)) gathering) after
 acts_behind plant gathering lives queues op action book waiting core is there waits allowed = (
   record core {
-      books = slice_set core.books op (acted book action);
-      queues = slice_set core.queues op (waiting ++ frames_of (own_step (operator book.consts book.row book.state) action).outputs);
-    },
+    books = slice_set core.books op (acted book action);
+    queues = slice_set core.queues op (waiting ++ frames_of (own_step (operator book.consts book.row book.state) action).outputs);
+  },
   record {
-      book = book;
-      waiting = waiting;
-      book_is = there;
-      waiting_is = ap (λ (qs : List (List (ℕ × ElementsFields))). slice_get qs op) is.queues_are ∙ waits;
-      allowed = allowed;
-      new_is = refl;
-      now_is = refl;
-    },
+    book = book;
+    waiting = waiting;
+    book_is = there;
+    waiting_is = ap (λ (qs : List (List (ℕ × ElementsFields))). slice_get qs op) is.queues_are ∙ waits;
+    allowed = allowed;
+    new_is = refl;
+    now_is = refl;
+  },
   record {
-      plant_is = is.plant_is;
-      books_are = map-set forgotten core.books op (acted book action) ∙ ap (λ (bs : List BookView). slice_set bs op (went (forgotten book) action)) is.books_are;
-      queues_are = ap (λ (qs : List (List (ℕ × ElementsFields))). slice_set qs op (waiting ++ frames_of (own_step (operator book.consts book.row book.state) action).outputs)) is.queues_are;
-      gathering_is = is.gathering_is;
-      held = is.held;
-    },
+    plant_is = is.plant_is;
+    books_are = map-set forgotten core.books op (acted book action) ∙ ap (λ (bs : List BookView). slice_set bs op (went (forgotten book) action)) is.books_are;
+    queues_are = ap (λ (qs : List (List (ℕ × ElementsFields))). slice_set qs op (waiting ++ frames_of (own_step (operator book.consts book.row book.state) action).outputs)) is.queues_are;
+    gathering_is = is.gathering_is;
+    held = is.held;
+  },
 )
 
 pub acts_on : (plant : PlantFields) (gathering : Gathering) (lives lives' : List BookView) (queues queues' : List (List (ℕ × ElementsFields))) (op : ℕ) (action : Action) (b : BookView) (waiting : List (ℕ × ElementsFields)) (now : List Out)
@@ -106,23 +113,23 @@ pub collects_on : (plant : PlantFields) (gathering gathering' : Gathering) (live
 collects_on plant gathering gathering' lives lives' queues queues' op frame part waiting rest made there front fits answer bs qs gs held = λ core is. (
   record core { queues = slice_set core.queues op rest; gathering = after_put core.gathering op part },
   record {
-      frame = frame;
-      part = part;
-      waiting = rest;
-      waiting_is = ap (λ (q : List (List (ℕ × ElementsFields))). slice_get q op) is.queues_are ∙ (there ∙ ap (λ (fs : List (ℕ × ElementsFields)). Some fs) front);
-      fits = same_fault core.gathering gathering op frame part is.gathering_is ∙ fits;
-      made = made;
-      made_is = same_answer core.gathering gathering op frame part made is.gathering_is answer;
-      new_is = refl;
-      now_is = refl;
-    },
+    frame = frame;
+    part = part;
+    waiting = rest;
+    waiting_is = ap (λ (q : List (List (ℕ × ElementsFields))). slice_get q op) is.queues_are ∙ (there ∙ ap (λ (fs : List (ℕ × ElementsFields)). Some fs) front);
+    fits = same_fault core.gathering gathering op frame part is.gathering_is ∙ fits;
+    made = made;
+    made_is = same_answer core.gathering gathering op frame part made is.gathering_is answer;
+    new_is = refl;
+    now_is = refl;
+  },
   record {
-      plant_is = is.plant_is;
-      books_are = is.books_are ∙ sym bs;
-      queues_are = ap (λ (q : List (List (ℕ × ElementsFields))). slice_set q op rest) is.queues_are ∙ sym qs;
-      gathering_is = subst (λ (x : Gathering). GoesOnAlike (after_put core.gathering op part) x) (sym gs) (alike_put core.gathering gathering op part is.gathering_is);
-      held = held_put core.gathering gathering op part is.gathering_is is.held (subst IsGathering gs held);
-    },
+    plant_is = is.plant_is;
+    books_are = is.books_are ∙ sym bs;
+    queues_are = ap (λ (q : List (List (ℕ × ElementsFields))). slice_set q op rest) is.queues_are ∙ sym qs;
+    gathering_is = subst (λ (x : Gathering). GoesOnAlike (after_put core.gathering op part) x) (sym gs) (alike_put core.gathering gathering op part is.gathering_is);
+    held = held_put core.gathering gathering op part is.gathering_is is.held (subst IsGathering gs held);
+  },
 )
 
 -- ---- one step more
@@ -159,3 +166,124 @@ none_refused plant gathering lives queues op frame part rest fault valid reached
     let is = r.2.is_of in
     let fits = waiting_fits plant r.0 r.1 core op frame part rest valid r.2.reached is.held (ap (λ (q : List (List (ℕ × ElementsFields))). slice_get q op) is.queues_are ∙ there) in
     let wrong : None ≡ Some fault = sym fits ∙ (same_fault core.gathering gathering op frame part is.gathering_is ∙ refused) in cc)
+
+-- ---- other slices
+
+-- each book takes its row
+taken : ℕ → List BookView → List SliceRow → List BookView
+taken from [] rows = []
+taken from (b ∷ books) [] = b ∷ books
+taken from (b ∷ books) (row ∷ rows) = acted b (actions.Reslice from row) ∷ taken from books rows
+
+taken_length : (from : ℕ) (books : List BookView) (rows : List SliceRow) → length (taken from books rows) ≡ length books
+taken_length from [] rows = refl
+taken_length from (b ∷ books) [] = refl
+taken_length from (b ∷ books) (row ∷ rows) = ap suc (taken_length from books rows)
+
+taken_at : (from : ℕ) (books : List BookView) (rows : List SliceRow) (i : ℕ) (row : SliceRow) (book : BookView) → slice_get rows i ≡ Some row → slice_get books i ≡ Some book
+    → slice_get (taken from books rows) i ≡ Some (acted book (actions.Reslice from row))
+taken_at from [] rows i row book e f = absurd (cc)
+taken_at from (b ∷ books) [] i row book e f = absurd (cc)
+taken_at from (b ∷ books) (r ∷ rows) zero row book e f = λ k. Some (acted (same_Some b book f k) (actions.Reslice from (same_Some r row e k)))
+taken_at from (b ∷ books) (r ∷ rows) (suc i) row book e f = taken_at from books rows i row book e f
+
+-- their histories forgotten
+went_all : (from : ℕ) (books lives : List BookView) (rows : List SliceRow) → length rows ≡ length books → length lives ≡ length books
+    → ((i : ℕ) (row : SliceRow) (b : BookView) → slice_get rows i ≡ Some row → slice_get (map forgotten books) i ≡ Some b → slice_get lives i ≡ Some (went b (actions.Reslice from row)))
+    → map forgotten (taken from books rows) ≡ lives
+went_all from [] [] rows one long each = refl
+went_all from [] (l ∷ lives) rows one long each = absurd (omega (arith, long))
+went_all from (b ∷ books) lives [] one long each = absurd (omega (arith, one))
+went_all from (b ∷ books) [] (row ∷ rows) one long each = absurd (omega (arith, long))
+went_all from (b ∷ books) (l ∷ lives) (row ∷ rows) one long each =
+    ap₂ (λ (x : BookView) (xs : List BookView). x ∷ xs) (sym (same_Some l (went (forgotten b) (actions.Reslice from row)) (each 0 row (forgotten b) refl refl)))
+    (went_all from books lives rows (omega (arith, one)) (omega (arith, long)) (λ i r x e f. each (suc i) r x e f))
+
+-- rows that have no fault at the books without their histories have none at those with them
+pub record AreFreeBehind (from : ℕ) (books : List BookView) (rows : List SliceRow) : Type 0 where
+  pub one_each : length rows ≡ length books
+  pub apart : AllPairs (λ a b. slices_meet (slice_of a) (slice_of b) ≡ false) rows
+  pub fit : NoneRefuses from books rows
+
+free_behind : (from : ℕ) (books lives : List BookView) (rows : List SliceRow) → map forgotten books ≡ lives → reslice_fault from lives rows ≡ None → AreFreeBehind from books rows
+free_behind from books lives rows are none =
+    let free = are_free from lives rows none in
+    record {
+      one_each = free.one_each ∙ (sym (ap (λ (bs : List BookView). length bs) are) ∙ length-map books forgotten);
+      apart = free.apart;
+      fit = λ i row book e f.
+          free.fit i row (forgotten book) e
+          (ap (λ (bs : List BookView). slice_get bs i) (sym are) ∙ (slice_get-map forgotten books i ∙ ap (option_map forgotten) f));
+    }
+
+pub reslices_on : (plant : PlantFields) (gathering gathering' : Gathering) (lives lives' : List BookView) (queues queues' : List (List (ℕ × ElementsFields))) (from : ℕ) (rows : List SliceRow)
+    → reslice_fault from lives rows ≡ None → HaveTakenAs (λ book row. went book (actions.Reslice from row)) rows lives lives' → queues' ≡ queues → MayReslice gathering from (map slice_of rows)
+    → GoesOnAlike (resliced gathering from (map slice_of rows)) gathering' → IsGathering gathering'
+    → GoesOn (Reslices from rows) (core_of plant lives queues gathering) (core_of plant lives' queues' gathering') []
+reslices_on plant gathering gathering' lives lives' queues queues' from rows none have qs may on held = λ core is.
+    let free = free_behind from core.books lives rows is.books_are none in
+    let valid : AreSlices core.gathering.layout (length core.gathering.shares) (map slice_of rows) =
+    subst (λ (x : Gathering). AreSlices x.layout (length x.shares) (map slice_of rows))
+    (λ k. record gathering { layout = is.gathering_is.layout_is k; shares = is.gathering_is.shares_are k }) may.slices_are in
+    let all : GoesOnAlike (resliced core.gathering from (map slice_of rows)) gathering' =
+    alike_again (resliced core.gathering from (map slice_of rows)) (resliced gathering from (map slice_of rows)) gathering'
+    (alike_resliced core.gathering gathering from (map slice_of rows) is.gathering_is) on in (
+      record core { books = taken from core.books rows; gathering = resliced core.gathering from (map slice_of rows) },
+      record {
+        one_each = free.one_each;
+        apart = free.apart;
+        fit = free.fit;
+        books = taken_length from core.books rows;
+        acted_is = taken_at from core.books rows;
+        plant_is = refl;
+        queues_are = refl;
+        gathering_is = refl;
+        now_is = refl;
+      },
+      record {
+        plant_is = is.plant_is;
+        books_are = went_all from core.books lives' rows free.one_each
+            (have.one_each ∙ (sym (ap (λ (bs : List BookView). length bs) is.books_are) ∙ length-map core.books forgotten))
+            (λ i row b e f. have.taken i row b e (ap (λ (bs : List BookView). slice_get bs i) (sym is.books_are) ∙ f));
+        queues_are = is.queues_are ∙ sym qs;
+        gathering_is = all;
+        held = held_resliced core.gathering gathering gathering' from (map slice_of rows) all is.held valid held;
+      },
+    )
+
+may_prop : (g : Gathering) (from : ℕ) (slices : List Minislots) → IsProp (MayReslice g from slices)
+may_prop g from slices = hlevel props
+
+pub may_take : (plant : PlantFields) (gathering : Gathering) (lives : List BookView) (queues : List (List (ℕ × ElementsFields))) (from : ℕ) (rows : List SliceRow) → IsPlant plant
+    → ∥ IsReachable (core_of plant lives queues gathering) ∥₁ → reslice_fault from lives rows ≡ None → MayReslice gathering from (map slice_of rows)
+may_take plant gathering lives queues from rows valid reached none =
+    ∥∥₁_elim reached (may_prop gathering from (map slice_of rows)) (λ r.
+    let core = r.2.core in
+    let is = r.2.is_of in
+    let free = free_behind from core.books lives rows is.books_are none in
+    may_too core.gathering gathering from (map slice_of rows) is.gathering_is
+    (slices_anew plant r.0 r.1 core from rows valid r.2.reached is.held free.one_each free.apart free.fit))
+
+-- ---- a core that is opened
+
+opened_forgotten : (consts : ConstsFields) (rows : List RowFields) → map forgotten (map (opened_book consts) rows) ≡ map (opened_book consts) rows
+opened_forgotten consts [] = refl
+opened_forgotten consts (row ∷ rows) = ap (λ (bs : List BookView). opened_book consts row ∷ bs) (opened_forgotten consts rows)
+
+opened_after : (plant : PlantFields) → IsPlant plant → IsGathering (gathering_of plant) → IsAfter plant [] [] (opened_core plant)
+opened_after plant valid held = record {
+  core = opened_core plant;
+  reached = opened_reached plant valid;
+  is_of = record { plant_is = refl; books_are = opened_forgotten plant.consts plant.rows; queues_are = refl; gathering_is = alike_self (gathering_of plant); held = held };
+}
+
+module _ (plant routes : PlantFields) (lives : List BookView) (queues : List (List (ℕ × ElementsFields))) (gathering : Gathering) (consts : ConstsFields) (rows : List RowFields) (r : routes ≡ plant) (c : consts ≡ plant.consts)
+    (w : rows ≡ plant.rows) (b : lives ≡ map (opened_book consts) rows) (q : queues ≡ replicate (length rows) []) (g : gathering ≡ gathering_of plant) where
+  pub opened_view : core_of routes lives queues gathering ≡ opened_core plant
+  opened_view = λ k. core_of (r k) ((b ∙ ap₂ (λ (x : ConstsFields) (rs : List RowFields). map (opened_book x) rs) c w) k) ((q ∙ ap (λ (rs : List RowFields). replicate (length rs) []) w) k) (g k)
+
+  pub opened_is_after : IsPlant plant → IsGathering gathering → IsAfter plant [] [] (core_of routes lives queues gathering)
+  opened_is_after valid held = subst (λ (v : CoreView). IsAfter plant [] [] v) (sym opened_view) (opened_after plant valid (subst IsGathering g held))
+
+  pub opened_reaches : IsPlant plant → IsGathering gathering → ∥ IsReachable (core_of routes lives queues gathering) ∥₁
+  opened_reaches valid held = ∣ ([], [], subst (λ (p : PlantFields). IsAfter p [] [] (core_of routes lives queues gathering)) (sym r) (opened_is_after valid held)) ∣₁

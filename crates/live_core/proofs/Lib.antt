@@ -2,3 +2,5 @@ pub mod DeskLemmas
 pub mod AlikeLemmas
 pub mod GoLemmas
 pub mod LawLemmas
+pub mod RunLemmas
+pub mod PartLemmas

@@ -16,7 +16,7 @@ use crate::held::LiveCore;
 use dsx_messages::Modem;
 use operator_book::BookFault;
 use operator_machine::{Action, Heard};
-use plant_core::{CoreFault, append, append_map, core_fault};
+use plant_core::{CoreFault, append, append_map, core_fault_of};
 use plant_runs::{Out, Step};
 use slice_table::Op;
 use std::alloc::Global;
@@ -125,7 +125,7 @@ impl LiveCore {
                 append_map(outs, made);
                 Ok(())
             }
-            Err(refused) => Err(core_fault(refused.fault)),
+            Err(refused) => Err(core_fault_of(refused.fault)),
         }
     }
 

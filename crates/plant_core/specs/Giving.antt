@@ -15,7 +15,11 @@ IsOfASlice row = IsSlice (slice_of row)
 abbrev pub NoneRefuses : ℕ → List BookView → List SliceRow → Type 0
 NoneRefuses from books rows = (i : ℕ) (row : SliceRow) (book : BookView) → slice_get rows i ≡ Some row → slice_get books i ≡ Some book → unfit_from book.consts book.state from row ≡ None
 
--- each book has taken its row
-pub record HaveTaken (from : ℕ) (rows : List SliceRow) (old new : List BookView) : Type 0 where
+-- each book has become what its row makes of it
+pub record HaveTakenAs (after : BookView → SliceRow → BookView) (rows : List SliceRow) (old new : List BookView) : Type 0 where
   pub one_each : length new ≡ length old
-  pub taken : (i : ℕ) (row : SliceRow) (book : BookView) → slice_get rows i ≡ Some row → slice_get old i ≡ Some book → slice_get new i ≡ Some (acted book (actions.Reslice from row))
+  pub taken : (i : ℕ) (row : SliceRow) (book : BookView) → slice_get rows i ≡ Some row → slice_get old i ≡ Some book → slice_get new i ≡ Some (after book row)
+
+-- each book has taken its row
+abbrev pub HaveTaken : ℕ → List SliceRow → List BookView → List BookView → Type 0
+HaveTaken from rows old new = HaveTakenAs (λ book row. acted book (actions.Reslice from row)) rows old new

@@ -27,4 +27,4 @@ pub use plant_runs::{
 pub use reslicing::{is_refused, is_same, least_meeting};
 pub use routes::Routes;
 pub use running::RunStop;
-pub use stepping::{append, append_map, core_fault};
+pub use stepping::{append, append_map, core_fault_of};

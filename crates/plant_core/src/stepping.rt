@@ -44,7 +44,7 @@ pub fn append_map(outs: &mut Vec<Out>, made: Option<MapBytes>)
 }
 
 /// What the core answers where the assembly refuses a frame.
-pub fn core_fault(fault: GatherFault) -> CoreFault
+pub fn core_fault_of(fault: GatherFault) -> CoreFault
     ensures { result ≡ core_fault_of fault }
 {
     match fault {
@@ -154,7 +154,7 @@ impl PlantCore {
                 append_map(outs, made);
                 Ok(())
             }
-            Err(refused) => Err(core_fault(refused.fault)),
+            Err(refused) => Err(core_fault_of(refused.fault)),
         }
     }
 

@@ -1,6 +1,8 @@
 use Rattle.plant_core.specs.DeskView.{book_at, waiting_at}
 use Rattle.plant_core.proofs.GiveLemmas.{HaveTakenSoFar}
+use Rattle.operator_machine.specs.declared.action.Action.TheVariants as actions
+use Rattle.operator_machine.specs.Replay.{acted}
 use Rattle.plant_core.proofs.giving.give.Given as goal
 
 abbrev pub invariant-loop-op : goal.invariant-loop-op
-invariant-loop-op g l = HaveTakenSoFar book_at waiting_at l.from l.rows l.initial.desks.items l.desks.items l.op
+invariant-loop-op g l = HaveTakenSoFar book_at waiting_at (λ b row. acted b (actions.Reslice l.from row)) l.rows l.initial.desks.items l.desks.items l.op

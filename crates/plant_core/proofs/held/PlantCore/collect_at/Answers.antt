@@ -65,7 +65,7 @@ returns-in-Err-put-clause-fault g c =
     let desk = c.index.result.now in
     let oldest = c.in-Ok-Some.oldest in
     let front = oldest_front desk.book.kept.book.history desk.collected c.in-Ok-Some.field-0 oldest c.in-Ok-Some.field-0-is c.in-Ok-Some.ensures.value in
-    rw c.core_fault.ensures (gather_told c.in-Err-put.refused.fault _
+    rw c.core_fault_of.ensures (gather_told c.in-Err-put.refused.fault _
     (front_waits c.args.op _ _ _ _ (seen_at _ desks.items desks.len c.args.op desk desks.ok.0 c.requires c.index.ensures) front)
     (λ other. none_refused c.args.self.now.routes c.args.self.now.gather _ _ c.args.op oldest.number oldest.elements _ c.in-Err-put.refused.fault
     c.always.ensures.plant c.always.ensures.gathering c.args.self.now.reached

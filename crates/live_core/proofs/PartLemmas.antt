@@ -1,0 +1,41 @@
+-- A live core of which a part is the same.
+use Rattle.std.proofs.Common.{◌≡◌, ℕ, List, ◌++◌, Some, sym, subst, Result, Ok, Err, OnOk, OnErr, refl}
+use Rattle.std.specs.Prelude.{slice_get, slice_set}
+use Rattle.slice_scheduler.specs.declared.elements.ElementsFields.{ElementsFields}
+use Rattle.slice_table.specs.declared.plant.PlantFields.{PlantFields}
+use Rattle.slice_table.specs.Plant.{IsPlant}
+use Rattle.operator_machine.specs.declared.action.Action.{Action}
+use Rattle.operator_machine.specs.State.{operator}
+use Rattle.operator_machine.specs.Machine.{own_step, IsAllowed}
+use Rattle.operator_machine.specs.Replay.{BookView}
+use Rattle.map_assembly.specs.Gathering.{Gathering}
+use Rattle.plant_runs.specs.OwnSteps.{under}
+use Rattle.plant_runs.specs.Reached.{CoreView, frames_of}
+use Rattle.plant_core.specs.Reachable.{core_of, IsOfAStep}
+use Rattle.plant_core.proofs.StepLemmas.{same_view}
+use Rattle.live_core.specs.GoingOn.{went}
+use Rattle.live_core.specs.After.{IsReachable}
+use Rattle.live_core.proofs.GoLemmas.{acts_on, acts_step, stepped_on}
+
+pub same_plant : (new old : PlantFields) (lives : List BookView) (queues : List (List (ℕ × ElementsFields))) (gathering : Gathering) → new ≡ old → ∥ IsReachable (core_of old lives queues gathering) ∥₁ → ∥ IsReachable (core_of new lives queues gathering) ∥₁
+same_plant new old lives queues gathering same reached = subst (λ (p : PlantFields). ∥ IsReachable (core_of p lives queues gathering) ∥₁) (sym same) reached
+
+pub same_gathering : (plant : PlantFields) (lives : List BookView) (queues : List (List (ℕ × ElementsFields))) (new old : Gathering) → new ≡ old → ∥ IsReachable (core_of plant lives queues old) ∥₁ → ∥ IsReachable (core_of plant lives queues new) ∥₁
+same_gathering plant lives queues new old same reached = subst (λ (g : Gathering). ∥ IsReachable (core_of plant lives queues g) ∥₁) (sym same) reached
+
+-- whether the desk did it or refused it
+pub acted_reaches : {A E : Type 0} (result : Result A E) (plant : PlantFields) (gathering : Gathering) (lives lives' : List BookView) (queues queues' : List (List (ℕ × ElementsFields)))
+    (op : ℕ) (action : Action) (b : BookView) (waiting : List (ℕ × ElementsFields)) → IsPlant plant → IsOfAStep plant op action
+    → slice_get lives op ≡ Some b → slice_get queues op ≡ Some waiting
+    → OnOk result (IsAllowed (operator b.consts b.row b.state) action)
+    → OnOk result (lives' ≡ slice_set lives op (went b action)) → OnOk result (queues' ≡ slice_set queues op (waiting ++ frames_of (own_step (operator b.consts b.row b.state) action).outputs))
+    → OnErr result (lives' ≡ lives) → OnErr result (queues' ≡ queues)
+    → ∥ IsReachable (core_of plant lives queues gathering) ∥₁ → ∥ IsReachable (core_of plant lives' queues' gathering) ∥₁
+acted_reaches (Ok x) plant gathering lives lives' queues queues' op action b waiting valid goal there waits allowed new_lives new_queues same_lives same_queues reached =
+    let outs = under op (own_step (operator b.consts b.row b.state) action).outputs in
+    stepped_on goal.0 (core_of plant lives queues gathering) (core_of plant lives' queues' gathering) outs valid refl
+    (acts_step goal.0 op action (core_of plant lives queues gathering) (core_of plant lives' queues' gathering) outs goal.1
+    (acts_on plant gathering lives lives' queues queues' op action b waiting outs there waits allowed new_lives new_queues refl))
+    reached
+acted_reaches (Err y) plant gathering lives lives' queues queues' op action b waiting valid goal there waits allowed new_lives new_queues same_lives same_queues reached =
+    subst (λ (core : CoreView). ∥ IsReachable core ∥₁) (sym (same_view plant gathering lives lives' queues queues' same_lives same_queues)) reached

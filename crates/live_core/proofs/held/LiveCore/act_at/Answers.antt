@@ -1,0 +1,65 @@
+use Rattle.std.proofs.Common.{List, ◌++◌, ap, sym, ◌∙◌}
+use Rattle.std.proofs.lemmas.Result.{on_ok_weaker, on_err_weaker}
+use Rattle.operator_machine.specs.declared.output.Output.{Output}
+use Rattle.plant_runs.specs.declared.step.Out.{Out}
+use Rattle.plant_runs.specs.OwnSteps.{under}
+use Rattle.plant_core.proofs.PlaceLemmas.{seen_at, set_alike, set_seen}
+use Rattle.live_core.proofs.PartLemmas.{acted_reaches}
+use Rattle.plant_core.proofs.StepLemmas.{same_view, not_spent}
+use Rattle.live_core.specs.DeskView.{book_at}
+use Rattle.live_core.proofs.GoLemmas.{acts_on}
+use Rattle.live_core.proofs.held.LiveCore.act_at.Goals as goal
+
+pub invariant_of-self : goal.invariant_of-self
+invariant_of-self g c =
+    let desks = c.args.self.now.desks in
+    let desk = c.index_mut.result.now in
+    record {
+      reached = acted_reaches c.act.result c.args.self.now.routes c.args.self.now.gather _ _ _ _ c.args.op c.args.action.now (book_at desk) _
+          c.always.ensures.plant c.requires.of_a_step
+          (seen_at _ desks.items desks.len c.args.op desk desks.ok.0 c.requires.within c.index_mut.ensures.value)
+          (seen_at _ desks.items desks.len c.args.op desk desks.ok.0 c.requires.within c.index_mut.ensures.value)
+          c.act.ensures.allowed
+          (on_ok_weaker c.act.result (λ same. set_seen _ desks.items c.args.op c.act.new.self _ same) c.act.ensures.book)
+          (on_ok_weaker c.act.result (λ same. set_seen _ desks.items c.args.op c.act.new.self _ same) c.act.ensures.waiting)
+          (on_err_weaker c.act.result (λ same. set_alike _ desks.items c.args.op c.act.new.self _ (seen_at _ desks.items desks.len c.args.op desk desks.ok.0 c.requires.within c.index_mut.ensures.value) same) c.act.ensures.same_book)
+          (on_err_weaker c.act.result (λ same. set_alike _ desks.items c.args.op c.act.new.self _ (seen_at _ desks.items desks.len c.args.op desk desks.ok.0 c.requires.within c.index_mut.ensures.value) same) c.act.ensures.same_waiting)
+          c.args.self.now.reached;
+    }
+
+pub returns-in-Ok-clause-ok : goal.returns-in-Ok-clause-ok
+returns-in-Ok-clause-ok g c =
+    let desks = c.args.self.now.desks in
+    let desk = c.index_mut.result.now in (
+      under c.args.op c.in-Ok.told.items,
+      c.append.ensures ∙ ap (λ (outs : List Out). outs ++ under c.args.op c.in-Ok.told.items) c.reserve.ensures.items,
+      acts_on c.args.self.now.routes c.args.self.now.gather _ _ _ _ c.args.op c.args.action.now (book_at desk) _ _
+          (seen_at _ desks.items desks.len c.args.op desk desks.ok.0 c.requires.within c.index_mut.ensures.value)
+          (seen_at _ desks.items desks.len c.args.op desk desks.ok.0 c.requires.within c.index_mut.ensures.value)
+          c.in-Ok.ensures.allowed
+          (set_seen _ desks.items c.args.op c.act.new.self _ c.in-Ok.ensures.book)
+          (set_seen _ desks.items c.args.op c.act.new.self _ c.in-Ok.ensures.waiting)
+          (ap (λ (outputs : List Output). under c.args.op outputs) c.in-Ok.ensures.outputs),
+    )
+
+pub returns-in-Ok-clause-fault : goal.returns-in-Ok-clause-fault
+returns-in-Ok-clause-fault g c =
+    let desks = c.args.self.now.desks in
+    let desk = c.index.result.now in
+    not_spent c.args.op c.args.action.now _ (book_at desk)
+    (seen_at _ desks.items desks.len c.args.op desk desks.ok.0 c.requires.within c.index.ensures) (sym c.is_spent.ensures ∙ c.if-is_spent.false)
+
+pub returns-in-Err-clause-err : goal.returns-in-Err-clause-err
+returns-in-Err-clause-err g c =
+    let desks = c.args.self.now.desks in
+    let desk = c.index_mut.result.now in
+    same_view c.args.self.now.routes c.args.self.now.gather _ _ _ _
+    (set_alike _ desks.items c.args.op c.act.new.self _ (seen_at _ desks.items desks.len c.args.op desk desks.ok.0 c.requires.within c.index_mut.ensures.value) c.in-Err.ensures.same_book)
+    (set_alike _ desks.items c.args.op c.act.new.self _ (seen_at _ desks.items desks.len c.args.op desk desks.ok.0 c.requires.within c.index_mut.ensures.value) c.in-Err.ensures.same_waiting)
+
+pub returns-in-Err-clause-fault : goal.returns-in-Err-clause-fault
+returns-in-Err-clause-fault g c =
+    let desks = c.args.self.now.desks in
+    let desk = c.index.result.now in
+    not_spent c.args.op c.args.action.now _ (book_at desk)
+    (seen_at _ desks.items desks.len c.args.op desk desks.ok.0 c.requires.within c.index.ensures) (sym c.is_spent.ensures ∙ c.if-is_spent.false)

@@ -1,0 +1,46 @@
+use Rattle.std.proofs.Common.{[], List, map, refl, sym, subst}
+use Rattle.slice_scheduler.specs.Minislots.{Minislots}
+use Rattle.operator_machine.specs.Replay.{BookView}
+use Rattle.map_assembly.specs.Gathering.{Gathering, MayReslice, resliced}
+use Rattle.map_assembly.specs.LettingGo.{GoesOnAlike}
+use Rattle.plant_runs.specs.declared.step.Step.TheVariants as steps
+use Rattle.plant_runs.specs.OwnSteps.{slice_of}
+use Rattle.plant_core.proofs.FreeLemmas.{are_free}
+use Rattle.plant_core.proofs.ResliceLemmas.{are_slices}
+use Rattle.live_core.proofs.GoLemmas.{may_take, reslices_on, stepped_on}
+use Rattle.live_core.proofs.held.LiveCore.give.Goals as goal
+
+pub slices_of-requires : goal.slices_of-requires
+slices_of-requires g c =
+    let core = c.args.self.now in
+    are_slices core.gather c.args.from c.args.rows.now c.always.ensures.gathering
+    (may_take core.routes core.gather _ _ c.args.from c.args.rows.now c.always.ensures.plant core.reached c.requires)
+
+pub reslice-requires : goal.reslice-requires
+reslice-requires g c =
+    let core = c.args.self.now in
+    subst (λ (slices : List Minislots). MayReslice core.gather c.args.from slices) (sym c.in_ok-slices.ensures)
+    (may_take core.routes core.gather _ _ c.args.from c.args.rows.now c.always.ensures.plant core.reached c.requires)
+
+pub give-requires-clause-fit : goal.give-requires-clause-fit
+give-requires-clause-fit g c = (are_free c.args.from _ c.args.rows.now c.requires).fit
+
+pub invariant_of-self-2 : goal.invariant_of-self-2
+invariant_of-self-2 g c =
+    let core = c.args.self.now in
+    record {
+      reached = stepped_on (steps.Reslice c.args.from c.args.rows.now) _ _ [] c.always.ensures.plant refl
+          (reslices_on core.routes core.gather _ _ _ _ _ c.args.from c.args.rows.now c.requires c.give.ensures.books c.give.ensures.waiting
+          (may_take core.routes core.gather _ _ c.args.from c.args.rows.now c.always.ensures.plant core.reached c.requires)
+          (subst (λ (slices : List Minislots). GoesOnAlike (resliced core.gather c.args.from slices) c.let_go.new.self) c.in_ok-slices.ensures
+          (subst (λ (x : Gathering). GoesOnAlike x c.let_go.new.self) c.in_ok-reslice.ensures.state c.let_go.ensures.alike)) c.kept.ensures)
+          core.reached;
+    }
+
+pub returns-clause-ok : goal.returns-clause-ok
+returns-clause-ok g c =
+    let core = c.args.self.now in
+    reslices_on core.routes core.gather _ _ _ _ _ c.args.from c.args.rows.now c.requires c.give.ensures.books c.give.ensures.waiting
+    (may_take core.routes core.gather _ _ c.args.from c.args.rows.now c.always.ensures.plant core.reached c.requires)
+    (subst (λ (slices : List Minislots). GoesOnAlike (resliced core.gather c.args.from slices) c.let_go.new.self) c.in_ok-slices.ensures
+    (subst (λ (x : Gathering). GoesOnAlike x c.let_go.new.self) c.in_ok-reslice.ensures.state c.let_go.ensures.alike)) c.kept.ensures

@@ -1,0 +1,64 @@
+//! Giving other slices to all operators of a live core.
+
+ghost use Rattle.std.specs.Prelude.{◌≡◌, [], map, length, vec_len, None, OnOk, OnErr};
+ghost use Rattle.operator_machine.specs.declared.action.Action.TheVariants as actions;
+ghost use Rattle.operator_machine.specs.Machine.{unfit_from};
+ghost use Rattle.plant_runs.specs.Steps.{Reslices};
+ghost use Rattle.plant_core.specs.Reslicing.{reslice_fault};
+ghost use Rattle.plant_core.specs.Giving.{NoneRefuses, HaveTakenAs};
+ghost use Rattle.live_core.specs.DeskView.{book_at, waiting_at};
+ghost use Rattle.live_core.specs.GoingOn.{went, GoesOn};
+ghost use Rattle.live_core.specs.LiveView.{live_view};
+
+use crate::desk::LiveDesk;
+use crate::held::LiveCore;
+use operator_machine::SliceRow;
+use plant_core::slices_of;
+use std::alloc::{AllocError, Global};
+
+impl LiveDesk {
+    /// Takes a row from a later frame on. Takes no memory.
+    fn reslice(&mut self, from: u32, row: SliceRow)
+        requires { unfit_from self.old.live.sound.consts self.old.live.sound.state from row ≡ None }
+        ensures book { book_at self.new ≡ went (book_at self.old) (actions.Reslice from row) }
+        ensures waiting { waiting_at self.new ≡ waiting_at self.old }
+    {
+        self.live.reslice(from, row);
+    }
+}
+
+/// Each operator takes its row. Takes no memory.
+fn give(desks: &mut Vec<LiveDesk>, from: u32, rows: &[SliceRow])
+    requires one_each { length rows.now ≡ vec_len desks.old }
+    requires fit { NoneRefuses from (map book_at desks.old.items) rows.now }
+    ensures books { HaveTakenAs (λ book row. went book (actions.Reslice from row)) rows.now
+        (map book_at desks.old.items) (map book_at desks.new.items) }
+    ensures waiting { map waiting_at desks.new.items ≡ map waiting_at desks.old.items }
+{
+    for (op, row) in rows.iter().enumerate() {
+        desks[op].reslice(from, *row);
+    }
+}
+
+impl LiveCore {
+    /// Each operator takes its row, and the assembly all slices, from a later frame on. All memory is taken first. Slices that no
+    /// frame to come needs are let go.
+    pub(crate) fn give(
+        &mut self,
+        alloc: Global,
+        from: u32,
+        rows: &[SliceRow],
+    ) -> Result<(), AllocError>
+        requires { reslice_fault from (live_view self.old).books rows.now ≡ None }
+        ensures ok { OnOk result (GoesOn (Reslices from rows.now) (live_view self.old) (live_view self.new) []) }
+        ensures err { OnErr result (live_view self.new ≡ live_view self.old) }
+    {
+        self.always();
+        let slices = slices_of(alloc, rows)?;
+        self.gather.reslice(alloc, from, slices)?;
+        self.gather.let_go();
+        self.gather.kept();
+        give(&mut self.desks, from, rows);
+        Ok(())
+    }
+}
