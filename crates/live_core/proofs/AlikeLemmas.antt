@@ -20,7 +20,7 @@ use Rattle.map_assembly.proofs.NewLemmas.{queued-agree}
 
 -- ---- a part is refused alike
 
-refused_by : List Share → ℕ → List (List ElementsFields) → Bool → ℕ → ℕ → Option GatherFault
+abbrev refused_by : List Share → ℕ → List (List ElementsFields) → Bool → ℕ → ℕ → Option GatherFault
 refused_by shares next queues part op frame =
     if leb (length shares) op then Some Stranger else
     if ltb frame next then Some (Old frame) else
@@ -66,10 +66,10 @@ same_answer g h op frame part (Some made) alike is =
           (subst (λ (ms : List Minislots). IsMapOf h.layout frame h.shares ms (frame_parts_of h.queues) made.bytes) (alike.slices_are frame (omega (arith, now))) is.3),
     )
   where
-    frame_parts_of : List (List ElementsFields) → List ElementsFields
+    abbrev frame_parts_of : List (List ElementsFields) → List ElementsFields
     frame_parts_of queues = fronts (with_part queues op part)
 
-put_branch : Gathering → ℕ → ElementsFields → Bool → Gathering
+abbrev put_branch : Gathering → ℕ → ElementsFields → Bool → Gathering
 put_branch g op part true = record g { queues = map (λ queue. drop 1 queue) (with_part g.queues op part); next = g.next + 1 }
 put_branch g op part false = record g { queues = with_part g.queues op part }
 

@@ -1,5 +1,5 @@
 -- What one step makes of a live core, it makes of each core of which that is held.
-use Rattle.std.proofs.Common.{◌≡◌, ℕ, zero, suc, ◌<◌, List, [], ◌∷◌, ◌++◌, length, map, Option, Some, None, option_map, AllPairs, false, refl, sym, ap, ap₂, subst, ◌∙◌, arith}
+use Rattle.std.proofs.Common.{◌≡◌, ℕ, zero, suc, ◌<◌, List, [], ◌∷◌, ◌++◌, length, map, drop, Option, Some, None, option_map, AllPairs, false, refl, sym, ap, ap₂, subst, ◌∙◌, arith}
 use Rattle.std.specs.Prelude.{slice_get, slice_set, replicate}
 use Rattle.std.proofs.lemmas.List.{map-set, length-map}
 use Rattle.std.proofs.lemmas.Option.{slice_get-map, same_Some, slice_get_within}
@@ -170,7 +170,7 @@ none_refused plant gathering lives queues op frame part rest fault valid reached
 -- ---- other slices
 
 -- each book takes its row
-taken : ℕ → List BookView → List SliceRow → List BookView
+abbrev taken : ℕ → List BookView → List SliceRow → List BookView
 taken from [] rows = []
 taken from (b ∷ books) [] = b ∷ books
 taken from (b ∷ books) (row ∷ rows) = acted b (actions.Reslice from row) ∷ taken from books rows
@@ -287,3 +287,13 @@ module _ (plant routes : PlantFields) (lives : List BookView) (queues : List (Li
 
   pub opened_reaches : IsPlant plant → IsGathering gathering → ∥ IsReachable (core_of routes lives queues gathering) ∥₁
   opened_reaches valid held = ∣ ([], [], subst (λ (p : PlantFields). IsAfter p [] [] (core_of routes lives queues gathering)) (sym r) (opened_is_after valid held)) ∣₁
+
+-- ---- the frame that waits longest
+
+pub front_is : (waiting : List (ℕ × ElementsFields)) (frame : ℕ × ElementsFields) → Some frame ≡ slice_get waiting 0 → waiting ≡ frame ∷ drop 1 waiting
+front_is [] frame h = absurd (let wrong : ◌≡◌ {A = Option (ℕ × ElementsFields)} (Some frame) None = h in cc)
+front_is (first ∷ rest) frame h = ap (λ (x : ℕ × ElementsFields). x ∷ rest) (sym (same_Some frame first h))
+
+pub none_is : (waiting : List (ℕ × ElementsFields)) → None ≡ slice_get waiting 0 → waiting ≡ []
+none_is [] h = refl
+none_is (first ∷ rest) h = absurd (let wrong : ◌≡◌ {A = Option (ℕ × ElementsFields)} None (Some first) = h in cc)

@@ -1,9 +1,9 @@
 //! What is done to an operator's live desk.
 
-ghost use Rattle.std.specs.Prelude.{◌≡◌, ◌≢◌, ◌↔◌, ◌≤◌, [], ◌++◌, length, slice_get, Err, IfOk, OnOk, OnErr};
+ghost use Rattle.std.specs.Prelude.{◌≡◌, ◌≢◌, ◌↔◌, ◌≤◌, false, [], ◌++◌, length, drop, slice_get, IsSome, Err, IfOk, OnOk, OnErr};
 ghost use Rattle.slice_table.specs.Row.{IsRowOf};
 ghost use Rattle.operator_machine.specs.State.{operator};
-ghost use Rattle.operator_machine.specs.Machine.{own_step, IsAllowed};
+ghost use Rattle.operator_machine.specs.Machine.{own_step, is_spent, IsAllowed};
 ghost use Rattle.plant_runs.specs.Opened.{opened_book};
 ghost use Rattle.plant_runs.specs.Reached.{frames_of};
 ghost use Rattle.live_core.specs.GoingOn.{went};
@@ -15,7 +15,7 @@ use operator_book::{BookFault, Live, OpenFault};
 use operator_machine::{Action, Output};
 use slice_scheduler::Elements;
 use slice_table::{Consts, OperatorRow};
-use std::alloc::Global;
+use std::alloc::{AllocError, Global};
 use std::collections::VecDeque;
 
 /// The first frame among outputs.
@@ -49,23 +49,43 @@ impl LiveDesk {
         })
     }
 
-    /// Does an action, and tells what it puts out. Its frame waits.
+    /// Does an action, and tells what it puts out. Its frame waits. The caller has seen that the frame numbers are not spent.
     #[tactic(auto, using(crate::proofs::DeskLemmas::frame_waits, crate::proofs::DeskLemmas::none_waits))]
-    pub fn act(&mut self, alloc: Global, action: &Action) -> Result<Vec<Output>, BookFault>
-        ensures book { OnOk result (book_at self.new ≡ went (book_at self.old) action.now) }
+    pub fn act(&mut self, alloc: Global, action: Action) -> Result<Vec<Output>, BookFault>
+        requires fresh { is_spent self.old.live.sound.state action ≡ false }
+        ensures book { OnOk result (book_at self.new ≡ went (book_at self.old) action) }
         ensures waiting { OnOk result (waiting_at self.new ≡ waiting_at self.old
-            ++ frames_of (own_step self.old.live.sound action.now).outputs) }
+            ++ frames_of (own_step self.old.live.sound action).outputs) }
         ensures outputs { IfOk result (λ outputs. outputs.items
-            ≡ (own_step self.old.live.sound action.now).outputs) }
-        ensures allowed { OnOk result (IsAllowed self.old.live.sound action.now) }
+            ≡ (own_step self.old.live.sound action).outputs) }
+        ensures allowed { OnOk result (IsAllowed self.old.live.sound action) }
         ensures same_book { OnErr result (book_at self.new ≡ book_at self.old) }
         ensures same_waiting { OnErr result (waiting_at self.new ≡ waiting_at self.old) }
     {
         self.waiting.reserve(1)?;
-        let (told, again) = self.live.act(alloc, action)?;
+        let (told, again) = self.live.act(alloc, &action)?;
         if let Some(frame) = frame_in(again) {
             self.waiting.push_back_reserved(frame);
         }
         Ok(told)
+    }
+
+    /// A copy of the frame that waits longest.
+    pub fn oldest(&self, alloc: Global) -> Result<Option<(u32, Elements)>, AllocError>
+        ensures value { IfOk result (λ oldest. oldest ≡ slice_get (waiting_at self.now) 0) }
+        ensures some { OnErr result (IsSome (slice_get (waiting_at self.now) 0)) }
+    {
+        match self.waiting.front() {
+            Some((number, elements)) => Ok(Some((*number, elements.copy(alloc)?))),
+            None => Ok(None),
+        }
+    }
+
+    /// The frame that waits longest is collected.
+    pub fn drop_oldest(&mut self)
+        ensures waiting { waiting_at self.new ≡ drop 1 (waiting_at self.old) }
+        ensures book { book_at self.new ≡ book_at self.old }
+    {
+        let _collected = self.waiting.pop_front();
     }
 }

@@ -6,6 +6,7 @@ ghost use Rattle.plant_runs.specs.Steps.{Reslices};
 ghost use Rattle.plant_core.specs.declared.core_fault.CoreFault.TheVariants as faults;
 ghost use Rattle.plant_core.specs.Faults.{IsTold};
 ghost use Rattle.plant_core.specs.Reslicing.{is_unfit, least_unfit, row_fault, reslice_fault};
+ghost use Rattle.live_core.specs.DeskView.{book_at};
 ghost use Rattle.live_core.specs.GoingOn.{GoesOn};
 ghost use Rattle.live_core.specs.LiveView.{live_view};
 
@@ -18,10 +19,9 @@ use std::alloc::Global;
 
 impl LiveDesk {
     /// Whether the machine refuses a row from a frame on with this fault. Takes no memory.
-    #[tactic(auto, using(plant_core::proofs::OfferLemmas::taken))]
     fn refuses(&self, from: u32, row: SliceRow, unfit: Unfit) -> bool
         ensures { result ≡ is_unfit unfit
-            (unfit_from self.now.live.sound.consts self.now.live.sound.state from row) }
+            (unfit_from (book_at self.now).consts (book_at self.now).state from row) }
     {
         match self.live.offer(from, row) {
             Ok(()) => false,

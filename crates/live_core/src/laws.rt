@@ -55,7 +55,6 @@ pub fn live_run_is_shown()
 
 /// The headline, at a live core beside any run: where they agree on an operator's provisioning and own steps, the operator
 /// notices the same.
-#[tactic(auto, using(crate::proofs::LawLemmas::two_live))]
 pub fn two_live_cores()
     ensures { TwoLiveCores }
 {}

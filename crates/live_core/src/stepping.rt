@@ -27,23 +27,23 @@ impl LiveCore {
         &mut self,
         alloc: Global,
         op: Op,
-        action: &Action,
+        action: Action,
         outs: &mut Vec<Out>,
     ) -> Result<(), CoreFault>
         requires within { op < vec_len self.old.desks }
-        requires of_a_step { IsOfAStep self.old.routes op action.now }
+        requires of_a_step { IsOfAStep self.old.routes op action }
         ensures ok { OnOk result ((now : List Out) × (outs.new.items ≡ outs.old.items ++ now)
-            × GoesOn (Acts op action.now) (live_view self.old) (live_view self.new) now) }
+            × GoesOn (Acts op action) (live_view self.old) (live_view self.new) now) }
         ensures outs { OnErr result (outs.new.items ≡ outs.old.items) }
         ensures err { OnErr result (live_view self.new ≡ live_view self.old) }
-        ensures fault { IsTold result (act_fault op action.now (slice_get (map book_at self.old.desks.items) op)) }
+        ensures fault { IsTold result (act_fault op action (slice_get (map book_at self.old.desks.items) op)) }
     {
         self.always();
-        if self.desks[op].live.is_spent(action) {
+        if self.desks[op].live.is_spent(&action) {
             return Err(CoreFault::Book(BookFault::FramesSpent));
         }
         if outs
-            .reserve(self.desks[op].live.most_outputs(action))
+            .reserve(self.desks[op].live.most_outputs(&action))
             .is_err()
         {
             return Err(CoreFault::NoMemory);
@@ -62,15 +62,15 @@ impl LiveCore {
         &mut self,
         alloc: Global,
         op: Op,
-        action: &Action,
+        action: Action,
         outs: &mut Vec<Out>,
     ) -> Result<(), CoreFault>
-        requires { IsOfAStep self.old.routes op action.now }
+        requires { IsOfAStep self.old.routes op action }
         ensures ok { OnOk result ((now : List Out) × (outs.new.items ≡ outs.old.items ++ now)
-            × GoesOn (Acts op action.now) (live_view self.old) (live_view self.new) now) }
+            × GoesOn (Acts op action) (live_view self.old) (live_view self.new) now) }
         ensures outs { OnErr result (outs.new.items ≡ outs.old.items) }
         ensures err { OnErr result (live_view self.new ≡ live_view self.old) }
-        ensures fault { IsTold result (act_fault op action.now (slice_get (live_view self.old).books op)) }
+        ensures fault { IsTold result (act_fault op action (slice_get (live_view self.old).books op)) }
     {
         if op >= self.desks.len() {
             return Err(CoreFault::UnknownOperator { op });
@@ -94,7 +94,7 @@ impl LiveCore {
     {
         match self.routes.place_of(modem) {
             None => Err(CoreFault::UnknownModem { modem }),
-            Some(op) => self.act_if(alloc, op, &Action::Arrive { modem, heard }, outs),
+            Some(op) => self.act_if(alloc, op, Action::Arrive { modem, heard }, outs),
         }
     }
 
@@ -108,12 +108,10 @@ impl LiveCore {
         ensures fault { IsTold result (collect_fault op (slice_get (live_view self.old).queues op)) }
     {
         self.always();
-        let Some((number, elements)) = self.desks[op].waiting.front() else {
-            return Err(CoreFault::NothingToCollect { op });
-        };
-        let number = *number;
-        let Ok(elements) = elements.copy(alloc) else {
-            return Err(CoreFault::NoMemory);
+        let (number, elements) = match self.desks[op].oldest(alloc) {
+            Err(_) => return Err(CoreFault::NoMemory),
+            Ok(None) => return Err(CoreFault::NothingToCollect { op }),
+            Ok(Some(oldest)) => oldest,
         };
         if outs.reserve(1).is_err() {
             return Err(CoreFault::NoMemory);
@@ -121,7 +119,7 @@ impl LiveCore {
         match self.gather.put(alloc, op, number, elements) {
             Ok(made) => {
                 self.gather.kept();
-                let _collected = self.desks[op].waiting.pop_front();
+                self.desks[op].drop_oldest();
                 append_map(outs, made);
                 Ok(())
             }
@@ -159,8 +157,8 @@ impl LiveCore {
     {
         match step {
             Step::Arrive { modem, heard } => self.arrive(alloc, modem, heard, outs),
-            Step::Work { op } => self.act_if(alloc, op, &Action::Work, outs),
-            Step::Tick { op } => self.act_if(alloc, op, &Action::Tick, outs),
+            Step::Work { op } => self.act_if(alloc, op, Action::Work, outs),
+            Step::Tick { op } => self.act_if(alloc, op, Action::Tick, outs),
             Step::Collect { op } => self.collect(alloc, op, outs),
             Step::Reslice { from, rows } => self.reslice(alloc, from, rows.as_slice()),
         }

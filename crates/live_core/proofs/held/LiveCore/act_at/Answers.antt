@@ -15,7 +15,7 @@ invariant_of-self g c =
     let desks = c.args.self.now.desks in
     let desk = c.index_mut.result.now in
     record {
-      reached = acted_reaches c.act.result c.args.self.now.routes c.args.self.now.gather _ _ _ _ c.args.op c.args.action.now (book_at desk) _
+      reached = acted_reaches c.act.result c.args.self.now.routes c.args.self.now.gather _ _ _ _ c.args.op c.args.action (book_at desk) _
           c.always.ensures.plant c.requires.of_a_step
           (seen_at _ desks.items desks.len c.args.op desk desks.ok.0 c.requires.within c.index_mut.ensures.value)
           (seen_at _ desks.items desks.len c.args.op desk desks.ok.0 c.requires.within c.index_mut.ensures.value)
@@ -33,7 +33,7 @@ returns-in-Ok-clause-ok g c =
     let desk = c.index_mut.result.now in (
       under c.args.op c.in-Ok.told.items,
       c.append.ensures ∙ ap (λ (outs : List Out). outs ++ under c.args.op c.in-Ok.told.items) c.reserve.ensures.items,
-      acts_on c.args.self.now.routes c.args.self.now.gather _ _ _ _ c.args.op c.args.action.now (book_at desk) _ _
+      acts_on c.args.self.now.routes c.args.self.now.gather _ _ _ _ c.args.op c.args.action (book_at desk) _ _
           (seen_at _ desks.items desks.len c.args.op desk desks.ok.0 c.requires.within c.index_mut.ensures.value)
           (seen_at _ desks.items desks.len c.args.op desk desks.ok.0 c.requires.within c.index_mut.ensures.value)
           c.in-Ok.ensures.allowed
@@ -46,7 +46,7 @@ pub returns-in-Ok-clause-fault : goal.returns-in-Ok-clause-fault
 returns-in-Ok-clause-fault g c =
     let desks = c.args.self.now.desks in
     let desk = c.index.result.now in
-    not_spent c.args.op c.args.action.now _ (book_at desk)
+    not_spent c.args.op c.args.action _ (book_at desk)
     (seen_at _ desks.items desks.len c.args.op desk desks.ok.0 c.requires.within c.index.ensures) (sym c.is_spent.ensures ∙ c.if-is_spent.false)
 
 pub returns-in-Err-clause-err : goal.returns-in-Err-clause-err
@@ -61,5 +61,5 @@ pub returns-in-Err-clause-fault : goal.returns-in-Err-clause-fault
 returns-in-Err-clause-fault g c =
     let desks = c.args.self.now.desks in
     let desk = c.index.result.now in
-    not_spent c.args.op c.args.action.now _ (book_at desk)
+    not_spent c.args.op c.args.action _ (book_at desk)
     (seen_at _ desks.items desks.len c.args.op desk desks.ok.0 c.requires.within c.index.ensures) (sym c.is_spent.ensures ∙ c.if-is_spent.false)
