@@ -5,7 +5,7 @@ ghost use Rattle.std.specs.List.{position_from};
 ghost use Rattle.toml.specs.Parse.{parse_document};
 ghost use Rattle.slice_table.specs.ReadPlant.{text_plant};
 ghost use Rattle.plant_script.specs.One.{is_readable};
-ghost use Rattle.plant_script.specs.Script.{is_named, steps_of};
+ghost use Rattle.plant_lines.specs.Script.{is_named, steps_of};
 ghost use Rattle.plant_script.specs.Task.{RunsTo, asked, Comes};
 ghost use Rattle.plant_script.specs.Words.{AnswersSteps, AnswersOperator, AnswersPlant, AnswersInput};
 ghost use Rattle.plant_script.specs.declared.input.Stop.TheVariants.{Memory};
@@ -13,8 +13,7 @@ ghost use Rattle.plant_script.specs.declared.input.Stop.TheVariants.{Memory};
 use crate::answer::Answer;
 use crate::check::{answer_to_fault, answer_to_line, before_bar, plant_text, script_text};
 use crate::input::Stop;
-use crate::lines::LineFault;
-use crate::script::{LineStep, place_of, steps_of};
+use plant_lines::{LineFault, LineStep, place_of, steps_of};
 use slice_table::{Op, Plant, PlantFault, read_plant};
 use std::alloc::Global;
 
