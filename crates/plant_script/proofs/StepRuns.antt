@@ -13,9 +13,9 @@ use Rattle.plant_core.specs.declared.core_fault.CoreFault.{CoreFault}
 use Rattle.plant_core.specs.declared.core_fault.CoreFault.TheVariants.{UnknownModem, UnknownOperator, Book, Gather, NothingToCollect, NoMemory, Reslice}
 use Rattle.plant_core.specs.Faults.{step_fault, IsTold}
 use Rattle.plant_lines.specs.declared.script.LineStep.{LineStep}
-use Rattle.plant_script.specs.declared.answer.Answer.{Answer}
 use Rattle.plant_lines.specs.Script.{unnumbered}
 use Rattle.plant_lines.specs.Text.{out_line, outs_text, actions_text}
+use Rattle.plant_script.specs.declared.answer.Answer.{Answer}
 use Rattle.plant_script.specs.Run.{last_line, IsEnd, IsRunOf}
 use Rattle.plant_script.specs.Task.{history_at, IsEnded}
 use Rattle.plant_script.specs.DoneSoFar.{IsRefused, HasRun, IsHalfDone, book_text}

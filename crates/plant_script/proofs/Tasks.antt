@@ -7,11 +7,11 @@ use Rattle.std.proofs.lemmas.Bool.{cases_Bool}
 use Rattle.slice_table.specs.declared.operator_row.RowFields.{RowFields}
 use Rattle.slice_table.specs.declared.plant.PlantFields.{PlantFields}
 use Rattle.plant_lines.specs.declared.script.LineStep.{LineStep}
+use Rattle.plant_lines.specs.Text.{history_text}
 use Rattle.plant_script.specs.declared.task.Told.TheVariants.{History}
 use Rattle.plant_script.specs.declared.task.Task.{Task}
 use Rattle.plant_script.specs.declared.task.Served.{Served}
 use Rattle.plant_script.specs.declared.task.Served.TheVariants as served
-use Rattle.plant_lines.specs.Text.{history_text}
 use Rattle.plant_script.specs.Run.{IsRunOf}
 use Rattle.plant_script.specs.Task.{history_at, RunsTo, Comes}
 use Rattle.plant_words.specs.Order.{Order, order_of}

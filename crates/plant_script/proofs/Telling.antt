@@ -19,10 +19,10 @@ use Rattle.plant_receipts.specs.declared.receipt.Receipt.{Receipt}
 use Rattle.plant_receipts.specs.declared.run_fault.RunFault.{RunFault}
 use Rattle.plant_outcomes.specs.Outcome.{IsOutcome}
 use Rattle.plant_outcomes.specs.Outs.{outs_from, outs_of}
-use Rattle.plant_script.specs.declared.answer.Answer.{Answer}
 use Rattle.plant_lines.specs.declared.script.LineStep.{LineStep}
 use Rattle.plant_lines.specs.Script.{unnumbered}
 use Rattle.plant_lines.specs.Text.{named, map_line, out_line, output_line, outs_text}
+use Rattle.plant_script.specs.declared.answer.Answer.{Answer}
 use Rattle.plant_script.specs.OnThreads.{TellsFault, IsThreadedRunOf}
 
 -- what is left of a list, seen by f, begins with what is read

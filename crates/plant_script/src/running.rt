@@ -5,8 +5,8 @@ ghost use Rattle.std.specs.String.{string_bytes};
 ghost use Rattle.plant_runs.specs.Reached.{Reached};
 ghost use Rattle.plant_core.specs.declared.core_fault.CoreFault.TheVariants.{NoMemory};
 ghost use Rattle.plant_core.specs.CoreView.{core_view};
-ghost use Rattle.plant_script.specs.DoneSoFar.{HasRun, book_text};
 ghost use Rattle.plant_lines.specs.Text.{outs_text};
+ghost use Rattle.plant_script.specs.DoneSoFar.{HasRun, book_text};
 ghost use Rattle.plant_script.specs.Run.{IsRunOf};
 ghost use Rattle.plant_script.specs.Task.{history_at, RunsTo, IsEnded};
 
