@@ -12,9 +12,11 @@ use Rattle.plant_runs.specs.Reached.{CoreView, Reached}
 use Rattle.plant_core.specs.declared.core_fault.CoreFault.{CoreFault}
 use Rattle.plant_core.specs.declared.core_fault.CoreFault.TheVariants.{UnknownModem, UnknownOperator, Book, Gather, NothingToCollect, NoMemory, Reslice}
 use Rattle.plant_core.specs.Faults.{step_fault, IsTold}
-use Rattle.plant_script.specs.declared.script.LineStep.{LineStep}
+use Rattle.plant_lines.specs.declared.script.LineStep.{LineStep}
+use Rattle.plant_lines.specs.Script.{unnumbered}
+use Rattle.plant_lines.specs.Text.{out_line, outs_text, actions_text}
 use Rattle.plant_script.specs.declared.answer.Answer.{Answer}
-use Rattle.plant_script.specs.Run.{steps_in, out_line, outs_text, actions_text, last_line, IsEnd, IsRunOf}
+use Rattle.plant_script.specs.Run.{last_line, IsEnd, IsRunOf}
 use Rattle.plant_script.specs.Task.{history_at, IsEnded}
 use Rattle.plant_script.specs.DoneSoFar.{IsRefused, HasRun, IsHalfDone, book_text}
 
@@ -60,15 +62,15 @@ module _ (plant : PlantFields) (lines : List LineStep) (say : List Out → List 
     (half : IsHalfDone plant lines say old text (line ∷ rest))
     (reached : (before : List Step) (told : List Out) → Reached old.plant before told old → Reached old.plant (before ++ line.step ∷ []) (told ++ now) new) where
   before : List Step
-  before = steps_in (take half.at lines)
+  before = unnumbered (take half.at lines)
 
-  steps_more : before ++ line.step ∷ [] ≡ steps_in (take (suc half.at) lines)
+  steps_more : before ++ line.step ∷ [] ≡ unnumbered (take (suc half.at) lines)
   unfolding before
   steps_more =
       sym (map-append (λ (l : LineStep). l.step) (take half.at lines) (line ∷ []))
-      ∙ ap steps_in (sym (take_next lines half.at line rest half.left_are))
+      ∙ ap unnumbered (sym (take_next lines half.at line rest half.left_are))
 
-  pub reached_more : Reached plant (steps_in (take (suc half.at) lines)) (half.done.outs ++ now) new
+  pub reached_more : Reached plant (unnumbered (take (suc half.at) lines)) (half.done.outs ++ now) new
   unfolding before steps_more
   reached_more =
       let same = half.done.reached.plant_is in
@@ -166,5 +168,5 @@ history_written plant lines op refused core answer run ended =
       core = core;
       reached = run.done.reached;
       ends = end.0;
-      text_is = end.1 ∙ ap (λ (t : List ℕ). t ++ last_line (slice_get lines run.at)) (history_is plant (steps_in (take run.at lines)) run.done.outs core op (slice_get plant.rows op) run.done.reached refl);
+      text_is = end.1 ∙ ap (λ (t : List ℕ). t ++ last_line (slice_get lines run.at)) (history_is plant (unnumbered (take run.at lines)) run.done.outs core op (slice_get plant.rows op) run.done.reached refl);
     }

@@ -1,17 +1,18 @@
 -- What a task's run answers.
-use Rattle.std.proofs.Common.{◌≡◌, ℕ, suc, ◌+◌, inl, inr, Bool, List, [], ◌∷◌, Option, Some, None, Result, Ok, Err, IfOk, IfSome, sym, subst, arith, refl}
+use Rattle.std.proofs.Common.{◌≡◌, ℕ, suc, ◌+◌, inl, inr, Bool, List, [], ◌∷◌, Option, Some, None, Result, Ok, IfSome, sym, subst, arith, refl}
 use Rattle.std.specs.Prelude.{slice_get}
 use Rattle.std.specs.Io.KnownBytes.{Appends}
 use Rattle.std.specs.List.{position_from}
 use Rattle.std.proofs.lemmas.Bool.{cases_Bool}
 use Rattle.slice_table.specs.declared.operator_row.RowFields.{RowFields}
 use Rattle.slice_table.specs.declared.plant.PlantFields.{PlantFields}
-use Rattle.plant_script.specs.declared.script.LineStep.{LineStep}
+use Rattle.plant_lines.specs.declared.script.LineStep.{LineStep}
+use Rattle.plant_lines.specs.Text.{history_text}
 use Rattle.plant_script.specs.declared.task.Told.TheVariants.{History}
 use Rattle.plant_script.specs.declared.task.Task.{Task}
 use Rattle.plant_script.specs.declared.task.Served.{Served}
 use Rattle.plant_script.specs.declared.task.Served.TheVariants as served
-use Rattle.plant_script.specs.Run.{history_text, IsRunOf}
+use Rattle.plant_script.specs.Run.{IsRunOf}
 use Rattle.plant_script.specs.Task.{history_at, RunsTo, Comes}
 use Rattle.plant_words.specs.Order.{Order, order_of}
 use Rattle.plant_words.specs.declared.asked.Word.{Word}
@@ -51,10 +52,6 @@ pub comes_of_operator : (plant : PlantFields) (op : ℕ) (row : RowFields) (line
     × AnswersSteps (λ ran. IsRunOf plant ran (λ done told. history_text row op done)) lines status text)
 comes_of_operator plant op row lines (served.Answer answer) here h = (row, here, subst (TellsOf plant op lines answer.status answer.text.items) here h)
 comes_of_operator plant op row lines (served.Task task) here h = λ status text run. (row, here, subst (TellsOf plant op lines status text) here (h status text run))
-
-pub if_ok : {T E : Type 0} (r : Result T E) (P Q : T → Type 0) → ((x : T) → P x → Q x) → IfOk r P → IfOk r Q
-if_ok (Ok x) P Q f h = f x h
-if_ok (Err e) P Q f h = tt
 
 -- the word that was read is the order
 pub same_order : (order : Order) (read : Result Word WordsFault) (word : Word) → GivesOrder order read → read ≡ Ok word → order_of word ≡ order

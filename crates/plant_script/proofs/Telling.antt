@@ -19,9 +19,10 @@ use Rattle.plant_receipts.specs.declared.receipt.Receipt.{Receipt}
 use Rattle.plant_receipts.specs.declared.run_fault.RunFault.{RunFault}
 use Rattle.plant_outcomes.specs.Outcome.{IsOutcome}
 use Rattle.plant_outcomes.specs.Outs.{outs_from, outs_of}
+use Rattle.plant_lines.specs.declared.script.LineStep.{LineStep}
+use Rattle.plant_lines.specs.Script.{unnumbered}
+use Rattle.plant_lines.specs.Text.{named, map_line, out_line, output_line, outs_text}
 use Rattle.plant_script.specs.declared.answer.Answer.{Answer}
-use Rattle.plant_script.specs.declared.script.LineStep.{LineStep}
-use Rattle.plant_script.specs.Run.{named, map_line, out_line, output_line, outs_text, steps_in}
 use Rattle.plant_script.specs.OnThreads.{TellsFault, IsThreadedRunOf}
 
 -- what is left of a list, seen by f, begins with what is read
@@ -90,7 +91,7 @@ all_told plant books these maps those start first second empty begun grown same_
 
 -- what is told of a run that is settled, by a plant that is the same
 pub settled_run : (plant shown : PlantFields) (lines : List LineStep) (steps : List Step) (books : List BookView) (receipts : List (List (List Receipt)))
-    (maps : List MapBytes) (answer : Answer) → shown ≡ plant → steps ≡ steps_in lines → IsOutcome plant steps books receipts maps
+    (maps : List MapBytes) (answer : Answer) → shown ≡ plant → steps ≡ unnumbered lines → IsOutcome plant steps books receipts maps
     → (answer.status ≡ 0) × (answer.text.items ≡ outs_text shown (outs_of books maps)) → IsThreadedRunOf plant lines answer.status answer.text.items
 settled_run plant shown lines steps books receipts maps answer same are outcome told = inl (
   told.0,

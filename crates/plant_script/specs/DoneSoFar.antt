@@ -5,13 +5,14 @@ use Rattle.operator_machine.specs.Replay.{BookView, actions_of}
 use Rattle.plant_runs.specs.declared.step.Out.{Out}
 use Rattle.plant_runs.specs.Reached.{CoreView, Reached}
 use Rattle.plant_core.specs.Faults.{step_fault}
-use Rattle.plant_script.specs.declared.script.LineStep.{LineStep}
-use Rattle.plant_script.specs.Run.{steps_in, actions_text}
+use Rattle.plant_lines.specs.declared.script.LineStep.{LineStep}
+use Rattle.plant_lines.specs.Script.{unnumbered}
+use Rattle.plant_lines.specs.Text.{actions_text}
 
 -- the steps of these lines are done, and what is said of their outputs is written
 pub record AreDone (plant : PlantFields) (lines : List LineStep) (say : List Out → List ℕ) (core : CoreView) (text : List ℕ) : Type 0 where
   pub outs : List Out
-  pub reached : Reached plant (steps_in lines) outs core
+  pub reached : Reached plant (unnumbered lines) outs core
   pub text_is : text ≡ say outs
 
 -- no line is refused where no step is left; else the one whose step the core refuses, told by its number

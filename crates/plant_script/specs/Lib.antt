@@ -1,14 +1,8 @@
-pub mod Lines
 pub mod OperatorA
 pub mod Words
 pub mod One
 pub mod View
-pub mod Fields
-pub mod Script
-pub mod StepsSoFar
 pub mod Check
-pub mod LineFault
-pub mod SaidSoFar
 pub mod RunSoFar
 pub mod Run
 pub mod DoneSoFar

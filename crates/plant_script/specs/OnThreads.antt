@@ -12,8 +12,9 @@ use Rattle.plant_receipts.specs.declared.run_fault.RunFault.TheVariants as fault
 use Rattle.plant_outcomes.specs.Outcome.{IsOutcome}
 use Rattle.plant_outcomes.specs.Outs.{outs_of}
 use Rattle.plant_walks.specs.Spending.{NoneSpentBefore, IsFirstSpent}
-use Rattle.plant_script.specs.declared.script.LineStep.{LineStep}
-use Rattle.plant_script.specs.Run.{named, outs_text, steps_in}
+use Rattle.plant_lines.specs.declared.script.LineStep.{LineStep}
+use Rattle.plant_lines.specs.Script.{unnumbered}
+use Rattle.plant_lines.specs.Text.{named, outs_text}
 
 -- ---- a run that is settled
 
@@ -24,7 +25,7 @@ pub record HasSettled (plant : PlantFields) (lines : List LineStep) (text : List
   pub books : List BookView
   pub receipts : List (List (List Receipt))
   pub maps : List MapBytes
-  pub outcome : IsOutcome plant (steps_in lines) books receipts maps
+  pub outcome : IsOutcome plant (unnumbered lines) books receipts maps
   pub text_is : text ≡ outs_text plant (outs_of books maps)
 
 -- ---- the line of a step that is refused
@@ -74,7 +75,7 @@ TellsLine None status text = (status ≡ 7) × (text ≡ stray_line (codes "-") 
 -- the line of the first Tick that finds its operator's frame numbers spent
 abbrev pub TellsSpent : PlantFields → List LineStep → ℕ → List ℕ → Type 0
 TellsSpent plant lines status text =
-    (spent : Option ℕ) × IsSpentPlace plant (steps_in lines) spent × TellsLine (number_at lines spent) status text
+    (spent : Option ℕ) × IsSpentPlace plant (unnumbered lines) spent × TellsLine (number_at lines spent) status text
 
 -- A fault is told by one line: 7 where what the threads did is not what the steps say, with the operator and the place in
 -- its history, or `-` and the frame of a MAP; 4 where a step is refused, a tick too many or other slices.

@@ -1,43 +1,20 @@
 -- What `one` writes, as a function of what it reads (own): lines to messages, messages to outputs, outputs to text.
-use Rattle.std.specs.Prelude.{◌==◌, ℕ, ◌+◌, ◌&&◌, Bool, true, false, List, [], ◌∷◌, ◌++◌, length, Option, Some, None, Result, Ok, Err, nat_le, if◌then◌else◌, codes}
+use Rattle.std.specs.Prelude.{ℕ, ◌&&◌, Bool, List, [], ◌∷◌, ◌++◌, length, Result, Ok, Err, nat_le, if◌then◌else◌, codes}
 use Rattle.std.specs.List.{flat_map}
-use Rattle.std.specs.Result.{result_ok}
-use Rattle.std.specs.Str.{bytes_eq, is_utf8}
+use Rattle.std.specs.Str.{is_utf8}
 use Rattle.std.specs.Fmt.{decimal}
-use Rattle.hex.specs.Hex.{decode_of, encode_upper}
+use Rattle.hex.specs.Hex.{encode_upper}
 use Rattle.operator_machine.specs.declared.heard.Heard.TheVariants as heards
 use Rattle.operator_machine.specs.declared.action.Action.{Action}
 use Rattle.operator_machine.specs.declared.action.Action.TheVariants.{Arrive, Work}
-use Rattle.operator_machine.specs.declared.output.Cause.{Cause}
-use Rattle.operator_machine.specs.declared.output.Cause.TheVariants.{InboxFull, Idle, Empty, NotOurs, Short, TidInUse, UnknownAck, NoSuchSid, NotRequesting}
 use Rattle.operator_machine.specs.declared.output.Output.{Output}
 use Rattle.operator_machine.specs.declared.output.Output.TheVariants.{Reply, Silent, Frame}
 use Rattle.operator_machine.specs.State.{opened, operator}
 use Rattle.operator_machine.specs.Machine.{own_run}
-use Rattle.plant_script.specs.Lines.{lines_of}
+use Rattle.plant_lines.specs.Lines.{lines_of}
+use Rattle.plant_lines.specs.Messages.{messages_of}
+use Rattle.plant_lines.specs.Causes.{name_of}
 use Rattle.plant_script.specs.OperatorA.{first_modem, row_a, consts_a}
-
--- ---- lines to messages
-
--- a message in a line: `-` for no byte, else hexadecimal
-abbrev pub message_in : List ℕ → Option (List ℕ)
-message_in line = if bytes_eq line (codes "-") then Some [] else result_ok (decode_of line)
-
--- the messages of lines, after those before them; else the number of the first line at fault. Empty lines count, and say nothing.
-abbrev pub messages_after : ℕ → List (List ℕ) → List (List ℕ) → Result (List (List ℕ)) ℕ
-messages_after number messages [] = Ok messages
-messages_after number messages (line ∷ lines) =
-    elim (length line == 0) [
-      | true ↦ messages_after (number + 1) messages lines
-      | false ↦ elim (message_in line) [
-        | None ↦ Err number
-        | Some message ↦ messages_after (number + 1) (messages ++ message ∷ []) lines
-      ]
-    ]
-
--- lines are counted from 1
-abbrev pub messages_of : List (List ℕ) → Result (List (List ℕ)) ℕ
-messages_of lines = messages_after 1 [] lines
 
 -- ---- messages to outputs
 
@@ -49,17 +26,6 @@ abbrev pub outputs_of : List (List ℕ) → List Output
 outputs_of messages = (own_run (operator consts_a row_a (opened consts_a row_a)) (actions_of messages)).outputs
 
 -- ---- outputs to text
-
-abbrev pub name_of : Cause → List ℕ
-name_of InboxFull = codes "InboxFull"
-name_of Idle = codes "Idle"
-name_of Empty = codes "Empty"
-name_of NotOurs = codes "NotOurs"
-name_of Short = codes "Short"
-name_of TidInUse = codes "TidInUse"
-name_of UnknownAck = codes "UnknownAck"
-name_of NoSuchSid = codes "NoSuchSid"
-name_of NotRequesting = codes "NotRequesting"
 
 -- a reply in upper-case hexadecimal; or S and the cause. A frame has no line: nothing ticks here.
 abbrev pub line_of : Output → List ℕ

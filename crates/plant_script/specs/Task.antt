@@ -4,15 +4,16 @@ use Rattle.std.specs.Fmt.{decimal}
 use Rattle.slice_table.specs.declared.operator_row.RowFields.{RowFields}
 use Rattle.slice_table.specs.declared.plant.PlantFields.{PlantFields}
 use Rattle.plant_runs.specs.declared.step.Step.{Step}
+use Rattle.plant_lines.specs.declared.script.LineStep.{LineStep}
+use Rattle.plant_lines.specs.Text.{outs_text, history_text}
 use Rattle.plant_script.specs.declared.answer.Answer.{Answer}
 use Rattle.plant_script.specs.declared.task.Told.{Told}
-use Rattle.plant_script.specs.declared.script.LineStep.{LineStep}
 use Rattle.plant_script.specs.declared.task.Told.TheVariants.{Outs, History, Threads}
 use Rattle.plant_script.specs.declared.task.Wanted.{Wanted}
 use Rattle.plant_script.specs.declared.task.Wanted.TheVariants as wanted
 use Rattle.plant_script.specs.declared.task.Served.{Served}
 use Rattle.plant_script.specs.declared.task.Served.TheVariants as served
-use Rattle.plant_script.specs.Run.{outs_text, history_text, IsRunOf}
+use Rattle.plant_script.specs.Run.{IsRunOf}
 use Rattle.plant_script.specs.OnThreads.{IsThreadedRunOf}
 use Rattle.plant_script.specs.Words.{AnswersRun, AnswersThreads, AnswersHistory}
 

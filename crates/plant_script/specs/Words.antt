@@ -7,14 +7,15 @@ use Rattle.slice_table.specs.declared.operator_row.RowFields.{RowFields}
 use Rattle.slice_table.specs.declared.plant.PlantFields.{PlantFields}
 use Rattle.slice_table.specs.declared.plant_fault.PlantFault.{PlantFault}
 use Rattle.slice_table.specs.ReadPlant.{text_plant}
-use Rattle.plant_script.specs.declared.script.LineStep.{LineStep}
+use Rattle.plant_lines.specs.declared.script.LineStep.{LineStep}
 use Rattle.plant_words.specs.declared.asked.WordsFault.{WordsFault}
 use Rattle.plant_words.specs.declared.asked.WordsFault.TheVariants as faults
 use Rattle.plant_words.specs.Order.{Order, one, check, run, threads, history}
+use Rattle.plant_lines.specs.Script.{is_named, steps_of}
+use Rattle.plant_lines.specs.Text.{outs_text, history_text}
 use Rattle.plant_script.specs.One.{Answer, is_readable, answer_of}
 use Rattle.plant_script.specs.Check.{plant_text, script_text, answer_to_steps, answer_to_plant, check_of}
-use Rattle.plant_script.specs.Script.{is_named, steps_of}
-use Rattle.plant_script.specs.Run.{outs_text, history_text, IsRunOf}
+use Rattle.plant_script.specs.Run.{IsRunOf}
 use Rattle.plant_script.specs.OnThreads.{IsThreadedRunOf}
 
 -- ---- no answer

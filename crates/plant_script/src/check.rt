@@ -4,15 +4,14 @@ ghost use Rattle.std.specs.Prelude.{◌≡◌, ◌≤◌, ◌++◌, ◌∷◌, [
 ghost use Rattle.std.specs.Fmt.{decimal};
 ghost use Rattle.std.specs.Str.{is_utf8};
 ghost use Rattle.std.specs.String.{string_bytes};
+ghost use Rattle.plant_lines.specs.Script.{steps_of};
 ghost use Rattle.plant_script.specs.Check.{is_bar, before_bar, plant_text, script_text, fault_text, answer_to_steps, check_of};
 ghost use Rattle.plant_script.specs.One.{is_readable};
-ghost use Rattle.plant_script.specs.Script.{steps_of};
 ghost use Rattle.plant_script.specs.declared.input.Stop.TheVariants.{Memory};
 
 use crate::answer::Answer;
 use crate::input::Stop;
-use crate::lines::LineFault;
-use crate::script::steps_of;
+use plant_lines::{LineFault, steps_of};
 use slice_table::{Plant, PlantFault, read_plant};
 use std::alloc::{AllocError, Global};
 

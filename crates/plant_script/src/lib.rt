@@ -7,18 +7,13 @@
 mod answer;
 mod check;
 mod command;
-mod digits;
-mod fields;
 mod input;
-mod lines;
 mod on_threads;
 mod one;
 mod operator_a;
 mod program;
 mod running;
-mod script;
 mod task;
-mod text;
 
 pub use command::{behind_name, exit_code};
 pub use program::{run_program, run_program_with_reasons};

@@ -6,17 +6,17 @@ ghost use Rattle.std.specs.String.{string_bytes};
 ghost use Rattle.operator_book.specs.ViewOf.{view_of, policy_of};
 ghost use Rattle.plant_outcomes.specs.Outs.{outs_from, outs_of};
 ghost use Rattle.plant_receipts.specs.OwnParts.{outputs_of};
-ghost use Rattle.plant_script.specs.Run.{named, map_line, output_line, outs_text, steps_in};
+ghost use Rattle.plant_lines.specs.Script.{unnumbered};
+ghost use Rattle.plant_lines.specs.Text.{named, map_line, output_line, outs_text};
 ghost use Rattle.plant_script.specs.OnThreads.{IsThreadedRunOf, TellsFault, TellsLine, TellsSpent, number_at, place_text, resliced_in, stray_line};
 
 use crate::answer::Answer;
 use crate::check::answer_to_line;
-use crate::script::LineStep;
-use crate::text::{put_map, put_name, put_output};
 use grant_policy::Ranking;
 use map_assembly::MapBytes;
 use operator_book::{Book, Entry, Output};
 use plant_core::CoreFault;
+use plant_lines::{LineStep, put_map, put_name, put_output};
 use plant_receipts::{RunFault, Settled};
 use plant_runs::Step;
 use plant_walks::first_spent;
@@ -28,7 +28,7 @@ use std::thread::Threads;
 
 /// The steps of lines, with memory of their own.
 fn steps_in(alloc: Global, lines: &[LineStep]) -> Result<Vec<Step>, AllocError>
-    ensures { IfOk result (λ steps. steps.items ≡ steps_in lines.now) }
+    ensures { IfOk result (λ steps. steps.items ≡ unnumbered lines.now) }
 {
     let mut steps = Vec::with_capacity(alloc, lines.len())?;
     for line in lines {

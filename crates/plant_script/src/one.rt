@@ -4,33 +4,17 @@ ghost use Rattle.std.specs.Prelude.{◌≡◌, ◌++◌, [], ◌∷◌, IfOk, On
 ghost use Rattle.operator_machine.specs.State.{operator};
 ghost use Rattle.operator_machine.specs.Machine.{own_step, own_run, IsAllowed};
 ghost use Rattle.plant_script.specs.OperatorA.{row_a, consts_a};
-ghost use Rattle.plant_script.specs.One.{actions_of, outputs_of, name_of, line_of, text_of};
+ghost use Rattle.plant_script.specs.One.{actions_of, outputs_of, line_of, text_of};
 ghost use Rattle.operator_book.specs.ViewOf.{view_of};
 ghost use Rattle.plant_script.specs.View.{IsOfA};
 
 use crate::operator_a::{consts_a, first_modem, row_a};
 use grant_policy::{Policy, RankInput, Ranking, rank_by};
 use hex::encode_upper;
-use operator_book::{Action, Book, BookFault, Cause, Heard, OpenFault, Output};
+use operator_book::{Action, Book, BookFault, Heard, OpenFault, Output};
+use plant_lines::name_of;
 use std::alloc::{AllocError, Global};
 use tlv24::Bytes;
-
-/// The name of a cause, as it is written.
-pub fn name_of(cause: Cause) -> &'static str
-    ensures { result.now ≡ name_of cause }
-{
-    match cause {
-        Cause::InboxFull => "InboxFull",
-        Cause::Idle => "Idle",
-        Cause::Empty => "Empty",
-        Cause::NotOurs => "NotOurs",
-        Cause::Short => "Short",
-        Cause::TidInUse => "TidInUse",
-        Cause::UnknownAck => "UnknownAck",
-        Cause::NoSuchSid => "NoSuchSid",
-        Cause::NotRequesting => "NotRequesting",
-    }
-}
 
 /// The line of an output.
 fn put_line(alloc: Global, text: &mut Vec<u8>, output: &Output) -> Result<(), AllocError>

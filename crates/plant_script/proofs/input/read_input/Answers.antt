@@ -1,6 +1,6 @@
 use Rattle.std.proofs.Common.{List, ℕ, subst}
 use Rattle.std.specs.Str.{IsUtf8}
-use Rattle.plant_script.proofs.Splits.{readable}
+use Rattle.plant_script.proofs.Unreadable.{readable}
 use Rattle.plant_script.proofs.input.read_input.Goals as goal
 
 pub returns-in-Ok-clause-read : goal.returns-in-Ok-clause-read

@@ -1,7 +1,7 @@
 use Rattle.std.proofs.Common.{map, ap, ◌∙◌}
 use Rattle.operator_book.specs.ViewOf.{view_of}
-use Rattle.plant_script.specs.Run.{steps_in}
-use Rattle.plant_script.proofs.Tasks.{if_ok}
+use Rattle.plant_lines.specs.Script.{unnumbered}
+use Rattle.plant_lines.proofs.Outcomes.{if_ok}
 use Rattle.plant_script.proofs.Telling.{settled_run, fault_run}
 use Rattle.plant_script.proofs.on_threads.answer_of_threads.Goals as goal
 
@@ -10,7 +10,7 @@ returns-in-Ok g c =
     let settled = c.in-Ok.settled in
     if_ok c.answer_of_settled.result _ _
     (λ answer told. settled_run c.args.plant c.in_ok-shown.shown c.args.lines.items c.in_ok-steps.steps.items (map view_of settled.books.items) settled.receipts.items settled.maps.items answer
-    c.in_ok-shown.ensures (c.in_ok-steps.ensures ∙ ap steps_in c.as_slice.ensures.value) c.in-Ok.ensures.ok told)
+    c.in_ok-shown.ensures (c.in_ok-steps.ensures ∙ ap unnumbered c.as_slice.ensures.value) c.in-Ok.ensures.ok told)
     c.answer_of_settled.ensures
 
 pub returns : goal.returns

@@ -1,6 +1,6 @@
 use Rattle.std.proofs.Common.{◌≡◌, take}
-use Rattle.plant_script.specs.Run.{steps_in}
+use Rattle.plant_lines.specs.Script.{unnumbered}
 use Rattle.plant_script.proofs.on_threads.steps_in.Given as goal
 
 abbrev pub invariant-loop-line : goal.invariant-loop-line
-invariant-loop-line l = l.steps.items ≡ steps_in (take l.line-index l.lines)
+invariant-loop-line l = l.steps.items ≡ unnumbered (take l.line-index l.lines)

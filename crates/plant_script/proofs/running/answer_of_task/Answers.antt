@@ -1,8 +1,9 @@
 use Rattle.std.proofs.Common.{sym, subst}
 use Rattle.std.specs.Prelude.{slice_get}
 use Rattle.slice_table.specs.declared.plant.PlantFields.{PlantFields}
+use Rattle.plant_lines.specs.Text.{outs_text}
 use Rattle.plant_script.specs.declared.task.Told.{Told}
-use Rattle.plant_script.specs.Run.{outs_text, IsRunOf}
+use Rattle.plant_script.specs.Run.{IsRunOf}
 use Rattle.plant_script.specs.Task.{history_at, RunsTo}
 use Rattle.plant_script.proofs.running.answer_of_task.Goals as goal
 

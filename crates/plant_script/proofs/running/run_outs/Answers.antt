@@ -6,8 +6,8 @@ use Rattle.plant_runs.specs.declared.step.Out.{Out}
 use Rattle.plant_core.specs.CoreView.{core_view}
 use Rattle.plant_core.specs.Faults.{step_fault}
 use Rattle.std.specs.String.{string_bytes}
-use Rattle.plant_script.specs.Run.{outs_text}
-use Rattle.plant_script.proofs.Tasks.{if_ok}
+use Rattle.plant_lines.specs.Text.{outs_text}
+use Rattle.plant_lines.proofs.Outcomes.{if_ok}
 use Rattle.plant_script.proofs.StepRuns.{outs_more, all_done, line_refused, fault_is_told}
 use Rattle.plant_script.proofs.running.run_outs.Goals as goal
 

@@ -2,7 +2,7 @@ use Rattle.std.proofs.Common.{◌≡◌, length}
 use Rattle.std.specs.String.{string_bytes}
 use Rattle.std.specs.Vec.Iter.{into_iter_items, into_iter_len}
 use Rattle.plant_core.specs.CoreView.{core_view}
-use Rattle.plant_script.specs.Run.{outs_text}
+use Rattle.plant_lines.specs.Text.{outs_text}
 use Rattle.plant_script.specs.DoneSoFar.{IsHalfDone}
 use Rattle.plant_script.proofs.running.run_outs.Given as goal
 

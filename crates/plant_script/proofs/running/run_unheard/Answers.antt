@@ -5,7 +5,7 @@ use Rattle.std.specs.Global.{Vec}
 use Rattle.plant_runs.specs.declared.step.Out.{Out}
 use Rattle.plant_core.specs.CoreView.{core_view}
 use Rattle.plant_core.specs.Faults.{step_fault}
-use Rattle.plant_script.proofs.Tasks.{if_ok}
+use Rattle.plant_lines.proofs.Outcomes.{if_ok}
 use Rattle.plant_script.proofs.StepRuns.{unheard_more, all_done, line_refused, fault_is_told}
 use Rattle.plant_script.proofs.running.run_unheard.Goals as goal
 

@@ -1,9 +1,10 @@
 use Rattle.std.proofs.Common.{◌≡◌, ℕ, Option, Some, sym, subst}
 use Rattle.std.specs.List.{position_from}
-use Rattle.plant_script.specs.Script.{is_named, steps_of}
+use Rattle.plant_lines.specs.Script.{is_named, steps_of}
+use Rattle.plant_lines.proofs.Outcomes.{if_ok}
 use Rattle.plant_script.specs.Task.{Comes}
 use Rattle.plant_script.specs.Words.{AnswersOperator}
-use Rattle.plant_script.proofs.Tasks.{found_at, comes_of_operator, if_ok}
+use Rattle.plant_script.proofs.Tasks.{found_at, comes_of_operator}
 use Rattle.plant_script.proofs.task.task_of_operator.Goals as goal
 
 pub returns-in-Some-clause-value : goal.returns-in-Some-clause-value

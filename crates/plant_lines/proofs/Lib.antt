@@ -1,0 +1,4 @@
+pub mod Marked
+pub mod Outcomes
+pub mod Scripts
+pub mod Splits

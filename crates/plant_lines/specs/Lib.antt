@@ -1,0 +1,9 @@
+pub mod Lines
+pub mod Messages
+pub mod Fields
+pub mod Script
+pub mod Causes
+pub mod Text
+pub mod LineFault
+pub mod SaidSoFar
+pub mod StepsSoFar

@@ -1,0 +1,102 @@
+//! Numbers and addresses, their digits written in place.
+
+ghost use Rattle.std.specs.Prelude.{◌≡◌, ◌+◌, ◌<◌, ◌≤◌, [], ◌∷◌, ◌++◌, drop, length, OnOk, IsAscii};
+ghost use Rattle.std.specs.Fmt.{decimal};
+ghost use Rattle.std.specs.String.{string_bytes};
+ghost use Rattle.dsx_messages.specs.Modem.{hex_digit, hex_pair};
+ghost use Rattle.plant_lines.specs.Text.{address, spaced, span_text, pending_text};
+
+use dsx_messages::Modem;
+use itoa::write_digits;
+use slice_scheduler::Span;
+use std::alloc::AllocError;
+
+/// The most bytes of a span behind a space: four numbers of at most 5 digits, each behind a mark.
+const SPAN_ROOM: usize = 24;
+
+/// The bytes of a number behind a space, at most.
+const PENDING_ROOM: usize = 6;
+
+/// Adds the characters from a place on, all of them ASCII.
+fn put_from(text: &mut String, room: &[u8], place: usize) -> Result<(), AllocError>
+    requires within { place ≤ length room.now }
+    requires ascii { IsAscii (drop place room.now) }
+    ensures { OnOk result (string_bytes text.new ≡ string_bytes text.old ++ drop place room.now) }
+{
+    let (_before, written) = room.split_at(place);
+    match str::from_utf8(written) {
+        Ok(written) => text.push_str(written),
+        Err(_) => unreachable!(),
+    }
+}
+
+/// Writes a mark and the digits of a number behind it, up to a place. Answers where the mark stands.
+fn write_marked(room: &mut [u8], mark: u8, number: u16, end: usize) -> usize
+    requires { (6 ≤ end) × (end ≤ length room.old) }
+    ensures start { (end ≤ result + 6) × (result < end) }
+    ensures written { drop result room.new ≡ mark ∷ (decimal number ++ drop end room.old) }
+    ensures ascii { mark < 128 → IsAscii (drop end room.old) → IsAscii (drop result room.new) }
+{
+    let start = write_digits(u64::from(number), room, end) - 1;
+    room[start] = mark;
+    start
+}
+
+/// A span behind a space.
+pub(crate) fn put_span(text: &mut String, span: Span) -> Result<(), AllocError>
+    ensures { OnOk result (string_bytes text.new ≡ string_bytes text.old ++ spaced (span_text span)) }
+{
+    let Span {
+        sid,
+        iuc,
+        start,
+        len,
+    } = span;
+    let mut room = [0u8; SPAN_ROOM];
+    let place = write_marked(&mut room, b'/', len, SPAN_ROOM);
+    let place = write_marked(&mut room, b'/', start, place);
+    let place = write_marked(&mut room, b'/', u16::from(iuc.number()), place);
+    let place = write_marked(&mut room, b' ', sid, place);
+    put_from(text, &room, place)
+}
+
+/// A grant pending behind a space.
+pub(crate) fn put_one_pending(text: &mut String, sid: u16) -> Result<(), AllocError>
+    ensures { OnOk result (string_bytes text.new ≡ string_bytes text.old ++ spaced (pending_text sid)) }
+{
+    let mut room = *b"      /P";
+    let place = write_marked(&mut room, b' ', sid, PENDING_ROOM);
+    put_from(text, &room, place)
+}
+
+/// The upper-case hexadecimal digit of a number below 16.
+fn hex_digit(number: u8) -> u8
+    requires { number < 16 }
+    ensures value { result ≡ hex_digit number }
+    ensures ascii { result < 128 }
+{
+    if number < 10 {
+        b'0' + number
+    } else {
+        b'A' - 10 + number
+    }
+}
+
+/// The two digits of a byte.
+fn hex_pair(byte: u8) -> (u8, u8)
+    ensures value { result.0 ∷ result.1 ∷ [] ≡ hex_pair byte }
+    ensures ascii { (result.0 < 128) × (result.1 < 128) }
+{
+    (hex_digit(byte / 16), hex_digit(byte % 16))
+}
+
+/// The address of a modem.
+pub(crate) fn put_address(text: &mut String, modem: Modem) -> Result<(), AllocError>
+    ensures { OnOk result (string_bytes text.new ≡ string_bytes text.old ++ address modem) }
+{
+    let [a, b, c, d, e, f] = modem.0;
+    let (a, b, c) = (hex_pair(a), hex_pair(b), hex_pair(c));
+    let (d, e, f) = (hex_pair(d), hex_pair(e), hex_pair(f));
+    let digits = [a.0, a.1, b.0, b.1, c.0, c.1, d.0, d.1, e.0, e.1, f.0, f.1];
+    put_from(text, &digits, 0)
+}

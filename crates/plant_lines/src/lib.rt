@@ -1,0 +1,16 @@
+//! The text of a script and of what a run puts out, line by line: what a line says, and what is written of an output. Both
+//! run ways read and write by these functions, and so does whoever takes a script one line at a time (`put_line`).
+#![tactic(auto)]
+
+mod causes;
+mod digits;
+mod fields;
+mod lines;
+mod script;
+mod text;
+
+pub use causes::name_of;
+pub use fields::FieldFault;
+pub use lines::{LineFault, message_in, messages_of, parts_of, put_parts};
+pub use script::{LineStep, Sender, place_of, put_line, steps_of};
+pub use text::{put_actions, put_map, put_name, put_output, put_outs};
