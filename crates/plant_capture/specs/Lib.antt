@@ -1,0 +1,5 @@
+pub mod Checks
+pub mod Management
+pub mod Packets
+pub mod Frames
+pub mod File
