@@ -20,12 +20,15 @@ next_after next packet = next
 
 -- ---- records
 
+-- 32 bits, the low byte first
+unfoldable pub word : ℕ → List ℕ
+word n = to_le_bytes w32 n
+
 -- a record: seconds (their low 32 bits), microseconds, how many bytes are kept and how many there were, and the frame
 abbrev pub record_of : ℕ → Option (List ℕ) → List ℕ
 record_of microseconds None = []
 record_of microseconds (Some frame) =
-    to_le_bytes w32 (microseconds / 1000000 % 4294967296) ++ (to_le_bytes w32 (microseconds % 1000000)
-    ++ (to_le_bytes w32 (length frame) ++ (to_le_bytes w32 (length frame) ++ frame)))
+    word (microseconds / 1000000 % 4294967296) ++ (word (microseconds % 1000000) ++ (word (length frame) ++ (word (length frame) ++ frame)))
 
 -- the records of packets, the first of which stands before the MAP of the frame `next`, in frames of so many microseconds
 abbrev pub records_from : ℕ → ℕ → List Packet → List ℕ

@@ -1,6 +1,6 @@
 //! Frames.
 
-ghost use Rattle.std.specs.Prelude.{◌≡◌, IfOk};
+ghost use Rattle.std.specs.Prelude.{◌≡◌, ◌≤◌, length, IfOk, IfSome};
 ghost use Rattle.std.specs.Option.{option_map};
 ghost use Rattle.plant_capture.specs.Management.{mac_header, framed};
 ghost use Rattle.plant_capture.specs.Frames.{frame_of};
@@ -20,7 +20,8 @@ fn mac_header(count: u16) -> [u8; 4]
 
 /// The frame of a management message.
 fn framed(alloc: Global, message: &Management<'_>) -> Result<Vec<u8>, AllocError>
-    ensures { IfOk result (λ frame. frame.items ≡ framed message.now) }
+    ensures value { IfOk result (λ frame. frame.items ≡ framed message.now) }
+    ensures short { IfOk result (λ frame. length frame.items ≤ 65541) }
 {
     let header = mac_header(message.count());
     let body = message.body(alloc)?;
@@ -34,7 +35,8 @@ fn framed(alloc: Global, message: &Management<'_>) -> Result<Vec<u8>, AllocError
 
 /// The frame of a packet, if it can have one.
 pub(crate) fn frame_of(alloc: Global, packet: &Packet) -> Result<Option<Vec<u8>>, AllocError>
-    ensures { IfOk result (λ frame. option_map (λ f. f.items) frame ≡ frame_of packet.now) }
+    ensures value { IfOk result (λ frame. option_map (λ f. f.items) frame ≡ frame_of packet.now) }
+    ensures short { IfOk result (λ frame. IfSome frame (λ f. length f.items ≤ 65541)) }
 {
     match managed_of(packet) {
         Some(message) => Ok(Some(framed(alloc, &message)?)),

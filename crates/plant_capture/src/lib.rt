@@ -6,6 +6,7 @@ mod clock;
 mod framing;
 mod managed;
 mod packet;
+mod recording;
 
 pub use clock::Clock;
 pub use packet::Packet;
