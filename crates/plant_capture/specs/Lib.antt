@@ -3,3 +3,4 @@ pub mod Management
 pub mod Packets
 pub mod Frames
 pub mod File
+pub mod Laws

@@ -4,9 +4,11 @@
 mod checks;
 mod clock;
 mod framing;
+mod laws;
 mod managed;
 mod packet;
 mod recording;
 
 pub use clock::Clock;
+pub use laws::{check_values, frame_is_read};
 pub use packet::Packet;

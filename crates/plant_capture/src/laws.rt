@@ -1,0 +1,17 @@
+//! Laws of frames.
+
+ghost use Rattle.std.specs.Prelude.{◌≡◌, ℕ, List, Some};
+ghost use Rattle.plant_capture.specs.declared.packet.Packet.{Packet};
+ghost use Rattle.plant_capture.specs.Frames.{frame_of};
+ghost use Rattle.plant_capture.specs.Laws.{AreCheckValues, IsAddressed, HoldsPacket};
+
+/// Both check sequences make of the digits 1 to 9 what their descriptions say.
+pub fn check_values()
+    ensures { AreCheckValues }
+{}
+
+/// Whoever reads a packet's frame finds its message there: addresses, version, type and payload, byte for byte.
+pub fn frame_is_read()
+    ensures { (packet : Packet) (frame : List ℕ) → IsAddressed packet → frame_of packet ≡ Some frame
+        → HoldsPacket frame packet }
+{}
