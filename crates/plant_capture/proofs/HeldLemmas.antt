@@ -1,5 +1,6 @@
-use Rattle.std.specs.Prelude.{◌≡◌, ℕ, suc, ◌+◌, List, [], ◌∷◌, ◌++◌, length, take, drop, slice_index, Bool, true, false, Option, Some, None, if◌then◌else◌, refl}
+use Rattle.std.specs.Prelude.{◌≡◌, ℕ, suc, ◌+◌, List, [], ◌∷◌, ◌++◌, length, take, drop, slice_index, Bool, true, false, Option, Some, None, if◌then◌else◌, nat_le, IfSome, ◌≤◌, ◌<◌, ◌^◌, refl}
 use Rattle.std.proofs.Common.{arith, sym, ◌∙◌, ap, subst, length-append}
+use Rattle.std.proofs.lemmas.Bool.{leb-true}
 use Rattle.std.proofs.Math.Seq.{take-append_seam}
 use Rattle.dsx_messages.specs.declared.modem.Modem.{Modem}
 use Rattle.plant_capture.specs.declared.packet.Packet.{Packet}
@@ -83,3 +84,32 @@ in_frame packet frame (Some m) six is h =
 
 pub frame_holds : (packet : Packet) (frame : List ℕ) → IsAddressed packet → frame_of packet ≡ Some frame → HoldsPacket frame packet
 frame_holds packet frame six h = in_frame packet frame (managed_of packet) six refl h
+
+bounded : (b : Bool) (n m : Managed) → nat_le (length n.payload) 65511 ≡ b → (if b then Some n else None) ≡ Some m → length m.payload ≤ 65511
+bounded true n m le e =
+    let P : Managed → Type 0 = λ x. length x.payload ≤ 65511 in subst P (picked true n m e) (leb-true _ _ le)
+bounded false n m le e = cc
+
+if_fits_short : (n m : Managed) → if_fits n ≡ Some m → length m.payload ≤ 65511
+if_fits_short n m e = bounded (nat_le (length n.payload) 65511) n m refl e
+
+message_short : (to from bytes : List ℕ) (m : Managed) → message_of to from bytes ≡ Some m → length m.payload ≤ 65511
+message_short to from [] m e = cc
+message_short to from (kind ∷ payload) m e = if_fits_short _ m e
+
+managed_short : (packet : Packet) (m : Managed) → managed_of packet ≡ Some m → length m.payload ≤ 65511
+managed_short (Sent modem bytes) m e = message_short _ _ bytes m e
+managed_short (Reply modem bytes) m e = message_short _ _ bytes m e
+managed_short (Map frame bytes) m e = if_fits_short _ m e
+
+short_of : (packet : Packet) (message : Option Managed) → IsAddressed packet → managed_of packet ≡ message
+    → IfSome (frame_of_managed message) (λ f. length f < 2 ^ 32)
+short_of packet None six is = tt
+short_of packet (Some m) six is =
+    let a = addresses packet m six is in
+    let whole : length (framed m) ≡ 30 + length m.payload = whole_of m a.0 a.1 in
+    let few : length m.payload ≤ 65511 = managed_short packet m is in
+    omega arith
+
+pub short_frame : (packet : Packet) → IsAddressed packet → IfSome (frame_of packet) (λ f. length f < 2 ^ 32)
+short_frame packet six = short_of packet (managed_of packet) six refl

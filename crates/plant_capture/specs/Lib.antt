@@ -4,3 +4,4 @@ pub mod Packets
 pub mod Frames
 pub mod File
 pub mod Laws
+pub mod Reading

@@ -1,8 +1,12 @@
 //! Laws of frames.
 
-ghost use Rattle.std.specs.Prelude.{◌≡◌, ℕ, List, Some};
+ghost use Rattle.std.specs.Prelude.{◌≡◌, ℕ, List, length, Some};
+ghost use Rattle.std.specs.List.{filter_map, AllByRecursion};
+ghost use Rattle.plant_capture.specs.declared.clock.Clock.{Clock};
 ghost use Rattle.plant_capture.specs.declared.packet.Packet.{Packet};
 ghost use Rattle.plant_capture.specs.Frames.{frame_of};
+ghost use Rattle.plant_capture.specs.File.{file_of};
+ghost use Rattle.plant_capture.specs.Reading.{frames_of_file};
 ghost use Rattle.plant_capture.specs.Laws.{AreCheckValues, IsAddressed, HoldsPacket};
 
 /// Both check sequences make of the digits 1 to 9 what their descriptions say.
@@ -14,4 +18,10 @@ pub fn check_values()
 pub fn frame_is_read()
     ensures { (packet : Packet) (frame : List ℕ) → IsAddressed packet → frame_of packet ≡ Some frame
         → HoldsPacket frame packet }
+{}
+
+/// Whoever reads a file from record to record finds the frames of its packets, in order, and nothing else.
+pub fn file_is_read()
+    ensures { (clock : Clock) (packets : List Packet) → AllByRecursion IsAddressed packets
+        → frames_of_file (length packets) (file_of clock packets) ≡ filter_map frame_of packets }
 {}

@@ -10,5 +10,5 @@ mod packet;
 mod recording;
 
 pub use clock::Clock;
-pub use laws::{check_values, frame_is_read};
+pub use laws::{check_values, file_is_read, frame_is_read};
 pub use packet::Packet;
