@@ -1,3 +1,4 @@
 pub mod BitLemmas
 pub mod HeldLemmas
 pub mod ReadLemmas
+pub mod RunLemmas

@@ -5,3 +5,4 @@ pub mod Frames
 pub mod File
 pub mod Laws
 pub mod Reading
+pub mod Capture

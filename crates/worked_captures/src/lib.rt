@@ -1,0 +1,2 @@
+//! Worked captures, as tests alone: check sequences, frames and files, byte by byte.
+#![tactic(auto)]
