@@ -1,2 +1,5 @@
-//! Worked captures, as tests alone: check sequences, frames and files, byte by byte.
+//! Worked captures, as tests alone: frames and files, byte by byte.
 #![tactic(auto)]
+
+#[cfg(test)]
+mod files;
