@@ -1,11 +1,10 @@
-use Rattle.std.specs.Prelude.{◌≡◌, ℕ, suc, ◌+◌, List, [], ◌∷◌, ◌++◌, length, take, drop, slice_index, Bool, true, false, Option, Some, None, if◌then◌else◌, nat_le, IfSome, ◌≤◌, ◌<◌, ◌^◌, refl}
+use Rattle.std.specs.Prelude.{◌≡◌, ℕ, ◌+◌, List, [], ◌∷◌, length, Bool, true, false, Option, Some, None, if◌then◌else◌, nat_le, IfSome, ◌≤◌, ◌<◌, ◌^◌, refl}
 use Rattle.std.proofs.Common.{arith, sym, ◌∙◌, ap, subst, length-append}
 use Rattle.std.proofs.lemmas.Bool.{leb-true}
 use Rattle.std.proofs.Math.Seq.{take-append_seam}
-use Rattle.dsx_messages.specs.declared.modem.Modem.{Modem}
 use Rattle.plant_capture.specs.declared.packet.Packet.{Packet}
 use Rattle.plant_capture.specs.declared.packet.Packet.TheVariants.{Sent, Reply, Map}
-use Rattle.plant_capture.specs.Management.{Managed, framed, body_of, mac_header}
+use Rattle.plant_capture.specs.Management.{Managed, framed}
 use Rattle.plant_capture.specs.Packets.{managed_of, message_of, if_fits}
 use Rattle.plant_capture.specs.Frames.{frame_of, frame_of_managed}
 use Rattle.plant_capture.specs.Laws.{Holds, HoldsPacket, IsAddressed}
@@ -36,12 +35,12 @@ whole_of m to from = simp length-append (omega (arith, to, from))
 held_by_bytes : (m : Managed) (a b c d e f a' b' c' d' e' f' : ℕ) → m.to ≡ a ∷ b ∷ c ∷ d ∷ e ∷ f ∷ []
     → m.from ≡ a' ∷ b' ∷ c' ∷ d' ∷ e' ∷ f' ∷ [] → length (framed m) ≡ 30 + length m.payload → Holds (framed m) m
 held_by_bytes m a b c d e f a' b' c' d' e' f' to from whole = rw (to, from) (record {
-    to = refl;
-    from = refl;
-    version = refl;
-    kind = refl;
-    payload = take-append_seam _ _;
-    whole = rw (to, from) at whole
+  to = refl;
+  from = refl;
+  version = refl;
+  kind = refl;
+  payload = take-append_seam _ _;
+  whole = rw (to, from) at whole;
 })
 
 held : (m : Managed) → length m.to ≡ 6 → length m.from ≡ 6 → Holds (framed m) m
@@ -49,7 +48,6 @@ held m to from =
     let t : Six m.to = six m.to to in
     let f : Six m.from = six m.from from in
     held_by_bytes m t.a t.b t.c t.d t.e t.f f.a f.b f.c f.d f.e f.f t.is f.is (whole_of m to from)
-
 
 frame_of_some : (packet : Packet) (m : Managed) (frame : List ℕ) → managed_of packet ≡ Some m → frame_of packet ≡ Some frame → framed m ≡ frame
 frame_of_some packet m frame is h =

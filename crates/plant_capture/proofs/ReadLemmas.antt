@@ -1,6 +1,5 @@
-use Rattle.std.specs.Prelude.{◌≡◌, ℕ, zero, suc, ◌+◌, ◌*◌, ◌<◌, ◌≤◌, ◌/◌, ◌%◌, ◌^◌, List, [], ◌∷◌, ◌++◌, length, take, drop, Bool, true, false, Option, Some, None, nat_lt, if◌then◌else◌, refl, IfSome}
+use Rattle.std.specs.Prelude.{◌≡◌, ℕ, zero, suc, ◌+◌, ◌*◌, ◌<◌, ◌≤◌, ◌/◌, ◌%◌, ◌^◌, List, [], ◌∷◌, ◌++◌, length, take, drop, Bool, true, false, Option, Some, None, nat_lt, refl, IfSome}
 use Rattle.std.specs.List.{filter_map, cons_option, AllByRecursion}
-use Rattle.std.specs.Int.{w32, to_le_bytes, from_le_bytes}
 use Rattle.std.proofs.Common.{arith, sym, ◌∙◌, ap, subst}
 use Rattle.std.proofs.Math.Seq.{take-append_seam, drop-append_seam, drop-append-add}
 use Rattle.std.proofs.lemmas.Bool.{lt-ltb}
@@ -38,8 +37,8 @@ one_read : (more : ℕ) (bytes frame rest : List ℕ) → nat_lt 15 (length byte
     → drop (16 + kept_in bytes) bytes ≡ rest → frames_in (suc more) bytes ≡ frame ∷ frames_in more rest
 one_read more bytes frame rest long kept left =
     let P : Bool → Type 0 =
-        λ b. (elim b as (λ v. List (List ℕ)) [ | true ↦ take (kept_in bytes) (drop 16 bytes) ∷ frames_in more (drop (16 + kept_in bytes) bytes) | false ↦ [] ])
-            ≡ frame ∷ frames_in more rest in
+    λ b. (elim b as (λ v. List (List ℕ)) [ true ↦ take (kept_in bytes) (drop 16 bytes) ∷ frames_in more (drop (16 + kept_in bytes) bytes) | false ↦ [] ])
+    ≡ frame ∷ frames_in more rest in
     subst P (sym long) (rw (kept, left))
 
 -- the first record is read, and what follows it
@@ -48,8 +47,8 @@ first_read : (more micros : ℕ) (frame rest : List ℕ) → length frame < 2 ^ 
 first_read more micros frame rest h =
     let k : kept_in (record_of micros (Some frame) ++ rest) ≡ length frame = kept_is micros frame rest h in
     one_read more (record_of micros (Some frame) ++ rest) frame rest (long_is micros frame rest)
-        (rw (k, behind_head micros frame rest) (take-append_seam frame rest))
-        (rw k (behind_record micros frame rest))
+    (rw (k, behind_head micros frame rest) (take-append_seam frame rest))
+    (rw k (behind_record micros frame rest))
 
 none_read : (fuel : ℕ) → frames_in fuel [] ≡ []
 none_read zero = refl
@@ -69,7 +68,7 @@ pub all_read : (us next : ℕ) (packets : List Packet) → AllByRecursion IsAddr
 all_read us next [] all more h = none_read more
 all_read us next (packet ∷ packets) all more h =
     packet_read (length packets) (frame_at next packet * us) (frame_of packet) (records_from us (next_after next packet) packets)
-        (filter_map frame_of packets) (short_frame packet all.0) (all_read us (next_after next packet) packets all.1) more h
+    (filter_map frame_of packets) (short_frame packet all.0) (all_read us (next_after next packet) packets all.1) more h
 
 pub file_read : (clock : Clock) (packets : List Packet) → AllByRecursion IsAddressed packets
     → frames_of_file (length packets) (file_of clock packets) ≡ filter_map frame_of packets

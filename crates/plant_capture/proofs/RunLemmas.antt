@@ -29,14 +29,14 @@ pub step_run : (consts : ConstsFields) (steps : List Step) (outs : List Out) (st
 step_run consts steps outs step now old mid new run mid_is new_is =
     let turn : Turn = record { step = step; outs = now } in
     record {
-        turns = run.turns ++ turn ∷ [];
-        steps_are = map-append (λ (t : Turn). t.step) run.turns (turn ∷ []) ∙ ap (λ (l : List Step). l ++ step ∷ []) run.steps_are;
-        outs_are = flat_map_last (λ (t : Turn). t.outs) run.turns turn ∙ ap (λ (l : List Out). l ++ now) run.outs_are;
-        clock_is = ap (λ (c : Captured). c.clock) new_is ∙ (ap (λ (c : Captured). c.clock) mid_is ∙ run.clock_is);
-        packets_are =
-            ap (λ (c : Captured). c.packets) new_is ∙ (ap (λ (c : Captured). c.packets ++ flat_map told_in now) mid_is
-            ∙ (append_assoc old.packets (sent_in step) (flat_map told_in now)
-            ∙ (ap (λ (l : List Packet). l ++ packets_of turn) run.packets_are ∙ sym (flat_map_last packets_of run.turns turn))));
+      turns = run.turns ++ turn ∷ [];
+      steps_are = map-append (λ (t : Turn). t.step) run.turns (turn ∷ []) ∙ ap (λ (l : List Step). l ++ step ∷ []) run.steps_are;
+      outs_are = flat_map_last (λ (t : Turn). t.outs) run.turns turn ∙ ap (λ (l : List Out). l ++ now) run.outs_are;
+      clock_is = ap (λ (c : Captured). c.clock) new_is ∙ (ap (λ (c : Captured). c.clock) mid_is ∙ run.clock_is);
+      packets_are =
+          ap (λ (c : Captured). c.packets) new_is ∙ (ap (λ (c : Captured). c.packets ++ flat_map told_in now) mid_is
+          ∙ (append_assoc old.packets (sent_in step) (flat_map told_in now)
+          ∙ (ap (λ (l : List Packet). l ++ packets_of turn) run.packets_are ∙ sym (flat_map_last packets_of run.turns turn))));
     }
 
 sent_of_step : (step : Step) → filter is_sent (sent_in step) ≡ sent_in step
@@ -90,8 +90,8 @@ told_of_turns (turn ∷ turns) =
 pub holds_run : (consts : ConstsFields) (steps : List Step) (outs : List Out) (bytes : List ℕ) → IsCaptureOf consts steps outs bytes
     → HoldsRun consts steps outs bytes
 holds_run consts steps outs bytes it = record {
-    packets = it.captured.packets;
-    bytes_are = it.bytes_are ∙ ap (λ (clock : Clock). file_of clock it.captured.packets) it.of_run.clock_is;
-    sent = ap (filter is_sent) it.of_run.packets_are ∙ sent_of_turns it.of_run.turns ∙ ap (λ (l : List Step). flat_map sent_in l) it.of_run.steps_are;
-    told = ap (filter (λ packet. not (is_sent packet))) it.of_run.packets_are ∙ told_of_turns it.of_run.turns ∙ ap (λ (l : List Out). flat_map told_in l) it.of_run.outs_are;
+  packets = it.captured.packets;
+  bytes_are = it.bytes_are ∙ ap (λ (clock : Clock). file_of clock it.captured.packets) it.of_run.clock_is;
+  sent = ap (filter is_sent) it.of_run.packets_are ∙ sent_of_turns it.of_run.turns ∙ ap (λ (l : List Step). flat_map sent_in l) it.of_run.steps_are;
+  told = ap (filter (λ packet. not (is_sent packet))) it.of_run.packets_are ∙ told_of_turns it.of_run.turns ∙ ap (λ (l : List Out). flat_map told_in l) it.of_run.outs_are;
 }

@@ -3,7 +3,7 @@ use Rattle.std.specs.Prelude.{ℕ, ◌+◌, ◌*◌, ◌/◌, ◌%◌, List, [],
 use Rattle.std.specs.Int.{w16, w32, to_le_bytes}
 use Rattle.plant_capture.specs.declared.clock.Clock.{Clock}
 use Rattle.plant_capture.specs.declared.packet.Packet.{Packet}
-use Rattle.plant_capture.specs.declared.packet.Packet.TheVariants.{Sent, Reply, Map}
+use Rattle.plant_capture.specs.declared.packet.Packet.TheVariants.{Map}
 use Rattle.plant_capture.specs.Frames.{frame_of}
 
 -- ---- times

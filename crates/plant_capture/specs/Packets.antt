@@ -1,5 +1,5 @@
 -- Packets of a capture as management messages (CM-SP-MULPIv3.1, 6.4.1, 6.4.4 and 6.4.12 on; the CMTS's address is own).
-use Rattle.std.specs.Prelude.{ℕ, ◌+◌, ◌&&◌, List, [], ◌∷◌, length, nat_le, Option, Some, None, if◌then◌else◌}
+use Rattle.std.specs.Prelude.{ℕ, ◌&&◌, List, [], ◌∷◌, length, nat_le, Option, Some, None, if◌then◌else◌}
 use Rattle.plant_capture.specs.declared.packet.Packet.{Packet}
 use Rattle.plant_capture.specs.declared.packet.Packet.TheVariants.{Sent, Reply, Map}
 use Rattle.plant_capture.specs.Management.{Managed}

@@ -1,5 +1,5 @@
 -- What a reader finds in a capture file (own: pcap 2.4).
-use Rattle.std.specs.Prelude.{◌≡◌, ℕ, zero, suc, ◌+◌, Bool, true, false, List, [], ◌∷◌, length, take, drop, slice_range, nat_lt}
+use Rattle.std.specs.Prelude.{ℕ, zero, suc, ◌+◌, true, false, List, [], ◌∷◌, length, take, drop, slice_range, nat_lt}
 use Rattle.std.specs.Int.{w32, from_le_bytes}
 
 -- how many bytes of a frame the record at the head of the bytes keeps

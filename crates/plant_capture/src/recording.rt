@@ -11,7 +11,8 @@ use std::alloc::{AllocError, Global};
 
 /// The header of a file: pcap 2.4, microseconds, frames of up to 65,541 bytes, DOCSIS.
 const FILE_HEADER: [u8; 24] = [
-    0xD4, 0xC3, 0xB2, 0xA1, 2, 0, 4, 0, 0, 0, 0, 0, 0, 0, 0, 0, 0x05, 0x00, 0x01, 0x00, 143, 0, 0, 0,
+    0xD4, 0xC3, 0xB2, 0xA1, 2, 0, 4, 0, 0, 0, 0, 0, 0, 0, 0, 0, 0x05, 0x00, 0x01, 0x00, 143, 0, 0,
+    0,
 ];
 
 /// Adds the header of a file.
