@@ -2,3 +2,4 @@ pub mod BitLemmas
 pub mod HeldLemmas
 pub mod ReadLemmas
 pub mod RunLemmas
+pub mod TimeLemmas

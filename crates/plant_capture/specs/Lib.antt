@@ -6,3 +6,4 @@ pub mod File
 pub mod Laws
 pub mod Reading
 pub mod Capture
+pub mod Times

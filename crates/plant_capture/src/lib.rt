@@ -15,4 +15,4 @@ pub use capture::Capture;
 pub use clock::Clock;
 pub use laws::{check_values, file_is_read, frame_is_read};
 pub use packet::Packet;
-pub use run_laws::{capture_holds_run, opened_is_of_run, step_is_captured};
+pub use run_laws::{capture_holds_run, opened_is_of_run, step_is_captured, times_are_counted};
