@@ -1,9 +1,12 @@
 //! The capture of a run.
 
-ghost use Rattle.std.specs.Prelude.{◌≡◌, ◌++◌, [], IfOk, OnOk, OnErr};
+ghost use Rattle.std.specs.Prelude.{◌≡◌, ◌++◌, List, IfOk, OnOk, OnErr};
 ghost use Rattle.std.specs.List.{flat_map};
+ghost use Rattle.slice_table.specs.declared.consts.ConstsFields.{ConstsFields};
+ghost use Rattle.plant_runs.specs.declared.step.Step.{Step};
+ghost use Rattle.plant_runs.specs.declared.step.Out.{Out};
 ghost use Rattle.plant_capture.specs.File.{file_of};
-ghost use Rattle.plant_capture.specs.Capture.{clock_of, opened_capture, with_packets, sent_in, told_in};
+ghost use Rattle.plant_capture.specs.Capture.{opened_capture, with_packets, sent_in, told_in, IsOfRun, IsCaptureOf};
 
 use crate::clock::Clock;
 use crate::packet::Packet;
@@ -115,7 +118,9 @@ impl Capture {
     /// The capture as a file. A message of no byte has no frame and stands in no record, nor does one of more than 65,511 bytes
     /// of payload.
     pub fn to_bytes(&self, alloc: Global) -> Result<Vec<u8>, AllocError>
-        ensures { IfOk result (λ bytes. bytes.items ≡ file_of self.now.clock self.now.packets) }
+        ensures value { IfOk result (λ bytes. bytes.items ≡ file_of self.now.clock self.now.packets) }
+        ensures of_run { IfOk result (λ bytes. (consts : ConstsFields) (steps : List Step) (outs : List Out)
+            → IsOfRun consts steps outs self.now → IsCaptureOf consts steps outs bytes.items) }
     {
         file_of(alloc, self.clock, self.packets.as_slice())
     }
