@@ -16,7 +16,7 @@ use worked_plants::{OPERATORS, SHARED};
 const EMPTY: &str = "D4C3B2A1020004000000000000000000050001008F000000";
 
 /// A DSA-REQ of a modem, the DSA-RSP to it, its DSA-ACK, the MAP of frame 0, and a DSD-REQ before the MAP of frame 1.
-const FIRST_FLOW: &str = concat!(
+pub(crate) const FIRST_FLOW: &str = concat!(
     "D4C3B2A1020004000000000000000000050001008F000000",
     "00000000000000002C0000002C000000",
     "C200002645BA0200000000000200000000010014000003020F000001180A010200010601060F01024E325519",
@@ -75,7 +75,7 @@ fn modem(number: u8) -> Modem {
 }
 
 /// A modem's message arrives.
-fn message(alloc: Global, number: u8, digits: &str) -> Result<Step, Fail> {
+pub(crate) fn message(alloc: Global, number: u8, digits: &str) -> Result<Step, Fail> {
     Ok(Step::Arrive {
         modem: modem(number),
         heard: Heard::Message(bytes_of(alloc, digits)?),
@@ -83,7 +83,7 @@ fn message(alloc: Global, number: u8, digits: &str) -> Result<Step, Fail> {
 }
 
 /// A reply of the first operator to a modem.
-fn reply(alloc: Global, number: u8, digits: &str) -> Result<Out, Fail> {
+pub(crate) fn reply(alloc: Global, number: u8, digits: &str) -> Result<Out, Fail> {
     Ok(Out::Of {
         op: 0,
         output: Output::Reply {
@@ -94,7 +94,7 @@ fn reply(alloc: Global, number: u8, digits: &str) -> Result<Out, Fail> {
 }
 
 /// The MAP of a frame.
-fn map(alloc: Global, frame: u32) -> Result<Out, Fail> {
+pub(crate) fn map(alloc: Global, frame: u32) -> Result<Out, Fail> {
     Ok(Out::Map(MapBytes {
         frame,
         bytes: bytes_of(alloc, MAP)?,
@@ -102,7 +102,7 @@ fn map(alloc: Global, frame: u32) -> Result<Out, Fail> {
 }
 
 /// A capture of the plant of two operators which share this.
-fn capture_of(alloc: Global, shared: &str) -> Result<Capture, Fail> {
+pub(crate) fn capture_of(alloc: Global, shared: &str) -> Result<Capture, Fail> {
     let text = format!(in alloc; "{shared}{OPERATORS}")?;
     let plant = read_plant(alloc, text.as_str()).ok().ok_or("no plant")?;
     Ok(Capture::open(alloc, plant.consts()))
