@@ -1,4 +1,5 @@
--- The check sequences of a frame (CM-SP-MULPIv3.1, 6.2.1.1: the header's is the CRC-CCITT of X.25; 6.2.2: the frame's is the CRC-32 of Ethernet).
+-- The check sequences of a frame (CM-SP-MULPIv3.1, 6.2.1.1: the header's is the CRC-CCITT of X.25; 6.2.2: the frame's is the
+-- CRC-32 of Ethernet).
 use Rattle.std.specs.Prelude.{ℕ, zero, suc, ◌/◌, ◌%◌, ◌==◌, List, if◌then◌else◌}
 use Rattle.std.specs.List.{fold}
 use Rattle.std.specs.Int.{w16, w32, to_le_bytes}

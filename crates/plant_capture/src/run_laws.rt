@@ -30,8 +30,8 @@ pub fn capture_holds_run()
         → IsCaptureOf consts steps outs bytes → HoldsRun consts steps outs bytes }
 {}
 
-/// The times in the file of a run that is `Shown` are counted: a packet behind so many MAPs stands at the begin of the frame that is
-/// so many behind the first one.
+/// The times in the file of a run that is `Shown` are counted: a packet behind so many MAPs stands at the begin of the frame
+/// that is so many behind the first one.
 pub fn times_are_counted()
     ensures { (plant : PlantFields) (steps : List Step) (outs : List Out) (captured : Captured)
         → Shown plant steps outs → IsOfRun plant.consts steps outs captured

@@ -32,8 +32,8 @@ pub(crate) const FIRST_FLOW: &str = concat!(
     "C200002073DF020000000000020000000001000E000003021500000200000000010106A668D0",
 );
 
-/// Before and behind the MAP of the last frame that there is, where a frame takes a second: a message of a type that is none of ours,
-/// the MAP, and a DSD-RSP, at which the seconds have begun anew.
+/// Before and behind the MAP of the last frame that there is, where a frame takes a second: a message of a type that is none of
+/// ours, the MAP, and a DSD-RSP, at which the seconds have begun anew.
 const LAST_FRAME: &str = concat!(
     "D4C3B2A1020004000000000000000000050001008F000000",
     "FFFFFFFF000000001E0000001E000000",

@@ -1,5 +1,6 @@
-//! A capture where one request for memory is refused: `tools/refuse_library_memory.sh` runs the test again and again, and refuses
-//! another request in each run. A call that is refused has added nothing: made once more, the file is what it is otherwise.
+//! A capture where one request for memory is refused: `tools/refuse_library_memory.sh` runs the test again and again, and
+//! refuses another request in each run. A call that is refused has added nothing: made once more, the file is what it is
+//! otherwise.
 
 use crate::files::{FIRST_FLOW, capture_of, map, message, reply};
 use hex::encode_upper;
