@@ -1,4 +1,4 @@
--- The check sequences of a frame (CM-SP-MULPIv3.1, 6.2.1.1: the header's is the CRC-CCITT of X.25; 6.2.2: the frame's is the
+-- The check sequences of a frame (CM-SP-MULPIv3.1, 6.2.1: the header's is the CRC-CCITT of X.25; 6.4.1: the message's is the
 -- CRC-32 of Ethernet).
 use Rattle.std.specs.Prelude.{ℕ, zero, suc, ◌/◌, ◌%◌, ◌==◌, List, if◌then◌else◌}
 use Rattle.std.specs.List.{fold}
