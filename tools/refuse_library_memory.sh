@@ -10,7 +10,7 @@ set -euo pipefail
 
 here=$(cd "$(dirname "$0")" && pwd)
 crates=("$@")
-[ $# -gt 0 ] || crates=(worked_memory worked_schedules worked_books worked_passes worked_rows)
+[ $# -gt 0 ] || crates=(worked_memory worked_schedules worked_books worked_passes worked_rows worked_captures)
 work=$(mktemp -d)
 trap 'rm -rf "$work"' EXIT
 gcc -shared -fPIC -O1 -o "$work/refuse.so" "$here/refuse.c"

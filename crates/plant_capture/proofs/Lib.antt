@@ -1,0 +1,5 @@
+pub mod BitLemmas
+pub mod HeldLemmas
+pub mod ReadLemmas
+pub mod RunLemmas
+pub mod TimeLemmas
