@@ -1,7 +1,7 @@
 //! The plant's program, started: its words and standard streams are handed to `plant_script`.
 #![tactic(auto)]
 
-use plant_script::{behind_name, exit_code, run_program_with_reasons};
+use plant_script::{Ending, behind_name, exit_code, run_program_with_reasons};
 use std::io::{IsTerminal, Read, Write};
 use std::process::ExitCode;
 use std::rt::Env;
@@ -26,6 +26,35 @@ impl<R: Read, N: Write> Read for Awaited<'_, R, N> {
             let _lost = note.write_all(AWAITED);
         }
         self.reader.read(buf)
+    }
+}
+
+/// An output that notes whether its reader has gone, as behind `| head -1`: then nobody is told that a write failed.
+#[derive(Drop)]
+struct Left<W> {
+    writer: W,
+    is_left: bool,
+}
+
+impl<W> Left<W> {
+    /// The answer, where a reader that has gone is noted.
+    fn noted<T>(&mut self, told: io::Result<T>) -> io::Result<T> {
+        if let Err(error) = &told {
+            self.is_left = self.is_left || error.kind() == io::ErrorKind::BrokenPipe;
+        }
+        told
+    }
+}
+
+impl<W: Write> Write for Left<W> {
+    fn write(&mut self, buf: &[u8]) -> io::Result<usize> {
+        let told = self.writer.write(buf);
+        self.noted(told)
+    }
+
+    fn flush(&mut self) -> io::Result<()> {
+        let told = self.writer.flush();
+        self.noted(told)
     }
 }
 
@@ -58,13 +87,22 @@ fn run<N: Write>(
         reader: rt.reader(),
         note,
     };
-    let mut writer = io::writer(rt);
-    Ok(run_program_with_reasons(
+    let mut writer = Left {
+        writer: io::writer(rt),
+        is_left: false,
+    };
+    let mut told = Vec::new(rt.alloc());
+    let status = run_program_with_reasons(
         rt,
         rt.alloc(),
         behind_name(texts.as_slice()),
         &mut reader,
         &mut writer,
-        reasons,
-    ))
+        &mut told,
+        Ending::Ends,
+    );
+    if !writer.is_left {
+        let _lost = reasons.write_all(told.as_slice());
+    }
+    Ok(status)
 }

@@ -17,3 +17,4 @@ mod task;
 
 pub use command::{behind_name, exit_code};
 pub use program::{run_program, run_program_with_reasons};
+pub use running::Ending;

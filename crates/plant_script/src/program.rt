@@ -13,7 +13,7 @@ use crate::answer::Answer;
 use crate::check::check_of;
 use crate::input::{Stop, read_input};
 use crate::one::text_of;
-use crate::running::answer_of_task;
+use crate::running::{Ending, answer_of_task};
 use crate::task::{Served, Wanted, task_of};
 use grant_policy::{RankInput, Ranking, rank_by};
 use plant_lines::{LineFault, messages_of, parts_of};
@@ -203,6 +203,7 @@ fn answer_of_words<'a, H: Threads + Wait + Sync, R: Read, W: Write>(
     reader: &mut R,
     writer: &mut W,
     seen: &mut Seen<'a>,
+    ending: Ending,
 ) -> u8
     requires untried { seen.old.failed ≡ false }
     // What is written answers what is read.
@@ -246,7 +247,7 @@ fn answer_of_words<'a, H: Threads + Wait + Sync, R: Read, W: Write>(
             return stopped(writer, Stop::Memory);
         }
     }
-    match answer_of_task(rt, alloc, task, rankings) {
+    match answer_of_task(rt, alloc, task, rankings, ending) {
         Ok(answer) => finish(writer, answer.status, answer.text.as_slice()),
         Err(_full) => stopped(writer, Stop::Memory),
     }
@@ -285,12 +286,14 @@ pub fn run_program<'a, H: Threads + Wait + Sync, R: Read, W: Write>(
     ensures memory { result ≡ 5 → Appends (W.contents writer.old) (W.contents writer.new) memory_line }
 {
     let mut seen = Seen::new();
-    answer_of_words(rt, alloc, words, reader, writer, &mut seen)
+    let ending = Ending::GoesOn;
+    answer_of_words(rt, alloc, words, reader, writer, &mut seen, ending)
 }
 
 /// Runs the program as `run_program` does, under the same contract, and writes the reasons of its status to one writer more: what
 /// was wrong, where, and the numbers that disagree. Of a plant that is well it tells keys that nothing reads. What fails in
-/// writing reasons is lost, and changes no status. No clause says what the reasons are.
+/// writing reasons is lost, and changes no status. No clause says what the reasons are. A process that ends behind the answer says so
+/// by `ending`, and need not wait until a core is taken apart.
 pub fn run_program_with_reasons<'a, H: Threads + Wait + Sync, R: Read, W: Write, E: Write>(
     rt: &H,
     alloc: Global,
@@ -298,6 +301,7 @@ pub fn run_program_with_reasons<'a, H: Threads + Wait + Sync, R: Read, W: Write,
     reader: &mut R,
     writer: &mut W,
     reasons: &mut E,
+    ending: Ending,
 ) -> u8
     // What is written answers what is read.
     ensures served { (order : Order) → Names (texts words.entry.now) order → result ≢ 5 → result ≢ 6
@@ -316,7 +320,7 @@ pub fn run_program_with_reasons<'a, H: Threads + Wait + Sync, R: Read, W: Write,
     ensures memory { result ≡ 5 → Appends (W.contents writer.old) (W.contents writer.new) memory_line }
 {
     let mut seen = Seen::new();
-    let status = answer_of_words(rt, alloc, words, reader, writer, &mut seen);
+    let status = answer_of_words(rt, alloc, words, reader, writer, &mut seen, ending);
     tell_reasons(alloc, words, &seen, status, reasons);
     status
 }

@@ -18,7 +18,7 @@ use plant_core::{CoreFault, CoreOpenFault, PlantCore};
 use plant_lines::{LineStep, put_actions, put_outs};
 use slice_table::{Op, Plant};
 use std::alloc::{AllocError, Global};
-use std::mem::forget;
+use std::mem::{drop, forget};
 use std::sync::Wait;
 use std::thread::Threads;
 
@@ -142,14 +142,30 @@ fn core_of(alloc: Global, plant: Plant, rankings: Vec<Ranking>) -> Result<PlantC
     }
 }
 
+/// What becomes of a core behind its last step.
+#[derive(Clone, Copy, Debug, PartialEq, Eq)]
+pub enum Ending {
+    /// It is taken apart, and gives its memory back.
+    GoesOn,
+    /// It is left as it stands: the process ends behind the answer, and its memory goes with it.
+    Ends,
+}
+
+/// Takes a core apart, or leaves it to the end of the process.
+fn put_away(core: PlantCore, ending: Ending) {
+    match ending {
+        Ending::GoesOn => drop(core),
+        Ending::Ends => forget(core),
+    }
+}
+
 /// What the run of a task answers. The rankings stand in the plant's order of operators. Only a run on threads may wait.
-///
-/// The core is not taken apart behind the last step: the program ends there, and its memory goes with it.
 pub fn answer_of_task<R: Threads + Wait + Sync>(
     rt: &R,
     alloc: Global,
     task: Task,
     rankings: Vec<Ranking>,
+    ending: Ending,
 ) -> Result<Answer, AllocError>
     requires { map (λ ranking. ranking.policy) rankings.items ≡ map (λ row. row.policy) task.plant.rows }
     ensures { IfOk result (λ answer. RunsTo task.plant task.told task.lines.items answer.status answer.text.items) }
@@ -159,13 +175,13 @@ pub fn answer_of_task<R: Threads + Wait + Sync>(
         Told::Outs => {
             let mut core = core_of(alloc, plant, rankings)?;
             let answer = answer_of_outs(alloc, &mut core, lines)?;
-            forget(core);
+            put_away(core, ending);
             Ok(answer)
         }
         Told::History(op) => {
             let mut core = core_of(alloc, plant, rankings)?;
             let answer = answer_of_history(alloc, &mut core, op, lines)?;
-            forget(core);
+            put_away(core, ending);
             Ok(answer)
         }
         Told::Threads => answer_of_threads(rt, alloc, plant, lines, rankings),

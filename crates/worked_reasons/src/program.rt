@@ -1,7 +1,7 @@
 //! The program with a writer for its reasons: what it answers stays, whatever becomes of them.
 
 use crate::reasons::PLANT;
-use plant_script::run_program_with_reasons;
+use plant_script::{Ending, run_program_with_reasons};
 use std::alloc::Global;
 use std::io;
 use std::io::{Read, Write};
@@ -44,13 +44,29 @@ fn check_told(
 ) -> Result<(), Fail> {
     let (mut answer, mut reasons) = (Vec::new(alloc), Vec::new(alloc));
     let mut reader = input;
-    let status = run_program_with_reasons(rt, alloc, words, &mut reader, &mut answer, &mut reasons);
+    let status = run_program_with_reasons(
+        rt,
+        alloc,
+        words,
+        &mut reader,
+        &mut answer,
+        &mut reasons,
+        Ending::GoesOn,
+    );
     assert_eq!(rt; status, wanted.0);
     assert_eq!(rt; answer.as_slice(), wanted.1.as_bytes());
     assert_eq!(rt; reasons.as_slice(), wanted.2.as_bytes());
     let mut again = Vec::new(alloc);
     let mut reader = input;
-    let status = run_program_with_reasons(rt, alloc, words, &mut reader, &mut again, &mut Closed);
+    let status = run_program_with_reasons(
+        rt,
+        alloc,
+        words,
+        &mut reader,
+        &mut again,
+        &mut Closed,
+        Ending::GoesOn,
+    );
     assert_eq!(rt; status, wanted.0);
     assert_eq!(rt; again.as_slice(), wanted.1.as_bytes());
     Ok(())
@@ -132,6 +148,7 @@ fn reads_and_writes_that_fail(rt: HostRuntime) -> Result<(), Fail> {
         &mut Broken,
         &mut answer,
         &mut reasons,
+        Ending::GoesOn,
     );
     assert_eq!(rt; status, 6);
     assert_eq!(rt; answer.as_slice(), b"fault: io\n".as_slice());
@@ -149,6 +166,7 @@ fn reads_and_writes_that_fail(rt: HostRuntime) -> Result<(), Fail> {
             &mut reader,
             &mut Closed,
             &mut reasons,
+            Ending::GoesOn,
         );
         assert_eq!(rt; status, 6);
         let wanted =
