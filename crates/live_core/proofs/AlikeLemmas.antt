@@ -62,12 +62,9 @@ same_answer g h op frame part (Some made) alike is =
       sym (same_last g h op part alike) ∙ is.0,
       now,
       is.2,
-      subst (λ (x : Gathering). IsMapOf x.layout frame x.shares (frame_slices g frame) (frame_parts_of x.queues) made.bytes) (λ k. record g { layout = alike.layout_is k; shares = alike.shares_are k; queues = alike.queues_are k })
-          (subst (λ (ms : List Minislots). IsMapOf h.layout frame h.shares ms (frame_parts_of h.queues) made.bytes) (alike.slices_are frame (omega (arith, now))) is.3),
+      subst (λ (x : Gathering). IsMapOf x.layout frame x.shares (frame_slices g frame) (fronts (with_part x.queues op part)) made.bytes) (λ k. record g { layout = alike.layout_is k; shares = alike.shares_are k; queues = alike.queues_are k })
+          (subst (λ (ms : List Minislots). IsMapOf h.layout frame h.shares ms (fronts (with_part h.queues op part)) made.bytes) (alike.slices_are frame (omega (arith, now))) is.3),
     )
-  where
-    abbrev frame_parts_of : List (List ElementsFields) → List ElementsFields
-    frame_parts_of queues = fronts (with_part queues op part)
 
 abbrev put_branch : Gathering → ℕ → ElementsFields → Bool → Gathering
 put_branch g op part true = record g { queues = map (λ queue. drop 1 queue) (with_part g.queues op part); next = g.next + 1 }

@@ -4,3 +4,4 @@ pub mod GoLemmas
 pub mod LawLemmas
 pub mod RunLemmas
 pub mod PartLemmas
+pub mod JudgeLemmas

@@ -1,9 +1,17 @@
 -- A live core of which a part is the same.
-use Rattle.std.proofs.Common.{◌≡◌, ℕ, List, ◌++◌, Some, sym, subst, Result, Ok, Err, OnOk, OnErr, refl}
+use Rattle.std.proofs.Common.{◌≡◌, ℕ, List, ◌++◌, Some, sym, ap, ◌∙◌, subst, Result, Ok, Err, OnOk, OnErr, refl}
 use Rattle.std.specs.Prelude.{slice_get, slice_set}
 use Rattle.slice_scheduler.specs.declared.elements.ElementsFields.{ElementsFields}
 use Rattle.slice_table.specs.declared.plant.PlantFields.{PlantFields}
 use Rattle.slice_table.specs.Plant.{IsPlant}
+use Rattle.slice_table.specs.Roster.{holder}
+use Rattle.dsx_messages.specs.declared.modem.Modem.{Modem}
+use Rattle.operator_machine.specs.declared.heard.Heard.{Heard}
+use Rattle.operator_machine.specs.declared.action.Action.TheVariants as actions
+use Rattle.plant_runs.specs.declared.step.Step.{Step}
+use Rattle.plant_runs.specs.declared.step.Step.TheVariants as steps
+use Rattle.plant_runs.specs.declared.step.Out.{Out}
+use Rattle.plant_runs.specs.Steps.{Acts, Steps}
 use Rattle.operator_machine.specs.declared.action.Action.{Action}
 use Rattle.operator_machine.specs.State.{operator}
 use Rattle.operator_machine.specs.Machine.{own_step, IsAllowed}
@@ -13,7 +21,7 @@ use Rattle.plant_runs.specs.OwnSteps.{under}
 use Rattle.plant_runs.specs.Reached.{CoreView, frames_of}
 use Rattle.plant_core.specs.Reachable.{core_of, IsOfAStep}
 use Rattle.plant_core.proofs.StepLemmas.{same_view}
-use Rattle.live_core.specs.GoingOn.{went}
+use Rattle.live_core.specs.GoingOn.{went, IsOf, GoesOn}
 use Rattle.live_core.specs.After.{IsReachable}
 use Rattle.live_core.proofs.GoLemmas.{acts_on, acts_step, stepped_on}
 
@@ -39,3 +47,14 @@ acted_reaches (Ok x) plant gathering lives lives' queues queues' op action b wai
     reached
 acted_reaches (Err y) plant gathering lives lives' queues queues' op action b waiting valid goal there waits allowed new_lives new_queues same_lives same_queues reached =
     subst (λ (core : CoreView). ∥ IsReachable core ∥₁) (sym (same_view plant gathering lives lives' queues queues' same_lives same_queues)) reached
+
+-- what is heard of a modem goes to the operator that lists it
+pub arrive_on : (new old : PlantFields) (lives : List BookView) (queues : List (List (ℕ × ElementsFields))) (gathering : Gathering) (modem : Modem) (heard : Heard) (op : ℕ) (after : CoreView) (now : List Out)
+    → new ≡ old → Some op ≡ holder old.rows modem → GoesOn (Acts op (actions.Arrive modem heard)) (core_of new lives queues gathering) after now
+    → GoesOn (Steps (steps.Arrive modem heard)) (core_of old lives queues gathering) after now
+arrive_on new old lives queues gathering modem heard op after now same there goes = λ core is.
+    let done = goes core (subst (λ (p : PlantFields). IsOf (core_of p lives queues gathering) core) (sym same) is) in
+    (done.0, (op, ap (λ (p : PlantFields). holder p.rows modem) is.plant_is ∙ sym there, done.1), done.2)
+
+pub step_is : (step named : Step) (old new : CoreView) (now : List Out) → step ≡ named → GoesOn (Steps named) old new now → GoesOn (Steps step) old new now
+step_is step named old new now same goes = subst (λ (s : Step). GoesOn (Steps s) old new now) (sym same) goes

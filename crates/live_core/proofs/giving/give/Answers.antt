@@ -1,10 +1,21 @@
-use Rattle.std.proofs.Common.{arith}
-use Rattle.std.proofs.lemmas.Option.{slice_get-get_or}
+use Rattle.std.proofs.Common.{option_map, sym, ap, ◌∙◌, arith}
+use Rattle.std.proofs.lemmas.Option.{slice_get-get_or, slice_get-map, slice_get_read}
 use Rattle.live_core.specs.DeskView.{book_at, waiting_at}
 use Rattle.plant_core.proofs.GiveLemmas.{one_more_taken, all_taken}
 use Rattle.operator_machine.specs.declared.action.Action.TheVariants as actions
 use Rattle.live_core.specs.GoingOn.{went}
 use Rattle.live_core.proofs.giving.give.Goals as goal
+
+pub reslice-requires : goal.reslice-requires
+reslice-requires g c =
+    let now = c.loop-op.desks in
+    let olds = c.args.desks.now.items in
+    c.requires.fit c.loop-op.op _ (book_at c.index_mut.result.now) (slice_get-get_or c.args.rows.now c.loop-op.op _ c.loop-op-test.true)
+    (slice_get-map book_at olds c.loop-op.op
+    ∙ ap (option_map book_at)
+    (sym (c.loop-op.invariant.others c.loop-op.op (omega arith))
+    ∙ slice_get_read now.items now.len c.loop-op.op c.index_mut.result.now now.ok.0
+    (omega (arith, c.loop-op-test.true, c.requires.one_each, c.loop-op.invariant.one_each, now.ok.0, c.args.desks.now.ok.0)) c.index_mut.ensures.value))
 
 pub loop-op-preserved : goal.loop-op-preserved
 loop-op-preserved g c =

@@ -8,6 +8,7 @@ use Rattle.plant_runs.specs.OwnSteps.{slice_of}
 use Rattle.plant_core.proofs.FreeLemmas.{are_free}
 use Rattle.plant_core.proofs.ResliceLemmas.{are_slices}
 use Rattle.live_core.proofs.GoLemmas.{may_take, reslices_on, stepped_on}
+use Rattle.live_core.proofs.PartLemmas.{same_gathering}
 use Rattle.live_core.proofs.held.LiveCore.give.Goals as goal
 
 pub slices_of-requires : goal.slices_of-requires
@@ -24,6 +25,9 @@ reslice-requires g c =
 
 pub give-requires-clause-fit : goal.give-requires-clause-fit
 give-requires-clause-fit g c = (are_free c.args.from _ c.args.rows.now c.requires).fit
+
+pub invariant_of-self : goal.invariant_of-self
+invariant_of-self g c = record { reached = same_gathering _ _ _ _ _ c.in_err-reslice.ensures.err c.args.self.now.reached }
 
 pub invariant_of-self-2 : goal.invariant_of-self-2
 invariant_of-self-2 g c =

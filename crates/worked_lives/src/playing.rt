@@ -1,0 +1,67 @@
+//! Scripts, played over a live core.
+
+use live_core::LiveCore;
+use plant_runs::Step;
+use slice_table::Plant;
+use std::alloc::Global;
+use std::test::Fail;
+use worked_playing::{put_outs, steps_of};
+
+/// The live core of a plant as it is opened, with rankings by its operators' policies.
+#[macro_export]
+macro_rules! live {
+    ($alloc:expr, $plant:expr) => {{
+        let alloc = $alloc;
+        let plant: slice_table::Plant = $plant;
+        let mut rankings = Vec::new(alloc);
+        for row in plant.rows() {
+            let policy = row.get_fields().policy;
+            rankings.push(grant_policy::Ranking::new(
+                policy,
+                Box::new(alloc, move |input: grant_policy::RankInput| -> u8 {
+                    grant_policy::rank_by(policy, &input)
+                })?,
+            ))?;
+        }
+        let opened = live_core::LiveCore::open(alloc, plant, rankings);
+        opened.ok().ok_or("not opened")?
+    }};
+}
+
+/// Does steps up to the first that is refused, and writes what they put out, and the fault.
+fn play_steps(
+    alloc: Global,
+    core: &mut LiveCore,
+    text: &mut String,
+    steps: Vec<Step>,
+) -> Result<(), Fail> {
+    let alone = steps.len() == 1;
+    for (at, step) in steps.into_iter().enumerate() {
+        match core.step(alloc, step) {
+            Ok(outs) => put_outs(alloc, text, outs.as_slice())?,
+            Err(fault) if alone => {
+                text.push_str(format!(in alloc; "\n= refused: {fault:?}")?.as_str())?;
+            }
+            Err(fault) => {
+                text.push_str(format!(in alloc; "\n= refused at {at}: {fault:?}")?.as_str())?;
+                return Ok(());
+            }
+        }
+    }
+    Ok(())
+}
+
+/// A script but for the lines behind `=`, played over the live core of a plant: each line with what is put out below it.
+pub(crate) fn played_live(alloc: Global, plant: Plant, script: &str) -> Result<String, Fail> {
+    let mut core = live!(alloc, plant);
+    let mut text = String::new(alloc);
+    for line in script.split('\n') {
+        if !line.is_empty() && !line.starts_with('=') {
+            text.push_str("\n")?;
+            text.push_str(line)?;
+            let steps = steps_of(alloc, core.plant(), line)?;
+            play_steps(alloc, &mut core, &mut text, steps)?;
+        }
+    }
+    Ok(text)
+}
