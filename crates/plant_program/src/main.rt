@@ -37,24 +37,25 @@ struct Left<W> {
 }
 
 impl<W> Left<W> {
-    /// The answer, where a reader that has gone is noted.
-    fn noted<T>(&mut self, told: io::Result<T>) -> io::Result<T> {
-        if let Err(error) = &told {
+    /// Notes whether an answer says that the reader has gone.
+    fn note<T>(&mut self, told: &io::Result<T>) {
+        if let Err(error) = told {
             self.is_left = self.is_left || error.kind() == io::ErrorKind::BrokenPipe;
         }
-        told
     }
 }
 
 impl<W: Write> Write for Left<W> {
     fn write(&mut self, buf: &[u8]) -> io::Result<usize> {
         let told = self.writer.write(buf);
-        self.noted(told)
+        self.note(&told);
+        told
     }
 
     fn flush(&mut self) -> io::Result<()> {
         let told = self.writer.flush();
-        self.noted(told)
+        self.note(&told);
+        told
     }
 }
 
