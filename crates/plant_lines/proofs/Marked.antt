@@ -53,3 +53,10 @@ headed old one two new head name rest first second third =
     third
     ∙ (ap (λ (t : List ℕ). t ++ rest) (second ∙ ap (λ (t : List ℕ). t ++ name) first)
     ∙ (append_assoc (old ++ head) name rest ∙ append_assoc old head (name ++ rest)))
+
+-- bytes in hexadecimal, one list behind the other
+pub encode_more : (t xs ys : List ℕ) → encode_with t (xs ++ ys) ≡ encode_with t xs ++ encode_with t ys
+unfolding encode_with
+encode_more t [] ys = refl
+encode_more t (b ∷ xs) ys =
+    ap (λ (more : List ℕ). slice_index t (b / 16) ∷ slice_index t (b % 16) ∷ more) (encode_more t xs ys)

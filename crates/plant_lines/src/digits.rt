@@ -1,6 +1,6 @@
 //! Numbers and addresses, their digits written in place.
 
-ghost use Rattle.std.specs.Prelude.{◌≡◌, ◌+◌, ◌<◌, ◌≤◌, [], ◌∷◌, ◌++◌, drop, length, OnOk, IsAscii};
+ghost use Rattle.std.specs.Prelude.{◌≡◌, ◌+◌, ◌<◌, ◌≤◌, [], ◌∷◌, ◌++◌, codes, drop, length, OnOk, IsAscii};
 ghost use Rattle.std.specs.Fmt.{decimal};
 ghost use Rattle.std.specs.String.{string_bytes};
 ghost use Rattle.dsx_messages.specs.Modem.{hex_digit, hex_pair};
@@ -12,10 +12,16 @@ use slice_scheduler::Span;
 use std::alloc::AllocError;
 
 /// The most bytes of a span behind a space: four numbers of at most 5 digits, each behind a mark.
-const SPAN_ROOM: usize = 24;
+pub(crate) const SPAN_ROOM: usize = 24;
 
 /// The bytes of a number behind a space, at most.
 const PENDING_ROOM: usize = 6;
+
+/// The bytes of a grant pending behind a space, at most.
+pub(crate) const PENDING_END: usize = 8;
+
+/// A grant pending, but for its number.
+pub(crate) const NO_PENDING: &[u8; PENDING_END] = b"      /P";
 
 /// Adds the characters from a place on, all of them ASCII.
 fn put_from(text: &mut String, room: &[u8], place: usize) -> Result<(), AllocError>
@@ -42,9 +48,12 @@ fn write_marked(room: &mut [u8], mark: u8, number: u16, end: usize) -> usize
     start
 }
 
-/// A span behind a space.
-pub(crate) fn put_span(text: &mut String, span: Span) -> Result<(), AllocError>
-    ensures { OnOk result (string_bytes text.new ≡ string_bytes text.old ++ spaced (span_text span)) }
+/// Writes a span behind a space at the end of its room. Answers where it begins.
+#[tactic(auto, using(crate::proofs::Marked::marks_are, crate::proofs::Marked::marks_written))]
+pub(crate) fn span_digits(room: &mut [u8; SPAN_ROOM], span: Span) -> usize
+    ensures within { result ≤ 24 }
+    ensures written { drop result room.new ≡ spaced (span_text span) }
+    ensures ascii { IsAscii (drop result room.new) }
 {
     let Span {
         sid,
@@ -52,20 +61,37 @@ pub(crate) fn put_span(text: &mut String, span: Span) -> Result<(), AllocError>
         start,
         len,
     } = span;
+    let place = write_marked(room, b'/', len, SPAN_ROOM);
+    let place = write_marked(room, b'/', start, place);
+    let place = write_marked(room, b'/', u16::from(iuc.number()), place);
+    write_marked(room, b' ', sid, place)
+}
+
+/// A span behind a space.
+pub(crate) fn put_span(text: &mut String, span: Span) -> Result<(), AllocError>
+    ensures { OnOk result (string_bytes text.new ≡ string_bytes text.old ++ spaced (span_text span)) }
+{
     let mut room = [0u8; SPAN_ROOM];
-    let place = write_marked(&mut room, b'/', len, SPAN_ROOM);
-    let place = write_marked(&mut room, b'/', start, place);
-    let place = write_marked(&mut room, b'/', u16::from(iuc.number()), place);
-    let place = write_marked(&mut room, b' ', sid, place);
+    let place = span_digits(&mut room, span);
     put_from(text, &room, place)
+}
+
+/// Writes a grant pending behind a space at the end of its room, of which the mark stands there. Answers where it begins.
+pub(crate) fn pending_digits(room: &mut [u8; PENDING_END], sid: u16) -> usize
+    requires { drop 6 room.old ≡ codes "/P" }
+    ensures within { result ≤ 8 }
+    ensures written { drop result room.new ≡ spaced (pending_text sid) }
+    ensures ascii { IsAscii (drop result room.new) }
+{
+    write_marked(room, b' ', sid, PENDING_ROOM)
 }
 
 /// A grant pending behind a space.
 pub(crate) fn put_one_pending(text: &mut String, sid: u16) -> Result<(), AllocError>
     ensures { OnOk result (string_bytes text.new ≡ string_bytes text.old ++ spaced (pending_text sid)) }
 {
-    let mut room = *b"      /P";
-    let place = write_marked(&mut room, b' ', sid, PENDING_ROOM);
+    let mut room = *NO_PENDING;
+    let place = pending_digits(&mut room, sid);
     put_from(text, &room, place)
 }
 
@@ -90,13 +116,21 @@ fn hex_pair(byte: u8) -> (u8, u8)
     (hex_digit(byte / 16), hex_digit(byte % 16))
 }
 
-/// The address of a modem.
-pub(crate) fn put_address(text: &mut String, modem: Modem) -> Result<(), AllocError>
-    ensures { OnOk result (string_bytes text.new ≡ string_bytes text.old ++ address modem) }
+/// The digits of a modem's address.
+pub(crate) fn address_digits(modem: Modem) -> [u8; 12]
+    ensures value { result ≡ address modem }
+    ensures ascii { IsAscii result }
 {
     let [a, b, c, d, e, f] = modem.0;
     let (a, b, c) = (hex_pair(a), hex_pair(b), hex_pair(c));
     let (d, e, f) = (hex_pair(d), hex_pair(e), hex_pair(f));
-    let digits = [a.0, a.1, b.0, b.1, c.0, c.1, d.0, d.1, e.0, e.1, f.0, f.1];
+    [a.0, a.1, b.0, b.1, c.0, c.1, d.0, d.1, e.0, e.1, f.0, f.1]
+}
+
+/// The address of a modem.
+pub(crate) fn put_address(text: &mut String, modem: Modem) -> Result<(), AllocError>
+    ensures { OnOk result (string_bytes text.new ≡ string_bytes text.old ++ address modem) }
+{
+    let digits = address_digits(modem);
     put_from(text, &digits, 0)
 }

@@ -8,9 +8,11 @@ mod fields;
 mod lines;
 mod script;
 mod text;
+mod writing;
 
 pub use causes::name_of;
 pub use fields::FieldFault;
 pub use lines::{LineFault, message_in, messages_of, parts_of, put_parts};
 pub use script::{LineStep, Sender, place_of, put_line, steps_of};
 pub use text::{put_actions, put_map, put_name, put_output, put_outs};
+pub use writing::write_outs;

@@ -1,7 +1,8 @@
 //! The lines of a script, and the steps that they say.
 
-ghost use Rattle.std.specs.Prelude.{◌≡◌, [], map};
+ghost use Rattle.std.specs.Prelude.{◌≡◌, [], map, Err, IfErr};
 ghost use Rattle.std.specs.List.{position_from};
+ghost use Rattle.plant_lines.specs.declared.fields.FieldFault.TheVariants.{Shape, NoMemory};
 ghost use Rattle.plant_lines.specs.Fields.{Gives, seen, behind};
 ghost use Rattle.plant_lines.specs.Lines.{lines_of};
 ghost use Rattle.plant_lines.specs.Script.{sender_in, is_named, operator_in, heard_steps, message_steps, request_steps, tick_steps, all_ticks, ticked_steps, share_in, shares_after, shares_in, resliced_steps, steps_in, line_steps, steps_after, steps_of};
@@ -76,7 +77,8 @@ fn put_heard(
     heard: Heard,
     steps: &mut Vec<LineStep>,
 ) -> Result<(), FieldFault>
-    ensures { Gives (λ _. steps.new.items) result (behind steps.old.items (Ok (heard_steps number sender heard))) }
+    ensures said { Gives (λ _. steps.new.items) result (behind steps.old.items (Ok (heard_steps number sender heard))) }
+    ensures memory { IfErr result (λ fault. fault ≡ NoMemory) }
 {
     let modem = sender.modem;
     let step = Step::Arrive { modem, heard };
@@ -95,8 +97,9 @@ fn put_message(
     fields: &[&[u8]],
     steps: &mut Vec<LineStep>,
 ) -> Result<(), FieldFault>
-    ensures { Gives (λ _. steps.new.items) result
+    ensures said { Gives (λ _. steps.new.items) result
         (behind steps.old.items (message_steps plant.now number (map (λ field. field.now) fields.now))) }
+    ensures unsaid { result ≡ Err Shape → steps.new.items ≡ steps.old.items }
 {
     let (address, message) = two_of(fields)?;
     let sender = sender_in(plant, address)?;
@@ -112,8 +115,9 @@ fn put_request(
     fields: &[&[u8]],
     steps: &mut Vec<LineStep>,
 ) -> Result<(), FieldFault>
-    ensures { Gives (λ _. steps.new.items) result
+    ensures said { Gives (λ _. steps.new.items) result
         (behind steps.old.items (request_steps plant.now number (map (λ field. field.now) fields.now))) }
+    ensures unsaid { result ≡ Err Shape → steps.new.items ≡ steps.old.items }
 {
     let (address, sid, minislots) = three_of(fields)?;
     let sender = sender_in(plant, address)?;
@@ -124,7 +128,8 @@ fn put_request(
 
 /// The steps of one operator's tick.
 fn put_tick(number: u64, op: Op, steps: &mut Vec<LineStep>) -> Result<(), FieldFault>
-    ensures { Gives (λ _. steps.new.items) result (behind steps.old.items (Ok (tick_steps number op))) }
+    ensures said { Gives (λ _. steps.new.items) result (behind steps.old.items (Ok (tick_steps number op))) }
+    ensures memory { IfErr result (λ fault. fault ≡ NoMemory) }
 {
     let step = Step::Tick { op };
     steps.push(LineStep { number, step })?;
@@ -139,7 +144,8 @@ fn put_all_ticks(
     rows: &[OperatorRow],
     steps: &mut Vec<LineStep>,
 ) -> Result<(), FieldFault>
-    ensures { Gives (λ _. steps.new.items) result (behind steps.old.items (Ok (all_ticks number rows.now 0))) }
+    ensures said { Gives (λ _. steps.new.items) result (behind steps.old.items (Ok (all_ticks number rows.now 0))) }
+    ensures memory { IfErr result (λ fault. fault ≡ NoMemory) }
 {
     for op in 0..rows.len() {
         put_tick(number, op, steps)?;
@@ -155,8 +161,9 @@ fn put_ticked(
     fields: &[&[u8]],
     steps: &mut Vec<LineStep>,
 ) -> Result<(), FieldFault>
-    ensures { Gives (λ _. steps.new.items) result
+    ensures said { Gives (λ _. steps.new.items) result
         (behind steps.old.items (ticked_steps plant.now number (map (λ field. field.now) fields.now))) }
+    ensures unsaid { result ≡ Err Shape → steps.new.items ≡ steps.old.items }
 {
     match fields {
         [] => put_all_ticks(number, plant.rows(), steps),
@@ -216,8 +223,9 @@ fn put_resliced(
     fields: &[&[u8]],
     steps: &mut Vec<LineStep>,
 ) -> Result<(), FieldFault>
-    ensures { Gives (λ _. steps.new.items) result
+    ensures said { Gives (λ _. steps.new.items) result
         (behind steps.old.items (resliced_steps plant.now number (map (λ field. field.now) fields.now))) }
+    ensures unsaid { result ≡ Err Shape → steps.new.items ≡ steps.old.items }
 {
     let [first, fields @ ..] = fields else {
         return Err(FieldFault::Shape);
@@ -238,8 +246,9 @@ fn put_fields(
     fields: &[&[u8]],
     steps: &mut Vec<LineStep>,
 ) -> Result<(), FieldFault>
-    ensures { Gives (λ _. steps.new.items) result
+    ensures said { Gives (λ _. steps.new.items) result
         (behind steps.old.items (steps_in plant.now number (map (λ field. field.now) fields.now))) }
+    ensures unsaid { result ≡ Err Shape → steps.new.items ≡ steps.old.items }
 {
     let [word, fields @ ..] = fields else {
         return Err(FieldFault::Shape);
@@ -268,7 +277,8 @@ pub fn put_line<'a>(
     fields: &mut Vec<&'a [u8]>,
     steps: &mut Vec<LineStep>,
 ) -> Result<(), FieldFault>
-    ensures { Gives (λ _. steps.new.items) result (behind steps.old.items (line_steps plant.now number line.now)) }
+    ensures said { Gives (λ _. steps.new.items) result (behind steps.old.items (line_steps plant.now number line.now)) }
+    ensures unsaid { result ≡ Err Shape → steps.new.items ≡ steps.old.items }
 {
     if line.is_empty() {
         return Ok(());

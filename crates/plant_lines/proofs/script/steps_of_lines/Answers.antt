@@ -19,7 +19,7 @@ returns-in-Err-Shape c =
     let lines = map (λ (l : Bor (List ℕ)). l.now) c.args.lines.now in
     let here = line_at c.args.lines.now place none c.loop-line-test.true in
     let said = line_steps plant number line in
-    let fails : Fails Shape (behind steps said) = subst (λ (f : FieldFault). Fails f (behind steps said)) c.in-Err-Shape.field-0-is c.in-Err-Shape.ensures in
+    let fails : Fails Shape (behind steps said) = subst (λ (f : FieldFault). Fails f (behind steps said)) c.in-Err-Shape.field-0-is c.in-Err-Shape.ensures.said in
     sym c.loop-line.invariant.goes_on
     ∙ ap (steps_after plant number steps) here
     ∙ steps_fail plant number steps line (drop (place + 1) lines) Shape said refl fails
@@ -37,7 +37,7 @@ loop-line-preserved c =
     record {
       number_is = let n : number ≡ place + 1 = c.loop-line.invariant.number_is in omega arith;
       goes_on =
-          sym (steps_more plant number steps c.put_line.new.steps.items line (drop (place + 1) lines) (line_steps plant number line) refl c.in-Ok.ensures)
+          sym (steps_more plant number steps c.put_line.new.steps.items line (drop (place + 1) lines) (line_steps plant number line) refl c.in-Ok.ensures.said)
           ∙ ap (steps_after plant number steps) (sym here)
           ∙ c.loop-line.invariant.goes_on;
     }

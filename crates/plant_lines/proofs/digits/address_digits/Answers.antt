@@ -1,10 +1,10 @@
 use Rattle.std.proofs.Common.{ℕ, List, [], ◌∷◌}
 use Rattle.std.proofs.lemmas.Str.Ascii.{IsAscii-nil}
 use Rattle.plant_lines.proofs.Marked.{pair_ascii}
-use Rattle.plant_lines.proofs.digits.put_address.Goals as goal
+use Rattle.plant_lines.proofs.digits.address_digits.Goals as goal
 
-pub put_from-requires-clause-ascii : goal.put_from-requires-clause-ascii
-put_from-requires-clause-ascii c =
+pub returns-clause-ascii : goal.returns-clause-ascii
+returns-clause-ascii c =
     let from_f : List ℕ = c.hex_pair-f.result.0 ∷ c.hex_pair-f.result.1 ∷ [] in
     let from_e : List ℕ = c.hex_pair-e.result.0 ∷ c.hex_pair-e.result.1 ∷ from_f in
     let from_d : List ℕ = c.hex_pair-d.result.0 ∷ c.hex_pair-d.result.1 ∷ from_e in
