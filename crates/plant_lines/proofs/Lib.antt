@@ -1,3 +1,4 @@
+pub mod Bars
 pub mod Marked
 pub mod Outcomes
 pub mod Scripts

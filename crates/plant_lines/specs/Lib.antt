@@ -1,3 +1,4 @@
+pub mod Input
 pub mod Lines
 pub mod Messages
 pub mod Fields

@@ -1,4 +1,3 @@
-pub mod Bars
 pub mod StepRuns
 pub mod Tasks
 pub mod Telling

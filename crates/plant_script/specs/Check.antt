@@ -1,7 +1,6 @@
--- What `check` answers to an input: a plant file, and the script behind the first line `---` (own).
-use Rattle.std.specs.Prelude.{◌==◌, ℕ, ◌+◌, ◌&&◌, ◌||◌, Bool, true, List, [], ◌∷◌, ◌++◌, take, drop, Result, Ok, Err, if◌then◌else◌, codes}
+-- What `check` answers to an input: a plant file, and the script behind it (own).
+use Rattle.std.specs.Prelude.{ℕ, List, [], ◌∷◌, ◌++◌, Result, Ok, Err, if◌then◌else◌, codes}
 use Rattle.std.specs.Fmt.{decimal}
-use Rattle.std.specs.Str.{bytes_eq}
 use Rattle.toml.specs.Parse.{parse_document}
 use Rattle.dsx_messages.specs.Modem.{hex_digits}
 use Rattle.slice_table.specs.declared.plant.PlantFields.{PlantFields}
@@ -10,25 +9,9 @@ use Rattle.slice_table.specs.declared.plant_fault.PlantFault.TheVariants.{NotTom
 use Rattle.slice_table.specs.Keys.{key_text}
 use Rattle.slice_table.specs.ReadPlant.{text_plant}
 use Rattle.plant_lines.specs.declared.script.LineStep.{LineStep}
+use Rattle.plant_lines.specs.Input.{plant_text, script_text}
 use Rattle.plant_lines.specs.Script.{steps_of}
 use Rattle.plant_script.specs.One.{Answer, is_readable}
-
--- ---- the two parts of the input
-
--- at the head of the bytes stands a line of three dashes
-abbrev pub is_bar : List ℕ → Bool
-is_bar bytes = bytes_eq bytes (codes "---") || bytes_eq (take 4 bytes) (codes "---" ++ 10 ∷ [])
-
--- how many bytes stand before the first such line, where a line may begin here; all bytes where there is none
-abbrev pub before_bar : Bool → List ℕ → ℕ
-before_bar begins [] = 0
-before_bar begins (b ∷ bytes) = if begins && is_bar (b ∷ bytes) then 0 else 1 + before_bar (b == 10) bytes
-
-unfoldable pub plant_text : List ℕ → List ℕ
-plant_text input = take (before_bar true input) input
-
-unfoldable pub script_text : List ℕ → List ℕ
-script_text input = drop (before_bar true input + 4) input
 
 -- ---- the line of a plant at fault
 

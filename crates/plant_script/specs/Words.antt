@@ -11,10 +11,11 @@ use Rattle.plant_lines.specs.declared.script.LineStep.{LineStep}
 use Rattle.plant_words.specs.declared.asked.WordsFault.{WordsFault}
 use Rattle.plant_words.specs.declared.asked.WordsFault.TheVariants as faults
 use Rattle.plant_words.specs.Order.{Order, one, check, run, threads, history}
+use Rattle.plant_lines.specs.Input.{plant_text, script_text}
 use Rattle.plant_lines.specs.Script.{is_named, steps_of}
 use Rattle.plant_lines.specs.Text.{outs_text, history_text}
 use Rattle.plant_script.specs.One.{Answer, is_readable, answer_of}
-use Rattle.plant_script.specs.Check.{plant_text, script_text, answer_to_steps, answer_to_plant, check_of}
+use Rattle.plant_script.specs.Check.{answer_to_steps, answer_to_plant, check_of}
 use Rattle.plant_script.specs.Run.{IsRunOf}
 use Rattle.plant_script.specs.OnThreads.{IsThreadedRunOf}
 

@@ -5,37 +5,15 @@ ghost use Rattle.std.specs.Fmt.{decimal};
 ghost use Rattle.std.specs.Str.{is_utf8};
 ghost use Rattle.std.specs.String.{string_bytes};
 ghost use Rattle.plant_lines.specs.Script.{steps_of};
-ghost use Rattle.plant_script.specs.Check.{is_bar, before_bar, plant_text, script_text, fault_text, answer_to_steps, check_of};
+ghost use Rattle.plant_script.specs.Check.{fault_text, answer_to_steps, check_of};
 ghost use Rattle.plant_script.specs.One.{is_readable};
 ghost use Rattle.plant_script.specs.declared.input.Stop.TheVariants.{Memory};
 
 use crate::answer::Answer;
 use crate::input::Stop;
-use plant_lines::{LineFault, steps_of};
+use plant_lines::{LineFault, before_bar, plant_text, script_text, steps_of};
 use slice_table::{Plant, PlantFault, read_plant};
 use std::alloc::{AllocError, Global};
-
-/// Whether a line of three dashes stands at the head of the bytes.
-fn is_bar(bytes: &[u8]) -> bool
-    ensures { result ≡ is_bar bytes.now }
-{
-    bytes == b"---".as_slice() || bytes.starts_with(b"---\n")
-}
-
-/// How many bytes stand before the first line of three dashes.
-pub fn before_bar(input: &[u8]) -> usize
-    ensures value { result ≡ before_bar true input.now }
-    ensures inside { result ≤ length input.now }
-{
-    let mut begins = true;
-    for (place, byte) in input.iter().enumerate() {
-        if begins && is_bar(&input[place..]) {
-            return place;
-        }
-        begins = *byte == b'\n';
-    }
-    input.len()
-}
 
 /// The line of a plant at fault.
 #[tactic(auto, unfolding(crate::specs::Check::fault_text))]
@@ -79,34 +57,6 @@ pub fn answer_to_line(alloc: Global, number: u64) -> Result<Answer, AllocError>
     let line = format!(in alloc; "fault: line {number}\n")?;
     let text = line.into_bytes();
     Ok(Answer { status: 4, text })
-}
-
-/// What stands before that line.
-#[tactic(auto, unfolding(crate::specs::Check::plant_text))]
-pub fn plant_text(input: &[u8], place: usize) -> &str
-    requires utf8 { is_utf8 input.now ≡ true }
-    requires place { place ≡ before_bar true input.now }
-    requires inside { place ≤ length input.now }
-    ensures { result.now ≡ plant_text input.now }
-{
-    match str::from_utf8(&input[..place]) {
-        Ok(text) => text,
-        Err(_error) => unreachable!(),
-    }
-}
-
-/// What stands behind it.
-#[tactic(auto, unfolding(crate::specs::Check::script_text))]
-pub fn script_text(input: &[u8], place: usize) -> &[u8]
-    requires place { place ≡ before_bar true input.now }
-    requires inside { place ≤ length input.now }
-    ensures { result.now ≡ script_text input.now }
-{
-    if input.len() - place < 4 {
-        &[]
-    } else {
-        &input[place + 4..]
-    }
 }
 
 /// What is answered to the script of a plant.

@@ -11,9 +11,9 @@ ghost use Rattle.plant_script.specs.Words.{AnswersSteps, AnswersOperator, Answer
 ghost use Rattle.plant_script.specs.declared.input.Stop.TheVariants.{Memory};
 
 use crate::answer::Answer;
-use crate::check::{answer_to_fault, answer_to_line, before_bar, plant_text, script_text};
+use crate::check::{answer_to_fault, answer_to_line};
 use crate::input::Stop;
-use plant_lines::{LineFault, LineStep, place_of, steps_of};
+use plant_lines::{LineFault, LineStep, before_bar, place_of, plant_text, script_text, steps_of};
 use slice_table::{Op, Plant, PlantFault, read_plant};
 use std::alloc::Global;
 

@@ -3,7 +3,7 @@ use Rattle.std.proofs.Common.{◌≡◌, ℕ, suc, ◌<◌, ◌≤◌, ◌==◌,
 use Rattle.std.proofs.lemmas.Bool.Decides.{nat_tests}
 use Rattle.std.specs.Str.{IsUtf8, is_utf8, IsCharBoundary}
 use Rattle.std.proofs.lemmas.Str.{IsUtf8-from_is_utf8, IsUtf8-take, IsCharBoundary-before_ascii, IsCharBoundary-end}
-use Rattle.plant_script.specs.Check.{is_bar, before_bar}
+use Rattle.plant_lines.specs.Input.{is_bar, before_bar}
 
 -- a bar begins with a dash
 bar_dash : (b : ℕ) (bytes : List ℕ) → is_bar (b ∷ bytes) ≡ true → b ≡ 45

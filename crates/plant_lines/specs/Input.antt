@@ -1,0 +1,18 @@
+-- An input: a plant file, and the script behind the first line `---` (own).
+use Rattle.std.specs.Prelude.{◌==◌, ℕ, ◌+◌, ◌&&◌, ◌||◌, Bool, true, List, [], ◌∷◌, ◌++◌, take, drop, if◌then◌else◌, codes}
+use Rattle.std.specs.Str.{bytes_eq}
+
+-- at the head of the bytes stands a line of three dashes
+abbrev pub is_bar : List ℕ → Bool
+is_bar bytes = bytes_eq bytes (codes "---") || bytes_eq (take 4 bytes) (codes "---" ++ 10 ∷ [])
+
+-- how many bytes stand before the first such line, where a line may begin here; all bytes where there is none
+abbrev pub before_bar : Bool → List ℕ → ℕ
+before_bar begins [] = 0
+before_bar begins (b ∷ bytes) = if begins && is_bar (b ∷ bytes) then 0 else 1 + before_bar (b == 10) bytes
+
+unfoldable pub plant_text : List ℕ → List ℕ
+plant_text input = take (before_bar true input) input
+
+unfoldable pub script_text : List ℕ → List ℕ
+script_text input = drop (before_bar true input + 4) input

@@ -1,0 +1,69 @@
+-- What a line is answered.
+use Rattle.std.proofs.Common.{◌≡◌, ℕ, List, [], ◌++◌, Option, Ok, Err, refl, sym, subst, ◌∙◌, append-nil}
+use Rattle.std.specs.Io.KnownBytes.{Appends}
+use Rattle.std.proofs.KnownBytes.{Appends-nil, Appends-trans}
+use Rattle.slice_table.specs.declared.plant.PlantFields.{PlantFields}
+use Rattle.plant_runs.specs.declared.step.Step.{Step}
+use Rattle.plant_runs.specs.declared.step.Out.{Out}
+use Rattle.plant_runs.specs.Reached.{CoreView}
+use Rattle.live_core.specs.After.{IsAfter}
+use Rattle.plant_lines.specs.declared.fields.FieldFault.{FieldFault}
+use Rattle.plant_lines.specs.declared.script.LineStep.{LineStep}
+use Rattle.plant_lines.specs.Fields.{Read}
+use Rattle.plant_lines.specs.Text.{outs_text}
+use Rattle.plant_service.specs.declared.line_end.LineEnd.{LineEnd}
+use Rattle.plant_service.specs.declared.line_end.LineEnd.TheVariants.{AtFault, NoMemory}
+use Rattle.plant_service.specs.Service.{Answered, steps_said, end_text, IsFault, EndsAs}
+use Rattle.plant_service.specs.SoFar.{HasDone, HasAnswered, IsAnswered}
+
+-- a line that says steps
+pub steps_answered : (plant : PlantFields) (before : List Step) (shown : List Out) (number : ℕ) (line : List ℕ) (steps : List LineStep) (live : CoreView) (end : LineEnd) (w0 w1 : Option (List ℕ))
+    → steps_said plant number line ≡ Ok steps → HasDone plant before shown steps live end w0 w1 → HasAnswered plant before shown number line live end w0 w1
+steps_answered plant before shown number line steps live end w0 w1 said has = record {
+  answered = record { done = _; told = has.told; end = end };
+  is = record { after = has.after; ends = subst (λ (r : Read (List LineStep)). EndsAs r live (record { done = _; told = has.told; end = end })) (sym said) (has.at, refl, has.ends) };
+  end_is = refl;
+  written = has.written;
+}
+
+unchanged : (plant : PlantFields) (before : List Step) (shown : List Out) (live : CoreView) → IsAfter plant before shown live → IsAfter plant (before ++ []) (shown ++ []) live
+unchanged plant before shown live after =
+    subst (λ (s : List Step). IsAfter plant s (shown ++ []) live) (sym (append-nil before)) (subst (λ (o : List Out). IsAfter plant before o live) (sym (append-nil shown)) after)
+
+abbrev nothing : LineEnd → Answered
+nothing end = record { done = []; told = []; end = end }
+
+-- a line that says none
+pub none_answered : (plant : PlantFields) (before : List Step) (shown : List Out) (number : ℕ) (line : List ℕ) (fault : FieldFault) (live : CoreView) (known : Option (List ℕ))
+    → IsAfter plant before shown live → steps_said plant number line ≡ Err fault → HasAnswered plant before shown number line live AtFault known known
+none_answered plant before shown number line fault live known after said = record {
+  answered = nothing AtFault;
+  is = record { after = unchanged plant before shown live after; ends = subst (λ (r : Read (List LineStep)). EndsAs r live (nothing AtFault)) (sym said) (refl, refl, tt) };
+  end_is = refl;
+  written = Appends-nil known;
+}
+
+ends_wanting : (said : Read (List LineStep)) (live : CoreView) → EndsAs said live (nothing NoMemory)
+ends_wanting (Ok steps) live = (0, refl, tt)
+ends_wanting (Err fault) live = (refl, refl, tt)
+
+-- memory is wanting for the line itself
+pub memory_answered : (plant : PlantFields) (before : List Step) (shown : List Out) (number : ℕ) (line : List ℕ) (live : CoreView) (known : Option (List ℕ))
+    → IsAfter plant before shown live → HasAnswered plant before shown number line live NoMemory known known
+memory_answered plant before shown number line live known after = record {
+  answered = nothing NoMemory;
+  is = record { after = unchanged plant before shown live after; ends = ends_wanting (steps_said plant number line) live };
+  end_is = refl;
+  written = Appends-nil known;
+}
+
+-- the end is written too
+pub end_written : (plant : PlantFields) (before : List Step) (shown : List Out) (number : ℕ) (line : List ℕ) (live : CoreView) (end : LineEnd) (w0 w1 w2 : Option (List ℕ))
+    → HasAnswered plant before shown number line live end w0 w1 → Appends w1 w2 (end_text number end) → IsAnswered plant before shown number line live w0 w2
+end_written plant before shown number line live end w0 w1 w2 has wrote = record {
+  answered = has.answered;
+  is = has.is;
+  written =
+      Appends-trans w0 w1 w2 (outs_text plant has.answered.told) (end_text number has.answered.end) has.written
+      (subst (λ (e : LineEnd). Appends w1 w2 (end_text number e)) (sym has.end_is) wrote);
+}

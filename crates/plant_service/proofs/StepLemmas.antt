@@ -1,0 +1,137 @@
+-- The steps of a line, one after the other.
+use Rattle.std.proofs.Common.{◌≡◌, ◌≢◌, ℕ, zero, suc, List, [], ◌∷◌, ◌++◌, take, drop, Option, Some, None, IsSome, Err, refl, sym, ap, subst, ◌∙◌, append_assoc, append-nil}
+use Rattle.std.specs.Prelude.{slice_get}
+use Rattle.std.specs.Io.KnownBytes.{Appends}
+use Rattle.std.proofs.KnownBytes.{Appends-nil, Appends-trans}
+use Rattle.std.proofs.lemmas.List.{map-append}
+use Rattle.std.proofs.lemmas.Grind.{flat_map-append}
+use Rattle.slice_table.specs.declared.plant.PlantFields.{PlantFields}
+use Rattle.plant_runs.specs.declared.step.Step.{Step}
+use Rattle.plant_runs.specs.declared.step.Out.{Out}
+use Rattle.plant_runs.specs.Reached.{CoreView}
+use Rattle.plant_core.specs.declared.core_fault.CoreFault.{CoreFault}
+use Rattle.plant_core.specs.declared.core_fault.CoreFault.TheVariants.{UnknownModem, UnknownOperator, Book, Gather, NothingToCollect, NoMemory, Reslice}
+use Rattle.plant_core.specs.Faults.{step_fault, IsTold}
+use Rattle.live_core.specs.After.{IsAfter}
+use Rattle.plant_lines.specs.declared.script.LineStep.{LineStep}
+use Rattle.plant_lines.specs.Script.{unnumbered}
+use Rattle.plant_lines.specs.Text.{out_line, outs_text}
+use Rattle.plant_service.specs.declared.line_end.LineEnd.TheVariants as ends
+use Rattle.plant_service.specs.SoFar.{IsHalfDone, HasDone}
+
+-- ---- what is left of a list
+
+first_left : {A : Type 0} (xs : List A) (k : ℕ) (x : A) (rest : List A) → drop k xs ≡ x ∷ rest → slice_get xs k ≡ Some x
+first_left [] zero x rest h = cc
+first_left [] (suc k) x rest h = cc
+first_left (y ∷ xs) zero x rest h = cc
+first_left (y ∷ xs) (suc k) x rest h = first_left xs k x rest h
+
+none_left : {A : Type 0} (xs : List A) (k : ℕ) → drop k xs ≡ [] → slice_get xs k ≡ None
+none_left [] zero h = refl
+none_left [] (suc k) h = refl
+none_left (y ∷ xs) zero h = cc
+none_left (y ∷ xs) (suc k) h = none_left xs k h
+
+take_next : {A : Type 0} (xs : List A) (k : ℕ) (x : A) (rest : List A) → drop k xs ≡ x ∷ rest → take (suc k) xs ≡ take k xs ++ x ∷ []
+take_next [] zero x rest h = cc
+take_next [] (suc k) x rest h = cc
+take_next (y ∷ xs) zero x rest h = cc
+take_next (y ∷ xs) (suc k) x rest h = ap (λ (l : List _). y ∷ l) (take_next xs k x rest h)
+
+drop_next : {A : Type 0} (xs : List A) (k : ℕ) (x : A) (rest : List A) → drop k xs ≡ x ∷ rest → drop (suc k) xs ≡ rest
+drop_next [] zero x rest h = cc
+drop_next [] (suc k) x rest h = cc
+drop_next (y ∷ xs) zero x rest h = cc
+drop_next (y ∷ xs) (suc k) x rest h = drop_next xs k x rest h
+
+-- ---- one step more
+
+-- what a run leads to is of its plant
+pub after_plant : (plant : PlantFields) (steps : List Step) (outs : List Out) (live : CoreView) → IsAfter plant steps outs live → live.plant ≡ plant
+after_plant plant steps outs live after = sym after.is_of.plant_is ∙ after.reached.plant_is
+
+-- nothing is done yet
+pub none_done : (plant : PlantFields) (before : List Step) (shown : List Out) (steps : List LineStep) (live : CoreView) (known : Option (List ℕ))
+    → IsAfter plant before shown live → IsHalfDone plant before shown steps live known known steps
+none_done plant before shown steps live known after = record {
+  at = zero;
+  told = [];
+  after = subst (λ (s : List Step). IsAfter plant s (shown ++ []) live) (sym (append-nil before)) (subst (λ (o : List Out). IsAfter plant before o live) (sym (append-nil shown)) after);
+  written = Appends-nil known;
+  left_are = refl;
+}
+
+module _ (plant : PlantFields) (before : List Step) (shown : List Out) (steps : List LineStep) (old new : CoreView) (w0 w1 w2 : Option (List ℕ)) (line : LineStep) (rest : List LineStep) (now : List Out)
+    (half : IsHalfDone plant before shown steps old w0 w1 (line ∷ rest))
+    (reached : (b : List Step) (t : List Out) → IsAfter old.plant b t old → IsAfter old.plant (b ++ line.step ∷ []) (t ++ now) new) where
+  done : List Step
+  done = unnumbered (take half.at steps)
+
+  steps_more : done ++ line.step ∷ [] ≡ unnumbered (take (suc half.at) steps)
+  unfolding done
+  steps_more =
+      sym (map-append (λ (l : LineStep). l.step) (take half.at steps) (line ∷ []))
+      ∙ ap unnumbered (sym (take_next steps half.at line rest half.left_are))
+
+  after_more : IsAfter plant (before ++ unnumbered (take (suc half.at) steps)) (shown ++ (half.told ++ now)) new
+  unfolding done steps_more
+  after_more =
+      let same : old.plant ≡ plant = after_plant plant (before ++ done) (shown ++ half.told) old half.after in
+      let then_new = reached (before ++ done) (shown ++ half.told) (subst (λ (p : PlantFields). IsAfter p (before ++ done) (shown ++ half.told) old) (sym same) half.after) in
+      let of_plant : IsAfter plant ((before ++ done) ++ line.step ∷ []) ((shown ++ half.told) ++ now) new =
+      subst (λ (p : PlantFields). IsAfter p ((before ++ done) ++ line.step ∷ []) ((shown ++ half.told) ++ now) new) same then_new in
+      subst (λ (o : List Out). IsAfter plant (before ++ unnumbered (take (suc half.at) steps)) o new) (append_assoc shown half.told now)
+      (subst (λ (s : List Step). IsAfter plant s ((shown ++ half.told) ++ now) new) (append_assoc before done (line.step ∷ []) ∙ ap (λ (s : List Step). before ++ s) steps_more) of_plant)
+
+  -- what the step puts out is written too
+  pub half_more : Appends w1 w2 (outs_text new.plant now) → IsHalfDone plant before shown steps new w0 w2 rest
+  unfolding after_more
+  half_more wrote =
+      let same : new.plant ≡ plant = after_plant plant _ _ new after_more in
+      record {
+        at = suc half.at;
+        told = half.told ++ now;
+        after = after_more;
+        written =
+            subst (λ (t : List ℕ). Appends w0 w2 t) (sym (flat_map-append (out_line plant) half.told now))
+            (Appends-trans w0 w1 w2 (outs_text plant half.told) (outs_text plant now) half.written (subst (λ (p : PlantFields). Appends w1 w2 (outs_text p now)) same wrote));
+        left_are = drop_next steps half.at line rest half.left_are;
+      }
+
+-- ---- how a line ends
+
+pub all_are_done : (plant : PlantFields) (before : List Step) (shown : List Out) (steps : List LineStep) (live : CoreView) (w0 w1 : Option (List ℕ)) (left : List LineStep)
+    → IsHalfDone plant before shown steps live w0 w1 left → left ≡ [] → HasDone plant before shown steps live ends.Done w0 w1
+all_are_done plant before shown steps live w0 w1 left half none = record {
+  at = half.at;
+  told = half.told;
+  after = half.after;
+  ends = rw (none_left steps half.at (half.left_are ∙ none)) tt;
+  written = half.written;
+}
+
+pub memory_wants : (plant : PlantFields) (before : List Step) (shown : List Out) (steps : List LineStep) (old live : CoreView) (w0 w1 : Option (List ℕ)) (left : List LineStep)
+    → IsHalfDone plant before shown steps old w0 w1 left → live ≡ old → HasDone plant before shown steps live ends.NoMemory w0 w1
+memory_wants plant before shown steps old live w0 w1 left half same =
+    subst (λ (c : CoreView). HasDone plant before shown steps c ends.NoMemory w0 w1) (sym same)
+    (record { at = half.at; told = half.told; after = half.after; ends = tt; written = half.written })
+
+-- a fault that is told, other than want of memory
+fault_is_told : (A : Type 0) (fault : CoreFault) (reason : Option CoreFault) → IsTold {A = A} (Err fault) reason → fault ≢ NoMemory → reason ≡ Some fault
+fault_is_told A (UnknownModem modem) reason told other = told
+fault_is_told A (UnknownOperator op) reason told other = told
+fault_is_told A (Book refused) reason told other = told
+fault_is_told A (Gather refused) reason told other = told
+fault_is_told A (NothingToCollect op) reason told other = told
+fault_is_told A NoMemory reason told other = absurd (other refl)
+fault_is_told A (Reslice refused) reason told other = told
+
+pub step_is_refused : (plant : PlantFields) (before : List Step) (shown : List Out) (steps : List LineStep) (old live : CoreView) (w0 w1 : Option (List ℕ)) (line : LineStep) (rest : List LineStep)
+    (A : Type 0) (fault : CoreFault) → IsHalfDone plant before shown steps old w0 w1 (line ∷ rest) → live ≡ old → IsTold {A = A} (Err fault) (step_fault old line.step) → fault ≢ NoMemory
+    → HasDone plant before shown steps live ends.AtFault w0 w1
+step_is_refused plant before shown steps old live w0 w1 line rest A fault half same told other =
+    let refused : step_fault old line.step ≡ Some fault = fault_is_told A fault (step_fault old line.step) told other in
+    let some : IsSome (step_fault old line.step) = rw refused refl in
+    subst (λ (c : CoreView). HasDone plant before shown steps c ends.AtFault w0 w1) (sym same)
+    (record { at = half.at; told = half.told; after = half.after; ends = rw (first_left steps half.at line rest half.left_are) some; written = half.written })

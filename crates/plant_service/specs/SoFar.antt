@@ -1,0 +1,74 @@
+-- What of a service was done so far.
+use Rattle.std.specs.Prelude.{◌≡◌, ◌<◌, ◌≤◌, ℕ, ◌+◌, Bool, true, false, List, [], ◌∷◌, ◌++◌, take, drop, length, slice_get, Option, Some, None, ⊤, ⊥}
+use Rattle.std.specs.Io.KnownBytes.{Appends}
+use Rattle.slice_table.specs.declared.plant.PlantFields.{PlantFields}
+use Rattle.plant_runs.specs.declared.step.Step.{Step}
+use Rattle.plant_runs.specs.declared.step.Out.{Out}
+use Rattle.plant_runs.specs.Reached.{CoreView}
+use Rattle.live_core.specs.After.{IsAfter}
+use Rattle.plant_lines.specs.declared.script.LineStep.{LineStep}
+use Rattle.plant_lines.specs.Lines.{lines_of, parts_from}
+use Rattle.plant_lines.specs.Script.{unnumbered}
+use Rattle.plant_lines.specs.Text.{outs_text}
+use Rattle.plant_service.specs.declared.line_end.LineEnd.{LineEnd}
+use Rattle.plant_service.specs.Service.{Answered, IsAnswer, IsEndAt, answer_text, AreAnswered, all_done, all_told, service_text}
+
+-- what is kept of the line that is being read: all of it, or that it is too long
+abbrev pub IsHeld : List ℕ → Bool → List ℕ → Type 0
+IsHeld bytes false part = (bytes ≡ part) × (length part ≤ 4096)
+IsHeld bytes true part = 4096 < length part
+
+-- a byte is read, or the reader is at its end
+abbrev pub Takes : Option (List ℕ) → Option (List ℕ) → Option ℕ → Type 0
+Takes None left byte = ⊤
+Takes (Some bytes) None byte = ⊥
+Takes (Some bytes) (Some left) None = (bytes ≡ []) × (left ≡ [])
+Takes (Some bytes) (Some left) (Some byte) = bytes ≡ byte ∷ left
+
+-- some of a line's steps are done, these are left, and what they put out is written
+pub record IsHalfDone (plant : PlantFields) (before : List Step) (shown : List Out) (steps : List LineStep) (live : CoreView) (old new : Option (List ℕ)) (left : List LineStep) : Type 0 where
+  pub at : ℕ
+  pub told : List Out
+  pub after : IsAfter plant (before ++ unnumbered (take at steps)) (shown ++ told) live
+  pub written : Appends old new (outs_text plant told)
+  pub left_are : drop at steps ≡ left
+
+-- so many of a line's steps are done, and it ended so
+pub record HasDone (plant : PlantFields) (before : List Step) (shown : List Out) (steps : List LineStep) (live : CoreView) (end : LineEnd) (old new : Option (List ℕ)) : Type 0 where
+  pub at : ℕ
+  pub told : List Out
+  pub after : IsAfter plant (before ++ unnumbered (take at steps)) (shown ++ told) live
+  pub ends : IsEndAt live (slice_get steps at) end
+  pub written : Appends old new (outs_text plant told)
+
+-- the line has this answer, and what its steps put out is written
+pub record HasAnswered (plant : PlantFields) (before : List Step) (shown : List Out) (number : ℕ) (line : List ℕ) (live : CoreView) (end : LineEnd) (old new : Option (List ℕ)) : Type 0 where
+  pub answered : Answered
+  pub is : IsAnswer plant before shown number line live answered
+  pub end_is : answered.end ≡ end
+  pub written : Appends old new (outs_text plant answered.told)
+
+-- the line is answered, and the answer written
+pub record IsAnswered (plant : PlantFields) (before : List Step) (shown : List Out) (number : ℕ) (line : List ℕ) (live : CoreView) (old new : Option (List ℕ)) : Type 0 where
+  pub answered : Answered
+  pub is : IsAnswer plant before shown number line live answered
+  pub written : Appends old new (answer_text plant number answered)
+
+-- so many lines are answered, and of the next one this part is read; the rest of the input is left
+pub record IsServedSoFar (plant : PlantFields) (before : List Step) (shown : List Out) (input rest : List ℕ) (bytes : List ℕ) (is_long : Bool) (number : ℕ)
+    (live : CoreView) (old new : Option (List ℕ)) : Type 0 where
+  pub lines : List (List ℕ)
+  pub part : List ℕ
+  pub answers : List Answered
+  pub lines_are : lines_of input ≡ lines ++ parts_from 10 part rest
+  pub is_held : IsHeld bytes is_long part
+  pub number_is : number ≡ 1 + length lines
+  pub answered : AreAnswered plant before shown 1 lines answers
+  pub after : IsAfter plant (before ++ all_done answers) (shown ++ all_told answers) live
+  pub written : Appends old new (service_text plant 1 answers)
+
+-- of readers whose bytes are not known nothing is said
+abbrev pub WhereKnown : Option (List ℕ) → Option (List ℕ) → (List ℕ → List ℕ → Type 0) → Type 0
+WhereKnown None left holds = ⊤
+WhereKnown (Some input) None holds = ⊥
+WhereKnown (Some input) (Some left) holds = holds input left

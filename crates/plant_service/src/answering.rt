@@ -1,0 +1,114 @@
+//! The answer to one line.
+
+ghost use Rattle.std.specs.Prelude.{◌≡◌, List, IfOk, OnOk};
+ghost use Rattle.std.specs.Io.KnownBytes.{Appends};
+ghost use Rattle.slice_table.specs.declared.plant.PlantFields.{PlantFields};
+ghost use Rattle.plant_runs.specs.declared.step.Out.{Out};
+ghost use Rattle.plant_runs.specs.declared.step.Step.{Step};
+ghost use Rattle.live_core.specs.After.{IsAfter};
+ghost use Rattle.live_core.specs.LiveView.{live_view};
+ghost use Rattle.plant_lines.specs.Fields.{Gives};
+ghost use Rattle.plant_service.specs.Service.{steps_said, end_text};
+ghost use Rattle.plant_service.specs.SoFar.{HasDone, HasAnswered, IsAnswered};
+
+use crate::held_line::MOST_BYTES;
+use crate::line_end::LineEnd;
+use live_core::LiveCore;
+use plant_core::CoreFault;
+use plant_lines::{FieldFault, LineStep, put_line, write_outs};
+use slice_table::Plant;
+use std::alloc::Global;
+use std::io;
+use std::io::Write;
+
+/// The steps that a line says.
+fn steps_said(
+    alloc: Global,
+    plant: &Plant,
+    number: u64,
+    line: &[u8],
+) -> Result<Vec<LineStep>, FieldFault>
+    ensures { Gives (λ steps. steps.items) result (steps_said plant.now number line.now) }
+{
+    if line.len() > MOST_BYTES {
+        return Err(FieldFault::Shape);
+    }
+    let mut fields = Vec::new(alloc);
+    let mut steps = Vec::new(alloc);
+    match put_line(alloc, plant, number, line, &mut fields, &mut steps) {
+        Ok(()) => Ok(steps),
+        Err(fault) => Err(fault),
+    }
+}
+
+/// Does steps up to the first that is refused, and writes what each puts out. Answers how the line ended.
+fn do_steps<W: Write>(
+    alloc: Global,
+    core: &mut LiveCore,
+    steps: Vec<LineStep>,
+    writer: &mut W,
+) -> io::Result<LineEnd>
+    ensures { IfOk result (λ end. (plant : PlantFields) (before : List Step) (shown : List Out)
+        → IsAfter plant before shown (live_view core.old) → HasDone plant before shown steps.items (live_view core.new) end
+        (W.contents writer.old) (W.contents writer.new)) }
+{
+    for LineStep { number: _, step } in steps {
+        match core.step(alloc, step) {
+            Ok(outs) => write_outs(writer, core.plant(), outs.as_slice())?,
+            Err(CoreFault::NoMemory) => return Ok(LineEnd::NoMemory),
+            Err(_refused) => return Ok(LineEnd::AtFault),
+        }
+    }
+    Ok(LineEnd::Done)
+}
+
+/// Does what a line says, and writes what that puts out. Answers how the line ended.
+fn do_line<W: Write>(
+    alloc: Global,
+    core: &mut LiveCore,
+    number: u64,
+    line: &[u8],
+    writer: &mut W,
+) -> io::Result<LineEnd>
+    ensures { IfOk result (λ end. (plant : PlantFields) (before : List Step) (shown : List Out)
+        → IsAfter plant before shown (live_view core.old) → HasAnswered plant before shown number line.now (live_view core.new) end
+        (W.contents writer.old) (W.contents writer.new)) }
+{
+    match steps_said(alloc, core.plant(), number, line) {
+        Ok(steps) => do_steps(alloc, core, steps, writer),
+        Err(FieldFault::Shape) => Ok(LineEnd::AtFault),
+        Err(FieldFault::NoMemory) => Ok(LineEnd::NoMemory),
+    }
+}
+
+/// Writes how a line ended.
+pub(crate) fn write_end<W: Write>(writer: &mut W, number: u64, end: LineEnd) -> io::Result<()>
+    ensures { OnOk result (Appends (W.contents writer.old) (W.contents writer.new) (end_text number end)) }
+{
+    match end {
+        LineEnd::Done => Ok(()),
+        LineEnd::AtFault => write!(writer, "fault: line {number}\n"),
+        LineEnd::NoMemory => writer.write_all(b"fault: memory\n"),
+    }
+}
+
+/// Answers a line: does its steps up to the first that is refused, writes what each puts out, and behind it the line's number,
+/// where it is at fault. What stands before a step that is refused is done and told. Of a line of more than 4,096 bytes nothing
+/// is done. Want of memory for a step is told in the fault's place, and the plant is as before that step. An error is one of the
+/// writer's; then no clause says how much was done.
+pub fn answer_line<W: Write>(
+    alloc: Global,
+    core: &mut LiveCore,
+    number: u64,
+    line: &[u8],
+    writer: &mut W,
+) -> io::Result<()>
+    // Behind whatever run led to the core, the line has such an answer, and it is written.
+    ensures { OnOk result ((plant : PlantFields) (before : List Step) (shown : List Out)
+        → IsAfter plant before shown (live_view core.old) → IsAnswered plant before shown number line.now (live_view core.new)
+        (W.contents writer.old) (W.contents writer.new)) }
+{
+    let end = do_line(alloc, core, number, line, writer)?;
+    write_end(writer, number, end)?;
+    writer.flush()
+}

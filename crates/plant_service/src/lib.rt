@@ -1,0 +1,14 @@
+//! A plant in service: lines of a script are read one after the other, and each is answered before the next is read. A line at
+//! fault is told, and the plant goes on. No history is kept, so the plant may run for as long as there are lines.
+#![tactic(auto)]
+
+mod answering;
+mod held_line;
+mod laws;
+mod line_end;
+mod serving;
+
+pub use answering::answer_line;
+pub use laws::service_is_shown;
+pub use line_end::LineEnd;
+pub use serving::serve;
