@@ -1,3 +1,4 @@
+pub mod FrontLemmas
 pub mod StepLemmas
 pub mod LineLemmas
 pub mod ServiceLemmas

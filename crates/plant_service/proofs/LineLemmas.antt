@@ -1,5 +1,6 @@
 -- What a line is answered.
-use Rattle.std.proofs.Common.{◌≡◌, ℕ, List, [], ◌++◌, Option, Ok, Err, refl, sym, subst, ◌∙◌, append-nil}
+use Rattle.std.proofs.Common.{◌≡◌, ℕ, List, [], ◌++◌, take, length, arith, ◌<◌, ◌≤◌, Bool, true, false, nat_le, Option, Ok, Err, refl, sym, subst, ◌∙◌, append-nil}
+use Rattle.std.proofs.lemmas.Bool.Decides.{nat_tests}
 use Rattle.std.specs.Io.KnownBytes.{Appends}
 use Rattle.std.proofs.KnownBytes.{Appends-nil, Appends-trans}
 use Rattle.slice_table.specs.declared.plant.PlantFields.{PlantFields}
@@ -9,19 +10,21 @@ use Rattle.plant_runs.specs.Reached.{CoreView}
 use Rattle.live_core.specs.After.{IsAfter}
 use Rattle.plant_lines.specs.declared.fields.FieldFault.{FieldFault}
 use Rattle.plant_lines.specs.declared.script.LineStep.{LineStep}
+use Rattle.plant_lines.specs.declared.fields.FieldFault.TheVariants.{Shape}
 use Rattle.plant_lines.specs.Fields.{Read}
+use Rattle.plant_lines.specs.Script.{unnumbered}
 use Rattle.plant_lines.specs.Text.{outs_text}
 use Rattle.plant_service.specs.declared.line_end.LineEnd.{LineEnd}
 use Rattle.plant_service.specs.declared.line_end.LineEnd.TheVariants.{AtFault, NoMemory}
 use Rattle.plant_service.specs.Service.{Answered, steps_said, end_text, IsFault, EndsAs}
-use Rattle.plant_service.specs.SoFar.{HasDone, HasAnswered, IsAnswered}
+use Rattle.plant_service.specs.SoFar.{IsHeld, HasDone, HasAnswered, IsAnswered}
 
 -- a line that says steps
 pub steps_answered : (plant : PlantFields) (before : List Step) (shown : List Out) (number : ℕ) (line : List ℕ) (steps : List LineStep) (live : CoreView) (end : LineEnd) (w0 w1 : Option (List ℕ))
     → steps_said plant number line ≡ Ok steps → HasDone plant before shown steps live end w0 w1 → HasAnswered plant before shown number line live end w0 w1
 steps_answered plant before shown number line steps live end w0 w1 said has = record {
-  answered = record { done = _; told = has.told; end = end };
-  is = record { after = has.after; ends = subst (λ (r : Read (List LineStep)). EndsAs r live (record { done = _; told = has.told; end = end })) (sym said) (has.at, refl, has.ends) };
+  answered = record { done = unnumbered (take has.at steps); told = has.told; end = end };
+  is = record { after = has.after; ends = subst (λ (r : Read (List LineStep)). EndsAs r live (record { done = unnumbered (take has.at steps); told = has.told; end = end })) (sym said) (has.at, refl, has.ends) };
   end_is = refl;
   written = has.written;
 }
@@ -67,3 +70,16 @@ end_written plant before shown number line live end w0 w1 w2 has wrote = record 
       Appends-trans w0 w1 w2 (outs_text plant has.answered.told) (end_text number has.answered.end) has.written
       (subst (λ (e : LineEnd). Appends w1 w2 (end_text number e)) (sym has.end_is) wrote);
 }
+
+-- a line that is too long says nothing
+pub long_said : (plant : PlantFields) (number : ℕ) (bytes line : List ℕ) (is_long : Bool) → is_long ≡ true → IsHeld bytes is_long line → steps_said plant number line ≡ Err Shape
+long_said plant number bytes line is_long is held =
+    let long : 4096 < length line = subst (λ (b : Bool). IsHeld bytes b line) is held in
+    let over : nat_le (length line) 4096 ≡ false = grind (arith, nat_tests, long) in
+    rw over refl
+
+-- a line that is held whole
+pub whole_held : (bytes line : List ℕ) (is_long : Bool) → is_long ≡ false → IsHeld bytes is_long line → bytes ≡ line
+whole_held bytes line is_long is held =
+    let whole : (bytes ≡ line) × (length line ≤ 4096) = subst (λ (b : Bool). IsHeld bytes b line) is held in
+    whole.0

@@ -1,5 +1,5 @@
 -- The lines of a service, one after the other.
-use Rattle.std.proofs.Common.{◌≡◌, ◌≢◌, ℕ, zero, suc, ◌+◌, ◌<◌, ◌≤◌, length, arith, Bool, true, false, eqb, List, [], ◌∷◌, ◌++◌, Option, Some, None, refl, sym, ap, subst, ◌∙◌, append_assoc, append-nil}
+use Rattle.std.proofs.Common.{◌≡◌, ◌≢◌, ℕ, zero, suc, ◌+◌, ◌<◌, ◌≤◌, length, arith, ◌==◌, Bool, true, false, List, [], ◌∷◌, ◌++◌, Option, Some, None, IfSome, refl, sym, ap, subst, ◌∙◌, append_assoc, append-nil, length-append}
 use Rattle.std.specs.Io.KnownBytes.{Appends}
 use Rattle.std.proofs.KnownBytes.{Appends-nil, Appends-trans}
 use Rattle.std.proofs.lemmas.Grind.{flat_map-append}
@@ -10,6 +10,7 @@ use Rattle.plant_runs.specs.Reached.{CoreView}
 use Rattle.live_core.specs.After.{IsAfter}
 use Rattle.live_core.proofs.LawLemmas.{live_shown, live_ordered}
 use Rattle.plant_lines.specs.Lines.{lines_of, parts_of, parts_from}
+use Rattle.plant_service.specs.Bytes.{Takes, WhereKnown}
 use Rattle.plant_service.specs.Service.{Answered, answer_text, IsAnswer, AreAnswered, service_text, all_done, all_told, IsServiceOf, ServiceIsShown}
 use Rattle.plant_service.specs.SoFar.{IsHeld, IsAnswered, IsServedSoFar}
 
@@ -27,9 +28,12 @@ answered_more plant before shown number [] [] line live a h is =
     (live, moved plant _ before _ shown _ number line live a (append-nil before) (append-nil shown) (omega arith) is, tt)
 answered_more plant before shown number [] (b ∷ bs) line live a h is = absurd h
 answered_more plant before shown number (l ∷ ls) [] line live a h is = absurd h
-answered_more plant before shown number (l ∷ ls) (b ∷ bs) line live a h is =
-    (h.0, h.1, answered_more plant (before ++ b.done) (shown ++ b.told) (number + 1) ls bs line live a h.2
-    (moved plant _ _ _ _ _ _ line live a (sym (append_assoc before b.done (all_done bs))) (sym (append_assoc shown b.told (all_told bs))) (omega arith) is))
+answered_more plant before shown number (l ∷ ls) (b ∷ bs) line live a h is = (
+  h.0,
+  h.1,
+  answered_more plant (before ++ b.done) (shown ++ b.told) (number + 1) ls bs line live a h.2
+      (moved plant _ _ _ _ _ _ line live a (sym (append_assoc before b.done (all_done bs))) (sym (append_assoc shown b.told (all_told bs))) (omega arith) is),
+)
 
 as_many : (plant : PlantFields) (before : List Step) (shown : List Out) (number : ℕ) (lines : List (List ℕ)) (answers : List Answered) → AreAnswered plant before shown number lines answers → length answers ≡ length lines
 as_many plant before shown number [] [] h = refl
@@ -64,10 +68,11 @@ module _ (plant : PlantFields) (before : List Step) (shown : List Out) where
   }
 
   -- the byte within a line
-  within : (byte : ℕ) (part rest : List ℕ) → eqb byte 10 ≡ false → parts_from 10 part (byte ∷ rest) ≡ parts_from 10 (part ++ byte ∷ []) rest
-  within byte part rest other = rw other refl
+  within : (byte : ℕ) (part rest : List ℕ) → (byte == 10) ≡ false → parts_from 10 part (byte ∷ rest) ≡ parts_from 10 (part ++ byte ∷ []) rest
+  within byte part rest other =
+      ap (λ (t : Bool). elim t [ true ↦ part ∷ parts_from 10 [] rest | false ↦ parts_from 10 (part ++ byte ∷ []) rest ]) other
 
-  pub byte_read : (input rest : List ℕ) (bytes new_bytes : List ℕ) (is_long new_long : Bool) (number byte : ℕ) (live : CoreView) (w0 w1 : Option (List ℕ)) → eqb byte 10 ≡ false
+  pub byte_read : (input rest : List ℕ) (bytes new_bytes : List ℕ) (is_long new_long : Bool) (number byte : ℕ) (live : CoreView) (w0 w1 : Option (List ℕ)) → (byte == 10) ≡ false
       → IsServedSoFar plant before shown input (byte ∷ rest) bytes is_long number live w0 w1
       → ((part : List ℕ) → IsHeld bytes is_long part → IsHeld new_bytes new_long (part ++ byte ∷ []))
       → IsServedSoFar plant before shown input rest new_bytes new_long number live w0 w1
@@ -137,8 +142,7 @@ module _ (plant : PlantFields) (before : List Step) (shown : List Out) where
     }
       where
         counted : (xs : List (List ℕ)) (x : List ℕ) → 1 + length xs + 1 ≡ 1 + length (xs ++ x ∷ [])
-        counted [] x = refl
-        counted (y ∷ ys) x = ap suc (counted ys x)
+        counted xs x = let long = length-append xs (x ∷ []) in omega (arith, long)
 
     -- the input has ended
     pub input_ended : rest ≡ [] → IsServiceOf plant before shown input live w0 w2
@@ -149,6 +153,22 @@ module _ (plant : PlantFields) (before : List Step) (shown : List Out) where
       after = run_is;
       written = is_written;
     }
+
+-- ---- where the reader's bytes are known
+
+pub known_same : (known : Option (List ℕ)) (P : List ℕ → List ℕ → Type 0) → ((input : List ℕ) → P input input) → WhereKnown known known P
+known_same None P h = tt
+known_same (Some input) P h = h input
+
+pub known_ended : (a b d : Option (List ℕ)) (G : PlantFields → List Step → List Out → Type 0) (P : PlantFields → List Step → List Out → List ℕ → List ℕ → Type 0) (Q : PlantFields → List Step → List Out → List ℕ → Type 0)
+    → ((plant : PlantFields) (before : List Step) (shown : List Out) → G plant before shown → WhereKnown a b (P plant before shown)) → Takes b d None
+    → ((plant : PlantFields) (before : List Step) (shown : List Out) (input : List ℕ) → G plant before shown → P plant before shown input [] → Q plant before shown input)
+    → IfSome a (λ input. (plant : PlantFields) (before : List Step) (shown : List Out) → G plant before shown → Q plant before shown input)
+known_ended None b d G P Q h took on = tt
+known_ended (Some input) None d G P Q h took on = λ plant before shown is. absurd (h plant before shown is)
+known_ended (Some input) (Some rest) None G P Q h took on = absurd took
+known_ended (Some input) (Some rest) (Some left) G P Q h took on = λ plant before shown is.
+    on plant before shown input is (subst (λ (l : List ℕ). P plant before shown input l) took.0 (h plant before shown is))
 
 -- ---- the law
 

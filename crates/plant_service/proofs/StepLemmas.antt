@@ -1,5 +1,5 @@
 -- The steps of a line, one after the other.
-use Rattle.std.proofs.Common.{◌≡◌, ◌≢◌, ℕ, zero, suc, List, [], ◌∷◌, ◌++◌, take, drop, Option, Some, None, IsSome, Err, refl, sym, ap, subst, ◌∙◌, append_assoc, append-nil}
+use Rattle.std.proofs.Common.{◌≡◌, ◌≢◌, ◌⊎◌, inl, inr, Result, Ok, OnOk, ℕ, zero, suc, List, [], ◌∷◌, ◌++◌, take, drop, Option, Some, None, IsSome, Err, refl, sym, ap, subst, ◌∙◌, append_assoc, append-nil}
 use Rattle.std.specs.Prelude.{slice_get}
 use Rattle.std.specs.Io.KnownBytes.{Appends}
 use Rattle.std.proofs.KnownBytes.{Appends-nil, Appends-trans}
@@ -12,10 +12,11 @@ use Rattle.plant_runs.specs.Reached.{CoreView}
 use Rattle.plant_core.specs.declared.core_fault.CoreFault.{CoreFault}
 use Rattle.plant_core.specs.declared.core_fault.CoreFault.TheVariants.{UnknownModem, UnknownOperator, Book, Gather, NothingToCollect, NoMemory, Reslice}
 use Rattle.plant_core.specs.Faults.{step_fault, IsTold}
-use Rattle.live_core.specs.After.{IsAfter}
+use Rattle.live_core.specs.After.{IsAfter, IsReachable}
 use Rattle.plant_lines.specs.declared.script.LineStep.{LineStep}
 use Rattle.plant_lines.specs.Script.{unnumbered}
 use Rattle.plant_lines.specs.Text.{out_line, outs_text}
+use Rattle.plant_service.specs.declared.line_end.LineEnd.{LineEnd}
 use Rattle.plant_service.specs.declared.line_end.LineEnd.TheVariants as ends
 use Rattle.plant_service.specs.SoFar.{IsHalfDone, HasDone}
 
@@ -111,7 +112,7 @@ all_are_done plant before shown steps live w0 w1 left half none = record {
   written = half.written;
 }
 
-pub memory_wants : (plant : PlantFields) (before : List Step) (shown : List Out) (steps : List LineStep) (old live : CoreView) (w0 w1 : Option (List ℕ)) (left : List LineStep)
+memory_wants : (plant : PlantFields) (before : List Step) (shown : List Out) (steps : List LineStep) (old live : CoreView) (w0 w1 : Option (List ℕ)) (left : List LineStep)
     → IsHalfDone plant before shown steps old w0 w1 left → live ≡ old → HasDone plant before shown steps live ends.NoMemory w0 w1
 memory_wants plant before shown steps old live w0 w1 left half same =
     subst (λ (c : CoreView). HasDone plant before shown steps c ends.NoMemory w0 w1) (sym same)
@@ -127,7 +128,7 @@ fault_is_told A (NothingToCollect op) reason told other = told
 fault_is_told A NoMemory reason told other = absurd (other refl)
 fault_is_told A (Reslice refused) reason told other = told
 
-pub step_is_refused : (plant : PlantFields) (before : List Step) (shown : List Out) (steps : List LineStep) (old live : CoreView) (w0 w1 : Option (List ℕ)) (line : LineStep) (rest : List LineStep)
+step_is_refused : (plant : PlantFields) (before : List Step) (shown : List Out) (steps : List LineStep) (old live : CoreView) (w0 w1 : Option (List ℕ)) (line : LineStep) (rest : List LineStep)
     (A : Type 0) (fault : CoreFault) → IsHalfDone plant before shown steps old w0 w1 (line ∷ rest) → live ≡ old → IsTold {A = A} (Err fault) (step_fault old line.step) → fault ≢ NoMemory
     → HasDone plant before shown steps live ends.AtFault w0 w1
 step_is_refused plant before shown steps old live w0 w1 line rest A fault half same told other =
@@ -135,3 +136,29 @@ step_is_refused plant before shown steps old live w0 w1 line rest A fault half s
     let some : IsSome (step_fault old line.step) = rw refused refl in
     subst (λ (c : CoreView). HasDone plant before shown steps c ends.AtFault w0 w1) (sym same)
     (record { at = half.at; told = half.told; after = half.after; ends = rw (first_left steps half.at line rest half.left_are) some; written = half.written })
+
+-- a line ends where its step is not done
+pub step_not_done : (plant : PlantFields) (before : List Step) (shown : List Out) (steps : List LineStep) (old live : CoreView) (w0 w1 : Option (List ℕ)) (line : LineStep) (rest : List LineStep)
+    (A : Type 0) (fault : CoreFault) (end : LineEnd) → IsHalfDone plant before shown steps old w0 w1 (line ∷ rest) → live ≡ old → IsTold {A = A} (Err fault) (step_fault old line.step)
+    → (end ≡ ends.NoMemory) ⊎ ((end ≡ ends.AtFault) × (fault ≢ NoMemory)) → HasDone plant before shown steps live end w0 w1
+step_not_done plant before shown steps old live w0 w1 line rest A fault end half same told (inl wants) =
+    subst (λ (e : LineEnd). HasDone plant before shown steps live e w0 w1) (sym wants) (memory_wants plant before shown steps old live w0 w1 (line ∷ rest) half same)
+step_not_done plant before shown steps old live w0 w1 line rest A fault end half same told (inr refused) =
+    subst (λ (e : LineEnd). HasDone plant before shown steps live e w0 w1) (sym refused.0) (step_is_refused plant before shown steps old live w0 w1 line rest A fault half same told refused.1)
+
+-- what holds whatever is answered
+pub on_ok : {A E : Type 0} (r : Result A E) (P : Type 0) → P → OnOk r P
+on_ok (Ok x) P p = p
+on_ok (Err e) P p = tt
+
+-- whatever a call leads to from a run is reachable, where the old core was
+pub reachable_on : (old new : CoreView) → IsReachable old
+    → ((plant : PlantFields) (before : List Step) (shown : List Out) → IsAfter plant before shown old → (steps : List Step) × (outs : List Out) × IsAfter plant steps outs new) → IsReachable new
+reachable_on old new was on =
+    let then_new = on old.plant was.0 was.1 was.2 in
+    let same : new.plant ≡ old.plant = after_plant old.plant then_new.0 then_new.1 new then_new.2 in
+    (then_new.0, then_new.1, subst (λ (p : PlantFields). IsAfter p then_new.0 then_new.1 new) (sym same) then_new.2)
+
+pub on_ok_map : {A E : Type 0} (r : Result A E) (P Q : Type 0) → (P → Q) → OnOk r P → OnOk r Q
+on_ok_map (Ok x) P Q f p = f p
+on_ok_map (Err e) P Q f p = tt

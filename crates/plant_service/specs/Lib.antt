@@ -1,2 +1,4 @@
+pub mod Bytes
+pub mod Front
 pub mod Service
 pub mod SoFar

@@ -1,5 +1,5 @@
 -- What of a service was done so far.
-use Rattle.std.specs.Prelude.{◌≡◌, ◌<◌, ◌≤◌, ℕ, ◌+◌, Bool, true, false, List, [], ◌∷◌, ◌++◌, take, drop, length, slice_get, Option, Some, None, ⊤, ⊥}
+use Rattle.std.specs.Prelude.{◌≡◌, ◌<◌, ◌≤◌, ℕ, ◌+◌, Bool, true, false, List, [], ◌∷◌, ◌++◌, take, drop, length, slice_get, Option}
 use Rattle.std.specs.Io.KnownBytes.{Appends}
 use Rattle.slice_table.specs.declared.plant.PlantFields.{PlantFields}
 use Rattle.plant_runs.specs.declared.step.Step.{Step}
@@ -17,13 +17,6 @@ use Rattle.plant_service.specs.Service.{Answered, IsAnswer, IsEndAt, answer_text
 abbrev pub IsHeld : List ℕ → Bool → List ℕ → Type 0
 IsHeld bytes false part = (bytes ≡ part) × (length part ≤ 4096)
 IsHeld bytes true part = 4096 < length part
-
--- a byte is read, or the reader is at its end
-abbrev pub Takes : Option (List ℕ) → Option (List ℕ) → Option ℕ → Type 0
-Takes None left byte = ⊤
-Takes (Some bytes) None byte = ⊥
-Takes (Some bytes) (Some left) None = (bytes ≡ []) × (left ≡ [])
-Takes (Some bytes) (Some left) (Some byte) = bytes ≡ byte ∷ left
 
 -- some of a line's steps are done, these are left, and what they put out is written
 pub record IsHalfDone (plant : PlantFields) (before : List Step) (shown : List Out) (steps : List LineStep) (live : CoreView) (old new : Option (List ℕ)) (left : List LineStep) : Type 0 where
@@ -66,9 +59,3 @@ pub record IsServedSoFar (plant : PlantFields) (before : List Step) (shown : Lis
   pub answered : AreAnswered plant before shown 1 lines answers
   pub after : IsAfter plant (before ++ all_done answers) (shown ++ all_told answers) live
   pub written : Appends old new (service_text plant 1 answers)
-
--- of readers whose bytes are not known nothing is said
-abbrev pub WhereKnown : Option (List ℕ) → Option (List ℕ) → (List ℕ → List ℕ → Type 0) → Type 0
-WhereKnown None left holds = ⊤
-WhereKnown (Some input) None holds = ⊥
-WhereKnown (Some input) (Some left) holds = holds input left

@@ -1,13 +1,15 @@
 //! The answer to one line.
 
-ghost use Rattle.std.specs.Prelude.{◌≡◌, List, IfOk, OnOk};
+ghost use Rattle.std.specs.Prelude.{◌≡◌, ◌≢◌, ◌⊎◌, List, IfOk, OnOk};
 ghost use Rattle.std.specs.Io.KnownBytes.{Appends};
 ghost use Rattle.slice_table.specs.declared.plant.PlantFields.{PlantFields};
 ghost use Rattle.plant_runs.specs.declared.step.Out.{Out};
 ghost use Rattle.plant_runs.specs.declared.step.Step.{Step};
-ghost use Rattle.live_core.specs.After.{IsAfter};
+ghost use Rattle.plant_core.specs.declared.core_fault.CoreFault.TheVariants as faults;
+ghost use Rattle.live_core.specs.After.{IsAfter, IsReachable};
 ghost use Rattle.live_core.specs.LiveView.{live_view};
 ghost use Rattle.plant_lines.specs.Fields.{Gives};
+ghost use Rattle.plant_service.specs.declared.line_end.LineEnd.TheVariants as ends;
 ghost use Rattle.plant_service.specs.Service.{steps_said, end_text};
 ghost use Rattle.plant_service.specs.SoFar.{HasDone, HasAnswered, IsAnswered};
 
@@ -41,6 +43,16 @@ fn steps_said(
     }
 }
 
+/// How a line ends whose step is not done.
+fn end_of(fault: CoreFault) -> LineEnd
+    ensures { (result ≡ ends.NoMemory) ⊎ ((result ≡ ends.AtFault) × (fault ≢ faults.NoMemory)) }
+{
+    match fault {
+        CoreFault::NoMemory => LineEnd::NoMemory,
+        _ => LineEnd::AtFault,
+    }
+}
+
 /// Does steps up to the first that is refused, and writes what each puts out. Answers how the line ended.
 fn do_steps<W: Write>(
     alloc: Global,
@@ -48,6 +60,7 @@ fn do_steps<W: Write>(
     steps: Vec<LineStep>,
     writer: &mut W,
 ) -> io::Result<LineEnd>
+    requires reached { IsReachable (live_view core.old) }
     ensures { IfOk result (λ end. (plant : PlantFields) (before : List Step) (shown : List Out)
         → IsAfter plant before shown (live_view core.old) → HasDone plant before shown steps.items (live_view core.new) end
         (W.contents writer.old) (W.contents writer.new)) }
@@ -55,14 +68,14 @@ fn do_steps<W: Write>(
     for LineStep { number: _, step } in steps {
         match core.step(alloc, step) {
             Ok(outs) => write_outs(writer, core.plant(), outs.as_slice())?,
-            Err(CoreFault::NoMemory) => return Ok(LineEnd::NoMemory),
-            Err(_refused) => return Ok(LineEnd::AtFault),
+            Err(fault) => return Ok(end_of(fault)),
         }
     }
     Ok(LineEnd::Done)
 }
 
 /// Does what a line says, and writes what that puts out. Answers how the line ended.
+#[tactic(auto, using(crate::proofs::LineLemmas::steps_answered, crate::proofs::LineLemmas::none_answered, crate::proofs::LineLemmas::memory_answered))]
 fn do_line<W: Write>(
     alloc: Global,
     core: &mut LiveCore,
@@ -70,6 +83,7 @@ fn do_line<W: Write>(
     line: &[u8],
     writer: &mut W,
 ) -> io::Result<LineEnd>
+    requires reached { IsReachable (live_view core.old) }
     ensures { IfOk result (λ end. (plant : PlantFields) (before : List Step) (shown : List Out)
         → IsAfter plant before shown (live_view core.old) → HasAnswered plant before shown number line.now (live_view core.new) end
         (W.contents writer.old) (W.contents writer.new)) }
@@ -103,6 +117,7 @@ pub fn answer_line<W: Write>(
     line: &[u8],
     writer: &mut W,
 ) -> io::Result<()>
+    requires reached { IsReachable (live_view core.old) }
     // Behind whatever run led to the core, the line has such an answer, and it is written.
     ensures { OnOk result ((plant : PlantFields) (before : List Step) (shown : List Out)
         → IsAfter plant before shown (live_view core.old) → IsAnswered plant before shown number line.now (live_view core.new)

@@ -3,12 +3,15 @@
 #![tactic(auto)]
 
 mod answering;
+mod bytes;
+mod front;
 mod held_line;
 mod laws;
 mod line_end;
 mod serving;
 
 pub use answering::answer_line;
+pub use front::read_plant_text;
 pub use laws::service_is_shown;
 pub use line_end::LineEnd;
 pub use serving::serve;

@@ -1,32 +1,22 @@
 //! Serving a plant as long as there are lines.
 
-ghost use Rattle.std.specs.Prelude.{◌≡◌, ◌+◌, List, ℕ, IfOk, OnOk, IfSome};
+ghost use Rattle.std.specs.Prelude.{◌≡◌, ◌+◌, ◌∷◌, List, ℕ, Option, IfOk, OnOk, IfSome};
 ghost use Rattle.slice_table.specs.declared.plant.PlantFields.{PlantFields};
 ghost use Rattle.plant_runs.specs.declared.step.Out.{Out};
 ghost use Rattle.plant_runs.specs.declared.step.Step.{Step};
-ghost use Rattle.live_core.specs.After.{IsAfter};
+ghost use Rattle.live_core.specs.After.{IsAfter, IsReachable};
 ghost use Rattle.live_core.specs.LiveView.{live_view};
 ghost use Rattle.plant_service.specs.Service.{IsServiceOf};
-ghost use Rattle.plant_service.specs.SoFar.{IsHeld, Takes, IsAnswered};
+ghost use Rattle.plant_service.specs.SoFar.{IsHeld, IsAnswered, IsServedSoFar};
 
 use crate::answering::{answer_line, write_end};
+use crate::bytes::next_byte;
 use crate::held_line::HeldLine;
 use crate::line_end::LineEnd;
 use live_core::LiveCore;
 use std::alloc::Global;
 use std::io;
 use std::io::{Read, Write};
-
-/// The next byte; none where the reader is at its end.
-fn next_byte<R: Read>(reader: &mut R) -> io::Result<Option<u8>>
-    ensures { IfOk result (λ byte. Takes (R.remaining reader.old) (R.remaining reader.new) byte) }
-{
-    let mut byte = [0u8; 1];
-    if reader.read(&mut byte)? == 0 {
-        return Ok(None);
-    }
-    Ok(Some(byte[0]))
-}
 
 /// The number of the next line.
 fn next_number(number: u64) -> io::Result<u64>
@@ -46,7 +36,9 @@ fn answer_held<W: Write>(
     held: &HeldLine,
     writer: &mut W,
 ) -> io::Result<()>
-    ensures { OnOk result ((plant : PlantFields) (before : List Step) (shown : List Out) (line : List ℕ)
+    requires reached { IsReachable (live_view core.old) }
+    ensures reached { OnOk result (IsReachable (live_view core.new)) }
+    ensures answered { OnOk result ((plant : PlantFields) (before : List Step) (shown : List Out) (line : List ℕ)
         → IsAfter plant before shown (live_view core.old) → IsHeld held.now.bytes.items held.now.is_long line
         → IsAnswered plant before shown number line (live_view core.new) (W.contents writer.old) (W.contents writer.new)) }
 {
@@ -55,6 +47,33 @@ fn answer_held<W: Write>(
         return writer.flush();
     }
     answer_line(alloc, core, number, held.bytes.as_slice(), writer)
+}
+
+/// Takes a byte more of a script: where a line ends it is answered, and the next one begins.
+fn take_byte<W: Write>(
+    alloc: Global,
+    core: &mut LiveCore,
+    number: &mut u64,
+    held: &mut HeldLine,
+    byte: u8,
+    writer: &mut W,
+) -> io::Result<()>
+    requires reached { IsReachable (live_view core.old) }
+    ensures reached { OnOk result (IsReachable (live_view core.new)) }
+    ensures on { OnOk result ((plant : PlantFields) (before : List Step) (shown : List Out) (input rest : List ℕ)
+        (written : Option (List ℕ)) → IsServedSoFar plant before shown input (byte ∷ rest) held.old.bytes.items
+        held.old.is_long number.old (live_view core.old) written (W.contents writer.old)
+        → IsServedSoFar plant before shown input rest held.new.bytes.items held.new.is_long number.new
+        (live_view core.new) written (W.contents writer.new)) }
+{
+    if byte != b'\n' {
+        held.push(byte)?;
+        return Ok(());
+    }
+    answer_held(alloc, core, *number, held, writer)?;
+    *number = next_number(*number)?;
+    held.clear();
+    Ok(())
 }
 
 /// Serves the plant: reads lines of a script for as long as there are any, and answers each before it reads the next
@@ -66,6 +85,7 @@ pub fn serve<R: Read, W: Write>(
     reader: &mut R,
     writer: &mut W,
 ) -> io::Result<()>
+    requires reached { IsReachable (live_view core.old) }
     // Behind whatever run led to the core, all lines of the input are answered, and their answers written.
     ensures { OnOk result (IfSome (R.remaining reader.old) (λ input. (plant : PlantFields) (before : List Step)
         (shown : List Out) → IsAfter plant before shown (live_view core.old)
@@ -76,12 +96,7 @@ pub fn serve<R: Read, W: Write>(
     for _ in 0..u64::MAX {
         match next_byte(reader)? {
             None => return answer_held(alloc, core, number, &held, writer),
-            Some(b'\n') => {
-                answer_held(alloc, core, number, &held, writer)?;
-                held.clear();
-                number = next_number(number)?;
-            }
-            Some(byte) => held.push(byte)?,
+            Some(byte) => take_byte(alloc, core, &mut number, &mut held, byte, writer)?,
         }
     }
     Err(io::Error::from(io::ErrorKind::Other))

@@ -1,0 +1,16 @@
+use Rattle.std.proofs.Common.{List}
+use Rattle.slice_table.specs.declared.plant.PlantFields.{PlantFields}
+use Rattle.plant_runs.specs.declared.step.Out.{Out}
+use Rattle.plant_runs.specs.declared.step.Step.{Step}
+use Rattle.live_core.specs.After.{IsAfter, IsReachable}
+use Rattle.live_core.specs.LiveView.{live_view}
+use Rattle.plant_service.specs.Bytes.{WhereKnown}
+use Rattle.plant_service.specs.SoFar.{IsServedSoFar}
+use Rattle.plant_service.proofs.serving.serve.Given as goal
+
+abbrev pub invariant-loop : goal.invariant-loop
+invariant-loop g l =
+    IsReachable (live_view l.core)
+    × ((plant : PlantFields) (before : List Step) (shown : List Out) → IsAfter plant before shown (live_view l.fn.core)
+    → WhereKnown (g.R.Read.remaining l.fn.reader) (g.R.Read.remaining l.reader)
+    (λ input rest. IsServedSoFar plant before shown input rest l.held.bytes.items l.held.is_long l.number (live_view l.core) (g.W.Write.contents l.fn.writer) (g.W.Write.contents l.writer)))
