@@ -1,4 +1,5 @@
 pub mod Bars
+pub mod Capturing
 pub mod StepRuns
 pub mod Tasks
 pub mod Telling
