@@ -1,9 +1,9 @@
 #!/usr/bin/env python3
-"""Lets tshark read what the built program captures: each example that has a plant and a script, and a few runs more, by `run` and by
-`capture`. Where both answer with a fault of the plant or of a line, they are to tell the same; else tshark has to read as many packets
-as modems sent messages and `run` told replies and MAPs, with the right sums, none of the CMTS's malformed, and of each what the script
-and `run`'s lines say: who sent it to whom, its type, transaction ID, confirmation code and SIDs, and of a MAP its time, its header and
-each element's SID, IUC and offset. Prints a line for each input; exits with 1 where one differs.
+"""Lets tshark read what the built program captures of each example that has a plant and a script. It has to read as many packets as
+modems sent messages and `run` tells replies and MAPs, each with the right check of its header, none of the CMTS's malformed, and of each
+what the script and `run`'s lines say: who sent it to whom, its type, transaction ID and confirmation code, of a reply the SIDs of its
+flows, and of a MAP its time, its header and each element's SID, IUC and offset, the grants of the lines `F` among them. Prints a line
+for each input; exits with 1 where one differs.
 
     tools/captures_in_tshark.py [PROGRAM]     Needs python3 and tshark (Debian: apt-get install tshark).
 """
@@ -32,7 +32,7 @@ CODES = [f"docsis_{kind}.confcode" for kind in ("dsarsp", "dsaack", "dscrsp", "d
 SID_OF_FLOW = "docsis_tlv.sflow.sid"
 HEADER = ("docsis_mgmt.upchid", "docsis_map.ucdcount", "docsis_map.numie", "docsis_map.allocstart", "docsis_map.acktime")
 ELEMENT = ("docsis_map.sid", "docsis_map.iuc", "docsis_map.offset")
-GOOD_SUM, ERROR = "1", 0x00800000
+GOOD_CHECK, ERROR = "1", 0x00800000
 FIELDS = ["frame.time_epoch", "docsis_mgmt.src", "docsis_mgmt.dst", "docsis_mgmt.type", "docsis_mgmt.tranid", *CODES, SID_OF_FLOW, *HEADER,
           *ELEMENT, "docsis.hcs.status", "_ws.malformed", "_ws.expert.severity"]
 
@@ -137,7 +137,7 @@ def differences(text, status, lines, file):
     frame_us = read_plant(plant_text).frame_us
     packets = seen(file)
     told, sent = [p for p in packets if address(p["docsis_mgmt.src"]) == CMTS], [p for p in packets if address(p["docsis_mgmt.src"]) != CMTS]
-    yield from (f"a wrong sum: {p}" for p in packets if p["docsis.hcs.status"] != GOOD_SUM)
+    yield from (f"a wrong check of the header: {p}" for p in packets if p["docsis.hcs.status"] != GOOD_CHECK)
     yield from (f"malformed: {p}" for p in told if is_malformed(p))
     yield from unequal("told", [said_of(p) for p in told], list(told_by(lines, frame_us)))
     messages = sent_by(script, status, lines)

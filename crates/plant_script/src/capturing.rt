@@ -30,7 +30,8 @@ fn put_turn(
         → IsOfRun consts (steps ++ step.now ∷ []) (told ++ outs.now) capture.new) }
 {
     capture.sent(alloc, step)?;
-    capture.told(alloc, outs)
+    capture.told(alloc, outs)?;
+    Ok(())
 }
 
 /// Does the steps of lines, and captures each behind it. Answers the number of the first line whose step is refused, at which it
