@@ -1,5 +1,5 @@
 pub mod Bars
-pub mod Capturing
+pub mod CaptureRuns
 pub mod StepRuns
 pub mod Tasks
 pub mod Telling

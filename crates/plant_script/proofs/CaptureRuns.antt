@@ -1,9 +1,8 @@
 -- The steps of a script's lines, captured one after the other.
-use Rattle.std.proofs.Common.{◌≡◌, ℕ, ◌+◌, ◌<◌, List, [], ◌∷◌, ◌++◌, length, take, get_or, Option, Some, None, IsSome, refl, sym, ap, subst, ◌∙◌}
+use Rattle.std.proofs.Common.{◌≡◌, ℕ, ◌+◌, ◌<◌, ◌≤◌, List, [], ◌∷◌, ◌++◌, length, take, get_or, Option, Some, None, IsSome, refl, sym, ap, subst, ◌∙◌}
 use Rattle.std.specs.Prelude.{slice_get}
-use Rattle.std.specs.Global.{Vec}
 use Rattle.std.proofs.lemmas.List.{map-append, take_more}
-use Rattle.std.proofs.lemmas.Option.{slice_get-get_or}
+use Rattle.std.proofs.lemmas.Option.{slice_get-get_or, slice_get_past}
 use Rattle.slice_table.specs.declared.consts.ConstsFields.{ConstsFields}
 use Rattle.slice_table.specs.declared.plant.PlantFields.{PlantFields}
 use Rattle.plant_runs.specs.declared.step.Step.{Step}
@@ -57,16 +56,12 @@ captured_more plant lines i line step old new before after now said lt is copy s
 
 -- ---- the end
 
-none_past : {A : Type 0} (xs : List A) → slice_get xs (length xs) ≡ None
-none_past [] = refl
-none_past (x ∷ xs) = none_past xs
-
-pub all_captured : (plant : PlantFields) (lines : List LineStep) (i : ℕ) (core : CoreView) (captured : Captured) → i ≡ length lines
+pub all_captured : (plant : PlantFields) (lines : List LineStep) (i : ℕ) (core : CoreView) (captured : Captured) → length lines ≤ i
     → AreCaptured plant (take i lines) core captured → HasCaptured plant lines None core captured
 all_captured plant lines i core captured end done = record {
   at = i;
   done = done;
-  ends = subst (λ (o : Option LineStep). IsRefused core o None) (sym (ap (slice_get lines) end ∙ none_past lines)) refl;
+  ends = subst (λ (o : Option LineStep). IsRefused core o None) (sym (slice_get_past lines i end)) refl;
 }
 
 pub captured_refused : (plant : PlantFields) (lines : List LineStep) (i : ℕ) (line : LineStep) (step : Step) (old core : CoreView) (captured : Captured) (fault : CoreFault)
