@@ -3,6 +3,7 @@
 import pathlib
 import subprocess
 
+from reference.captures import captured
 from reference.program import answer
 
 PROGRAM = str(pathlib.Path(__file__).resolve().parent.parent / "crates/plant_program/out/plant_program")
@@ -14,5 +15,7 @@ def program_answer(program, words, data):
 
 
 def reference_answer(words, data):
+    if words == ["capture"]:
+        return captured(data)
     status, text = answer(words, data)
     return status, text.encode()

@@ -74,6 +74,8 @@ CASES = [
      line(2, "Z 1 8/32/32 40/32/32", "operator A is at frame 1: other slices from frame 1 on come too late")),
     ("threads", script("T", "Z 2 8/33/32 40/32/32"), 4,
      line(2, "Z 2 8/33/32 40/32/32", "operators A and B: their slices meet: A gets the minislots 8 to 40, B gets 40 to 71")),
+    ("capture", script("T", "Z 1 8/32/32 40/32/32"), 4,
+     line(2, "Z 1 8/32/32 40/32/32", "operator A is at frame 1: other slices from frame 1 on come too late")),
     ("history A", script("T", "Z 2 8/32/33 40/32/32"), 4,
      line(2, "Z 2 8/32/33 40/32/32", "operator A: its budget is 33 minislots, its slice has 32")),
     ("one", "0F0001\n\n0F0\n", 4, 'line 3, "0F0": the message: 3 digits are no whole bytes\n'),

@@ -44,11 +44,13 @@ expect 2 'fault: words'
 expect 2 'fault: words' walk
 expect 2 'fault: words' run run
 expect 2 'fault: words' threads 2
+expect 2 'fault: words' capture run.pcap
 expect 2 'fault: words' history
 expect 2 'fault: words' history C
 script 'T' 'T C'
 expect 4 'fault: line 2' run
 expect 4 'fault: line 2' threads
+expect 4 'fault: line 2' capture
 expect 4 'fault: line 2' check
 expect 4 'fault: line 2' history B
 script 'T' 'Z 1 8/16/16 24/48/32'

@@ -7,6 +7,7 @@ import unittest
 
 sys.path.insert(0, str(pathlib.Path(__file__).resolve().parent))
 
+from reference.captures import captured, header_sum  # noqa: E402
 from reference.encodings import FlowFault, read_flow  # noqa: E402
 from reference.plant import PlantFault, read_plant  # noqa: E402
 from reference.program import answer  # noqa: E402
@@ -203,6 +204,22 @@ class Scripts(unittest.TestCase):
         self.assertEqual(lines("history A", f"M {A1} 0f", f"Q {A1} 1 2", "T"), (0, [f"M {A1} 0F", "W", f"Q {A1} 1 2", "W", "T"]))
         self.assertEqual(lines("history B", f"M {A1} -"), (0, []))
         self.assertEqual(lines("history C", "nonsense"), (2, ["fault: words"]))
+
+    def test_captures(self):
+        def file(*script):
+            status, data = captured((P2 + "---\n" + "".join(f"{line}\n" for line in script)).encode())
+            return status, data.hex().upper()
+
+        empty = "D4C3B2A1020004000000000000000000050001008F000000"
+        sent = "00000000D00700001E0000001E000000" "C2000018B8620200000000000200000000030006000003019900D9D4DCCD"
+        self.assertEqual(file(), (0, empty))
+        self.assertEqual(file(f"Q {A1} 257 1", f"M {A1} -", "T A"), (0, empty))
+        of_a_frame = file("T")[1]
+        self.assertEqual(of_a_frame[:92], empty + "00000000000000003E0000003E000000" "C2000038BA43")
+        self.assertEqual(file("T", "M 020000000003 99"), (0, of_a_frame + sent))
+        self.assertEqual(file("T", "Z 1 8/32/32 40/32/32"), (4, of_a_frame))
+        self.assertEqual(file("T", "T C"), (4, b"fault: line 2\n".hex().upper()))
+        self.assertEqual(header_sum(b"123456789"), 0x906E)
 
     def test_words(self):
         for words in ([], ["walk"], ["run", "run"], ["history"], ["history", "A", "B"]):

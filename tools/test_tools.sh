@@ -1,9 +1,9 @@
 #!/bin/bash
 # Tests of the tools: the reference on the examples and on values typed from docs/PROFILE.md; the generator writes the same twice,
 # and tools/hostile.py meets each check of the table. Where the program is built, it is compared with the reference on 50 generated
-# cases, by `run` and by `threads`, and `threads` with `run` on the examples; then on the inputs of tools/hostile.py and of
-# tools/corners.py, and tools/statuses.sh and tools/reasons.py are run.
-# Usage: tools/test_tools.sh     Needs bash and python3; takes less than 10 seconds.
+# cases, by `run`, by `threads` and by `capture`, and `threads` with `run` on the examples; then on the inputs of tools/hostile.py and of
+# tools/corners.py, and tools/statuses.sh and tools/reasons.py are run. Where tshark is installed it reads what is captured of the examples.
+# Usage: tools/test_tools.sh     Needs bash and python3; takes less than 10 seconds, with tshark half a minute.
 set -euo pipefail
 
 here=$(cd "$(dirname "$0")" && pwd)
@@ -31,10 +31,17 @@ echo 'the reference and the generator are right'
 if [ -x "$program" ]; then
     "$here/compare" 0 50
     "$here/compare" --threads 0 50
+    "$here/compare" --capture 0 50
     "$here/threads_as_run.py" >"$work/told" || { cat "$work/told" >&2; exit 1; }
     "$here/hostile.py" --compare >"$work/told" || { cat "$work/told" >&2; exit 1; }
     "$here/corners.py" >"$work/told" || { cat "$work/told" >&2; exit 1; }
     "$here/statuses.sh" >"$work/told" || { cat "$work/told" >&2; exit 1; }
     "$here/reasons.py" >"$work/told" || { cat "$work/told" >&2; exit 1; }
     echo 'the program answers as the reference'
+    if command -v tshark >/dev/null; then
+        "$here/captures_in_tshark.py" >"$work/told" || { cat "$work/told" >&2; exit 1; }
+        echo 'tshark reads the captures of the examples as run tells them'
+    else
+        echo 'tshark is not installed: nothing has read the captures'
+    fi
 fi

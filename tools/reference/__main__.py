@@ -5,12 +5,13 @@ import sys
 
 sys.path.insert(0, str(pathlib.Path(__file__).resolve().parent.parent))
 
-from reference.program import MOST_INPUT, answer  # noqa: E402
+from compare_program import reference_answer  # noqa: E402
+from reference.program import MOST_INPUT  # noqa: E402
 
 
 def main():
-    status, text = answer(sys.argv[1:], sys.stdin.buffer.read(MOST_INPUT + 1))
-    sys.stdout.write(text)
+    status, text = reference_answer(sys.argv[1:], sys.stdin.buffer.read(MOST_INPUT + 1))
+    sys.stdout.buffer.write(text)
     sys.exit(status)
 
 

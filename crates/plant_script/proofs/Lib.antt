@@ -1,3 +1,4 @@
+pub mod CaptureRuns
 pub mod StepRuns
 pub mod Tasks
 pub mod Telling

@@ -8,6 +8,7 @@ use Rattle.plant_core.specs.Faults.{step_fault}
 use Rattle.plant_lines.specs.declared.script.LineStep.{LineStep}
 use Rattle.plant_lines.specs.Script.{unnumbered}
 use Rattle.plant_lines.specs.Text.{actions_text}
+use Rattle.plant_capture.specs.Capture.{Captured, IsOfRun}
 
 -- the steps of these lines are done, and what is said of their outputs is written
 pub record AreDone (plant : PlantFields) (lines : List LineStep) (say : List Out → List ℕ) (core : CoreView) (text : List ℕ) : Type 0 where
@@ -36,3 +37,22 @@ pub record IsHalfDone (plant : PlantFields) (lines : List LineStep) (say : List 
   pub at : ℕ
   pub done : AreDone plant (take at lines) say core text
   pub left_are : drop at lines ≡ left
+
+-- ---- a capture
+
+-- the steps of these lines are done, and the capture is theirs
+pub record AreCaptured (plant : PlantFields) (lines : List LineStep) (core : CoreView) (captured : Captured) : Type 0 where
+  pub outs : List Out
+  pub reached : Reached plant (unnumbered lines) outs core
+  pub of_run : IsOfRun plant.consts (unnumbered lines) outs captured
+
+-- so many of the lines' steps are done, and no more
+pub record HasCaptured (plant : PlantFields) (lines : List LineStep) (refused : Option ℕ) (core : CoreView) (captured : Captured) : Type 0 where
+  pub at : ℕ
+  pub done : AreCaptured plant (take at lines) core captured
+  pub ends : IsRefused core (slice_get lines at) refused
+
+-- the status of a run whose line of this number is refused, or none
+abbrev pub IsStatusOf : Option ℕ → ℕ → Type 0
+IsStatusOf None status = status ≡ 0
+IsStatusOf (Some number) status = status ≡ 4

@@ -1,4 +1,4 @@
--- A run of a script's steps, and what `run` and `history` write of it (own).
+-- A run of a script's steps, and what `run`, `history` and `capture` write of it (own).
 use Rattle.std.specs.Prelude.{◌≡◌, ℕ, List, [], ◌∷◌, ◌++◌, take, slice_get, Option, Some, None, IsSome, codes}
 use Rattle.std.specs.Fmt.{decimal}
 use Rattle.slice_table.specs.declared.plant.PlantFields.{PlantFields}
@@ -8,6 +8,7 @@ use Rattle.plant_runs.specs.Reached.{CoreView, Reached}
 use Rattle.plant_core.specs.Faults.{step_fault}
 use Rattle.plant_lines.specs.declared.script.LineStep.{LineStep}
 use Rattle.plant_lines.specs.Script.{unnumbered}
+use Rattle.plant_capture.specs.Capture.{IsCaptureOf}
 
 -- the run ends behind the last step; or before the first one that is refused
 abbrev pub IsEnd : CoreView → Option LineStep → ℕ → Type 0
@@ -28,3 +29,13 @@ pub record IsRunOf (plant : PlantFields) (lines : List LineStep) (say : List Ste
   pub reached : Reached plant (unnumbered (take at lines)) outs core
   pub ends : IsEnd core (slice_get lines at) status
   pub text_is : text ≡ say (unnumbered (take at lines)) outs ++ last_line (slice_get lines at)
+
+-- So many steps are done, as in `IsRunOf`, and what is written is the capture of just these steps and of what they put out: whole, with
+-- no line behind it where a step is refused.
+pub record IsCapturedRunOf (plant : PlantFields) (lines : List LineStep) (status : ℕ) (text : List ℕ) : Type 0 where
+  pub at : ℕ
+  pub outs : List Out
+  pub core : CoreView
+  pub reached : Reached plant (unnumbered (take at lines)) outs core
+  pub ends : IsEnd core (slice_get lines at) status
+  pub captured : IsCaptureOf plant.consts (unnumbered (take at lines)) outs text

@@ -10,13 +10,13 @@ use Rattle.slice_table.specs.ReadPlant.{text_plant}
 use Rattle.plant_lines.specs.declared.script.LineStep.{LineStep}
 use Rattle.plant_words.specs.declared.asked.WordsFault.{WordsFault}
 use Rattle.plant_words.specs.declared.asked.WordsFault.TheVariants as faults
-use Rattle.plant_words.specs.Order.{Order, one, check, run, threads, history}
+use Rattle.plant_words.specs.Order.{Order, one, check, run, threads, capture, history}
 use Rattle.plant_lines.specs.Input.{plant_text, script_text}
 use Rattle.plant_lines.specs.Script.{is_named, steps_of}
 use Rattle.plant_lines.specs.Text.{outs_text, history_text}
 use Rattle.plant_script.specs.One.{Answer, is_readable, answer_of}
 use Rattle.plant_script.specs.Check.{answer_to_steps, answer_to_plant, check_of}
-use Rattle.plant_script.specs.Run.{IsRunOf}
+use Rattle.plant_script.specs.Run.{IsRunOf, IsCapturedRunOf}
 use Rattle.plant_script.specs.OnThreads.{IsThreadedRunOf}
 
 -- ---- no answer
@@ -53,6 +53,10 @@ AnswersRun plant script status text =
 abbrev pub AnswersThreads : PlantFields → List ℕ → ℕ → List ℕ → Type 0
 AnswersThreads plant script status text = AnswersSteps (IsThreadedRunOf plant) (steps_of plant script) status text
 
+-- the capture of the run
+abbrev pub AnswersCapture : PlantFields → List ℕ → ℕ → List ℕ → Type 0
+AnswersCapture plant script status text = AnswersSteps (IsCapturedRunOf plant) (steps_of plant script) status text
+
 -- an operator that the plant does not have is told alone, before the script is judged; else its own of the run's steps
 abbrev pub AnswersOperator : PlantFields → List ℕ → Option ℕ → ℕ → List ℕ → Type 0
 AnswersOperator plant script None status text =
@@ -84,4 +88,5 @@ Answers one input status text = Is (answer_of input) status text
 Answers check input status text = Is (check_of input) status text
 Answers run input status text = AnswersInput AnswersRun input status text
 Answers threads input status text = AnswersInput AnswersThreads input status text
+Answers capture input status text = AnswersInput AnswersCapture input status text
 Answers (history operator) input status text = AnswersInput (AnswersHistory operator) input status text

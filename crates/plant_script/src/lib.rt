@@ -1,10 +1,12 @@
 //! The plant's program. Its words: `one` reads messages of a modem, a line each, and prints the answers of the modem's
 //! operator; `check` reads a plant file and a script, and says whether both are well; `run` does the script's steps on the
 //! plant, and prints all that they put out; `threads` does them on a thread for each operator, and prints the same operator
-//! by operator; `history OP` runs them too, and prints what the operator OP did.
+//! by operator; `capture` does them as `run` does, and writes a pcap file of what the modems send, the replies and the MAPs;
+//! `history OP` runs them too, and prints what the operator OP did.
 #![tactic(auto)]
 
 mod answer;
+mod capturing;
 mod check;
 mod command;
 mod input;

@@ -147,6 +147,7 @@ fn serve_input(alloc: Global, word: Word<'_>, input: &[u8]) -> Result<Served, St
         Word::Check => Ok(Served::Answer(check_of(alloc, input)?)),
         Word::Run => task_of(alloc, Wanted::Run, input),
         Word::Threads => task_of(alloc, Wanted::Threads, input),
+        Word::Capture => task_of(alloc, Wanted::Capture, input),
         Word::History { operator } => task_of(alloc, Wanted::History(operator), input),
     }
 }
@@ -257,6 +258,9 @@ fn answer_of_words<'a, H: Threads + Wait + Sync, R: Read, W: Write>(
 /// 0 all well, or help that was asked for; 2 words that are not known, or an operator that the plant does not have; 3 a plant at
 /// fault; 4 a line at fault, or one whose step is refused; 5 want of memory; 6 a read or a write that failed, or an input that is
 /// too long or no UTF-8; 7 threads that strayed from the script's steps.
+///
+/// Under the word `capture` it writes a file, or the one line `fault:` of a plant or a line at fault. A file that ends at a step that is
+/// refused has status 4 and no line behind it.
 ///
 /// Under the word `threads` it may wait, and nothing is said of its returning; under all others it waits for nobody.
 ///

@@ -11,6 +11,7 @@ ghost use Rattle.plant_script.specs.Run.{IsRunOf};
 ghost use Rattle.plant_script.specs.Task.{history_at, RunsTo, IsEnded};
 
 use crate::answer::Answer;
+use crate::capturing::answer_of_capture;
 use crate::on_threads::answer_of_threads;
 use crate::task::{Task, Told};
 use grant_policy::Ranking;
@@ -23,7 +24,7 @@ use std::sync::Wait;
 use std::thread::Threads;
 
 /// The number of a line whose step is refused, other than for want of memory.
-fn refused(number: u64, fault: CoreFault) -> Result<Option<u64>, AllocError>
+pub(crate) fn refused(number: u64, fault: CoreFault) -> Result<Option<u64>, AllocError>
     ensures { IfOk result (λ refused. (refused ≡ Some number) × (fault ≢ NoMemory)) }
 {
     match fault {
@@ -181,6 +182,12 @@ pub fn answer_of_task<R: Threads + Wait + Sync>(
         Told::History(op) => {
             let mut core = core_of(alloc, plant, rankings)?;
             let answer = answer_of_history(alloc, &mut core, op, lines)?;
+            put_away(core, ending);
+            Ok(answer)
+        }
+        Told::Capture => {
+            let mut core = core_of(alloc, plant, rankings)?;
+            let answer = answer_of_capture(alloc, &mut core, lines)?;
             put_away(core, ending);
             Ok(answer)
         }

@@ -26,6 +26,8 @@ pub enum Told {
     History(Op),
     /// A line for each output of a run on threads: operator by operator, and then the MAPs.
     Threads,
+    /// A capture file, with what the modems send, the replies and the MAPs.
+    Capture,
 }
 
 /// What is wanted of a plant and a script.
@@ -35,6 +37,8 @@ pub enum Wanted<'a> {
     Run,
     /// The outputs of their run on threads.
     Threads,
+    /// The capture of their run.
+    Capture,
     /// What the operator of this name did in their run.
     History(&'a str),
 }
@@ -101,6 +105,7 @@ fn task_of_plant(
     match wanted {
         Wanted::Run => task_of_script(alloc, plant, Told::Outs, script),
         Wanted::Threads => task_of_script(alloc, plant, Told::Threads, script),
+        Wanted::Capture => task_of_script(alloc, plant, Told::Capture, script),
         Wanted::History(name) => task_of_operator(alloc, plant, name, script),
     }
 }

@@ -5,14 +5,15 @@ use Rattle.std.proofs.lemmas.Slice.Eq.{bytes_eq-Decides}
 use Rattle.clap.specs.Kinds.{IsAmong, Kinds}
 use Rattle.clap.specs.Walk.{Text}
 use Rattle.clap.specs.declared.error.kind.ErrorKind.TheVariants as kind
-use Rattle.plant_words.specs.Order.{Order, one, check, run, threads, history}
+use Rattle.plant_words.specs.Order.{Order, one, check, run, threads, capture, history}
 use Rattle.plant_words.specs.ClapLine.{faults}
 use Rattle.plant_words.specs.CommandLine.{AsksHelp, IsHelpFlag, IsHelpWord, IsOperand, MayLead, Names, StandsAlone, hyphens}
 use Rattle.plant_words.proofs.FlagSteps as step
-use Rattle.plant_words.proofs.WalkSteps.{plain_shape, history_shape, sub_fault, one_below, check_below, run_below, threads_below, history_below}
+use Rattle.plant_words.proofs.FlagSteps.{IsNoName}
+use Rattle.plant_words.proofs.WalkSteps.{plain_shape, history_shape, sub_fault, one_below, check_below, run_below, threads_below, capture_below, history_below}
 use Rattle.plant_words.proofs.Shapes.{Fails, IsRefused, Meets, OperandShape, no_hyphen, odd_hyphen, flag_fails, operand_of_shape, refused_by}
 
--- ---- behind `one`, `check`, `run` or `threads`
+-- ---- behind `one`, `check`, `run`, `threads` or `capture`
 
 pub plain_meets : (n w : Text) (rest : List Text) → Meets w (sub_fault (plain_shape n) (w ∷ rest))
 plain_meets n w rest = record {
@@ -136,14 +137,13 @@ history_rest (w ∷ rest) = elim (flag_fails w _ (operand_meets w rest)) [
 
 -- ---- the first word
 
-pub top_meets : (w : Text) (rest : List Text) → bytes_eq (codes "one") w ≡ false → bytes_eq (codes "check") w ≡ false → bytes_eq (codes "run") w ≡ false
-    → bytes_eq (codes "threads") w ≡ false → bytes_eq (codes "history") w ≡ false → bytes_eq (codes "help") w ≡ false → Meets w (faults (w ∷ rest))
-top_meets w rest a b c t d e = record {
-  unknown_long = λ name v. step.top_unknown_long w rest name v a b c t d e;
-  help_value = λ name v. step.top_help_value w rest name v a b c t d e;
-  help = λ name. step.top_help w rest name a b c t d e;
-  short_help = λ k flags x. step.top_short_help w rest k flags x a b c t d e;
-  short_unknown = λ k flags x. step.top_short_unknown w rest k flags x a b c t d e;
+pub top_meets : (w : Text) (rest : List Text) → IsNoName w → Meets w (faults (w ∷ rest))
+top_meets w rest strange = record {
+  unknown_long = λ name v. step.top_unknown_long w rest name v strange;
+  help_value = λ name v. step.top_help_value w rest name v strange;
+  help = λ name. step.top_help w rest name strange;
+  short_help = λ k flags x. step.top_short_help w rest k flags x strange;
+  short_unknown = λ k flags x. step.top_short_unknown w rest k flags x strange;
 }
 
 -- an unknown word, or one that may be meant for a subcommand
@@ -160,12 +160,11 @@ top_end : (w : Text) (rest : List Text) → w ≡ hyphens → IsRefused (faults 
 top_end w [] same = subst (λ (x : Text). IsRefused (faults (x ∷ []))) (sym same) (refused_by _ kind.MissingSubcommand (λ e. cc) step.top_end_alone)
 top_end w (u ∷ rest) same = subst (λ (x : Text). IsRefused (faults (x ∷ u ∷ rest))) (sym same) (stray_refused _ (step.top_end u rest))
 
-top_fails : (w : Text) (rest : List Text) → bytes_eq (codes "one") w ≡ false → bytes_eq (codes "check") w ≡ false → bytes_eq (codes "run") w ≡ false
-    → bytes_eq (codes "threads") w ≡ false → bytes_eq (codes "history") w ≡ false → bytes_eq (codes "help") w ≡ false → Fails (IsHelpFlag w) (faults (w ∷ rest))
-top_fails w rest a b c t d e = elim (flag_fails w _ (top_meets w rest a b c t d e)) [
+top_fails : (w : Text) (rest : List Text) → IsNoName w → Fails (IsHelpFlag w) (faults (w ∷ rest))
+top_fails w rest strange = elim (flag_fails w _ (top_meets w rest strange)) [
   | inl same ↦ inr (top_end w rest same)
-  | inr (inl (no_hyphen other long short)) ↦ inr (stray_refused _ (step.top_stray w rest a b c t d e other long short))
-  | inr (inl (odd_hyphen k flags other long short none)) ↦ inr (stray_refused _ (step.top_odd w rest k flags a b c t d e other long short none))
+  | inr (inl (no_hyphen other long short)) ↦ inr (stray_refused _ (step.top_stray w rest strange other long short))
+  | inr (inl (odd_hyphen k flags other long short none)) ↦ inr (stray_refused _ (step.top_odd w rest k flags strange other long short none))
   | inr (inr fails) ↦ fails
 ]
 
@@ -207,7 +206,7 @@ at_history rest = elim (history_rest rest) [
       flag = asks.0;
       behind = asks.1;
       are = ap (λ (r : List Text). codes "history" ∷ r) asks.2;
-      may_lead = inr (inr (inr (inr refl)));
+      may_lead = inr (inr (inr (inr (inr refl))));
       is_help = asks.3;
     },
     history_below rest ∙ is,
@@ -233,36 +232,28 @@ at_flag w rest (inr refused) = failing (inr refused)
 
 pub outcome : (words : List Text) → Outcome words
 outcome [] = failing (inr (refused_by _ kind.MissingSubcommand (λ e. cc) step.top_none))
-outcome (w ∷ rest) = one_or_not (bytes_eq (codes "one") w) refl
+outcome (w ∷ rest) =
+    unless (codes "one") (at_plain (codes "one") one (inl refl) (λ words alone. alone) rest (one_below rest)) (λ no_one.
+    unless (codes "check") (at_plain (codes "check") check (inr (inl refl)) (λ words alone. alone) rest (check_below rest)) (λ no_check.
+    unless (codes "run") (at_plain (codes "run") run (inr (inr (inl refl))) (λ words alone. alone) rest (run_below rest)) (λ no_run.
+    unless (codes "threads") (at_plain (codes "threads") threads (inr (inr (inr (inl refl)))) (λ words alone. alone) rest (threads_below rest)) (λ no_threads.
+    unless (codes "capture") (at_plain (codes "capture") capture (inr (inr (inr (inr (inl refl))))) (λ words alone. alone) rest (capture_below rest)) (λ no_capture.
+    unless (codes "history") (at_history rest) (λ no_history.
+    unless (codes "help") (helped (record { topics = rest; are = refl })) (λ no_help.
+    at_flag w rest (top_fails w rest (record {
+      one = no_one;
+      check = no_check;
+      run = no_run;
+      threads = no_threads;
+      capture = no_capture;
+      history = no_history;
+      help = no_help;
+    })))))))))
   where
-    same : (n : Text) → bytes_eq n w ≡ true → Outcome (n ∷ rest) → Outcome (w ∷ rest)
-    same n is o = subst (λ (x : Text). Outcome (x ∷ rest)) ((bytes_eq-Decides n w).0 is) o
+    -- the word is this name, or what follows is so of another
+    is_or_not : (n : Text) (t : Bool) → bytes_eq n w ≡ t → Outcome (n ∷ rest) → (bytes_eq n w ≡ false → Outcome (w ∷ rest)) → Outcome (w ∷ rest)
+    is_or_not n true is here other = subst (λ (x : Text). Outcome (x ∷ rest)) ((bytes_eq-Decides n w).0 is) here
+    is_or_not n false is here other = other is
 
-    help_or_not : bytes_eq (codes "one") w ≡ false → bytes_eq (codes "check") w ≡ false → bytes_eq (codes "run") w ≡ false
-        → bytes_eq (codes "threads") w ≡ false → bytes_eq (codes "history") w ≡ false → (t : Bool) → bytes_eq (codes "help") w ≡ t
-        → Outcome (w ∷ rest)
-    help_or_not a b c t d true is = same (codes "help") is (helped (record { topics = rest; are = refl }))
-    help_or_not a b c t d false e = at_flag w rest (top_fails w rest a b c t d e)
-
-    history_or_not : bytes_eq (codes "one") w ≡ false → bytes_eq (codes "check") w ≡ false → bytes_eq (codes "run") w ≡ false
-        → bytes_eq (codes "threads") w ≡ false → (t : Bool) → bytes_eq (codes "history") w ≡ t → Outcome (w ∷ rest)
-    history_or_not a b c t true is = same (codes "history") is (at_history rest)
-    history_or_not a b c t false d = help_or_not a b c t d (bytes_eq (codes "help") w) refl
-
-    threads_or_not : bytes_eq (codes "one") w ≡ false → bytes_eq (codes "check") w ≡ false → bytes_eq (codes "run") w ≡ false
-        → (t : Bool) → bytes_eq (codes "threads") w ≡ t → Outcome (w ∷ rest)
-    threads_or_not a b c true is =
-        same (codes "threads") is (at_plain (codes "threads") threads (inr (inr (inr (inl refl)))) (λ words alone. alone) rest (threads_below rest))
-    threads_or_not a b c false t = history_or_not a b c t (bytes_eq (codes "history") w) refl
-
-    run_or_not : bytes_eq (codes "one") w ≡ false → bytes_eq (codes "check") w ≡ false → (t : Bool) → bytes_eq (codes "run") w ≡ t → Outcome (w ∷ rest)
-    run_or_not a b true is = same (codes "run") is (at_plain (codes "run") run (inr (inr (inl refl))) (λ words alone. alone) rest (run_below rest))
-    run_or_not a b false c = threads_or_not a b c (bytes_eq (codes "threads") w) refl
-
-    check_or_not : bytes_eq (codes "one") w ≡ false → (t : Bool) → bytes_eq (codes "check") w ≡ t → Outcome (w ∷ rest)
-    check_or_not a true is = same (codes "check") is (at_plain (codes "check") check (inr (inl refl)) (λ words alone. alone) rest (check_below rest))
-    check_or_not a false b = run_or_not a b (bytes_eq (codes "run") w) refl
-
-    one_or_not : (t : Bool) → bytes_eq (codes "one") w ≡ t → Outcome (w ∷ rest)
-    one_or_not true is = same (codes "one") is (at_plain (codes "one") one (inl refl) (λ words alone. alone) rest (one_below rest))
-    one_or_not false a = check_or_not a (bytes_eq (codes "check") w) refl
+    unless : (n : Text) → Outcome (n ∷ rest) → (bytes_eq n w ≡ false → Outcome (w ∷ rest)) → Outcome (w ∷ rest)
+    unless n here other = is_or_not n (bytes_eq n w) refl here other

@@ -1,5 +1,5 @@
 -- From what clap says of the words to what they come to.
-use Rattle.std.proofs.Common.{◌≡◌, ◌≢◌, ◌⊎◌, ◌∙◌, inl, inr, ℕ, Bool, true, false, List, [], ◌∷◌, ◌++◌, Some, None, Option, Result, Ok, Err, IfOk, IfErr, refl, sym, ap, subst, codes, slice_index, arith}
+use Rattle.std.proofs.Common.{◌≡◌, ◌≢◌, ◌⊎◌, ◌∙◌, inl, inr, ℕ, Bool, true, false, List, [], ◌∷◌, ◌++◌, Some, None, Option, Result, Ok, Err, IfOk, IfErr, refl, sym, ap, subst, codes, slice_index, ◌+◌, arith}
 use Rattle.std.specs.Prelude.{IfSome, IfNone, IsSomeAnd, ⊤}
 use Rattle.std.specs.Option.{ok_or}
 use Rattle.std.specs.Str.{bytes_eq}
@@ -11,11 +11,11 @@ use Rattle.clap.specs.declared.error.kind.ErrorKind.TheVariants as kind
 use Rattle.clap.proofs.OnLiterals.{clap_on_literals}
 use Rattle.plant_words.specs.ClapLine.{IsFaultOf, StandsFor, entered, faults}
 use Rattle.plant_words.specs.CommandLine.{Allows, AreWrong, AsksHelp, GivesHelp, GivesOrder, GivesWrong, IsHelpFlag, IsHelpWord, MayLead, Names, first_flag, hyphens}
-use Rattle.plant_words.specs.Order.{Order, one, check, run, threads, history, order_of}
+use Rattle.plant_words.specs.Order.{Order, one, check, run, threads, capture, history, order_of}
 use Rattle.plant_words.specs.declared.asked.Word.{Word}
 use Rattle.plant_words.specs.declared.asked.WordsFault.{WordsFault}
 use Rattle.plant_words.specs.declared.asked.WordsFault.TheVariants as fault
-use Rattle.plant_words.proofs.WalkSteps.{one_below, check_below, run_below, threads_below, history_below}
+use Rattle.plant_words.proofs.WalkSteps.{one_below, check_below, run_below, threads_below, capture_below, history_below}
 use Rattle.plant_words.proofs.Shapes.{IsRefused, OperandShape, no_hyphen, odd_hyphen, flag_helps, none_is_some, shape_of_operand}
 use Rattle.plant_words.proofs.Outcomes.{named, helped, failing, outcome, plain_meets, operand_meets, after_meets, top_meets}
 
@@ -57,6 +57,14 @@ threads_ended : Takes (codes "threads" ∷ hyphens ∷ []) threads
 unfolding faults entered clap_on_literals
 threads_ended = (refl, refl)
 
+capture_taken : Takes (codes "capture" ∷ []) capture
+unfolding faults entered clap_on_literals
+capture_taken = (refl, refl)
+
+capture_ended : Takes (codes "capture" ∷ hyphens ∷ []) capture
+unfolding faults entered clap_on_literals
+capture_ended = (refl, refl)
+
 operand_taken : (w : Text) → OperandShape w → Takes (codes "history" ∷ w ∷ []) (history w)
 unfolding faults entered clap_on_literals
 operand_taken w (no_hyphen other long short) =
@@ -95,38 +103,46 @@ names_taken words run (inl e) = at_words words _ run e run_taken
 names_taken words run (inr e) = at_words words _ run e run_ended
 names_taken words threads (inl e) = at_words words _ threads e threads_taken
 names_taken words threads (inr e) = at_words words _ threads e threads_ended
+names_taken words capture (inl e) = at_words words _ capture e capture_taken
+names_taken words capture (inr e) = at_words words _ capture e capture_ended
 names_taken words (history name) (inl (operand, inl e)) = at_words words _ (history name) e (operand_taken name (shape_of_operand name operand))
 names_taken words (history name) (inl (operand, inr e)) = at_words words _ (history name) e (operand_ended name (shape_of_operand name operand))
 names_taken words (history name) (inr e) = at_words words _ (history name) e (operand_behind name)
 
--- a subcommand stands for one order
-letter : Order → ℕ
-letter one = 111
-letter check = 99
-letter run = 114
-letter threads = 116
-letter (history name) = 104
+-- a subcommand stands for one order: its first two letters, added
+two_letters : Text → ℕ
+two_letters name = slice_index name 0 + slice_index name 1
 
-letter_at : (o : Order) (s : Text × List Row) → StandsFor o s → slice_index s.0 0 ≡ letter o
-unfolding letter
-letter_at one s e = ap (λ (t : Text). slice_index t 0) e
-letter_at check s e = ap (λ (t : Text). slice_index t 0) e
-letter_at run s e = ap (λ (t : Text). slice_index t 0) e
-letter_at threads s e = ap (λ (t : Text). slice_index t 0) e
-letter_at (history name) s e = ap (λ (t : Text). slice_index t 0) e.0
+letters : Order → ℕ
+letters one = 221
+letters check = 203
+letters run = 231
+letters threads = 220
+letters capture = 196
+letters (history name) = 209
 
-same_letter : (o p : Order) (s : Text × List Row) → letter o ≡ letter p → StandsFor o s → StandsFor p s → o ≡ p
-unfolding letter
-same_letter one one s e a b = refl
-same_letter check check s e a b = refl
-same_letter run run s e a b = refl
-same_letter threads threads s e a b = refl
-same_letter (history n) (history m) s e a b = let same = sym a.1 ∙ b.1 in let is : n ≡ m = cc in ap history is
-same_letter o p s e a b = absurd (omega arith)
+letters_at : (o : Order) (s : Text × List Row) → StandsFor o s → two_letters s.0 ≡ letters o
+unfolding letters two_letters
+letters_at one s e = ap two_letters e
+letters_at check s e = ap two_letters e
+letters_at run s e = ap two_letters e
+letters_at threads s e = ap two_letters e
+letters_at capture s e = ap two_letters e
+letters_at (history name) s e = ap two_letters e.0
+
+same_letters : (o p : Order) (s : Text × List Row) → letters o ≡ letters p → StandsFor o s → StandsFor p s → o ≡ p
+unfolding letters
+same_letters one one s e a b = refl
+same_letters check check s e a b = refl
+same_letters run run s e a b = refl
+same_letters threads threads s e a b = refl
+same_letters capture capture s e a b = refl
+same_letters (history n) (history m) s e a b = let same = sym a.1 ∙ b.1 in let is : n ≡ m = cc in ap history is
+same_letters o p s e a b = absurd (omega arith)
 
 pub stands_once : (o p : Order) (e : Option (Text × List Row)) → IsSomeAnd e (StandsFor o) → IsSomeAnd e (StandsFor p) → o ≡ p
 stands_once o p None a b = absurd a
-stands_once o p (Some s) a b = same_letter o p s (sym (letter_at o s a) ∙ letter_at p s b) a b
+stands_once o p (Some s) a b = same_letters o p s (sym (letters_at o s a) ∙ letters_at p s b) a b
 
 -- ---- the words that ask for help
 
@@ -143,13 +159,15 @@ other_letter n k is differs same = differs (sym is ∙ ap (λ (t : Text). slice_
 
 help_behind : (before : List Text) (flag : Text) (behind : List Text) → MayLead before → IsHelpFlag flag
     → faults (before ++ flag ∷ behind) ≡ kind.DisplayHelp ∷ []
-help_behind [] flag behind lead help = flag_helps flag _ (top_meets flag behind
-    (not_name (codes "one") flag refl (other_letter _ 111 refl (λ e. omega arith)) help)
-    (not_name (codes "check") flag refl (other_letter _ 99 refl (λ e. omega arith)) help)
-    (not_name (codes "run") flag refl (other_letter _ 114 refl (λ e. omega arith)) help)
-    (not_name (codes "threads") flag refl (other_letter _ 116 refl (λ e. omega arith)) help)
-    (not_name (codes "history") flag refl (other_letter _ 104 refl (λ e. omega arith)) help)
-    (not_name (codes "help") flag refl (other_letter _ 104 refl (λ e. omega arith)) help)) help
+help_behind [] flag behind lead help = flag_helps flag _ (top_meets flag behind (record {
+  one = not_name (codes "one") flag refl (other_letter _ 111 refl (λ e. omega arith)) help;
+  check = not_name (codes "check") flag refl (other_letter _ 99 refl (λ e. omega arith)) help;
+  run = not_name (codes "run") flag refl (other_letter _ 114 refl (λ e. omega arith)) help;
+  threads = not_name (codes "threads") flag refl (other_letter _ 116 refl (λ e. omega arith)) help;
+  capture = not_name (codes "capture") flag refl (other_letter _ 99 refl (λ e. omega arith)) help;
+  history = not_name (codes "history") flag refl (other_letter _ 104 refl (λ e. omega arith)) help;
+  help = not_name (codes "help") flag refl (other_letter _ 104 refl (λ e. omega arith)) help;
+})) help
 help_behind (w ∷ []) flag behind (inl e) help = subst (λ (x : Text). faults (x ∷ flag ∷ behind) ≡ kind.DisplayHelp ∷ []) (sym e)
     (one_below (flag ∷ behind) ∙ flag_helps flag _ (plain_meets (codes "one") flag behind) help)
 help_behind (w ∷ []) flag behind (inr (inl e)) help = subst (λ (x : Text). faults (x ∷ flag ∷ behind) ≡ kind.DisplayHelp ∷ []) (sym e)
@@ -158,7 +176,9 @@ help_behind (w ∷ []) flag behind (inr (inr (inl e))) help = subst (λ (x : Tex
     (run_below (flag ∷ behind) ∙ flag_helps flag _ (plain_meets (codes "run") flag behind) help)
 help_behind (w ∷ []) flag behind (inr (inr (inr (inl e)))) help = subst (λ (x : Text). faults (x ∷ flag ∷ behind) ≡ kind.DisplayHelp ∷ []) (sym e)
     (threads_below (flag ∷ behind) ∙ flag_helps flag _ (plain_meets (codes "threads") flag behind) help)
-help_behind (w ∷ []) flag behind (inr (inr (inr (inr e)))) help = subst (λ (x : Text). faults (x ∷ flag ∷ behind) ≡ kind.DisplayHelp ∷ []) (sym e)
+help_behind (w ∷ []) flag behind (inr (inr (inr (inr (inl e))))) help = subst (λ (x : Text). faults (x ∷ flag ∷ behind) ≡ kind.DisplayHelp ∷ []) (sym e)
+    (capture_below (flag ∷ behind) ∙ flag_helps flag _ (plain_meets (codes "capture") flag behind) help)
+help_behind (w ∷ []) flag behind (inr (inr (inr (inr (inr e))))) help = subst (λ (x : Text). faults (x ∷ flag ∷ behind) ≡ kind.DisplayHelp ∷ []) (sym e)
     (history_below (flag ∷ behind) ∙ flag_helps flag _ (operand_meets flag behind) help)
 help_behind (w ∷ u ∷ []) flag behind lead help = subst (λ (x : Text). faults (x ∷ u ∷ flag ∷ behind) ≡ kind.DisplayHelp ∷ []) (sym lead.0)
     (history_below (u ∷ flag ∷ behind) ∙ flag_helps flag _ (after_meets u flag behind (shape_of_operand u lead.1)) help)

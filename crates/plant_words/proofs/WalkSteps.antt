@@ -64,6 +64,11 @@ unfolding faults clap_on_literals
 run_below rest = rw (words_collected top_rules top_names (codes "run") [] rest, words_pass (built program).top top_names (codes "run") [] rest)
     (or_nothing (sub_fault (plain_shape (codes "run")) rest))
 
+pub capture_below : (rest : List Text) → faults (codes "capture" ∷ rest) ≡ sub_fault (plain_shape (codes "capture")) rest
+unfolding faults clap_on_literals
+capture_below rest = rw (words_collected top_rules top_names (codes "capture") [] rest, words_pass (built program).top top_names (codes "capture") [] rest)
+    (or_nothing (sub_fault (plain_shape (codes "capture")) rest))
+
 pub threads_below : (rest : List Text) → faults (codes "threads" ∷ rest) ≡ sub_fault (plain_shape (codes "threads")) rest
 unfolding faults clap_on_literals
 threads_below rest = rw (words_collected top_rules top_names (codes "threads") [] rest, words_pass (built program).top top_names (codes "threads") [] rest)

@@ -15,6 +15,8 @@ pub enum Word<'a> {
     Run,
     /// Run a script over a plant on threads.
     Threads,
+    /// Write the run of a script over a plant as a capture.
+    Capture,
     /// Tell an operator's history.
     History {
         /// The operator's name, as it was written.

@@ -17,6 +17,50 @@ pub fn matches_of<'a>(alloc: Global, words: &'a [&'a str]) -> Result<ArgMatches<
     command.try_get_matches_from(words)
 }
 
+/// What help of a subcommand says of its input and of its exit statuses.
+const ONE_INPUT: &str = "Standard input: messages in hexadecimal, a line each.
+
+    plant_script one < messages.txt
+
+Exit status: 0 all well, 4 a line at fault, 5 want of memory, 6 a read or a write that failed.";
+
+const CHECK_INPUT: &str =
+    "Standard input: a plant file, a line --- and a script. The answer is `ok` or one line `fault:`.
+
+    plant_script check < script.txt
+
+Exit status: 0 all well, 3 a plant at fault, 4 a line at fault, 5 want of memory, 6 a read or a write that failed.";
+
+const RUN_INPUT: &str = "Standard input: a plant file, a line --- and a script.
+
+    plant_script run < script.txt
+
+Exit status: 0 all well, 3 a plant at fault, 4 a line at fault or a step that is refused, 5 want of memory, 6 a read or
+a write that failed.";
+
+const THREADS_INPUT: &str = "Standard input: a plant file, a line --- and a script.
+
+    plant_script threads < script.txt
+
+Exit status: 0 all well, 3 a plant at fault, 4 a line at fault or a step that is refused, 5 want of memory, 6 a read or
+a write that failed, 7 threads that strayed from the script.";
+
+const CAPTURE_INPUT: &str =
+    "Standard input: a plant file, a line --- and a script. Standard output: a pcap file of DOCSIS frames, with what the
+modems send, the replies and the MAPs. At a step that is refused the file ends, with those of the steps before it.
+
+    plant_script capture < script.txt > run.pcap
+
+Exit status: 0 all well, 3 a plant at fault, 4 a line at fault (of both one line `fault:` is told in place of the file)
+or a step that is refused, 5 want of memory, 6 a read or a write that failed.";
+
+const HISTORY_INPUT: &str = "Standard input: a plant file, a line --- and a script.
+
+    plant_script history A < script.txt
+
+Exit status: 0 all well, 2 an operator that the plant does not have, 3 a plant at fault, 4 a line at fault or a step that
+is refused, 5 want of memory, 6 a read or a write that failed.";
+
 fn command_line<'a>(alloc: Global) -> Result<Command<'a>, AllocError>
     ensures { IfOk result (λ c. app_of c ≡ program) }
 {
@@ -25,13 +69,26 @@ fn command_line<'a>(alloc: Global) -> Result<Command<'a>, AllocError>
             alloc,
             "one",
             "Answer the messages of one modem, a line each",
+            ONE_INPUT,
         ))?
-        .subcommand(plain_command(alloc, "check", "Say whether a plant and a script are well"))?
-        .subcommand(plain_command(alloc, "run", "Run a script over a plant"))?
+        .subcommand(plain_command(
+            alloc,
+            "check",
+            "Say whether a plant and a script are well",
+            CHECK_INPUT,
+        ))?
+        .subcommand(plain_command(alloc, "run", "Run a script over a plant", RUN_INPUT))?
         .subcommand(plain_command(
             alloc,
             "threads",
             "Run a script over a plant, on a thread for each operator",
+            THREADS_INPUT,
+        ))?
+        .subcommand(plain_command(
+            alloc,
+            "capture",
+            "Run a script over a plant, and write the run as a pcap file",
+            CAPTURE_INPUT,
         ))?
         .subcommand(history_command(alloc)?)
 }
@@ -46,10 +103,10 @@ fn top_command<'a>(alloc: Global) -> Result<Command<'a>, AllocError>
         .bin_name("plant_script")
 }
 
-fn plain_command<'a>(alloc: Global, name: &'a str, about: &'a str) -> Command<'a>
+fn plain_command<'a>(alloc: Global, name: &'a str, about: &'a str, input: &'a str) -> Command<'a>
     ensures { app_of result ≡ new_app name.entry.now }
 {
-    Command::new(alloc, name).about(about)
+    Command::new(alloc, name).about(about).after_help(input)
 }
 
 fn history_command<'a>(alloc: Global) -> Result<Command<'a>, AllocError>
@@ -59,5 +116,11 @@ fn history_command<'a>(alloc: Global) -> Result<Command<'a>, AllocError>
         .value_name("OPERATOR")
         .required(true)
         .help("The operator's name");
-    plain_command(alloc, "history", "Tell an operator's history").arg(operator)
+    plain_command(
+        alloc,
+        "history",
+        "Tell an operator's history",
+        HISTORY_INPUT,
+    )
+    .arg(operator)
 }

@@ -50,6 +50,7 @@ fn word_named<'a>(name: &str, inner: &ArgMatches<'a>) -> Option<Word<'a>>
         "check" => Some(Word::Check),
         "run" => Some(Word::Run),
         "threads" => Some(Word::Threads),
+        "capture" => Some(Word::Capture),
         "history" => {
             let operator = inner.get_str("operator")?;
             Some(Word::History { operator })

@@ -1,6 +1,8 @@
 //! The program where a read or a write fails: each read and each write of a script in turn, for each word.
 
+use crate::captures::OF_BOTH;
 use crate::programs::PLANT;
+use hex::decode;
 use plant_script::run_program;
 use std::alloc::Global;
 use std::io;
@@ -206,6 +208,28 @@ fn each_write_that_fails_is_status_6(rt: HostRuntime) -> Result<(), Fail> {
         for fails_at in 0..case.2.len() / 3 + 2 {
             check_write(&rt, rt.alloc(), case, fails_at)?;
         }
+    }
+    Ok(())
+}
+
+/// A capture whose writer fails is not whole, and the line of a failed write stands behind what was written.
+#[test]
+fn each_write_of_a_capture_that_fails_is_status_6(rt: HostRuntime) -> Result<(), Fail> {
+    let alloc = rt.alloc();
+    let file = decode(alloc, OF_BOTH).ok().ok_or("no digits")?;
+    for fails_at in 0..file.len() / 3 + 2 {
+        let (told, held) = written(&rt, alloc, &["capture"], 3, fails_at)?;
+        let before = fails_at.saturating_mul(3);
+        let mut wanted = Vec::from_slice(alloc, &file.as_slice()[..before.min(file.len())])?;
+        let status = if before < file.len() { 6 } else { 0 };
+        if status == 6 {
+            wanted.extend_from_slice(b"fault: io\n")?;
+        }
+        assert_eq!(rt;
+            (told, held.as_slice()),
+            (status, wanted.as_slice()),
+            "write {fails_at}"
+        );
     }
     Ok(())
 }

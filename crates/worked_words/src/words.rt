@@ -22,6 +22,7 @@ fn each_word_is_read(rt: HostRuntime) -> Result<(), Fail> {
     assert!(rt; read_words(alloc, &["check"])? == Word::Check);
     assert!(rt; read_words(alloc, &["run"])? == Word::Run);
     assert!(rt; read_words(alloc, &["threads"])? == Word::Threads);
+    assert!(rt; read_words(alloc, &["capture"])? == Word::Capture);
     assert!(rt; read_words(alloc, &["history", "A"])? == Word::History { operator: "A" });
     Ok(())
 }
@@ -42,6 +43,14 @@ fn help_is_shown(rt: HostRuntime) {
     assert!(rt; shows(alloc, &["history", "--help"], "OPERATOR"));
     assert!(rt; shows(alloc, &["run", "-h"], "Usage: plant_script run"));
     assert!(rt; shows(alloc, &["threads", "-h"], "Usage: plant_script threads"));
+    assert!(rt; shows(alloc, &["capture", "-h"], "Usage: plant_script capture"));
+    assert!(rt;
+        shows(
+            alloc,
+            &["capture", "--help"],
+            "plant_script capture < script.txt > run.pcap"
+        )
+    );
 }
 
 #[test]
@@ -53,6 +62,7 @@ fn other_words_are_wrong(rt: HostRuntime) {
     assert!(rt; is_wrong(alloc, &["plant_script", "one"]));
     assert!(rt; is_wrong(alloc, &["one", "more"]));
     assert!(rt; is_wrong(alloc, &["threads", "2"]));
+    assert!(rt; is_wrong(alloc, &["capture", "run.pcap"]));
     assert!(rt; is_wrong(alloc, &["--check"]));
     assert!(rt; is_wrong(alloc, &["history"]));
     assert!(rt; is_wrong(alloc, &["history", "A", "B"]));

@@ -10,6 +10,7 @@ returns c =
     let check = added_subcommand _ _ c.in_ok-subcommand-2.field-0 _ _ one c.plain_command-2.ensures refl c.in_ok-subcommand-2.ensures in
     let run = added_subcommand _ _ c.in_ok-subcommand-3.field-0 _ _ check c.plain_command-3.ensures refl c.in_ok-subcommand-3.ensures in
     let threads = added_subcommand _ _ c.in_ok-subcommand-4.field-0 _ _ run c.plain_command-4.ensures refl c.in_ok-subcommand-4.ensures in
-    IfOk-weaker c.subcommand-5.result _ _
-    (λ command added. added_subcommand _ _ command _ _ threads c.in_ok-history_command.ensures refl added)
-    c.subcommand-5.ensures
+    let capture = added_subcommand _ _ c.in_ok-subcommand-5.field-0 _ _ threads c.plain_command-5.ensures refl c.in_ok-subcommand-5.ensures in
+    IfOk-weaker c.subcommand-6.result _ _
+    (λ command added. added_subcommand _ _ command _ _ capture c.in_ok-history_command.ensures refl added)
+    c.subcommand-6.ensures

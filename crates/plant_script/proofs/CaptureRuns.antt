@@ -1,0 +1,97 @@
+-- The steps of a script's lines, captured one after the other.
+use Rattle.std.proofs.Common.{◌≡◌, ℕ, ◌+◌, ◌<◌, ◌≤◌, List, [], ◌∷◌, ◌++◌, length, take, get_or, Option, Some, None, IsSome, refl, sym, ap, subst, ◌∙◌}
+use Rattle.std.specs.Prelude.{slice_get}
+use Rattle.std.proofs.lemmas.List.{map-append, take_more}
+use Rattle.std.proofs.lemmas.Option.{slice_get-get_or, slice_get_past}
+use Rattle.slice_table.specs.declared.consts.ConstsFields.{ConstsFields}
+use Rattle.slice_table.specs.declared.plant.PlantFields.{PlantFields}
+use Rattle.plant_runs.specs.declared.step.Step.{Step}
+use Rattle.plant_runs.specs.declared.step.Out.{Out}
+use Rattle.plant_runs.specs.Reached.{CoreView, Reached}
+use Rattle.plant_core.specs.declared.core_fault.CoreFault.{CoreFault}
+use Rattle.plant_core.specs.Faults.{step_fault}
+use Rattle.plant_lines.specs.declared.script.LineStep.{LineStep}
+use Rattle.plant_lines.specs.Script.{unnumbered}
+use Rattle.plant_capture.specs.Capture.{Captured, opened_capture, IsOfRun, IsCaptureOf}
+use Rattle.plant_capture.proofs.RunLemmas.{opened_run}
+use Rattle.plant_script.specs.declared.answer.Answer.{Answer}
+use Rattle.plant_script.specs.Run.{IsEnd, IsCapturedRunOf}
+use Rattle.plant_script.specs.DoneSoFar.{IsRefused, AreCaptured, HasCaptured, IsStatusOf}
+
+-- nothing is done, and nothing captured
+pub none_captured : (plant : PlantFields) (core : CoreView) (captured : Captured) → Reached plant [] [] core → captured ≡ opened_capture plant.consts
+    → AreCaptured plant [] core captured
+none_captured plant core captured reached is = record {
+  outs = [];
+  reached = reached;
+  of_run = subst (λ (c : Captured). IsOfRun plant.consts [] [] c) (sym is) (opened_run plant.consts);
+}
+
+-- one line more
+lines_more : (lines : List LineStep) (i : ℕ) (line : LineStep) → i < length lines → line ≡ get_or lines i line
+    → unnumbered (take (i + 1) lines) ≡ unnumbered (take i lines) ++ line.step ∷ []
+lines_more lines i line lt is =
+    ap unnumbered (take_more lines i line lt ∙ ap (λ (l : LineStep). take i lines ++ l ∷ []) (sym is))
+    ∙ map-append (λ (l : LineStep). l.step) (take i lines) (line ∷ [])
+
+-- the line's step is done, by a copy of it, and captured with what it put out
+pub captured_more : (plant : PlantFields) (lines : List LineStep) (i : ℕ) (line : LineStep) (step : Step) (old new : CoreView) (before after : Captured) (now said : List Out)
+    → i < length lines → line ≡ get_or lines i line → step ≡ line.step → said ≡ now → AreCaptured plant (take i lines) old before
+    → ((steps : List Step) (told : List Out) → Reached old.plant steps told old → Reached old.plant (steps ++ step ∷ []) (told ++ now) new)
+    → ((consts : ConstsFields) (steps : List Step) (told : List Out) → IsOfRun consts steps told before → IsOfRun consts (steps ++ line.step ∷ []) (told ++ said) after)
+    → AreCaptured plant (take (i + 1) lines) new after
+captured_more plant lines i line step old new before after now said lt is copy same done reached captured =
+    let front = unnumbered (take i lines) in
+    let more : front ++ line.step ∷ [] ≡ unnumbered (take (i + 1) lines) = sym (lines_more lines i line lt is) in
+    let plant_is = done.reached.plant_is in
+    let then_new = reached front done.outs (subst (λ (p : PlantFields). Reached p front done.outs old) (sym plant_is) done.reached) in
+    let of_plant = subst (λ (p : PlantFields). Reached p (front ++ step ∷ []) (done.outs ++ now) new) plant_is then_new in
+    let of_line = subst (λ (s : Step). Reached plant (front ++ s ∷ []) (done.outs ++ now) new) copy of_plant in
+    record {
+      outs = done.outs ++ now;
+      reached = subst (λ (s : List Step). Reached plant s (done.outs ++ now) new) more of_line;
+      of_run = subst (λ (s : List Step). IsOfRun plant.consts s (done.outs ++ now) after) more
+          (subst (λ (o : List Out). IsOfRun plant.consts (front ++ line.step ∷ []) (done.outs ++ o) after) same (captured plant.consts front done.outs done.of_run));
+    }
+
+-- ---- the end
+
+pub all_captured : (plant : PlantFields) (lines : List LineStep) (i : ℕ) (core : CoreView) (captured : Captured) → length lines ≤ i
+    → AreCaptured plant (take i lines) core captured → HasCaptured plant lines None core captured
+all_captured plant lines i core captured end done = record {
+  at = i;
+  done = done;
+  ends = subst (λ (o : Option LineStep). IsRefused core o None) (sym (slice_get_past lines i end)) refl;
+}
+
+pub captured_refused : (plant : PlantFields) (lines : List LineStep) (i : ℕ) (line : LineStep) (step : Step) (old core : CoreView) (captured : Captured) (fault : CoreFault)
+    → i < length lines → line ≡ get_or lines i line → step ≡ line.step → AreCaptured plant (take i lines) old captured → core ≡ old → step_fault old step ≡ Some fault
+    → HasCaptured plant lines (Some line.number) core captured
+captured_refused plant lines i line step old core captured fault lt is copy done same refused =
+    let of_line : step_fault old line.step ≡ Some fault = ap (step_fault old) (sym copy) ∙ refused in
+    let told : IsSome (step_fault old line.step) = rw of_line refl in
+    let here : slice_get lines i ≡ Some line = slice_get-get_or lines i line lt ∙ ap (λ (l : LineStep). Some l) (sym is) in
+    subst (λ (c : CoreView). HasCaptured plant lines (Some line.number) c captured) (sym same)
+    (record { at = i; done = done; ends = subst (λ (o : Option LineStep). IsRefused old o (Some line.number)) (sym here) (refl, told) })
+
+-- ---- the file
+
+-- the status where a run ends
+end_status : (core : CoreView) (line : Option LineStep) (refused : Option ℕ) (status : ℕ) → IsRefused core line refused → IsStatusOf refused status → IsEnd core line status
+end_status core None refused status none is = subst (λ (r : Option ℕ). IsStatusOf r status) none is
+end_status core (Some line) refused status told is = (subst (λ (r : Option ℕ). IsStatusOf r status) told.0 is, told.1)
+
+pub filed_run : (plant : PlantFields) (lines these : List LineStep) (refused : Option ℕ) (core : CoreView) (captured : Captured) (file : List ℕ) (answer : Answer)
+    → these ≡ lines → HasCaptured plant these refused core captured
+    → ((consts : ConstsFields) (steps : List Step) (outs : List Out) → IsOfRun consts steps outs captured → IsCaptureOf consts steps outs file)
+    → answer.text.items ≡ file → IsStatusOf refused answer.status → IsCapturedRunOf plant lines answer.status answer.text.items
+filed_run plant lines these refused core captured file answer same run of_run text status =
+    subst (λ (l : List LineStep). IsCapturedRunOf plant l answer.status answer.text.items) same (record {
+      at = run.at;
+      outs = run.done.outs;
+      core = core;
+      reached = run.done.reached;
+      ends = end_status core (slice_get these run.at) refused answer.status run.ends status;
+      captured = subst (λ (t : List ℕ). IsCaptureOf plant.consts (unnumbered (take run.at these)) run.done.outs t) (sym text)
+          (of_run plant.consts (unnumbered (take run.at these)) run.done.outs run.done.of_run);
+    })

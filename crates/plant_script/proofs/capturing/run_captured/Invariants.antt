@@ -1,0 +1,7 @@
+use Rattle.std.proofs.Common.{take}
+use Rattle.plant_core.specs.CoreView.{core_view}
+use Rattle.plant_script.specs.DoneSoFar.{AreCaptured}
+use Rattle.plant_script.proofs.capturing.run_captured.Given as goal
+
+abbrev pub invariant-loop-line : goal.invariant-loop-line
+invariant-loop-line g l = AreCaptured (core_view l.fn.core).plant (take l.line-index l.lines) (core_view l.core) l.capture

@@ -1,0 +1,86 @@
+//! A script's run on a plant's core, as a capture.
+
+ghost use Rattle.std.specs.Prelude.{◌≡◌, ◌++◌, ◌∷◌, [], List, IfOk, OnOk};
+ghost use Rattle.slice_table.specs.declared.consts.ConstsFields.{ConstsFields};
+ghost use Rattle.plant_runs.specs.declared.step.Step.{Step};
+ghost use Rattle.plant_runs.specs.declared.step.Out.{Out};
+ghost use Rattle.plant_runs.specs.Reached.{Reached};
+ghost use Rattle.plant_core.specs.CoreView.{core_view};
+ghost use Rattle.plant_capture.specs.Capture.{opened_capture, IsOfRun};
+ghost use Rattle.plant_script.specs.DoneSoFar.{HasCaptured, IsStatusOf};
+ghost use Rattle.plant_script.specs.Run.{IsCapturedRunOf};
+
+use crate::answer::Answer;
+use crate::running::refused;
+use plant_capture::Capture;
+use plant_core::PlantCore;
+use plant_lines::LineStep;
+use plant_runs::{Out, Step};
+use std::alloc::{AllocError, Global};
+
+/// Captures a step that is done, and what it put out.
+fn put_turn(
+    alloc: Global,
+    capture: &mut Capture,
+    step: &Step,
+    outs: &[Out],
+) -> Result<(), AllocError>
+    ensures { OnOk result ((consts : ConstsFields) (steps : List Step) (told : List Out)
+        → IsOfRun consts steps told capture.old
+        → IsOfRun consts (steps ++ step.now ∷ []) (told ++ outs.now) capture.new) }
+{
+    capture.sent(alloc, step)?;
+    capture.told(alloc, outs)?;
+    Ok(())
+}
+
+/// Does the steps of lines, and captures each behind it. Answers the number of the first line whose step is refused, at which it
+/// stops; none where all are done. Nothing of the refused step is captured.
+fn run_captured(
+    alloc: Global,
+    core: &mut PlantCore,
+    lines: &[LineStep],
+    capture: &mut Capture,
+) -> Result<Option<u64>, AllocError>
+    requires opened { Reached (core_view core.old).plant [] [] (core_view core.old) }
+    requires empty { capture.old ≡ opened_capture (core_view core.old).plant.consts }
+    ensures { IfOk result (λ refused.
+        HasCaptured (core_view core.old).plant lines.now refused (core_view core.new) capture.new) }
+{
+    let mut outs = Vec::new(alloc);
+    for line in lines {
+        let step = line.step.copy(alloc)?;
+        match core.step_over(alloc, step, &mut outs) {
+            Ok(()) => put_turn(alloc, capture, &line.step, outs.as_slice())?,
+            Err(fault) => return refused(line.number, fault),
+        }
+    }
+    Ok(None)
+}
+
+/// The file, with the status of its run.
+fn filed(file: Vec<u8>, refused: Option<u64>) -> Answer
+    ensures text { result.text ≡ file }
+    ensures status { IsStatusOf refused result.status }
+{
+    let status = match refused {
+        None => 0,
+        Some(_number) => 4,
+    };
+    Answer { status, text: file }
+}
+
+/// What `capture` answers.
+pub fn answer_of_capture(
+    alloc: Global,
+    core: &mut PlantCore,
+    lines: Vec<LineStep>,
+) -> Result<Answer, AllocError>
+    requires { Reached (core_view core.old).plant [] [] (core_view core.old) }
+    ensures { IfOk result (λ answer. IsCapturedRunOf (core_view core.old).plant lines.items answer.status answer.text.items) }
+{
+    let mut capture = Capture::open(alloc, core.plant().consts());
+    let refused = run_captured(alloc, core, lines.as_slice(), &mut capture)?;
+    let file = capture.to_bytes(alloc)?;
+    Ok(filed(file, refused))
+}
