@@ -1,10 +1,10 @@
 -- What is gathered goes on alike, whatever is put, and whatever slices are given.
-use Rattle.std.proofs.Common.{◌≡◌, ℕ, ◌+◌, ◌<◌, ◌≤◌, List, [], ◌∷◌, ◌++◌, length, map, reverse, drop, Bool, true, false, cond, refl, sym, ap, ap₂, ◌∙◌, subst, arith, ltb, leb, Option, Some, None, append_assoc, All}
+use Rattle.std.proofs.Common.{◌≡◌, ℕ, ◌+◌, ◌<◌, ◌≤◌, List, [], ◌∷◌, ◌++◌, length, map, reverse, drop, Bool, true, false, cond, refl, sym, ap, ◌∙◌, subst, arith, ltb, leb, Option, Some, None, append_assoc, All}
 use Rattle.std.specs.Prelude.{slice_get, if◌then◌else◌}
 use Rattle.std.specs.List.{find}
 use Rattle.std.proofs.lemmas.List.{reverse-append}
 use Rattle.std.proofs.lemmas.List.Elements.{All-push, recursion_from_All, All-from_recursion}
-use Rattle.std.proofs.lemmas.Bool.{ltb-true, ltb-false}
+use Rattle.std.proofs.lemmas.Bool.{ltb-false}
 use Rattle.slice_scheduler.specs.Minislots.{Minislots}
 use Rattle.slice_scheduler.specs.declared.elements.ElementsFields.{ElementsFields}
 use Rattle.map_assembly.specs.declared.map_bytes.MapBytes.{MapBytes}
@@ -13,7 +13,7 @@ use Rattle.map_assembly.specs.declared.slicing.Reslicing.{Reslicing}
 use Rattle.map_assembly.specs.declared.refused.GatherFault.{GatherFault}
 use Rattle.map_assembly.specs.declared.refused.GatherFault.TheVariants.{Stranger, Old, PutTwice, Early, WrongSlice}
 use Rattle.map_assembly.specs.Plan.{AreSlices}
-use Rattle.map_assembly.specs.Gathering.{Gathering, slices_or, slices_at, frame_slices, queue_of, fits_at, is_part, put_fault, with_part, fronts, is_last, after_put, AreQueued, IsGathering, MayReslice, resliced}
+use Rattle.map_assembly.specs.Gathering.{Gathering, slices_or, slices_at, frame_slices, queue_of, fits_at, is_part, put_fault, with_part, fronts, is_last, after_put, IsGathering, MayReslice, resliced}
 use Rattle.map_assembly.specs.Assembled.{IsAnswer, IsMapOf}
 use Rattle.map_assembly.specs.LettingGo.{GoesOnAlike}
 use Rattle.map_assembly.proofs.NewLemmas.{queued-agree}
@@ -157,14 +157,14 @@ held_on g h alike first others is = record {
     moved : IsGathering (record h { layout = g.layout; shares = g.shares; queues = g.queues; next = g.next })
     moved = subst IsGathering (λ k. record h { layout = alike.layout_is k; shares = alike.shares_are k; queues = alike.queues_are k; next = alike.next_is k }) is
 
-pub held_put : (g h : Gathering) (op : ℕ) (part : ElementsFields) → GoesOnAlike g h → IsGathering g → IsGathering (after_put h op part) → IsGathering (after_put g op part)
-held_put g h op part alike is held =
+pub held_put : (g x : Gathering) (op : ℕ) (part : ElementsFields) → GoesOnAlike (after_put g op part) x → IsGathering g → IsGathering x → IsGathering (after_put g op part)
+held_put g x op part alike is held =
     subst IsGathering (sym (put_is g op part))
-    (by (is_last g op part) (subst (λ (x : Gathering). GoesOnAlike x (after_put h op part)) (put_is g op part) (alike_put g h op part alike)))
+    (by (is_last g op part) (subst (λ (y : Gathering). GoesOnAlike y x) (put_is g op part) alike))
   where
-    by : (b : Bool) → GoesOnAlike (put_branch g op part b) (after_put h op part) → IsGathering (put_branch g op part b)
-    by true on = held_on (put_branch g op part true) (after_put h op part) on is.slices_are is.reslicings_are held
-    by false on = held_on (put_branch g op part false) (after_put h op part) on is.slices_are is.reslicings_are held
+    by : (b : Bool) → GoesOnAlike (put_branch g op part b) x → IsGathering (put_branch g op part b)
+    by true on = held_on (put_branch g op part true) x on is.slices_are is.reslicings_are held
+    by false on = held_on (put_branch g op part false) x on is.slices_are is.reslicings_are held
 
 pub held_resliced : (g h x : Gathering) (from : ℕ) (slices : List Minislots) → GoesOnAlike (resliced g from slices) x → IsGathering g → AreSlices g.layout (length g.shares) slices → IsGathering x → IsGathering (resliced g from slices)
 held_resliced g h x from slices on is valid held =

@@ -1,11 +1,15 @@
--- An action puts out one frame at most.
-use Rattle.std.proofs.Common.{◌≡◌, ℕ, ◌≤◌, List, [], ◌∷◌, ◌++◌, length, Option, Some, None, append-nil, sym, ap, ◌∙◌}
-use Rattle.std.specs.Prelude.{slice_get}
+-- An action puts out one frame at most, and where it is allowed only memory can be wanting.
+use Rattle.std.proofs.Common.{◌≡◌, ◌↔◌, ℕ, Bool, true, false, List, [], ◌∷◌, ◌++◌, length, Option, Some, None, Result, Err, append-nil, refl, sym, ap, ◌∙◌}
+use Rattle.std.specs.Prelude.{slice_get, ◌==◌, IsSome}
 use Rattle.slice_scheduler.specs.declared.elements.ElementsFields.{ElementsFields}
 use Rattle.operator_machine.specs.declared.action.Action.{Action}
 use Rattle.operator_machine.specs.declared.output.Output.{Output}
 use Rattle.operator_machine.specs.State.{Operator}
-use Rattle.operator_machine.specs.Machine.{own_step}
+use Rattle.dsx_messages.specs.declared.modem.Modem.{Modem}
+use Rattle.operator_machine.specs.declared.action.Unfit.{Unfit}
+use Rattle.operator_machine.specs.Machine.{own_step, stranger_of, is_spent, unfit_of, IsAllowed}
+use Rattle.operator_book.specs.declared.book.BookFault.{BookFault}
+use Rattle.operator_book.specs.declared.book.BookFault.TheVariants as faults
 use Rattle.plant_runs.specs.Reached.{frames_of}
 use Rattle.plant_core.proofs.WaitingLemmas.{one_frame, first_none, first_alone}
 
@@ -23,3 +27,22 @@ pub none_waits : (op : Operator) (action : Action) (outputs : List Output) (wait
     → waiting ≡ waiting ++ frames_of (own_step op action).outputs
 none_waits op action outputs waiting are none =
     sym (ap (λ fs. waiting ++ fs) (first_none (frames_of (own_step op action).outputs) (ap (λ os. slice_get (frames_of os) 0) (sym are) ∙ sym none)) ∙ append-nil waiting)
+
+-- a frame waits where the queue is not empty
+pub some_wait : {X : Type 0} (xs : List X) (n : ℕ) (empty : Bool) → n ≡ length xs → empty ≡ (n == 0) → empty ≡ false → IsSome (slice_get xs 0)
+some_wait [] n empty long is some = absurd (let wrong : ◌≡◌ {A = Bool} true false = sym (is ∙ ap (λ (k : ℕ). k == 0) long) ∙ some in cc)
+some_wait (x ∷ xs) n empty long is some = refl
+
+-- what is allowed is refused for want of memory alone
+pub only_memory : {A : Type 0} (op : Operator) (action : Action) (result : Result A BookFault) (fault : BookFault) → result ≡ Err fault
+    → ((modem : Modem) → (result ≡ Err (faults.NotMine modem)) ↔ (stranger_of op.row action ≡ Some modem))
+    → ((result ≡ Err faults.FramesSpent) ↔ (is_spent op.state action ≡ true))
+    → ((u : Unfit) → (result ≡ Err (faults.Unfit u)) ↔ (unfit_of op.consts op.state action ≡ Some u))
+    → IsAllowed op action → fault ≡ faults.NoMemory
+only_memory op action result faults.NoMemory is not_mine spent unfit allowed = refl
+only_memory op action result (faults.NotMine modem) is not_mine spent unfit allowed =
+    absurd (let wrong : ◌≡◌ {A = Option Modem} None (Some modem) = sym allowed.mine ∙ (not_mine modem).0 is in cc)
+only_memory op action result faults.FramesSpent is not_mine spent unfit allowed =
+    absurd (let wrong : ◌≡◌ {A = Bool} false true = sym allowed.not_spent ∙ spent.0 is in cc)
+only_memory op action result (faults.Unfit u) is not_mine spent unfit allowed =
+    absurd (let wrong : ◌≡◌ {A = Option Unfit} None (Some u) = sym allowed.fit ∙ (unfit u).0 is in cc)

@@ -1,8 +1,8 @@
 -- What one step makes of a live core, it makes of each core of which that is held.
-use Rattle.std.proofs.Common.{◌≡◌, ℕ, zero, suc, ◌<◌, List, [], ◌∷◌, ◌++◌, length, map, drop, Option, Some, None, option_map, AllPairs, false, refl, sym, ap, ap₂, subst, ◌∙◌, arith}
+use Rattle.std.proofs.Common.{◌≡◌, ℕ, zero, suc, ◌<◌, List, [], ◌∷◌, ◌++◌, length, map, get_or, Option, Some, None, option_map, AllPairs, false, refl, sym, ap, ap₂, subst, ◌∙◌, arith}
 use Rattle.std.specs.Prelude.{slice_get, slice_set, replicate}
 use Rattle.std.proofs.lemmas.List.{map-set, length-map}
-use Rattle.std.proofs.lemmas.Option.{slice_get-map, same_Some, slice_get_within}
+use Rattle.std.proofs.lemmas.Option.{slice_get-map, same_Some}
 use Rattle.std.proofs.Math.Logic.{∥∥₁_map, ∥∥₁_elim}
 use Rattle.std.proofs.Props.{props}
 use Rattle.slice_scheduler.specs.Minislots.{Minislots}
@@ -11,37 +11,36 @@ use Rattle.slice_table.specs.declared.consts.ConstsFields.{ConstsFields}
 use Rattle.slice_table.specs.declared.operator_row.RowFields.{RowFields}
 use Rattle.slice_table.specs.declared.plant.PlantFields.{PlantFields}
 use Rattle.slice_table.specs.Plant.{IsPlant, slices_meet}
-use Rattle.slice_table.specs.Roster.{holder}
 use Rattle.operator_machine.specs.declared.action.SliceRow.{SliceRow}
 use Rattle.operator_machine.specs.declared.action.Action.{Action}
 use Rattle.operator_machine.specs.declared.action.Action.TheVariants as actions
 use Rattle.operator_machine.specs.State.{operator}
-use Rattle.operator_machine.specs.Machine.{own_step, unfit_from, IsAllowed}
+use Rattle.operator_machine.specs.Machine.{own_step, IsAllowed}
 use Rattle.operator_machine.specs.Replay.{BookView, acted}
 use Rattle.map_assembly.specs.declared.map_bytes.MapBytes.{MapBytes}
 use Rattle.map_assembly.specs.declared.refused.GatherFault.{GatherFault}
 use Rattle.map_assembly.specs.Plan.{AreSlices}
 use Rattle.map_assembly.specs.Gathering.{Gathering, gathering_of, put_fault, after_put, resliced, IsGathering, MayReslice}
-use Rattle.map_assembly.specs.Assembled.{IsAnswer}
 use Rattle.map_assembly.specs.LettingGo.{GoesOnAlike}
 use Rattle.map_assembly.proofs.GoneLemmas.{alike_again, alike_self}
 use Rattle.plant_runs.specs.declared.step.Step.{Step}
-use Rattle.plant_runs.specs.declared.step.Step.TheVariants as steps
 use Rattle.plant_runs.specs.declared.step.Out.{Out}
 use Rattle.plant_runs.specs.OwnSteps.{under, slice_of}
 use Rattle.plant_runs.specs.Opened.{opened_book, opened_core}
 use Rattle.plant_runs.specs.Ordered.{target}
-use Rattle.plant_runs.specs.Reached.{CoreView, Reached, frames_of}
+use Rattle.plant_runs.specs.Reached.{CoreView, frames_of}
 use Rattle.plant_runs.specs.Steps.{Acts, Collects, Reslices, Steps, told_map}
 use Rattle.plant_runs.proofs.OneStep.{step_reached}
 use Rattle.plant_runs.proofs.Opening.{opened_reached}
 use Rattle.plant_runs.proofs.Fits.{waiting_fits}
 use Rattle.plant_runs.proofs.Anew.{slices_anew}
-use Rattle.plant_core.specs.Reachable.{core_of, IsOfAStep}
+use Rattle.plant_core.specs.Reachable.{core_of}
 use Rattle.plant_core.specs.Giving.{NoneRefuses, HaveTakenAs}
 use Rattle.plant_core.specs.Reslicing.{reslice_fault}
 use Rattle.plant_core.proofs.FreeLemmas.{are_free}
 use Rattle.plant_core.proofs.ReachLemmas.{step_acts}
+use Rattle.plant_core.proofs.PlaceLemmas.{seen_at, set_alike, set_seen}
+use Rattle.live_core.specs.Putting.{FitsOldest, PutsOldest}
 use Rattle.live_core.specs.GoingOn.{forgotten, went, IsOf, GoesOn}
 use Rattle.live_core.specs.After.{IsAfter, IsReachable}
 use Rattle.live_core.proofs.AlikeLemmas.{same_fault, same_answer, alike_put, held_put, alike_resliced, held_resliced, may_too}
@@ -106,31 +105,36 @@ acts_on plant gathering lives lives' queues queues' op action b waiting now ther
 
 -- ---- a collection
 
-pub collects_on : (plant : PlantFields) (gathering gathering' : Gathering) (lives lives' : List BookView) (queues queues' : List (List (ℕ × ElementsFields))) (op frame : ℕ) (part : ElementsFields) (waiting rest : List (ℕ × ElementsFields)) (made : Option MapBytes)
-    → slice_get queues op ≡ Some waiting → waiting ≡ (frame, part) ∷ rest → put_fault gathering op frame part ≡ None → IsAnswer gathering op frame part made
-    → lives' ≡ lives → queues' ≡ slice_set queues op rest → gathering' ≡ after_put gathering op part → IsGathering gathering'
-    → GoesOn (Collects op) (core_of plant lives queues gathering) (core_of plant lives' queues' gathering') (told_map made)
-collects_on plant gathering gathering' lives lives' queues queues' op frame part waiting rest made there front fits answer bs qs gs held = λ core is. (
-  record core { queues = slice_set core.queues op rest; gathering = after_put core.gathering op part },
-  record {
-    frame = frame;
-    part = part;
-    waiting = rest;
-    waiting_is = ap (λ (q : List (List (ℕ × ElementsFields))). slice_get q op) is.queues_are ∙ (there ∙ ap (λ (fs : List (ℕ × ElementsFields)). Some fs) front);
-    fits = same_fault core.gathering gathering op frame part is.gathering_is ∙ fits;
-    made = made;
-    made_is = same_answer core.gathering gathering op frame part made is.gathering_is answer;
-    new_is = refl;
-    now_is = refl;
-  },
-  record {
-    plant_is = is.plant_is;
-    books_are = is.books_are ∙ sym bs;
-    queues_are = ap (λ (q : List (List (ℕ × ElementsFields))). slice_set q op rest) is.queues_are ∙ sym qs;
-    gathering_is = subst (λ (x : Gathering). GoesOnAlike (after_put core.gathering op part) x) (sym gs) (alike_put core.gathering gathering op part is.gathering_is);
-    held = held_put core.gathering gathering op part is.gathering_is is.held (subst IsGathering gs held);
-  },
-)
+pub collects_on : (plant : PlantFields) (old put new : Gathering) (lives lives' : List BookView) (queues queues' : List (List (ℕ × ElementsFields))) (op : ℕ) (waiting left : List (ℕ × ElementsFields)) (made : Option MapBytes)
+    → slice_get queues op ≡ Some waiting → FitsOldest op waiting old → PutsOldest op waiting left old put made
+    → lives' ≡ lives → queues' ≡ slice_set queues op left → GoesOnAlike put new → IsGathering new
+    → GoesOn (Collects op) (core_of plant lives queues old) (core_of plant lives' queues' new) (told_map made)
+collects_on plant old put new lives lives' queues queues' op waiting left made there fits puts bs qs on held = λ core is.
+    let frame = puts.frame in
+    let part = puts.part in
+    let alike : GoesOnAlike (after_put core.gathering op part) new =
+    alike_again (after_put core.gathering op part) (after_put old op part) new (alike_put core.gathering old op part is.gathering_is)
+    (subst (λ (x : Gathering). GoesOnAlike x new) puts.new_is on) in (
+      record core { queues = slice_set core.queues op left; gathering = after_put core.gathering op part },
+      record {
+        frame = frame;
+        part = part;
+        waiting = left;
+        waiting_is = ap (λ (q : List (List (ℕ × ElementsFields))). slice_get q op) is.queues_are ∙ (there ∙ ap (λ (fs : List (ℕ × ElementsFields)). Some fs) puts.waiting_is);
+        fits = same_fault core.gathering old op frame part is.gathering_is ∙ fits frame part left puts.waiting_is;
+        made = made;
+        made_is = same_answer core.gathering old op frame part made is.gathering_is puts.made_is;
+        new_is = refl;
+        now_is = refl;
+      },
+      record {
+        plant_is = is.plant_is;
+        books_are = is.books_are ∙ sym bs;
+        queues_are = ap (λ (q : List (List (ℕ × ElementsFields))). slice_set q op left) is.queues_are ∙ sym qs;
+        gathering_is = alike;
+        held = held_put core.gathering new op part alike is.held held;
+      },
+    )
 
 -- ---- one step more
 
@@ -158,7 +162,7 @@ acts_step step op action old new now goal goes = λ core is.
 
 -- ---- what the core that has the histories knows
 
-pub none_refused : (plant : PlantFields) (gathering : Gathering) (lives : List BookView) (queues : List (List (ℕ × ElementsFields))) (op frame : ℕ) (part : ElementsFields) (rest : List (ℕ × ElementsFields)) (fault : GatherFault)
+none_refused : (plant : PlantFields) (gathering : Gathering) (lives : List BookView) (queues : List (List (ℕ × ElementsFields))) (op frame : ℕ) (part : ElementsFields) (rest : List (ℕ × ElementsFields)) (fault : GatherFault)
     → IsPlant plant → ∥ IsReachable (core_of plant lives queues gathering) ∥₁ → slice_get queues op ≡ Some ((frame, part) ∷ rest) → put_fault gathering op frame part ≡ Some fault → ⊥
 none_refused plant gathering lives queues op frame part rest fault valid reached there refused =
     ∥∥₁_elim reached (λ x y. absurd x) (λ r.
@@ -166,6 +170,26 @@ none_refused plant gathering lives queues op frame part rest fault valid reached
     let is = r.2.is_of in
     let fits = waiting_fits plant r.0 r.1 core op frame part rest valid r.2.reached is.held (ap (λ (q : List (List (ℕ × ElementsFields))). slice_get q op) is.queues_are ∙ there) in
     let wrong : None ≡ Some fault = sym fits ∙ (same_fault core.gathering gathering op frame part is.gathering_is ∙ refused) in cc)
+
+-- the assembly takes each frame that waits longest
+pub oldest_fits : (plant : PlantFields) (gathering : Gathering) (lives : List BookView) (queues : List (List (ℕ × ElementsFields))) (op : ℕ) (waiting : List (ℕ × ElementsFields))
+    → IsPlant plant → ∥ IsReachable (core_of plant lives queues gathering) ∥₁ → slice_get queues op ≡ Some waiting → FitsOldest op waiting gathering
+oldest_fits plant gathering lives queues op waiting valid reached there = λ frame part rest front.
+    by frame part rest (there ∙ ap (λ (fs : List (ℕ × ElementsFields)). Some fs) front) (put_fault gathering op frame part) refl
+  where
+    by : (frame : ℕ) (part : ElementsFields) (rest : List (ℕ × ElementsFields)) → slice_get queues op ≡ Some ((frame, part) ∷ rest) → (o : Option GatherFault) → put_fault gathering op frame part ≡ o → o ≡ None
+    by frame part rest at None e = refl
+    by frame part rest at (Some fault) e = absurd (none_refused plant gathering lives queues op frame part rest fault valid reached at e)
+
+-- the desk of a place puts its oldest frame, and has its book as before
+pub desk_collects : {X : Type 0} (book : X → BookView) (waits : X → List (ℕ × ElementsFields)) (plant : PlantFields) (old put new : Gathering) (desks : List X) (n op : ℕ) (desk after : X) (made : Option MapBytes)
+    → IsPlant plant → ∥ IsReachable (core_of plant (map book desks) (map waits desks) old) ∥₁ → n ≡ length desks → op < n → desk ≡ get_or desks op desk
+    → PutsOldest op (waits desk) (waits after) old put made → book after ≡ book desk → GoesOnAlike put new → IsGathering new
+    → GoesOn (Collects op) (core_of plant (map book desks) (map waits desks) old) (core_of plant (map book (slice_set desks op after)) (map waits (slice_set desks op after)) new) (told_map made)
+desk_collects book waits plant old put new desks n op desk after made valid reached long within at puts same on held =
+    let there = seen_at waits desks n op desk long within at in
+    collects_on plant old put new _ _ _ _ op (waits desk) (waits after) made there (oldest_fits plant old _ _ op (waits desk) valid reached there) puts
+    (set_alike book desks op after (book desk) (seen_at book desks n op desk long within at) same) (set_seen waits desks op after (waits after) refl) on held
 
 -- ---- other slices
 
@@ -287,13 +311,3 @@ module _ (plant routes : PlantFields) (lives : List BookView) (queues : List (Li
 
   pub opened_reaches : IsPlant plant → IsGathering gathering → ∥ IsReachable (core_of routes lives queues gathering) ∥₁
   opened_reaches valid held = ∣ ([], [], subst (λ (p : PlantFields). IsAfter p [] [] (core_of routes lives queues gathering)) (sym r) (opened_is_after valid held)) ∣₁
-
--- ---- the frame that waits longest
-
-pub front_is : (waiting : List (ℕ × ElementsFields)) (frame : ℕ × ElementsFields) → Some frame ≡ slice_get waiting 0 → waiting ≡ frame ∷ drop 1 waiting
-front_is [] frame h = absurd (let wrong : ◌≡◌ {A = Option (ℕ × ElementsFields)} (Some frame) None = h in cc)
-front_is (first ∷ rest) frame h = ap (λ (x : ℕ × ElementsFields). x ∷ rest) (sym (same_Some frame first h))
-
-pub none_is : (waiting : List (ℕ × ElementsFields)) → None ≡ slice_get waiting 0 → waiting ≡ []
-none_is [] h = refl
-none_is (first ∷ rest) h = absurd (let wrong : ◌≡◌ {A = Option (ℕ × ElementsFields)} None (Some first) = h in cc)

@@ -1,5 +1,5 @@
 -- A live core of which a part is the same.
-use Rattle.std.proofs.Common.{◌≡◌, ℕ, List, ◌++◌, Some, sym, ap, ◌∙◌, subst, Result, Ok, Err, OnOk, OnErr, refl}
+use Rattle.std.proofs.Common.{◌≡◌, ℕ, ◌<◌, List, ◌++◌, length, map, get_or, Some, sym, ap, ◌∙◌, subst, Result, Ok, Err, false, OnOk, OnErr, refl}
 use Rattle.std.specs.Prelude.{slice_get, slice_set}
 use Rattle.slice_scheduler.specs.declared.elements.ElementsFields.{ElementsFields}
 use Rattle.slice_table.specs.declared.plant.PlantFields.{PlantFields}
@@ -17,9 +17,11 @@ use Rattle.operator_machine.specs.State.{operator}
 use Rattle.operator_machine.specs.Machine.{own_step, IsAllowed}
 use Rattle.operator_machine.specs.Replay.{BookView}
 use Rattle.map_assembly.specs.Gathering.{Gathering}
+use Rattle.map_assembly.specs.LettingGo.{has_begun}
 use Rattle.plant_runs.specs.OwnSteps.{under}
 use Rattle.plant_runs.specs.Reached.{CoreView, frames_of}
 use Rattle.plant_core.specs.Reachable.{core_of, IsOfAStep}
+use Rattle.plant_core.proofs.PlaceLemmas.{seen_at, set_alike}
 use Rattle.plant_core.proofs.StepLemmas.{same_view}
 use Rattle.live_core.specs.GoingOn.{went, IsOf, GoesOn}
 use Rattle.live_core.specs.After.{IsReachable}
@@ -30,6 +32,20 @@ same_plant new old lives queues gathering same reached = subst (λ (p : PlantFie
 
 pub same_gathering : (plant : PlantFields) (lives : List BookView) (queues : List (List (ℕ × ElementsFields))) (new old : Gathering) → new ≡ old → ∥ IsReachable (core_of plant lives queues old) ∥₁ → ∥ IsReachable (core_of plant lives queues new) ∥₁
 same_gathering plant lives queues new old same reached = subst (λ (g : Gathering). ∥ IsReachable (core_of plant lives queues g) ∥₁) (sym same) reached
+
+pub same_begun : (new old : Gathering) → new ≡ old → has_begun old ≡ false → has_begun new ≡ false
+same_begun new old same fresh = ap (λ (g : Gathering). has_begun g) same ∙ fresh
+
+-- a desk is put back as it was
+pub desk_same : {X : Type 0} (book : X → BookView) (waits : X → List (ℕ × ElementsFields)) (plant : PlantFields) (new old : Gathering) (desks : List X) (n op : ℕ) (desk after : X)
+    → n ≡ length desks → op < n → desk ≡ get_or desks op desk → book after ≡ book desk → waits after ≡ waits desk → new ≡ old
+    → core_of plant (map book (slice_set desks op after)) (map waits (slice_set desks op after)) new ≡ core_of plant (map book desks) (map waits desks) old
+desk_same book waits plant new old desks n op desk after long within at books waiting same = λ k.
+    core_of plant (set_alike book desks op after (book desk) (seen_at book desks n op desk long within at) books k)
+    (set_alike waits desks op after (waits desk) (seen_at waits desks n op desk long within at) waiting k) (same k)
+
+pub reached_again : (new old : CoreView) → new ≡ old → ∥ IsReachable old ∥₁ → ∥ IsReachable new ∥₁
+reached_again new old same reached = subst (λ (core : CoreView). ∥ IsReachable core ∥₁) (sym same) reached
 
 -- whether the desk did it or refused it
 pub acted_reaches : {A E : Type 0} (result : Result A E) (plant : PlantFields) (gathering : Gathering) (lives lives' : List BookView) (queues queues' : List (List (ℕ × ElementsFields)))

@@ -1,9 +1,7 @@
 -- What contracts see of an operator's live desk (own).
 use Rattle.std.specs.Prelude.{ℕ, List, []}
 use Rattle.slice_scheduler.specs.declared.elements.ElementsFields.{ElementsFields}
-use Rattle.operator_machine.specs.declared.action.Action.{Action}
-use Rattle.operator_machine.specs.State.{Operator, operator}
-use Rattle.operator_machine.specs.Machine.{own_step}
+use Rattle.operator_machine.specs.State.{Operator}
 use Rattle.operator_machine.specs.Replay.{BookView}
 use Rattle.live_core.specs.declared.desk.LiveDesk.{LiveDesk}
 

@@ -1,4 +1,5 @@
 pub mod DeskView
+pub mod Putting
 pub mod GoingOn
 pub mod After
 pub mod LiveView

@@ -1,6 +1,6 @@
 //! What is done to an operator's live desk.
 
-ghost use Rattle.std.specs.Prelude.{◌≡◌, ◌≢◌, ◌↔◌, ◌≤◌, false, [], ◌++◌, length, drop, slice_get, IsSome, Err, IfOk, OnOk, OnErr};
+ghost use Rattle.std.specs.Prelude.{◌≡◌, ◌≢◌, ◌↔◌, ◌<◌, ◌≤◌, false, [], ◌++◌, length, slice_get, Err, IfOk, IfErr, OnOk, OnErr};
 ghost use Rattle.slice_table.specs.Row.{IsRowOf};
 ghost use Rattle.operator_machine.specs.State.{operator};
 ghost use Rattle.operator_machine.specs.Machine.{own_step, is_spent, IsAllowed};
@@ -8,13 +8,15 @@ ghost use Rattle.plant_runs.specs.Opened.{opened_book};
 ghost use Rattle.plant_runs.specs.Reached.{frames_of};
 ghost use Rattle.live_core.specs.GoingOn.{went};
 ghost use Rattle.live_core.specs.DeskView.{book_at, waiting_at};
+ghost use Rattle.live_core.specs.Putting.{FitsOldest, PutsOldest};
 
 use crate::desk::LiveDesk;
 use grant_policy::Ranking;
+use map_assembly::{Gather, MapBytes};
 use operator_book::{BookFault, Live, OpenFault};
 use operator_machine::{Action, Output};
 use slice_scheduler::Elements;
-use slice_table::{Consts, OperatorRow};
+use slice_table::{Consts, Op, OperatorRow};
 use std::alloc::{AllocError, Global};
 use std::collections::VecDeque;
 
@@ -61,6 +63,9 @@ impl LiveDesk {
         ensures allowed { OnOk result (IsAllowed self.old.live.sound action) }
         ensures same_book { OnErr result (book_at self.new ≡ book_at self.old) }
         ensures same_waiting { OnErr result (waiting_at self.new ≡ waiting_at self.old) }
+
+        // Where the machine allows it, only memory can be wanting.
+        ensures memory { IsAllowed self.old.live.sound action → IfErr result (λ fault. fault ≡ BookFault.NoMemory) }
     {
         self.waiting.reserve(1)?;
         let (told, again) = self.live.act(alloc, &action)?;
@@ -70,22 +75,27 @@ impl LiveDesk {
         Ok(told)
     }
 
-    /// A copy of the frame that waits longest.
-    pub fn oldest(&self, alloc: Global) -> Result<Option<(u32, Elements)>, AllocError>
-        ensures value { IfOk result (λ oldest. oldest ≡ slice_get (waiting_at self.now) 0) }
-        ensures some { OnErr result (IsSome (slice_get (waiting_at self.now) 0)) }
-    {
-        match self.waiting.front() {
-            Some((number, elements)) => Ok(Some((*number, elements.copy(alloc)?))),
-            None => Ok(None),
-        }
-    }
-
-    /// The frame that waits longest is collected.
-    pub fn drop_oldest(&mut self)
-        ensures waiting { waiting_at self.new ≡ drop 1 (waiting_at self.old) }
+    /// The frame that waits longest goes into the assembly, which takes it: only memory can be wanting. Then it waits as before.
+    pub fn put_oldest(
+        &mut self,
+        alloc: Global,
+        op: Op,
+        gather: &mut Gather,
+    ) -> Result<Option<MapBytes>, AllocError>
+        requires waits { 0 < length (waiting_at self.old) }
+        requires fits { FitsOldest op (waiting_at self.old) gather.old }
+        ensures ok { IfOk result (PutsOldest op (waiting_at self.old) (waiting_at self.new) gather.old gather.new) }
         ensures book { book_at self.new ≡ book_at self.old }
+        ensures same_waiting { OnErr result (waiting_at self.new ≡ waiting_at self.old) }
+        ensures same_gather { OnErr result (gather.new ≡ gather.old) }
     {
-        let _collected = self.waiting.pop_front();
+        let (number, elements) = self.waiting.pop_front().unwrap();
+        match gather.put(alloc, op, number, elements) {
+            Ok(made) => Ok(made),
+            Err(refused) => {
+                self.waiting.push_front_reserved((number, refused.elements));
+                Err(AllocError)
+            }
+        }
     }
 }

@@ -1,6 +1,7 @@
 //! What a live core holds.
 
-ghost use Rattle.std.specs.Prelude.{map};
+ghost use Rattle.std.specs.Prelude.{◌≡◌, false, map};
+ghost use Rattle.map_assembly.specs.LettingGo.{has_begun};
 ghost use Rattle.plant_core.specs.Reachable.{core_of};
 ghost use Rattle.live_core.specs.DeskView.{book_at, waiting_at};
 ghost use Rattle.live_core.specs.After.{IsReachable};
@@ -10,15 +11,18 @@ use map_assembly::Gather;
 use plant_core::Routes;
 
 /// A plant's core with no history: the plant, each operator's machine with its frames that wait to be collected, and what is
-/// gathered. Contracts speak of `live_view` of it. The type keeps that some run of the plant leads to it.
+/// gathered. Contracts speak of `live_view` of it. The type keeps that some run of the plant leads to it, and that it holds no
+/// slices but those of the frame whose MAP comes next, and of later frames.
 ///
-/// Its memory does not grow with the number of steps. It holds, for each operator, at most the flows, kept responses and inbox
-/// that its row allows; the frames that were put out and not collected; the parts that were collected and are in no MAP yet;
-/// and the slices of frames from the one whose MAP comes next on.
+/// No clause counts its memory. Beside the plant and the slices it holds of each operator flows, kept responses and an inbox
+/// within the row's limits, the frames that were put out and not collected, and the parts that were collected and are in no
+/// MAP yet. However many steps lie behind it, that stays within bounds where the frames of all operators are collected, and
+/// slices are given for few frames ahead.
 #[derive(Drop)]
 pub struct LiveCore {
     pub(crate) routes: Routes,
     pub(crate) desks: Vec<LiveDesk>,
     pub(crate) gather: Gather,
+    ghost let_go: { has_begun gather ≡ false },
     ghost reached: { ∥ IsReachable (core_of routes (map book_at desks.items) (map waiting_at desks.items) gather) ∥₁ },
 }

@@ -1,9 +1,10 @@
 //! What a live core always keeps, and laws of its runs.
 
-ghost use Rattle.std.specs.Prelude.{◌≡◌, [], ◌∷◌, ◌++◌, List};
+ghost use Rattle.std.specs.Prelude.{◌≡◌, false, [], ◌∷◌, ◌++◌, List};
 ghost use Rattle.slice_table.specs.declared.plant.PlantFields.{PlantFields};
 ghost use Rattle.slice_table.specs.Plant.{IsPlant};
 ghost use Rattle.map_assembly.specs.Gathering.{IsGathering};
+ghost use Rattle.map_assembly.specs.LettingGo.{has_begun};
 ghost use Rattle.plant_runs.specs.declared.step.Step.{Step};
 ghost use Rattle.plant_runs.specs.declared.step.Out.{Out};
 ghost use Rattle.plant_runs.specs.Ordered.{Ordered};
@@ -18,10 +19,12 @@ use crate::held::LiveCore;
 use slice_table::Plant;
 
 impl LiveCore {
-    /// A law: the plant is valid, and what is gathered is as the assembly always keeps it. Does nothing.
+    /// A law: the plant is valid, what is gathered is as the assembly always keeps it, and no slices are held that only earlier frames
+    /// than the one whose MAP comes next had. Does nothing.
     pub fn always(&self)
         ensures plant { IsPlant (live_view self.now).plant }
         ensures gathering { IsGathering (live_view self.now).gathering }
+        ensures let_go { has_begun (live_view self.now).gathering ≡ false }
     {
         let _rows = self.routes.plant().rows();
         self.gather.kept();

@@ -16,7 +16,7 @@ use crate::held::LiveCore;
 use dsx_messages::Modem;
 use operator_book::BookFault;
 use operator_machine::{Action, Heard};
-use plant_core::{CoreFault, append, append_map, core_fault_of};
+use plant_core::{CoreFault, append, append_map};
 use plant_runs::{Out, Step};
 use slice_table::Op;
 use std::alloc::Global;
@@ -108,22 +108,21 @@ impl LiveCore {
         ensures fault { IsTold result (collect_fault op (slice_get (live_view self.old).queues op)) }
     {
         self.always();
-        let (number, elements) = match self.desks[op].oldest(alloc) {
-            Err(_) => return Err(CoreFault::NoMemory),
-            Ok(None) => return Err(CoreFault::NothingToCollect { op }),
-            Ok(Some(oldest)) => oldest,
-        };
+        if self.desks[op].waiting.is_empty() {
+            return Err(CoreFault::NothingToCollect { op });
+        }
         if outs.reserve(1).is_err() {
             return Err(CoreFault::NoMemory);
         }
-        match self.gather.put(alloc, op, number, elements) {
+        let gather = &mut self.gather;
+        match self.desks[op].put_oldest(alloc, op, gather) {
             Ok(made) => {
-                self.gather.kept();
-                self.desks[op].drop_oldest();
+                gather.let_go();
+                gather.kept();
                 append_map(outs, made);
                 Ok(())
             }
-            Err(refused) => Err(core_fault_of(refused.fault)),
+            Err(_) => Err(CoreFault::NoMemory),
         }
     }
 

@@ -20,7 +20,7 @@ fn check(rt: &impl Abort, alloc: Global, script: &str) -> Result<(), Fail> {
     Ok(())
 }
 
-/// A modem adds a flow of unsolicited grants, the others' frames stand beside it, and what is not there is told.
+/// Frames of both operators are collected apart, the last one of a number makes its MAP, and what is not there is told.
 #[test]
 fn frames_are_gathered(rt: HostRuntime) -> Result<(), Fail> {
     check(
@@ -46,32 +46,13 @@ W A
     )
 }
 
-/// The faults of other slices are tried in their order.
-#[test]
-fn slices_that_do_not_fit_are_refused(rt: HostRuntime) -> Result<(), Fail> {
-    check(
-        &rt,
-        rt.alloc(),
-        "
-Z 1 8/16/16
-= refused: Reslice(Count)
-Z 0 8/16/16 24/48/32
-= refused: Reslice(NotPast { op: 0 })
-Z 1 7/16/16 24/48/32
-= refused: Reslice(OffFrame { op: 0 })
-Z 1 8/17/16 24/48/32
-= refused: Reslice(SlicesMeet { a: 0, b: 1 })
-Z 1 8/16/17 24/48/32
-= refused: Reslice(BudgetOverSlice { op: 0 })
-T
-= F A 0 0/6/8/32
-= F B 0 0/6/40/32
-= MAP 0 01010400000000000000000000000000FFFC400000018008000180280001C048",
-    )
-}
-
-/// Messages, requests, ticks, collections behind one another and other slices, some of them refused.
+/// Other slices with each of their faults, messages, requests, ticks, collections behind one another, and slices that are taken.
 const MIXED: &str = "
+Z 1 8/16/16
+Z 0 8/16/16 24/48/32
+Z 1 7/16/16 24/48/32
+Z 1 8/17/16 24/48/32
+Z 1 8/16/17 24/48/32
 M 020000000003 0F00011810010200010601060F01020A040007D000
 M 020000000003 11000100
 M 020000000001 0F00011810010200010601060F01020A040007D000
@@ -104,7 +85,7 @@ T
 T
 T";
 
-/// Line by line it puts out what the core puts out that keeps histories.
+/// Line by line it puts out what the core puts out that keeps histories, whose answers are worked for themselves.
 #[test]
 fn a_live_core_answers_as_a_core(rt: HostRuntime) -> Result<(), Fail> {
     let alloc = rt.alloc();

@@ -16,12 +16,7 @@ macro_rules! live {
         let mut rankings = Vec::new(alloc);
         for row in plant.rows() {
             let policy = row.get_fields().policy;
-            rankings.push(grant_policy::Ranking::new(
-                policy,
-                Box::new(alloc, move |input: grant_policy::RankInput| -> u8 {
-                    grant_policy::rank_by(policy, &input)
-                })?,
-            ))?;
+            rankings.push(worked_playing::ranking!(alloc, policy))?;
         }
         let opened = live_core::LiveCore::open(alloc, plant, rankings);
         opened.ok().ok_or("not opened")?

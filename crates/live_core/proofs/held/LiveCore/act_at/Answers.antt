@@ -15,6 +15,7 @@ invariant_of-self g c =
     let desks = c.args.self.now.desks in
     let desk = c.index_mut.result.now in
     record {
+      let_go = c.args.self.now.let_go;
       reached = acted_reaches c.act.result c.args.self.now.routes c.args.self.now.gather _ _ _ _ c.args.op c.args.action (book_at desk) _
           c.always.ensures.plant c.requires.of_a_step
           (seen_at _ desks.items desks.len c.args.op desk desks.ok.0 c.requires.within c.index_mut.ensures.value)

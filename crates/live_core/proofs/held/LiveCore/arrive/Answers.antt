@@ -4,7 +4,7 @@ use Rattle.plant_core.proofs.ReachLemmas.{arrives}
 use Rattle.live_core.proofs.held.LiveCore.arrive.Goals as goal
 
 pub invariant_of-self : goal.invariant_of-self
-invariant_of-self g c = record { reached = same_plant _ _ _ _ _ c.place_of.ensures.plant c.args.self.now.reached }
+invariant_of-self g c = record { let_go = c.args.self.now.let_go; reached = same_plant _ _ _ _ _ c.place_of.ensures.plant c.args.self.now.reached }
 
 pub act_if-requires : goal.act_if-requires
 act_if-requires g c = arrives _ _ c.args.modem c.args.heard c.in-Some.op c.place_of.ensures.plant c.in-Some.ensures.value

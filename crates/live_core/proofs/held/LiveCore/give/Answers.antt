@@ -1,14 +1,12 @@
-use Rattle.std.proofs.Common.{[], List, map, refl, sym, subst}
+use Rattle.std.proofs.Common.{[], List, refl, sym, subst}
 use Rattle.slice_scheduler.specs.Minislots.{Minislots}
-use Rattle.operator_machine.specs.Replay.{BookView}
 use Rattle.map_assembly.specs.Gathering.{Gathering, MayReslice, resliced}
 use Rattle.map_assembly.specs.LettingGo.{GoesOnAlike}
 use Rattle.plant_runs.specs.declared.step.Step.TheVariants as steps
-use Rattle.plant_runs.specs.OwnSteps.{slice_of}
 use Rattle.plant_core.proofs.FreeLemmas.{are_free}
 use Rattle.plant_core.proofs.ResliceLemmas.{are_slices}
 use Rattle.live_core.proofs.GoLemmas.{may_take, reslices_on, stepped_on}
-use Rattle.live_core.proofs.PartLemmas.{same_gathering}
+use Rattle.live_core.proofs.PartLemmas.{same_begun, same_gathering}
 use Rattle.live_core.proofs.held.LiveCore.give.Goals as goal
 
 pub slices_of-requires : goal.slices_of-requires
@@ -27,12 +25,13 @@ pub give-requires-clause-fit : goal.give-requires-clause-fit
 give-requires-clause-fit g c = (are_free c.args.from _ c.args.rows.now c.requires).fit
 
 pub invariant_of-self : goal.invariant_of-self
-invariant_of-self g c = record { reached = same_gathering _ _ _ _ _ c.in_err-reslice.ensures.err c.args.self.now.reached }
+invariant_of-self g c = record { let_go = same_begun _ _ c.in_err-reslice.ensures.err c.args.self.now.let_go; reached = same_gathering _ _ _ _ _ c.in_err-reslice.ensures.err c.args.self.now.reached }
 
 pub invariant_of-self-2 : goal.invariant_of-self-2
 invariant_of-self-2 g c =
     let core = c.args.self.now in
     record {
+      let_go = c.let_go.ensures.begun;
       reached = stepped_on (steps.Reslice c.args.from c.args.rows.now) _ _ [] c.always.ensures.plant refl
           (reslices_on core.routes core.gather _ _ _ _ _ c.args.from c.args.rows.now c.requires c.give.ensures.books c.give.ensures.waiting
           (may_take core.routes core.gather _ _ c.args.from c.args.rows.now c.always.ensures.plant core.reached c.requires)
