@@ -8,3 +8,4 @@ pub mod Run
 pub mod DoneSoFar
 pub mod OnThreads
 pub mod Task
+pub mod Serving

@@ -10,7 +10,7 @@ use Rattle.slice_table.specs.ReadPlant.{text_plant}
 use Rattle.plant_lines.specs.declared.script.LineStep.{LineStep}
 use Rattle.plant_words.specs.declared.asked.WordsFault.{WordsFault}
 use Rattle.plant_words.specs.declared.asked.WordsFault.TheVariants as faults
-use Rattle.plant_words.specs.Order.{Order, one, check, run, threads, capture, history}
+use Rattle.plant_words.specs.Order.{Order, one, check, run, threads, capture, serve, history}
 use Rattle.plant_lines.specs.Input.{plant_text, script_text}
 use Rattle.plant_lines.specs.Script.{is_named, steps_of}
 use Rattle.plant_lines.specs.Text.{outs_text, history_text}
@@ -18,6 +18,7 @@ use Rattle.plant_script.specs.One.{Answer, is_readable, answer_of}
 use Rattle.plant_script.specs.Check.{answer_to_steps, answer_to_plant, check_of}
 use Rattle.plant_script.specs.Run.{IsRunOf, IsCapturedRunOf}
 use Rattle.plant_script.specs.OnThreads.{IsThreadedRunOf}
+use Rattle.plant_script.specs.Serving.{IsServed}
 
 -- ---- no answer
 
@@ -83,10 +84,20 @@ AnswersInput answers input status text =
     (AnswersPlant answers (text_plant (parse_document (plant_text input))) (script_text input) status text)
     (Is (record { status = 6; text = codes "fault: io" ++ 10 ∷ [] }) status text)
 
+-- a plant at fault is told alone; else its plant is served as long as there are lines
+abbrev pub AnswersFront : Result PlantFields PlantFault → List ℕ → ℕ → List ℕ → Type 0
+AnswersFront (Ok plant) script status text = IsServed plant script status text
+AnswersFront (Err fault) script status text = Is (answer_to_plant (Err fault) script) status text
+
+-- of a plant file that is too long or no text nothing is said but its status, 6
+abbrev pub AnswersServe : List ℕ → ℕ → List ℕ → Type 0
+AnswersServe input status text = AnswersFront (text_plant (parse_document (plant_text input))) (script_text input) status text
+
 abbrev pub Answers : Order → List ℕ → ℕ → List ℕ → Type 0
 Answers one input status text = Is (answer_of input) status text
 Answers check input status text = Is (check_of input) status text
 Answers run input status text = AnswersInput AnswersRun input status text
 Answers threads input status text = AnswersInput AnswersThreads input status text
 Answers capture input status text = AnswersInput AnswersCapture input status text
+Answers serve input status text = AnswersServe input status text
 Answers (history operator) input status text = AnswersInput (AnswersHistory operator) input status text

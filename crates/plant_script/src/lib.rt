@@ -2,7 +2,8 @@
 //! operator; `check` reads a plant file and a script, and says whether both are well; `run` does the script's steps on the
 //! plant, and prints all that they put out; `threads` does them on a thread for each operator, and prints the same operator
 //! by operator; `capture` does them as `run` does, and writes a pcap file of what the modems send, the replies and the MAPs;
-//! `history OP` runs them too, and prints what the operator OP did.
+//! `serve` keeps the plant running, and answers each line of the script as it comes; `history OP` runs them too, and prints
+//! what the operator OP did.
 #![tactic(auto)]
 
 mod answer;
@@ -15,6 +16,7 @@ mod one;
 mod operator_a;
 mod program;
 mod running;
+mod serving;
 mod task;
 
 pub use command::{behind_name, exit_code};

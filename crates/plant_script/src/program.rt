@@ -4,6 +4,7 @@ ghost use Rattle.std.specs.Prelude.{◌≡◌, ◌≢◌, ◌⊎◌, ℕ, true, 
 ghost use Rattle.clap.specs.Walk.{texts};
 ghost use Rattle.std.specs.Io.KnownBytes.{Appends};
 ghost use Rattle.plant_script.specs.Task.{Comes};
+ghost use Rattle.plant_words.specs.declared.asked.Word.TheVariants as words;
 ghost use Rattle.plant_words.specs.Order.{Order, order_of};
 ghost use Rattle.plant_words.specs.CommandLine.{Names, AsksHelp, AreWrong};
 ghost use Rattle.plant_script.specs.Words.{memory_line, AnswersFault, Answers};
@@ -14,6 +15,7 @@ use crate::check::check_of;
 use crate::input::{Stop, read_input};
 use crate::one::text_of;
 use crate::running::{Ending, answer_of_task};
+use crate::serving::serve_words;
 use crate::task::{Served, Wanted, task_of};
 use grant_policy::{RankInput, Ranking, rank_by};
 use plant_lines::{LineFault, messages_of, parts_of};
@@ -102,7 +104,7 @@ fn tell_reasons<'a, E: Write>(
 
 /// Writes the text, and answers the status. Where that fails, it tries to write the line of a failed write, which may be
 /// lost too, and answers 6.
-fn finish<W: Write>(writer: &mut W, status: u8, text: &[u8]) -> u8
+pub(crate) fn finish<W: Write>(writer: &mut W, status: u8, text: &[u8]) -> u8
     ensures { result ≢ 6 → (result ≡ status) × Appends (W.contents writer.old) (W.contents writer.new) text.now }
 {
     if writer.write_all(text).is_ok() && writer.flush().is_ok() {
@@ -138,7 +140,8 @@ fn answer_of(alloc: Global, input: &[u8]) -> Result<Answer, Stop>
 
 /// What is done for an input.
 fn serve_input(alloc: Global, word: Word<'_>, input: &[u8]) -> Result<Served, Stop>
-    requires { is_readable input.now ≡ true }
+    requires readable { is_readable input.now ≡ true }
+    requires whole { word.entry ≢ words.Serve }
     ensures served { IfOk result (λ served. Comes served (Answers (order_of word.entry) input.now)) }
     ensures memory { IfErr result (λ stop. stop ≡ Stop.Memory) }
 {
@@ -148,6 +151,7 @@ fn serve_input(alloc: Global, word: Word<'_>, input: &[u8]) -> Result<Served, St
         Word::Run => task_of(alloc, Wanted::Run, input),
         Word::Threads => task_of(alloc, Wanted::Threads, input),
         Word::Capture => task_of(alloc, Wanted::Capture, input),
+        Word::Serve => unreachable!(),
         Word::History { operator } => task_of(alloc, Wanted::History(operator), input),
     }
 }
@@ -160,6 +164,7 @@ fn serve<R: Read>(
     seen: &mut Seen<'_>,
 ) -> Result<Served, Stop>
     requires untried { seen.old.failed ≡ false }
+    requires whole { word.entry ≢ words.Serve }
     ensures served { IfOk result (λ served.
         IfSome (R.remaining reader.old) (λ input. Comes served (Answers (order_of word.entry) input))) }
     ensures io { (result ≡ Err Stop.Io)
@@ -172,7 +177,7 @@ fn serve<R: Read>(
 }
 
 /// Writes why there is no answer.
-fn stopped<W: Write>(writer: &mut W, stop: Stop) -> u8
+pub(crate) fn stopped<W: Write>(writer: &mut W, stop: Stop) -> u8
     ensures memory { stop ≡ Stop.Memory → result ≢ 6 → (result ≡ 5)
         × Appends (W.contents writer.old) (W.contents writer.new) memory_line }
     ensures io { stop ≡ Stop.Io → result ≡ 6 }
@@ -228,6 +233,9 @@ fn answer_of_words<'a, H: Threads + Wait + Sync, R: Read, W: Write>(
         Err(fault) => return answer_to_words(writer, fault),
     };
     seen.word = Some(word);
+    if let Word::Serve = word {
+        return serve_words(alloc, reader, writer, &mut seen.input, &mut seen.failed);
+    }
     let task = match serve(alloc, word, reader, seen) {
         Ok(Served::Task(task)) => task,
         Ok(Served::Answer(answer)) => {

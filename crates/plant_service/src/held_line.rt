@@ -8,10 +8,12 @@ use std::alloc::{AllocError, Global};
 /// The most bytes of a line.
 pub const MOST_BYTES: usize = 4096;
 
-/// What was read of a line: its bytes, or that it is too long. It takes no memory behind its opening.
+/// What was read of a line: its bytes, or that it is too long. It has room for a line from its opening on.
 #[derive(Drop)]
 pub struct HeldLine {
+    /// The bytes that were read, 4,096 at most.
     pub bytes: Vec<u8>,
+    /// Whether there were more.
     pub is_long: bool,
 }
 

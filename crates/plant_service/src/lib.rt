@@ -12,6 +12,7 @@ mod serving;
 
 pub use answering::answer_line;
 pub use front::read_plant_text;
+pub use held_line::HeldLine;
 pub use laws::service_is_shown;
 pub use line_end::LineEnd;
 pub use serving::serve;

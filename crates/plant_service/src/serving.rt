@@ -1,6 +1,6 @@
 //! Serving a plant as long as there are lines.
 
-ghost use Rattle.std.specs.Prelude.{◌≡◌, ◌+◌, ◌∷◌, List, ℕ, Option, IfOk, OnOk, IfSome};
+ghost use Rattle.std.specs.Prelude.{◌≡◌, ◌+◌, [], ◌∷◌, List, ℕ, Option, IfOk, OnOk, IfSome};
 ghost use Rattle.slice_table.specs.declared.plant.PlantFields.{PlantFields};
 ghost use Rattle.plant_runs.specs.declared.step.Out.{Out};
 ghost use Rattle.plant_runs.specs.declared.step.Step.{Step};
@@ -77,21 +77,22 @@ fn take_byte<W: Write>(
 }
 
 /// Serves the plant: reads lines of a script for as long as there are any, and answers each before it reads the next
-/// (`answer_line`). Lines are counted from 1, empty ones too. It ends at the end of the input, or where a read or a write fails.
+/// (`answer_line`). Lines are counted from 1, empty ones too. It takes no memory of its own but for the steps of a line. It ends at the end of the input, or where a read or a write fails.
 /// It reads a byte at a time and writes in small pieces: give it a reader and a writer with buffers.
 pub fn serve<R: Read, W: Write>(
     alloc: Global,
     core: &mut LiveCore,
+    mut held: HeldLine,
     reader: &mut R,
     writer: &mut W,
 ) -> io::Result<()>
     requires reached { IsReachable (live_view core.old) }
+    requires empty { IsHeld held.bytes.items held.is_long [] }
     // Behind whatever run led to the core, all lines of the input are answered, and their answers written.
     ensures { OnOk result (IfSome (R.remaining reader.old) (λ input. (plant : PlantFields) (before : List Step)
         (shown : List Out) → IsAfter plant before shown (live_view core.old)
         → IsServiceOf plant before shown input (live_view core.new) (W.contents writer.old) (W.contents writer.new))) }
 {
-    let mut held = HeldLine::new(alloc)?;
     let mut number = 1u64;
     for _ in 0..u64::MAX {
         match next_byte(reader)? {

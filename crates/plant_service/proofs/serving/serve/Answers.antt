@@ -16,11 +16,11 @@ pub loop-init : goal.loop-init
 loop-init g c =
     let known = g.R.Read.remaining c.args.reader.now in
     let written = g.W.Write.contents c.args.writer.now in
-    let held = c.in_ok-held.held in (
+    let held = c.args.held in (
       c.requires.reached,
       λ plant before shown after.
           known_same known (λ input rest. IsServedSoFar plant before shown input rest held.bytes.items held.is_long 1 (live_view c.args.core.now) written written)
-          (λ input. begun plant before shown input held.bytes.items held.is_long (live_view c.args.core.now) written c.in_ok-held.ensures after),
+          (λ input. begun plant before shown input held.bytes.items held.is_long (live_view c.args.core.now) written c.requires.empty after),
     )
 
 pub returns-in-None : goal.returns-in-None

@@ -1,0 +1,29 @@
+-- A plant in service, and the plant file before it (own).
+use Rattle.std.specs.Prelude.{◌≡◌, ℕ, List, [], ◌∷◌, ◌++◌, true, Ok, Err, codes}
+use Rattle.toml.specs.Parse.{parse_document}
+use Rattle.slice_table.specs.declared.plant.PlantFields.{PlantFields}
+use Rattle.slice_table.specs.declared.plant_fault.PlantFault.{PlantFault}
+use Rattle.slice_table.specs.ReadPlant.{text_plant}
+use Rattle.plant_runs.specs.Reached.{CoreView}
+use Rattle.live_core.specs.After.{IsAfter}
+use Rattle.plant_lines.specs.Lines.{lines_of}
+use Rattle.plant_service.specs.Service.{Answered, AreAnswered, service_text, all_done, all_told}
+use Rattle.plant_script.specs.Check.{fault_text}
+use Rattle.plant_script.specs.declared.serving.Front.{Front}
+use Rattle.plant_script.specs.declared.serving.Front.TheVariants as fronts
+
+-- all lines are answered from a core of the plant as it is opened, and their answers are written
+pub record IsServed (plant : PlantFields) (script : List ℕ) (status : ℕ) (text : List ℕ) : Type 0 where
+  pub status_is : status ≡ 0
+  pub answers : List Answered
+  pub live : CoreView
+  pub answered : AreAnswered plant [] [] 1 (lines_of script) answers
+  pub after : IsAfter plant (all_done answers) (all_told answers) live
+  pub text_is : text ≡ service_text plant 1 answers
+
+-- a plant file is a plant, or at fault
+abbrev pub IsFrontOf : List ℕ → Front → Type 0
+IsFrontOf text (fronts.Plant plant) = text_plant (parse_document text) ≡ Ok plant
+IsFrontOf text (fronts.Answer answer) =
+    (fault : PlantFault) × (text_plant (parse_document text) ≡ Err fault) × (answer.status ≡ 3)
+    × (answer.text.items ≡ codes "fault: plant " ++ fault_text fault)

@@ -1,0 +1,117 @@
+//! The word `serve`: a plant that is kept running, and answers each line of a script as it comes.
+
+ghost use Rattle.std.specs.Prelude.{◌≡◌, ◌≢◌, List, ℕ, true, IfOk, IfSome};
+ghost use Rattle.std.specs.Io.KnownBytes.{Appends};
+ghost use Rattle.toml.specs.Parse.{parse_document};
+ghost use Rattle.slice_table.specs.ReadPlant.{text_plant};
+ghost use Rattle.plant_script.specs.Serving.{IsFrontOf, IsServed};
+ghost use Rattle.plant_script.specs.Words.{memory_line, AnswersFront, AnswersServe};
+
+use crate::answer::Answer;
+use crate::check::answer_to_fault;
+use crate::input::Stop;
+use crate::program::{finish, stopped};
+use grant_policy::{RankInput, Ranking, rank_by};
+use live_core::LiveCore;
+use plant_core::CoreOpenFault;
+use plant_service::{HeldLine, read_plant_text, serve};
+use slice_table::{Plant, PlantFault, read_plant};
+use std::alloc::Global;
+use std::io;
+use std::io::{Read, Write};
+
+/// What a plant file comes to.
+#[derive(Drop)]
+pub enum Front {
+    /// The plant that is to be served.
+    Plant(Plant),
+    /// It is at fault: what is answered.
+    Answer(Answer),
+}
+
+/// The plant of a plant file; `Stop::Io` where it is no UTF-8.
+fn front_of(alloc: Global, text: &[u8]) -> Result<Front, Stop>
+    ensures { IfOk result (λ front. IsFrontOf text.now front) }
+{
+    let Ok(text) = str::from_utf8(text) else {
+        return Err(Stop::Io);
+    };
+    match read_plant(alloc, text) {
+        Ok(plant) => Ok(Front::Plant(plant)),
+        Err(PlantFault::NoMemory) => Err(Stop::Memory),
+        Err(fault) => {
+            let answer = answer_to_fault(alloc, fault)?;
+            Ok(Front::Answer(answer))
+        }
+    }
+}
+
+/// Why a plant file could not be read.
+fn stop_of(error: &io::Error) -> Stop {
+    if error.kind() == io::ErrorKind::OutOfMemory {
+        Stop::Memory
+    } else {
+        Stop::Io
+    }
+}
+
+/// Serves a plant as it is opened, up to the end of the input. Answers the exit status.
+fn serve_plant<R: Read, W: Write>(alloc: Global, plant: Plant, reader: &mut R, writer: &mut W) -> u8
+    ensures served { result ≢ 5 → result ≢ 6 → IfSome (R.remaining reader.old) (λ script.
+        (text : List ℕ) × IsServed plant script result text × Appends (W.contents writer.old) (W.contents writer.new) text) }
+    ensures memory { result ≡ 5 → Appends (W.contents writer.old) (W.contents writer.new) memory_line }
+{
+    let mut rankings = Vec::new(alloc);
+    for row in plant.rows() {
+        let policy = row.get_fields().policy;
+        let Ok(rank) = Box::new(alloc, move |input: RankInput| -> u8 {
+            rank_by(policy, &input)
+        }) else {
+            return stopped(writer, Stop::Memory);
+        };
+        if rankings.push(Ranking::new(policy, rank)).is_err() {
+            return stopped(writer, Stop::Memory);
+        }
+    }
+    let Ok(held) = HeldLine::new(alloc) else {
+        return stopped(writer, Stop::Memory);
+    };
+    let mut core = match LiveCore::open(alloc, plant, rankings) {
+        Ok(core) => core,
+        Err(CoreOpenFault::NoMemory) => return stopped(writer, Stop::Memory),
+        Err(CoreOpenFault::RankingsMismatch) => unreachable!(),
+    };
+    match serve(alloc, &mut core, held, reader, writer) {
+        Ok(()) => 0,
+        Err(_failed) => stopped(writer, Stop::Io),
+    }
+}
+
+/// Reads a plant file up to the line of three dashes, and serves its plant. The file is noted, and whether it could not be read.
+/// Answers the exit status.
+pub(crate) fn serve_words<R: Read, W: Write>(
+    alloc: Global,
+    reader: &mut R,
+    writer: &mut W,
+    file: &mut Option<Vec<u8>>,
+    failed: &mut bool,
+) -> u8
+    ensures served { result ≢ 5 → result ≢ 6 → IfSome (R.remaining reader.old) (λ input.
+        (text : List ℕ) × AnswersServe input result text × Appends (W.contents writer.old) (W.contents writer.new) text) }
+    ensures memory { result ≡ 5 → Appends (W.contents writer.old) (W.contents writer.new) memory_line }
+{
+    let text = match read_plant_text(alloc, reader) {
+        Ok(text) => text,
+        Err(error) => {
+            *failed = error.kind() != io::ErrorKind::FileTooLarge;
+            return stopped(writer, stop_of(&error));
+        }
+    };
+    let front = front_of(alloc, text.as_slice());
+    *file = Some(text);
+    match front {
+        Ok(Front::Plant(plant)) => serve_plant(alloc, plant, reader, writer),
+        Ok(Front::Answer(answer)) => finish(writer, answer.status, answer.text.as_slice()),
+        Err(stop) => stopped(writer, stop),
+    }
+}
