@@ -113,6 +113,7 @@ fn put_behind_plant(
             let wrong = stranger(alloc, plant.rows(), operator)?;
             write!(reason, "{wrong}\n")
         }
+        (Word::Serve, _) => Ok(()),
         (_, 4) => put_script(alloc, reason, plant, parts),
         (Word::Check, _) => Ok(()),
         (_, 0) => put_no_bar(alloc, reason, &parts),
@@ -140,6 +141,19 @@ fn put_plant(
     write!(reason, "{wrong}\n")
 }
 
+/// The parts of the input under a word. Of `serve` the input is the plant file: what stands behind it is read as it comes.
+fn parts_under<'a>(word: Word<'_>, input: &'a str) -> Parts<'a> {
+    let parts = parts_of(input);
+    match (word, parts.script) {
+        (Word::Serve, None) => Parts {
+            plant: input,
+            script: Some(""),
+            bar: parts.bar,
+        },
+        _ => parts,
+    }
+}
+
 /// The reason of the status that an input of a plant and a script has.
 fn reason_of_plant(
     alloc: Global,
@@ -147,7 +161,7 @@ fn reason_of_plant(
     input: &str,
     status: u8,
 ) -> Result<String, AllocError> {
-    let parts = parts_of(input);
+    let parts = parts_under(word, input);
     let mut reason = String::new(alloc);
     if status == 0 && parts.script.is_some() && is_plain(parts.plant) {
         return Ok(reason);
@@ -174,7 +188,7 @@ fn reason_of_plant(
 }
 
 /// The reason of the status that an input has under a word; of status 0 what nothing reads of its plant file. Empty where there is
-/// nothing to say.
+/// nothing to say. Under `serve` the input may be the plant file alone, and the lines behind it have no reason here.
 pub fn reason_of(
     alloc: Global,
     word: Word<'_>,

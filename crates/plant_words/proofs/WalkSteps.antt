@@ -69,6 +69,11 @@ unfolding faults clap_on_literals
 capture_below rest = rw (words_collected top_rules top_names (codes "capture") [] rest, words_pass (built program).top top_names (codes "capture") [] rest)
     (or_nothing (sub_fault (plain_shape (codes "capture")) rest))
 
+pub serve_below : (rest : List Text) → faults (codes "serve" ∷ rest) ≡ sub_fault (plain_shape (codes "serve")) rest
+unfolding faults clap_on_literals
+serve_below rest = rw (words_collected top_rules top_names (codes "serve") [] rest, words_pass (built program).top top_names (codes "serve") [] rest)
+    (or_nothing (sub_fault (plain_shape (codes "serve")) rest))
+
 pub threads_below : (rest : List Text) → faults (codes "threads" ∷ rest) ≡ sub_fault (plain_shape (codes "threads")) rest
 unfolding faults clap_on_literals
 threads_below rest = rw (words_collected top_rules top_names (codes "threads") [] rest, words_pass (built program).top top_names (codes "threads") [] rest)

@@ -3,13 +3,15 @@ use Rattle.std.specs.Prelude.{ℕ, List}
 use Rattle.plant_words.specs.declared.asked.Word.{Word}
 use Rattle.plant_words.specs.declared.asked.Word.TheVariants as word
 
--- the messages of one modem, a check of a plant and a script, a run, a run on threads, a run's capture, or one operator's history (own)
+-- the messages of one modem, a check of a plant and a script, a run, a run on threads, a run's capture,
+-- a plant in service, or one operator's history (own)
 pub data Order : Type 0 where
   one : Order
   check : Order
   run : Order
   threads : Order
   capture : Order
+  serve : Order
   history : List ℕ → Order
 
 -- the word, with the operator's name as its bytes
@@ -19,4 +21,5 @@ order_of word.Check = check
 order_of word.Run = run
 order_of word.Threads = threads
 order_of word.Capture = capture
+order_of word.Serve = serve
 order_of (word.History operator) = history operator.now

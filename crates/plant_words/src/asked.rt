@@ -17,6 +17,8 @@ pub enum Word<'a> {
     Threads,
     /// Write the run of a script over a plant as a capture.
     Capture,
+    /// Keep a plant running, and answer each line of a script as it comes.
+    Serve,
     /// Tell an operator's history.
     History {
         /// The operator's name, as it was written.

@@ -54,6 +54,17 @@ modems send, the replies and the MAPs. At a step that is refused the file ends, 
 Exit status: 0 all well, 3 a plant at fault, 4 a line at fault (of both one line `fault:` is told in place of the file)
 or a step that is refused, 5 want of memory, 6 a read or a write that failed.";
 
+const SERVE_INPUT: &str =
+    "Standard input: a plant file, a line --- and lines of a script, for as long as there are any. Each line is answered at
+once: its output is flushed before the next line is read. A line at fault (no step, a step that is refused, or more than
+4,096 bytes) is told as `fault: line n`, want of memory as `fault: memory`, and the plant goes on. Lines are counted from 1
+behind the line ---. No history is kept: memory does not grow with the number of lines.
+
+    (cat plant.toml; echo ---; cat) | plant_script serve
+
+Exit status: 0 the end of the input, 3 a plant at fault, 5 want of memory before the first line, 6 a read or a write that
+failed, or a plant file that is too long or no UTF-8.";
+
 const HISTORY_INPUT: &str = "Standard input: a plant file, a line --- and a script.
 
     plant_script history A < script.txt
@@ -89,6 +100,12 @@ fn command_line<'a>(alloc: Global) -> Result<Command<'a>, AllocError>
             "capture",
             "Run a script over a plant, and write the run as a pcap file",
             CAPTURE_INPUT,
+        ))?
+        .subcommand(plain_command(
+            alloc,
+            "serve",
+            "Keep a plant running: answer each line of a script as it comes",
+            SERVE_INPUT,
         ))?
         .subcommand(history_command(alloc)?)
 }

@@ -51,6 +51,7 @@ fn word_named<'a>(name: &str, inner: &ArgMatches<'a>) -> Option<Word<'a>>
         "run" => Some(Word::Run),
         "threads" => Some(Word::Threads),
         "capture" => Some(Word::Capture),
+        "serve" => Some(Word::Serve),
         "history" => {
             let operator = inner.get_str("operator")?;
             Some(Word::History { operator })

@@ -23,6 +23,7 @@ fn each_word_is_read(rt: HostRuntime) -> Result<(), Fail> {
     assert!(rt; read_words(alloc, &["run"])? == Word::Run);
     assert!(rt; read_words(alloc, &["threads"])? == Word::Threads);
     assert!(rt; read_words(alloc, &["capture"])? == Word::Capture);
+    assert!(rt; read_words(alloc, &["serve"])? == Word::Serve);
     assert!(rt; read_words(alloc, &["history", "A"])? == Word::History { operator: "A" });
     Ok(())
 }
@@ -51,6 +52,14 @@ fn help_is_shown(rt: HostRuntime) {
             "plant_script capture < script.txt > run.pcap"
         )
     );
+    assert!(rt; shows(alloc, &["serve", "-h"], "Usage: plant_script serve"));
+    assert!(rt;
+        shows(
+            alloc,
+            &["serve", "--help"],
+            "(cat plant.toml; echo ---; cat) | plant_script serve"
+        )
+    );
 }
 
 #[test]
@@ -63,6 +72,7 @@ fn other_words_are_wrong(rt: HostRuntime) {
     assert!(rt; is_wrong(alloc, &["one", "more"]));
     assert!(rt; is_wrong(alloc, &["threads", "2"]));
     assert!(rt; is_wrong(alloc, &["capture", "run.pcap"]));
+    assert!(rt; is_wrong(alloc, &["serve", "4000"]));
     assert!(rt; is_wrong(alloc, &["--check"]));
     assert!(rt; is_wrong(alloc, &["history"]));
     assert!(rt; is_wrong(alloc, &["history", "A", "B"]));

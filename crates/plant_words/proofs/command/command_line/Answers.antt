@@ -11,6 +11,7 @@ returns c =
     let run = added_subcommand _ _ c.in_ok-subcommand-3.field-0 _ _ check c.plain_command-3.ensures refl c.in_ok-subcommand-3.ensures in
     let threads = added_subcommand _ _ c.in_ok-subcommand-4.field-0 _ _ run c.plain_command-4.ensures refl c.in_ok-subcommand-4.ensures in
     let capture = added_subcommand _ _ c.in_ok-subcommand-5.field-0 _ _ threads c.plain_command-5.ensures refl c.in_ok-subcommand-5.ensures in
-    IfOk-weaker c.subcommand-6.result _ _
-    (λ command added. added_subcommand _ _ command _ _ capture c.in_ok-history_command.ensures refl added)
-    c.subcommand-6.ensures
+    let serve = added_subcommand _ _ c.in_ok-subcommand-6.field-0 _ _ capture c.plain_command-6.ensures refl c.in_ok-subcommand-6.ensures in
+    IfOk-weaker c.subcommand-7.result _ _
+    (λ command added. added_subcommand _ _ command _ _ serve c.in_ok-history_command.ensures refl added)
+    c.subcommand-7.ensures
