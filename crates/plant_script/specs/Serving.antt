@@ -23,7 +23,7 @@ pub record IsServed (plant : PlantFields) (script : List ℕ) (status : ℕ) (te
 
 -- a plant file is a plant, or at fault
 abbrev pub IsFrontOf : List ℕ → Front → Type 0
-IsFrontOf text (fronts.Plant plant) = text_plant (parse_document text) ≡ Ok plant
+IsFrontOf text (fronts.Plant service) = text_plant (parse_document text) ≡ Ok service.plant
 IsFrontOf text (fronts.Answer answer) =
     (fault : PlantFault) × (text_plant (parse_document text) ≡ Err fault) × (answer.status ≡ 3)
     × (answer.text.items ≡ codes "fault: plant " ++ fault_text fault)

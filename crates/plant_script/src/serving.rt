@@ -1,11 +1,9 @@
 //! The word `serve`: a plant that is kept running, and answers each line of a script as it comes.
 
-ghost use Rattle.std.specs.Prelude.{◌≡◌, ◌≢◌, List, ℕ, true, IfOk, IfSome};
+ghost use Rattle.std.specs.Prelude.{◌≡◌, ◌≢◌, List, ℕ, map, IfOk, IfSome};
 ghost use Rattle.std.specs.Io.KnownBytes.{Appends};
-ghost use Rattle.toml.specs.Parse.{parse_document};
-ghost use Rattle.slice_table.specs.ReadPlant.{text_plant};
 ghost use Rattle.plant_script.specs.Serving.{IsFrontOf, IsServed};
-ghost use Rattle.plant_script.specs.Words.{memory_line, AnswersFront, AnswersServe};
+ghost use Rattle.plant_script.specs.Words.{memory_line, AnswersServe};
 
 use crate::answer::Answer;
 use crate::check::answer_to_fault;
@@ -20,11 +18,17 @@ use std::alloc::Global;
 use std::io;
 use std::io::{Read, Write};
 
+/// A plant that is to be served.
+#[derive(Drop)]
+pub struct Service {
+    pub plant: Plant,
+}
+
 /// What a plant file comes to.
 #[derive(Drop)]
 pub enum Front {
-    /// The plant that is to be served.
-    Plant(Plant),
+    /// Its plant is to be served.
+    Plant(Service),
     /// It is at fault: what is answered.
     Answer(Answer),
 }
@@ -37,7 +41,7 @@ fn front_of(alloc: Global, text: &[u8]) -> Result<Front, Stop>
         return Err(Stop::Io);
     };
     match read_plant(alloc, text) {
-        Ok(plant) => Ok(Front::Plant(plant)),
+        Ok(plant) => Ok(Front::Plant(Service { plant })),
         Err(PlantFault::NoMemory) => Err(Stop::Memory),
         Err(fault) => {
             let answer = answer_to_fault(alloc, fault)?;
@@ -55,24 +59,21 @@ fn stop_of(error: &io::Error) -> Stop {
     }
 }
 
-/// Serves a plant as it is opened, up to the end of the input. Answers the exit status.
-fn serve_plant<R: Read, W: Write>(alloc: Global, plant: Plant, reader: &mut R, writer: &mut W) -> u8
-    ensures served { result ≢ 5 → result ≢ 6 → IfSome (R.remaining reader.old) (λ script.
-        (text : List ℕ) × IsServed plant script result text × Appends (W.contents writer.old) (W.contents writer.new) text) }
+/// Serves a plant as it is opened, up to the end of the input. The rankings stand in the plant's order of operators. Answers the
+/// exit status.
+fn serve_ranked<R: Read, W: Write>(
+    alloc: Global,
+    service: Service,
+    rankings: Vec<Ranking>,
+    reader: &mut R,
+    writer: &mut W,
+) -> u8
+    requires { map (λ ranking. ranking.policy) rankings.items ≡ map (λ row. row.policy) service.plant.rows }
+    ensures served { result ≢ 5 → result ≢ 6 → IfSome (R.remaining reader.old) (λ script. (text : List ℕ)
+        × IsServed service.plant script result text × Appends (W.contents writer.old) (W.contents writer.new) text) }
     ensures memory { result ≡ 5 → Appends (W.contents writer.old) (W.contents writer.new) memory_line }
 {
-    let mut rankings = Vec::new(alloc);
-    for row in plant.rows() {
-        let policy = row.get_fields().policy;
-        let Ok(rank) = Box::new(alloc, move |input: RankInput| -> u8 {
-            rank_by(policy, &input)
-        }) else {
-            return stopped(writer, Stop::Memory);
-        };
-        if rankings.push(Ranking::new(policy, rank)).is_err() {
-            return stopped(writer, Stop::Memory);
-        }
-    }
+    let Service { plant } = service;
     let Ok(held) = HeldLine::new(alloc) else {
         return stopped(writer, Stop::Memory);
     };
@@ -85,6 +86,33 @@ fn serve_plant<R: Read, W: Write>(alloc: Global, plant: Plant, reader: &mut R, w
         Ok(()) => 0,
         Err(_failed) => stopped(writer, Stop::Io),
     }
+}
+
+/// Serves a plant, each operator by the policy of its row. Answers the exit status.
+fn serve_plant<R: Read, W: Write>(
+    alloc: Global,
+    service: Service,
+    reader: &mut R,
+    writer: &mut W,
+) -> u8
+    ensures served { result ≢ 5 → result ≢ 6 → IfSome (R.remaining reader.old) (λ script. (text : List ℕ)
+        × IsServed service.plant script result text × Appends (W.contents writer.old) (W.contents writer.new) text) }
+    ensures memory { result ≡ 5 → Appends (W.contents writer.old) (W.contents writer.new) memory_line }
+{
+    let mut rankings = Vec::new(alloc);
+    for row in service.plant.rows() {
+        let policy = row.get_fields().policy;
+        let Ok(rank) = Box::new(alloc, move |input: RankInput| -> u8 {
+            rank_by(policy, &input)
+        }) else {
+            return stopped(writer, Stop::Memory);
+        };
+        let ranking = Ranking::new(row.get_fields().policy, rank);
+        if rankings.push(ranking).is_err() {
+            return stopped(writer, Stop::Memory);
+        }
+    }
+    serve_ranked(alloc, service, rankings, reader, writer)
 }
 
 /// Reads a plant file up to the line of three dashes, and serves its plant. The file is noted, and whether it could not be read.
@@ -110,7 +138,7 @@ pub(crate) fn serve_words<R: Read, W: Write>(
     let front = front_of(alloc, text.as_slice());
     *file = Some(text);
     match front {
-        Ok(Front::Plant(plant)) => serve_plant(alloc, plant, reader, writer),
+        Ok(Front::Plant(service)) => serve_plant(alloc, service, reader, writer),
         Ok(Front::Answer(answer)) => finish(writer, answer.status, answer.text.as_slice()),
         Err(stop) => stopped(writer, stop),
     }

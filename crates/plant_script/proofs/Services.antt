@@ -1,0 +1,46 @@
+-- What a service comes to.
+use Rattle.std.proofs.Common.{◌≡◌, ◌≢◌, ℕ, List, [], ◌∷◌, ◌++◌, Option, Some, None, IfSome, Result, Ok, Err, refl, sym, subst, codes}
+use Rattle.std.specs.Io.KnownBytes.{Appends}
+use Rattle.toml.specs.Parse.{parse_document}
+use Rattle.slice_table.specs.declared.plant.PlantFields.{PlantFields}
+use Rattle.slice_table.specs.declared.plant_fault.PlantFault.{PlantFault}
+use Rattle.slice_table.specs.ReadPlant.{text_plant}
+use Rattle.plant_runs.specs.declared.step.Out.{Out}
+use Rattle.plant_runs.specs.declared.step.Step.{Step}
+use Rattle.plant_runs.specs.Reached.{CoreView}
+use Rattle.live_core.specs.After.{IsAfter}
+use Rattle.plant_lines.specs.Input.{plant_text, script_text}
+use Rattle.plant_service.specs.Service.{service_text, IsServiceOf}
+use Rattle.plant_script.specs.Check.{fault_text}
+use Rattle.plant_script.specs.Serving.{IsServed}
+use Rattle.plant_script.specs.Words.{AnswersFront, AnswersServe}
+
+-- a service of a core as it is opened
+pub service_served : (known : Option (List ℕ)) (plant : PlantFields) (live new : CoreView) (w0 w1 : Option (List ℕ)) → IsAfter plant [] [] live
+    → IfSome known (λ input. (p : PlantFields) (before : List Step) (shown : List Out) → IsAfter p before shown live → IsServiceOf p before shown input new w0 w1)
+    → IfSome known (λ script. (text : List ℕ) × IsServed plant script 0 text × Appends w0 w1 text)
+service_served None plant live new w0 w1 after serves = tt
+service_served (Some input) plant live new w0 w1 after serves =
+    let service = serves plant [] [] after in
+    (service_text plant 1 service.answers, record { status_is = refl; answers = service.answers; live = new; answered = service.answered; after = service.after; text_is = refl }, service.written)
+
+-- the plant file was read, and its plant is served
+pub plant_answered : (known left : Option (List ℕ)) (file : List ℕ) (plant : PlantFields) (status : ℕ) (w0 w1 : Option (List ℕ))
+    → IfSome known (λ input. file ≡ plant_text input) → IfSome known (λ input. left ≡ Some (script_text input)) → text_plant (parse_document file) ≡ Ok plant
+    → IfSome left (λ script. (text : List ℕ) × IsServed plant script status text × Appends w0 w1 text)
+    → IfSome known (λ input. (text : List ℕ) × AnswersServe input status text × Appends w0 w1 text)
+plant_answered None left file plant status w0 w1 is behind read served = tt
+plant_answered (Some input) left file plant status w0 w1 is behind read served =
+    let at : (text : List ℕ) × IsServed plant (script_text input) status text × Appends w0 w1 text =
+    subst (λ (l : Option (List ℕ)). IfSome l (λ script. (text : List ℕ) × IsServed plant script status text × Appends w0 w1 text)) behind served in
+    let said : text_plant (parse_document (plant_text input)) ≡ Ok plant = subst (λ (f : List ℕ). text_plant (parse_document f) ≡ Ok plant) is read in
+    (at.0, subst (λ (r : Result PlantFields PlantFault). AnswersFront r (script_text input) status at.0) (sym said) at.1, at.2)
+
+-- the plant file is at fault
+pub fault_answered : (known : Option (List ℕ)) (file : List ℕ) (fault : PlantFault) (status : ℕ) (text : List ℕ) (w0 w1 : Option (List ℕ)) → IfSome known (λ input. file ≡ plant_text input)
+    → text_plant (parse_document file) ≡ Err fault → status ≡ 3 → text ≡ codes "fault: plant " ++ fault_text fault → Appends w0 w1 text
+    → IfSome known (λ input. (text : List ℕ) × AnswersServe input status text × Appends w0 w1 text)
+fault_answered None file fault status text w0 w1 is read three told wrote = tt
+fault_answered (Some input) file fault status text w0 w1 is read three told wrote =
+    let said : text_plant (parse_document (plant_text input)) ≡ Err fault = subst (λ (f : List ℕ). text_plant (parse_document f) ≡ Err fault) is read in
+    (text, subst (λ (r : Result PlantFields PlantFault). AnswersFront r (script_text input) status text) (sym said) (three, told), wrote)
