@@ -141,7 +141,7 @@ fn answer_of(alloc: Global, input: &[u8]) -> Result<Answer, Stop>
 /// What is done for an input.
 fn serve_input(alloc: Global, word: Word<'_>, input: &[u8]) -> Result<Served, Stop>
     requires readable { is_readable input.now ≡ true }
-    requires whole { word.entry ≢ words.Serve }
+    requires whole { word ≢ words.Serve }
     ensures served { IfOk result (λ served. Comes served (Answers (order_of word.entry) input.now)) }
     ensures memory { IfErr result (λ stop. stop ≡ Stop.Memory) }
 {
@@ -164,7 +164,7 @@ fn serve<R: Read>(
     seen: &mut Seen<'_>,
 ) -> Result<Served, Stop>
     requires untried { seen.old.failed ≡ false }
-    requires whole { word.entry ≢ words.Serve }
+    requires whole { word ≢ words.Serve }
     ensures served { IfOk result (λ served.
         IfSome (R.remaining reader.old) (λ input. Comes served (Answers (order_of word.entry) input))) }
     ensures io { (result ≡ Err Stop.Io)
@@ -234,7 +234,14 @@ fn answer_of_words<'a, H: Threads + Wait + Sync, R: Read, W: Write>(
     };
     seen.word = Some(word);
     if let Word::Serve = word {
-        return serve_words(alloc, reader, writer, &mut seen.input, &mut seen.failed);
+        return serve_words(
+            alloc,
+            reader,
+            writer,
+            &mut seen.input,
+            &mut seen.failed,
+            &mut seen.valid,
+        );
     }
     let task = match serve(alloc, word, reader, seen) {
         Ok(Served::Task(task)) => task,

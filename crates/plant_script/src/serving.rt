@@ -33,12 +33,16 @@ pub enum Front {
     Answer(Answer),
 }
 
-/// The plant of a plant file; `Stop::Io` where it is no UTF-8.
-fn front_of(alloc: Global, text: &[u8]) -> Result<Front, Stop>
+/// The plant of a plant file; `Stop::Io` where it is no UTF-8, of which it is noted how many bytes are.
+fn front_of(alloc: Global, text: &[u8], valid: &mut Option<usize>) -> Result<Front, Stop>
     ensures { IfOk result (λ front. IsFrontOf text.now front) }
 {
-    let Ok(text) = str::from_utf8(text) else {
-        return Err(Stop::Io);
+    let text = match str::from_utf8(text) {
+        Ok(text) => text,
+        Err(error) => {
+            *valid = Some(error.valid_up_to());
+            return Err(Stop::Io);
+        }
     };
     match read_plant(alloc, text) {
         Ok(plant) => Ok(Front::Plant(Service { plant })),
@@ -115,7 +119,7 @@ fn serve_plant<R: Read, W: Write>(
     serve_ranked(alloc, service, rankings, reader, writer)
 }
 
-/// Reads a plant file up to the line of three dashes, and serves its plant. The file is noted, and whether it could not be read.
+/// Reads a plant file up to the line of three dashes, and serves its plant. The file is noted, or why it could not be read.
 /// Answers the exit status.
 pub(crate) fn serve_words<R: Read, W: Write>(
     alloc: Global,
@@ -123,6 +127,7 @@ pub(crate) fn serve_words<R: Read, W: Write>(
     writer: &mut W,
     file: &mut Option<Vec<u8>>,
     failed: &mut bool,
+    valid: &mut Option<usize>,
 ) -> u8
     ensures served { result ≢ 5 → result ≢ 6 → IfSome (R.remaining reader.old) (λ input.
         (text : List ℕ) × AnswersServe input result text × Appends (W.contents writer.old) (W.contents writer.new) text) }
@@ -135,7 +140,7 @@ pub(crate) fn serve_words<R: Read, W: Write>(
             return stopped(writer, stop_of(&error));
         }
     };
-    let front = front_of(alloc, text.as_slice());
+    let front = front_of(alloc, text.as_slice(), valid);
     *file = Some(text);
     match front {
         Ok(Front::Plant(service)) => serve_plant(alloc, service, reader, writer),
