@@ -2,10 +2,13 @@
 
 ghost use Rattle.std.specs.Prelude.{◌≡◌, Some};
 
+use crate::same::same;
 use admission::{Budget, IdRange, Over};
 use dsx_messages::Modem;
 use flow_table::{Flow, Flows, Pending};
 use param_sets::{ParamFields, ParamSet, Scheduling, Sets, Units};
+use std::alloc::Global;
+use std::process::Abort;
 use std::test::Fail;
 
 /// A best-effort set with a reserved rate.
@@ -53,67 +56,134 @@ fn units() -> Units {
     Units::new(2000, 16)
 }
 
+/// Checks the flows under some SFIDs.
+fn check_at(rt: &impl Abort, flows: &Flows, rows: &[(u32, Option<Flow>)]) {
+    for (sfid, wanted) in rows {
+        same!(rt; flows.get(*sfid), *wanted);
+    }
+}
+
+/// Checks the flows that have some SIDs.
+fn check_with(rt: &impl Abort, flows: &Flows, rows: &[(u16, Option<(u32, Flow)>)]) {
+    for (sid, wanted) in rows {
+        same!(rt; flows.with_sid(*sid), *wanted);
+    }
+}
+
+/// Checks the least SID of 40 and 41 that no flow has.
+fn check_free(
+    rt: &impl Abort,
+    alloc: Global,
+    flows: &Flows,
+    wanted: Option<u32>,
+) -> Result<(), Fail> {
+    let free = flows.free_sid(alloc, &IdRange::new(40, 41))?;
+    same!(rt; free, wanted);
+    Ok(())
+}
+
+/// Checks how many minislots are committed.
+fn check_committed(rt: &impl Abort, flows: &Flows, wanted: u64) {
+    same!(rt; flows.committed_minislots(), wanted);
+}
+
 #[test]
 fn two_flows_are_found(rt: HostRuntime) -> Result<(), Fail> {
-    let sids = IdRange::new(40, 41);
-    let mut flows = Flows::new(rt.alloc(), 2, units())?;
+    let alloc = rt.alloc();
+    let mut flows = Flows::new(alloc, 2, units())?;
     flows.put(7, flow(40, 64000))?;
     flows.put(3, flow(41, 128000))?;
-    assert_eq!(rt; flows.len(), 2);
-    assert_eq!(rt; flows.get(7), Some(flow(40, 64000)));
-    assert_eq!(rt; flows.get(4), None);
-    assert_eq!(rt; flows.with_sid(41), Some((3, flow(41, 128000))));
-    assert_eq!(rt; flows.with_sid(42), None);
-    assert_eq!(rt; flows.committed_minislots(), 3);
-    assert_eq!(rt; flows.free_sid(rt.alloc(), &sids)?, None);
+    same!(rt; flows.len(), 2);
+    check_at(&rt, &flows, &[(7, Some(flow(40, 64000))), (4, None)]);
+    let second = Some((3, flow(41, 128000)));
+    check_with(&rt, &flows, &[(41, second), (42, None)]);
+    check_committed(&rt, &flows, 3);
+    check_free(&rt, alloc, &flows, None)?;
     flows.change(3, flow(41, 192000));
-    assert_eq!(rt; flows.committed_minislots(), 4);
+    check_committed(&rt, &flows, 4);
     flows.remove(7);
-    assert_eq!(rt; flows.get(7), None);
-    assert_eq!(rt; flows.with_sid(40), None);
-    assert_eq!(rt; flows.free_sid(rt.alloc(), &sids)?, Some(40));
-    Ok(())
+    check_at(&rt, &flows, &[(7, None)]);
+    check_with(&rt, &flows, &[(40, None)]);
+    check_free(&rt, alloc, &flows, Some(40))
+}
+
+/// Checks what is said of a flow under an SFID beside some limits, of minislots and of elements.
+fn check_fits(
+    rt: &impl Abort,
+    flows: &Flows,
+    flow: &Flow,
+    rows: &[((u32, u32), u32, Result<(), Over>)],
+) {
+    for ((minislots, elements), sfid, wanted) in rows {
+        let limit = Budget {
+            minislots: *minislots,
+            elements: *elements,
+        };
+        same!(rt; flows.fits(limit, *sfid, flow), *wanted);
+    }
 }
 
 #[test]
 fn the_limits_of_what_is_committed(rt: HostRuntime) -> Result<(), Fail> {
-    let limit = |minislots: u32, elements: u32| -> Budget {
-        Budget {
-            minislots,
-            elements,
-        }
-    };
     let mut flows = Flows::new(rt.alloc(), 2, units())?;
     flows.put(7, flow(40, 64000))?;
-    let second = flow(41, 128000);
-    assert_eq!(rt; flows.fits(limit(3, 4), 3, &second), Ok(()));
-    assert_eq!(rt; flows.fits(limit(2, 4), 3, &second), Err(Over::Minislots));
-    assert_eq!(rt; flows.fits(limit(3, 3), 3, &second), Err(Over::Elements));
-    assert_eq!(rt; flows.fits(limit(2, 3), 3, &second), Err(Over::Elements));
-    assert_eq!(rt; flows.fits(limit(2, 2), 7, &second), Ok(()));
-    assert_eq!(rt; flows.fits(limit(1, 2), 7, &second), Err(Over::Minislots));
+    check_fits(
+        &rt,
+        &flows,
+        &flow(41, 128000),
+        &[
+            ((3, 4), 3, Ok(())),
+            ((2, 4), 3, Err(Over::Minislots)),
+            ((3, 3), 3, Err(Over::Elements)),
+            ((2, 3), 3, Err(Over::Elements)),
+            ((2, 2), 7, Ok(())),
+            ((1, 2), 7, Err(Over::Minislots)),
+        ],
+    );
+    Ok(())
+}
+
+/// Checks the flows that are listed, by SFID.
+fn check_listed(
+    rt: &impl Abort,
+    alloc: Global,
+    flows: &Flows,
+    wanted: &[(u32, Flow)],
+) -> Result<(), Fail> {
+    let all = flows.to_vec(alloc)?;
+    same!(rt; all.as_slice(), wanted);
+    Ok(())
+}
+
+/// Checks that of the flows this one is scheduled, and no other.
+fn check_flowing(
+    rt: &impl Abort,
+    alloc: Global,
+    flows: &Flows,
+    wanted: (u32, u16),
+) -> Result<(), Fail> {
+    let flowing = flows.flowing(alloc)?;
+    let [one] = flowing.as_slice() else {
+        return Err(Fail::new("not one flow"));
+    };
+    same!(rt; (one.sfid, one.sid), wanted);
     Ok(())
 }
 
 #[test]
 fn what_is_listed(rt: HostRuntime) -> Result<(), Fail> {
+    let alloc = rt.alloc();
     let idle = Flow {
         sid: None,
         sets: Sets::dynamic(),
         ..flow(40, 64000)
     };
-    let mut flows = Flows::new(rt.alloc(), 2, units())?;
+    let mut flows = Flows::new(alloc, 2, units())?;
     flows.put(7, flow(40, 64000))?;
     flows.put(3, idle)?;
-    let all = flows.to_vec(rt.alloc())?;
-    assert_eq!(rt; all.len(), 2);
-    assert_eq!(rt; all[0], (3, idle));
-    assert_eq!(rt; all[1], (7, flow(40, 64000)));
-    let flowing = flows.flowing(rt.alloc())?;
-    assert_eq!(rt; flowing.len(), 1);
-    assert_eq!(rt; flowing[0].sfid, 7);
-    assert_eq!(rt; flowing[0].sid, 40);
-    assert_eq!(rt; flows.free_sfid(rt.alloc(), &IdRange::new(3, 9))?, Some(4));
+    check_listed(&rt, alloc, &flows, &[(3, idle), (7, flow(40, 64000))])?;
+    check_flowing(&rt, alloc, &flows, (7, 40))?;
+    same!(rt; flows.free_sfid(alloc, &IdRange::new(3, 9))?, Some(4));
     Ok(())
 }
 
@@ -126,29 +196,23 @@ fn a_request_and_its_end(rt: HostRuntime) {
         }),
         ..flow(40, 64000)
     };
-    assert_eq!(rt;
-        asked.committed(units()),
-        Budget {
-            minislots: 4,
-            elements: 2
-        }
-    );
+    same!(rt; asked.committed(units()), Budget { minislots: 4, elements: 2 });
     let served = asked.acknowledged(9);
-    assert_eq!(rt; served.sets, active(256000));
-    assert_eq!(rt; served.sid, Some(40));
-    assert_eq!(rt; served.start, 9);
-    assert_eq!(rt; asked.taken_back().sid, None);
-    assert_eq!(rt; asked.taken_back().sets, active(64000));
+    same!(rt; served.sets, active(256000));
+    same!(rt; served.sid, Some(40));
+    same!(rt; served.start, 9);
+    same!(rt; asked.taken_back().sid, None);
+    same!(rt; asked.taken_back().sets, active(64000));
 }
 
 #[test]
 fn a_backlog_and_since_when_it_waits(rt: HostRuntime) {
     let waiting = flow(40, 64000).requested(20, 5);
-    assert!(rt; waiting.asks_for_grants());
-    assert_eq!(rt; waiting.requested(30, 6).since, 5);
+    same!(rt; waiting.asks_for_grants(), true);
+    same!(rt; waiting.requested(30, 6).since, 5);
     let left = waiting.granted(8, 7);
-    assert_eq!(rt; left.backlog, 12);
-    assert_eq!(rt; left.since, 8);
-    assert_eq!(rt; left.granted(12, 8).backlog, 0);
-    assert_eq!(rt; left.granted(13, 8).since, 8);
+    same!(rt; left.backlog, 12);
+    same!(rt; left.since, 8);
+    same!(rt; left.granted(12, 8).backlog, 0);
+    same!(rt; left.granted(13, 8).since, 8);
 }

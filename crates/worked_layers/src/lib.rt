@@ -10,4 +10,6 @@ mod ranks;
 #[cfg(test)]
 mod responses;
 #[cfg(test)]
+mod same;
+#[cfg(test)]
 mod sets;

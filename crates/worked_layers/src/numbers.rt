@@ -1,32 +1,34 @@
 //! Examples of identifiers and of a ledger.
 
+use crate::same::same;
 use admission::{Budget, IdRange, Ledger, LedgerFault, Over};
+use std::process::Abort;
 use std::test::Fail;
 
 #[test]
 fn the_least_free_number_of_four(rt: HostRuntime) {
     let range = IdRange::new(257, 260);
-    assert_eq!(rt; range.least_free(&[]), Some(257));
-    assert_eq!(rt; range.least_free(&[258, 257, 9, 258]), Some(259));
-    assert_eq!(rt; range.least_free(&[257, 258, 259, 260]), None);
+    same!(rt; range.least_free(&[]), Some(257));
+    same!(rt; range.least_free(&[258, 257, 9, 258]), Some(259));
+    same!(rt; range.least_free(&[257, 258, 259, 260]), None);
 }
 
 #[test]
 fn one_number(rt: HostRuntime) {
     let range = IdRange::new(5, 5);
-    assert_eq!(rt; range.least_free(&[]), Some(5));
-    assert_eq!(rt; range.least_free(&[5]), None);
-    assert_eq!(rt; range.get_first(), 5);
-    assert_eq!(rt; range.get_last(), 5);
-    assert!(rt; range.contains(5));
-    assert!(rt; !range.contains(6));
+    same!(rt; range.least_free(&[]), Some(5));
+    same!(rt; range.least_free(&[5]), None);
+    same!(rt; range.get_first(), 5);
+    same!(rt; range.get_last(), 5);
+    same!(rt; range.contains(5), true);
+    same!(rt; !range.contains(6), true);
 }
 
 #[test]
 fn the_last_number_of_all(rt: HostRuntime) {
     let range = IdRange::new(4294967295, 4294967295);
-    assert_eq!(rt; range.least_free(&[]), Some(4294967295));
-    assert_eq!(rt; range.least_free(&[4294967295]), None);
+    same!(rt; range.least_free(&[]), Some(4294967295));
+    same!(rt; range.least_free(&[4294967295]), None);
 }
 
 #[test]
@@ -36,7 +38,7 @@ fn the_end_of_a_range_at_the_end_of_all(rt: HostRuntime) -> Result<(), Fail> {
     for number in 4294967200u32..4294967295 {
         used.push(number)?;
     }
-    assert_eq!(rt; range.least_free(&used), Some(4294967295));
+    same!(rt; range.least_free(&used), Some(4294967295));
     Ok(())
 }
 
@@ -47,8 +49,39 @@ fn a_thousand_used_in_descending_order(rt: HostRuntime) -> Result<(), Fail> {
     for number in 1u32..=1023 {
         used.push(1024 - number)?;
     }
-    assert_eq!(rt; range.least_free(&used), Some(1024));
+    same!(rt; range.least_free(&used), Some(1024));
     Ok(())
+}
+
+/// Checks that a ledger is full of so many rows.
+fn check_full(rt: &impl Abort, ledger: &Ledger, rows: u32) {
+    same!(rt; ledger.is_full(), true);
+    same!(rt; ledger.len(), rows);
+}
+
+/// Checks the totals of a ledger.
+fn check_totals(rt: &impl Abort, ledger: &Ledger, minislots: u64, elements: u64) {
+    same!(rt; ledger.total_minislots(), minislots);
+    same!(rt; ledger.total_elements(), elements);
+}
+
+/// Checks the rows of some identifiers.
+fn check_rows(rt: &impl Abort, ledger: &Ledger, rows: &[(u32, Option<Budget>)]) {
+    for (id, wanted) in rows {
+        same!(rt; ledger.get(*id), *wanted);
+    }
+}
+
+/// Checks what is said of a row under an identifier beside a limit.
+fn check_fits(
+    rt: &impl Abort,
+    ledger: &Ledger,
+    limit: Budget,
+    rows: &[(u32, Budget, Result<(), Over>)],
+) {
+    for (id, row, wanted) in rows {
+        same!(rt; ledger.fits(limit, *id, *row), *wanted);
+    }
 }
 
 #[test]
@@ -62,25 +95,21 @@ fn a_ledger_of_two_rows(rt: HostRuntime) -> Result<(), Fail> {
         elements: 2,
     };
     let mut ledger = Ledger::new(rt.alloc(), 2)?;
-    assert!(rt; ledger.is_empty());
-    assert_eq!(rt; ledger.add(9, small), Ok(()));
-    assert_eq!(rt; ledger.add(9, large), Err(LedgerFault::Twice));
-    assert_eq!(rt; ledger.add(7, large), Ok(()));
-    assert_eq!(rt; ledger.add(8, Budget::NOTHING), Err(LedgerFault::Full));
-    assert!(rt; ledger.is_full());
-    assert_eq!(rt; ledger.len(), 2);
-    assert_eq!(rt; ledger.total_minislots(), 11);
-    assert_eq!(rt; ledger.total_elements(), 3);
-    assert_eq!(rt; ledger.get(7), Some(large));
-    assert_eq!(rt; ledger.get(8), None);
-    assert_eq!(rt; ledger.change(9, Budget::NOTHING), Ok(()));
-    assert_eq!(rt; ledger.change(8, small), Err(LedgerFault::NotThere));
-    assert_eq!(rt; ledger.total_minislots(), 8);
-    assert_eq!(rt; ledger.remove(7), Ok(()));
-    assert_eq!(rt; ledger.remove(7), Err(LedgerFault::NotThere));
-    assert_eq!(rt; ledger.remove(9), Ok(()));
-    assert_eq!(rt; ledger.total_minislots(), 0);
-    assert_eq!(rt; ledger.total_elements(), 0);
+    same!(rt; ledger.is_empty(), true);
+    same!(rt; ledger.add(9, small), Ok(()));
+    same!(rt; ledger.add(9, large), Err(LedgerFault::Twice));
+    same!(rt; ledger.add(7, large), Ok(()));
+    same!(rt; ledger.add(8, Budget::NOTHING), Err(LedgerFault::Full));
+    check_full(&rt, &ledger, 2);
+    check_totals(&rt, &ledger, 11, 3);
+    check_rows(&rt, &ledger, &[(7, Some(large)), (8, None)]);
+    same!(rt; ledger.change(9, Budget::NOTHING), Ok(()));
+    same!(rt; ledger.change(8, small), Err(LedgerFault::NotThere));
+    check_totals(&rt, &ledger, 8, 2);
+    same!(rt; ledger.remove(7), Ok(()));
+    same!(rt; ledger.remove(7), Err(LedgerFault::NotThere));
+    same!(rt; ledger.remove(9), Ok(()));
+    check_totals(&rt, &ledger, 0, 0);
     Ok(())
 }
 
@@ -107,9 +136,12 @@ fn a_row_in_place_of_its_old_one(rt: HostRuntime) -> Result<(), Fail> {
         elements: 0,
     };
     let mut ledger = Ledger::new(rt.alloc(), 2)?;
-    assert_eq!(rt; ledger.add(7, eight), Ok(()));
-    assert_eq!(rt; ledger.fits(limit, 7, nine), Ok(()));
-    assert_eq!(rt; ledger.fits(limit, 7, many), Err(Over::Elements));
-    assert_eq!(rt; ledger.fits(limit, 8, wide), Err(Over::Minislots));
+    same!(rt; ledger.add(7, eight), Ok(()));
+    let rows = [
+        (7, nine, Ok(())),
+        (7, many, Err(Over::Elements)),
+        (8, wide, Err(Over::Minislots)),
+    ];
+    check_fits(&rt, &ledger, limit, &rows);
     Ok(())
 }

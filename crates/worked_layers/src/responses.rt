@@ -1,11 +1,12 @@
 //! Examples of transactions, tick by tick.
 
+use crate::same::same;
 use dsx_messages::{Kind, Modem};
 use std::alloc::{AllocError, Global};
 use std::process::Abort;
 use std::test::Fail;
 use tlv24::Bytes;
-use transactions::{GivenUp, Kept, KeptFault, Standing, Timers};
+use transactions::{GivenUp, Kept, KeptEntry, KeptFault, Resend, Standing, Timers};
 
 const ONE: Modem = Modem([0, 0, 0, 0, 0, 1]);
 
@@ -16,10 +17,65 @@ fn reply(alloc: Global, byte: u8) -> Result<Bytes, AllocError> {
     Bytes::from_slice(alloc, &[byte])
 }
 
-/// Whether a tick sends nothing again and gives nothing up.
-fn is_quiet_tick(kept: &mut Kept, alloc: Global) -> Result<bool, AllocError> {
+/// Checks that so many ticks send nothing again and give nothing up.
+fn check_quiet(
+    rt: &impl Abort,
+    kept: &mut Kept,
+    alloc: Global,
+    ticks: u8,
+) -> Result<(), AllocError> {
+    for _ in 0..ticks {
+        let told = kept.tick(alloc)?;
+        same!(rt; told.resend.as_slice().len(), 0);
+        same!(rt; told.given_up.as_slice().len(), 0);
+    }
+    Ok(())
+}
+
+/// Each response of one byte that is sent again, with its modem.
+fn sent_in(alloc: Global, resend: &[Resend]) -> Result<Vec<(Modem, u8)>, AllocError> {
+    let mut sent = Vec::new(alloc);
+    for it in resend {
+        if let [byte] = it.reply.as_slice() {
+            sent.push((it.modem, *byte))?;
+        }
+    }
+    Ok(sent)
+}
+
+/// Checks that a tick gives up this one transaction, and sends nothing again.
+fn check_given_up(
+    rt: &impl Abort,
+    kept: &mut Kept,
+    alloc: Global,
+    given_up: GivenUp,
+) -> Result<(), AllocError> {
     let told = kept.tick(alloc)?;
-    Ok(told.resend.as_slice().is_empty() && told.given_up.as_slice().is_empty())
+    same!(rt; told.resend.as_slice().is_empty(), true);
+    same!(rt; told.given_up.as_slice(), [given_up].as_slice());
+    Ok(())
+}
+
+/// What is said where an entry begins with a response of one byte.
+fn begin(
+    kept: &mut Kept,
+    alloc: Global,
+    (modem, tid, kind): (Modem, u16, Kind),
+    (byte, sfid, waits): (u8, u32, bool),
+) -> Result<Result<(), KeptFault>, AllocError> {
+    Ok(kept.begin(modem, tid, kind, reply(alloc, byte)?, sfid, waits))
+}
+
+/// Checks that it begins.
+fn check_begin(
+    rt: &impl Abort,
+    kept: &mut Kept,
+    alloc: Global,
+    transaction: (Modem, u16, Kind),
+    response: (u8, u32, bool),
+) -> Result<(), AllocError> {
+    same!(rt; begin(kept, alloc, transaction, response)?, Ok(()));
+    Ok(())
 }
 
 /// Checks that a tick sends this one response again, and gives nothing up.
@@ -30,11 +86,9 @@ fn check_resend(
     byte: u8,
 ) -> Result<(), AllocError> {
     let told = kept.tick(alloc)?;
-    let resend = told.resend.into_vec();
-    assert_eq!(rt; resend.len(), 1);
-    assert_eq!(rt; resend[0].modem, ONE);
-    assert_eq!(rt; resend[0].reply.as_slice(), [byte].as_slice());
-    assert!(rt; told.given_up.as_slice().is_empty());
+    let sent = sent_in(alloc, told.resend.as_slice())?;
+    same!(rt; sent.as_slice(), [(ONE, byte)].as_slice());
+    same!(rt; told.given_up.as_slice(), [].as_slice());
     Ok(())
 }
 
@@ -42,27 +96,25 @@ fn check_resend(
 fn timers_tell_their_numbers(rt: HostRuntime) {
     let timers = Timers::new(65535, 255, 1);
     timers.kept();
-    assert_eq!(rt; timers.get_ack_wait(), 65535);
-    assert_eq!(rt; timers.get_resends(), 255);
-    assert_eq!(rt; timers.get_hold(), 1);
+    same!(rt; timers.get_ack_wait(), 65535);
+    same!(rt; timers.get_resends(), 255);
+    same!(rt; timers.get_hold(), 1);
 }
 
 #[test]
 fn a_second_begin_finds_one_place_full(rt: HostRuntime) -> Result<(), Fail> {
     let alloc = rt.alloc();
     let mut kept = Kept::new(alloc, 1, Timers::new(2, 2, 5))?;
-    assert!(rt; kept.is_empty());
-    assert_eq!(rt;
-        kept.begin(ONE, 7, Kind::Dsa, reply(alloc, 1)?, 9, true),
-        Ok(())
-    );
-    assert!(rt; kept.is_full());
-    assert_eq!(rt; kept.len(), 1);
-    let other = kept.begin(TWO, 8, Kind::Dsa, reply(alloc, 2)?, 10, true);
-    assert_eq!(rt; other, Err(KeptFault::Full));
-    let same = kept.begin(ONE, 7, Kind::Dsa, reply(alloc, 3)?, 9, true);
-    assert_eq!(rt; same, Err(KeptFault::Full), "full comes before live");
-    assert_eq!(rt; kept.len(), 1);
+    same!(rt; kept.is_empty(), true);
+    check_begin(&rt, &mut kept, alloc, (ONE, 7, Kind::Dsa), (1, 9, true))?;
+    same!(rt; kept.is_full(), true);
+    same!(rt; kept.len(), 1);
+    let other = begin(&mut kept, alloc, (TWO, 8, Kind::Dsa), (2, 10, true))?;
+    same!(rt; other, Err(KeptFault::Full));
+    let live = begin(&mut kept, alloc, (ONE, 7, Kind::Dsa), (3, 9, true))?;
+    // Full comes before live.
+    same!(rt; live, Err(KeptFault::Full));
+    same!(rt; kept.len(), 1);
     Ok(())
 }
 
@@ -70,22 +122,22 @@ fn a_second_begin_finds_one_place_full(rt: HostRuntime) -> Result<(), Fail> {
 fn a_begin_of_a_live_pair(rt: HostRuntime) -> Result<(), Fail> {
     let alloc = rt.alloc();
     let mut kept = Kept::new(alloc, 4, Timers::new(2, 2, 5))?;
-    assert_eq!(rt;
-        kept.begin(ONE, 7, Kind::Dsa, reply(alloc, 1)?, 9, true),
-        Ok(())
-    );
-    let again = kept.begin(ONE, 7, Kind::Dsc, reply(alloc, 2)?, 10, false);
-    assert_eq!(rt; again, Err(KeptFault::Live));
-    assert_eq!(rt;
-        kept.begin(ONE, 8, Kind::Dsa, reply(alloc, 3)?, 11, true),
-        Ok(())
-    );
-    assert_eq!(rt;
-        kept.begin(TWO, 7, Kind::Dsa, reply(alloc, 4)?, 12, true),
-        Ok(())
-    );
-    assert_eq!(rt; kept.entries().len(), 3);
+    check_begin(&rt, &mut kept, alloc, (ONE, 7, Kind::Dsa), (1, 9, true))?;
+    let again = begin(&mut kept, alloc, (ONE, 7, Kind::Dsc), (2, 10, false))?;
+    same!(rt; again, Err(KeptFault::Live));
+    check_begin(&rt, &mut kept, alloc, (ONE, 8, Kind::Dsa), (3, 11, true))?;
+    check_begin(&rt, &mut kept, alloc, (TWO, 7, Kind::Dsa), (4, 12, true))?;
+    same!(rt; kept.entries().len(), 3);
     Ok(())
+}
+
+/// Checks an entry of the second modem's deletion, held for five ticks.
+fn check_held_deletion(rt: &impl Abort, entry: &KeptEntry) {
+    same!(rt; (entry.modem, entry.tid), (TWO, 8));
+    same!(rt; (entry.kind, entry.sfid), (Kind::Dsd, 10));
+    same!(rt; entry.reply.as_slice(), [6].as_slice());
+    same!(rt; entry.standing, Standing::Held);
+    same!(rt; (entry.ticks_left, entry.resends_left), (5, 0));
 }
 
 #[test]
@@ -93,13 +145,10 @@ fn a_new_pair_is_held_for_its_ticks(rt: HostRuntime) -> Result<(), Fail> {
     let alloc = rt.alloc();
     let mut kept = Kept::new(alloc, 2, Timers::new(3, 1, 5))?;
     kept.begin_new(TWO, 8, Kind::Dsd, reply(alloc, 6)?, 10, false);
-    let entries = kept.entries();
-    assert_eq!(rt; entries.len(), 1);
-    assert_eq!(rt; (entries[0].modem, entries[0].tid), (TWO, 8));
-    assert_eq!(rt; (entries[0].kind, entries[0].sfid), (Kind::Dsd, 10));
-    assert_eq!(rt; entries[0].reply.as_slice(), [6].as_slice());
-    assert_eq!(rt; entries[0].standing, Standing::Held);
-    assert_eq!(rt; (entries[0].ticks_left, entries[0].resends_left), (5, 0));
+    let [entry] = kept.entries() else {
+        return Err(Fail::new("not one entry"));
+    };
+    check_held_deletion(&rt, entry);
     Ok(())
 }
 
@@ -107,19 +156,14 @@ fn a_new_pair_is_held_for_its_ticks(rt: HostRuntime) -> Result<(), Fail> {
 fn an_acknowledgement_is_taken_once_and_of_its_own_kind(rt: HostRuntime) -> Result<(), Fail> {
     let alloc = rt.alloc();
     let mut kept = Kept::new(alloc, 4, Timers::new(2, 2, 5))?;
-    assert_eq!(rt;
-        kept.begin(ONE, 7, Kind::Dsa, reply(alloc, 1)?, 9, true),
-        Ok(())
-    );
-    assert_eq!(rt; kept.acked(ONE, 7, Kind::Dsc), None, "another kind");
-    assert_eq!(rt;
-        kept.acked(ONE, 8, Kind::Dsa),
-        None,
-        "an unknown transaction ID"
-    );
-    assert_eq!(rt; kept.acked(TWO, 7, Kind::Dsa), None, "another modem");
-    assert_eq!(rt; kept.acked(ONE, 7, Kind::Dsa), Some(9));
-    assert_eq!(rt; kept.acked(ONE, 7, Kind::Dsa), None, "it is held");
+    check_begin(&rt, &mut kept, alloc, (ONE, 7, Kind::Dsa), (1, 9, true))?;
+    // Another kind, an unknown transaction ID, another modem.
+    same!(rt; kept.acked(ONE, 7, Kind::Dsc), None);
+    same!(rt; kept.acked(ONE, 8, Kind::Dsa), None);
+    same!(rt; kept.acked(TWO, 7, Kind::Dsa), None);
+    same!(rt; kept.acked(ONE, 7, Kind::Dsa), Some(9));
+    // It is held now.
+    same!(rt; kept.acked(ONE, 7, Kind::Dsa), None);
     Ok(())
 }
 
@@ -127,31 +171,22 @@ fn an_acknowledgement_is_taken_once_and_of_its_own_kind(rt: HostRuntime) -> Resu
 fn resent_twice_and_given_up_at_the_sixth_tick(rt: HostRuntime) -> Result<(), Fail> {
     let alloc = rt.alloc();
     let mut kept = Kept::new(alloc, 4, Timers::new(2, 2, 5))?;
-    assert_eq!(rt;
-        kept.begin(ONE, 7, Kind::Dsc, reply(alloc, 1)?, 9, true),
-        Ok(())
-    );
-    assert_eq!(rt; kept.resend_count(), 0);
-    assert!(rt; is_quiet_tick(&mut kept, alloc)?);
-    assert_eq!(rt; kept.resend_count(), 1);
+    check_begin(&rt, &mut kept, alloc, (ONE, 7, Kind::Dsc), (1, 9, true))?;
+    same!(rt; kept.resend_count(), 0);
+    check_quiet(&rt, &mut kept, alloc, 1)?;
+    same!(rt; kept.resend_count(), 1);
     check_resend(&rt, &mut kept, alloc, 1)?;
-    assert!(rt; is_quiet_tick(&mut kept, alloc)?);
+    check_quiet(&rt, &mut kept, alloc, 1)?;
     check_resend(&rt, &mut kept, alloc, 1)?;
-    assert!(rt; is_quiet_tick(&mut kept, alloc)?);
-    assert_eq!(rt; kept.len(), 1);
-    let told = kept.tick(alloc)?;
-    assert!(rt; told.resend.as_slice().is_empty());
-    let given_up = told.given_up.into_vec();
-    assert_eq!(rt; given_up.len(), 1);
-    assert_eq!(rt;
-        given_up[0],
-        GivenUp {
-            kind: Kind::Dsc,
-            sfid: 9
-        }
-    );
-    assert!(rt; kept.is_empty());
-    assert!(rt; kept.find(ONE, 7).is_none());
+    check_quiet(&rt, &mut kept, alloc, 1)?;
+    same!(rt; kept.len(), 1);
+    let given_up = GivenUp {
+        kind: Kind::Dsc,
+        sfid: 9,
+    };
+    check_given_up(&rt, &mut kept, alloc, given_up)?;
+    same!(rt; kept.is_empty(), true);
+    same!(rt; kept.find(ONE, 7).is_none(), true);
     Ok(())
 }
 
@@ -159,22 +194,13 @@ fn resent_twice_and_given_up_at_the_sixth_tick(rt: HostRuntime) -> Result<(), Fa
 fn given_up_at_the_first_tick_where_nothing_is_resent(rt: HostRuntime) -> Result<(), Fail> {
     let alloc = rt.alloc();
     let mut kept = Kept::new(alloc, 4, Timers::new(1, 0, 5))?;
-    assert_eq!(rt;
-        kept.begin(ONE, 7, Kind::Dsa, reply(alloc, 1)?, 9, true),
-        Ok(())
-    );
-    let told = kept.tick(alloc)?;
-    assert!(rt; told.resend.as_slice().is_empty());
-    let given_up = told.given_up.into_vec();
-    assert_eq!(rt; given_up.len(), 1);
-    assert_eq!(rt;
-        given_up[0],
-        GivenUp {
-            kind: Kind::Dsa,
-            sfid: 9
-        }
-    );
-    assert!(rt; kept.is_empty());
+    check_begin(&rt, &mut kept, alloc, (ONE, 7, Kind::Dsa), (1, 9, true))?;
+    let given_up = GivenUp {
+        kind: Kind::Dsa,
+        sfid: 9,
+    };
+    check_given_up(&rt, &mut kept, alloc, given_up)?;
+    same!(rt; kept.is_empty(), true);
     Ok(())
 }
 
@@ -182,16 +208,10 @@ fn given_up_at_the_first_tick_where_nothing_is_resent(rt: HostRuntime) -> Result
 fn held_for_one_tick_and_free_again(rt: HostRuntime) -> Result<(), Fail> {
     let alloc = rt.alloc();
     let mut kept = Kept::new(alloc, 4, Timers::new(2, 2, 1))?;
-    assert_eq!(rt;
-        kept.begin(ONE, 7, Kind::Dsd, reply(alloc, 1)?, 9, false),
-        Ok(())
-    );
-    assert!(rt; is_quiet_tick(&mut kept, alloc)?);
-    assert!(rt; kept.is_empty());
-    assert_eq!(rt;
-        kept.begin(ONE, 7, Kind::Dsd, reply(alloc, 2)?, 9, false),
-        Ok(())
-    );
+    check_begin(&rt, &mut kept, alloc, (ONE, 7, Kind::Dsd), (1, 9, false))?;
+    check_quiet(&rt, &mut kept, alloc, 1)?;
+    same!(rt; kept.is_empty(), true);
+    check_begin(&rt, &mut kept, alloc, (ONE, 7, Kind::Dsd), (2, 9, false))?;
     Ok(())
 }
 
@@ -199,17 +219,13 @@ fn held_for_one_tick_and_free_again(rt: HostRuntime) -> Result<(), Fail> {
 fn an_acknowledged_entry_is_held_and_not_resent(rt: HostRuntime) -> Result<(), Fail> {
     let alloc = rt.alloc();
     let mut kept = Kept::new(alloc, 4, Timers::new(2, 2, 3))?;
-    assert_eq!(rt;
-        kept.begin(ONE, 7, Kind::Dsa, reply(alloc, 1)?, 9, true),
-        Ok(())
-    );
-    assert!(rt; is_quiet_tick(&mut kept, alloc)?);
-    assert_eq!(rt; kept.acked(ONE, 7, Kind::Dsa), Some(9));
-    assert!(rt; is_quiet_tick(&mut kept, alloc)?);
-    assert!(rt; is_quiet_tick(&mut kept, alloc)?);
-    assert_eq!(rt; kept.len(), 1);
-    assert!(rt; is_quiet_tick(&mut kept, alloc)?);
-    assert!(rt; kept.is_empty());
+    check_begin(&rt, &mut kept, alloc, (ONE, 7, Kind::Dsa), (1, 9, true))?;
+    check_quiet(&rt, &mut kept, alloc, 1)?;
+    same!(rt; kept.acked(ONE, 7, Kind::Dsa), Some(9));
+    check_quiet(&rt, &mut kept, alloc, 2)?;
+    same!(rt; kept.len(), 1);
+    check_quiet(&rt, &mut kept, alloc, 1)?;
+    same!(rt; kept.is_empty(), true);
     Ok(())
 }
 
@@ -217,21 +233,12 @@ fn an_acknowledged_entry_is_held_and_not_resent(rt: HostRuntime) -> Result<(), F
 fn two_that_fall_due_together_are_resent_in_order(rt: HostRuntime) -> Result<(), Fail> {
     let alloc = rt.alloc();
     let mut kept = Kept::new(alloc, 4, Timers::new(1, 1, 5))?;
-    assert_eq!(rt;
-        kept.begin(TWO, 9, Kind::Dsa, reply(alloc, 1)?, 9, true),
-        Ok(())
-    );
-    assert_eq!(rt;
-        kept.begin(ONE, 7, Kind::Dsa, reply(alloc, 2)?, 8, true),
-        Ok(())
-    );
-    assert_eq!(rt; kept.resend_count(), 2);
-    let resend = kept.tick(alloc)?.resend.into_vec();
-    assert_eq!(rt; resend.len(), 2);
-    assert_eq!(rt; resend[0].modem, TWO);
-    assert_eq!(rt; resend[0].reply.as_slice(), [1].as_slice());
-    assert_eq!(rt; resend[1].modem, ONE);
-    assert_eq!(rt; resend[1].reply.as_slice(), [2].as_slice());
+    check_begin(&rt, &mut kept, alloc, (TWO, 9, Kind::Dsa), (1, 9, true))?;
+    check_begin(&rt, &mut kept, alloc, (ONE, 7, Kind::Dsa), (2, 8, true))?;
+    same!(rt; kept.resend_count(), 2);
+    let told = kept.tick(alloc)?;
+    let sent = sent_in(alloc, told.resend.as_slice())?;
+    same!(rt; sent.as_slice(), [(TWO, 1), (ONE, 2)].as_slice());
     Ok(())
 }
 
@@ -239,16 +246,13 @@ fn two_that_fall_due_together_are_resent_in_order(rt: HostRuntime) -> Result<(),
 fn a_look_up_gives_the_kept_bytes_and_restarts_nothing(rt: HostRuntime) -> Result<(), Fail> {
     let alloc = rt.alloc();
     let mut kept = Kept::new(alloc, 4, Timers::new(2, 2, 5))?;
-    assert_eq!(rt;
-        kept.begin(ONE, 7, Kind::Dsa, reply(alloc, 5)?, 9, true),
-        Ok(())
-    );
-    assert!(rt; is_quiet_tick(&mut kept, alloc)?);
+    check_begin(&rt, &mut kept, alloc, (ONE, 7, Kind::Dsa), (5, 9, true))?;
+    check_quiet(&rt, &mut kept, alloc, 1)?;
     let found = kept.find(ONE, 7).ok_or("not found")?;
-    assert_eq!(rt; found.reply.as_slice(), [5].as_slice());
-    assert_eq!(rt; found.standing, Standing::Waiting);
-    assert_eq!(rt; found.ticks_left, 1);
-    assert_eq!(rt; found.resends_left, 2);
+    same!(rt; found.reply.as_slice(), [5].as_slice());
+    same!(rt; found.standing, Standing::Waiting);
+    same!(rt; found.ticks_left, 1);
+    same!(rt; found.resends_left, 2);
     check_resend(&rt, &mut kept, alloc, 5)?;
     Ok(())
 }
@@ -270,7 +274,7 @@ fn two_due(alloc: Global) -> Result<Kept, AllocError> {
     let empty = Bytes::from_vec(Vec::new(alloc));
     let _ = kept.begin(ONE, 7, Kind::Dsa, empty, 9, true);
     let _ = kept.tick(alloc)?;
-    let _ = kept.begin(TWO, 8, Kind::Dsc, reply(alloc, 2)?, 10, true);
+    let _ = begin(&mut kept, alloc, (TWO, 8, Kind::Dsc), (2, 10, true))?;
     Ok(kept)
 }
 
@@ -280,18 +284,18 @@ fn a_tick_that_lacks_memory_changes_nothing(rt: HostRuntime) -> Result<(), Fail>
     let Ok(mut kept) = two_due(alloc) else {
         return Ok(());
     };
-    assert_eq!(rt; counts(&kept), [(1, 0), (1, 1)]);
+    same!(rt; counts(&kept), [(1, 0), (1, 1)]);
     for _ in 0..3u8 {
         match kept.tick(alloc) {
             Ok(told) => {
-                assert_eq!(rt; told.resend.as_slice().len(), 1);
-                assert_eq!(rt; told.given_up.as_slice().len(), 1);
-                assert_eq!(rt; kept.len(), 1);
+                same!(rt; told.resend.as_slice().len(), 1);
+                same!(rt; told.given_up.as_slice().len(), 1);
+                same!(rt; kept.len(), 1);
                 return Ok(());
             }
             Err(_) => {
-                assert_eq!(rt; counts(&kept), [(1, 0), (1, 1)]);
-                assert_eq!(rt; kept.resend_count(), 1);
+                same!(rt; counts(&kept), [(1, 0), (1, 1)]);
+                same!(rt; kept.resend_count(), 1);
             }
         }
     }

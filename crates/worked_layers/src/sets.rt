@@ -3,12 +3,14 @@
 ghost use Rattle.tlv24.specs.Range.{AreInRange};
 ghost use Rattle.param_sets.specs.ParamSet.{IsParameterSet};
 
+use crate::same::same;
 use admission::Budget;
 use dsx_messages::Code;
 use param_sets::{
     ParamFields, ParamSet, Refusal, Scheduling, Sets, SetsFields, Units, from_tlv, need,
     overridden, within,
 };
+use std::process::Abort;
 use std::test::Fail;
 use tlv24::{ClassName, FlowFields, FlowTlv};
 
@@ -51,124 +53,117 @@ const UNSOLICITED: FlowFields = FlowFields {
     ..FlowFields::NONE
 };
 
-const POLLED: FlowFields = FlowFields {
-    scheduling_type: Some(4),
-    polling_interval: Some(20_000),
-    ..FlowFields::NONE
-};
-
 #[test]
 fn units_are_told(rt: HostRuntime) {
-    assert_eq!(rt; units().get_frame_us(), 2_000);
-    assert_eq!(rt; units().get_bytes_per_minislot(), 16);
-    assert_eq!(rt; units().frames(1_999), 0);
-    assert_eq!(rt; units().frames(4_000), 2);
-    assert_eq!(rt; units().minislots(0), 0);
-    assert_eq!(rt; units().minislots(17), 2);
-    assert_eq!(rt; units().reserve(64_001), 2);
+    same!(rt; units().get_frame_us(), 2_000);
+    same!(rt; units().get_bytes_per_minislot(), 16);
+    same!(rt; units().frames(1_999), 0);
+    same!(rt; units().frames(4_000), 2);
+    same!(rt; units().minislots(0), 0);
+    same!(rt; units().minislots(17), 2);
+    same!(rt; units().reserve(64_001), 2);
 }
 
 #[test]
 fn kinds_and_their_numbers(rt: HostRuntime) {
-    assert_eq!(rt; Scheduling::stated(None), Some(Scheduling::BestEffort));
+    same!(rt; Scheduling::stated(None), Some(Scheduling::BestEffort));
     for (number, kind) in [
         (2, Scheduling::BestEffort),
         (3, Scheduling::NonRealTimePolling),
         (4, Scheduling::RealTimePolling),
         (6, Scheduling::UnsolicitedGrant),
     ] {
-        assert_eq!(rt; Scheduling::stated(Some(number)), Some(kind));
-        assert_eq!(rt; kind.number(), number);
+        same!(rt; Scheduling::stated(Some(number)), Some(kind));
+        same!(rt; kind.number(), number);
     }
-    assert_eq!(rt; Scheduling::stated(Some(5)), None);
+    same!(rt; Scheduling::stated(Some(5)), None);
+}
+
+/// What an unsolicited flow states: its grant size, its grant interval, and its grants in each.
+type Grants = (Option<u16>, Option<u32>, Option<u8>);
+
+/// What a flow needs that states this.
+fn needed_of_grants(grants: Grants) -> Result<Budget, Refusal> {
+    let (grant_size, grant_interval, grants_per_interval) = grants;
+    needed(FlowFields {
+        scheduling_type: Some(6),
+        grant_size,
+        grant_interval,
+        grants_per_interval,
+        ..FlowFields::NONE
+    })
+}
+
+/// Checks what unsolicited flows need.
+fn check_grants(rt: &impl Abort, rows: &[(Grants, Result<Budget, Refusal>)]) {
+    for (grants, wanted) in rows {
+        same!(rt; (*grants, needed_of_grants(*grants)), (*grants, *wanted));
+    }
+}
+
+/// A budget.
+fn budget(minislots: u32, elements: u32) -> Result<Budget, Refusal> {
+    Ok(Budget {
+        minislots,
+        elements,
+    })
 }
 
 #[test]
 fn an_unsolicited_flow(rt: HostRuntime) {
-    let short = FlowFields {
-        grant_interval: Some(1_999),
-        ..UNSOLICITED
-    };
-    assert_eq!(rt; needed(short), invalid(20));
-    assert_eq!(rt;
-        needed(UNSOLICITED),
-        Ok(Budget {
-            minislots: 32,
-            elements: 1
-        })
-    );
-    let large = FlowFields {
-        grant_size: Some(1_280),
-        ..UNSOLICITED
-    };
-    assert_eq!(rt;
-        needed(large),
-        Ok(Budget {
-            minislots: 80,
-            elements: 1
-        })
-    );
-    let twice = FlowFields {
-        grants_per_interval: Some(2),
-        ..UNSOLICITED
-    };
-    assert_eq!(rt;
-        needed(twice),
-        Ok(Budget {
-            minislots: 64,
-            elements: 2
-        })
+    check_grants(
+        &rt,
+        &[
+            ((Some(512), Some(1_999), Some(1)), invalid(20)),
+            ((Some(512), Some(2_000), Some(1)), budget(32, 1)),
+            ((Some(1_280), Some(2_000), Some(1)), budget(80, 1)),
+            ((Some(512), Some(2_000), Some(2)), budget(64, 2)),
+        ],
     );
 }
 
 #[test]
 fn an_unsolicited_flow_refused(rt: HostRuntime) {
-    let without_interval = FlowFields {
-        grant_interval: None,
-        ..UNSOLICITED
-    };
-    assert_eq!(rt; needed(without_interval), missing(20));
-    let without_size_and_number = FlowFields {
-        grant_size: None,
-        grants_per_interval: None,
-        ..UNSOLICITED
-    };
-    assert_eq!(rt; needed(without_size_and_number), missing(19));
+    check_grants(
+        &rt,
+        &[
+            ((Some(512), None, Some(1)), missing(20)),
+            ((None, Some(2_000), None), missing(19)),
+            ((Some(512), Some(2_000), Some(0)), invalid(22)),
+            ((Some(512), Some(2_000), Some(128)), invalid(22)),
+            ((Some(0), Some(2_000), Some(1)), invalid(19)),
+        ],
+    );
     let unknown = FlowFields {
         scheduling_type: Some(5),
         ..FlowFields::NONE
     };
-    assert_eq!(rt; needed(unknown), invalid(15));
-    for grants in [0, 128] {
-        let other = FlowFields {
-            grants_per_interval: Some(grants),
-            ..UNSOLICITED
+    same!(rt; needed(unknown), invalid(15));
+}
+
+/// Checks what best-effort flows of these reserved rates need: minislots, and two elements.
+fn check_rates(rt: &impl Abort, rows: &[(u32, u32)]) {
+    for (rate, minislots) in rows {
+        let flow = FlowFields {
+            min_reserved_rate: Some(*rate),
+            ..FlowFields::NONE
         };
-        assert_eq!(rt; needed(other), invalid(22), "of {grants}");
+        same!(rt; (*rate, needed(flow)), (*rate, budget(*minislots, 2)));
     }
-    let empty = FlowFields {
-        grant_size: Some(0),
-        ..UNSOLICITED
-    };
-    assert_eq!(rt; needed(empty), invalid(19));
 }
 
 #[test]
 fn best_effort(rt: HostRuntime) {
-    for (rate, minislots) in [(4_294_967_295, 67_109), (1, 1), (0, 0)] {
-        let flow = FlowFields {
-            min_reserved_rate: Some(rate),
-            ..FlowFields::NONE
-        };
-        assert_eq!(rt;
-            needed(flow),
-            Ok(Budget {
-                minislots,
-                elements: 2
-            }),
-            "of {rate}"
-        );
-    }
+    check_rates(&rt, &[(4_294_967_295, 67_109), (1, 1), (0, 0)]);
+}
+
+/// What a flow needs of this scheduling type and polling interval.
+fn needed_of_polls(scheduling_type: u8, polling_interval: Option<u32>) -> Result<Budget, Refusal> {
+    needed(FlowFields {
+        scheduling_type: Some(scheduling_type),
+        polling_interval,
+        ..FlowFields::NONE
+    })
 }
 
 #[test]
@@ -177,24 +172,10 @@ fn polled_flows(rt: HostRuntime) -> Result<(), Fail> {
         scheduling_type: Some(3),
         ..FlowFields::NONE
     };
-    assert_eq!(rt; read(slow)?.get_polling_interval(), 1_000_000);
-    assert_eq!(rt;
-        needed(slow),
-        Ok(Budget {
-            minislots: 1,
-            elements: 3
-        })
-    );
-    let without = FlowFields {
-        polling_interval: None,
-        ..POLLED
-    };
-    assert_eq!(rt; needed(without), missing(17));
-    let short = FlowFields {
-        polling_interval: Some(1_999),
-        ..POLLED
-    };
-    assert_eq!(rt; needed(short), invalid(17));
+    same!(rt; read(slow)?.get_polling_interval(), 1_000_000);
+    same!(rt; needed_of_polls(3, None), budget(1, 3));
+    same!(rt; needed_of_polls(4, None), missing(17));
+    same!(rt; needed_of_polls(4, Some(1_999)), invalid(17));
     Ok(())
 }
 
@@ -228,7 +209,7 @@ fn what_each_kind_keeps(rt: HostRuntime) -> Result<(), Fail> {
         grant_jitter: 0,
         grants_per_interval: 0,
     };
-    assert_eq!(rt; read(all)?.get_fields(), best_effort);
+    same!(rt; read(all)?.get_fields(), best_effort);
     for (number, scheduling) in [
         (3, Scheduling::NonRealTimePolling),
         (4, Scheduling::RealTimePolling),
@@ -243,7 +224,7 @@ fn what_each_kind_keeps(rt: HostRuntime) -> Result<(), Fail> {
             poll_jitter: 18,
             ..best_effort
         };
-        assert_eq!(rt; read(flow)?.get_fields(), polled);
+        same!(rt; read(flow)?.get_fields(), polled);
     }
     let flow = FlowFields {
         scheduling_type: Some(6),
@@ -258,7 +239,7 @@ fn what_each_kind_keeps(rt: HostRuntime) -> Result<(), Fail> {
         grants_per_interval: 22,
         ..best_effort
     };
-    assert_eq!(rt; read(flow)?.get_fields(), granted);
+    same!(rt; read(flow)?.get_fields(), granted);
     Ok(())
 }
 
@@ -297,186 +278,36 @@ fn tested(inner: ParamFields, outer: ParamFields) -> Result<(), u8>
 
 #[test]
 fn polled_sets_within_another(rt: HostRuntime) {
-    assert_eq!(rt; tested(OUTER, OUTER), Ok(()));
+    same!(rt; tested(OUTER, OUTER), Ok(()));
     let kind = Scheduling::NonRealTimePolling;
-    assert_eq!(rt;
-        tested(
-            ParamFields {
-                scheduling: kind,
-                ..OUTER
-            },
-            OUTER
-        ),
-        Err(15)
-    );
-    assert_eq!(rt;
-        tested(
-            ParamFields {
-                scheduling: kind,
-                priority: 4,
-                ..OUTER
-            },
-            OUTER
-        ),
-        Err(15)
-    );
-    assert_eq!(rt;
-        tested(
-            ParamFields {
-                priority: 4,
-                ..OUTER
-            },
-            OUTER
-        ),
-        Err(7)
-    );
-    assert_eq!(rt;
-        tested(
-            ParamFields {
-                priority: 4,
-                polling_interval: 1,
-                ..OUTER
-            },
-            OUTER
-        ),
-        Err(7)
-    );
-    assert_eq!(rt;
-        tested(
-            ParamFields {
-                max_sustained_rate: 6,
-                ..OUTER
-            },
-            OUTER
-        ),
-        Err(8)
-    );
-    assert_eq!(rt;
-        tested(
-            ParamFields {
-                max_sustained_rate: 6,
-                min_reserved_rate: 6,
-                ..OUTER
-            },
-            OUTER
-        ),
-        Err(8)
-    );
-    assert_eq!(rt;
-        tested(
-            ParamFields {
-                min_reserved_rate: 6,
-                ..OUTER
-            },
-            OUTER
-        ),
-        Err(10)
-    );
-    assert_eq!(rt;
-        tested(
-            ParamFields {
-                min_reserved_rate: 6,
-                polling_interval: 1,
-                ..OUTER
-            },
-            OUTER
-        ),
-        Err(10)
-    );
-    assert_eq!(rt;
-        tested(
-            ParamFields {
-                polling_interval: 19_999,
-                ..OUTER
-            },
-            OUTER
-        ),
-        Err(17)
-    );
-    assert_eq!(rt;
-        tested(
-            ParamFields {
-                polling_interval: 20_001,
-                ..OUTER
-            },
-            OUTER
-        ),
-        Ok(())
-    );
+    same!(rt; tested(ParamFields { scheduling: kind, ..OUTER }, OUTER), Err(15));
+    same!(rt; tested(ParamFields { scheduling: kind, priority: 4, ..OUTER }, OUTER), Err(15));
+    same!(rt; tested(ParamFields { priority: 4, ..OUTER }, OUTER), Err(7));
+    same!(rt; tested(ParamFields { priority: 4, polling_interval: 1, ..OUTER }, OUTER), Err(7));
+    same!(rt; tested(ParamFields { max_sustained_rate: 6, ..OUTER }, OUTER), Err(8));
+    same!(rt; tested(ParamFields { max_sustained_rate: 6, min_reserved_rate: 6, ..OUTER }, OUTER), Err(8));
+    same!(rt; tested(ParamFields { min_reserved_rate: 6, ..OUTER }, OUTER), Err(10));
+    same!(rt; tested(ParamFields { min_reserved_rate: 6, polling_interval: 1, ..OUTER }, OUTER), Err(10));
+    same!(rt; tested(ParamFields { polling_interval: 19_999, ..OUTER }, OUTER), Err(17));
+    same!(rt; tested(ParamFields { polling_interval: 20_001, ..OUTER }, OUTER), Ok(()));
     let not_compared = ParamFields {
         max_burst: 101,
         request_policy: 1,
         poll_jitter: 1,
         ..OUTER
     };
-    assert_eq!(rt; tested(not_compared, OUTER), Ok(()));
+    same!(rt; tested(not_compared, OUTER), Ok(()));
 }
 
 #[test]
 fn sets_of_grants_within_another(rt: HostRuntime) {
-    assert_eq!(rt; tested(OUTER_GRANTS, OUTER_GRANTS), Ok(()));
-    assert_eq!(rt;
-        tested(
-            ParamFields {
-                grant_size: 513,
-                ..OUTER_GRANTS
-            },
-            OUTER_GRANTS
-        ),
-        Err(19)
-    );
-    assert_eq!(rt;
-        tested(
-            ParamFields {
-                grant_size: 513,
-                grant_interval: 1_999,
-                ..OUTER_GRANTS
-            },
-            OUTER_GRANTS
-        ),
-        Err(19)
-    );
-    assert_eq!(rt;
-        tested(
-            ParamFields {
-                grant_interval: 1_999,
-                ..OUTER_GRANTS
-            },
-            OUTER_GRANTS
-        ),
-        Err(20)
-    );
-    assert_eq!(rt;
-        tested(
-            ParamFields {
-                grant_interval: 1_999,
-                grants_per_interval: 3,
-                ..OUTER_GRANTS
-            },
-            OUTER_GRANTS
-        ),
-        Err(20)
-    );
-    assert_eq!(rt;
-        tested(
-            ParamFields {
-                grants_per_interval: 3,
-                ..OUTER_GRANTS
-            },
-            OUTER_GRANTS
-        ),
-        Err(22)
-    );
-    assert_eq!(rt;
-        tested(
-            ParamFields {
-                grant_jitter: 8,
-                ..OUTER_GRANTS
-            },
-            OUTER_GRANTS
-        ),
-        Ok(())
-    );
+    same!(rt; tested(OUTER_GRANTS, OUTER_GRANTS), Ok(()));
+    same!(rt; tested(ParamFields { grant_size: 513, ..OUTER_GRANTS }, OUTER_GRANTS), Err(19));
+    same!(rt; tested(ParamFields { grant_size: 513, grant_interval: 1_999, ..OUTER_GRANTS }, OUTER_GRANTS), Err(19));
+    same!(rt; tested(ParamFields { grant_interval: 1_999, ..OUTER_GRANTS }, OUTER_GRANTS), Err(20));
+    same!(rt; tested(ParamFields { grant_interval: 1_999, grants_per_interval: 3, ..OUTER_GRANTS }, OUTER_GRANTS), Err(20));
+    same!(rt; tested(ParamFields { grants_per_interval: 3, ..OUTER_GRANTS }, OUTER_GRANTS), Err(22));
+    same!(rt; tested(ParamFields { grant_jitter: 8, ..OUTER_GRANTS }, OUTER_GRANTS), Ok(()));
 }
 
 #[test]
@@ -485,9 +316,9 @@ fn a_rate_of_0_is_no_limit(rt: HostRuntime) {
         max_sustained_rate: 0,
         ..OUTER
     };
-    assert_eq!(rt; tested(unlimited, OUTER), Err(8));
-    assert_eq!(rt; tested(OUTER, unlimited), Ok(()));
-    assert_eq!(rt; tested(unlimited, unlimited), Ok(()));
+    same!(rt; tested(unlimited, OUTER), Err(8));
+    same!(rt; tested(OUTER, unlimited), Ok(()));
+    same!(rt; tested(unlimited, unlimited), Ok(()));
 }
 
 #[test]
@@ -498,29 +329,15 @@ fn sets_of_a_provisioned_flow(rt: HostRuntime) -> Result<(), Fail> {
         ..OUTER
     });
     let sets = Sets::provisioned(outer);
-    assert_eq!(rt; sets.activate(outer), invalid(15));
+    same!(rt; sets.activate(outer), invalid(15));
     let admitted = sets.admit(inner)?;
-    assert_eq!(rt; admitted.get_admitted(), Some(inner));
-    assert_eq!(rt; admitted.activate(outer), invalid(7));
+    same!(rt; admitted.get_admitted(), Some(inner));
+    same!(rt; admitted.activate(outer), invalid(7));
     let active = admitted.activate(inner)?;
-    assert_eq!(rt;
-        active.get_fields(),
-        SetsFields {
-            provisioned: Some(outer),
-            admitted: Some(inner),
-            active: Some(inner)
-        }
-    );
-    assert_eq!(rt; active.get_active(), Some(inner));
-    assert_eq!(rt;
-        active.admit(outer)?.get_fields(),
-        SetsFields {
-            provisioned: Some(outer),
-            admitted: Some(outer),
-            active: None
-        }
-    );
-    assert_eq!(rt; active.clear(), sets);
+    same!(rt; active.get_fields(), SetsFields { provisioned: Some(outer), admitted: Some(inner), active: Some(inner) });
+    same!(rt; active.get_active(), Some(inner));
+    same!(rt; active.admit(outer)?.get_fields(), SetsFields { provisioned: Some(outer), admitted: Some(outer), active: None });
+    same!(rt; active.clear(), sets);
     let greater = ParamSet::new(ParamFields {
         priority: 4,
         ..OUTER
@@ -529,8 +346,8 @@ fn sets_of_a_provisioned_flow(rt: HostRuntime) -> Result<(), Fail> {
         code: Code::RejectAuthorizationFailure,
         subtype: 7,
     });
-    assert_eq!(rt; sets.admit(greater), refused);
-    assert_eq!(rt; Code::RejectAuthorizationFailure.number(), 24);
+    same!(rt; sets.admit(greater), refused);
+    same!(rt; Code::RejectAuthorizationFailure.number(), 24);
     Ok(())
 }
 
@@ -538,9 +355,9 @@ fn sets_of_a_provisioned_flow(rt: HostRuntime) -> Result<(), Fail> {
 fn sets_of_a_dynamic_flow(rt: HostRuntime) -> Result<(), Fail> {
     let set = ParamSet::new(OUTER);
     let sets = Sets::dynamic();
-    assert_eq!(rt; sets.get_provisioned(), None);
-    assert_eq!(rt; sets.activate(set), invalid(15));
-    assert_eq!(rt; sets.admit(set)?.activate(set)?.clear(), sets);
+    same!(rt; sets.get_provisioned(), None);
+    same!(rt; sets.activate(set), invalid(15));
+    same!(rt; sets.admit(set)?.activate(set)?.clear(), sets);
     Ok(())
 }
 
@@ -566,8 +383,5 @@ fn a_class_and_what_is_stated(rt: HostRuntime) {
         grant_size: Some(100),
         ..UNSOLICITED
     };
-    assert_eq!(rt;
-        overridden(&FlowTlv::new(class), &FlowTlv::new(stated)).get_fields(),
-        expected
-    );
+    same!(rt; overridden(&FlowTlv::new(class), &FlowTlv::new(stated)).get_fields(), expected);
 }
