@@ -2,7 +2,7 @@
 #![tactic(auto)]
 
 use plant_script::{Ending, behind_name, exit_code, run_program_with_reasons};
-use std::io::{IsTerminal, Read, Write};
+use std::io::{BufReader, BufWriter, IsTerminal, Read, Write};
 use std::process::ExitCode;
 use std::rt::Env;
 use std::sync::Wait;
@@ -84,14 +84,16 @@ fn run<N: Write>(
     for word in &words {
         texts.push(word.as_str())?;
     }
-    let mut reader = Awaited {
+    let awaited = Awaited {
         reader: rt.reader(),
         note,
     };
-    let mut writer = Left {
+    let left = Left {
         writer: io::writer(rt),
         is_left: false,
     };
+    let mut reader = BufReader::new(rt.alloc(), awaited)?;
+    let mut writer = BufWriter::new(rt.alloc(), left)?;
     let mut told = Vec::new(rt.alloc());
     let status = run_program_with_reasons(
         rt,
@@ -102,7 +104,7 @@ fn run<N: Write>(
         &mut told,
         Ending::Ends,
     );
-    if !writer.is_left {
+    if !writer.get_ref().is_left {
         let _lost = reasons.write_all(told.as_slice());
     }
     Ok(status)

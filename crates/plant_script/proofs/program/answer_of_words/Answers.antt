@@ -15,10 +15,22 @@ returns-in-Ok-answer_of_task-clause-served g c = λ order named well served.
     (rw c.in-Ok-Task.field-0-is at c.in-Ok-Task.ensures.served) same c.in-Ok-answer_of_task.ensures told.0 appended
 
 -- words that give an order ask for no help
-pub returns-in_default-clause-unread_for_help : goal.returns-in_default-clause-unread_for_help
-returns-in_default-clause-unread_for_help g c = λ asks.
-    let given : GivesHelp (Ok c.in-Ok.word) = subst GivesHelp c.in-Ok.is (c.read_words.ensures.help asks) in absurd given
-
 pub returns-then-is_err-clause-unread_for_help : goal.returns-then-is_err-clause-unread_for_help
 returns-then-is_err-clause-unread_for_help g c = λ asks.
+    let given : GivesHelp (Ok c.in-Ok.word) = subst GivesHelp c.in-Ok.is (c.read_words.ensures.help asks) in absurd given
+
+pub returns-in_default-new-clause-unread_for_help : goal.returns-in_default-new-clause-unread_for_help
+returns-in_default-new-clause-unread_for_help g c = λ asks.
+    let given : GivesHelp (Ok c.in-Ok.word) = subst GivesHelp c.in-Ok.is (c.read_words.ensures.help asks) in absurd given
+
+pub returns-in-Ok-answer_of_task-clause-helped : goal.returns-in-Ok-answer_of_task-clause-helped
+returns-in-Ok-answer_of_task-clause-helped g c = λ asks no_memory no_io.
+    let given : GivesHelp (Ok c.in-Ok.word) = subst GivesHelp c.in-Ok.is (c.read_words.ensures.help asks) in absurd given
+
+pub returns-in-Ok-answer_of_task-clause-unread_for_help : goal.returns-in-Ok-answer_of_task-clause-unread_for_help
+returns-in-Ok-answer_of_task-clause-unread_for_help g c = λ asks.
+    let given : GivesHelp (Ok c.in-Ok.word) = subst GivesHelp c.in-Ok.is (c.read_words.ensures.help asks) in absurd given
+
+pub returns-in-Ok-Answer-clause-unread_for_help : goal.returns-in-Ok-Answer-clause-unread_for_help
+returns-in-Ok-Answer-clause-unread_for_help g c = λ asks.
     let given : GivesHelp (Ok c.in-Ok.word) = subst GivesHelp c.in-Ok.is (c.read_words.ensures.help asks) in absurd given
