@@ -5,3 +5,4 @@ pub mod LawLemmas
 pub mod RunLemmas
 pub mod PartLemmas
 pub mod JudgeLemmas
+pub mod FaultLemmas

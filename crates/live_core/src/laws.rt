@@ -11,7 +11,8 @@ ghost use Rattle.plant_runs.specs.Ordered.{Ordered};
 ghost use Rattle.plant_runs.specs.Reached.{CoreView};
 ghost use Rattle.plant_runs.specs.Shown.{Shown};
 ghost use Rattle.plant_runs.specs.Steps.{Steps};
-ghost use Rattle.live_core.specs.GoingOn.{GoesOn};
+ghost use Rattle.plant_core.specs.Faults.{step_fault};
+ghost use Rattle.live_core.specs.GoingOn.{IsOf, GoesOn};
 ghost use Rattle.live_core.specs.After.{IsAfter, TwoLiveCores};
 ghost use Rattle.live_core.specs.LiveView.{live_view};
 
@@ -44,6 +45,12 @@ pub fn step_goes_on()
     ensures { (plant : PlantFields) (before : List Step) (told : List Out) (step : Step) (old new : CoreView)
         (now : List Out) → IsPlant plant → GoesOn (Steps step) old new now → IsAfter plant before told old
         → IsAfter plant (before ++ step ∷ []) (told ++ now) new }
+{}
+
+/// A live core refuses just the steps that a core refuses of which it is held, with the same fault.
+#[tactic(auto, using(crate::proofs::FaultLemmas::same_step_fault))]
+pub fn faults_are_the_same()
+    ensures { (live core : CoreView) (step : Step) → IsOf live core → step_fault core step ≡ step_fault live step }
 {}
 
 /// What a live core has put out is shown and in order: to each operator its own machine run alone, and the MAPs of these

@@ -12,4 +12,4 @@ mod opening;
 mod stepping;
 
 pub use held::LiveCore;
-pub use laws::{live_run_is_shown, step_goes_on, two_live_cores};
+pub use laws::{faults_are_the_same, live_run_is_shown, step_goes_on, two_live_cores};

@@ -163,6 +163,26 @@ impl LiveCore {
         }
     }
 
+    /// One step, whose outputs take the place of those that are there. A refused step changes nothing of the core.
+    pub fn step_over(
+        &mut self,
+        alloc: Global,
+        step: Step,
+        outs: &mut Vec<Out>,
+    ) -> Result<(), CoreFault>
+        ensures ok { OnOk result (GoesOn (Steps step) (live_view self.old) (live_view self.new) outs.new.items) }
+        ensures reached { OnOk result ((before : List Step) (told : List Out)
+            → IsAfter (live_view self.old).plant before told (live_view self.old)
+            → IsAfter (live_view self.old).plant (before ++ step ∷ []) (told ++ outs.new.items) (live_view self.new)) }
+        ensures err { OnErr result (live_view self.new ≡ live_view self.old) }
+        ensures fault { IsTold result (step_fault (live_view self.old) step) }
+    {
+        self.always();
+        outs.clear();
+        self.step_into(alloc, step, outs)?;
+        Ok(())
+    }
+
     /// One step, and what it puts out. A refused step changes nothing.
     pub fn step(&mut self, alloc: Global, step: Step) -> Result<Vec<Out>, CoreFault>
         ensures ok { IfOk result (λ outs. GoesOn (Steps step) (live_view self.old) (live_view self.new) outs.items) }

@@ -16,5 +16,5 @@ pub use fields::FieldFault;
 pub use input::{before_bar, plant_text, script_text};
 pub use lines::{LineFault, message_in, messages_of, parts_of, put_parts};
 pub use script::{LineStep, Sender, place_of, put_line, steps_of};
-pub use text::{put_actions, put_map, put_name, put_output, put_outs};
+pub use text::{put_actions, put_map, put_name, put_output};
 pub use writing::write_outs;

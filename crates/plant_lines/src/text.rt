@@ -5,7 +5,7 @@ ghost use Rattle.std.specs.List.{flat_map};
 ghost use Rattle.std.specs.String.{string_bytes};
 ghost use Rattle.operator_machine.specs.declared.output.Output.TheVariants.{Silent};
 ghost use Rattle.operator_machine.specs.Replay.{actions_of};
-ghost use Rattle.plant_lines.specs.Text.{address, spaced, span_text, pending_text, elements_text, named, sender_text, output_line, map_line, out_line, outs_text, heard_line, action_line, actions_text};
+ghost use Rattle.plant_lines.specs.Text.{address, spaced, span_text, pending_text, elements_text, named, sender_text, output_line, map_line, heard_line, action_line, actions_text};
 
 use crate::causes::name_of;
 use crate::digits::{put_address, put_one_pending, put_span};
@@ -13,7 +13,6 @@ use dsx_messages::Modem;
 use hex::encode_upper;
 use map_assembly::MapBytes;
 use operator_machine::{Action, Cause, Entry, Heard, Output, SliceRow};
-use plant_runs::Out;
 use slice_scheduler::{Elements, Span};
 use slice_table::{Op, Plant};
 use std::alloc::{AllocError, Global};
@@ -135,31 +134,6 @@ pub fn put_output(
             text.push_str("\n")
         }
     }
-}
-
-/// The line of an output.
-fn put_out(alloc: Global, text: &mut String, plant: &Plant, out: &Out) -> Result<(), AllocError>
-    ensures { OnOk result (string_bytes text.new ≡ string_bytes text.old ++ out_line plant.now out.now) }
-{
-    match out {
-        Out::Of { op, output } => put_output(alloc, text, plant, *op, output),
-        Out::Map(made) => put_map(alloc, text, made),
-    }
-}
-
-/// The lines of outputs.
-pub fn put_outs(
-    alloc: Global,
-    text: &mut String,
-    plant: &Plant,
-    outs: &[Out],
-) -> Result<(), AllocError>
-    ensures { OnOk result (string_bytes text.new ≡ string_bytes text.old ++ outs_text plant.now outs.now) }
-{
-    for out in outs {
-        put_out(alloc, text, plant, out)?;
-    }
-    Ok(())
 }
 
 /// The line of what was heard of a modem.

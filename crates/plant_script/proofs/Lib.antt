@@ -1,4 +1,5 @@
 pub mod CaptureRuns
+pub mod LiveRuns
 pub mod Services
 pub mod StepRuns
 pub mod Tasks

@@ -1,8 +1,7 @@
 -- The steps of a script's lines, one after the other.
-use Rattle.std.proofs.Common.{◌≡◌, ◌≢◌, ℕ, zero, suc, ◌<◌, ◌≤◌, length, arith, List, [], ◌∷◌, ◌++◌, take, drop, Option, Some, None, IsSome, Err, refl, sym, ap, subst, ◌∙◌, append-nil}
+use Rattle.std.proofs.Common.{◌≡◌, ◌≢◌, inl, ℕ, zero, suc, ◌<◌, ◌≤◌, length, arith, List, [], ◌∷◌, ◌++◌, take, drop, Option, Some, None, IsSome, Err, refl, sym, ap, subst, ◌∙◌, append-nil}
 use Rattle.std.specs.Prelude.{slice_get}
 use Rattle.std.proofs.lemmas.List.{map-append}
-use Rattle.std.proofs.lemmas.Grind.{flat_map-append}
 use Rattle.std.proofs.lemmas.Option.{slice_get_past, slice_get_within}
 use Rattle.slice_table.specs.declared.operator_row.RowFields.{RowFields}
 use Rattle.slice_table.specs.declared.plant.PlantFields.{PlantFields}
@@ -14,7 +13,7 @@ use Rattle.plant_core.specs.declared.core_fault.CoreFault.TheVariants.{UnknownMo
 use Rattle.plant_core.specs.Faults.{step_fault, IsTold}
 use Rattle.plant_lines.specs.declared.script.LineStep.{LineStep}
 use Rattle.plant_lines.specs.Script.{unnumbered}
-use Rattle.plant_lines.specs.Text.{out_line, outs_text, actions_text}
+use Rattle.plant_lines.specs.Text.{actions_text}
 use Rattle.plant_script.specs.declared.answer.Answer.{Answer}
 use Rattle.plant_script.specs.Run.{last_line, IsEnd, IsRunOf}
 use Rattle.plant_script.specs.Task.{history_at, IsEnded}
@@ -86,18 +85,6 @@ module _ (plant : PlantFields) (lines : List LineStep) (say : List Out → List 
     left_are = drop_next lines half.at line rest half.left_are;
   }
 
--- all outputs are said
-pub outs_more : (plant : PlantFields) (lines : List LineStep) (old new : CoreView) (text later : List ℕ) (line : LineStep) (rest : List LineStep) (now : List Out)
-    → IsHalfDone plant lines (outs_text plant) old text (line ∷ rest)
-    → ((before : List Step) (told : List Out) → Reached old.plant before told old → Reached old.plant (before ++ line.step ∷ []) (told ++ now) new)
-    → later ≡ text ++ outs_text new.plant now → IsHalfDone plant lines (outs_text plant) new later rest
-outs_more plant lines old new text later line rest now half reached is =
-    let same : new.plant ≡ plant = (reached_more plant lines (outs_text plant) old new text line rest now half reached).plant_is in
-    half_more plant lines (outs_text plant) old new text line rest now half reached later
-    (is ∙ ap (λ (p : PlantFields). text ++ outs_text p now) same
-    ∙ ap (λ (t : List ℕ). t ++ outs_text plant now) half.done.text_is
-    ∙ sym (flat_map-append (out_line plant) half.done.outs now))
-
 -- nothing is said
 pub unheard_more : (plant : PlantFields) (lines : List LineStep) (old new : CoreView) (line : LineStep) (rest : List LineStep) (now : List Out)
     → IsHalfDone plant lines (λ told. []) old [] (line ∷ rest)
@@ -167,6 +154,7 @@ history_written plant lines op refused core answer run ended =
       outs = run.done.outs;
       core = core;
       reached = run.done.reached;
-      ends = end.0;
+      last = last_line (slice_get lines run.at);
+      ends = inl (end.0, refl);
       text_is = end.1 ∙ ap (λ (t : List ℕ). t ++ last_line (slice_get lines run.at)) (history_is plant (unnumbered (take run.at lines)) run.done.outs core op (slice_get plant.rows op) run.done.reached refl);
     }

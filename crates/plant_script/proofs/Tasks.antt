@@ -1,5 +1,5 @@
 -- What a task's run answers.
-use Rattle.std.proofs.Common.{◌≡◌, ℕ, suc, ◌+◌, inl, inr, Bool, List, [], ◌∷◌, Option, Some, None, Result, Ok, IfSome, sym, subst, arith, refl}
+use Rattle.std.proofs.Common.{◌≡◌, ◌≢◌, ℕ, suc, ◌+◌, inl, inr, Bool, List, [], ◌∷◌, ◌++◌, Option, Some, None, Result, Ok, IfSome, sym, subst, arith, refl}
 use Rattle.std.specs.Prelude.{slice_get}
 use Rattle.std.specs.Io.KnownBytes.{Appends}
 use Rattle.std.specs.List.{position_from}
@@ -12,13 +12,13 @@ use Rattle.plant_script.specs.declared.task.Told.TheVariants.{History}
 use Rattle.plant_script.specs.declared.task.Task.{Task}
 use Rattle.plant_script.specs.declared.task.Served.{Served}
 use Rattle.plant_script.specs.declared.task.Served.TheVariants as served
-use Rattle.plant_script.specs.Run.{IsRunOf}
-use Rattle.plant_script.specs.Task.{history_at, RunsTo, Comes}
+use Rattle.plant_script.specs.Run.{memory_line, IsRunOf}
+use Rattle.plant_script.specs.Task.{history_at, RunsTo, IsTold, Comes}
 use Rattle.plant_words.specs.Order.{Order, order_of}
 use Rattle.plant_words.specs.declared.asked.Word.{Word}
 use Rattle.plant_words.specs.declared.asked.WordsFault.{WordsFault}
-use Rattle.plant_words.specs.CommandLine.{GivesOrder}
-use Rattle.plant_script.specs.Words.{Answers, AnswersSteps}
+use Rattle.plant_words.specs.CommandLine.{Names, GivesOrder}
+use Rattle.plant_script.specs.Words.{Answers, AnswersSteps, TellsMemory}
 
 same_some : {A : Type 0} (x y : A) → ◌≡◌ {A = Option A} (Some x) (Some y) → x ≡ y
 same_some x y h = cc
@@ -58,10 +58,26 @@ pub same_order : (order : Order) (read : Result Word WordsFault) (word : Word) �
 same_order order read word gives is = subst (GivesOrder order) is gives
 
 -- what the run of a task came to is the answer, and is written
-pub run_serves : (left : Option (List ℕ)) (order asked : Order) (task : Task) (status result : ℕ) (text : List ℕ) (before after : Option (List ℕ))
-    → IfSome left (λ input. Comes (served.Task task) (Answers order input)) → order ≡ asked
-    → RunsTo task.plant task.told task.lines.items status text → result ≡ status → Appends before after text
-    → IfSome left (λ input. (x : List ℕ) × Answers asked input result x × Appends before after x)
-run_serves None order asked task status result text before after serves same ran is appended = tt
-run_serves (Some input) order asked task status result text before after serves same ran is appended =
-    (text, subst (λ (n : ℕ). Answers asked input n text) (sym is) (subst (λ (o : Order). Answers o input status text) same (serves status text ran)), appended)
+pub task_served : (left : Option (List ℕ)) (order asked : Order) (task : Task) (status : ℕ) (before after : Option (List ℕ)) → IfSome left (λ input. Comes (served.Task task) (Answers order input)) → order ≡ asked
+    → IsTold task.plant task.told task.lines.items status (λ text. Appends before after text) → status ≢ 5
+    → IfSome left (λ input. (x : List ℕ) × Answers asked input status x × Appends before after x)
+task_served None order asked task status before after serves same told other = tt
+task_served (Some input) order asked task status before after serves same (inl (text, well, runs, wrote)) other =
+    (text, subst (λ (o : Order). Answers o input status text) same (serves status text runs), wrote)
+task_served (Some input) order asked task status before after serves same (inr (behind, five, wrote, how)) other = absurd (other five)
+
+-- the line of want of memory stands alone
+pub told_alone : (words : List (List ℕ)) (left : Option (List ℕ)) (before after : Option (List ℕ)) → Appends before after memory_line → TellsMemory words left (λ text. Appends before after text)
+told_alone words left before after wrote = ([], wrote, inl refl)
+
+-- or behind what a run had put out
+pub task_wants : (words : List (List ℕ)) (left : Option (List ℕ)) (order : Order) (task : Task) (status : ℕ) (before after : Option (List ℕ)) → IfSome left (λ input. Comes (served.Task task) (Answers order input))
+    → Names words order → IsTold task.plant task.told task.lines.items status (λ text. Appends before after text) → status ≡ 5
+    → TellsMemory words left (λ text. Appends before after text)
+task_wants words left order task status before after serves named (inl (text, well, runs, wrote)) five = absurd (well five)
+task_wants words left order task status before after serves named (inr (behind, is, wrote, inl none)) five = (behind, wrote, inl none)
+task_wants words left order task status before after serves named (inr (behind, is, wrote, inr runs)) five = (behind, wrote, inr (order, named, at left serves))
+  where
+    at : (l : Option (List ℕ)) → IfSome l (λ input. Comes (served.Task task) (Answers order input)) → IfSome l (λ input. Answers order input 5 (behind ++ memory_line))
+    at None comes = tt
+    at (Some input) comes = comes 5 (behind ++ memory_line) runs

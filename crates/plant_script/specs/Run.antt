@@ -1,5 +1,5 @@
 -- A run of a script's steps, and what `run`, `history` and `capture` write of it (own).
-use Rattle.std.specs.Prelude.{◌≡◌, ℕ, List, [], ◌∷◌, ◌++◌, take, slice_get, Option, Some, None, IsSome, codes}
+use Rattle.std.specs.Prelude.{◌≡◌, ◌⊎◌, ℕ, List, [], ◌∷◌, ◌++◌, take, slice_get, Option, Some, None, IsSome, codes}
 use Rattle.std.specs.Fmt.{decimal}
 use Rattle.slice_table.specs.declared.plant.PlantFields.{PlantFields}
 use Rattle.plant_runs.specs.declared.step.Step.{Step}
@@ -20,15 +20,25 @@ abbrev pub last_line : Option LineStep → List ℕ
 last_line None = []
 last_line (Some line) = codes "fault: line " ++ (decimal line.number ++ 10 ∷ [])
 
+-- what is written where memory is wanting
+abbrev pub memory_line : List ℕ
+memory_line = codes "fault: memory" ++ 10 ∷ []
+
+-- The status of a run and its last line: the run ends, and the line of the refused step is written, if there is one; or memory was
+-- wanting, which may be at any time and has status 5.
+abbrev pub EndsBy : CoreView → Option LineStep → ℕ → List ℕ → Type 0
+EndsBy core next status last = (IsEnd core next status × (last ≡ last_line next)) ⊎ ((status ≡ 5) × (last ≡ memory_line))
+
 -- so many steps are done, one after the other, on a core of the plant as it is opened: the run shows to each operator its own
--- machine run alone, with all outputs in order (`Reached`). What is said of them is written, and the line at fault, if there is one.
+-- machine run alone, with all outputs in order (`Reached`). What is said of them is written, and behind it the last line.
 pub record IsRunOf (plant : PlantFields) (lines : List LineStep) (say : List Step → List Out → List ℕ) (status : ℕ) (text : List ℕ) : Type 0 where
   pub at : ℕ
   pub outs : List Out
   pub core : CoreView
   pub reached : Reached plant (unnumbered (take at lines)) outs core
-  pub ends : IsEnd core (slice_get lines at) status
-  pub text_is : text ≡ say (unnumbered (take at lines)) outs ++ last_line (slice_get lines at)
+  pub last : List ℕ
+  pub ends : EndsBy core (slice_get lines at) status last
+  pub text_is : text ≡ say (unnumbered (take at lines)) outs ++ last
 
 -- So many steps are done, as in `IsRunOf`, and what is written is the capture of just these steps and of what they put out: whole, with
 -- no line behind it where a step is refused.

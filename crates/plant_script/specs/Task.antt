@@ -1,5 +1,5 @@
 -- What of a run is written, and what a run answers to an input.
-use Rattle.std.specs.Prelude.{◌≡◌, ℕ, List, [], ◌∷◌, ◌++◌, slice_get, Option, Some, None, codes}
+use Rattle.std.specs.Prelude.{◌≡◌, ◌≢◌, ◌⊎◌, ℕ, List, [], ◌∷◌, ◌++◌, slice_get, Option, Some, None, codes}
 use Rattle.std.specs.Fmt.{decimal}
 use Rattle.slice_table.specs.declared.operator_row.RowFields.{RowFields}
 use Rattle.slice_table.specs.declared.plant.PlantFields.{PlantFields}
@@ -13,7 +13,7 @@ use Rattle.plant_script.specs.declared.task.Wanted.{Wanted}
 use Rattle.plant_script.specs.declared.task.Wanted.TheVariants as wanted
 use Rattle.plant_script.specs.declared.task.Served.{Served}
 use Rattle.plant_script.specs.declared.task.Served.TheVariants as served
-use Rattle.plant_script.specs.Run.{IsRunOf, IsCapturedRunOf}
+use Rattle.plant_script.specs.Run.{memory_line, IsRunOf, IsCapturedRunOf}
 use Rattle.plant_script.specs.OnThreads.{IsThreadedRunOf}
 use Rattle.plant_script.specs.Words.{AnswersRun, AnswersThreads, AnswersCapture, AnswersHistory}
 
@@ -29,6 +29,13 @@ RunsTo plant (History op) lines status text =
     IsRunOf plant lines (λ done told. history_at (slice_get plant.rows op) op done) status text
 RunsTo plant Threads lines status text = IsThreadedRunOf plant lines status text
 RunsTo plant Capture lines status text = IsCapturedRunOf plant lines status text
+
+-- what the run comes to is written; or memory was wanting, and its line is written alone, or behind what the run had put out until then
+abbrev pub IsTold : PlantFields → Told → List LineStep → ℕ → (List ℕ → Type 0) → Type 0
+IsTold plant told lines status wrote =
+    ((text : List ℕ) × (status ≢ 5) × RunsTo plant told lines status text × wrote text)
+    ⊎ ((before : List ℕ) × (status ≡ 5) × wrote (before ++ memory_line)
+    × ((before ≡ []) ⊎ RunsTo plant told lines 5 (before ++ memory_line)))
 
 -- what is answered to a plant and a script, by what is wanted of them
 abbrev pub asked : Wanted → PlantFields → List ℕ → ℕ → List ℕ → Type 0
@@ -47,3 +54,7 @@ Comes (served.Task task) answers =
 abbrev pub IsEnded : List ℕ → Option ℕ → Answer → Type 0
 IsEnded text None answer = (answer.status ≡ 0) × (answer.text.items ≡ text)
 IsEnded text (Some number) answer = (answer.status ≡ 4) × (answer.text.items ≡ text ++ (codes "fault: line " ++ (decimal number ++ 10 ∷ [])))
+
+-- what `run` comes to is written
+abbrev pub EndsRun : PlantFields → List LineStep → ℕ → (List ℕ → Type 0) → Type 0
+EndsRun plant lines status wrote = (text : List ℕ) × IsRunOf plant lines (λ done told. outs_text plant told) status text × wrote text

@@ -1,5 +1,5 @@
 -- What each order answers to an input (own).
-use Rattle.std.specs.Prelude.{◌≡◌, ℕ, List, [], ◌∷◌, ◌++◌, MatchBool, slice_get, Option, Some, None, Result, Ok, Err, codes}
+use Rattle.std.specs.Prelude.{◌≡◌, ◌⊎◌, ℕ, List, [], ◌∷◌, ◌++◌, MatchBool, slice_get, Option, Some, None, IfSome, Result, Ok, Err, codes}
 use Rattle.std.specs.List.{position_from}
 use Rattle.std.specs.String.{string_bytes}
 use Rattle.toml.specs.Parse.{parse_document}
@@ -11,20 +11,17 @@ use Rattle.plant_lines.specs.declared.script.LineStep.{LineStep}
 use Rattle.plant_words.specs.declared.asked.WordsFault.{WordsFault}
 use Rattle.plant_words.specs.declared.asked.WordsFault.TheVariants as faults
 use Rattle.plant_words.specs.Order.{Order, one, check, run, threads, capture, serve, history}
+use Rattle.plant_words.specs.CommandLine.{Names}
 use Rattle.plant_lines.specs.Input.{plant_text, script_text}
 use Rattle.plant_lines.specs.Script.{is_named, steps_of}
 use Rattle.plant_lines.specs.Text.{outs_text, history_text}
 use Rattle.plant_script.specs.One.{Answer, is_readable, answer_of}
 use Rattle.plant_script.specs.Check.{answer_to_steps, answer_to_plant, check_of}
-use Rattle.plant_script.specs.Run.{IsRunOf, IsCapturedRunOf}
+use Rattle.plant_script.specs.Run.{memory_line, IsRunOf, IsCapturedRunOf}
 use Rattle.plant_script.specs.OnThreads.{IsThreadedRunOf}
 use Rattle.plant_script.specs.Serving.{IsServed}
 
 -- ---- no answer
-
--- what is written where memory is wanting
-abbrev pub memory_line : List ℕ
-memory_line = codes "fault: memory" ++ 10 ∷ []
 
 -- ---- words that give no order
 
@@ -101,3 +98,10 @@ Answers threads input status text = AnswersInput AnswersThreads input status tex
 Answers capture input status text = AnswersInput AnswersCapture input status text
 Answers serve input status text = AnswersServe input status text
 Answers (history operator) input status text = AnswersInput (AnswersHistory operator) input status text
+
+-- ---- want of memory
+
+-- its line is written alone; or behind what a run, which writes as it goes, had put out until then
+abbrev pub TellsMemory : List (List ℕ) → Option (List ℕ) → (List ℕ → Type 0) → Type 0
+TellsMemory words read wrote = (before : List ℕ) × wrote (before ++ memory_line) × ((before ≡ [])
+    ⊎ ((order : Order) × Names words order × IfSome read (λ input. Answers order input 5 (before ++ memory_line))))

@@ -7,14 +7,15 @@ ghost use Rattle.plant_script.specs.Task.{Comes};
 ghost use Rattle.plant_words.specs.declared.asked.Word.TheVariants as words;
 ghost use Rattle.plant_words.specs.Order.{Order, order_of};
 ghost use Rattle.plant_words.specs.CommandLine.{Names, AsksHelp, AreWrong};
-ghost use Rattle.plant_script.specs.Words.{memory_line, AnswersFault, Answers};
+ghost use Rattle.plant_script.specs.Run.{memory_line};
+ghost use Rattle.plant_script.specs.Words.{AnswersFault, Answers, TellsMemory};
 ghost use Rattle.plant_script.specs.One.{answer_of, is_readable};
 
 use crate::answer::Answer;
 use crate::check::check_of;
 use crate::input::{Stop, read_input};
 use crate::one::text_of;
-use crate::running::{Ending, answer_of_task};
+use crate::running::{Ending, write_task};
 use crate::serving::serve_words;
 use crate::task::{Served, Wanted, task_of};
 use grant_policy::{RankInput, Ranking, rank_by};
@@ -202,6 +203,7 @@ fn answer_to_words<W: Write>(writer: &mut W, fault: WordsFault) -> u8
 }
 
 /// Answers the words, and notes what was seen on the way.
+#[tactic(auto, using(crate::proofs::Tasks::told_alone))]
 fn answer_of_words<'a, H: Threads + Wait + Sync, R: Read, W: Write>(
     rt: &H,
     alloc: Global,
@@ -225,8 +227,9 @@ fn answer_of_words<'a, H: Threads + Wait + Sync, R: Read, W: Write>(
     // Nothing is read for words that are wrong or ask for help.
     ensures unread_if_wrong { AreWrong (texts words.entry.now) → reader.new ≡ reader.old }
     ensures unread_for_help { AsksHelp (texts words.entry.now) → reader.new ≡ reader.old }
-    // Want of memory is told as such, and nothing else is.
-    ensures memory { result ≡ 5 → Appends (W.contents writer.old) (W.contents writer.new) memory_line }
+    // Want of memory is told as such, and nothing else is; what `run` had written until then stands before it.
+    ensures memory { result ≡ 5 → TellsMemory (texts words.entry.now) (R.remaining reader.old)
+        (λ text. Appends (W.contents writer.old) (W.contents writer.new) text) }
 {
     let word = match read_words(alloc, words) {
         Ok(word) => word,
@@ -263,10 +266,7 @@ fn answer_of_words<'a, H: Threads + Wait + Sync, R: Read, W: Write>(
             return stopped(writer, Stop::Memory);
         }
     }
-    match answer_of_task(rt, alloc, task, rankings, ending) {
-        Ok(answer) => finish(writer, answer.status, answer.text.as_slice()),
-        Err(_full) => stopped(writer, Stop::Memory),
-    }
+    write_task(rt, alloc, task, rankings, ending, writer)
 }
 
 /// Runs the program: the words after its name, its input and its output. Answers the exit status:
@@ -279,7 +279,10 @@ fn answer_of_words<'a, H: Threads + Wait + Sync, R: Read, W: Write>(
 ///
 /// Under the word `threads` it may wait, and nothing is said of its returning; under all others it waits for nobody.
 ///
-/// Statuses 5 and 6 may come at any time, since no clause says what memory or a writer does; where they come, what stands
+/// Under the word `run` what the steps put out is written as it is made, and no history is kept: where memory is wanting for a later
+/// step, the lines of those before it stand before the last line, `fault: memory`.
+///
+/// Statuses 5 and 6 may come at any time, since no clause says what memory or a writer does; where 6 comes, what stands
 /// before the last line is not fixed. Of help's text no clause says anything.
 pub fn run_program<'a, H: Threads + Wait + Sync, R: Read, W: Write>(
     rt: &H,
@@ -301,8 +304,9 @@ pub fn run_program<'a, H: Threads + Wait + Sync, R: Read, W: Write>(
     // Nothing is read for words that are wrong or ask for help.
     ensures unread_if_wrong { AreWrong (texts words.entry.now) → reader.new ≡ reader.old }
     ensures unread_for_help { AsksHelp (texts words.entry.now) → reader.new ≡ reader.old }
-    // Want of memory is told as such, and nothing else is.
-    ensures memory { result ≡ 5 → Appends (W.contents writer.old) (W.contents writer.new) memory_line }
+    // Want of memory is told as such, and nothing else is; what `run` had written until then stands before it.
+    ensures memory { result ≡ 5 → TellsMemory (texts words.entry.now) (R.remaining reader.old)
+        (λ text. Appends (W.contents writer.old) (W.contents writer.new) text) }
 {
     let mut seen = Seen::new();
     let ending = Ending::GoesOn;
@@ -335,8 +339,9 @@ pub fn run_program_with_reasons<'a, H: Threads + Wait + Sync, R: Read, W: Write,
     // Nothing is read for words that are wrong or ask for help.
     ensures unread_if_wrong { AreWrong (texts words.entry.now) → reader.new ≡ reader.old }
     ensures unread_for_help { AsksHelp (texts words.entry.now) → reader.new ≡ reader.old }
-    // Want of memory is told as such, and nothing else is.
-    ensures memory { result ≡ 5 → Appends (W.contents writer.old) (W.contents writer.new) memory_line }
+    // Want of memory is told as such, and nothing else is; what `run` had written until then stands before it.
+    ensures memory { result ≡ 5 → TellsMemory (texts words.entry.now) (R.remaining reader.old)
+        (λ text. Appends (W.contents writer.old) (W.contents writer.new) text) }
 {
     let mut seen = Seen::new();
     let status = answer_of_words(rt, alloc, words, reader, writer, &mut seen, ending);

@@ -1,24 +1,35 @@
 //! A script's run on a plant's core.
 
 ghost use Rattle.std.specs.Prelude.{◌≡◌, ◌≢◌, ◌++◌, [], map, slice_get, Some, IfOk, OnOk};
+ghost use Rattle.std.specs.Io.KnownBytes.{Appends};
 ghost use Rattle.std.specs.String.{string_bytes};
+ghost use Rattle.slice_table.specs.declared.plant.PlantFields.{PlantFields};
 ghost use Rattle.plant_runs.specs.Reached.{Reached};
 ghost use Rattle.plant_core.specs.declared.core_fault.CoreFault.TheVariants.{NoMemory};
 ghost use Rattle.plant_core.specs.CoreView.{core_view};
-ghost use Rattle.plant_lines.specs.Text.{outs_text};
+ghost use Rattle.live_core.specs.After.{IsAfter, IsReachable};
+ghost use Rattle.live_core.specs.LiveView.{live_view};
 ghost use Rattle.plant_script.specs.DoneSoFar.{HasRun, book_text};
+ghost use Rattle.plant_script.specs.Ends.{status_of, line_of};
 ghost use Rattle.plant_script.specs.Run.{IsRunOf};
-ghost use Rattle.plant_script.specs.Task.{history_at, RunsTo, IsEnded};
+ghost use Rattle.plant_script.specs.Task.{history_at, RunsTo, IsTold, EndsRun, IsEnded};
+ghost use Rattle.plant_script.specs.declared.task.Told.TheVariants as tellings;
 
 use crate::answer::Answer;
 use crate::capturing::answer_of_capture;
+use crate::input::Stop;
 use crate::on_threads::answer_of_threads;
+use crate::program::{finish, stopped};
 use crate::task::{Task, Told};
 use grant_policy::Ranking;
+use live_core::LiveCore;
 use plant_core::{CoreFault, CoreOpenFault, PlantCore};
-use plant_lines::{LineStep, put_actions, put_outs};
+use plant_lines::{LineStep, put_actions};
+use plant_service::{StepsEnd, run_steps};
 use slice_table::{Op, Plant};
 use std::alloc::{AllocError, Global};
+use std::io;
+use std::io::Write;
 use std::mem::{drop, forget};
 use std::sync::Wait;
 use std::thread::Threads;
@@ -33,30 +44,8 @@ pub(crate) fn refused(number: u64, fault: CoreFault) -> Result<Option<u64>, Allo
     }
 }
 
-/// Does the steps of lines, and adds a line for each output. Answers the number of the first line whose step is refused,
+/// Does the steps of lines, and drops their outputs. Answers the number of the first line whose step is refused,
 /// at which it stops; none where all are done.
-fn run_outs(
-    alloc: Global,
-    core: &mut PlantCore,
-    lines: Vec<LineStep>,
-    text: &mut String,
-) -> Result<Option<u64>, AllocError>
-    requires opened { Reached (core_view core.old).plant [] [] (core_view core.old) }
-    requires empty { string_bytes text.old ≡ [] }
-    ensures { IfOk result (λ refused. HasRun (core_view core.old).plant lines.items (outs_text (core_view core.old).plant)
-        refused (core_view core.new) (string_bytes text.new)) }
-{
-    let mut outs = Vec::new(alloc);
-    for LineStep { number, step } in lines {
-        match core.step_over(alloc, step, &mut outs) {
-            Ok(()) => put_outs(alloc, text, core.plant(), outs.as_slice())?,
-            Err(fault) => return refused(number, fault),
-        }
-    }
-    Ok(None)
-}
-
-/// Does the steps of lines, and drops their outputs. Answers as `run_outs` does.
 fn run_unheard(
     alloc: Global,
     core: &mut PlantCore,
@@ -86,21 +75,6 @@ fn ended(mut text: String, refused: Option<u64>) -> Result<Answer, AllocError>
     }
     let text = text.into_bytes();
     Ok(Answer { status, text })
-}
-
-/// What `run` answers.
-fn answer_of_outs(
-    alloc: Global,
-    core: &mut PlantCore,
-    lines: Vec<LineStep>,
-) -> Result<Answer, AllocError>
-    requires { Reached (core_view core.old).plant [] [] (core_view core.old) }
-    ensures { IfOk result (λ answer. IsRunOf (core_view core.old).plant lines.items
-        (λ done told. outs_text (core_view core.old).plant told) answer.status answer.text.items) }
-{
-    let mut text = String::new(alloc);
-    let refused = run_outs(alloc, core, lines, &mut text)?;
-    ended(text, refused)
 }
 
 /// The lines of all that an operator did; none past the last operator.
@@ -153,32 +127,29 @@ pub enum Ending {
 }
 
 /// Takes a core apart, or leaves it to the end of the process.
-fn put_away(core: PlantCore, ending: Ending) {
+fn put_away<C: Drop>(core: C, ending: Ending) {
     match ending {
         Ending::GoesOn => drop(core),
         Ending::Ends => forget(core),
     }
 }
 
-/// What the run of a task answers. The rankings stand in the plant's order of operators. Only a run on threads may wait.
-pub fn answer_of_task<R: Threads + Wait + Sync>(
+/// What the run of a task answers that is not written as it goes. The rankings stand in the plant's order of operators. Only a run on
+/// threads may wait.
+fn answer_of_task<R: Threads + Wait + Sync>(
     rt: &R,
     alloc: Global,
     task: Task,
     rankings: Vec<Ranking>,
     ending: Ending,
 ) -> Result<Answer, AllocError>
-    requires { map (λ ranking. ranking.policy) rankings.items ≡ map (λ row. row.policy) task.plant.rows }
+    requires policies { map (λ ranking. ranking.policy) rankings.items ≡ map (λ row. row.policy) task.plant.rows }
+    requires whole { task.told ≢ tellings.Outs }
     ensures { IfOk result (λ answer. RunsTo task.plant task.told task.lines.items answer.status answer.text.items) }
 {
     let Task { plant, lines, told } = task;
     match told {
-        Told::Outs => {
-            let mut core = core_of(alloc, plant, rankings)?;
-            let answer = answer_of_outs(alloc, &mut core, lines)?;
-            put_away(core, ending);
-            Ok(answer)
-        }
+        Told::Outs => unreachable!(),
         Told::History(op) => {
             let mut core = core_of(alloc, plant, rankings)?;
             let answer = answer_of_history(alloc, &mut core, op, lines)?;
@@ -192,5 +163,92 @@ pub fn answer_of_task<R: Threads + Wait + Sync>(
             Ok(answer)
         }
         Told::Threads => answer_of_threads(rt, alloc, plant, lines, rankings),
+    }
+}
+
+/// Writes the last line of a run whose steps ended so, if it has one. Answers the status.
+fn write_end<W: Write>(writer: &mut W, end: StepsEnd) -> io::Result<u8>
+    ensures status { IfOk result (λ status. status ≡ status_of end) }
+    ensures written { OnOk result (Appends (W.contents writer.old) (W.contents writer.new) (line_of end)) }
+{
+    match end {
+        StepsEnd::Done => Ok(0),
+        StepsEnd::Refused { number } => {
+            write!(writer, "fault: line {number}\n")?;
+            Ok(4)
+        }
+        StepsEnd::NoMemory => {
+            writer.write_all(b"fault: memory\n")?;
+            Ok(5)
+        }
+    }
+}
+
+/// Does the steps of lines on a core as it is opened, and writes what each puts out as it is made, and the last line. Answers the
+/// status.
+fn write_run<W: Write>(
+    alloc: Global,
+    core: &mut LiveCore,
+    lines: Vec<LineStep>,
+    writer: &mut W,
+) -> io::Result<u8>
+    requires reached { IsReachable (live_view core.old) }
+    ensures { IfOk result (λ status. (plant : PlantFields) → IsAfter plant [] [] (live_view core.old)
+        → EndsRun plant lines.items status (λ text. Appends (W.contents writer.old) (W.contents writer.new) text)) }
+{
+    let end = run_steps(alloc, core, lines, writer)?;
+    let status = write_end(writer, end)?;
+    writer.flush()?;
+    Ok(status)
+}
+
+/// Runs a task whose outputs are told, and writes them as they are made. No history is kept. Answers the exit status.
+fn write_outs_run<W: Write>(
+    alloc: Global,
+    task: Task,
+    rankings: Vec<Ranking>,
+    ending: Ending,
+    writer: &mut W,
+) -> u8
+    requires policies { map (λ ranking. ranking.policy) rankings.items ≡ map (λ row. row.policy) task.plant.rows }
+    requires outs { task.told ≡ tellings.Outs }
+    ensures { result ≢ 6 → IsTold task.plant task.told task.lines.items result
+        (λ text. Appends (W.contents writer.old) (W.contents writer.new) text) }
+{
+    let Task { plant, lines, told: _ } = task;
+    let mut core = match LiveCore::open(alloc, plant, rankings) {
+        Ok(core) => core,
+        Err(CoreOpenFault::NoMemory) => return stopped(writer, Stop::Memory),
+        Err(CoreOpenFault::RankingsMismatch) => unreachable!(),
+    };
+    match write_run(alloc, &mut core, lines, writer) {
+        Ok(status) => {
+            put_away(core, ending);
+            status
+        }
+        Err(_failed) => stopped(writer, Stop::Io),
+    }
+}
+
+/// Runs a task, and writes what that comes to. The rankings stand in the plant's order of operators. Only a run on threads may wait.
+/// Answers the exit status.
+pub fn write_task<R: Threads + Wait + Sync, W: Write>(
+    rt: &R,
+    alloc: Global,
+    task: Task,
+    rankings: Vec<Ranking>,
+    ending: Ending,
+    writer: &mut W,
+) -> u8
+    requires { map (λ ranking. ranking.policy) rankings.items ≡ map (λ row. row.policy) task.plant.rows }
+    ensures { result ≢ 6 → IsTold task.plant task.told task.lines.items result
+        (λ text. Appends (W.contents writer.old) (W.contents writer.new) text) }
+{
+    if let Told::Outs = task.told {
+        return write_outs_run(alloc, task, rankings, ending, writer);
+    }
+    match answer_of_task(rt, alloc, task, rankings, ending) {
+        Ok(answer) => finish(writer, answer.status, answer.text.as_slice()),
+        Err(_full) => stopped(writer, Stop::Memory),
     }
 }

@@ -2,8 +2,9 @@
 
 ghost use Rattle.std.specs.Prelude.{◌≡◌, ◌≢◌, List, ℕ, map, IfOk, IfSome};
 ghost use Rattle.std.specs.Io.KnownBytes.{Appends};
+ghost use Rattle.plant_script.specs.Run.{memory_line};
 ghost use Rattle.plant_script.specs.Serving.{IsFrontOf, IsServed};
-ghost use Rattle.plant_script.specs.Words.{memory_line, AnswersServe};
+ghost use Rattle.plant_script.specs.Words.{AnswersServe};
 
 use crate::answer::Answer;
 use crate::check::answer_to_fault;

@@ -1,6 +1,7 @@
 -- What a line is answered.
-use Rattle.std.proofs.Common.{◌≡◌, ℕ, List, [], ◌++◌, take, length, arith, ◌<◌, ◌≤◌, Bool, true, false, nat_le, Option, Ok, Err, refl, sym, subst, ◌∙◌, append-nil}
+use Rattle.std.proofs.Common.{◌≡◌, ℕ, List, [], ◌++◌, take, length, arith, ◌<◌, ◌≤◌, Bool, true, false, nat_le, Option, Some, None, Ok, Err, refl, sym, subst, append-nil}
 use Rattle.std.proofs.lemmas.Bool.Decides.{nat_tests}
+use Rattle.std.specs.Prelude.{slice_get}
 use Rattle.std.specs.Io.KnownBytes.{Appends}
 use Rattle.std.proofs.KnownBytes.{Appends-nil, Appends-trans}
 use Rattle.slice_table.specs.declared.plant.PlantFields.{PlantFields}
@@ -16,15 +17,29 @@ use Rattle.plant_lines.specs.Script.{unnumbered}
 use Rattle.plant_lines.specs.Text.{outs_text}
 use Rattle.plant_service.specs.declared.line_end.LineEnd.{LineEnd}
 use Rattle.plant_service.specs.declared.line_end.LineEnd.TheVariants.{AtFault, NoMemory}
-use Rattle.plant_service.specs.Service.{Answered, steps_said, end_text, IsFault, EndsAs}
-use Rattle.plant_service.specs.SoFar.{IsHeld, HasDone, HasAnswered, IsAnswered}
+use Rattle.plant_service.specs.declared.steps_end.StepsEnd.{StepsEnd}
+use Rattle.plant_service.specs.declared.steps_end.StepsEnd.TheVariants as ends
+use Rattle.plant_service.specs.Ends.{line_end}
+use Rattle.plant_service.specs.Service.{Answered, steps_said, end_text, IsEndAt, EndsAs}
+use Rattle.plant_service.specs.Steps.{IsStepsEndAt, HasDone}
+use Rattle.plant_service.specs.SoFar.{IsHeld, HasAnswered, IsAnswered}
+
+-- a line ends as its steps do
+ends_so : (live : CoreView) (next : Option LineStep) (end : StepsEnd) → IsStepsEndAt live next end → IsEndAt live next (line_end end)
+ends_so live None ends.Done is = tt
+ends_so live None (ends.Refused number) is = is
+ends_so live None ends.NoMemory is = tt
+ends_so live (Some line) ends.Done is = is
+ends_so live (Some line) (ends.Refused number) is = is.1
+ends_so live (Some line) ends.NoMemory is = tt
 
 -- a line that says steps
-pub steps_answered : (plant : PlantFields) (before : List Step) (shown : List Out) (number : ℕ) (line : List ℕ) (steps : List LineStep) (live : CoreView) (end : LineEnd) (w0 w1 : Option (List ℕ))
-    → steps_said plant number line ≡ Ok steps → HasDone plant before shown steps live end w0 w1 → HasAnswered plant before shown number line live end w0 w1
+pub steps_answered : (plant : PlantFields) (before : List Step) (shown : List Out) (number : ℕ) (line : List ℕ) (steps : List LineStep) (live : CoreView) (end : StepsEnd) (w0 w1 : Option (List ℕ))
+    → steps_said plant number line ≡ Ok steps → HasDone plant before shown steps live end w0 w1 → HasAnswered plant before shown number line live (line_end end) w0 w1
 steps_answered plant before shown number line steps live end w0 w1 said has = record {
-  answered = record { done = unnumbered (take has.at steps); told = has.told; end = end };
-  is = record { after = has.after; ends = subst (λ (r : Read (List LineStep)). EndsAs r live (record { done = unnumbered (take has.at steps); told = has.told; end = end })) (sym said) (has.at, refl, has.ends) };
+  answered = record { done = unnumbered (take has.at steps); told = has.told; end = line_end end };
+  is = record { after = has.after; ends = subst (λ (r : Read (List LineStep)). EndsAs r live (record { done = unnumbered (take has.at steps); told = has.told; end = line_end end })) (sym said)
+      (has.at, refl, ends_so live (slice_get steps has.at) end has.ends) };
   end_is = refl;
   written = has.written;
 }

@@ -1,5 +1,5 @@
 -- The lines of a service, one after the other.
-use Rattle.std.proofs.Common.{◌≡◌, ◌≢◌, ℕ, zero, suc, ◌+◌, ◌<◌, ◌≤◌, length, arith, ◌==◌, Bool, true, false, List, [], ◌∷◌, ◌++◌, Option, Some, None, IfSome, refl, sym, ap, subst, ◌∙◌, append_assoc, append-nil, length-append}
+use Rattle.std.proofs.Common.{◌≡◌, ℕ, suc, ◌+◌, length, arith, ◌==◌, Bool, true, false, List, [], ◌∷◌, ◌++◌, Option, Some, None, IfSome, refl, sym, ap, subst, ◌∙◌, append_assoc, append-nil, length-append}
 use Rattle.std.specs.Io.KnownBytes.{Appends}
 use Rattle.std.proofs.KnownBytes.{Appends-nil, Appends-trans}
 use Rattle.std.proofs.lemmas.Grind.{flat_map-append}
@@ -9,7 +9,7 @@ use Rattle.plant_runs.specs.declared.step.Out.{Out}
 use Rattle.plant_runs.specs.Reached.{CoreView}
 use Rattle.live_core.specs.After.{IsAfter}
 use Rattle.live_core.proofs.LawLemmas.{live_shown, live_ordered}
-use Rattle.plant_lines.specs.Lines.{lines_of, parts_of, parts_from}
+use Rattle.plant_lines.specs.Lines.{parts_of, parts_from}
 use Rattle.plant_service.specs.Bytes.{Takes, WhereKnown}
 use Rattle.plant_service.specs.Service.{Answered, answer_text, IsAnswer, AreAnswered, service_text, all_done, all_told, IsServiceOf, ServiceIsShown}
 use Rattle.plant_service.specs.SoFar.{IsHeld, IsAnswered, IsServedSoFar}

@@ -16,9 +16,10 @@ use Rattle.live_core.specs.After.{IsAfter, IsReachable}
 use Rattle.plant_lines.specs.declared.script.LineStep.{LineStep}
 use Rattle.plant_lines.specs.Script.{unnumbered}
 use Rattle.plant_lines.specs.Text.{out_line, outs_text}
-use Rattle.plant_service.specs.declared.line_end.LineEnd.{LineEnd}
-use Rattle.plant_service.specs.declared.line_end.LineEnd.TheVariants as ends
-use Rattle.plant_service.specs.SoFar.{IsHalfDone, HasDone}
+use Rattle.plant_service.specs.declared.steps_end.StepsEnd.{StepsEnd}
+use Rattle.plant_service.specs.declared.steps_end.StepsEnd.TheVariants as ends
+use Rattle.plant_service.specs.SoFar.{IsHalfDone}
+use Rattle.plant_service.specs.Steps.{HasDone}
 
 -- ---- what is left of a list
 
@@ -100,7 +101,7 @@ module _ (plant : PlantFields) (before : List Step) (shown : List Out) (steps : 
         left_are = drop_next steps half.at line rest half.left_are;
       }
 
--- ---- how a line ends
+-- ---- how steps end
 
 pub all_are_done : (plant : PlantFields) (before : List Step) (shown : List Out) (steps : List LineStep) (live : CoreView) (w0 w1 : Option (List ℕ)) (left : List LineStep)
     → IsHalfDone plant before shown steps live w0 w1 left → left ≡ [] → HasDone plant before shown steps live ends.Done w0 w1
@@ -130,21 +131,21 @@ fault_is_told A (Reslice refused) reason told other = told
 
 step_is_refused : (plant : PlantFields) (before : List Step) (shown : List Out) (steps : List LineStep) (old live : CoreView) (w0 w1 : Option (List ℕ)) (line : LineStep) (rest : List LineStep)
     (A : Type 0) (fault : CoreFault) → IsHalfDone plant before shown steps old w0 w1 (line ∷ rest) → live ≡ old → IsTold {A = A} (Err fault) (step_fault old line.step) → fault ≢ NoMemory
-    → HasDone plant before shown steps live ends.AtFault w0 w1
+    → HasDone plant before shown steps live (ends.Refused line.number) w0 w1
 step_is_refused plant before shown steps old live w0 w1 line rest A fault half same told other =
     let refused : step_fault old line.step ≡ Some fault = fault_is_told A fault (step_fault old line.step) told other in
     let some : IsSome (step_fault old line.step) = rw refused refl in
-    subst (λ (c : CoreView). HasDone plant before shown steps c ends.AtFault w0 w1) (sym same)
-    (record { at = half.at; told = half.told; after = half.after; ends = rw (first_left steps half.at line rest half.left_are) some; written = half.written })
+    subst (λ (c : CoreView). HasDone plant before shown steps c (ends.Refused line.number) w0 w1) (sym same)
+    (record { at = half.at; told = half.told; after = half.after; ends = rw (first_left steps half.at line rest half.left_are) (refl, some); written = half.written })
 
--- a line ends where its step is not done
+-- steps end where one is not done
 pub step_not_done : (plant : PlantFields) (before : List Step) (shown : List Out) (steps : List LineStep) (old live : CoreView) (w0 w1 : Option (List ℕ)) (line : LineStep) (rest : List LineStep)
-    (A : Type 0) (fault : CoreFault) (end : LineEnd) → IsHalfDone plant before shown steps old w0 w1 (line ∷ rest) → live ≡ old → IsTold {A = A} (Err fault) (step_fault old line.step)
-    → (end ≡ ends.NoMemory) ⊎ ((end ≡ ends.AtFault) × (fault ≢ NoMemory)) → HasDone plant before shown steps live end w0 w1
+    (A : Type 0) (fault : CoreFault) (end : StepsEnd) → IsHalfDone plant before shown steps old w0 w1 (line ∷ rest) → live ≡ old → IsTold {A = A} (Err fault) (step_fault old line.step)
+    → (end ≡ ends.NoMemory) ⊎ ((end ≡ ends.Refused line.number) × (fault ≢ NoMemory)) → HasDone plant before shown steps live end w0 w1
 step_not_done plant before shown steps old live w0 w1 line rest A fault end half same told (inl wants) =
-    subst (λ (e : LineEnd). HasDone plant before shown steps live e w0 w1) (sym wants) (memory_wants plant before shown steps old live w0 w1 (line ∷ rest) half same)
+    subst (λ (e : StepsEnd). HasDone plant before shown steps live e w0 w1) (sym wants) (memory_wants plant before shown steps old live w0 w1 (line ∷ rest) half same)
 step_not_done plant before shown steps old live w0 w1 line rest A fault end half same told (inr refused) =
-    subst (λ (e : LineEnd). HasDone plant before shown steps live e w0 w1) (sym refused.0) (step_is_refused plant before shown steps old live w0 w1 line rest A fault half same told refused.1)
+    subst (λ (e : StepsEnd). HasDone plant before shown steps live e w0 w1) (sym refused.0) (step_is_refused plant before shown steps old live w0 w1 line rest A fault half same told refused.1)
 
 -- what holds whatever is answered
 pub on_ok : {A E : Type 0} (r : Result A E) (P : Type 0) → P → OnOk r P

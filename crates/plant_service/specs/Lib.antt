@@ -1,4 +1,6 @@
 pub mod Bytes
+pub mod Ends
 pub mod Front
 pub mod Service
 pub mod SoFar
+pub mod Steps

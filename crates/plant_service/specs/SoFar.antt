@@ -1,5 +1,5 @@
 -- What of a service was done so far.
-use Rattle.std.specs.Prelude.{◌≡◌, ◌<◌, ◌≤◌, ℕ, ◌+◌, Bool, true, false, List, [], ◌∷◌, ◌++◌, take, drop, length, slice_get, Option}
+use Rattle.std.specs.Prelude.{◌≡◌, ◌<◌, ◌≤◌, ℕ, ◌+◌, Bool, true, false, List, ◌++◌, take, drop, length, Option}
 use Rattle.std.specs.Io.KnownBytes.{Appends}
 use Rattle.slice_table.specs.declared.plant.PlantFields.{PlantFields}
 use Rattle.plant_runs.specs.declared.step.Step.{Step}
@@ -11,7 +11,7 @@ use Rattle.plant_lines.specs.Lines.{lines_of, parts_from}
 use Rattle.plant_lines.specs.Script.{unnumbered}
 use Rattle.plant_lines.specs.Text.{outs_text}
 use Rattle.plant_service.specs.declared.line_end.LineEnd.{LineEnd}
-use Rattle.plant_service.specs.Service.{Answered, IsAnswer, IsEndAt, answer_text, AreAnswered, all_done, all_told, service_text}
+use Rattle.plant_service.specs.Service.{Answered, IsAnswer, answer_text, AreAnswered, all_done, all_told, service_text}
 
 -- what is kept of the line that is being read: all of it, or that it is too long
 abbrev pub IsHeld : List ℕ → Bool → List ℕ → Type 0
@@ -25,14 +25,6 @@ pub record IsHalfDone (plant : PlantFields) (before : List Step) (shown : List O
   pub after : IsAfter plant (before ++ unnumbered (take at steps)) (shown ++ told) live
   pub written : Appends old new (outs_text plant told)
   pub left_are : drop at steps ≡ left
-
--- so many of a line's steps are done, and it ended so
-pub record HasDone (plant : PlantFields) (before : List Step) (shown : List Out) (steps : List LineStep) (live : CoreView) (end : LineEnd) (old new : Option (List ℕ)) : Type 0 where
-  pub at : ℕ
-  pub told : List Out
-  pub after : IsAfter plant (before ++ unnumbered (take at steps)) (shown ++ told) live
-  pub ends : IsEndAt live (slice_get steps at) end
-  pub written : Appends old new (outs_text plant told)
 
 -- the line has this answer, and what its steps put out is written
 pub record HasAnswered (plant : PlantFields) (before : List Step) (shown : List Out) (number : ℕ) (line : List ℕ) (live : CoreView) (end : LineEnd) (old new : Option (List ℕ)) : Type 0 where

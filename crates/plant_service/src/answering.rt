@@ -1,4 +1,4 @@
-//! The answer to one line.
+//! Steps that are done one after the other, and the answer to one line.
 
 ghost use Rattle.std.specs.Prelude.{◌≡◌, ◌≢◌, ◌⊎◌, List, IfOk, OnOk};
 ghost use Rattle.std.specs.Io.KnownBytes.{Appends};
@@ -9,12 +9,15 @@ ghost use Rattle.plant_core.specs.declared.core_fault.CoreFault.TheVariants as f
 ghost use Rattle.live_core.specs.After.{IsAfter, IsReachable};
 ghost use Rattle.live_core.specs.LiveView.{live_view};
 ghost use Rattle.plant_lines.specs.Fields.{Gives};
-ghost use Rattle.plant_service.specs.declared.line_end.LineEnd.TheVariants as ends;
+ghost use Rattle.plant_service.specs.declared.steps_end.StepsEnd.TheVariants as steps_ends;
 ghost use Rattle.plant_service.specs.Service.{steps_said, end_text};
-ghost use Rattle.plant_service.specs.SoFar.{HasDone, HasAnswered, IsAnswered};
+ghost use Rattle.plant_service.specs.Ends.{line_end};
+ghost use Rattle.plant_service.specs.SoFar.{HasAnswered, IsAnswered};
+ghost use Rattle.plant_service.specs.Steps.{HasDone};
 
 use crate::held_line::MOST_BYTES;
 use crate::line_end::LineEnd;
+use crate::steps_end::StepsEnd;
 use live_core::LiveCore;
 use plant_core::CoreFault;
 use plant_lines::{FieldFault, LineStep, put_line, write_outs};
@@ -43,35 +46,50 @@ fn steps_said(
     }
 }
 
-/// How a line ends whose step is not done.
-fn end_of(fault: CoreFault) -> LineEnd
-    ensures { (result ≡ ends.NoMemory) ⊎ ((result ≡ ends.AtFault) × (fault ≢ faults.NoMemory)) }
+/// How steps end of which this line's is not done.
+fn end_of(number: u64, fault: CoreFault) -> StepsEnd
+    ensures { (result ≡ steps_ends.NoMemory) ⊎ ((result ≡ steps_ends.Refused number) × (fault ≢ faults.NoMemory)) }
 {
     match fault {
-        CoreFault::NoMemory => LineEnd::NoMemory,
-        _ => LineEnd::AtFault,
+        CoreFault::NoMemory => StepsEnd::NoMemory,
+        _ => StepsEnd::Refused { number },
     }
 }
 
-/// Does steps up to the first that is refused, and writes what each puts out. Answers how the line ended.
-fn do_steps<W: Write>(
+/// Does steps up to the first that is refused, and writes what each puts out. Answers how that ended. A step that is refused, or for
+/// which memory was wanting, has changed nothing; those before it stand. An error is one of the writer's; then no clause says how
+/// much was done.
+pub fn run_steps<W: Write>(
     alloc: Global,
     core: &mut LiveCore,
     steps: Vec<LineStep>,
     writer: &mut W,
-) -> io::Result<LineEnd>
+) -> io::Result<StepsEnd>
     requires reached { IsReachable (live_view core.old) }
+    // Behind whatever run led to the core, so many steps are done, and what they put out is written.
     ensures { IfOk result (λ end. (plant : PlantFields) (before : List Step) (shown : List Out)
         → IsAfter plant before shown (live_view core.old) → HasDone plant before shown steps.items (live_view core.new) end
         (W.contents writer.old) (W.contents writer.new)) }
 {
-    for LineStep { number: _, step } in steps {
-        match core.step(alloc, step) {
-            Ok(outs) => write_outs(writer, core.plant(), outs.as_slice())?,
-            Err(fault) => return Ok(end_of(fault)),
+    let mut outs = Vec::new(alloc);
+    for LineStep { number, step } in steps {
+        match core.step_over(alloc, step, &mut outs) {
+            Ok(()) => write_outs(writer, core.plant(), outs.as_slice())?,
+            Err(fault) => return Ok(end_of(number, fault)),
         }
     }
-    Ok(LineEnd::Done)
+    Ok(StepsEnd::Done)
+}
+
+/// How a line ends whose steps ended so.
+fn line_end(end: StepsEnd) -> LineEnd
+    ensures { result ≡ line_end end }
+{
+    match end {
+        StepsEnd::Done => LineEnd::Done,
+        StepsEnd::Refused { number: _ } => LineEnd::AtFault,
+        StepsEnd::NoMemory => LineEnd::NoMemory,
+    }
 }
 
 /// Does what a line says, and writes what that puts out. Answers how the line ended.
@@ -89,7 +107,10 @@ fn do_line<W: Write>(
         (W.contents writer.old) (W.contents writer.new)) }
 {
     match steps_said(alloc, core.plant(), number, line) {
-        Ok(steps) => do_steps(alloc, core, steps, writer),
+        Ok(steps) => {
+            let end = run_steps(alloc, core, steps, writer)?;
+            Ok(line_end(end))
+        }
         Err(FieldFault::Shape) => Ok(LineEnd::AtFault),
         Err(FieldFault::NoMemory) => Ok(LineEnd::NoMemory),
     }

@@ -174,7 +174,7 @@ fn written<R: Threads + Wait + Sync>(
     Ok((status, writer.held))
 }
 
-/// Asserts what words get where a write of three bytes fails: what was written before stands, and the line of a failed write behind it.
+/// Asserts what words get where a write of a byte fails: what was written before stands, and the line of a failed write behind it.
 fn check_write(
     rt: &(impl Abort + Threads + Wait + Sync),
     alloc: Global,
@@ -182,9 +182,8 @@ fn check_write(
     fails_at: usize,
 ) -> Result<(), Fail> {
     let (words, status, text) = case;
-    let (told, held) = written(rt, alloc, words, 3, fails_at)?;
-    let before = fails_at.saturating_mul(3);
-    if before >= text.len() {
+    let (told, held) = written(rt, alloc, words, 1, fails_at)?;
+    if fails_at >= text.len() {
         assert_eq!(rt;
             (told, held.as_slice()),
             (status, text.as_bytes()),
@@ -192,7 +191,7 @@ fn check_write(
         );
         return Ok(());
     }
-    let start = text.get(..before).ok_or("no text")?;
+    let start = text.get(..fails_at).ok_or("no text")?;
     let wanted = format!(in alloc; "{start}fault: io\n")?;
     assert_eq!(rt;
         (told, held.as_slice()),
@@ -205,7 +204,7 @@ fn check_write(
 #[test]
 fn each_write_that_fails_is_status_6(rt: HostRuntime) -> Result<(), Fail> {
     for case in CASES {
-        for fails_at in 0..case.2.len() / 3 + 2 {
+        for fails_at in 0..case.2.len() + 2 {
             check_write(&rt, rt.alloc(), case, fails_at)?;
         }
     }

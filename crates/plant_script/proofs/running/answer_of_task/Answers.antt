@@ -1,18 +1,10 @@
 use Rattle.std.proofs.Common.{sym, subst}
 use Rattle.std.specs.Prelude.{slice_get}
 use Rattle.slice_table.specs.declared.plant.PlantFields.{PlantFields}
-use Rattle.plant_lines.specs.Text.{outs_text}
 use Rattle.plant_script.specs.declared.task.Told.{Told}
 use Rattle.plant_script.specs.Run.{IsRunOf, IsCapturedRunOf}
 use Rattle.plant_script.specs.Task.{history_at, RunsTo}
 use Rattle.plant_script.proofs.running.answer_of_task.Goals as goal
-
-pub returns-in_ok-answer-in-Outs : goal.returns-in_ok-answer-in-Outs
-returns-in_ok-answer-in-Outs g c =
-    let task = c.args.task in
-    let answer = c.in_ok-answer-in-Outs.answer in
-    subst (λ (t : Told). RunsTo task.plant t task.lines.items answer.status answer.text.items) (sym c.in-Outs.is)
-    (subst (λ (p : PlantFields). IsRunOf p task.lines.items (λ done told. outs_text p told) answer.status answer.text.items) c.in_ok-core-in-Outs.ensures.plant_is c.in_ok-answer-in-Outs.ensures)
 
 pub returns-in_ok-answer-in-History : goal.returns-in_ok-answer-in-History
 returns-in_ok-answer-in-History g c =

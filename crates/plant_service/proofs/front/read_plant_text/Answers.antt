@@ -1,6 +1,6 @@
-use Rattle.std.proofs.Common.{◌≡◌, ◌∷◌, [], List, ℕ, Bool, true, false, Option, Some, subst, sym}
+use Rattle.std.proofs.Common.{◌≡◌, ◌∷◌, List, ℕ, Bool, true, false, Option, Some, subst}
 use Rattle.plant_service.specs.Bytes.{WhereKnown, Takes}
-use Rattle.plant_service.specs.Front.{IsReadSoFar, IsFront, ReadsOn}
+use Rattle.plant_service.specs.Front.{IsReadSoFar, ReadsOn}
 use Rattle.plant_service.proofs.FrontLemmas.{known_on, text_known, script_known}
 use Rattle.plant_service.proofs.front.read_plant_text.Goals as goal
 

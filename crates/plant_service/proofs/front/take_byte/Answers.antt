@@ -1,4 +1,4 @@
-use Rattle.std.proofs.Common.{◌≡◌, ◌++◌, ◌∷◌, [], List, ℕ, codes, true≢false, ◌∙◌, subst, sym}
+use Rattle.std.proofs.Common.{◌∷◌, List, ℕ, codes, true≢false, ◌∙◌, subst, sym}
 use Rattle.std.proofs.lemmas.Slice.Eq.{bytes_eq-Decides}
 use Rattle.plant_service.specs.Front.{IsReadSoFar}
 use Rattle.plant_service.proofs.FrontLemmas.{byte_read, line_read, bar_read}

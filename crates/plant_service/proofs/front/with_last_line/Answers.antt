@@ -1,7 +1,7 @@
-use Rattle.std.proofs.Common.{◌≡◌, ◌++◌, [], List, ℕ, codes, Bool, true, false, not, true≢false, refl, subst, sym, ap, ◌∙◌}
+use Rattle.std.proofs.Common.{◌≡◌, [], List, ℕ, codes, Bool, true, false, not, true≢false, refl, subst, sym, ap, ◌∙◌}
 use Rattle.std.specs.Str.{bytes_eq}
 use Rattle.std.proofs.lemmas.Slice.Eq.{bytes_eq-Decides}
-use Rattle.plant_service.specs.Front.{IsReadSoFar, IsFront}
+use Rattle.plant_service.specs.Front.{IsFront}
 use Rattle.plant_service.proofs.FrontLemmas.{bar_at_end, no_bar_read}
 use Rattle.plant_service.proofs.front.with_last_line.Goals.{then-ne+in_ok-extend_from_slice, else-ne}
 use Rattle.plant_service.proofs.front.with_last_line.Goals as goal

@@ -1,4 +1,4 @@
-use Rattle.std.proofs.Common.{◌≡◌, ◌∙◌, List, ℕ, subst}
+use Rattle.std.proofs.Common.{◌∙◌, List, ℕ, subst}
 use Rattle.std.proofs.KnownBytes.{Appends-kept}
 use Rattle.live_core.specs.LiveView.{live_view}
 use Rattle.plant_lines.specs.declared.fields.FieldFault.TheVariants.{Shape}

@@ -1,7 +1,4 @@
-use Rattle.std.proofs.Common.{[], ◌∷◌, List, ℕ, Option, Some, refl, subst}
-use Rattle.slice_table.specs.declared.plant.PlantFields.{PlantFields}
-use Rattle.plant_runs.specs.declared.step.Out.{Out}
-use Rattle.plant_runs.specs.declared.step.Step.{Step}
+use Rattle.std.proofs.Common.{[], ℕ, Option, refl, subst}
 use Rattle.live_core.specs.After.{IsAfter}
 use Rattle.live_core.specs.LiveView.{live_view}
 use Rattle.plant_service.specs.Bytes.{Takes}

@@ -1,4 +1,4 @@
-use Rattle.std.proofs.Common.{◌≡◌, ◌==◌, ◌∷◌, List, ℕ, false, arith, ap}
+use Rattle.std.proofs.Common.{◌≡◌, ◌==◌, ◌∷◌, ℕ, false, arith, ap}
 use Rattle.std.proofs.lemmas.Bool.Decides.{nat_tests}
 use Rattle.plant_service.proofs.ServiceLemmas.{byte_read, line_ended}
 use Rattle.plant_service.proofs.serving.take_byte.Goals as goal

@@ -1,0 +1,80 @@
+-- A core refuses the same steps without its histories.
+use Rattle.std.proofs.Common.{◌≡◌, ℕ, ◌+◌, ◌==◌, Bool, true, false, List, [], ◌∷◌, length, map, Option, Some, None, if◌then◌else◌, option_map, refl, sym, ap, ap₂, subst, ◌∙◌}
+use Rattle.std.specs.Prelude.{slice_get}
+use Rattle.std.specs.Option.{option_or}
+use Rattle.std.proofs.lemmas.List.{length-map}
+use Rattle.std.proofs.lemmas.Option.{slice_get-map}
+use Rattle.slice_table.specs.declared.plant.PlantFields.{PlantFields}
+use Rattle.slice_table.specs.Roster.{holder}
+use Rattle.operator_machine.specs.declared.action.SliceRow.{SliceRow}
+use Rattle.operator_machine.specs.declared.action.Action.{Action}
+use Rattle.operator_machine.specs.declared.action.Action.TheVariants as actions
+use Rattle.operator_machine.specs.declared.action.Unfit.{Unfit}
+use Rattle.operator_machine.specs.declared.action.Unfit.TheVariants as unfits
+use Rattle.operator_machine.specs.Machine.{unfit_from}
+use Rattle.operator_machine.specs.Replay.{BookView}
+use Rattle.slice_scheduler.specs.declared.elements.ElementsFields.{ElementsFields}
+use Rattle.plant_runs.specs.declared.step.Step.{Step}
+use Rattle.plant_runs.specs.declared.step.Step.TheVariants as steps
+use Rattle.plant_runs.specs.Reached.{CoreView}
+use Rattle.plant_core.specs.declared.core_fault.CoreFault.{CoreFault}
+use Rattle.plant_core.specs.declared.core_fault.CoreFault.TheVariants.{Reslice}
+use Rattle.plant_core.specs.declared.core_fault.ResliceFault.{ResliceFault}
+use Rattle.plant_core.specs.declared.core_fault.ResliceFault.TheVariants as found
+use Rattle.plant_core.specs.Faults.{act_fault, arrive_fault, collect_fault, step_fault}
+use Rattle.plant_core.specs.Reslicing.{is_unfit, least_unfit, least_meeting, row_fault, reslice_fault}
+use Rattle.live_core.specs.GoingOn.{forgotten, IsOf}
+
+-- ---- other slices
+
+same_unfit : (unfit : Unfit) (from n : ℕ) (books : List BookView) (rows : List SliceRow) → least_unfit unfit from n (map forgotten books) rows ≡ least_unfit unfit from n books rows
+same_unfit unfit from n [] rows = refl
+same_unfit unfit from n (book ∷ books) [] = refl
+same_unfit unfit from n (book ∷ books) (row ∷ rows) =
+    ap (λ (o : Option ℕ). if is_unfit unfit (unfit_from book.consts book.state from row) then Some n else o) (same_unfit unfit from (n + 1) books rows)
+
+-- the first of these, in the order of the faults
+abbrev first_of : (past unfinished off over unfit : Option ℕ) → Option (ℕ × ℕ) → Option ResliceFault
+first_of past unfinished off over unfit meeting =
+    option_or (option_map (λ op. found.NotPast op) past)
+    (option_or (option_map (λ op. found.Unfinished op) unfinished)
+    (option_or (option_map (λ op. found.OffFrame op) off)
+    (option_or (option_map (λ pair. found.SlicesMeet pair.0 pair.1) meeting)
+    (option_or (option_map (λ op. found.BudgetOverSlice op) over) (option_map (λ op. found.Unfit op) unfit)))))
+
+same_row_fault : (from : ℕ) (books : List BookView) (rows : List SliceRow) → row_fault from (map forgotten books) rows ≡ row_fault from books rows
+same_row_fault from books rows =
+    λ k. first_of (same_unfit unfits.NotPast from 0 books rows k) (same_unfit unfits.Unfinished from 0 books rows k) (same_unfit unfits.OffFrame from 0 books rows k) (same_unfit unfits.BudgetOverSlice from 0 books rows k)
+    (same_unfit unfits.OverBudget from 0 books rows k) (least_meeting 0 rows)
+
+same_reslice_fault : (from : ℕ) (books : List BookView) (rows : List SliceRow) → reslice_fault from (map forgotten books) rows ≡ reslice_fault from books rows
+same_reslice_fault from books rows =
+    ap₂ (λ (n : ℕ) (fault : Option ResliceFault). if length rows == n then fault else Some found.Count) (length-map books forgotten) (same_row_fault from books rows)
+
+-- ---- an action
+
+same_act_fault : (op : ℕ) (action : Action) (books : List BookView) → act_fault op action (slice_get (map forgotten books) op) ≡ act_fault op action (slice_get books op)
+same_act_fault op action books = ap (act_fault op action) (slice_get-map forgotten books op) ∙ at (slice_get books op)
+  where
+    at : (book : Option BookView) → act_fault op action (option_map forgotten book) ≡ act_fault op action book
+    at None = refl
+    at (Some book) = refl
+
+same_action : (live core : CoreView) (op : ℕ) (action : Action) → IsOf live core → act_fault op action (slice_get core.books op) ≡ act_fault op action (slice_get live.books op)
+same_action live core op action is = sym (same_act_fault op action core.books) ∙ ap (λ (bs : List BookView). act_fault op action (slice_get bs op)) is.books_are
+
+-- ---- a step
+
+pub same_step_fault : (live core : CoreView) (step : Step) → IsOf live core → step_fault core step ≡ step_fault live step
+same_step_fault live core (steps.Arrive modem heard) is =
+    ap (λ (p : PlantFields). arrive_fault core (steps.Arrive modem heard) (holder p.rows modem)) is.plant_is ∙ at (holder live.plant.rows modem)
+  where
+    at : (place : Option ℕ) → arrive_fault core (steps.Arrive modem heard) place ≡ arrive_fault live (steps.Arrive modem heard) place
+    at None = refl
+    at (Some op) = same_action live core op (actions.Arrive modem heard) is
+same_step_fault live core (steps.Work op) is = same_action live core op actions.Work is
+same_step_fault live core (steps.Tick op) is = same_action live core op actions.Tick is
+same_step_fault live core (steps.Collect op) is = ap (λ (qs : List (List (ℕ × ElementsFields))). collect_fault op (slice_get qs op)) is.queues_are
+same_step_fault live core (steps.Reslice from rows) is =
+    ap (λ (fault : Option ResliceFault). option_map (λ f. Reslice f) fault)
+    (sym (same_reslice_fault from core.books rows) ∙ ap (λ (bs : List BookView). reslice_fault from bs rows) is.books_are)

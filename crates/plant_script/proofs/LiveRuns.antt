@@ -1,0 +1,76 @@
+-- A run that is written as its steps are done.
+use Rattle.std.proofs.Common.{◌≡◌, ◌≢◌, ◌⊎◌, inl, inr, ℕ, List, [], ◌++◌, take, Option, Some, None, IsSome, refl, sym, ap, subst, ◌∙◌}
+use Rattle.std.specs.Prelude.{slice_get}
+use Rattle.std.specs.Io.KnownBytes.{Appends}
+use Rattle.std.proofs.KnownBytes.{Appends-trans}
+use Rattle.slice_table.specs.declared.plant.PlantFields.{PlantFields}
+use Rattle.plant_runs.specs.declared.step.Step.{Step}
+use Rattle.plant_runs.specs.declared.step.Out.{Out}
+use Rattle.plant_runs.specs.Reached.{CoreView}
+use Rattle.plant_core.specs.declared.core_fault.CoreFault.{CoreFault}
+use Rattle.plant_core.specs.Faults.{step_fault}
+use Rattle.live_core.specs.GoingOn.{IsOf}
+use Rattle.live_core.specs.After.{IsAfter}
+use Rattle.live_core.proofs.FaultLemmas.{same_step_fault}
+use Rattle.plant_lines.specs.declared.script.LineStep.{LineStep}
+use Rattle.plant_lines.specs.Script.{unnumbered}
+use Rattle.plant_lines.specs.Text.{outs_text}
+use Rattle.plant_service.specs.declared.steps_end.StepsEnd.{StepsEnd}
+use Rattle.plant_service.specs.declared.steps_end.StepsEnd.TheVariants as ends
+use Rattle.plant_service.specs.Steps.{IsStepsEndAt, HasDone}
+use Rattle.plant_script.specs.declared.task.Told.{Told}
+use Rattle.plant_script.specs.declared.task.Told.TheVariants.{Outs}
+use Rattle.plant_script.specs.Run.{memory_line, last_line, IsEnd, EndsBy, IsRunOf}
+use Rattle.plant_script.specs.Ends.{status_of, line_of}
+use Rattle.plant_script.specs.Task.{RunsTo, IsTold, EndsRun}
+
+-- the run of the core with histories ends where the live core's does
+ends_by : (live core : CoreView) (next : Option LineStep) (end : StepsEnd) → IsOf live core → IsStepsEndAt live next end → EndsBy core next (status_of end) (line_of end)
+ends_by live core None ends.Done is at = inl (refl, refl)
+ends_by live core (Some line) ends.Done is at = absurd at
+ends_by live core None (ends.Refused number) is at = absurd at
+ends_by live core (Some line) (ends.Refused number) is at =
+    let refused : IsSome (step_fault core line.step) = subst (λ (f : Option CoreFault). IsSome f) (sym (same_step_fault live core line.step is)) at.1 in
+    inl ((refl, refused), ap (λ (n : ℕ). line_of (ends.Refused n)) at.0)
+ends_by live core None ends.NoMemory is at = inr (refl, refl)
+ends_by live core (Some line) ends.NoMemory is at = inr (refl, refl)
+
+-- steps that are done from an opened core on are a run's
+pub run_ends : (plant : PlantFields) (lines : List LineStep) (live : CoreView) (end : StepsEnd) (status : ℕ) (w0 w1 w2 : Option (List ℕ)) → HasDone plant [] [] lines live end w0 w1
+    → status ≡ status_of end → Appends w1 w2 (line_of end) → EndsRun plant lines status (λ text. Appends w0 w2 text)
+run_ends plant lines live end status w0 w1 w2 has is wrote = (
+  outs_text plant has.told ++ line_of end,
+  record {
+    at = has.at;
+    outs = has.told;
+    core = has.after.core;
+    reached = has.after.reached;
+    last = line_of end;
+    ends = subst (λ (n : ℕ). EndsBy has.after.core (slice_get lines has.at) n (line_of end)) (sym is) (ends_by live has.after.core (slice_get lines has.at) end has.after.is_of has.ends);
+    text_is = refl;
+  },
+  Appends-trans w0 w1 w2 (outs_text plant has.told) (line_of end) has.written wrote,
+)
+
+-- a run that ends has not status 5
+no_five : (core : CoreView) (next : Option LineStep) (status : ℕ) → IsEnd core next status → status ≢ 5
+no_five core None status is = λ five. absurd (let wrong : ◌≡◌ {A = ℕ} 0 5 = sym is ∙ five in cc)
+no_five core (Some line) status is = λ five. absurd (let wrong : ◌≡◌ {A = ℕ} 4 5 = sym is.0 ∙ five in cc)
+
+-- what a run came to is told
+pub run_told : (plant : PlantFields) (lines : List LineStep) (status : ℕ) (w0 w1 : Option (List ℕ)) → EndsRun plant lines status (λ text. Appends w0 w1 text)
+    → IsTold plant Outs lines status (λ text. Appends w0 w1 text)
+run_told plant lines status w0 w1 ran = by ran.1.ends
+  where
+    run : IsRunOf plant lines (λ done told. outs_text plant told) status ran.0
+    run = ran.1
+    by : (ends : EndsBy run.core (slice_get lines run.at) status run.last) → IsTold plant Outs lines status (λ text. Appends w0 w1 text)
+    by (inl well) = inl (ran.0, no_five run.core (slice_get lines run.at) status well.0, run, ran.2)
+    by (inr want) =
+        let text_is : ran.0 ≡ outs_text plant run.outs ++ memory_line = run.text_is ∙ ap (λ (l : List ℕ). outs_text plant run.outs ++ l) want.1 in
+        inr (
+          outs_text plant run.outs,
+          want.0,
+          subst (λ (t : List ℕ). Appends w0 w1 t) text_is ran.2,
+          inr (subst (λ (t : List ℕ). IsRunOf plant lines (λ done told. outs_text plant told) 5 t) text_is (subst (λ (n : ℕ). IsRunOf plant lines (λ done told. outs_text plant told) n ran.0) want.0 run)),
+        )

@@ -1,0 +1,18 @@
+use Rattle.std.proofs.Common.{[], inl, inr, refl, sym, subst}
+use Rattle.std.specs.Io.KnownBytes.{Appends}
+use Rattle.plant_script.specs.declared.task.Told.{Told}
+use Rattle.plant_script.specs.Task.{IsTold}
+use Rattle.plant_script.proofs.LiveRuns.{run_told}
+use Rattle.plant_script.proofs.running.write_outs_run.Goals as goal
+
+pub returns-in-Ok-write_run : goal.returns-in-Ok-write_run
+returns-in-Ok-write_run g c well =
+    let task = c.args.task in
+    let old = g.W.Write.contents c.args.writer.now in
+    let new = g.W.Write.contents c.write_run.new.writer in
+    let status = c.in-Ok-write_run.status in
+    subst (λ (t : Told). IsTold task.plant t task.lines.items status (λ text. Appends old new text)) (sym c.requires.outs)
+    (run_told task.plant task.lines.items status old new (c.in-Ok-write_run.ensures task.plant c.in-Ok-open.ensures.reached))
+
+pub returns-in-NoMemory : goal.returns-in-NoMemory
+returns-in-NoMemory g c well = let told = c.stopped-in-NoMemory.ensures.memory refl well in inr ([], told.0, told.1, inl refl)

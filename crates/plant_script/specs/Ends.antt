@@ -1,0 +1,16 @@
+-- What is written where the steps of a run ended (own).
+use Rattle.std.specs.Prelude.{ℕ, List, [], ◌∷◌, ◌++◌, codes}
+use Rattle.std.specs.Fmt.{decimal}
+use Rattle.plant_service.specs.declared.steps_end.StepsEnd.{StepsEnd}
+use Rattle.plant_service.specs.declared.steps_end.StepsEnd.TheVariants.{Done, Refused, NoMemory}
+use Rattle.plant_script.specs.Run.{memory_line}
+
+abbrev pub status_of : StepsEnd → ℕ
+status_of Done = 0
+status_of (Refused number) = 4
+status_of NoMemory = 5
+
+abbrev pub line_of : StepsEnd → List ℕ
+line_of Done = []
+line_of (Refused number) = codes "fault: line " ++ (decimal number ++ 10 ∷ [])
+line_of NoMemory = memory_line

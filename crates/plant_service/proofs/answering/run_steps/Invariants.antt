@@ -1,0 +1,18 @@
+use Rattle.std.proofs.Common.{◌≡◌, length, List}
+use Rattle.std.specs.Vec.Iter.{into_iter_items, into_iter_len}
+use Rattle.slice_table.specs.declared.plant.PlantFields.{PlantFields}
+use Rattle.plant_runs.specs.declared.step.Out.{Out}
+use Rattle.plant_runs.specs.declared.step.Step.{Step}
+use Rattle.live_core.specs.After.{IsAfter}
+use Rattle.live_core.specs.LiveView.{live_view}
+use Rattle.plant_service.specs.SoFar.{IsHalfDone}
+use Rattle.plant_service.proofs.answering.run_steps.Given as goal
+
+abbrev pub invariant-loop-number : goal.invariant-loop-number
+invariant-loop-number g l = record {
+  next : (goal.iterator-loop-number g).can_next l.number-iterator;
+  finite : (goal.iterator-loop-number g).is_finite l.number-iterator;
+  count : into_iter_len l.number-iterator ≡ length (into_iter_items l.number-iterator);
+  half : (plant : PlantFields) (before : List Step) (shown : List Out) → IsAfter plant before shown (live_view l.fn.core)
+      → IsHalfDone plant before shown l.fn.steps.items (live_view l.core) (g.W.Write.contents l.fn.writer) (g.W.Write.contents l.writer) (into_iter_items l.number-iterator);
+}
