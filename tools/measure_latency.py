@@ -5,15 +5,15 @@ another. Prints the median, the 99.9th percentile and the worst in microseconds,
     tools/measure_latency.py [--fast] [PROGRAM [LINES]]
 
 The plant has 32 operators with 80 flows each: 79 provisioned ones, of which one is active, and one that is added, changed and deleted in
-turn (a MAP has room for no more than two active ones of each). Each 2 ms comes a line `T`, a frame of all operators, and each 0.5 ms a
-message: DSA-REQ, DSA-ACK, a request for minislots, DSC-REQ, DSC-ACK, two requests, DSD-REQ, operator after operator. A line is written
-at its time, and where the answer before comes later than that, at once behind it; with --fast all are. 1,000,000 lines, the default,
-take 400 seconds.
+turn (a MAP has room for no more than two active ones of each). A line comes each 0.4 ms: each fifth is `T`, a frame of all operators, so
+that there is one each 2 ms, and the others are 2,000 messages a second: DSA-REQ, DSA-ACK, a request for minislots, DSC-REQ, DSC-ACK, two
+requests, DSD-REQ, operator after operator. A line is written at its time, and where the answer before comes later than that, at once
+behind it; with --fast all are. 1,000,000 lines, the default, take 400 seconds.
 
 A tick's answer ends with its MAP, a reply is one line. A message that is answered nothing is written together with a line at fault
-behind it, and what is measured ends with the line that tells the fault; such lines at fault are not among LINES. Exits with 1 where a request was answered
-otherwise than by code 0, a line that is meant to be silent by anything, or a tick by other than 32 frames and a MAP: then other work was
-measured than is meant.
+behind it, and what is measured ends with the line that tells the fault; such lines at fault are not among LINES. Exits with 1 where a
+request was answered otherwise than by code 0, a line that is meant to be silent by anything, or a tick by other than 32 frames and a
+MAP: then other work was measured than is meant.
 """
 
 import argparse

@@ -1,9 +1,10 @@
 #!/usr/bin/env python3
 """Serves plants of examples by examples/serving/serve_plant.sh, each in a folder of its own behind a Unix socket, and compares the answers
 with what `run` prints for the lines that came, in the order in which they came. Two clients write in turn with each other; then both at
-once, in pieces that end within lines; lines at fault are among them, each of which is told by its number and changes nothing; a client is killed in
-the middle of a line, which does nothing; the plant is stopped, by SIGTERM and by an end of the program, and is started again from its
-record. Prints a line for each example and test; exits with 1 where one differs. Where an answer is waited for too long nothing more is tried.
+once, in pieces that end within lines; lines at fault are among them, each of which is told by its number and changes nothing; a client is
+killed in the middle of a line, and so is one that writes the record: what they leave of it does nothing; the plant is stopped, by SIGTERM
+and by an end of the program, and is started again from its record. Prints a line for each example and test; exits with 1 where one
+differs. Where an answer is waited for too long nothing more is tried.
 
     tools/serve_behind_socat.py [PROGRAM]     Needs bash, socat and flock; takes less than 20 seconds.
 """
@@ -26,9 +27,12 @@ from serve_as_run import AT_FAULT, EXAMPLES, split  # noqa: E402
 SERVING = EXAMPLES / "serving"
 sys.path.insert(0, str(SERVING))
 
-from whole_lines import LONGEST, TOO_LONG  # noqa: E402
+from whole_lines import LONGEST, TOO_LONG, UNFINISHED  # noqa: E402
 
 NAMES = ("isolation/run_flood", "changes/run", "deletions/run", "two_phase_admission/run", "two_operators")
+# What a writer of the record that is killed leaves of a line, and what becomes of it.
+CUT = b"T"
+CUT_OFF = CUT + UNFINISHED.rstrip(b"\n")
 SECONDS = 4
 PIECE = 1_001
 
@@ -85,7 +89,7 @@ class Plant:
         """Whether the record is what came, and the answers are those of `run` and of `serve` on it."""
         if self.record() != b"".join(line + b"\n" for line in self.came):
             return False
-        bad = {TOO_LONG if len(line) > LONGEST else line for line in AT_FAULT}
+        bad = {CUT_OFF, *as_recorded(AT_FAULT)}
         status, ran = program_answer(self.program, ["run"], b"\n".join(self.plant + [line for line in self.came if line not in bad]) + b"\n")
         got, right = program_answer(self.program, ["serve"], b"\n".join(self.plant + self.came) + b"\n")
         wait_until("a line is not answered", lambda: (self.folder / "answers").stat().st_size >= len(right))
@@ -186,6 +190,17 @@ def killed_within_a_line(plant):
     return plant.has_answered()
 
 
+def cut_within_a_line(plant):
+    """A writer of the record is killed in the middle of a line, which would be one if it were ended."""
+    with (plant.folder / "record").open("ab") as record:
+        record.write(CUT)
+    with plant.client() as client:
+        client.sendall(b"T\n")
+        plant.came += [CUT_OFF, b"T"]
+        plant.wait_for(len(plant.came))
+    return plant.has_answered()
+
+
 def started_again(plant, by_signal):
     """The second start does what the record has, writes none of its answers again, and goes on."""
     ended = plant.stop(by_signal)
@@ -213,7 +228,7 @@ def tests_of(program, name):
         plant = Plant(program, (EXAMPLES / f"{name}.txt").read_bytes(), pathlib.Path(folder))
         try:
             plant.start()
-            for test in in_turn, at_once, killed_within_a_line, stopped, program_killed:
+            for test in in_turn, at_once, killed_within_a_line, cut_within_a_line, stopped, program_killed:
                 yield test.__name__, test(plant)
         finally:
             plant.end()

@@ -38,6 +38,7 @@ if [ -x "$program" ]; then
     "$here/corners.py" >"$work/told" || { cat "$work/told" >&2; exit 1; }
     "$here/statuses.sh" >"$work/told" || { cat "$work/told" >&2; exit 1; }
     "$here/serve_as_run.py" >"$work/told" || { cat "$work/told" >&2; exit 1; }
+    "$here/measure_latency.py" --fast "$program" 2000 >"$work/told" || { cat "$work/told" >&2; exit 1; }
     "$here/reasons.py" >"$work/told" || { cat "$work/told" >&2; exit 1; }
     echo 'the program answers as the reference'
     if command -v socat >/dev/null; then

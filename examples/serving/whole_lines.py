@@ -4,12 +4,12 @@ client, whose socket is its standard input.
 
     whole_lines.py RECORD < LINES
 
-What the client leaves behind its last LF is dropped. A line of more than 4,096 bytes, its LF not counted, is not kept: a line at
-fault is written in its place, so that it has its number and changes nothing. Lines of several clients do not mix, whatever their
-length: each is appended under a lock of the record. Where an earlier writer was killed in the middle of a line, that line is ended as one at fault
-first.
+What the client leaves behind its last LF is dropped. A line of more than 4,096 bytes, its LF not counted, is not kept: a line at fault is
+written in its place, so that it has its number and changes nothing. Lines of several clients do not mix, whatever their length: each is
+appended under a lock of the record. Where an earlier writer was killed in the middle of a line, that line is ended as one at fault first.
 """
 
+import contextlib
 import fcntl
 import os
 import sys
@@ -45,7 +45,8 @@ def append(record, data):
         try:
             data = data[os.write(record, data):]
         except OSError as fault:
-            print(f"whole_lines: {fault}; tried again", file=sys.stderr)
+            with contextlib.suppress(OSError):  # (standard error may be on the same disk)
+                print(f"whole_lines: {fault}; tried again", file=sys.stderr, flush=True)
             time.sleep(SECONDS_WHERE_FULL)
 
 
