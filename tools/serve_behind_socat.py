@@ -6,7 +6,7 @@ killed in the middle of a line, and so is one that writes the record: what they 
 and by an end of the program, and is started again from its record. Prints a line for each example and test; exits with 1 where one
 differs. Where an answer is waited for too long nothing more is tried.
 
-    tools/serve_behind_socat.py [PROGRAM]     Needs bash, socat and flock; takes less than 20 seconds.
+    tools/serve_behind_socat.py [PROGRAM]     Needs bash, socat, flock and ps; takes less than 20 seconds.
 """
 
 import os
@@ -29,11 +29,11 @@ sys.path.insert(0, str(SERVING))
 
 from whole_lines import LONGEST, TOO_LONG, UNFINISHED  # noqa: E402
 
-NAMES = ("isolation/run_flood", "changes/run", "deletions/run", "two_phase_admission/run", "two_operators")
+NAMES = ("isolation/run_flood", "changes/run", "deletions/run", "two_operators")
 # What a writer of the record that is killed leaves of a line, and what becomes of it.
 CUT = b"T"
 CUT_OFF = CUT + UNFINISHED.rstrip(b"\n")
-SECONDS = 4
+SECONDS = 6
 PIECE = 1_001
 
 
