@@ -2,8 +2,9 @@
 # Tests of the tools: the reference on the examples and on values typed from docs/PROFILE.md; the generator writes the same twice,
 # and tools/hostile.py meets each check of the table. Where the program is built, it is compared with the reference on 50 generated
 # cases, by `run`, by `threads` and by `capture`, and `threads` and `serve` with `run` on the examples; then on the inputs of tools/hostile.py and of
-# tools/corners.py, and tools/statuses.sh and tools/reasons.py are run. Where tshark is installed it reads what is captured of the examples.
-# Usage: tools/test_tools.sh     Needs bash and python3; takes less than 10 seconds, with tshark half a minute.
+# tools/corners.py, and tools/statuses.sh and tools/reasons.py are run. Where socat is installed plants are served behind a socket, and where
+# tshark is installed it reads what is captured of the examples.
+# Usage: tools/test_tools.sh     Needs bash and python3; takes less than 10 seconds, with socat 20 seconds, with tshark half a minute.
 set -euo pipefail
 
 here=$(cd "$(dirname "$0")" && pwd)
@@ -37,8 +38,15 @@ if [ -x "$program" ]; then
     "$here/corners.py" >"$work/told" || { cat "$work/told" >&2; exit 1; }
     "$here/statuses.sh" >"$work/told" || { cat "$work/told" >&2; exit 1; }
     "$here/serve_as_run.py" >"$work/told" || { cat "$work/told" >&2; exit 1; }
+    "$here/measure_latency.py" --fast "$program" 2000 >"$work/told" || { cat "$work/told" >&2; exit 1; }
     "$here/reasons.py" >"$work/told" || { cat "$work/told" >&2; exit 1; }
     echo 'the program answers as the reference'
+    if command -v socat >/dev/null; then
+        "$here/serve_behind_socat.py" >"$work/told" || { cat "$work/told" >&2; exit 1; }
+        echo 'a plant behind a socket, and brought back from its record, answers as run'
+    else
+        echo 'socat is not installed: no plant was served behind a socket'
+    fi
     if command -v tshark >/dev/null; then
         "$here/captures_in_tshark.py" >"$work/told" || { cat "$work/told" >&2; exit 1; }
         echo 'tshark reads the captures of the examples as run tells them'
