@@ -1,28 +1,23 @@
 -- A run that is written as its steps are done.
-use Rattle.std.proofs.Common.{◌≡◌, ◌≢◌, ◌⊎◌, inl, inr, ℕ, List, [], ◌++◌, take, Option, Some, None, IsSome, refl, sym, ap, subst, ◌∙◌}
+use Rattle.std.proofs.Common.{◌≡◌, ◌≢◌, inl, inr, ℕ, List, [], ◌++◌, Option, Some, None, IsSome, refl, sym, ap, subst, ◌∙◌}
 use Rattle.std.specs.Prelude.{slice_get}
 use Rattle.std.specs.Io.KnownBytes.{Appends}
 use Rattle.std.proofs.KnownBytes.{Appends-trans}
 use Rattle.slice_table.specs.declared.plant.PlantFields.{PlantFields}
-use Rattle.plant_runs.specs.declared.step.Step.{Step}
-use Rattle.plant_runs.specs.declared.step.Out.{Out}
 use Rattle.plant_runs.specs.Reached.{CoreView}
 use Rattle.plant_core.specs.declared.core_fault.CoreFault.{CoreFault}
 use Rattle.plant_core.specs.Faults.{step_fault}
 use Rattle.live_core.specs.GoingOn.{IsOf}
-use Rattle.live_core.specs.After.{IsAfter}
 use Rattle.live_core.proofs.FaultLemmas.{same_step_fault}
 use Rattle.plant_lines.specs.declared.script.LineStep.{LineStep}
-use Rattle.plant_lines.specs.Script.{unnumbered}
 use Rattle.plant_lines.specs.Text.{outs_text}
 use Rattle.plant_service.specs.declared.steps_end.StepsEnd.{StepsEnd}
 use Rattle.plant_service.specs.declared.steps_end.StepsEnd.TheVariants as ends
 use Rattle.plant_service.specs.Steps.{IsStepsEndAt, HasDone}
-use Rattle.plant_script.specs.declared.task.Told.{Told}
 use Rattle.plant_script.specs.declared.task.Told.TheVariants.{Outs}
-use Rattle.plant_script.specs.Run.{memory_line, last_line, IsEnd, EndsBy, IsRunOf}
+use Rattle.plant_script.specs.Run.{memory_line, IsEnd, EndsBy, IsRunOf}
 use Rattle.plant_script.specs.Ends.{status_of, line_of}
-use Rattle.plant_script.specs.Task.{RunsTo, IsTold, EndsRun}
+use Rattle.plant_script.specs.Task.{IsTold, EndsRun}
 
 -- the run of the core with histories ends where the live core's does
 ends_by : (live core : CoreView) (next : Option LineStep) (end : StepsEnd) → IsOf live core → IsStepsEndAt live next end → EndsBy core next (status_of end) (line_of end)
@@ -64,6 +59,7 @@ run_told plant lines status w0 w1 ran = by ran.1.ends
   where
     run : IsRunOf plant lines (λ done told. outs_text plant told) status ran.0
     run = ran.1
+
     by : (ends : EndsBy run.core (slice_get lines run.at) status run.last) → IsTold plant Outs lines status (λ text. Appends w0 w1 text)
     by (inl well) = inl (ran.0, no_five run.core (slice_get lines run.at) status well.0, run, ran.2)
     by (inr want) =

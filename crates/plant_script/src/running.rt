@@ -215,7 +215,11 @@ fn write_outs_run<W: Write>(
     ensures { result ≢ 6 → IsTold task.plant task.told task.lines.items result
         (λ text. Appends (W.contents writer.old) (W.contents writer.new) text) }
 {
-    let Task { plant, lines, told: _ } = task;
+    let Task {
+        plant,
+        lines,
+        told: _,
+    } = task;
     let mut core = match LiveCore::open(alloc, plant, rankings) {
         Ok(core) => core,
         Err(CoreOpenFault::NoMemory) => return stopped(writer, Stop::Memory),

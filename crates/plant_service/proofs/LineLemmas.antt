@@ -38,8 +38,11 @@ pub steps_answered : (plant : PlantFields) (before : List Step) (shown : List Ou
     → steps_said plant number line ≡ Ok steps → HasDone plant before shown steps live end w0 w1 → HasAnswered plant before shown number line live (line_end end) w0 w1
 steps_answered plant before shown number line steps live end w0 w1 said has = record {
   answered = record { done = unnumbered (take has.at steps); told = has.told; end = line_end end };
-  is = record { after = has.after; ends = subst (λ (r : Read (List LineStep)). EndsAs r live (record { done = unnumbered (take has.at steps); told = has.told; end = line_end end })) (sym said)
-      (has.at, refl, ends_so live (slice_get steps has.at) end has.ends) };
+  is = record {
+    after = has.after;
+    ends = subst (λ (r : Read (List LineStep)). EndsAs r live (record { done = unnumbered (take has.at steps); told = has.told; end = line_end end })) (sym said)
+        (has.at, refl, ends_so live (slice_get steps has.at) end has.ends);
+  };
   end_is = refl;
   written = has.written;
 }

@@ -1,4 +1,4 @@
-use Rattle.std.proofs.Common.{◌∙◌, ap}
+use Rattle.std.proofs.Common.{ap}
 use Rattle.std.specs.Global.{Vec}
 use Rattle.plant_core.specs.CoreView.{core_view}
 use Rattle.plant_script.proofs.CaptureRuns.{filed_run}

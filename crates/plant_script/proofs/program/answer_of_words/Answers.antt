@@ -16,7 +16,7 @@ pub returns-clause-memory : goal.returns-clause-memory
 returns-clause-memory g c = λ five.
     rw c.loop-row.invariant.writer at
     (task_wants (texts c.args.words.now) (g.R.Read.remaining c.args.reader.now) (order_of c.in-Ok.word) c.in-Ok-Task.task c.write_task.result (g.W.Write.contents c.loop-row.writer) (g.W.Write.contents c.write_task.new.writer)
-    (rw c.in-Ok-Task.field-0-is at c.in-Ok-Task.ensures.served) c.read_words.ensures.ok (c.write_task.ensures (rw five (λ six. absurd (let wrong : ◌≡◌ {A = ℕ} 5 6 = six in cc)))) five)
+    (rw c.in-Ok-Task.field-0-is at c.in-Ok-Task.ensures.served) c.in-Ok.ensures.ok (c.write_task.ensures (rw five (λ six. absurd (let wrong : ◌≡◌ {A = ℕ} 5 6 = six in cc)))) five)
 
 -- words that give an order ask for no help
 pub returns-then-is_err-clause-unread_for_help : goal.returns-then-is_err-clause-unread_for_help
