@@ -204,7 +204,7 @@ fn check_write(
 #[test]
 fn each_write_that_fails_is_status_6(rt: HostRuntime) -> Result<(), Fail> {
     for case in CASES {
-        for fails_at in 0..case.2.len() + 2 {
+        for fails_at in 0..case.2.len().saturating_add(2) {
             check_write(&rt, rt.alloc(), case, fails_at)?;
         }
     }
