@@ -1,0 +1,86 @@
+//! An operator as it stands.
+
+ghost use Rattle.std.specs.Prelude.{◌≡◌, IfOk};
+ghost use Rattle.flow_table.specs.Table.{sfids_of, sids_of};
+ghost use Rattle.operator_machine.specs.State.{operator};
+ghost use Rattle.operator_machine.specs.Sound.{IsSound};
+
+use flow_table::Flow;
+use operator_book::{Book, StateView};
+use slice_table::{Consts, OperatorRow};
+use std::alloc::{AllocError, Global};
+use std::marker::Model;
+
+/// A copy of an operator: what all operators share, its row, and the state of its machine. Contracts see the operator.
+#[derive(Drop)]
+pub struct Standing {
+    pub(crate) consts: Consts,
+    pub(crate) row: OperatorRow,
+    pub(crate) state: StateView,
+    pub(crate) sfids: Vec<u32>,
+    pub(crate) sids: Vec<u32>,
+}
+
+impl Model for Standing {
+    ghost use Rattle.operator_machine.specs.State.{Operator, operator};
+    ghost use Rattle.deciding_checks.specs.Standing.{IsStanding};
+
+    ghost Value = { Operator };
+
+    ghost view = { λ s. operator s.consts s.row s.state };
+
+    ghost invariant = { λ s. IsStanding (operator s.consts s.row s.state) s.sfids.items s.sids.items };
+}
+
+/// The SFIDs that are used.
+fn sfids_in(alloc: Global, flows: &[(u32, Flow)]) -> Result<Vec<u32>, AllocError>
+    ensures { IfOk result (λ sfids. sfids.items ≡ sfids_of flows.now) }
+{
+    let mut sfids = Vec::with_capacity(alloc, flows.len())?;
+    for (sfid, _flow) in flows {
+        sfids.push(*sfid)?;
+    }
+    Ok(sfids)
+}
+
+/// The SIDs that are used.
+fn sids_in(alloc: Global, flows: &[(u32, Flow)]) -> Result<Vec<u32>, AllocError>
+    ensures { IfOk result (λ sids. sids.items ≡ sids_of flows.now) }
+{
+    let mut sids = Vec::with_capacity(alloc, flows.len())?;
+    for (_sfid, flow) in flows {
+        if let Some(sid) = flow.sid {
+            sids.push(u32::from(sid))?;
+        }
+    }
+    Ok(sids)
+}
+
+impl Standing {
+    /// The operator of a book, as it stands.
+    pub fn of_book(alloc: Global, book: &Book) -> Result<Standing, AllocError>
+        ensures { IfOk result (λ standing. standing
+            ≡ operator book.now.kept.book.consts book.now.kept.book.row book.now.kept.book.state) }
+    {
+        book.sound();
+        let consts = book.consts().copy(alloc)?;
+        let row = book.row().copy(alloc)?;
+        let state = book.state_view(alloc)?;
+        let sfids = sfids_in(alloc, state.flows())?;
+        let sids = sids_in(alloc, state.flows())?;
+        Ok(Standing {
+            consts,
+            row,
+            state,
+            sfids,
+            sids,
+        })
+    }
+
+    /// A law: the state is one that a machine can have.
+    pub fn sound(&self)
+        ensures { IsSound self.now }
+    {
+        let _ = &self.state;
+    }
+}
