@@ -4,6 +4,8 @@
 #[cfg(test)]
 mod books;
 #[cfg(test)]
+mod checks;
+#[cfg(test)]
 mod playing;
 #[cfg(test)]
 mod rules;

@@ -1,6 +1,7 @@
 //! Scripts, played over the book of one operator.
 
-use dsx_messages::Modem;
+use deciding_checks::Standing;
+use dsx_messages::{Message, Modem, read};
 use grant_policy::{Policy, RankInput, Ranking, rank_by};
 use hex::{decode, encode_upper};
 use operator_book::{Action, Book, BookFault, Heard, OpenFault, Output, SliceRow};
@@ -282,9 +283,24 @@ fn reslice(alloc: Global, book: &mut Book, text: &mut String, words: &[&str]) ->
     Ok(())
 }
 
+/// Writes the number of the check that decides a request of a modem, whose transaction is new.
+fn put_check(alloc: Global, book: &Book, text: &mut String, words: &[&str]) -> Result<(), Fail> {
+    let [from, digits] = words else {
+        return Err(Fail::new("no request"));
+    };
+    let Ok(Message::Request(request)) = read(alloc, bytes(alloc, digits)?.as_slice()) else {
+        return Err(Fail::new("not read"));
+    };
+    let standing = Standing::of_book(alloc, book)?;
+    let check = standing.deciding_check(alloc, modem(from)?, &request)?;
+    let number = check.number();
+    let line = format!(in alloc; "\n= {number}")?;
+    Ok(text.push_str(line.as_str())?)
+}
+
 /// Plays a line. `M` and `Q` say what is heard of a modem, a message or a request, and it is worked at once; `A` has a message
 /// arrive, `W` works, `T` ticks, `Z` takes another share, and `R` does so in room that is made for it; `C` writes counts, `P` flows,
-/// `D` rates, `V` what waits, `S` shares.
+/// `D` rates, `V` what waits, `S` shares, `H` the number of the check that decides a request.
 fn play(alloc: Global, book: &mut Book, text: &mut String, line: &str) -> Result<(), Fail> {
     let words: Vec<&str> = line.split(' ').collect(alloc)?;
     let [word, rest @ ..] = words.as_slice() else {
@@ -312,6 +328,7 @@ fn play(alloc: Global, book: &mut Book, text: &mut String, line: &str) -> Result
         "D" => Ok(put_rates(alloc, book, text)?),
         "V" => Ok(put_waits(alloc, book, text)?),
         "S" => Ok(put_share(alloc, book, text)?),
+        "H" => put_check(alloc, book, text, rest),
         _ => Err(Fail::new("no word")),
     }
 }
