@@ -201,45 +201,80 @@ fn late_frames_begin_by_their_low_bits(rt: HostRuntime) -> Result<(), Fail> {
     Ok(())
 }
 
+/// Why a part that idles is refused, if it is.
+fn refused(
+    alloc: Global,
+    gather: &mut Gather,
+    op: usize,
+    frame: u32,
+    slice: Slice,
+) -> Result<Option<GatherFault>, Fail> {
+    Ok(fault_of(gather.put(alloc, op, frame, idle(alloc, slice)?)))
+}
+
 #[test]
 fn parts_are_refused_in_order(rt: HostRuntime) -> Result<(), Fail> {
     let alloc = rt.alloc();
     let mut gather = gather(alloc, "")?;
     assert!(rt; is_kept(gather.put(alloc, 0, 0, idle(alloc, slice_a())?)));
-    let twice = fault_of(gather.put(alloc, 0, 0, idle(alloc, slice_a())?));
-    assert_eq!(rt; twice, Some(GatherFault::PutTwice));
-    let early = fault_of(gather.put(alloc, 1, 1, idle(alloc, slice_b())?));
-    assert_eq!(rt; early, Some(GatherFault::Early { frame: 1 }));
-    let stranger = fault_of(gather.put(alloc, 2, 0, idle(alloc, slice_a())?));
-    assert_eq!(rt; stranger, Some(GatherFault::Stranger));
-    let wrong = fault_of(gather.put(alloc, 1, 0, idle(alloc, slice_a())?));
-    assert_eq!(rt; wrong, Some(GatherFault::WrongSlice));
+    let twice = refused(alloc, &mut gather, 0, 0, slice_a())?;
+    let early = refused(alloc, &mut gather, 1, 1, slice_b())?;
+    let stranger = refused(alloc, &mut gather, 2, 0, slice_a())?;
+    let wrong = refused(alloc, &mut gather, 1, 0, slice_a())?;
+    assert_eq!(rt;
+        [twice, early, stranger, wrong],
+        [
+            Some(GatherFault::PutTwice),
+            Some(GatherFault::Early { frame: 1 }),
+            Some(GatherFault::Stranger),
+            Some(GatherFault::WrongSlice),
+        ]
+    );
     let made = gather.put(alloc, 1, 0, idle(alloc, slice_b())?);
     assert!(rt; matches!(made, Ok(Some(_))));
-    let old = fault_of(gather.put(alloc, 0, 0, idle(alloc, slice_a())?));
+    let old = refused(alloc, &mut gather, 0, 0, slice_a())?;
     assert_eq!(rt; old, Some(GatherFault::Old { frame: 0 }));
     Ok(())
+}
+
+/// Slices of a frame that is begun are not taken, nor such as meet.
+#[test]
+fn slices_that_do_not_fit_are_not_taken(rt: HostRuntime) -> Result<(), Fail> {
+    let alloc = rt.alloc();
+    let mut gather = gather(alloc, "")?;
+    assert!(rt; is_kept(gather.put(alloc, 0, 0, idle(alloc, slice_a())?)));
+    assert!(rt; !gather.may_reslice(0, &[Slice::new(8, 16), Slice::new(24, 48)]));
+    assert!(rt; !gather.may_reslice(1, &[Slice::new(8, 17), Slice::new(24, 48)]));
+    Ok(())
+}
+
+/// Frame 0 is put, and other slices come with frame 1.
+fn resliced(rt: &impl Abort, alloc: Global) -> Result<Gather, Fail> {
+    let mut gather = gather(alloc, "")?;
+    let slices = [Slice::new(8, 16), Slice::new(24, 48)];
+    assert!(rt; is_kept(gather.put(alloc, 0, 0, idle(alloc, slice_a())?)));
+    assert!(rt; gather.may_reslice(1, &slices));
+    gather.reslice(alloc, 1, Vec::from_slice(alloc, &slices)?)?;
+    let made = gather.put(alloc, 1, 0, idle(alloc, slice_b())?);
+    assert!(rt; matches!(made, Ok(Some(_))));
+    Ok(gather)
+}
+
+/// A long grant of SID 257 that fills the new slice of A, with a pending one.
+fn granted(alloc: Global) -> Result<Elements, AllocError> {
+    let spans = Vec::from_slice(alloc, &[span(257, Iuc::Long, 8, 16)])?;
+    Ok(Elements::new(ElementsFields {
+        slice: Slice::new(8, 16),
+        spans: Spans::from_vec(spans),
+        pending: Sids::from_vec(Vec::from_slice(alloc, &[257])?),
+    }))
 }
 
 #[test]
 fn other_slices_come_from_a_frame_on(rt: HostRuntime) -> Result<(), Fail> {
     let alloc = rt.alloc();
-    let mut gather = gather(alloc, "")?;
-    let slices = [Slice::new(8, 16), Slice::new(24, 48)];
-    assert!(rt; is_kept(gather.put(alloc, 0, 0, idle(alloc, slice_a())?)));
-    assert!(rt; !gather.may_reslice(0, &slices));
-    assert!(rt; !gather.may_reslice(1, &[Slice::new(8, 17), Slice::new(24, 48)]));
-    assert!(rt; gather.may_reslice(1, &slices));
-    gather.reslice(alloc, 1, Vec::from_slice(alloc, &slices)?)?;
-    let made = gather.put(alloc, 1, 0, idle(alloc, slice_b())?);
-    assert!(rt; matches!(made, Ok(Some(_))));
-    let spans = Vec::from_slice(alloc, &[span(257, Iuc::Long, 8, 16)])?;
-    let a = Elements::new(ElementsFields {
-        slice: Slice::new(8, 16),
-        spans: Spans::from_vec(spans),
-        pending: Sids::from_vec(Vec::from_slice(alloc, &[257])?),
-    });
-    assert!(rt; is_kept(gather.put(alloc, 0, 1, a)));
+    let mut gather = resliced(&rt, alloc)?;
+    assert!(rt; is_kept(gather.put(alloc, 0, 1, granted(alloc)?)));
     let map = [
         0x01, 0x01, 0x05, 0x00, 0x00, 0x00, 0x00, 0x48, 0x00, 0x00, 0x00, 0x48, 0x00, 0x00, 0x00,
         0x00, 0xFF, 0xFC, 0x40, 0x00, 0x04, 0x05, 0x80, 0x08, 0x00, 0x01, 0x80, 0x18, 0x00, 0x01,

@@ -51,19 +51,30 @@ fn what_is_heard_is_copied(rt: HostRuntime) -> Result<(), Fail> {
 }
 
 #[test]
-fn outputs_are_copied(rt: HostRuntime) -> Result<(), Fail> {
+fn elements_are_copied(rt: HostRuntime) -> Result<(), Fail> {
     let alloc = rt.alloc();
     let elements = elements(alloc)?;
     check_alike(&rt, alloc, &elements, &again!(elements.copy(alloc)))?;
+    Ok(())
+}
+
+/// Asserts that a copy of an output shows as the output.
+fn check_output(rt: &impl Abort, alloc: Global, output: &Output) -> Result<(), Fail> {
+    check_alike(rt, alloc, output, &again!(output.copy(alloc)))?;
+    Ok(())
+}
+
+#[test]
+fn outputs_are_copied(rt: HostRuntime) -> Result<(), Fail> {
+    let alloc = rt.alloc();
+    let elements = elements(alloc)?;
     let frame = Output::Frame {
         number: 7,
         elements,
     };
-    check_alike(&rt, alloc, &frame, &again!(frame.copy(alloc)))?;
+    check_output(&rt, alloc, &frame)?;
     let bytes = Bytes::from_slice(alloc, &[16, 0, 1, 3])?;
-    let reply = Output::Reply { modem: ONE, bytes };
-    check_alike(&rt, alloc, &reply, &again!(reply.copy(alloc)))?;
-    Ok(())
+    check_output(&rt, alloc, &Output::Reply { modem: ONE, bytes })
 }
 
 #[test]

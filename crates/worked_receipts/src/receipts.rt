@@ -113,14 +113,11 @@ fn actions_of(alloc: Global, ticked: bool) -> Result<Vec<Action>, Fail> {
 
 /// The MAP of frame 0, where there is one.
 fn maps(alloc: Global, map: Option<&str>) -> Result<Vec<MapBytes>, Fail> {
-    let mut maps = Vec::new(alloc);
-    if let Some(digits) = map {
-        maps.push(MapBytes {
-            frame: 0,
-            bytes: bytes(alloc, digits)?,
-        })?;
-    }
-    Ok(maps)
+    let Some(digits) = map else {
+        return Ok(Vec::new(alloc));
+    };
+    let bytes = bytes(alloc, digits)?;
+    Ok(vec![in alloc; MapBytes { frame: 0, bytes }]?)
 }
 
 /// Why a case is not settled, over this book.
