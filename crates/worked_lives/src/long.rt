@@ -1,14 +1,37 @@
 //! A live core that goes on for long.
 
 use crate::live;
+use live_core::LiveCore;
 use plant_core::CoreFault;
 use plant_runs::{Out, Step};
 use slice_table::read_plant;
+use std::alloc::Global;
+use std::process::Abort;
 use std::test::Fail;
 use worked_plants::PLANT;
 
 /// How many frames are given out.
 const FRAMES: u32 = 20_000;
+
+/// A frame of both operators is ticked and collected: two frames and a MAP.
+fn put_frame(rt: &impl Abort, alloc: Global, core: &mut LiveCore, outs: &mut Vec<Out>) {
+    outs.clear();
+    for op in 0..2 {
+        let ticked = core.step_into(alloc, Step::Tick { op }, outs);
+        assert!(rt; ticked.is_ok());
+        let collected = core.step_into(alloc, Step::Collect { op }, outs);
+        assert!(rt; collected.is_ok());
+    }
+    assert_eq!(rt; outs.len(), 3);
+}
+
+/// The frame of the MAP that is put out last.
+fn last_map(outs: &[Out]) -> Option<u32> {
+    match outs {
+        [.., Out::Map(made)] => Some(made.frame),
+        _ => None,
+    }
+}
 
 /// Frame behind frame is given out, and each has its MAP, the last one with its number.
 #[test]
@@ -18,19 +41,9 @@ fn frames_go_on(rt: HostRuntime) -> Result<(), Fail> {
     let mut core = live!(alloc, plant);
     let mut outs = Vec::new(alloc);
     for _frame in 0..FRAMES {
-        outs.clear();
-        for op in 0..2 {
-            let ticked = core.step_into(alloc, Step::Tick { op }, &mut outs);
-            assert!(rt; ticked.is_ok());
-            let collected = core.step_into(alloc, Step::Collect { op }, &mut outs);
-            assert!(rt; collected.is_ok());
-        }
-        assert_eq!(rt; outs.len(), 3);
+        put_frame(&rt, alloc, &mut core, &mut outs);
     }
-    let [.., Out::Map(made)] = outs.as_slice() else {
-        return Err(Fail::new("no MAP"));
-    };
-    assert_eq!(rt; made.frame, FRAMES - 1);
+    assert_eq!(rt; last_map(outs.as_slice()), Some(FRAMES - 1));
     let refused = core.step(alloc, Step::Collect { op: 0 });
     assert!(rt; matches!(refused, Err(CoreFault::NothingToCollect { op: 0 })));
     Ok(())

@@ -31,7 +31,8 @@ fn play_steps(
     steps: Vec<Step>,
 ) -> Result<(), Fail> {
     let alone = steps.len() == 1;
-    for (at, step) in steps.into_iter().enumerate() {
+    let mut at: u64 = 0;
+    for step in steps {
         match core.step(alloc, step) {
             Ok(outs) => put_outs(alloc, text, outs.as_slice())?,
             Err(fault) if alone => {
@@ -42,6 +43,7 @@ fn play_steps(
                 return Ok(());
             }
         }
+        at = at.saturating_add(1);
     }
     Ok(())
 }
