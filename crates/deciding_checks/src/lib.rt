@@ -7,5 +7,4 @@ mod deciding;
 mod holding;
 mod standing;
 
-pub use asking::Use;
 pub use standing::Standing;
