@@ -16,6 +16,9 @@ fn base(at: &At, flow: &Flowing) -> u16
     ensures value { result ≡ base_of at.now flow.now }
     ensures most { result ≤ flow.now.backlog }
 {
+    if flow.backlog == 0 {
+        return 0;
+    }
     let reserve = at.units.reserve(flow.set.get_min_reserved_rate());
     u32::from(flow.backlog).min(reserve) as u16
 }
