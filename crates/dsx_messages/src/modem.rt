@@ -1,13 +1,32 @@
 //! Who sends messages.
 
-ghost use Rattle.std.specs.Prelude.{Some};
+ghost use Rattle.std.specs.Prelude.{Some, bytes_eq};
+ghost use Rattle.std.specs.Cmp.{on_equiv, on_per, partial_equiv_from_equiv};
+ghost use Rattle.std.specs.Cmp.Lexicographic.{nat_list_eq_equiv};
 ghost use Rattle.dsx_messages.specs.Modem.{hex_pair, hex_digits};
 
 use std::fmt::{self, Display};
 
 /// The hardware address of a cable modem, shown as 12 upper-case hexadecimal digits with nothing between them.
-#[derive(Clone, Copy, Debug, PartialEq, Eq, Hash)]
+#[derive(Clone, Copy, Debug, Hash)]
 pub struct Modem(pub [u8; 6]);
+
+impl PartialEq for Modem {
+    ghost eq = { λ a b. bytes_eq a.0 b.0 };
+
+    ghost laws = { on_per (λ m. m.0) (partial_equiv_from_equiv nat_list_eq_equiv) };
+
+    /// Byte by byte, with no loop over them.
+    fn eq(&self, other: &Modem) -> bool {
+        let [a, b, c, d, e, f] = self.0;
+        let [g, h, i, j, k, l] = other.0;
+        a == g && b == h && c == i && d == j && e == k && f == l
+    }
+}
+
+impl Eq for Modem {
+    ghost laws = { on_equiv (λ m. m.0) nat_list_eq_equiv };
+}
 
 /// A byte, shown as two upper-case hexadecimal digits.
 #[derive(Clone, Copy)]
