@@ -164,9 +164,13 @@ all_below : (hi n : ℕ) (ks : List ℕ) → hi < n → AllByRecursion (λ q. is
 all_below hi n [] lt all = tt
 all_below hi n (k ∷ ks) lt all = (let at : k ≤ hi = not_less hi k (nat_cmp hi k) refl all.0 in omega arith, all_below hi n ks lt all.1)
 
-pub packed_end : (es : List (ℕ × Flow)) (f lo hi : ℕ) → IsStrictlySortedBy nat_cmp (keys_of es) → All (λ q. is_gt (nat_cmp lo q) ≡ false) (keys_of es) → All (λ q. is_lt (nat_cmp hi q) ≡ false) (keys_of es)
+pub packed_keys : {X : Type 0} (es : List (ℕ × X)) (f lo hi : ℕ) → IsStrictlySortedBy nat_cmp (keys_of es) → All (λ q. is_gt (nat_cmp lo q) ≡ false) (keys_of es) → All (λ q. is_lt (nat_cmp hi q) ≡ false) (keys_of es)
     → f ≤ lo → f ≤ hi → hi - f + 1 ≡ length es → hi + 1 ≡ gap_from f (keys_of es)
-packed_end es f lo hi s low high from to len =
-    let count_is : length (keys_of es) ≡ length es = length-map es (λ (e : ℕ × Flow). e.0) in
+packed_keys {X} es f lo hi s low high from to len =
+    let count_is : length (keys_of es) ≡ length es = length-map es (λ (e : ℕ × X). e.0) in
     let end : hi + 1 ≡ f + length (keys_of es) = omega arith in
     end ∙ sym (packed_gap f (keys_of es) s (all_from f lo (keys_of es) from (recursion_from_All _ (keys_of es) low)) (all_below hi (f + length (keys_of es)) (keys_of es) (omega arith) (recursion_from_All _ (keys_of es) high)))
+
+pub packed_end : (es : List (ℕ × Flow)) (f lo hi : ℕ) → IsStrictlySortedBy nat_cmp (keys_of es) → All (λ q. is_gt (nat_cmp lo q) ≡ false) (keys_of es) → All (λ q. is_lt (nat_cmp hi q) ≡ false) (keys_of es)
+    → f ≤ lo → f ≤ hi → hi - f + 1 ≡ length es → hi + 1 ≡ gap_from f (keys_of es)
+packed_end es f lo hi s low high from to len = packed_keys es f lo hi s low high from to len

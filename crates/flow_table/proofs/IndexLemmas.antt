@@ -51,7 +51,7 @@ sid_used (e ∷ es) sfid sid h = elim (cases_eq sfid e.0) [
 
 -- ---- the flow that has a SID
 
-none_of : (e : ℕ × Flow) (es : List (ℕ × Flow)) (sid b : ℕ) → IsStrictlySortedBy nat_cmp (keys_of (e ∷ es)) → b ≡ e.0 → sid_if (flow_at b es) ≢ Some sid
+pub none_of : (e : ℕ × Flow) (es : List (ℕ × Flow)) (sid b : ℕ) → IsStrictlySortedBy nat_cmp (keys_of (e ∷ es)) → b ≡ e.0 → sid_if (flow_at b es) ≢ Some sid
 none_of e es sid b s same h = none-some sid (sym (ap sid_if (ap (λ (n : ℕ). flow_at n es) same ∙ none_later e es s)) ∙ h)
 
 pub found : (sid : ℕ) (flows : List (ℕ × Flow)) (sfid : ℕ) (flow : Flow) → IsStrictlySortedBy nat_cmp (keys_of flows) → flow_at sfid flows ≡ Some flow → flow.sid ≡ Some sid

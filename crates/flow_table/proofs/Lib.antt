@@ -4,3 +4,4 @@ pub mod IndexLemmas
 pub mod StandLemmas
 pub mod MovedLemmas
 pub mod GapLemmas
+pub mod UsedLemmas

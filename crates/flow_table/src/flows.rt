@@ -110,8 +110,8 @@ impl Flows {
         ensures exact { IfOk result (λ sid. sid ≡ least_free_of range.now (sids_of self.now.flows)) }
         ensures found { IfOk result (λ sid. IfSome sid (IsLeastFree range.now (sids_of self.now.flows))) }
     {
-        let used = sids_in(alloc, &self.by_sfid)?;
-        Ok(range.least_free(used.as_slice()))
+        let _ = alloc;
+        Ok(least_free_sid(&self.by_sid, range))
     }
 
     /// Whether the totals of what is committed, with this flow under this SFID, stay within a limit; elements are tried
@@ -285,17 +285,47 @@ fn within(number: u64, range: &IdRange) -> Option<u32>
     }
 }
 
-/// The SIDs that are used.
-fn sids_in(alloc: Global, flows: &BTreeMap<u32, Flow>) -> Result<Vec<u32>, AllocError>
-    ensures { IfOk result (λ sids. sids.items ≡ sids_of flows.now.entries) }
+/// The least number of a range that is no SID, by one walk over the SIDs in their order.
+#[tactic(auto, using(crate::proofs::GapLemmas::gap_answer_here, crate::proofs::GapLemmas::gap_answer_end, crate::proofs::GapLemmas::gap_answer))]
+fn least_free_sid(index: &BTreeMap<u16, u32>, range: &IdRange) -> Option<u32>
+    requires { IsStrictlySortedBy nat_cmp (keys_of index.now.entries) }
+    ensures { result ≡ least_free_of range.now (keys_of index.now.entries) }
 {
-    let mut sids = Vec::with_capacity(alloc, flows.len())?;
-    for (_sfid, flow) in flows {
-        if let Some(sid) = flow.sid {
-            sids.push(u32::from(sid))?;
+    if let Some(end) = end_of_packed_sids(index, range.get_first()) {
+        return within(end, range);
+    }
+    let mut next = u64::from(range.get_first());
+    for (sid, _sfid) in index {
+        let sid = u64::from(*sid);
+        if sid > next {
+            return within(next, range);
+        }
+        if sid == next {
+            next += 1;
         }
     }
-    Ok(sids)
+    within(next, range)
+}
+
+/// The number behind all SIDs, where they are the numbers from `first` on with none left out. Looks at the ends alone.
+#[tactic(auto, using(crate::proofs::GapLemmas::packed_keys))]
+fn end_of_packed_sids(index: &BTreeMap<u16, u32>, first: u32) -> Option<u64>
+    requires { IsStrictlySortedBy nat_cmp (keys_of index.now.entries) }
+    ensures gap { IfSome result (λ end. end ≡ gap_from first (keys_of index.now.entries)) }
+    ensures from { IfSome result (λ end. first ≤ end) }
+{
+    let (least, _sfid) = index.first_key_value()?;
+    let (greatest, _sfid) = index.last_key_value()?;
+    let least = u32::from(*least);
+    let greatest = u32::from(*greatest);
+    if first > least || first > greatest {
+        return None;
+    }
+    if (greatest - first) as usize + 1 == index.len() {
+        Some(u64::from(greatest) + 1)
+    } else {
+        None
+    }
 }
 
 /// A flow as it is scheduled, where it has an active set.

@@ -1,0 +1,10 @@
+use Rattle.std.proofs.Common.{◌≡◌, ◌≤◌}
+use Rattle.std.specs.Map.{keys_of}
+use Rattle.flow_table.specs.Gap.{gap_from}
+use Rattle.flow_table.proofs.flows.least_free_sid.Given as goal
+
+abbrev pub invariant-loop-sid : goal.invariant-loop-sid
+invariant-loop-sid l = record {
+  gap : gap_from l.next (keys_of l.sid-iterator) ≡ gap_from l.range.first (keys_of l.index.entries);
+  from : l.range.first ≤ l.next;
+}
