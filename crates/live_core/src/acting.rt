@@ -2,6 +2,7 @@
 
 ghost use Rattle.std.specs.Prelude.{◌≡◌, ◌≢◌, ◌↔◌, ◌<◌, ◌≤◌, false, [], ◌++◌, length, slice_get, Err, IfOk, IfErr, OnOk, OnErr};
 ghost use Rattle.slice_table.specs.Row.{IsRowOf};
+ghost use Rattle.operator_machine.specs.Frames.{is_tick};
 ghost use Rattle.operator_machine.specs.State.{operator};
 ghost use Rattle.operator_machine.specs.Machine.{own_step, is_spent, IsAllowed};
 ghost use Rattle.plant_runs.specs.Opened.{opened_book};
@@ -32,6 +33,13 @@ fn frame_in(outputs: Vec<Output>) -> Option<(u32, Elements)>
     None
 }
 
+/// Whether an action is a tick: no other puts out a frame.
+fn is_tick(action: &Action) -> bool
+    ensures { result ≡ is_tick action.now }
+{
+    matches!(action, Action::Tick)
+}
+
 impl LiveDesk {
     /// The desk of an operator with nothing done.
     pub fn open(
@@ -52,7 +60,7 @@ impl LiveDesk {
     }
 
     /// Does an action, and tells what it puts out. Its frame waits. The caller has seen that the frame numbers are not spent.
-    #[tactic(auto, using(crate::proofs::DeskLemmas::frame_waits, crate::proofs::DeskLemmas::none_waits))]
+    #[tactic(auto, using(crate::proofs::DeskLemmas::frame_waits, crate::proofs::DeskLemmas::none_waits, crate::proofs::DeskLemmas::quiet_waits))]
     pub fn act(&mut self, alloc: Global, action: Action) -> Result<Vec<Output>, BookFault>
         requires fresh { is_spent self.old.live.sound.state action ≡ false }
         ensures book { OnOk result (book_at self.new ≡ went (book_at self.old) action) }
@@ -68,9 +76,12 @@ impl LiveDesk {
         ensures memory { IsAllowed self.old.live.sound action → IfErr result (λ fault. fault ≡ BookFault.NoMemory) }
     {
         self.waiting.reserve(1)?;
-        let (told, again) = self.live.act(alloc, &action)?;
-        if let Some(frame) = frame_in(again) {
-            self.waiting.push_back_reserved(frame);
+        let ticks = is_tick(&action);
+        let (told, again) = self.live.act(alloc, action, ticks)?;
+        if ticks {
+            if let Some(frame) = frame_in(again) {
+                self.waiting.push_back_reserved(frame);
+            }
         }
         Ok(told)
     }

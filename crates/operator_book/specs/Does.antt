@@ -1,13 +1,14 @@
 -- What an action of a machine does (own).
 use Rattle.operator_machine.specs.State.{Operator}
-use Rattle.std.specs.Prelude.{◌≡◌, Result, IfOk, OnOk, OnErr}
+use Rattle.std.specs.Prelude.{◌≡◌, Bool, Result, IfOk, OnOk, OnErr}
 use Rattle.std.specs.declared.alloc.AllocError.{AllocError}
 use Rattle.operator_machine.specs.Handle.{Ran}
 use Rattle.operator_book.specs.declared.machine.Both.{Both}
 use Rattle.operator_book.specs.Held.{with_state}
 
--- the machine has run so and tells so; where memory was wanting nothing has changed
-pub record Does (old new : Operator) (result : Result Both AllocError) (ran : Ran) : Type 0 where
+-- the machine has run so and tells so, twice where that is asked for; where memory was wanting nothing has changed
+pub record Does (two : Bool) (old new : Operator) (result : Result Both AllocError) (ran : Ran) : Type 0 where
   pub state : OnOk result (new ≡ with_state old ran)
   pub outputs : IfOk result (λ both. both.told.items ≡ ran.outputs)
+  pub twice : IfOk result (λ both. both.twice ≡ two)
   pub err : OnErr result (new ≡ old)

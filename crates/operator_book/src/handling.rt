@@ -50,12 +50,20 @@ fn tid_of(request: &Request) -> u16
 }
 
 /// A refusal that is not kept.
-fn unkept(alloc: Global, modem: Modem, kind: Kind, tid: u16, code: Code) -> Result<Both, AllocError>
+fn unkept(
+    alloc: Global,
+    twice: bool,
+    modem: Modem,
+    kind: Kind,
+    tid: u16,
+    code: Code,
+) -> Result<Both, AllocError>
     requires { code ≢ Okay }
-    ensures { IfOk result (λ both. both.told.items ≡ told modem (refusal kind tid code)) }
+    ensures told { IfOk result (λ both. both.told.items ≡ told modem (refusal kind tid code)) }
+    ensures twice { IfOk result (λ both. both.twice ≡ twice) }
 {
     let reply = Bytes::from_vec(write_reply(alloc, &refusal(kind, tid, code))?);
-    answer(alloc, modem, &reply)
+    answer(alloc, twice, modem, &reply)
 }
 
 impl Machine {
@@ -72,6 +80,7 @@ impl Machine {
     fn refused_out(
         &mut self,
         alloc: Global,
+        twice: bool,
         modem: Modem,
         kind: Kind,
         tid: u16,
@@ -79,10 +88,10 @@ impl Machine {
     ) -> Result<Both, AllocError>
         requires free { IsNone (find (is_of modem tid) self.old.state.kept) }
         requires room { length self.old.state.kept < self.old.row.transactions }
-        ensures { Does self.old self.new result (carried_out self.old modem kind tid (Refused reply)) }
+        ensures { Does twice self.old self.new result (carried_out self.old modem kind tid (Refused reply)) }
     {
         let bytes = Bytes::from_vec(write_reply(alloc, &reply)?);
-        let both = answer(alloc, modem, &bytes)?;
+        let both = answer(alloc, twice, modem, &bytes)?;
         self.keep(modem, kind, tid, bytes, 0, false);
         Ok(both)
     }
@@ -91,6 +100,7 @@ impl Machine {
     fn put_out(
         &mut self,
         alloc: Global,
+        twice: bool,
         modem: Modem,
         kind: Kind,
         tid: u16,
@@ -101,10 +111,10 @@ impl Machine {
         requires stands { MayStand (table_of self.old) sfid flow }
         requires free { IsNone (find (is_of modem tid) self.old.state.kept) }
         requires room { length self.old.state.kept < self.old.row.transactions }
-        ensures { Does self.old self.new result (carried_out self.old modem kind tid (Put sfid flow reply)) }
+        ensures { Does twice self.old self.new result (carried_out self.old modem kind tid (Put sfid flow reply)) }
     {
         let bytes = Bytes::from_vec(write_reply(alloc, &reply)?);
-        let both = answer(alloc, modem, &bytes)?;
+        let both = answer(alloc, twice, modem, &bytes)?;
         self.flows.put(sfid, flow)?;
         self.keep(modem, kind, tid, bytes, sfid, true);
         Ok(both)
@@ -114,6 +124,7 @@ impl Machine {
     fn deleted_out(
         &mut self,
         alloc: Global,
+        twice: bool,
         modem: Modem,
         kind: Kind,
         tid: u16,
@@ -122,10 +133,10 @@ impl Machine {
     ) -> Result<Both, AllocError>
         requires free { IsNone (find (is_of modem tid) self.old.state.kept) }
         requires room { length self.old.state.kept < self.old.row.transactions }
-        ensures { Does self.old self.new result (carried_out self.old modem kind tid (Deleted sfid reply)) }
+        ensures { Does twice self.old self.new result (carried_out self.old modem kind tid (Deleted sfid reply)) }
     {
         let bytes = Bytes::from_vec(write_reply(alloc, &reply)?);
-        let both = answer(alloc, modem, &bytes)?;
+        let both = answer(alloc, twice, modem, &bytes)?;
         self.flows.remove(sfid);
         self.keep(modem, kind, tid, bytes, sfid, false);
         Ok(both)
@@ -135,6 +146,7 @@ impl Machine {
     fn carried_out(
         &mut self,
         alloc: Global,
+        twice: bool,
         modem: Modem,
         kind: Kind,
         tid: u16,
@@ -143,15 +155,15 @@ impl Machine {
         requires puts { MayPut (table_of self.old) verdict }
         requires free { IsNone (find (is_of modem tid) self.old.state.kept) }
         requires room { length self.old.state.kept < self.old.row.transactions }
-        ensures { Does self.old self.new result (carried_out self.old modem kind tid verdict) }
+        ensures { Does twice self.old self.new result (carried_out self.old modem kind tid verdict) }
     {
         match verdict {
-            Verdict::Refused { reply } => self.refused_out(alloc, modem, kind, tid, reply),
+            Verdict::Refused { reply } => self.refused_out(alloc, twice, modem, kind, tid, reply),
             Verdict::Put { sfid, flow, reply } => {
-                self.put_out(alloc, modem, kind, tid, sfid, flow, reply)
+                self.put_out(alloc, twice, modem, kind, tid, sfid, flow, reply)
             }
             Verdict::Deleted { sfid, reply } => {
-                self.deleted_out(alloc, modem, kind, tid, sfid, reply)
+                self.deleted_out(alloc, twice, modem, kind, tid, sfid, reply)
             }
         }
     }
@@ -161,28 +173,37 @@ impl Machine {
     fn early_answer(
         &self,
         alloc: Global,
+        twice: bool,
         modem: Modem,
         kind: Kind,
         tid: u16,
     ) -> Result<Option<Both>, AllocError>
         ensures told { IfOk result (λ early. IfSome early
             (λ both. IsAnswered self.now modem kind tid both.told.items)) }
+        ensures twice { IfOk result (λ early. IfSome early (λ both. both.twice ≡ twice)) }
         ensures new { IfOk result (λ early. IfNone early (IsNew self.now modem kind tid)) }
     {
         if tid >= 0x8000 {
-            let both = unkept(alloc, modem, kind, tid, Code::RejectUnknownTransaction)?;
+            let both = unkept(
+                alloc,
+                twice,
+                modem,
+                kind,
+                tid,
+                Code::RejectUnknownTransaction,
+            )?;
             return Ok(Some(both));
         }
         if let Some(entry) = self.kept.find(modem, tid) {
             let both = if entry.kind == kind {
-                answer(alloc, modem, &entry.reply)?
+                answer(alloc, twice, modem, &entry.reply)?
             } else {
-                silent(alloc, Some(modem), Cause::TidInUse)?
+                silent(alloc, twice, Some(modem), Cause::TidInUse)?
             };
             return Ok(Some(both));
         }
         if self.kept.len() >= usize::from(self.row.get_fields().transactions) {
-            let both = unkept(alloc, modem, kind, tid, Code::RejectTemporary)?;
+            let both = unkept(alloc, twice, modem, kind, tid, Code::RejectTemporary)?;
             return Ok(Some(both));
         }
         Ok(None)
@@ -192,19 +213,20 @@ impl Machine {
     fn request_handled(
         &mut self,
         alloc: Global,
+        twice: bool,
         modem: Modem,
         request: &Request,
     ) -> Result<Both, AllocError>
         requires { All (IsIn self.old.row.sids) (sids_of self.old.state.flows) }
-        ensures { Does self.old self.new result (message_handled self.old modem (Ok (messages.Request request.now))) }
+        ensures { Does twice self.old self.new result (message_handled self.old modem (Ok (messages.Request request.now))) }
     {
         let kind = kind_of(request);
         let tid = tid_of(request);
-        if let Some(both) = self.early_answer(alloc, modem, kind, tid)? {
+        if let Some(both) = self.early_answer(alloc, twice, modem, kind, tid)? {
             return Ok(both);
         }
         match self.verdict(alloc, modem, request) {
-            Ok(verdict) => self.carried_out(alloc, modem, kind, tid, verdict),
+            Ok(verdict) => self.carried_out(alloc, twice, modem, kind, tid, verdict),
             Err(AllocError) => Err(AllocError),
         }
     }
@@ -213,17 +235,18 @@ impl Machine {
     fn fault_handled(
         &mut self,
         alloc: Global,
+        twice: bool,
         modem: Modem,
         kind: Kind,
         tid: u16,
         reply: Reply,
     ) -> Result<Both, AllocError>
-        ensures { Does self.old self.new result (transacted self.old modem kind tid (Refused reply)) }
+        ensures { Does twice self.old self.new result (transacted self.old modem kind tid (Refused reply)) }
     {
-        if let Some(both) = self.early_answer(alloc, modem, kind, tid)? {
+        if let Some(both) = self.early_answer(alloc, twice, modem, kind, tid)? {
             return Ok(both);
         }
-        self.refused_out(alloc, modem, kind, tid, reply)
+        self.refused_out(alloc, twice, modem, kind, tid, reply)
     }
 
     /// The pending sets of a flow become its sets.
@@ -254,76 +277,86 @@ impl Machine {
     fn acked(
         &mut self,
         alloc: Global,
+        twice: bool,
         modem: Modem,
         tid: u16,
         kind: Kind,
         code: u8,
     ) -> Result<Both, AllocError>
-        ensures { Does self.old self.new result (acked self.old modem tid kind code) }
+        ensures { Does twice self.old self.new result (acked self.old modem tid kind code) }
     {
         let Some(sfid) = self.kept.acked(modem, tid, kind) else {
-            return silent(alloc, Some(modem), Cause::UnknownAck);
+            return silent(alloc, twice, Some(modem), Cause::UnknownAck);
         };
         if code == 0 {
             self.commit(sfid);
         } else {
             self.undo(kind, sfid);
         }
-        Ok(nothing(alloc))
+        Ok(nothing(alloc, twice))
     }
 
     /// A request for minislots.
     fn asked_of_flow(
         &mut self,
         alloc: Global,
+        twice: bool,
         modem: Modem,
         sid: u16,
         minislots: u16,
     ) -> Result<Both, AllocError>
-        ensures { Does self.old self.new result (asked_of_flow self.old modem sid minislots) }
+        ensures { Does twice self.old self.new result (asked_of_flow self.old modem sid minislots) }
     {
         let Some(asker) = self.flows.asker(sid) else {
-            return silent(alloc, Some(modem), Cause::NoSuchSid);
+            return silent(alloc, twice, Some(modem), Cause::NoSuchSid);
         };
         if asker.modem != modem {
-            return silent(alloc, Some(modem), Cause::NoSuchSid);
+            return silent(alloc, twice, Some(modem), Cause::NoSuchSid);
         }
         if !asker.may_ask {
-            return silent(alloc, Some(modem), Cause::NotRequesting);
+            return silent(alloc, twice, Some(modem), Cause::NotRequesting);
         }
         self.flows.request(asker.sfid, minislots, self.frame);
-        Ok(nothing(alloc))
+        Ok(nothing(alloc, twice))
     }
 
     /// A message that could not be read is handled.
     fn unread_handled(
         &mut self,
         alloc: Global,
+        twice: bool,
         modem: Modem,
         fault: MessageFault,
     ) -> Result<Both, AllocError>
         requires { HasRightId fault }
-        ensures does { Does self.old self.new result (message_handled self.old modem (Err fault)) }
+        ensures does { Does twice self.old self.new result (message_handled self.old modem (Err fault)) }
         ensures told { OnOk result ((read : Result Message MessageFault) → Fails fault read → read ≡ Err fault) }
     {
         match fault {
             MessageFault::NoMemory => Err(AllocError),
-            MessageFault::Empty => silent(alloc, Some(modem), Cause::Empty),
-            MessageFault::NotOurs { mtype: _ } => silent(alloc, Some(modem), Cause::NotOurs),
-            MessageFault::Short => silent(alloc, Some(modem), Cause::Short),
+            MessageFault::Empty => silent(alloc, twice, Some(modem), Cause::Empty),
+            MessageFault::NotOurs { mtype: _ } => silent(alloc, twice, Some(modem), Cause::NotOurs),
+            MessageFault::Short => silent(alloc, twice, Some(modem), Cause::Short),
             MessageFault::Tlv {
                 tid,
                 kind,
                 id,
                 fault,
-            } => self.fault_handled(alloc, modem, kind, tid, errored(kind, tid, id, fault)),
+            } => self.fault_handled(
+                alloc,
+                twice,
+                modem,
+                kind,
+                tid,
+                errored(kind, tid, id, fault),
+            ),
             MessageFault::LeftOut {
                 tid,
                 kind,
                 found: _,
             } => {
                 let reply = refusal(kind, tid, Code::RejectUnrecognizedSetting);
-                self.fault_handled(alloc, modem, kind, tid, reply)
+                self.fault_handled(alloc, twice, modem, kind, tid, reply)
             }
         }
     }
@@ -332,15 +365,16 @@ impl Machine {
     fn message_handled(
         &mut self,
         alloc: Global,
+        twice: bool,
         modem: Modem,
         message: &Message,
     ) -> Result<Both, AllocError>
         requires { All (IsIn self.old.row.sids) (sids_of self.old.state.flows) }
-        ensures { Does self.old self.new result (message_handled self.old modem (Ok message.now)) }
+        ensures { Does twice self.old self.new result (message_handled self.old modem (Ok message.now)) }
     {
         match message {
-            Message::Request(request) => self.request_handled(alloc, modem, request),
-            Message::Ack { kind, tid, code } => self.acked(alloc, modem, *tid, *kind, *code),
+            Message::Request(request) => self.request_handled(alloc, twice, modem, request),
+            Message::Ack { kind, tid, code } => self.acked(alloc, twice, modem, *tid, *kind, *code),
         }
     }
 
@@ -348,18 +382,19 @@ impl Machine {
     fn read_handled(
         &mut self,
         alloc: Global,
+        twice: bool,
         modem: Modem,
         said: Result<Message, MessageFault>,
     ) -> Result<Both, AllocError>
         requires sids { All (IsIn self.old.row.sids) (sids_of self.old.state.flows) }
         requires right { IfErr said HasRightId }
         ensures does { (read : Result Message MessageFault) → Gives (λ m. m) said read
-            → Does self.old self.new result (message_handled self.old modem read) }
+            → Does twice self.old self.new result (message_handled self.old modem read) }
         ensures err { OnErr result (self.new ≡ self.old) }
     {
         match said {
-            Ok(message) => self.message_handled(alloc, modem, &message),
-            Err(fault) => self.unread_handled(alloc, modem, fault),
+            Ok(message) => self.message_handled(alloc, twice, modem, &message),
+            Err(fault) => self.unread_handled(alloc, twice, modem, fault),
         }
     }
 
@@ -371,44 +406,58 @@ impl Machine {
     }
 
     /// What was heard first is handled, and taken out of the inbox.
-    pub(crate) fn work(&mut self, alloc: Global) -> Result<Both, AllocError>
+    pub(crate) fn work(&mut self, alloc: Global, twice: bool) -> Result<Both, AllocError>
         requires { All (IsIn self.old.row.sids) (sids_of self.old.state.flows) }
-        ensures { Does self.old self.new result (worked self.old) }
+        ensures { Does twice self.old self.new result (worked self.old) }
     {
         let Some(first) = self.inbox.front() else {
-            return silent(alloc, None, Cause::Idle);
+            return silent(alloc, twice, None, Cause::Idle);
         };
         let modem = first.modem;
         match &first.heard {
             Heard::Message(bytes) => {
                 let said = read(alloc, bytes.as_slice());
-                let both = self.read_handled(alloc, modem, said)?;
+                let both = self.read_handled(alloc, twice, modem, said)?;
                 self.take_first();
                 Ok(both)
             }
             Heard::Request { sid, minislots } => {
                 let (sid, minislots) = (*sid, *minislots);
-                let both = self.asked_of_flow(alloc, modem, sid, minislots)?;
+                let both = self.asked_of_flow(alloc, twice, modem, sid, minislots)?;
                 self.take_first();
                 Ok(both)
             }
         }
     }
 
-    /// What was heard goes to the end of the inbox.
+    /// What was heard goes to the end of the inbox, without a copy.
+    pub(crate) fn take_in(
+        &mut self,
+        alloc: Global,
+        twice: bool,
+        modem: Modem,
+        heard: Heard,
+    ) -> Result<Both, AllocError>
+        ensures { Does twice self.old self.new result (arrived self.old modem heard) }
+    {
+        if self.inbox.len() >= usize::from(self.row.get_fields().inbox) {
+            return silent(alloc, twice, Some(modem), Cause::InboxFull);
+        }
+        self.inbox.push_back(Arrival { modem, heard })?;
+        Ok(nothing(alloc, twice))
+    }
+
+    /// A copy of what was heard goes to the end of the inbox.
     pub(crate) fn arrive(
         &mut self,
         alloc: Global,
+        twice: bool,
         modem: Modem,
         heard: &Heard,
     ) -> Result<Both, AllocError>
-        ensures { Does self.old self.new result (arrived self.old modem heard.now) }
+        ensures { Does twice self.old self.new result (arrived self.old modem heard.now) }
     {
-        if self.inbox.len() >= usize::from(self.row.get_fields().inbox) {
-            return silent(alloc, Some(modem), Cause::InboxFull);
-        }
         let heard = heard.copy(alloc)?;
-        self.inbox.push_back(Arrival { modem, heard })?;
-        Ok(nothing(alloc))
+        self.take_in(alloc, twice, modem, heard)
     }
 }

@@ -58,16 +58,23 @@ impl SoundMachine {
         Ok(SoundMachine { machine })
     }
 
-    /// Does an action that is not refused, and tells what it puts out, twice.
-    fn act(&mut self, alloc: Global, ranking: &Ranking, action: &Action) -> Result<Both, AllocError>
+    /// Does an action that is not refused, and tells what it puts out, maybe twice.
+    fn act(
+        &mut self,
+        alloc: Global,
+        twice: bool,
+        ranking: &Ranking,
+        action: Action,
+    ) -> Result<Both, AllocError>
         requires policy { ranking.now.policy ≡ self.old.row.policy }
-        requires allowed { IsAllowed self.old action.now }
-        ensures state { OnOk result (self.new ≡ after_step self.old action.now) }
-        ensures outputs { IfOk result (λ both. both.told.items ≡ (own_step self.old action.now).outputs) }
+        requires allowed { IsAllowed self.old action }
+        ensures state { OnOk result (self.new ≡ after_step self.old action) }
+        ensures outputs { IfOk result (λ both. both.told.items ≡ (own_step self.old action).outputs) }
+        ensures twice { IfOk result (λ both. both.twice ≡ twice) }
         ensures err { OnErr result (self.new ≡ self.old) }
     {
         step_keeps_sound();
-        self.machine.step(alloc, ranking, action)
+        self.machine.step_with(alloc, twice, ranking, action)
     }
 
     /// Takes a slice that fits from a later frame on, with no memory.
@@ -108,32 +115,33 @@ impl Live {
         Ok(Live { sound, ranking })
     }
 
-    /// Does an action, and tells what it puts out, twice: for the caller, and for what the caller keeps of it. A refused action changes
+    /// Does an action, and tells what it puts out, and where `twice` once more: for what the caller keeps of it. A refused action changes
     /// nothing.
     pub fn act(
         &mut self,
         alloc: Global,
-        action: &Action,
+        action: Action,
+        twice: bool,
     ) -> Result<(Vec<Output>, Vec<Output>), BookFault>
-        ensures state { OnOk result (self.new.sound ≡ after_step self.old.sound action.now) }
-        ensures outputs { IfOk result (λ both. (both.0.items ≡ (own_step self.old.sound action.now).outputs)
-            × (both.1.items ≡ (own_step self.old.sound action.now).outputs)) }
+        ensures state { OnOk result (self.new.sound ≡ after_step self.old.sound action) }
+        ensures outputs { IfOk result (λ both. both.0.items ≡ (own_step self.old.sound action).outputs) }
+        ensures again { IfOk result (λ both. twice ≡ true → both.1.items ≡ (own_step self.old.sound action).outputs) }
 
         // A stranger is refused first, then a tick past the last frame, then a slice that does not fit, and only these are;
         // else only memory can be wanting.
         ensures not_mine { (modem : Modem) → (result ≡ Err (BookFault.NotMine modem))
-            ↔ (stranger_of self.old.sound.row action.now ≡ Some modem) }
-        ensures spent { (result ≡ Err BookFault.FramesSpent) ↔ (is_spent self.old.sound.state action.now ≡ true) }
+            ↔ (stranger_of self.old.sound.row action ≡ Some modem) }
+        ensures spent { (result ≡ Err BookFault.FramesSpent) ↔ (is_spent self.old.sound.state action ≡ true) }
         ensures unfit { (u : Unfit) → (result ≡ Err (BookFault.Unfit u))
-            ↔ (unfit_of self.old.sound.consts self.old.sound.state action.now ≡ Some u) }
-        ensures allowed { OnOk result (IsAllowed self.old.sound action.now) }
+            ↔ (unfit_of self.old.sound.consts self.old.sound.state action ≡ Some u) }
+        ensures allowed { OnOk result (IsAllowed self.old.sound action) }
         ensures err { OnErr result (self.new.sound ≡ self.old.sound) }
     {
-        if let Err(fault) = self.sound.machine.judge(action) {
+        if let Err(fault) = self.sound.machine.judge(&action) {
             return Err(fault);
         }
-        let Both { kept, told } = self.sound.act(alloc, &self.ranking, action)?;
-        Ok((told, kept))
+        let both = self.sound.act(alloc, twice, &self.ranking, action)?;
+        Ok((both.told, both.kept))
     }
 
     /// Whether a slice and a budget can be taken from this frame on. Takes no memory.

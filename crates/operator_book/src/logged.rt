@@ -80,7 +80,7 @@ impl Logged {
     {
         self.kept();
         room_for_one(&mut self.history)?;
-        let both = self.machine.step(alloc, ranking, &action)?;
+        let both = self.machine.step(alloc, true, ranking, &action)?;
         self.history.push_reserved(Entry {
             action,
             outputs: Outputs::from_vec(both.kept),

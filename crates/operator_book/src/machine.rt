@@ -1,6 +1,6 @@
 //! The machine of a book: what it holds, and the outputs of an action.
 
-ghost use Rattle.std.specs.Prelude.{◌≡◌, [], ◌∷◌, IfOk};
+ghost use Rattle.std.specs.Prelude.{◌≡◌, true, [], ◌∷◌, IfOk};
 ghost use Rattle.operator_machine.specs.declared.output.Output.TheVariants as outputs;
 
 use dsx_messages::Modem;
@@ -41,21 +41,24 @@ impl Model for Machine {
     ghost invariant = { λ m. IsMachine m.consts m.row m.flows m.kept };
 }
 
-/// The outputs of an action twice: for the history and for the caller.
+/// The outputs of an action for the caller and, where they are told twice, once more: for the history.
 #[derive(Drop)]
 pub(crate) struct Both {
     pub kept: Vec<Output>,
     pub told: Vec<Output>,
-    pub ghost same: { kept.items ≡ told.items },
+    pub twice: bool,
+    pub ghost same: { twice ≡ true → kept.items ≡ told.items },
 }
 
 /// Nothing is put out.
-pub(crate) fn nothing(alloc: Global) -> Both
-    ensures { result.told.items ≡ [] }
+pub(crate) fn nothing(alloc: Global, twice: bool) -> Both
+    ensures told { result.told.items ≡ [] }
+    ensures twice { result.twice ≡ twice }
 {
     Both {
         kept: Vec::new(alloc),
         told: Vec::new(alloc),
+        twice,
     }
 }
 
@@ -68,22 +71,72 @@ fn single(alloc: Global, output: Output) -> Result<Vec<Output>, AllocError>
     Ok(outputs)
 }
 
-/// No answer.
-pub(crate) fn silent(alloc: Global, modem: Option<Modem>, cause: Cause) -> Result<Both, AllocError>
-    ensures { IfOk result (λ both. both.told.items ≡ outputs.Silent modem cause ∷ []) }
+/// No answer, where it is wanted.
+fn silence_if(
+    alloc: Global,
+    wanted: bool,
+    modem: Option<Modem>,
+    cause: Cause,
+) -> Result<Vec<Output>, AllocError>
+    ensures { IfOk result (λ told. wanted ≡ true → told.items ≡ outputs.Silent modem cause ∷ []) }
 {
-    let kept = single(alloc, Output::Silent { modem, cause })?;
+    if wanted {
+        single(alloc, Output::Silent { modem, cause })
+    } else {
+        Ok(Vec::new(alloc))
+    }
+}
+
+/// No answer.
+pub(crate) fn silent(
+    alloc: Global,
+    twice: bool,
+    modem: Option<Modem>,
+    cause: Cause,
+) -> Result<Both, AllocError>
+    ensures told { IfOk result (λ both. both.told.items ≡ outputs.Silent modem cause ∷ []) }
+    ensures twice { IfOk result (λ both. both.twice ≡ twice) }
+{
+    let kept = silence_if(alloc, twice, modem, cause)?;
     let told = single(alloc, Output::Silent { modem, cause })?;
-    Ok(Both { kept, told })
+    Ok(Both { kept, told, twice })
 }
 
 /// A reply of these bytes.
-pub(crate) fn answer(alloc: Global, modem: Modem, reply: &Bytes) -> Result<Both, AllocError>
-    ensures { IfOk result (λ both. both.told.items ≡ outputs.Reply modem reply.now ∷ []) }
+fn reply_of(alloc: Global, modem: Modem, reply: &Bytes) -> Result<Vec<Output>, AllocError>
+    ensures { IfOk result (λ told. told.items ≡ outputs.Reply modem reply.now ∷ []) }
 {
     let bytes = reply.copy(alloc)?;
-    let kept = single(alloc, Output::Reply { modem, bytes })?;
-    let bytes = reply.copy(alloc)?;
-    let told = single(alloc, Output::Reply { modem, bytes })?;
-    Ok(Both { kept, told })
+    single(alloc, Output::Reply { modem, bytes })
+}
+
+/// A reply of these bytes, where it is wanted.
+fn reply_if(
+    alloc: Global,
+    wanted: bool,
+    modem: Modem,
+    reply: &Bytes,
+) -> Result<Vec<Output>, AllocError>
+    ensures { IfOk result (λ told. wanted ≡ true → told.items ≡ outputs.Reply modem reply.now ∷ []) }
+{
+    if wanted {
+        reply_of(alloc, modem, reply)
+    } else {
+        Ok(Vec::new(alloc))
+    }
+}
+
+/// A reply of these bytes is told.
+pub(crate) fn answer(
+    alloc: Global,
+    twice: bool,
+    modem: Modem,
+    reply: &Bytes,
+) -> Result<Both, AllocError>
+    ensures told { IfOk result (λ both. both.told.items ≡ outputs.Reply modem reply.now ∷ []) }
+    ensures twice { IfOk result (λ both. both.twice ≡ twice) }
+{
+    let kept = reply_if(alloc, twice, modem, reply)?;
+    let told = reply_of(alloc, modem, reply)?;
+    Ok(Both { kept, told, twice })
 }

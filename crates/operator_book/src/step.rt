@@ -16,6 +16,7 @@ impl Machine {
     pub(crate) fn step(
         &mut self,
         alloc: Global,
+        twice: bool,
         ranking: &Ranking,
         action: &Action,
     ) -> Result<Both, AllocError>
@@ -23,18 +24,47 @@ impl Machine {
         requires policy { ranking.now.policy ≡ self.old.row.policy }
         requires not_spent { is_spent self.old.state action.now ≡ false }
         requires fit { unfit_of self.old.consts self.old.state action.now ≡ None }
-        ensures { Does self.old self.new result (own_step self.old action.now) }
+        ensures { Does twice self.old self.new result (own_step self.old action.now) }
     {
         match action {
-            Action::Arrive { modem, heard } => self.arrive(alloc, *modem, heard),
-            Action::Work => self.work(alloc),
+            Action::Arrive { modem, heard } => self.arrive(alloc, twice, *modem, heard),
+            Action::Work => self.work(alloc, twice),
             Action::Tick => {
                 let _frame = self.frame;
-                self.tick(alloc, ranking)
+                self.tick(alloc, twice, ranking)
             }
             Action::Reslice { from, row } => {
                 self.reslice(*from, *row);
-                Ok(nothing(alloc))
+                Ok(nothing(alloc, twice))
+            }
+        }
+    }
+
+    /// Does an action that is not refused, of which what was heard is not copied.
+    #[tactic(auto, unfolding(operator_machine::specs::Machine::own_step))]
+    pub(crate) fn step_with(
+        &mut self,
+        alloc: Global,
+        twice: bool,
+        ranking: &Ranking,
+        action: Action,
+    ) -> Result<Both, AllocError>
+        requires sound { IsSound self.old }
+        requires policy { ranking.now.policy ≡ self.old.row.policy }
+        requires not_spent { is_spent self.old.state action ≡ false }
+        requires fit { unfit_of self.old.consts self.old.state action ≡ None }
+        ensures { Does twice self.old self.new result (own_step self.old action) }
+    {
+        match action {
+            Action::Arrive { modem, heard } => self.take_in(alloc, twice, modem, heard),
+            Action::Work => self.work(alloc, twice),
+            Action::Tick => {
+                let _frame = self.frame;
+                self.tick(alloc, twice, ranking)
+            }
+            Action::Reslice { from, row } => {
+                self.reslice(from, row);
+                Ok(nothing(alloc, twice))
             }
         }
     }

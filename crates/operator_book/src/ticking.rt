@@ -115,12 +115,17 @@ impl Machine {
         }
     }
 
-    /// Counts the timers one tick on, gives out the frame, and goes on to the next.
-    pub(crate) fn tick(&mut self, alloc: Global, ranking: &Ranking) -> Result<Both, AllocError>
+    /// Counts the timers one tick on, gives out the frame, and goes on to the next. What it puts out is told twice in any case.
+    pub(crate) fn tick(
+        &mut self,
+        alloc: Global,
+        twice: bool,
+        ranking: &Ranking,
+    ) -> Result<Both, AllocError>
         requires sound { IsSound self.old }
         requires policy { ranking.now.policy ≡ self.old.row.policy }
         requires not_spent { self.old.state.frame < 4294967295 }
-        ensures { Does self.old self.new result (ticked self.old) }
+        ensures { Does twice self.old self.new result (ticked self.old) }
     {
         let Served { elements, granted } = self.served(alloc, ranking)?;
         let copied = elements.copy(alloc)?;
@@ -135,6 +140,6 @@ impl Machine {
         self.go_on();
         let kept = frame_outputs(kept_room, resends, number, copied);
         let told = frame_outputs(told_room, ticked.resend, number, elements);
-        Ok(Both { kept, told })
+        Ok(Both { kept, told, twice })
     }
 }

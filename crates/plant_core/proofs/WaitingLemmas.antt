@@ -103,15 +103,17 @@ long : (n count : ℕ) → length (range_with_len n count) ≡ count
 long n zero = refl
 long n (suc count) = ap suc (long (n + 1) count)
 
-pub one_frame : (consts : ConstsFields) (row : RowFields) (state : OperatorState) (action : Action) → length (frames_of (own_step (operator consts row state) action).outputs) ≤ 1
-one_frame consts row state action =
+-- as many frames as the action is a tick
+pub frames_are : (consts : ConstsFields) (row : RowFields) (state : OperatorState) (action : Action) → length (frames_of (own_step (operator consts row state) action).outputs) ≡ count_by is_tick (action ∷ [])
+frames_are consts row state action =
     let puts = run_puts consts row state (action ∷ []) in
     let plain : (own_step (operator consts row state) action).outputs ++ [] ≡ (own_step (operator consts row state) action).outputs = append-nil (own_step (operator consts row state) action).outputs in
-    let same : length (frames_of (own_step (operator consts row state) action).outputs) ≡ count_by is_tick (action ∷ []) =
     as_many (own_step (operator consts row state) action).outputs
     ∙ (ap (λ (outputs : List Output). length (filter_map frame_of outputs)) (sym plain)
-    ∙ (ap (λ (ns : List ℕ). length ns) puts.numbers ∙ long state.frame (count_by is_tick (action ∷ [])))) in
-    omega (arith, same, ticks action)
+    ∙ (ap (λ (ns : List ℕ). length ns) puts.numbers ∙ long state.frame (count_by is_tick (action ∷ []))))
+
+pub one_frame : (consts : ConstsFields) (row : RowFields) (state : OperatorState) (action : Action) → length (frames_of (own_step (operator consts row state) action).outputs) ≤ 1
+one_frame consts row state action = omega (arith, frames_are consts row state action, ticks action)
 
 all_more : (entry : Entry) (history : List Entry) → IsOneFrame entry → All IsOneFrame history → (k : ℕ) (d : Entry) → k < length (entry ∷ history)
     → IsOneFrame (slice_index_or (entry ∷ history) k d)

@@ -20,6 +20,7 @@ returns-in_ok-both-in-Message c =
     record {
       state = c.take_first.ensures ∙ ap without_first done.state ∙ ap (with_state c.args.self.now) is;
       outputs = done.outputs ∙ ap (λ (r : Ran). r.outputs) is;
+      twice = done.twice;
       err = tt;
     }
 
@@ -31,5 +32,6 @@ returns-in_ok-both-in-Request c =
     record {
       state = c.take_first-in-Request.ensures ∙ ap without_first done.state ∙ ap (with_state c.args.self.now) is;
       outputs = done.outputs ∙ ap (λ (r : Ran). r.outputs) is;
+      twice = done.twice;
       err = tt;
     }
