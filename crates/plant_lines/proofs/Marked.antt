@@ -1,5 +1,5 @@
 -- Numbers behind marks, and pairs of digits.
-use Rattle.std.proofs.Common.{◌≡◌, ℕ, ◌+◌, ◌-◌, ◌^◌, ◌<◌, ◌≤◌, List, [], ◌∷◌, ◌++◌, length, drop, set, arith, ap, ◌∙◌, sym, append_assoc}
+use Rattle.std.proofs.Common.{◌≡◌, ℕ, ◌+◌, ◌-◌, ◌^◌, ◌<◌, ◌≤◌, List, [], ◌∷◌, ◌++◌, length, drop, set, arith, ap, ◌∙◌, refl, sym, subst, length-set, append_assoc}
 use Rattle.std.specs.Fmt.{decimal}
 use Rattle.std.specs.Str.{IsAscii}
 use Rattle.std.proofs.lemmas.Fmt.{length-decimal-le, IsAscii-decimal}
@@ -8,7 +8,7 @@ use Rattle.std.proofs.lemmas.Str.Ascii.{IsAscii-cons, IsAscii-nil}
 use Rattle.std.proofs.lemmas.List.{drop-set}
 use Rattle.slice_scheduler.specs.declared.span.Span.{Span}
 use Rattle.slice_scheduler.specs.Iuc.{number_of}
-use Rattle.plant_lines.specs.Text.{spaced, span_text}
+use Rattle.plant_lines.specs.Text.{spaced, span_text, pending_text}
 
 -- a number of 16 bits has at most 5 digits
 pub few_digits : (n : ℕ) → n < 2 ^ 16 → length (decimal n) ≤ 5
@@ -57,3 +57,14 @@ headed old one two new head name rest first second third =
     third
     ∙ (ap (λ (t : List ℕ). t ++ rest) (second ∙ ap (λ (t : List ℕ). t ++ name) first)
     ∙ (append_assoc (old ++ head) name rest ∙ append_assoc old head (name ++ rest)))
+
+-- the mark of a grant pending, written before what stands from a place on
+pub pending_marks : (xs : List ℕ) (end : ℕ) → 2 ≤ end → end ≤ length xs → drop (end - 2) (set (set xs (end - 1) 80) (end - 2) 47) ≡ 47 ∷ 80 ∷ drop end xs
+pending_marks xs end some within =
+    let len : length (set xs (end - 1) 80) ≡ length xs = length-set xs (end - 1) 80 in
+    let back : end - 1 - 1 ≡ end - 2 = omega arith in
+    subst (λ (i : ℕ). drop i (set (set xs (end - 1) 80) i 47) ≡ 47 ∷ 80 ∷ drop end xs) back
+    (marked (set xs (end - 1) 80) (80 ∷ drop end xs) (end - 1) 47 (omega arith) (omega (arith, len)) (marked xs (drop end xs) end 80 (omega arith) within refl))
+
+pub pending_before : (sid : ℕ) (d2 d1 d0 : List ℕ) → d2 ≡ 32 ∷ (decimal sid ++ d1) → d1 ≡ 47 ∷ 80 ∷ d0 → d2 ≡ spaced (pending_text sid) ++ d0
+pending_before sid d2 d1 d0 e2 e1 = rw (e2, e1) (ap (λ (t : List ℕ). 32 ∷ t) (sym (append_assoc (decimal sid) (47 ∷ 80 ∷ []) d0)))

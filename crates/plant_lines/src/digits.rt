@@ -25,10 +25,16 @@ pub(crate) const SPANS_ROOM: usize = 768;
 const PENDING_ROOM: usize = 6;
 
 /// The bytes of a grant pending behind a space, at most.
-pub(crate) const PENDING_END: usize = 8;
+const PENDING_END: usize = 8;
+
+/// How many grants pending are written at once.
+pub(crate) const PENDINGS: usize = 32;
+
+/// The bytes of so many grants pending, at most.
+pub(crate) const PENDINGS_ROOM: usize = 256;
 
 /// A grant pending, but for its number.
-pub(crate) const NO_PENDING: &[u8; PENDING_END] = b"      /P";
+const NO_PENDING: &[u8; PENDING_END] = b"      /P";
 
 /// Adds the characters from a place on, all of them ASCII.
 fn put_from(text: &mut String, room: &[u8], place: usize) -> Result<(), AllocError>
@@ -108,8 +114,34 @@ pub(crate) fn put_span(text: &mut String, span: Span) -> Result<(), AllocError>
     put_from(text, &room, place)
 }
 
+/// Writes a grant pending behind a space, up to a place of its room. Answers where it begins.
+fn marked_pending(room: &mut [u8], sid: u16, end: usize) -> usize
+    requires { (8 ≤ end) × (end ≤ length room.old) }
+    ensures start { (end ≤ result + 8) × (result ≤ end) }
+    ensures written { drop result room.new ≡ spaced (pending_text sid) ++ drop end room.old }
+{
+    room[end - 1] = b'P';
+    room[end - 2] = b'/';
+    write_marked(room, b' ', sid, end - 2)
+}
+
+/// Writes few grants pending, each behind a space, at the end of their room. Answers where they begin.
+pub(crate) fn pendings_digits(room: &mut [u8; PENDINGS_ROOM], pending: &[u16]) -> usize
+    requires { length pending.now ≤ 32 }
+    ensures within { result ≤ 256 }
+    ensures written { drop result room.new ≡ flat_map (λ sid. spaced (pending_text sid)) pending.now }
+{
+    let mut place = PENDINGS_ROOM;
+    let mut left = pending.len();
+    while left > 0 {
+        left -= 1;
+        place = marked_pending(room, pending[left], place);
+    }
+    place
+}
+
 /// Writes a grant pending behind a space at the end of its room, of which the mark stands there. Answers where it begins.
-pub(crate) fn pending_digits(room: &mut [u8; PENDING_END], sid: u16) -> usize
+fn pending_digits(room: &mut [u8; PENDING_END], sid: u16) -> usize
     requires { drop 6 room.old ≡ codes "/P" }
     ensures within { result ≤ 8 }
     ensures written { drop result room.new ≡ spaced (pending_text sid) }

@@ -9,7 +9,8 @@ ghost use Rattle.plant_lines.specs.Text.{address, spaced, span_text, pending_tex
 
 use crate::causes::name_of;
 use crate::digits::{
-    NO_PENDING, SPANS, SPANS_ROOM, address_digits, pending_digits, reply_head, spans_digits,
+    PENDINGS, PENDINGS_ROOM, SPANS, SPANS_ROOM, address_digits, pendings_digits, reply_head,
+    spans_digits,
 };
 use crate::hexadecimal::write_hex_line;
 use dsx_messages::Modem;
@@ -52,12 +53,14 @@ fn write_spans<W: Write>(writer: &mut W, spans: &[Span]) -> io::Result<()>
     write_few_spans(writer, &spans[place..])
 }
 
-/// A grant pending behind a space.
-fn write_one_pending<W: Write>(writer: &mut W, sid: u16) -> io::Result<()>
-    ensures { OnOk result (Appends (W.contents writer.old) (W.contents writer.new) (spaced (pending_text sid))) }
+/// Few grants pending, each behind a space.
+fn write_few_pending<W: Write>(writer: &mut W, pending: &[u16]) -> io::Result<()>
+    requires { length pending.now ≤ 32 }
+    ensures { OnOk result (Appends (W.contents writer.old) (W.contents writer.new)
+        (flat_map (λ sid. spaced (pending_text sid)) pending.now)) }
 {
-    let mut room = *NO_PENDING;
-    let place = pending_digits(&mut room, sid);
+    let mut room = [0u8; PENDINGS_ROOM];
+    let place = pendings_digits(&mut room, pending);
     writer.write_all(&room[place..])
 }
 
@@ -66,10 +69,12 @@ fn write_pending<W: Write>(writer: &mut W, pending: &[u16]) -> io::Result<()>
     ensures { OnOk result (Appends (W.contents writer.old) (W.contents writer.new)
         (flat_map (λ sid. spaced (pending_text sid)) pending.now)) }
 {
-    for sid in pending {
-        write_one_pending(writer, *sid)?;
+    let mut place = 0;
+    while pending.len() - place > PENDINGS {
+        write_few_pending(writer, &pending[place..place + PENDINGS])?;
+        place += PENDINGS;
     }
-    Ok(())
+    write_few_pending(writer, &pending[place..])
 }
 
 /// The elements of a frame, each behind a space.
