@@ -1,4 +1,5 @@
 pub mod Bars
+pub mod Encoded
 pub mod Marked
 pub mod Outcomes
 pub mod Scripts

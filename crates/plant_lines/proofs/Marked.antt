@@ -1,14 +1,11 @@
 -- Numbers behind marks, and pairs of digits.
-use Rattle.std.proofs.Common.{◌≡◌, ℕ, zero, suc, ◌+◌, ◌-◌, ◌^◌, ◌<◌, ◌≤◌, List, [], ◌∷◌, ◌++◌, length, drop, set, arith, ap, ◌∙◌, refl, append-nil, append_assoc, codes, get_or, ◌/◌, ◌%◌, Bool, true, ◌&&◌, T, eqb, eqb→eq, eq-zero-or-pos, inl, inr}
-use Rattle.std.specs.Prelude.{slice_index}
+use Rattle.std.proofs.Common.{◌≡◌, ℕ, ◌+◌, ◌-◌, ◌^◌, ◌<◌, ◌≤◌, List, [], ◌∷◌, ◌++◌, length, drop, set, arith, ap, ◌∙◌, refl, sym, subst, length-set, append_assoc}
 use Rattle.std.specs.Fmt.{decimal}
 use Rattle.std.specs.Str.{IsAscii}
 use Rattle.std.proofs.lemmas.Fmt.{length-decimal-le, IsAscii-decimal}
 use Rattle.std.proofs.lemmas.Str.{IsAscii-append}
 use Rattle.std.proofs.lemmas.Str.Ascii.{IsAscii-cons, IsAscii-nil}
 use Rattle.std.proofs.lemmas.List.{drop-set}
-use Rattle.hex.specs.Hex.{upper_digits, encode_upper, encode_with}
-use lib.Ieee.Fits.{and_l, and_r}
 use Rattle.slice_scheduler.specs.declared.span.Span.{Span}
 use Rattle.slice_scheduler.specs.Iuc.{number_of}
 use Rattle.plant_lines.specs.Text.{spaced, span_text, pending_text}
@@ -29,18 +26,25 @@ pub marked_ascii : (m n : ℕ) (rest : List ℕ) → m < 128 → n < 2 ^ 16 → 
 marked_ascii m n rest lt h ascii = IsAscii-cons m _ lt (IsAscii-append (decimal n) rest (IsAscii-decimal n (omega arith)) ascii)
 
 -- four numbers, each behind a mark
-abbrev pub in_marks : ℕ → ℕ → ℕ → ℕ → List ℕ
-in_marks sid iuc start len = 32 ∷ (decimal sid ++ 47 ∷ (decimal iuc ++ 47 ∷ (decimal start ++ 47 ∷ (decimal len ++ []))))
+abbrev pub in_marks : List ℕ → List ℕ → List ℕ → List ℕ → List ℕ
+in_marks sid iuc start len = 32 ∷ (sid ++ 47 ∷ (iuc ++ 47 ∷ (start ++ 47 ∷ len)))
 
-pub marks_are : (span : Span) → in_marks span.sid (number_of span.iuc) span.start span.len ≡ spaced (span_text span)
-marks_are span = rw append-nil refl
+-- the same before what stands behind them
+marks_before : (sid iuc start len rest : List ℕ) → 32 ∷ (sid ++ 47 ∷ (iuc ++ 47 ∷ (start ++ 47 ∷ (len ++ rest)))) ≡ in_marks sid iuc start len ++ rest
+marks_before sid iuc start len rest =
+    ap (λ (t : List ℕ). 32 ∷ t)
+    (sym (append_assoc sid (47 ∷ (iuc ++ 47 ∷ (start ++ 47 ∷ len))) rest
+    ∙ ap (λ (t : List ℕ). sid ++ 47 ∷ t) (append_assoc iuc (47 ∷ (start ++ 47 ∷ len)) rest
+    ∙ ap (λ (t : List ℕ). iuc ++ 47 ∷ t) (append_assoc start (47 ∷ len) rest))))
 
 pub pending_ascii : IsAscii (47 ∷ 80 ∷ [])
 pending_ascii = IsAscii-cons 47 (80 ∷ []) (omega arith) (IsAscii-cons 80 [] (omega arith) IsAscii-nil)
 
 -- four numbers written one before the other
-pub marks_written : (sid iuc start len : ℕ) (d4 d3 d2 d1 d0 : List ℕ) → d4 ≡ 32 ∷ (decimal sid ++ d3) → d3 ≡ 47 ∷ (decimal iuc ++ d2) → d2 ≡ 47 ∷ (decimal start ++ d1) → d1 ≡ 47 ∷ (decimal len ++ d0) → d0 ≡ [] → d4 ≡ in_marks sid iuc start len
-marks_written sid iuc start len d4 d3 d2 d1 d0 e4 e3 e2 e1 e0 = rw (e4, e3, e2, e1, e0) refl
+pub marks_written : (span : Span) (d4 d3 d2 d1 d0 : List ℕ) → d4 ≡ 32 ∷ (decimal span.sid ++ d3) → d3 ≡ 47 ∷ (decimal (number_of span.iuc) ++ d2)
+    → d2 ≡ 47 ∷ (decimal span.start ++ d1) → d1 ≡ 47 ∷ (decimal span.len ++ d0) → d4 ≡ spaced (span_text span) ++ d0
+marks_written span d4 d3 d2 d1 d0 e4 e3 e2 e1 =
+    rw (e4, e3, e2, e1) (marks_before (decimal span.sid) (decimal (number_of span.iuc)) (decimal span.start) (decimal span.len) d0)
 
 -- two characters before others
 pub pair_ascii : (a b : ℕ) (rest : List ℕ) → (a < 128) × (b < 128) → IsAscii rest → IsAscii (a ∷ b ∷ rest)
@@ -54,9 +58,13 @@ headed old one two new head name rest first second third =
     ∙ (ap (λ (t : List ℕ). t ++ rest) (second ∙ ap (λ (t : List ℕ). t ++ name) first)
     ∙ (append_assoc (old ++ head) name rest ∙ append_assoc old head (name ++ rest)))
 
--- bytes in hexadecimal, one list behind the other
-pub encode_more : (t xs ys : List ℕ) → encode_with t (xs ++ ys) ≡ encode_with t xs ++ encode_with t ys
-unfolding encode_with
-encode_more t [] ys = refl
-encode_more t (b ∷ xs) ys =
-    ap (λ (more : List ℕ). slice_index t (b / 16) ∷ slice_index t (b % 16) ∷ more) (encode_more t xs ys)
+-- the mark of a grant pending, written before what stands from a place on
+pub pending_marks : (xs : List ℕ) (end : ℕ) → 2 ≤ end → end ≤ length xs → drop (end - 2) (set (set xs (end - 1) 80) (end - 2) 47) ≡ 47 ∷ 80 ∷ drop end xs
+pending_marks xs end some within =
+    let len : length (set xs (end - 1) 80) ≡ length xs = length-set xs (end - 1) 80 in
+    let back : end - 1 - 1 ≡ end - 2 = omega arith in
+    subst (λ (i : ℕ). drop i (set (set xs (end - 1) 80) i 47) ≡ 47 ∷ 80 ∷ drop end xs) back
+    (marked (set xs (end - 1) 80) (80 ∷ drop end xs) (end - 1) 47 (omega arith) (omega (arith, len)) (marked xs (drop end xs) end 80 (omega arith) within refl))
+
+pub pending_before : (sid : ℕ) (d2 d1 d0 : List ℕ) → d2 ≡ 32 ∷ (decimal sid ++ d1) → d1 ≡ 47 ∷ 80 ∷ d0 → d2 ≡ spaced (pending_text sid) ++ d0
+pending_before sid d2 d1 d0 e2 e1 = rw (e2, e1) (ap (λ (t : List ℕ). 32 ∷ t) (sym (append_assoc (decimal sid) (47 ∷ 80 ∷ []) d0)))

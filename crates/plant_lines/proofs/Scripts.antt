@@ -1,13 +1,17 @@
 -- Lines of a script, one after the other.
-use Rattle.std.proofs.Common.{◌≡◌, ℕ, zero, suc, ◌+◌, ◌<◌, List, [], ◌∷◌, ◌++◌, length, drop, Ok, Err, refl, sym, ap, ◌∙◌, add-one, arith}
+use Rattle.std.proofs.Common.{◌≡◌, ℕ, zero, suc, ◌+◌, ◌<◌, List, [], ◌∷◌, ◌++◌, length, drop, Bool, true, false, if◌then◌else◌, codes, Ok, Err, refl, sym, ap, ◌∙◌, add-one, arith}
+use Rattle.std.specs.Str.{bytes_eq}
+use Rattle.std.proofs.lemmas.Slice.Eq.{bytes_eq-Decides}
+use Rattle.plant_lines.specs.Lines.{parts_of}
+use Rattle.plant_lines.proofs.Splits.{field_first}
 use Rattle.slice_table.specs.declared.operator_row.RowFields.{RowFields}
 use Rattle.slice_table.specs.declared.plant.PlantFields.{PlantFields}
 use Rattle.operator_machine.specs.declared.action.SliceRow.{SliceRow}
 use Rattle.plant_lines.specs.declared.fields.FieldFault.{FieldFault}
 use Rattle.plant_lines.specs.declared.fields.FieldFault.TheVariants.{Shape, NoMemory}
 use Rattle.plant_lines.specs.declared.script.LineStep.{LineStep}
-use Rattle.plant_lines.specs.Fields.{Read, ◌>>=◌, Fails, behind}
-use Rattle.plant_lines.specs.Script.{tick_steps, all_ticks, share_in, shares_after, line_steps, steps_after}
+use Rattle.plant_lines.specs.Fields.{Read, ◌>>=◌, Fails, behind, two_of, three_of}
+use Rattle.plant_lines.specs.Script.{tick_steps, all_ticks, message_steps, request_steps, ticked_steps, resliced_steps, steps_in, share_in, shares_after, line_steps, steps_after}
 
 -- an element stands at each place
 next_at : {A : Type 0} (xs : List A) (k : ℕ) → k < length xs → (x : A) × (drop k xs ≡ x ∷ drop (suc k) xs)
@@ -55,3 +59,51 @@ pub steps_fail : (plant : PlantFields) (number : ℕ) (steps : List LineStep) (l
     → behind steps said ≡ Err fault → steps_after plant number steps (line ∷ lines) ≡ Err number
 steps_fail plant number steps line lines fault (Ok more) e h = absurd cc
 steps_fail plant number steps line lines fault (Err other) e h = steps_by plant number steps line lines (Err other) e
+
+-- ---- fields one after the other
+
+pub two_alone : (line : List ℕ) (fields : List (List ℕ)) → fields ≡ line ∷ [] → two_of fields ≡ Err Shape
+two_alone line fields e = rw e refl
+
+pub two_both : (first rest : List ℕ) (fields others : List (List ℕ)) → fields ≡ first ∷ others → others ≡ rest ∷ [] → two_of fields ≡ Ok (first, rest)
+two_both first rest fields others e f = rw (e, f) refl
+
+pub two_more : (first second rest : List ℕ) (fields others : List (List ℕ)) → fields ≡ first ∷ others → others ≡ second ∷ parts_of 32 rest → two_of fields ≡ Err Shape
+two_more first second rest fields others e f = let more = field_first rest in rw (e, f, more.2) refl
+
+pub three_alone : (line : List ℕ) (fields : List (List ℕ)) → fields ≡ line ∷ [] → three_of fields ≡ Err Shape
+three_alone line fields e = rw e refl
+
+three_by : (first : List ℕ) (others : List (List ℕ)) → three_of (first ∷ others) ≡ (two_of others >>= λ two. Ok (first, two.0, two.1))
+three_by first [] = refl
+three_by first (a ∷ []) = refl
+three_by first (a ∷ b ∷ []) = refl
+three_by first (a ∷ b ∷ c ∷ others) = refl
+
+pub three_first : (first : List ℕ) (fields others : List (List ℕ)) (two : Read (List ℕ × List ℕ)) → fields ≡ first ∷ others → two_of others ≡ two
+    → three_of fields ≡ (two >>= λ two. Ok (first, two.0, two.1))
+three_first first fields others two e f =
+    ap three_of e ∙ (three_by first others ∙ ap (λ (r : Read (List ℕ × List ℕ)). r >>= λ two. Ok (first, two.0, two.1)) f)
+
+-- a line of one field, other than `T`
+pub alone : (plant : PlantFields) (number : ℕ) (word : List ℕ) → bytes_eq word (codes "T") ≡ false → steps_in plant number (word ∷ []) ≡ Err Shape
+unfolding steps_in message_steps request_steps resliced_steps
+alone plant number word e = rw e (cases (bytes_eq word (codes "M")) (bytes_eq word (codes "Q")) (bytes_eq word (codes "Z"))) where
+  cases : (m q z : Bool) → ◌≡◌ {A = Read (List LineStep)} (if m then Err Shape else (if q then Err Shape else (if z then Err Shape else Err Shape))) (Err Shape)
+  cases true q z = refl
+  cases false true z = refl
+  cases false false true = refl
+  cases false false false = refl
+
+ticks_alone : (plant : PlantFields) (number : ℕ) → steps_in plant number (codes "T" ∷ []) ≡ Ok (all_ticks number plant.rows 0)
+unfolding steps_in ticked_steps
+ticks_alone plant number = refl
+
+pub alone_ticks : (plant : PlantFields) (number : ℕ) (word : List ℕ) → bytes_eq word (codes "T") ≡ true → steps_in plant number (word ∷ []) ≡ Ok (all_ticks number plant.rows 0)
+alone_ticks plant number word e =
+    ap (λ (w : List ℕ). steps_in plant number (w ∷ [])) ((bytes_eq-Decides word (codes "T")).0 e) ∙ ticks_alone plant number
+
+-- more fields than one
+pub ticked_more : (plant : PlantFields) (number : ℕ) (second rest : List ℕ) (fields : List (List ℕ)) → fields ≡ second ∷ parts_of 32 rest → ticked_steps plant number fields ≡ Err Shape
+unfolding ticked_steps
+ticked_more plant number second rest fields e = let more = field_first rest in rw (e, more.2) refl

@@ -1,5 +1,5 @@
 -- Lines and the messages in them, one after the other.
-use Rattle.std.proofs.Common.{◌≡◌, ℕ, zero, suc, ◌+◌, ◌<◌, ◌==◌, Bool, true, false, List, [], ◌∷◌, ◌++◌, length, map, take, drop, get_or, Option, Some, None, Err, sym, ap, ◌∙◌, append_assoc, append-nil, add-one, drop-cons, arith}
+use Rattle.std.proofs.Common.{◌≡◌, ℕ, zero, suc, ◌+◌, ◌<◌, ◌==◌, Bool, true, false, List, [], ◌∷◌, ◌++◌, length, map, take, drop, get_or, Option, Some, None, Err, refl, sym, ap, ◌∙◌, append_assoc, append-nil, add-one, drop-cons, arith}
 use Rattle.std.proofs.lemmas.Bool.{false_from_ne_true}
 use Rattle.std.proofs.lemmas.List.{take_all}
 use Rattle.std.specs.List.{drop-map}
@@ -50,6 +50,28 @@ pub split_last : (mark : ℕ) (input rest : List ℕ) (parts : List (List ℕ)) 
     → parts ++ parts_from mark [] rest ≡ parts_from mark [] input → parts ++ rest ∷ [] ≡ parts_of mark input
 unfolding parts_of
 split_last mark input rest parts none so_far = ap (λ (xs : List (List ℕ)). parts ++ xs) (sym (split_none mark [] rest none)) ∙ so_far
+
+-- a line in two at its first space, and a line that has none
+pub halves_of : (line first behind : List ℕ) (place : ℕ) → NoneBefore (Passes (is_byte 32) line) 0 (length line) place × Passes (is_byte 32) line place
+    → first ≡ drop 0 (take place line) → behind ≡ drop (place + 1) (take (length line) line) → parts_of 32 line ≡ first ∷ parts_of 32 behind
+unfolding parts_of
+halves_of line first behind place found first_is behind_is = sym (split_more 32 line line first behind [] place found first_is behind_is refl)
+
+pub whole_of : (line : List ℕ) → Nowhere (Passes (is_byte 32) line) 0 (length line) → parts_of 32 line ≡ line ∷ []
+whole_of line none = sym (split_last 32 line line [] none refl)
+
+-- there is always a part
+part_first : (mark : ℕ) (part bytes : List ℕ) → (first : List ℕ) × (others : List (List ℕ)) × (parts_from mark part bytes ≡ first ∷ others)
+part_first mark part [] = (part, [], refl)
+part_first mark part (b ∷ bytes) = cases (part_first mark (part ++ b ∷ []) bytes) (b == mark) refl where
+  cases : ((first : List ℕ) × (others : List (List ℕ)) × (parts_from mark (part ++ b ∷ []) bytes ≡ first ∷ others)) → (t : Bool) → (b == mark) ≡ t
+      → (first : List ℕ) × (others : List (List ℕ)) × (parts_from mark part (b ∷ bytes) ≡ first ∷ others)
+  cases more true e = (part, parts_from mark [] bytes, from_byte mark part b bytes true e)
+  cases more false e = (more.0, more.1, from_byte mark part b bytes false e ∙ more.2)
+
+pub field_first : (line : List ℕ) → (first : List ℕ) × (others : List (List ℕ)) × (parts_of 32 line ≡ first ∷ others)
+unfolding parts_of
+field_first line = part_first 32 [] line
 
 -- ---- messages
 

@@ -1,10 +1,12 @@
 //! What stands in a field of a script's line.
 
-ghost use Rattle.std.specs.Prelude.{◌≡◌, ◌≤◌, map, IfOk};
+ghost use Rattle.std.specs.Prelude.{◌≡◌, ◌≤◌, [], ◌∷◌, map, MatchOption, IfOk};
 ghost use Rattle.plant_lines.specs.Fields.{Gives, seen, two_of, three_of, number_in, short_in, bytes_in};
+ghost use Rattle.plant_lines.specs.Lines.{fields_of};
 ghost use Rattle.plant_lines.specs.declared.fields.FieldFault.TheVariants.{NoMemory};
 
-use crate::lines::message_in;
+use crate::lines::{message_in, part};
+use memchr::memchr;
 use std::alloc::{AllocError, AllocFailed, Global};
 use tlv24::Bytes;
 
@@ -33,13 +35,41 @@ impl<T: Drop> From<AllocFailed<T>> for FieldFault {
     }
 }
 
-/// Two fields and no more.
-pub fn two_of<'a>(fields: &[&'a [u8]]) -> Result<(&'a [u8], &'a [u8]), FieldFault>
-    ensures { seen (λ p. (p.0.now, p.1.now)) result ≡ two_of (map (λ field. field.now) fields.now) }
+/// A line in two at its first space: what stands before it and what behind it. None where it has none.
+#[tactic(auto, using(crate::proofs::Splits::halves_of, crate::proofs::Splits::whole_of))]
+pub fn halves(line: &[u8]) -> Option<(&[u8], &[u8])>
+    ensures { MatchOption result (fields_of line.now ≡ line.now ∷ [])
+        (λ p. fields_of line.now ≡ p.0.now ∷ fields_of p.1.now) }
 {
-    match fields {
-        [a, b] => Ok((*a, *b)),
-        _ => Err(FieldFault::Shape),
+    match memchr(b' ', line) {
+        Some(place) => Some((part(line, 0, place), part(line, place + 1, line.len()))),
+        None => None,
+    }
+}
+
+/// Two fields of a line and no more.
+pub fn two_in(line: &[u8]) -> Result<(&[u8], &[u8]), FieldFault>
+    ensures { seen (λ p. (p.0.now, p.1.now)) result ≡ two_of (fields_of line.now) }
+{
+    let Some((first, rest)) = halves(line) else {
+        return Err(FieldFault::Shape);
+    };
+    match halves(rest) {
+        Some(_more) => Err(FieldFault::Shape),
+        None => Ok((first, rest)),
+    }
+}
+
+/// Three fields of a line and no more.
+pub fn three_in(line: &[u8]) -> Result<(&[u8], &[u8], &[u8]), FieldFault>
+    ensures { seen (λ p. (p.0.now, p.1.now, p.2.now)) result ≡ three_of (fields_of line.now) }
+{
+    let Some((first, rest)) = halves(line) else {
+        return Err(FieldFault::Shape);
+    };
+    match two_in(rest) {
+        Ok((second, third)) => Ok((first, second, third)),
+        Err(fault) => Err(fault),
     }
 }
 

@@ -4,6 +4,8 @@ ghost use Rattle.std.specs.Prelude.{◌≡◌, ◌≤◌, length, true};
 ghost use Rattle.std.specs.Str.{is_utf8};
 ghost use Rattle.plant_lines.specs.Input.{is_bar, before_bar, plant_text, script_text};
 
+use memchr::memchr;
+
 /// Whether a line of three dashes stands at the head of the bytes.
 fn is_bar(bytes: &[u8]) -> bool
     ensures { result ≡ is_bar bytes.now }
@@ -16,12 +18,16 @@ pub fn before_bar(input: &[u8]) -> usize
     ensures value { result ≡ before_bar true input.now }
     ensures inside { result ≤ length input.now }
 {
-    let mut begins = true;
-    for (place, byte) in input.iter().enumerate() {
-        if begins && is_bar(&input[place..]) {
-            return place;
+    let mut start = 0;
+    while start < input.len() {
+        let rest = &input[start..];
+        if is_bar(rest) {
+            return start;
         }
-        begins = *byte == b'\n';
+        match memchr(b'\n', rest) {
+            Some(place) => start += place + 1,
+            None => return input.len(),
+        }
     }
     input.len()
 }

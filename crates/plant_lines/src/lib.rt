@@ -5,6 +5,7 @@
 mod causes;
 mod digits;
 mod fields;
+mod hexadecimal;
 mod input;
 mod lines;
 mod script;

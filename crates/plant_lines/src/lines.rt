@@ -37,7 +37,7 @@ impl<T: Drop> From<AllocFailed<T>> for LineFault {
 }
 
 /// The bytes from a place up to another.
-fn part(input: &[u8], start: usize, end: usize) -> &[u8]
+pub(crate) fn part(input: &[u8], start: usize, end: usize) -> &[u8]
     requires begun { start ≤ end }
     requires inside { end ≤ length input.now }
     ensures { result.now ≡ drop start (take end input.now) }

@@ -1,14 +1,16 @@
 //! The lines of a script, and the steps that they say.
 
-ghost use Rattle.std.specs.Prelude.{◌≡◌, [], map, Err, IfErr};
+ghost use Rattle.std.specs.Prelude.{◌≡◌, [], ◌∷◌, map, Err, IfErr};
 ghost use Rattle.std.specs.List.{position_from};
 ghost use Rattle.plant_lines.specs.declared.fields.FieldFault.TheVariants.{Shape, NoMemory};
 ghost use Rattle.plant_lines.specs.Fields.{Gives, seen, behind};
-ghost use Rattle.plant_lines.specs.Lines.{lines_of};
+ghost use Rattle.plant_lines.specs.Lines.{lines_of, fields_of};
 ghost use Rattle.plant_lines.specs.Script.{sender_in, is_named, operator_in, heard_steps, message_steps, request_steps, tick_steps, all_ticks, ticked_steps, share_in, shares_after, shares_in, resliced_steps, steps_in, line_steps, steps_after, steps_of};
 ghost use Rattle.plant_lines.specs.StepsSoFar.{GivesSteps};
 
-use crate::fields::{FieldFault, bytes_in, number_in, short_in, three_of, two_of};
+use crate::fields::{
+    FieldFault, bytes_in, halves, number_in, short_in, three_in, three_of, two_in,
+};
 use crate::lines::{LineFault, parts_of, put_parts};
 use dsx_messages::Modem;
 use hex::FromHex;
@@ -94,14 +96,14 @@ fn put_message(
     alloc: Global,
     plant: &Plant,
     number: u64,
-    fields: &[&[u8]],
+    line: &[u8],
     steps: &mut Vec<LineStep>,
 ) -> Result<(), FieldFault>
     ensures said { Gives (λ _. steps.new.items) result
-        (behind steps.old.items (message_steps plant.now number (map (λ field. field.now) fields.now))) }
+        (behind steps.old.items (message_steps plant.now number (fields_of line.now))) }
     ensures unsaid { result ≡ Err Shape → steps.new.items ≡ steps.old.items }
 {
-    let (address, message) = two_of(fields)?;
+    let (address, message) = two_in(line)?;
     let sender = sender_in(plant, address)?;
     let bytes = bytes_in(alloc, message)?;
     put_heard(number, sender, Heard::Message(bytes), steps)
@@ -112,14 +114,14 @@ fn put_message(
 fn put_request(
     plant: &Plant,
     number: u64,
-    fields: &[&[u8]],
+    line: &[u8],
     steps: &mut Vec<LineStep>,
 ) -> Result<(), FieldFault>
     ensures said { Gives (λ _. steps.new.items) result
-        (behind steps.old.items (request_steps plant.now number (map (λ field. field.now) fields.now))) }
+        (behind steps.old.items (request_steps plant.now number (fields_of line.now))) }
     ensures unsaid { result ≡ Err Shape → steps.new.items ≡ steps.old.items }
 {
-    let (address, sid, minislots) = three_of(fields)?;
+    let (address, sid, minislots) = three_in(line)?;
     let sender = sender_in(plant, address)?;
     let sid = short_in(sid)?;
     let minislots = short_in(minislots)?;
@@ -153,25 +155,24 @@ fn put_all_ticks(
     Ok(())
 }
 
-/// The steps of a tick.
+/// The steps of an operator's tick by its name.
 #[tactic(auto, unfolding(crate::specs::Script::ticked_steps))]
 fn put_ticked(
     plant: &Plant,
     number: u64,
-    fields: &[&[u8]],
+    line: &[u8],
     steps: &mut Vec<LineStep>,
 ) -> Result<(), FieldFault>
     ensures said { Gives (λ _. steps.new.items) result
-        (behind steps.old.items (ticked_steps plant.now number (map (λ field. field.now) fields.now))) }
+        (behind steps.old.items (ticked_steps plant.now number (fields_of line.now))) }
     ensures unsaid { result ≡ Err Shape → steps.new.items ≡ steps.old.items }
 {
-    match fields {
-        [] => put_all_ticks(number, plant.rows(), steps),
-        [name] => {
-            let op = operator_in(plant, name)?;
+    match halves(line) {
+        None => {
+            let op = operator_in(plant, line)?;
             put_tick(number, op, steps)
         }
-        _ => Err(FieldFault::Shape),
+        Some(_more) => Err(FieldFault::Shape),
     }
 }
 
@@ -237,30 +238,48 @@ fn put_resliced(
     Ok(())
 }
 
-/// The steps of a line by its first field.
-#[tactic(auto, unfolding(crate::specs::Script::steps_in))]
-fn put_fields(
-    alloc: Global,
+/// The steps of a line of one field.
+fn put_alone(
     plant: &Plant,
     number: u64,
-    fields: &[&[u8]],
+    word: &[u8],
     steps: &mut Vec<LineStep>,
 ) -> Result<(), FieldFault>
     ensures said { Gives (λ _. steps.new.items) result
-        (behind steps.old.items (steps_in plant.now number (map (λ field. field.now) fields.now))) }
+        (behind steps.old.items (steps_in plant.now number (word.now ∷ []))) }
     ensures unsaid { result ≡ Err Shape → steps.new.items ≡ steps.old.items }
 {
-    let [word, fields @ ..] = fields else {
-        return Err(FieldFault::Shape);
-    };
-    if *word == b"M".as_slice() {
-        put_message(alloc, plant, number, fields, steps)
-    } else if *word == b"Q".as_slice() {
-        put_request(plant, number, fields, steps)
-    } else if *word == b"T".as_slice() {
-        put_ticked(plant, number, fields, steps)
-    } else if *word == b"Z".as_slice() {
-        put_resliced(alloc, plant, number, fields, steps)
+    if word == b"T".as_slice() {
+        put_all_ticks(number, plant.rows(), steps)
+    } else {
+        Err(FieldFault::Shape)
+    }
+}
+
+/// The steps of a line by its first field, of which the others are these.
+#[tactic(auto, unfolding(crate::specs::Script::steps_in))]
+fn put_word<'a>(
+    alloc: Global,
+    plant: &Plant,
+    number: u64,
+    word: &[u8],
+    line: &'a [u8],
+    fields: &mut Vec<&'a [u8]>,
+    steps: &mut Vec<LineStep>,
+) -> Result<(), FieldFault>
+    ensures said { Gives (λ _. steps.new.items) result
+        (behind steps.old.items (steps_in plant.now number (word.now ∷ fields_of line.now))) }
+    ensures unsaid { result ≡ Err Shape → steps.new.items ≡ steps.old.items }
+{
+    if word == b"M".as_slice() {
+        put_message(alloc, plant, number, line, steps)
+    } else if word == b"Q".as_slice() {
+        put_request(plant, number, line, steps)
+    } else if word == b"T".as_slice() {
+        put_ticked(plant, number, line, steps)
+    } else if word == b"Z".as_slice() {
+        put_parts(b' ', line, fields)?;
+        put_resliced(alloc, plant, number, fields.as_slice(), steps)
     } else {
         Err(FieldFault::Shape)
     }
@@ -283,8 +302,10 @@ pub fn put_line<'a>(
     if line.is_empty() {
         return Ok(());
     }
-    put_parts(b' ', line, fields)?;
-    put_fields(alloc, plant, number, fields.as_slice(), steps)
+    match halves(line) {
+        Some((word, rest)) => put_word(alloc, plant, number, word, rest, fields, steps),
+        None => put_alone(plant, number, line, steps),
+    }
 }
 
 /// The steps of lines, each with its line's number; or the first line at fault.

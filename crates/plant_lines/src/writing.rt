@@ -1,6 +1,6 @@
 //! The text of what is put out, written where it is made: no memory is taken for it.
 
-ghost use Rattle.std.specs.Prelude.{◌≡◌, ◌++◌, ◌∷◌, [], codes, slice_get, OnOk};
+ghost use Rattle.std.specs.Prelude.{◌≡◌, ◌≤◌, ◌++◌, ◌∷◌, [], length, codes, slice_get, OnOk};
 ghost use Rattle.std.specs.Io.KnownBytes.{Appends};
 ghost use Rattle.std.specs.List.{flat_map};
 ghost use Rattle.hex.specs.Hex.{encode_upper};
@@ -8,7 +8,11 @@ ghost use Rattle.operator_machine.specs.declared.output.Output.TheVariants.{Sile
 ghost use Rattle.plant_lines.specs.Text.{address, spaced, span_text, pending_text, elements_text, named, sender_text, output_line, map_line, out_line, outs_text};
 
 use crate::causes::name_of;
-use crate::digits::{NO_PENDING, SPAN_ROOM, address_digits, pending_digits, span_digits};
+use crate::digits::{
+    PENDINGS, PENDINGS_ROOM, SPANS, SPANS_ROOM, address_digits, pendings_digits, reply_head,
+    spans_digits,
+};
+use crate::hexadecimal::write_hex_line;
 use dsx_messages::Modem;
 use map_assembly::MapBytes;
 use operator_machine::{Cause, Output};
@@ -18,28 +22,6 @@ use slice_table::{Op, Plant};
 use std::io;
 use std::io::Write;
 
-/// The digits of upper-case hexadecimal numbers.
-const DIGITS: [u8; 16] = *b"0123456789ABCDEF";
-
-/// The two digits of a byte.
-#[tactic(auto, unfolding(hex::specs::Hex::encode_with))]
-fn write_pair<W: Write>(writer: &mut W, byte: u8) -> io::Result<()>
-    ensures { OnOk result (Appends (W.contents writer.old) (W.contents writer.new) (encode_upper (byte ∷ []))) }
-{
-    let (high, low) = (usize::from(byte / 16), usize::from(byte % 16));
-    writer.write_all(&[DIGITS[high], DIGITS[low]])
-}
-
-/// Bytes in upper-case hexadecimal.
-fn write_hex<W: Write>(writer: &mut W, bytes: &[u8]) -> io::Result<()>
-    ensures { OnOk result (Appends (W.contents writer.old) (W.contents writer.new) (encode_upper bytes.now)) }
-{
-    for byte in bytes {
-        write_pair(writer, *byte)?;
-    }
-    Ok(())
-}
-
 /// The address of a modem.
 fn write_address<W: Write>(writer: &mut W, modem: Modem) -> io::Result<()>
     ensures { OnOk result (Appends (W.contents writer.old) (W.contents writer.new) (address modem)) }
@@ -47,12 +29,14 @@ fn write_address<W: Write>(writer: &mut W, modem: Modem) -> io::Result<()>
     writer.write_all(&address_digits(modem))
 }
 
-/// A span behind a space.
-fn write_span<W: Write>(writer: &mut W, span: Span) -> io::Result<()>
-    ensures { OnOk result (Appends (W.contents writer.old) (W.contents writer.new) (spaced (span_text span))) }
+/// Few spans, each behind a space.
+fn write_few_spans<W: Write>(writer: &mut W, spans: &[Span]) -> io::Result<()>
+    requires { length spans.now ≤ 32 }
+    ensures { OnOk result (Appends (W.contents writer.old) (W.contents writer.new)
+        (flat_map (λ span. spaced (span_text span)) spans.now)) }
 {
-    let mut room = [0u8; SPAN_ROOM];
-    let place = span_digits(&mut room, span);
+    let mut room = [0u8; SPANS_ROOM];
+    let place = spans_digits(&mut room, spans);
     writer.write_all(&room[place..])
 }
 
@@ -61,18 +45,22 @@ fn write_spans<W: Write>(writer: &mut W, spans: &[Span]) -> io::Result<()>
     ensures { OnOk result (Appends (W.contents writer.old) (W.contents writer.new)
         (flat_map (λ span. spaced (span_text span)) spans.now)) }
 {
-    for span in spans {
-        write_span(writer, *span)?;
+    let mut place = 0;
+    while spans.len() - place > SPANS {
+        write_few_spans(writer, &spans[place..place + SPANS])?;
+        place += SPANS;
     }
-    Ok(())
+    write_few_spans(writer, &spans[place..])
 }
 
-/// A grant pending behind a space.
-fn write_one_pending<W: Write>(writer: &mut W, sid: u16) -> io::Result<()>
-    ensures { OnOk result (Appends (W.contents writer.old) (W.contents writer.new) (spaced (pending_text sid))) }
+/// Few grants pending, each behind a space.
+fn write_few_pending<W: Write>(writer: &mut W, pending: &[u16]) -> io::Result<()>
+    requires { length pending.now ≤ 32 }
+    ensures { OnOk result (Appends (W.contents writer.old) (W.contents writer.new)
+        (flat_map (λ sid. spaced (pending_text sid)) pending.now)) }
 {
-    let mut room = *NO_PENDING;
-    let place = pending_digits(&mut room, sid);
+    let mut room = [0u8; PENDINGS_ROOM];
+    let place = pendings_digits(&mut room, pending);
     writer.write_all(&room[place..])
 }
 
@@ -81,10 +69,12 @@ fn write_pending<W: Write>(writer: &mut W, pending: &[u16]) -> io::Result<()>
     ensures { OnOk result (Appends (W.contents writer.old) (W.contents writer.new)
         (flat_map (λ sid. spaced (pending_text sid)) pending.now)) }
 {
-    for sid in pending {
-        write_one_pending(writer, *sid)?;
+    let mut place = 0;
+    while pending.len() - place > PENDINGS {
+        write_few_pending(writer, &pending[place..place + PENDINGS])?;
+        place += PENDINGS;
     }
-    Ok(())
+    write_few_pending(writer, &pending[place..])
 }
 
 /// The elements of a frame, each behind a space.
@@ -126,24 +116,13 @@ fn write_silent<W: Write>(writer: &mut W, modem: Option<Modem>, cause: Cause) ->
     writer.write_all(b"\n")
 }
 
-/// The rest of a reply's line.
-fn write_rest<W: Write>(writer: &mut W, bytes: &[u8]) -> io::Result<()>
-    ensures { OnOk result (Appends (W.contents writer.old) (W.contents writer.new)
-        (codes " " ++ (encode_upper bytes.now ++ 10 ∷ []))) }
-{
-    writer.write_all(b" ")?;
-    write_hex(writer, bytes)?;
-    writer.write_all(b"\n")
-}
-
 /// The line of a reply.
 fn write_reply<W: Write>(writer: &mut W, modem: Modem, bytes: &[u8]) -> io::Result<()>
     ensures { OnOk result (Appends (W.contents writer.old) (W.contents writer.new)
         (codes "R " ++ (address modem ++ (codes " " ++ (encode_upper bytes.now ++ 10 ∷ []))))) }
 {
-    writer.write_all(b"R ")?;
-    write_address(writer, modem)?;
-    write_rest(writer, bytes)
+    writer.write_all(&reply_head(modem))?;
+    write_hex_line(writer, bytes)
 }
 
 /// The line of a frame of an operator.
@@ -182,8 +161,7 @@ fn write_map<W: Write>(writer: &mut W, made: &MapBytes) -> io::Result<()>
 {
     let frame = made.frame;
     write!(writer, "MAP {frame} ")?;
-    write_hex(writer, made.bytes.as_slice())?;
-    writer.write_all(b"\n")
+    write_hex_line(writer, made.bytes.as_slice())
 }
 
 /// The line of an output.

@@ -1,5 +1,5 @@
 use Rattle.std.specs.Str.{IsAscii}
-use Rattle.std.proofs.Common.{ℕ, List, drop, subst, sym, ◌≡◌, ◌+◌, ◌≤◌, ◌∷◌, length, arith}
+use Rattle.std.proofs.Common.{ℕ, List, drop, subst, sym, ◌≤◌, length, arith}
 use Rattle.std.specs.Fmt.{decimal}
 use Rattle.plant_lines.proofs.Marked.{few_digits, marked, marked_ascii}
 use Rattle.plant_lines.proofs.digits.write_marked.Goals as goal

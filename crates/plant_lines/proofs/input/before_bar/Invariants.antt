@@ -1,6 +1,13 @@
-use Rattle.std.proofs.Common.{◌≡◌, ◌+◌, true, drop}
+use Rattle.std.proofs.Common.{◌≡◌, ◌+◌, ◌-◌, ◌≤◌, true, length, drop}
 use Rattle.plant_lines.specs.Input.{before_bar}
 use Rattle.plant_lines.proofs.input.before_bar.Given as goal
 
-abbrev pub invariant-loop-place : goal.invariant-loop-place
-invariant-loop-place l = l.place + before_bar l.begins (drop l.place l.input) ≡ before_bar true l.input
+-- no line of three dashes begins before the place, where a line begins or the input ends
+abbrev pub invariant-loop-start : goal.invariant-loop-start
+invariant-loop-start l = record {
+  inside : l.start ≤ length l.input;
+  before : l.start + before_bar true (drop l.start l.input) ≡ before_bar true l.input;
+}
+
+abbrev pub decreases-loop-start : goal.decreases-loop-start
+decreases-loop-start l = length l.input - l.start

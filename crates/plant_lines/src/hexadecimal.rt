@@ -1,0 +1,72 @@
+//! Bytes in upper-case hexadecimal, many of them in one write.
+
+ghost use Rattle.std.specs.Prelude.{◌≡◌, ◌*◌, ◌<◌, ◌≤◌, [], ◌∷◌, ◌++◌, length, take, slice_index, OnOk};
+ghost use Rattle.std.specs.Io.KnownBytes.{Appends};
+ghost use Rattle.hex.specs.Hex.{encode_upper, upper_digits};
+
+use std::io;
+use std::io::Write;
+
+/// How many bytes are written at once.
+const STEP: usize = 64;
+
+/// Room for their digits, and for the end of a line.
+const ROOM: usize = 129;
+
+/// The digit of a number below 16.
+fn digit(number: u8) -> u8
+    requires { number < 16 }
+    ensures { result ≡ slice_index upper_digits number }
+{
+    if number < 10 {
+        b'0' + number
+    } else {
+        b'A' - 10 + number
+    }
+}
+
+/// Puts the digits of bytes at the front of their room.
+fn fill(room: &mut [u8; ROOM], bytes: &[u8])
+    requires { length bytes.now ≤ 64 }
+    ensures { take (2 * length bytes.now) room.new ≡ encode_upper bytes.now }
+{
+    for i in 0..bytes.len() {
+        let byte = bytes[i];
+        room[2 * i] = digit(byte / 16);
+        room[2 * i + 1] = digit(byte % 16);
+    }
+}
+
+/// Writes few bytes.
+fn write_few<W: Write>(writer: &mut W, bytes: &[u8]) -> io::Result<()>
+    requires { length bytes.now ≤ 64 }
+    ensures { OnOk result (Appends (W.contents writer.old) (W.contents writer.new) (encode_upper bytes.now)) }
+{
+    let mut room = [0u8; ROOM];
+    fill(&mut room, bytes);
+    writer.write_all(&room[..2 * bytes.len()])
+}
+
+/// Writes the last bytes of a line, which are few, and the line's end.
+fn write_last<W: Write>(writer: &mut W, bytes: &[u8]) -> io::Result<()>
+    requires { length bytes.now ≤ 64 }
+    ensures { OnOk result (Appends (W.contents writer.old) (W.contents writer.new) (encode_upper bytes.now ++ 10 ∷ [])) }
+{
+    let mut room = [0u8; ROOM];
+    fill(&mut room, bytes);
+    let end = 2 * bytes.len();
+    room[end] = b'\n';
+    writer.write_all(&room[..end + 1])
+}
+
+/// Writes bytes, and the end of their line.
+pub(crate) fn write_hex_line<W: Write>(writer: &mut W, bytes: &[u8]) -> io::Result<()>
+    ensures { OnOk result (Appends (W.contents writer.old) (W.contents writer.new) (encode_upper bytes.now ++ 10 ∷ [])) }
+{
+    let mut place = 0;
+    while bytes.len() - place > STEP {
+        write_few(writer, &bytes[place..place + STEP])?;
+        place += STEP;
+    }
+    write_last(writer, &bytes[place..])
+}
