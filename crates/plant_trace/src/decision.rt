@@ -1,8 +1,12 @@
 //! What decides what a step will answer.
 
-ghost use Rattle.std.specs.Prelude.{◌≡◌, IfOk};
+ghost use Rattle.std.specs.Prelude.{◌≡◌, ◌≢◌, Err, IfOk};
+ghost use Rattle.dsx_messages.specs.declared.fault.MessageFault.TheVariants.{NoMemory};
 ghost use Rattle.dsx_messages.specs.Reading.{message_of};
 ghost use Rattle.operator_machine.specs.State.{operator};
+ghost use Rattle.checks_in_order.specs.declared.check.MessageCheck.TheVariants.{Judged};
+ghost use Rattle.checks_in_order.specs.First.{IsFirst};
+ghost use Rattle.checks_in_order.specs.Messages.{HoldsOf, message_table};
 ghost use Rattle.plant_core.specs.CoreView.{core_view};
 ghost use Rattle.plant_trace.specs.Decision.{first_message, Decides, IsDecisionOf, IsDecision};
 
@@ -23,6 +27,46 @@ pub enum Decision {
     Request(Check),
 }
 
+/// What a message says, or its first fault, where memory was not wanting.
+fn reading_of(alloc: Global, bytes: &[u8]) -> Result<Result<Message, MessageFault>, AllocError>
+    ensures read { IfOk result (λ reading. reading ≡ message_of bytes.now) }
+    ensures memory { IfOk result (λ reading. reading ≢ Err NoMemory) }
+{
+    match read(alloc, bytes) {
+        Ok(message) => Ok(Ok(message)),
+        Err(fault) => match fault {
+            MessageFault::NoMemory => Err(AllocError),
+            _ => Ok(Err(fault)),
+        },
+    }
+}
+
+/// What decides a message of which no check but the last holds: a check of the request that it says.
+fn judged(
+    alloc: Global,
+    standing: &Standing,
+    modem: Modem,
+    reading: &Result<Message, MessageFault>,
+) -> Result<Option<Decision>, AllocError>
+    requires { IsFirst (λ check. HoldsOf check standing.now modem reading.now) message_table Judged }
+    ensures { IfOk result (λ decision. Decides standing.now modem reading.now decision) }
+{
+    match reading {
+        Ok(Message::Request(request)) => {
+            let check = standing.deciding_check(alloc, modem, request)?;
+            Ok(Some(Decision::Request(check)))
+        }
+        Ok(
+            Message::Ack {
+                kind: _,
+                tid: _,
+                code: _,
+            },
+        ) => unreachable!(),
+        Err(_fault) => unreachable!(),
+    }
+}
+
 /// What decides a message of a modem.
 fn decision_in(
     alloc: Global,
@@ -32,17 +76,13 @@ fn decision_in(
 ) -> Result<Option<Decision>, AllocError>
     ensures { IfOk result (λ decision. Decides standing.now modem (message_of bytes.now) decision) }
 {
-    let reading = read(alloc, bytes);
-    if let Err(MessageFault::NoMemory) = &reading {
-        return Err(AllocError);
-    }
-    match (standing.message_check(modem, &reading), &reading) {
-        (None, _) => Ok(None),
-        (Some(MessageCheck::Judged), Ok(Message::Request(request))) => {
-            let check = standing.deciding_check(alloc, modem, request)?;
-            Ok(Some(Decision::Request(check)))
-        }
-        (Some(check), _) => Ok(Some(Decision::Message(check))),
+    let reading = reading_of(alloc, bytes)?;
+    let Some(check) = standing.message_check(modem, &reading) else {
+        return Ok(None);
+    };
+    match check {
+        MessageCheck::Judged => judged(alloc, standing, modem, &reading),
+        _ => Ok(Some(Decision::Message(check))),
     }
 }
 

@@ -1,6 +1,8 @@
 //! Steps that are done one after the other, each told.
 
-ghost use Rattle.std.specs.Prelude.{◌≡◌, ◌≢◌, ◌⊎◌, [], IfOk, OnOk};
+ghost use Rattle.std.specs.Prelude.{◌≡◌, ◌≢◌, ◌⊎◌, [], ◌∷◌, ◌++◌, codes, IfOk, OnOk};
+ghost use Rattle.std.specs.Fmt.{decimal};
+ghost use Rattle.std.specs.Io.KnownBytes.{Appends};
 ghost use Rattle.plant_runs.specs.Reached.{Reached};
 ghost use Rattle.plant_core.specs.declared.core_fault.CoreFault.TheVariants as faults;
 ghost use Rattle.plant_core.specs.CoreView.{core_view};
@@ -58,17 +60,25 @@ fn said_by<'a>(lines: &[&'a [u8]], number: u64) -> &'a [u8] {
     }
 }
 
-/// Writes the number of a line and what it says, before its first step.
+/// Writes the number of a line and what it says.
+fn write_said<W: Write>(writer: &mut W, number: u64, said: &[u8]) -> io::Result<()>
+    ensures { OnOk result (Appends (W.contents writer.old) (W.contents writer.new)
+        (codes "line " ++ (decimal number ++ (codes ": " ++ (said.now ++ 10 ∷ []))))) }
+{
+    write!(writer, "line {number}: ")?;
+    writer.write_all(said)?;
+    writer.write_all(b"\n")
+}
+
+/// Writes a line before its first step.
 fn write_line<W: Write>(writer: &mut W, lines: &[&[u8]], last: u64, number: u64) -> io::Result<()>
     ensures { OnOk result (HasRemarked (W.contents writer.old) (W.contents writer.new)) }
 {
     if number == last {
         return Ok(());
     }
-    let said = said_by(lines, number);
-    write!(writer, "line {number}: ")?;
-    writer.write_all(said)?;
-    writer.write_all(b"\n")
+    write_said(writer, number, said_by(lines, number))?;
+    Ok(())
 }
 
 /// Writes the check that decided a step, and what the step put out in words. Answers whether there was memory for the words.
@@ -118,11 +128,13 @@ pub fn write_trace<W: Write>(
         let Ok(seen) = seen_of(alloc, core, &step) else {
             return Ok(StepsEnd::NoMemory);
         };
-        if let Err(fault) = core.step_over(alloc, step, &mut outs) {
-            return Ok(end_of(number, fault));
-        }
-        if !write_done(alloc, writer, core, &seen, outs.as_slice())? {
-            return Ok(StepsEnd::NoMemory);
+        match core.step_over(alloc, step, &mut outs) {
+            Ok(()) => {
+                if !write_done(alloc, writer, core, &seen, outs.as_slice())? {
+                    return Ok(StepsEnd::NoMemory);
+                }
+            }
+            Err(fault) => return Ok(end_of(number, fault)),
         }
     }
     Ok(StepsEnd::Done)
