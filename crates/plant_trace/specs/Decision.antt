@@ -15,7 +15,6 @@ use Rattle.checks_in_order.specs.First.{IsFirst}
 use Rattle.checks_in_order.specs.Said.{said_by}
 use Rattle.checks_in_order.specs.Table.{IsDecidedBy}
 use Rattle.checks_in_order.specs.Messages.{Reading, HoldsOf, message_table}
-use Rattle.checks_in_order.specs.declared.check.MessageCheck.{MessageCheck}
 use Rattle.checks_in_order.specs.declared.check.MessageCheck.TheVariants.{Judged}
 use Rattle.plant_runs.specs.declared.step.Step.{Step}
 use Rattle.plant_runs.specs.declared.step.Step.TheVariants as steps

@@ -1,4 +1,4 @@
-use Rattle.std.proofs.Common.{◌≡◌, length, List}
+use Rattle.std.proofs.Common.{◌≡◌, length}
 use Rattle.std.specs.Vec.Iter.{into_iter_items, into_iter_len}
 use Rattle.plant_core.specs.CoreView.{core_view}
 use Rattle.plant_trace.specs.SoFar.{IsTracedSoFar}
