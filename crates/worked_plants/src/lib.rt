@@ -1,5 +1,10 @@
-//! Texts of the plants of the worked examples: two operators, A and B, that share a frame of 72 minislots.
+//! Texts of the plants of the worked examples: two operators, A and B, that share a frame of 72 minislots. And texts of cases
+//! that are played on them.
 #![tactic(auto)]
+
+mod cases;
+
+pub use cases::{Case, cases_in, changed, put_difference};
 
 /// The tables of these names, behind the texts that stand behind the brackets.
 macro_rules! tables {
