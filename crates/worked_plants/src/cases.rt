@@ -18,11 +18,11 @@ pub fn changed(alloc: Global, text: &str, old: &str, new: &str) -> Result<String
     Ok(format!(in alloc; "{head}{new}{tail}")?)
 }
 
-/// A plant with its first `old` changed to `new`, of a change `old > new` in which `|` parts lines.
+/// A plant with its first `old` changed to `new`, of a change `old > new` in which `|` ends a line.
 fn change(alloc: Global, plant: &str, change: &str) -> Result<String, Fail> {
+    let change = change.replace(alloc, '|', "\n")?;
     let (old, new) = change.split_once(" > ").ok_or("no change")?;
-    let new = new.replace(alloc, '|', "\n")?;
-    changed(alloc, plant, old, new.as_str())
+    changed(alloc, plant, old, new)
 }
 
 /// Takes a line of a case.

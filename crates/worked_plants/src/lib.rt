@@ -2,8 +2,10 @@
 //! that are played on them.
 #![tactic(auto)]
 
+mod asking;
 mod cases;
 
+pub use asking::{Asked, asked_by};
 pub use cases::{Case, cases_in, changed, put_difference};
 
 /// The tables of these names, behind the texts that stand behind the brackets.
