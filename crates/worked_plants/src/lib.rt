@@ -4,9 +4,11 @@
 
 mod asking;
 mod cases;
+mod many;
 
 pub use asking::{Asked, asked_by};
 pub use cases::{Case, cases_in, changed, put_difference};
+pub use many::many_operators;
 
 /// The tables of these names, behind the texts that stand behind the brackets.
 macro_rules! tables {
