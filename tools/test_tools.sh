@@ -1,6 +1,6 @@
 #!/bin/bash
-# Tests of the tools: the reference on the examples and on values typed from docs/PROFILE.md; the generator writes the same twice,
-# and tools/hostile.py meets each check of the table. Where the program is built, it is compared with the reference on 50 generated
+# Tests of the tools: the widths of clauses; the reference on the examples and on values typed from docs/PROFILE.md; the generator writes
+# the same twice, and tools/hostile.py meets each check of the table. Where the program is built, it is compared with the reference on 50 generated
 # cases, by `run`, by `threads` and by `capture`, and `threads` and `serve` with `run` on the examples; then on the inputs of tools/hostile.py and of
 # tools/corners.py, and tools/statuses.sh and tools/reasons.py are run. Where socat is installed plants are served behind a socket, and where
 # tshark is installed it reads what is captured of the examples.
@@ -13,6 +13,8 @@ program=$here/../crates/plant_program/out/plant_program
 work=$(mktemp -d)
 trap 'rm -rf "$work"' EXIT
 
+# Laws and worked examples have lines so wide; their number may only fall.
+"$here/clause_widths" --most 13 || { "$here/clause_widths" --list >&2; exit 1; }
 "$here/examples.sh" >"$work/told" || { cat "$work/told" >&2; exit 1; }
 [ "$(python3 "$here/reference" check <"$examples/plant_p2.toml")" = ok ]
 for test in test_reference test_message_words test_plant_view; do

@@ -12,48 +12,12 @@ use std::alloc::{AllocError, Global};
 use std::process::Abort;
 use std::test::Fail;
 use tlv24::Bytes;
-
-/// A plant of two operators.
-pub(crate) const PLANT: &str = "[plant]
-frame_minislots = 72
-head = 8
-frame_us = 2000
-bytes_per_minislot = 16
-short_max = 4
-channel = 1
-ucd_count = 1
-
-[[operator]]
-name = \"A\"
-slice = [8, 32]
-sfids = [257, 512]
-sids = [257, 272]
-flows = 4
-transactions = 4
-inbox = 4
-budget = 32
-elements = 8
-policy = \"strict\"
-modems = [\"020000000001\", \"020000000002\"]
-
-[[operator]]
-name = \"B\"
-slice = [40, 32]
-sfids = [513, 768]
-sids = [513, 528]
-flows = 4
-transactions = 4
-inbox = 4
-budget = 32
-elements = 8
-policy = \"strict\"
-modems = [\"020000000003\"]
-";
+use worked_plants::{PLANT, cases_in, put_difference};
 
 /// The places of the operators.
 pub(crate) const A: usize = 0;
 
-pub(crate) const B: usize = 1;
+const B: usize = 1;
 
 /// The modem whose address ends with this byte.
 fn modem(word: &str) -> Result<Modem, Fail> {
@@ -352,14 +316,14 @@ fn plant_of(rt: &impl Abort, alloc: Global, text: &str) -> Result<Plant, Fail> {
     Ok(read.ok().ok_or("no memory")?)
 }
 
-/// Plays a script over the book of an operator of a plant: below each line stands, behind `=`, what it puts out.
-pub(crate) fn check_on(
+/// A script, played over the book of an operator of a plant: below each line stands, behind `=`, what it puts out.
+fn played_on(
     rt: &impl Abort,
     alloc: Global,
     plant: &str,
     place: usize,
     script: &str,
-) -> Result<(), Fail> {
+) -> Result<String, Fail> {
     let plant = plant_of(rt, alloc, plant)?;
     let row = plant.rows().get(place).ok_or("no operator")?;
     let policy = row.get_fields().policy;
@@ -374,29 +338,49 @@ pub(crate) fn check_on(
     let mut book = opened.ok().ok_or("no memory")?;
     let mut text = String::new(alloc);
     play_all(alloc, &mut book, &mut text, script)?;
+    Ok(text)
+}
+
+/// Asserts that a script over the book of an operator of a plant has below each line, behind `=`, what it puts out.
+pub(crate) fn check_on(
+    rt: &impl Abort,
+    alloc: Global,
+    plant: &str,
+    place: usize,
+    script: &str,
+) -> Result<(), Fail> {
+    let text = played_on(rt, alloc, plant, place, script)?;
     assert_eq!(rt; text.as_str(), script);
     Ok(())
 }
 
-/// Plays a script over the book of operator A.
+/// The same over the book of operator A.
 pub(crate) fn check(rt: &impl Abort, alloc: Global, script: &str) -> Result<(), Fail> {
     check_on(rt, alloc, PLANT, A, script)
 }
 
-/// A text with its first `old` changed to `new`.
-pub(crate) fn changed(alloc: Global, text: &str, old: &str, new: &str) -> Result<String, Fail> {
-    let (head, tail) = text.split_once(old).ok_or("not there")?;
-    Ok(format!(in alloc; "{head}{new}{tail}")?)
+/// The operator and the script of a case: operator B where its first line says `of B`, else A.
+fn parts_of(script: &str) -> (usize, &str) {
+    match script.strip_prefix("\nof B") {
+        Some(script) => (B, script),
+        None => (A, script),
+    }
 }
 
-/// Plays a script over the book of operator A of the plant with its first `old` changed to `new`.
-pub(crate) fn check_with(
+/// Asserts that so many cases of a text have below each line of their scripts, behind `=`, what it puts out.
+pub(crate) fn check_cases(
     rt: &impl Abort,
     alloc: Global,
-    old: &str,
-    new: &str,
-    script: &str,
+    text: &str,
+    count: usize,
 ) -> Result<(), Fail> {
-    let plant = changed(alloc, PLANT, old, new)?;
-    check_on(rt, alloc, plant.as_str(), A, script)
+    let cases = cases_in(alloc, PLANT, text)?;
+    let mut failed = String::new(alloc);
+    for case in cases.as_slice() {
+        let (place, script) = parts_of(case.script.as_str());
+        let told = played_on(rt, alloc, case.plant.as_str(), place, script)?;
+        put_difference(&mut failed, case.name, told.as_str(), script)?;
+    }
+    assert_eq!(rt; (cases.len(), failed.is_empty()), (count, true), "{failed}");
+    Ok(())
 }

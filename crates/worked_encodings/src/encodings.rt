@@ -1,7 +1,7 @@
 //! What the clauses do not say: bytes and their meaning, written by hand from the standard.
 
-ghost use Rattle.tlv24.specs.Range.{AreInRange};
-
+use std::alloc::{AllocError, Global};
+use std::process::Abort;
 use std::test::Fail;
 use tlv24::{
     Bytes, ClassName, ErrorEncodings, FlowFault, FlowFields, FlowTlv, TlvFault, Tlvs, first_tlv,
@@ -30,9 +30,8 @@ const WHOLE: &[u8] = &[
     0x16, 0x01, 0x02, // grants per interval
 ];
 
-fn whole_fields() -> FlowFields
-    ensures { AreInRange result }
-{
+/// What it says.
+fn whole_fields() -> FlowFields {
     FlowFields {
         reference: Some(258),
         sfid: Some(0x01020304),
@@ -58,90 +57,92 @@ fn whole_fields() -> FlowFields
     }
 }
 
+/// The fields of an encoding, or its first fault. A function of its own, as those below: what the calls of it promise is then no part
+/// of each test's proof.
+fn fields_in(bytes: &[u8]) -> Result<FlowFields, FlowFault> {
+    Ok(read_flow(bytes)?.get_fields())
+}
+
+/// The encoding with every known subtype.
+fn whole() -> Result<FlowTlv, FlowFault> {
+    read_flow(WHOLE)
+}
+
 #[test]
 fn encodings_are_read(rt: HostRuntime) {
+    let sid = FlowFields {
+        sid: Some(257),
+        ..FlowFields::NONE
+    };
+    let class_name = FlowFields {
+        class_name: ClassName::new(b"A"),
+        ..FlowFields::NONE
+    };
+    let errored = FlowFields {
+        errored: Some(ErrorEncodings {
+            errored_parameter: 2,
+            code: 3,
+        }),
+        ..FlowFields::NONE
+    };
     for (bytes, fields) in [
         (b"".as_slice(), FlowFields::NONE),
-        (
-            b"\x03\x02\xC1\x01",
-            FlowFields {
-                sid: Some(257),
-                ..FlowFields::NONE
-            },
-        ),
-        (
-            b"\x04\x02A\0",
-            FlowFields {
-                class_name: ClassName::new(b"A"),
-                ..FlowFields::NONE
-            },
-        ),
-        (
-            b"\x05\x06\x01\x01\x02\x02\x01\x03",
-            FlowFields {
-                errored: Some(ErrorEncodings {
-                    errored_parameter: 2,
-                    code: 3,
-                }),
-                ..FlowFields::NONE
-            },
-        ),
+        (b"\x03\x02\xC1\x01", sid),
+        (b"\x04\x02A\0", class_name),
+        (b"\x05\x06\x01\x01\x02\x02\x01\x03", errored),
         // A subtype that is not known is skipped however often it comes.
         (b"\x63\x01\xFF\x63\x01\xFF", FlowFields::NONE),
         (WHOLE, whole_fields()),
     ] {
-        match read_flow(bytes) {
-            Ok(flow) => assert_eq!(rt; flow.get_fields(), fields, "at {bytes:?}"),
-            Err(fault) => assert!(rt; false, "{fault:?} at {bytes:?}"),
-        }
+        assert_eq!(rt; fields_in(bytes), Ok(fields), "at {bytes:?}");
     }
 }
 
 #[test]
 fn the_first_fault_is_told(rt: HostRuntime) {
-    for (bytes, fault, reference) in [
+    for (bytes, fault, reference, sfid) in [
         (
             b"\x01\x02\0\0".as_slice(),
             TlvFault::Range { subtype: 1 },
             None,
+            None,
         ),
-        (b"\x04\x02\0A", TlvFault::Range { subtype: 4 }, None),
-        (b"\x05\x01\0", TlvFault::WrongLength { subtype: 5 }, None),
-        (b"\x06\x01\x06\x06\x01", TlvFault::Cut { at: 3 }, None),
-        (b"\x07\x01\x08", TlvFault::Range { subtype: 7 }, None),
+        (b"\x04\x02\0A", TlvFault::Range { subtype: 4 }, None, None),
+        (
+            b"\x05\x01\0",
+            TlvFault::WrongLength { subtype: 5 },
+            None,
+            None,
+        ),
+        (b"\x06\x01\x06\x06\x01", TlvFault::Cut { at: 3 }, None, None),
+        (b"\x07\x01\x08", TlvFault::Range { subtype: 7 }, None, None),
         (
             b"\x01\x02\0\x01\x01\x02\0\0",
             TlvFault::Twice { subtype: 1 },
             Some(1),
+            None,
         ),
         (
             b"\x01\x02\0\x01\x01\x01\0",
             TlvFault::WrongLength { subtype: 1 },
             Some(1),
+            None,
+        ),
+        // The SFID before a fault is told.
+        (
+            b"\x02\x04\x01\x02\x03\x04\x06",
+            TlvFault::Cut { at: 6 },
+            None,
+            Some(0x01020304),
         ),
     ] {
-        match read_flow(bytes) {
-            Ok(flow) => assert!(rt; false, "{flow:?} at {bytes:?}"),
-            Err(told) => {
-                assert_eq!(rt; told.fault, fault, "at {bytes:?}");
-                assert_eq!(rt; told.reference, reference, "at {bytes:?}");
-                assert_eq!(rt; told.sfid, None, "at {bytes:?}");
-            }
-        }
+        let fault = FlowFault {
+            fault,
+            reference,
+            sfid,
+        };
+        assert_eq!(rt; fields_in(bytes), Err(fault), "at {bytes:?}");
     }
-}
-
-#[test]
-fn the_sfid_before_a_fault_is_told(rt: HostRuntime) {
-    let told = FlowFault {
-        fault: TlvFault::Cut { at: 6 },
-        reference: None,
-        sfid: Some(0x01020304),
-    };
-    assert_eq!(rt;
-        read_flow(b"\x02\x04\x01\x02\x03\x04\x06").err(),
-        Some(told)
-    );
 }
 
 #[test]
@@ -159,14 +160,23 @@ fn bytes_are_split(rt: HostRuntime) -> Result<(), Fail> {
     Ok(())
 }
 
+/// The first TLV of some bytes: its type, its value and what stands behind it.
+fn first_of(bytes: &[u8]) -> Option<(u8, &[u8], &[u8])> {
+    let first = first_tlv(bytes)?;
+    Some((first.kind, first.value, first.rest))
+}
+
 #[test]
-fn the_first_tlv_is_found(rt: HostRuntime) -> Result<(), Fail> {
-    let first = first_tlv(b"\x1F\x01\x07\x1B\0").ok_or("no TLV")?;
-    assert_eq!(rt; first.kind, 31);
-    assert_eq!(rt; first.value, [7].as_slice());
-    assert_eq!(rt; first.rest, [27, 0].as_slice());
-    assert!(rt; first_tlv(b"\x1F\x02\x07").is_none());
-    Ok(())
+fn the_first_tlv_is_found(rt: HostRuntime) {
+    let wanted = (31, [7].as_slice(), [27, 0].as_slice());
+    assert_eq!(rt; first_of(b"\x1F\x01\x07\x1B\0"), Some(wanted));
+    assert_eq!(rt; first_of(b"\x1F\x02\x07"), None);
+}
+
+/// The bytes of an encoding, of which the same encoding is read back.
+fn written(rt: &impl Abort, alloc: Global, flow: &FlowTlv) -> Result<Vec<u8>, AllocError> {
+    assert_eq!(rt; read_back(alloc, flow)?, *flow);
+    write_flow(alloc, flow)
 }
 
 #[test]
@@ -176,22 +186,22 @@ fn fields_are_written_in_ascending_order(rt: HostRuntime) -> Result<(), Fail> {
         reference: Some(1),
         ..FlowFields::NONE
     });
-    let bytes = write_flow(rt.alloc(), &flow)?;
+    let bytes = written(&rt, rt.alloc(), &flow)?;
     assert_eq!(rt; bytes.as_slice(), b"\x01\x02\0\x01\x06\x01\x06".as_slice());
-    let whole = FlowTlv::new(whole_fields());
-    let bytes = write_flow(rt.alloc(), &whole)?;
+    Ok(())
+}
+
+#[test]
+fn all_fields_are_written(rt: HostRuntime) -> Result<(), Fail> {
+    let bytes = written(&rt, rt.alloc(), &whole()?)?;
     assert_eq!(rt; bytes.as_slice(), WHOLE);
-    assert_eq!(rt; read_back(rt.alloc(), &whole)?, whole);
     Ok(())
 }
 
 #[test]
 fn a_sid_is_written_without_its_upper_bits(rt: HostRuntime) -> Result<(), Fail> {
-    let Ok(flow) = read_flow(b"\x03\x02\xC1\x01") else {
-        assert!(rt; false, "a SID was not read");
-        return Ok(());
-    };
-    let bytes = write_flow(rt.alloc(), &flow)?;
+    let flow = read_flow(b"\x03\x02\xC1\x01")?;
+    let bytes = written(&rt, rt.alloc(), &flow)?;
     assert_eq!(rt; bytes.as_slice(), b"\x03\x02\x01\x01".as_slice());
     Ok(())
 }
@@ -200,7 +210,7 @@ fn a_sid_is_written_without_its_upper_bits(rt: HostRuntime) -> Result<(), Fail> 
 fn each_field_has_its_getter(rt: HostRuntime) -> Result<(), Fail> {
     one_meaning();
     flow_is_read();
-    let flow = FlowTlv::new(whole_fields());
+    let flow = whole()?;
     let name = flow.get_class_name().ok_or("no class name")?;
     assert_eq!(rt; name.as_slice(), b"up".as_slice());
     let errored = flow.get_errored().ok_or("no error encodings")?;
@@ -224,6 +234,11 @@ fn each_field_has_its_getter(rt: HostRuntime) -> Result<(), Fail> {
     Ok(())
 }
 
+/// Whether some bytes are a class name.
+fn is_class_name(bytes: &[u8]) -> bool {
+    ClassName::new(bytes).is_some()
+}
+
 #[test]
 fn class_names_have_1_to_15_bytes_and_no_0(rt: HostRuntime) {
     for (name, fine) in [
@@ -234,7 +249,7 @@ fn class_names_have_1_to_15_bytes_and_no_0(rt: HostRuntime) {
         (b"A\0", false),
         (b"A\0B", false),
     ] {
-        assert_eq!(rt; ClassName::new(name).is_some(), fine, "at {name:?}");
+        assert_eq!(rt; is_class_name(name), fine, "at {name:?}");
     }
 }
 

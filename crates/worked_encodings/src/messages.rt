@@ -11,6 +11,17 @@ use std::process::Abort;
 use std::test::Fail;
 use tlv24::{FlowFields, TlvFault};
 
+/// What a message says, or its fault. A function of its own, as those below: what the call promises is then no part of each test's
+/// proof.
+fn message_in(alloc: Global, bytes: &[u8]) -> Result<Message, MessageFault> {
+    read(alloc, bytes)
+}
+
+/// The reply of some bytes, if they are one.
+fn reply_in(bytes: &[u8]) -> Option<Reply> {
+    read_reply(bytes)
+}
+
 #[test]
 fn faults_of_messages(rt: HostRuntime) {
     for (bytes, fault) in [
@@ -73,56 +84,68 @@ fn faults_of_messages(rt: HostRuntime) {
             },
         ),
     ] {
-        let told = read(rt.alloc(), bytes).err();
-        assert_eq!(rt; told, Some(fault), "at {bytes:?}");
+        assert_eq!(rt;
+            message_in(rt.alloc(), bytes).err(),
+            Some(fault),
+            "at {bytes:?}"
+        );
     }
 }
 
+/// The kind, the transaction ID and the flows of a request to add or to change.
+fn request_in(alloc: Global, bytes: &[u8]) -> Result<(Kind, u16, Flows), Fail> {
+    match message_in(alloc, bytes)? {
+        Message::Request(Request::Dsa { tid, flows }) => Ok((Kind::Dsa, tid, flows)),
+        Message::Request(Request::Dsc { tid, flows }) => Ok((Kind::Dsc, tid, flows)),
+        _ => Err(Fail::new("no flows")),
+    }
+}
+
+/// Checks the kind, the transaction ID and the fields of the flows of a request to add or to change.
+fn check_flows(
+    rt: &impl Abort,
+    alloc: Global,
+    bytes: &[u8],
+    wanted: (Kind, u16),
+    fields: &[FlowFields],
+) -> Result<(), Fail> {
+    let (kind, tid, flows) = request_in(alloc, bytes)?;
+    assert_eq!(rt; (kind, tid), wanted);
+    assert_eq!(rt; flows.as_slice().len(), fields.len());
+    for (flow, fields) in flows.as_slice().iter().zip(fields.iter()) {
+        assert_eq!(rt; flow.get_fields(), *fields);
+    }
+    Ok(())
+}
+
+const ADDITION: &[u8] = b"\x0F\x00\x01\x18\x0A\x01\x02\x00\x01\x06\x01\x06\x0F\x01\x02";
+
 #[test]
 fn an_addition_says_its_flows(rt: HostRuntime) -> Result<(), Fail> {
-    let bytes = b"\x0F\x00\x01\x18\x0A\x01\x02\x00\x01\x06\x01\x06\x0F\x01\x02";
-    let Message::Request(Request::Dsa { tid, flows }) = read(rt.alloc(), bytes)? else {
-        return Err(Fail::from("no addition"));
-    };
-    assert_eq!(rt; tid, 1);
-    let [flow] = flows.as_slice() else {
-        return Err(Fail::from("not one flow"));
-    };
     let fields = FlowFields {
         reference: Some(1),
         set_type: Some(6),
         scheduling_type: Some(2),
         ..FlowFields::NONE
     };
-    assert_eq!(rt; flow.get_fields(), fields);
-    let again = Flows::from_vec([*flow].to_vec(rt.alloc())?);
-    assert_eq!(rt; again.as_slice(), [*flow].as_slice());
-    message_is_read();
-    Ok(())
+    check_flows(&rt, rt.alloc(), ADDITION, (Kind::Dsa, 1), &[fields])
 }
 
 #[test]
 fn an_unknown_type_is_skipped(rt: HostRuntime) -> Result<(), Fail> {
-    let Message::Request(Request::Dsa { tid, flows }) = read(rt.alloc(), b"\x0F\x00\x01\x1B\x00")?
-    else {
-        return Err(Fail::from("no addition"));
-    };
-    assert_eq!(rt; tid, 1);
-    assert_eq!(rt; flows.as_slice().len(), 0);
-    Ok(())
+    check_flows(
+        &rt,
+        rt.alloc(),
+        b"\x0F\x00\x01\x1B\x00",
+        (Kind::Dsa, 1),
+        &[],
+    )
 }
 
 #[test]
 fn a_change_says_its_flows(rt: HostRuntime) -> Result<(), Fail> {
     let bytes =
         b"\x12\x00\x01\x18\x12\x02\x04\x00\x00\x01\x01\x06\x01\x06\x0F\x01\x02\x0A\x04\x00\x00\x00\x64";
-    let Message::Request(Request::Dsc { tid, flows }) = read(rt.alloc(), bytes)? else {
-        return Err(Fail::from("no change"));
-    };
-    assert_eq!(rt; tid, 1);
-    let [flow] = flows.as_slice() else {
-        return Err(Fail::from("not one flow"));
-    };
     let fields = FlowFields {
         sfid: Some(257),
         set_type: Some(6),
@@ -130,14 +153,23 @@ fn a_change_says_its_flows(rt: HostRuntime) -> Result<(), Fail> {
         min_reserved_rate: Some(100),
         ..FlowFields::NONE
     };
-    assert_eq!(rt; flow.get_fields(), fields);
+    check_flows(&rt, rt.alloc(), bytes, (Kind::Dsc, 1), &[fields])
+}
+
+/// Flows made of a copy of those that were read are the same.
+#[test]
+fn flows_are_copied(rt: HostRuntime) -> Result<(), Fail> {
+    let (_kind, _tid, flows) = request_in(rt.alloc(), ADDITION)?;
+    let again = Flows::from_vec(flows.as_slice().to_vec(rt.alloc())?);
+    assert_eq!(rt; again.as_slice(), flows.as_slice());
+    message_is_read();
     Ok(())
 }
 
 #[test]
 fn a_deletion_says_its_flow(rt: HostRuntime) -> Result<(), Fail> {
     let bytes = b"\x15\x00\x01\x00\x00\x00\x00\x01\x01";
-    let Message::Request(Request::Dsd { tid, sfid }) = read(rt.alloc(), bytes)? else {
+    let Message::Request(Request::Dsd { tid, sfid }) = message_in(rt.alloc(), bytes)? else {
         return Err(Fail::from("no deletion"));
     };
     assert_eq!(rt; (tid, sfid), (1, 257));
@@ -151,7 +183,7 @@ fn acknowledgements(rt: HostRuntime) -> Result<(), Fail> {
         (b"\x14\x00\x01\x05", (Kind::Dsc, 1, 5)),
         (b"\x11\x00\x01\x7F\x99", (Kind::Dsa, 1, 127)),
     ] {
-        let Message::Ack { kind, tid, code } = read(rt.alloc(), bytes)? else {
+        let Message::Ack { kind, tid, code } = message_in(rt.alloc(), bytes)? else {
             return Err(Fail::from("no acknowledgement"));
         };
         assert_eq!(rt; (kind, tid, code), expected);
@@ -304,7 +336,7 @@ fn no_second_spelling_is_read(rt: HostRuntime) {
         b"\x10\x00\x01\x00\x18\x0E\x02\x04\x00\x00\x01\x01\x01\x02\x00\x01\x03\x02\x01\x01", // SFID first
         b"\x10\x00\x01\x00\x18\x0E\x01\x02\x00\x01\x02\x04\x00\x00\x01\x01\x03\x02\x01\x01\x00", // one more byte
     ] {
-        assert_eq!(rt; read_reply(bytes), None, "at {bytes:?}");
+        assert_eq!(rt; reply_in(bytes), None, "at {bytes:?}");
     }
 }
 

@@ -66,6 +66,35 @@ fn begin(
     Ok(kept.begin(modem, tid, kind, reply(alloc, byte)?, sfid, waits))
 }
 
+/// A table with room for so many responses, of these timers.
+fn kept_of(alloc: Global, room: u32, timers: (u16, u8, u16)) -> Result<Kept, Fail> {
+    let (ack_wait, resends, hold) = timers;
+    if ack_wait == 0 || hold == 0 {
+        return Err(Fail::new("no timers"));
+    }
+    Ok(Kept::new(alloc, room, Timers::new(ack_wait, resends, hold))?)
+}
+
+/// The flow whose response is acknowledged.
+fn acked(kept: &mut Kept, modem: Modem, tid: u16, kind: Kind) -> Option<u32> {
+    kept.acked(modem, tid, kind)
+}
+
+/// The response of a transaction.
+fn found(kept: &Kept, modem: Modem, tid: u16) -> Option<&KeptEntry> {
+    kept.find(modem, tid)
+}
+
+/// How many responses the next tick sends again.
+fn resend_count(kept: &Kept) -> usize {
+    kept.resend_count()
+}
+
+/// Checks how many responses there are.
+fn check_len(rt: &impl Abort, kept: &Kept, len: usize) {
+    same!(rt; (kept.len(), kept.is_empty()), (len, len == 0));
+}
+
 /// Checks that it begins.
 fn check_begin(
     rt: &impl Abort,
@@ -104,24 +133,24 @@ fn timers_tell_their_numbers(rt: HostRuntime) {
 #[test]
 fn a_second_begin_finds_one_place_full(rt: HostRuntime) -> Result<(), Fail> {
     let alloc = rt.alloc();
-    let mut kept = Kept::new(alloc, 1, Timers::new(2, 2, 5))?;
-    same!(rt; kept.is_empty(), true);
+    let mut kept = kept_of(alloc, 1, (2, 2, 5))?;
+    check_len(&rt, &kept, 0);
     check_begin(&rt, &mut kept, alloc, (ONE, 7, Kind::Dsa), (1, 9, true))?;
     same!(rt; kept.is_full(), true);
-    same!(rt; kept.len(), 1);
+    check_len(&rt, &kept, 1);
     let other = begin(&mut kept, alloc, (TWO, 8, Kind::Dsa), (2, 10, true))?;
     same!(rt; other, Err(KeptFault::Full));
     let live = begin(&mut kept, alloc, (ONE, 7, Kind::Dsa), (3, 9, true))?;
     // Full comes before live.
     same!(rt; live, Err(KeptFault::Full));
-    same!(rt; kept.len(), 1);
+    check_len(&rt, &kept, 1);
     Ok(())
 }
 
 #[test]
 fn a_begin_of_a_live_pair(rt: HostRuntime) -> Result<(), Fail> {
     let alloc = rt.alloc();
-    let mut kept = Kept::new(alloc, 4, Timers::new(2, 2, 5))?;
+    let mut kept = kept_of(alloc, 4, (2, 2, 5))?;
     check_begin(&rt, &mut kept, alloc, (ONE, 7, Kind::Dsa), (1, 9, true))?;
     let again = begin(&mut kept, alloc, (ONE, 7, Kind::Dsc), (2, 10, false))?;
     same!(rt; again, Err(KeptFault::Live));
@@ -155,62 +184,62 @@ fn a_new_pair_is_held_for_its_ticks(rt: HostRuntime) -> Result<(), Fail> {
 #[test]
 fn an_acknowledgement_is_taken_once_and_of_its_own_kind(rt: HostRuntime) -> Result<(), Fail> {
     let alloc = rt.alloc();
-    let mut kept = Kept::new(alloc, 4, Timers::new(2, 2, 5))?;
+    let mut kept = kept_of(alloc, 4, (2, 2, 5))?;
     check_begin(&rt, &mut kept, alloc, (ONE, 7, Kind::Dsa), (1, 9, true))?;
     // Another kind, an unknown transaction ID, another modem.
-    same!(rt; kept.acked(ONE, 7, Kind::Dsc), None);
-    same!(rt; kept.acked(ONE, 8, Kind::Dsa), None);
-    same!(rt; kept.acked(TWO, 7, Kind::Dsa), None);
-    same!(rt; kept.acked(ONE, 7, Kind::Dsa), Some(9));
+    same!(rt; acked(&mut kept, ONE, 7, Kind::Dsc), None);
+    same!(rt; acked(&mut kept, ONE, 8, Kind::Dsa), None);
+    same!(rt; acked(&mut kept, TWO, 7, Kind::Dsa), None);
+    same!(rt; acked(&mut kept, ONE, 7, Kind::Dsa), Some(9));
     // It is held now.
-    same!(rt; kept.acked(ONE, 7, Kind::Dsa), None);
+    same!(rt; acked(&mut kept, ONE, 7, Kind::Dsa), None);
     Ok(())
 }
 
 #[test]
 fn resent_twice_and_given_up_at_the_sixth_tick(rt: HostRuntime) -> Result<(), Fail> {
     let alloc = rt.alloc();
-    let mut kept = Kept::new(alloc, 4, Timers::new(2, 2, 5))?;
+    let mut kept = kept_of(alloc, 4, (2, 2, 5))?;
     check_begin(&rt, &mut kept, alloc, (ONE, 7, Kind::Dsc), (1, 9, true))?;
-    same!(rt; kept.resend_count(), 0);
+    same!(rt; resend_count(&kept), 0);
     check_quiet(&rt, &mut kept, alloc, 1)?;
-    same!(rt; kept.resend_count(), 1);
+    same!(rt; resend_count(&kept), 1);
     check_resend(&rt, &mut kept, alloc, 1)?;
     check_quiet(&rt, &mut kept, alloc, 1)?;
     check_resend(&rt, &mut kept, alloc, 1)?;
     check_quiet(&rt, &mut kept, alloc, 1)?;
-    same!(rt; kept.len(), 1);
+    check_len(&rt, &kept, 1);
     let given_up = GivenUp {
         kind: Kind::Dsc,
         sfid: 9,
     };
     check_given_up(&rt, &mut kept, alloc, given_up)?;
-    same!(rt; kept.is_empty(), true);
-    same!(rt; kept.find(ONE, 7).is_none(), true);
+    check_len(&rt, &kept, 0);
+    same!(rt; found(&kept, ONE, 7).is_none(), true);
     Ok(())
 }
 
 #[test]
 fn given_up_at_the_first_tick_where_nothing_is_resent(rt: HostRuntime) -> Result<(), Fail> {
     let alloc = rt.alloc();
-    let mut kept = Kept::new(alloc, 4, Timers::new(1, 0, 5))?;
+    let mut kept = kept_of(alloc, 4, (1, 0, 5))?;
     check_begin(&rt, &mut kept, alloc, (ONE, 7, Kind::Dsa), (1, 9, true))?;
     let given_up = GivenUp {
         kind: Kind::Dsa,
         sfid: 9,
     };
     check_given_up(&rt, &mut kept, alloc, given_up)?;
-    same!(rt; kept.is_empty(), true);
+    check_len(&rt, &kept, 0);
     Ok(())
 }
 
 #[test]
 fn held_for_one_tick_and_free_again(rt: HostRuntime) -> Result<(), Fail> {
     let alloc = rt.alloc();
-    let mut kept = Kept::new(alloc, 4, Timers::new(2, 2, 1))?;
+    let mut kept = kept_of(alloc, 4, (2, 2, 1))?;
     check_begin(&rt, &mut kept, alloc, (ONE, 7, Kind::Dsd), (1, 9, false))?;
     check_quiet(&rt, &mut kept, alloc, 1)?;
-    same!(rt; kept.is_empty(), true);
+    check_len(&rt, &kept, 0);
     check_begin(&rt, &mut kept, alloc, (ONE, 7, Kind::Dsd), (2, 9, false))?;
     Ok(())
 }
@@ -218,24 +247,24 @@ fn held_for_one_tick_and_free_again(rt: HostRuntime) -> Result<(), Fail> {
 #[test]
 fn an_acknowledged_entry_is_held_and_not_resent(rt: HostRuntime) -> Result<(), Fail> {
     let alloc = rt.alloc();
-    let mut kept = Kept::new(alloc, 4, Timers::new(2, 2, 3))?;
+    let mut kept = kept_of(alloc, 4, (2, 2, 3))?;
     check_begin(&rt, &mut kept, alloc, (ONE, 7, Kind::Dsa), (1, 9, true))?;
     check_quiet(&rt, &mut kept, alloc, 1)?;
-    same!(rt; kept.acked(ONE, 7, Kind::Dsa), Some(9));
+    same!(rt; acked(&mut kept, ONE, 7, Kind::Dsa), Some(9));
     check_quiet(&rt, &mut kept, alloc, 2)?;
-    same!(rt; kept.len(), 1);
+    check_len(&rt, &kept, 1);
     check_quiet(&rt, &mut kept, alloc, 1)?;
-    same!(rt; kept.is_empty(), true);
+    check_len(&rt, &kept, 0);
     Ok(())
 }
 
 #[test]
 fn two_that_fall_due_together_are_resent_in_order(rt: HostRuntime) -> Result<(), Fail> {
     let alloc = rt.alloc();
-    let mut kept = Kept::new(alloc, 4, Timers::new(1, 1, 5))?;
+    let mut kept = kept_of(alloc, 4, (1, 1, 5))?;
     check_begin(&rt, &mut kept, alloc, (TWO, 9, Kind::Dsa), (1, 9, true))?;
     check_begin(&rt, &mut kept, alloc, (ONE, 7, Kind::Dsa), (2, 8, true))?;
-    same!(rt; kept.resend_count(), 2);
+    same!(rt; resend_count(&kept), 2);
     let told = kept.tick(alloc)?;
     let sent = sent_in(alloc, told.resend.as_slice())?;
     same!(rt; sent.as_slice(), [(TWO, 1), (ONE, 2)].as_slice());
@@ -245,10 +274,10 @@ fn two_that_fall_due_together_are_resent_in_order(rt: HostRuntime) -> Result<(),
 #[test]
 fn a_look_up_gives_the_kept_bytes_and_restarts_nothing(rt: HostRuntime) -> Result<(), Fail> {
     let alloc = rt.alloc();
-    let mut kept = Kept::new(alloc, 4, Timers::new(2, 2, 5))?;
+    let mut kept = kept_of(alloc, 4, (2, 2, 5))?;
     check_begin(&rt, &mut kept, alloc, (ONE, 7, Kind::Dsa), (5, 9, true))?;
     check_quiet(&rt, &mut kept, alloc, 1)?;
-    let found = kept.find(ONE, 7).ok_or("not found")?;
+    let found = found(&kept, ONE, 7).ok_or("not found")?;
     same!(rt; found.reply.as_slice(), [5].as_slice());
     same!(rt; found.standing, Standing::Waiting);
     same!(rt; found.ticks_left, 1);
@@ -290,12 +319,12 @@ fn a_tick_that_lacks_memory_changes_nothing(rt: HostRuntime) -> Result<(), Fail>
             Ok(told) => {
                 same!(rt; told.resend.as_slice().len(), 1);
                 same!(rt; told.given_up.as_slice().len(), 1);
-                same!(rt; kept.len(), 1);
+                check_len(&rt, &kept, 1);
                 return Ok(());
             }
             Err(_) => {
                 same!(rt; counts(&kept), [(1, 0), (1, 1)]);
-                same!(rt; kept.resend_count(), 1);
+                same!(rt; resend_count(&kept), 1);
             }
         }
     }

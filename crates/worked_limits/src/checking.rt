@@ -13,8 +13,8 @@ pub(crate) fn check_on(
     plant: &str,
     script: &str,
 ) -> Result<(), Fail> {
-    let text = played_on(alloc, plant, script, Want::Told)?;
-    assert_eq!(rt; text.as_str(), script);
+    let told = played_on(alloc, plant, script, Want::Told)?;
+    assert_eq!(rt; told.as_str(), script);
     Ok(())
 }
 

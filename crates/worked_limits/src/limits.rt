@@ -4,7 +4,7 @@ use crate::checking::check_on;
 use std::alloc::Global;
 use std::process::Abort;
 use std::test::Fail;
-use worked_plants::{ALONE, PLANT, SHARED};
+use worked_plants::{ALONE, PLANT, many_operators};
 use worked_playing::changed;
 
 /// The text of some tables with each change made: the first `old` becomes `new`.
@@ -27,32 +27,6 @@ fn put_times(text: &mut String, line: &str, times: usize) -> Result<(), Fail> {
         text.push_str(line)?;
     }
     Ok(())
-}
-
-/// So many operators (32 at most) with names of 16 letters and a slice of one minislot each.
-fn operators(alloc: Global, count: u8) -> Result<String, Fail> {
-    let mut text = String::from_str(alloc, SHARED)?;
-    for place in 0..u32::from(count) {
-        let (start, sfid, sid) = (8 + place, 1000 + place, 100 + place);
-        let row = format!(in alloc;
-            "
-[[operator]]
-name = \"Operator{place:08}\"
-slice = [{start}, 1]
-sfids = [{sfid}, {sfid}]
-sids = [{sid}, {sid}]
-flows = 1
-transactions = 1
-inbox = 1
-budget = 1
-elements = 5
-policy = \"strict\"
-modems = [\"0200000000{place:02X}\"]
-"
-        )?;
-        text.push_str(row.as_str())?;
-    }
-    Ok(text)
 }
 
 /// How an operator is told: a letter of the first two, the number of another's place.
@@ -126,7 +100,7 @@ fn check_operators(
     count: u8,
     told: (&str, &str),
 ) -> Result<(), Fail> {
-    let plant = operators(alloc, count)?;
+    let plant = many_operators(alloc, count, 1)?;
     let mut script = String::new(alloc);
     put_requests(alloc, &mut script, count)?;
     script.push_str("\nT")?;

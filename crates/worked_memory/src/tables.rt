@@ -8,51 +8,27 @@ use std::alloc::{AllocError, Global};
 use std::test::Fail;
 use tlv24::Bytes;
 use transactions::{Kept, KeptEntry, Timers};
+use worked_plants::{OPERATOR_A, OPERATOR_B, SHARED, changed};
 
-/// An operator with a class and a provisioned flow.
-const PLANT: &str = "[plant]
-frame_minislots = 72
-head = 8
-frame_us = 2000
-bytes_per_minislot = 16
-short_max = 4
-channel = 1
-ucd_count = 1
-
+/// A class.
+const GOLD: &str = "
 [[class]]
 name = \"gold\"
 encoding = \"0F0102070105\"
+";
 
-[[operator]]
-name = \"A\"
-slice = [8, 32]
-sfids = [257, 512]
-sids = [257, 272]
-flows = 4
-transactions = 4
-inbox = 4
-budget = 32
-elements = 8
-policy = \"strict\"
-modems = [\"020000000001\", \"020000000002\"]
-
+/// A flow of that class, provisioned for operator A's first modem.
+const FLOW: &str = "
 [[operator.flow]]
 modem = \"020000000001\"
 encoding = \"0405676F6C6400060107\"
-
-[[operator]]
-name = \"B\"
-slice = [40, 32]
-sfids = [513, 768]
-sids = [513, 528]
-flows = 4
-transactions = 4
-inbox = 4
-budget = 32
-elements = 8
-policy = \"short\"
-modems = [\"020000000003\"]
 ";
+
+/// The plant of two operators with that class, that flow, and the second's backlogs served shortest first.
+fn plant_text(alloc: Global) -> Result<String, Fail> {
+    let b = changed(alloc, OPERATOR_B, "strict", "short")?;
+    Ok(format!(in alloc; "{SHARED}{GOLD}{OPERATOR_A}{FLOW}{b}")?)
+}
 
 const ONE: Modem = Modem([2, 0, 0, 0, 0, 1]);
 
@@ -131,14 +107,20 @@ fn is_the_plant(plant: &Plant) -> bool {
 
 #[test]
 fn a_plant_is_read(rt: HostRuntime) -> Result<(), Fail> {
-    let plant = again_if!(&rt, read_plant(rt.alloc(), PLANT), PlantFault::NoMemory);
+    let text = plant_text(rt.alloc())?;
+    let plant = again_if!(
+        &rt,
+        read_plant(rt.alloc(), text.as_str()),
+        PlantFault::NoMemory
+    );
     assert!(rt; is_the_plant(&plant));
     Ok(())
 }
 
 /// The plant of the text.
 pub(crate) fn plant(alloc: Global) -> Result<Plant, Fail> {
-    Ok(read_plant(alloc, PLANT).ok().ok_or("no memory")?)
+    let text = plant_text(alloc)?;
+    Ok(read_plant(alloc, text.as_str()).ok().ok_or("no memory")?)
 }
 
 #[test]

@@ -12,34 +12,7 @@ use plant_passes::{Pass, PassedCell};
 use slice_table::{Plant, read_plant};
 use std::alloc::Global;
 use tlv24::Bytes;
-
-/// A plant's head, but for its first frame.
-const HEAD: &str = "[plant]
-frame_minislots = 72
-head = 8
-frame_us = 2000
-bytes_per_minislot = 16
-short_max = 4
-channel = 1
-ucd_count = 1
-";
-
-/// Its operator A, and no other.
-const OPERATOR: &str = "
-
-[[operator]]
-name = \"A\"
-slice = [8, 32]
-sfids = [257, 512]
-sids = [257, 272]
-flows = 4
-transactions = 4
-inbox = 4
-budget = 32
-elements = 8
-policy = \"strict\"
-modems = [\"020000000001\", \"020000000002\"]
-";
+use worked_plants::{OPERATOR_A, SHARED};
 
 /// The first frame of most plants.
 pub(crate) const FIRST: &str = "first_frame = 0";
@@ -75,7 +48,7 @@ pub(crate) use strict;
 
 /// The plant of operator A alone, from this frame on.
 fn plant_from(alloc: Global, first_frame: &str) -> Option<Plant> {
-    let text = format!(in alloc; "{HEAD}{first_frame}{OPERATOR}").ok()?;
+    let text = format!(in alloc; "{SHARED}{first_frame}\n{OPERATOR_A}").ok()?;
     read_plant(alloc, text.as_str()).ok()
 }
 

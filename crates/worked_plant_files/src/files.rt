@@ -8,7 +8,7 @@ use slice_table::{ConstsFields, Field, Key, Op, Place, Plant, PlantFault, RowFie
 use std::alloc::{AllocError, Global};
 use std::process::Abort;
 use std::test::Fail;
-use worked_plants::PLANT;
+use worked_plants::{Case, PLANT, asked_by, cases_in, changed, put_difference};
 
 /// A fault by its number, with what it names.
 fn told(alloc: Global, fault: PlantFault) -> Result<String, AllocError> {
@@ -42,82 +42,24 @@ fn check_text(rt: &impl Abort, alloc: Global, text: &str, verdict: &str) -> Resu
     Ok(())
 }
 
-/// The plant's text with its first `old` changed to `new`.
-fn changed(alloc: Global, text: &str, old: &str, new: &str) -> Result<String, Fail> {
-    let (head, tail) = text.split_once(old).ok_or("not there")?;
-    Ok(format!(in alloc; "{head}{new}{tail}")?)
-}
-
-/// Checks what is said of texts.
-fn check_texts(rt: &impl Abort, alloc: Global, rows: &[(&str, &str)]) -> Result<(), Fail> {
-    for (text, verdict) in rows {
-        check_text(rt, alloc, text, verdict)?;
-    }
+/// Writes what is said of the text of a case, where it is not what is wanted.
+fn check_case(alloc: Global, failed: &mut String, case: &Case<'_>) -> Result<(), Fail> {
+    let asked = asked_by(alloc, case)?;
+    let verdict = verdict_of(alloc, asked.input.as_str())?;
+    let line = format!(in alloc; "{verdict}\n")?;
+    put_difference(failed, case.name, line.as_str(), asked.wanted.as_str())?;
     Ok(())
 }
 
-/// Checks what is said of the plant with its first `old` changed to `new`.
-fn check(rt: &impl Abort, alloc: Global, old: &str, new: &str, verdict: &str) -> Result<(), Fail> {
-    let text = changed(alloc, PLANT, old, new)?;
-    check_text(rt, alloc, text.as_str(), verdict)
-}
-
-/// Checks what is said of the plant with each of these changes: the first `old`, `new`, and what is said.
-fn check_changes(rt: &impl Abort, alloc: Global, rows: &[(&str, &str, &str)]) -> Result<(), Fail> {
-    for (old, new, verdict) in rows {
-        check(rt, alloc, old, new, verdict)?;
+#[test]
+fn plant_files_and_what_is_said_of_them(rt: HostRuntime) -> Result<(), Fail> {
+    let alloc = rt.alloc();
+    let cases = cases_in(alloc, PLANT, CASES)?;
+    let mut failed = String::new(alloc);
+    for case in cases.as_slice() {
+        check_case(alloc, &mut failed, case)?;
     }
-    Ok(())
-}
-
-/// An old text and a new one.
-type Change<'a> = (&'a str, &'a str);
-
-/// Checks what is said of the plant with two changes.
-fn check_both(
-    rt: &impl Abort,
-    alloc: Global,
-    first: Change<'_>,
-    second: Change<'_>,
-    verdict: &str,
-) -> Result<(), Fail> {
-    let once = changed(alloc, PLANT, first.0, first.1)?;
-    let twice = changed(alloc, once.as_str(), second.0, second.1)?;
-    check_text(rt, alloc, twice.as_str(), verdict)
-}
-
-/// The same for each of these pairs of changes.
-fn check_pairs(
-    rt: &impl Abort,
-    alloc: Global,
-    rows: &[(Change<'_>, Change<'_>, &str)],
-) -> Result<(), Fail> {
-    for (first, second, verdict) in rows {
-        check_both(rt, alloc, *first, *second, verdict)?;
-    }
-    Ok(())
-}
-
-/// Checks what is said of the plant with these lines behind the table `plant`.
-fn check_plant_keys(rt: &impl Abort, alloc: Global, rows: &[(&str, &str)]) -> Result<(), Fail> {
-    for (lines, verdict) in rows {
-        let keys = format!(in alloc; "ucd_count = 1\n{lines}\n")?;
-        check(rt, alloc, "ucd_count = 1\n", keys.as_str(), verdict)?;
-    }
-    Ok(())
-}
-
-/// Checks what is said of the plant with these tables behind the first operator's keys.
-fn check_table(rt: &impl Abort, alloc: Global, table: &str, verdict: &str) -> Result<(), Fail> {
-    let tables = format!(in alloc; "02\"]\n{table}")?;
-    check(rt, alloc, "02\"]\n", tables.as_str(), verdict)
-}
-
-/// The same for each of these tables.
-fn check_tables(rt: &impl Abort, alloc: Global, rows: &[(&str, &str)]) -> Result<(), Fail> {
-    for (table, verdict) in rows {
-        check_table(rt, alloc, table, verdict)?;
-    }
+    assert_eq!(rt; (cases.len(), failed.is_empty()), (141, true), "{failed}");
     Ok(())
 }
 
@@ -200,294 +142,6 @@ fn whose_modem_a_modem_is(rt: HostRuntime) -> Result<(), Fail> {
     Ok(())
 }
 
-#[test]
-fn faults_by_one_change(rt: HostRuntime) -> Result<(), Fail> {
-    let alloc = rt.alloc();
-    check_texts(
-        &rt,
-        alloc,
-        &[
-            (PLANT, "ok"),
-            ("x", "1"),
-            ("", "2 plant.frame_minislots"),
-            ("plant = 1", "3 plant"),
-        ],
-    )?;
-    check_changes(
-        &rt,
-        alloc,
-        &[
-            ("frame_us = 2000\n", "", "2 plant.frame_us"),
-            ("\"strict\"", "\"first\"", "3 operator[0].policy"),
-            ("slice = [40, 32]", "slice = [39, 32]", "4 A B"),
-            ("sids = [513, 528]", "sids = [272, 528]", "5 A B"),
-            ("sids = [513, 528]", "sids = [273, 528]", "ok"),
-            ("sfids = [513, 768]", "sfids = [1, 257]", "6 A B"),
-            ("sfids = [513, 768]", "sfids = [1, 256]", "ok"),
-            ("00003", "00001", "7 020000000001"),
-            ("00002", "00001", "7 020000000001"),
-            ("elements = 8", "elements = 225", "ok"),
-            ("elements = 8", "elements = 226", "8 241"),
-            ("budget = 32", "budget = 33", "9 A"),
-        ],
-    )
-}
-
-/// The plant's text with another value under the first key of this name.
-fn with_value(alloc: Global, key: &str, value: &str) -> Result<String, Fail> {
-    let name = format!(in alloc; "\n{key} = ")?;
-    let (head, line) = PLANT.split_once(name.as_str()).ok_or("no key")?;
-    let (_, tail) = line.split_once("\n").ok_or("no line")?;
-    Ok(format!(in alloc; "{head}\n{key} = {value}\n{tail}")?)
-}
-
-/// Checks what is said of the plant with another value under a key: the first of this name.
-fn check_values(rt: &impl Abort, alloc: Global, rows: &[(&str, &str, &str)]) -> Result<(), Fail> {
-    for (key, value, verdict) in rows {
-        let text = with_value(alloc, key, value)?;
-        check_text(rt, alloc, text.as_str(), verdict)?;
-    }
-    Ok(())
-}
-
-#[test]
-fn ends_of_the_ranges_of_the_plant(rt: HostRuntime) -> Result<(), Fail> {
-    let alloc = rt.alloc();
-    check_values(
-        &rt,
-        alloc,
-        &[
-            ("frame_minislots", "0", "3 plant.frame_minislots"),
-            ("frame_minislots", "4096", "ok"),
-            ("frame_minislots", "4097", "3 plant.frame_minislots"),
-            ("head", "73", "3 plant.head"),
-            ("frame_us", "0", "3 plant.frame_us"),
-            ("frame_us", "1000000", "ok"),
-            ("frame_us", "1000001", "3 plant.frame_us"),
-            ("bytes_per_minislot", "0", "3 plant.bytes_per_minislot"),
-            ("bytes_per_minislot", "65535", "ok"),
-            ("bytes_per_minislot", "65536", "3 plant.bytes_per_minislot"),
-            ("short_max", "4096", "ok"),
-            ("short_max", "4097", "3 plant.short_max"),
-            ("channel", "256", "3 plant.channel"),
-            ("channel", "-1", "3 plant.channel"),
-            ("ucd_count", "255", "ok"),
-            ("ucd_count", "256", "3 plant.ucd_count"),
-            ("ucd_count", "1.0", "3 plant.ucd_count"),
-            ("ucd_count", "true", "3 plant.ucd_count"),
-            ("ucd_count", "\"1\"", "3 plant.ucd_count"),
-        ],
-    )?;
-    check_changes(
-        &rt,
-        alloc,
-        &[("head = 8", "head = 72", "3 operator[0].slice")],
-    )
-}
-
-#[test]
-fn keys_of_the_plant_that_have_defaults(rt: HostRuntime) -> Result<(), Fail> {
-    check_plant_keys(
-        &rt,
-        rt.alloc(),
-        &[
-            ("ranging_start = 15\nother = 1", "ok"),
-            ("ranging_start = 16", "3 plant.ranging_start"),
-            ("ranging_end = 16", "3 plant.ranging_end"),
-            ("data_start = 16", "3 plant.data_start"),
-            ("data_end = 16", "3 plant.data_end"),
-            ("ack_wait = 0", "3 plant.ack_wait"),
-            ("ack_wait = 65536", "3 plant.ack_wait"),
-            ("resends = 256", "3 plant.resends"),
-            ("hold = 0", "3 plant.hold"),
-            ("hold = 65536", "3 plant.hold"),
-            ("first_frame = 4294967295", "ok"),
-            ("first_frame = 4294967296", "3 plant.first_frame"),
-        ],
-    )
-}
-
-#[test]
-fn names_and_slices(rt: HostRuntime) -> Result<(), Fail> {
-    let alloc = rt.alloc();
-    check_values(
-        &rt,
-        alloc,
-        &[
-            ("name", "\"\"", "3 operator[0].name"),
-            ("name", "\"abcdefgh01234567\"", "ok"),
-            ("name", "\"abcdefgh012345678\"", "3 operator[0].name"),
-            ("name", "\"A b\"", "3 operator[0].name"),
-            ("slice", "[7, 32]", "3 operator[0].slice"),
-            ("slice", "[8, 0]", "3 operator[0].slice"),
-            ("slice", "[8, 32, 1]", "3 operator[0].slice"),
-            ("slice", "[8]", "3 operator[0].slice"),
-        ],
-    )?;
-    check_changes(
-        &rt,
-        alloc,
-        &[
-            ("\"B\"", "\"A\"", "3 operator[1].name"),
-            ("[40, 32]", "[40, 33]", "3 operator[1].slice"),
-        ],
-    )
-}
-
-#[test]
-fn ends_of_the_ranges_of_an_operator(rt: HostRuntime) -> Result<(), Fail> {
-    let alloc = rt.alloc();
-    check_values(
-        &rt,
-        alloc,
-        &[
-            ("sfids", "[0, 512]", "3 operator[0].sfids"),
-            ("sfids", "[513, 512]", "3 operator[0].sfids"),
-            ("sids", "[0, 272]", "3 operator[0].sids"),
-            ("flows", "0", "3 operator[0].flows"),
-            ("flows", "1024", "ok"),
-            ("flows", "1025", "3 operator[0].flows"),
-            ("transactions", "0", "3 operator[0].transactions"),
-            ("transactions", "256", "ok"),
-            ("transactions", "257", "3 operator[0].transactions"),
-            ("inbox", "0", "3 operator[0].inbox"),
-            ("inbox", "256", "ok"),
-            ("inbox", "257", "3 operator[0].inbox"),
-            ("budget", "0", "ok"),
-            ("budget", "4097", "3 operator[0].budget"),
-            ("elements", "0", "ok"),
-            ("elements", "236", "3 operator[0].elements"),
-        ],
-    )?;
-    check_changes(
-        &rt,
-        alloc,
-        &[
-            (", 768]", ", 4294967295]", "ok"),
-            (", 768]", ", 4294967296]", "3 operator[1].sfids"),
-            (", 528]", ", 8191]", "ok"),
-            (", 528]", ", 8192]", "3 operator[1].sids"),
-        ],
-    )
-}
-
-#[test]
-fn policies_and_modems(rt: HostRuntime) -> Result<(), Fail> {
-    let alloc = rt.alloc();
-    let aged = "\"aged\"\nstep = ";
-    let zero = format!(in alloc; "{aged}0")?;
-    let many = format!(in alloc; "{aged}256")?;
-    check_values(
-        &rt,
-        alloc,
-        &[
-            ("policy", "\"short\"", "ok"),
-            ("policy", "\"strict\"\nstep = 0", "ok"),
-            ("policy", "\"aged\"\nstep = 255", "ok"),
-            ("policy", "\"\"", "3 operator[0].policy"),
-            ("modems", "[\"02000000000a\"]", "ok"),
-            ("modems", "[]", "3 operator[0].modems"),
-            ("modems", "[\"02000000000\"]", "3 operator[0].modems"),
-            ("modems", "[\"02000000000g\"]", "3 operator[0].modems"),
-            ("modems", "[3]", "3 operator[0].modems"),
-            ("modems", "3", "3 operator[0].modems"),
-        ],
-    )?;
-    check_changes(
-        &rt,
-        alloc,
-        &[
-            ("\"strict\"", "\"aged\"", "2 operator[0].step"),
-            ("\"strict\"", zero.as_str(), "3 operator[0].step"),
-            ("\"strict\"", many.as_str(), "3 operator[0].step"),
-        ],
-    )
-}
-
-#[test]
-fn arrays_of_tables(rt: HostRuntime) -> Result<(), Fail> {
-    let alloc = rt.alloc();
-    let (keys, _) = PLANT.split_once("[[operator]]").ok_or("operator")?;
-    let none = format!(in alloc; "operator = []\n{keys}")?;
-    let number = format!(in alloc; "operator = [1]\n{keys}")?;
-    check_texts(
-        &rt,
-        alloc,
-        &[
-            (keys, "2 operator"),
-            (none.as_str(), "3 operator"),
-            (number.as_str(), "3 operator[0]"),
-        ],
-    )?;
-    check_changes(
-        &rt,
-        alloc,
-        &[
-            ("[plant]", "class = []\n[plant]", "ok"),
-            ("[plant]", "class = 1\n[plant]", "3 class"),
-            ("[plant]", "class = [1]\n[plant]", "3 class[0]"),
-        ],
-    )?;
-    check_tables(
-        &rt,
-        alloc,
-        &[
-            ("flow = []\n", "ok"),
-            ("flow = 1\n", "3 operator[0].flow"),
-            ("flow = [1]\n", "3 operator[0].flow[0]"),
-        ],
-    )
-}
-
-#[test]
-fn the_first_key_of_two_at_fault(rt: HostRuntime) -> Result<(), Fail> {
-    let alloc = rt.alloc();
-    let late = ("short_max = 4\n", "short_max = 4097\n");
-    let none = ("frame_us = 2000\n", "");
-    let head = ("head = 8", "head = 73");
-    let policy = ("\"strict\"", "\"first\"");
-    let class = ("[plant]", "class = [{}]\n[plant]");
-    let modems = ("00002\"", "0000\"");
-    let name = ("name = \"B\"", "");
-    let meet = ("[40, 32]", "[39, 32]");
-    check_pairs(
-        &rt,
-        alloc,
-        &[
-            (none, late, "2 plant.frame_us"),
-            (head, none, "3 plant.head"),
-            (policy, late, "3 plant.short_max"),
-            (policy, class, "2 class[0].name"),
-            (policy, modems, "3 operator[0].policy"),
-            (modems, name, "3 operator[0].modems"),
-            (meet, name, "2 operator[1].name"),
-        ],
-    )
-}
-
-#[test]
-fn the_first_of_two_faults_of_all_keys(rt: HostRuntime) -> Result<(), Fail> {
-    let alloc = rt.alloc();
-    let slices = ("[40, 32]", "[39, 32]");
-    let sids = ("[513, 528]", "[257, 528]");
-    let sfids = ("[513, 768]", "[257, 768]");
-    let twice = ("00003", "00001");
-    let many = ("elements = 8", "elements = 226");
-    let budget = ("budget = 32", "budget = 33");
-    check_pairs(
-        &rt,
-        alloc,
-        &[
-            (slices, sids, "4 A B"),
-            (sfids, sids, "5 A B"),
-            (sfids, twice, "6 A B"),
-            (many, twice, "7 020000000001"),
-            (many, budget, "8 241"),
-        ],
-    )?;
-    check_twos(&rt, alloc, &[("0601030a0400200b20", budget, "9 A")])
-}
-
 /// The plant's text with a flow of the second operator that is provisioned with this.
 fn with_flow(alloc: Global, encoding: &str) -> Result<String, AllocError> {
     format!(in alloc;
@@ -521,127 +175,6 @@ fn provisioned_sets_by_their_types(rt: HostRuntime) -> Result<(), Fail> {
     let set = gold.get_active().ok_or("no set")?;
     same!(rt; set.get_fields().priority, 5);
     Ok(())
-}
-
-/// A provisioned flow of the first operator.
-fn flow(alloc: Global, encoding: &str) -> Result<String, AllocError> {
-    format!(in alloc; "[[operator.flow]]\nmodem = \"020000000001\"\nencoding = \"{encoding}\"\n")
-}
-
-/// Checks what is said of the plant whose first operator has one provisioned flow of each of these encodings.
-fn check_encodings(rt: &impl Abort, alloc: Global, rows: &[(&str, &str)]) -> Result<(), Fail> {
-    for (encoding, verdict) in rows {
-        let table = flow(alloc, encoding)?;
-        check_table(rt, alloc, table.as_str(), verdict)?;
-    }
-    Ok(())
-}
-
-#[test]
-fn encodings_of_provisioned_flows(rt: HostRuntime) -> Result<(), Fail> {
-    let alloc = rt.alloc();
-    let other = "[[operator.flow]]\nencoding = \"\"\nmodem = \"020000000003\"\n";
-    check_encodings(
-        &rt,
-        alloc,
-        &[
-            ("060101", "ok"),
-            ("01020001020400000001030200010601016301ff", "ok"),
-            ("060102", "3 operator[0].flow[0].encoding"),
-            ("", "3 operator[0].flow[0].encoding"),
-            ("06010", "3 operator[0].flow[0].encoding"),
-            ("0601010f0105", "3 operator[0].flow[0].encoding"),
-            ("0405676f6c6400060101", "3 operator[0].flow[0].encoding"),
-        ],
-    )?;
-    check_tables(
-        &rt,
-        alloc,
-        &[
-            (other, "3 operator[0].flow[0].modem"),
-            ("[[operator.flow]]\n", "2 operator[0].flow[0].modem"),
-        ],
-    )
-}
-
-/// Checks what is said of the plant with one key changed, where the first operator has two flows provisioned with this.
-fn check_two(
-    rt: &impl Abort,
-    alloc: Global,
-    encoding: &str,
-    change: Change<'_>,
-    verdict: &str,
-) -> Result<(), Fail> {
-    let one = flow(alloc, encoding)?;
-    let two = format!(in alloc; "02\"]\n{one}{one}")?;
-    check_both(rt, alloc, ("02\"]\n", two.as_str()), change, verdict)
-}
-
-/// The same for each of these encodings and changes.
-fn check_twos(
-    rt: &impl Abort,
-    alloc: Global,
-    rows: &[(&str, Change<'_>, &str)],
-) -> Result<(), Fail> {
-    for (encoding, change, verdict) in rows {
-        check_two(rt, alloc, encoding, *change, verdict)?;
-    }
-    Ok(())
-}
-
-#[test]
-fn provisioned_flows_that_do_not_fit(rt: HostRuntime) -> Result<(), Fail> {
-    let alloc = rt.alloc();
-    check_twos(
-        &rt,
-        alloc,
-        &[
-            ("060101", ("flows = 4", "flows = 2"), "ok"),
-            ("060101", ("flows = 4", "flows = 1"), "10 A"),
-            ("060101", ("[257, 512]", "[257, 257]"), "10 A"),
-            ("060103", ("[257, 272]", "[257, 257]"), "10 A"),
-            ("060101", ("[257, 272]", "[257, 257]"), "ok"),
-            ("060107", ("elements = 8", "elements = 4"), "ok"),
-            ("060107", ("elements = 8", "elements = 3"), "10 A"),
-            // A reserved rate of one bit a second takes a minislot of each frame.
-            ("0601030a0400000001", ("budget = 32", "budget = 2"), "ok"),
-            ("0601030a0400000001", ("budget = 32", "budget = 1"), "10 A"),
-            ("0601010a0400000001", ("budget = 32", "budget = 0"), "ok"),
-        ],
-    )
-}
-
-/// Checks what is said of the plant with a class of each of these names and encodings.
-fn check_classes(rt: &impl Abort, alloc: Global, rows: &[(&str, &str, &str)]) -> Result<(), Fail> {
-    for (name, encoding, verdict) in rows {
-        let text = format!(in alloc;
-            "{PLANT}[[class]]\nname = \"{name}\"\nencoding = \"{encoding}\"\n"
-        )?;
-        check_text(rt, alloc, text.as_str(), verdict)?;
-    }
-    Ok(())
-}
-
-#[test]
-fn service_classes(rt: HostRuntime) -> Result<(), Fail> {
-    let alloc = rt.alloc();
-    let twice = "gold\"\nencoding = \"\"\n[[class]]\nname = \"gold";
-    let missing = format!(in alloc; "{PLANT}[[class]]\nname = \"gold\"\n")?;
-    check_classes(
-        &rt,
-        alloc,
-        &[
-            ("gold", "0f0102070105", "ok"),
-            ("abcdefgh0123456", "", "ok"),
-            ("abcdefgh01234567", "", "3 class[0].name"),
-            ("", "", "3 class[0].name"),
-            ("gold", "060101", "3 class[0].encoding"),
-            ("gold", "0405676f6c6400", "3 class[0].encoding"),
-            ("gold", "070108", "3 class[0].encoding"),
-            (twice, "", "3 class[1].name"),
-        ],
-    )?;
-    check_texts(&rt, alloc, &[(missing.as_str(), "2 class[0].encoding")])
 }
 
 /// Checks how keys are shown.
@@ -783,3 +316,643 @@ fn none_to_64_classes(rt: HostRuntime) -> Result<(), Fail> {
     check_text(&rt, alloc, with_classes(alloc, 64)?.as_str(), "ok")?;
     check_text(&rt, alloc, with_classes(alloc, 65)?.as_str(), "3 class")
 }
+
+/// Texts, most of them the plant of operators A and B with some changes, and what is said of each: `ok`, or the number of its fault
+/// and what that names.
+const CASES: &str = "# faults_by_one_change 1
+= ok
+
+# faults_by_one_change 2
+alone
+. x
+= 1
+
+# faults_by_one_change 3
+alone
+= 2 plant.frame_minislots
+
+# faults_by_one_change 4
+alone
+. plant = 1
+= 3 plant
+
+# faults_by_one_change 5
+~ frame_us = 2000|bytes_per_minislot > bytes_per_minislot
+= 2 plant.frame_us
+
+# faults_by_one_change 6
+~ \"strict\" > \"first\"
+= 3 operator[0].policy
+
+# faults_by_one_change 7
+~ slice = [40, 32] > slice = [39, 32]
+= 4 A B
+
+# faults_by_one_change 8
+~ sids = [513, 528] > sids = [272, 528]
+= 5 A B
+
+# faults_by_one_change 9
+~ sids = [513, 528] > sids = [273, 528]
+= ok
+
+# faults_by_one_change 10
+~ sfids = [513, 768] > sfids = [1, 257]
+= 6 A B
+
+# faults_by_one_change 11
+~ sfids = [513, 768] > sfids = [1, 256]
+= ok
+
+# faults_by_one_change 12
+~ 00003 > 00001
+= 7 020000000001
+
+# faults_by_one_change 13
+~ 00002 > 00001
+= 7 020000000001
+
+# faults_by_one_change 14
+~ elements = 8 > elements = 225
+= ok
+
+# faults_by_one_change 15
+~ elements = 8 > elements = 226
+= 8 241
+
+# faults_by_one_change 16
+~ budget = 32 > budget = 33
+= 9 A
+
+# ends_of_the_ranges_of_the_plant 1
+~ frame_minislots = 72 > frame_minislots = 0
+= 3 plant.frame_minislots
+
+# ends_of_the_ranges_of_the_plant 2
+~ frame_minislots = 72 > frame_minislots = 4096
+= ok
+
+# ends_of_the_ranges_of_the_plant 3
+~ frame_minislots = 72 > frame_minislots = 4097
+= 3 plant.frame_minislots
+
+# ends_of_the_ranges_of_the_plant 4
+~ head = 8 > head = 73
+= 3 plant.head
+
+# ends_of_the_ranges_of_the_plant 5
+~ frame_us = 2000 > frame_us = 0
+= 3 plant.frame_us
+
+# ends_of_the_ranges_of_the_plant 6
+~ frame_us = 2000 > frame_us = 1000000
+= ok
+
+# ends_of_the_ranges_of_the_plant 7
+~ frame_us = 2000 > frame_us = 1000001
+= 3 plant.frame_us
+
+# ends_of_the_ranges_of_the_plant 8
+~ bytes_per_minislot = 16 > bytes_per_minislot = 0
+= 3 plant.bytes_per_minislot
+
+# ends_of_the_ranges_of_the_plant 9
+~ bytes_per_minislot = 16 > bytes_per_minislot = 65535
+= ok
+
+# ends_of_the_ranges_of_the_plant 10
+~ bytes_per_minislot = 16 > bytes_per_minislot = 65536
+= 3 plant.bytes_per_minislot
+
+# ends_of_the_ranges_of_the_plant 11
+~ short_max = 4 > short_max = 4096
+= ok
+
+# ends_of_the_ranges_of_the_plant 12
+~ short_max = 4 > short_max = 4097
+= 3 plant.short_max
+
+# ends_of_the_ranges_of_the_plant 13
+~ channel = 1 > channel = 256
+= 3 plant.channel
+
+# ends_of_the_ranges_of_the_plant 14
+~ channel = 1 > channel = -1
+= 3 plant.channel
+
+# ends_of_the_ranges_of_the_plant 15
+~ ucd_count = 1 > ucd_count = 255
+= ok
+
+# ends_of_the_ranges_of_the_plant 16
+~ ucd_count = 1 > ucd_count = 256
+= 3 plant.ucd_count
+
+# ends_of_the_ranges_of_the_plant 17
+~ ucd_count = 1 > ucd_count = 1.0
+= 3 plant.ucd_count
+
+# ends_of_the_ranges_of_the_plant 18
+~ ucd_count = 1 > ucd_count = true
+= 3 plant.ucd_count
+
+# ends_of_the_ranges_of_the_plant 19
+~ ucd_count = 1 > ucd_count = \"1\"
+= 3 plant.ucd_count
+
+# ends_of_the_ranges_of_the_plant 20
+~ head = 8 > head = 72
+= 3 operator[0].slice
+
+# keys_of_the_plant_that_have_defaults 1
+~ ucd_count = 1| > ucd_count = 1|ranging_start = 15|other = 1|
+= ok
+
+# keys_of_the_plant_that_have_defaults 2
+~ ucd_count = 1| > ucd_count = 1|ranging_start = 16|
+= 3 plant.ranging_start
+
+# keys_of_the_plant_that_have_defaults 3
+~ ucd_count = 1| > ucd_count = 1|ranging_end = 16|
+= 3 plant.ranging_end
+
+# keys_of_the_plant_that_have_defaults 4
+~ ucd_count = 1| > ucd_count = 1|data_start = 16|
+= 3 plant.data_start
+
+# keys_of_the_plant_that_have_defaults 5
+~ ucd_count = 1| > ucd_count = 1|data_end = 16|
+= 3 plant.data_end
+
+# keys_of_the_plant_that_have_defaults 6
+~ ucd_count = 1| > ucd_count = 1|ack_wait = 0|
+= 3 plant.ack_wait
+
+# keys_of_the_plant_that_have_defaults 7
+~ ucd_count = 1| > ucd_count = 1|ack_wait = 65536|
+= 3 plant.ack_wait
+
+# keys_of_the_plant_that_have_defaults 8
+~ ucd_count = 1| > ucd_count = 1|resends = 256|
+= 3 plant.resends
+
+# keys_of_the_plant_that_have_defaults 9
+~ ucd_count = 1| > ucd_count = 1|hold = 0|
+= 3 plant.hold
+
+# keys_of_the_plant_that_have_defaults 10
+~ ucd_count = 1| > ucd_count = 1|hold = 65536|
+= 3 plant.hold
+
+# keys_of_the_plant_that_have_defaults 11
+~ ucd_count = 1| > ucd_count = 1|first_frame = 4294967295|
+= ok
+
+# keys_of_the_plant_that_have_defaults 12
+~ ucd_count = 1| > ucd_count = 1|first_frame = 4294967296|
+= 3 plant.first_frame
+
+# names_and_slices 1
+~ name = \"A\" > name = \"\"
+= 3 operator[0].name
+
+# names_and_slices 2
+~ name = \"A\" > name = \"abcdefgh01234567\"
+= ok
+
+# names_and_slices 3
+~ name = \"A\" > name = \"abcdefgh012345678\"
+= 3 operator[0].name
+
+# names_and_slices 4
+~ name = \"A\" > name = \"A b\"
+= 3 operator[0].name
+
+# names_and_slices 5
+~ slice = [8, 32] > slice = [7, 32]
+= 3 operator[0].slice
+
+# names_and_slices 6
+~ slice = [8, 32] > slice = [8, 0]
+= 3 operator[0].slice
+
+# names_and_slices 7
+~ slice = [8, 32] > slice = [8, 32, 1]
+= 3 operator[0].slice
+
+# names_and_slices 8
+~ slice = [8, 32] > slice = [8]
+= 3 operator[0].slice
+
+# names_and_slices 9
+~ \"B\" > \"A\"
+= 3 operator[1].name
+
+# names_and_slices 10
+~ [40, 32] > [40, 33]
+= 3 operator[1].slice
+
+# ends_of_the_ranges_of_an_operator 1
+~ sfids = [257, 512] > sfids = [0, 512]
+= 3 operator[0].sfids
+
+# ends_of_the_ranges_of_an_operator 2
+~ sfids = [257, 512] > sfids = [513, 512]
+= 3 operator[0].sfids
+
+# ends_of_the_ranges_of_an_operator 3
+~ sids = [257, 272] > sids = [0, 272]
+= 3 operator[0].sids
+
+# ends_of_the_ranges_of_an_operator 4
+~ flows = 4 > flows = 0
+= 3 operator[0].flows
+
+# ends_of_the_ranges_of_an_operator 5
+~ flows = 4 > flows = 1024
+= ok
+
+# ends_of_the_ranges_of_an_operator 6
+~ flows = 4 > flows = 1025
+= 3 operator[0].flows
+
+# ends_of_the_ranges_of_an_operator 7
+~ transactions = 4 > transactions = 0
+= 3 operator[0].transactions
+
+# ends_of_the_ranges_of_an_operator 8
+~ transactions = 4 > transactions = 256
+= ok
+
+# ends_of_the_ranges_of_an_operator 9
+~ transactions = 4 > transactions = 257
+= 3 operator[0].transactions
+
+# ends_of_the_ranges_of_an_operator 10
+~ inbox = 4 > inbox = 0
+= 3 operator[0].inbox
+
+# ends_of_the_ranges_of_an_operator 11
+~ inbox = 4 > inbox = 256
+= ok
+
+# ends_of_the_ranges_of_an_operator 12
+~ inbox = 4 > inbox = 257
+= 3 operator[0].inbox
+
+# ends_of_the_ranges_of_an_operator 13
+~ budget = 32 > budget = 0
+= ok
+
+# ends_of_the_ranges_of_an_operator 14
+~ budget = 32 > budget = 4097
+= 3 operator[0].budget
+
+# ends_of_the_ranges_of_an_operator 15
+~ elements = 8 > elements = 0
+= ok
+
+# ends_of_the_ranges_of_an_operator 16
+~ elements = 8 > elements = 236
+= 3 operator[0].elements
+
+# ends_of_the_ranges_of_an_operator 17
+~ , 768] > , 4294967295]
+= ok
+
+# ends_of_the_ranges_of_an_operator 18
+~ , 768] > , 4294967296]
+= 3 operator[1].sfids
+
+# ends_of_the_ranges_of_an_operator 19
+~ , 528] > , 8191]
+= ok
+
+# ends_of_the_ranges_of_an_operator 20
+~ , 528] > , 8192]
+= 3 operator[1].sids
+
+# policies_and_modems 1
+~ policy = \"strict\" > policy = \"short\"
+= ok
+
+# policies_and_modems 2
+~ policy = \"strict\" > policy = \"strict\"|step = 0
+= ok
+
+# policies_and_modems 3
+~ policy = \"strict\" > policy = \"aged\"|step = 255
+= ok
+
+# policies_and_modems 4
+~ policy = \"strict\" > policy = \"\"
+= 3 operator[0].policy
+
+# policies_and_modems 5
+~ modems = [\"020000000001\", \"020000000002\"] > modems = [\"02000000000a\"]
+= ok
+
+# policies_and_modems 6
+~ modems = [\"020000000001\", \"020000000002\"] > modems = []
+= 3 operator[0].modems
+
+# policies_and_modems 7
+~ modems = [\"020000000001\", \"020000000002\"] > modems = [\"02000000000\"]
+= 3 operator[0].modems
+
+# policies_and_modems 8
+~ modems = [\"020000000001\", \"020000000002\"] > modems = [\"02000000000g\"]
+= 3 operator[0].modems
+
+# policies_and_modems 9
+~ modems = [\"020000000001\", \"020000000002\"] > modems = [3]
+= 3 operator[0].modems
+
+# policies_and_modems 10
+~ modems = [\"020000000001\", \"020000000002\"] > modems = 3
+= 3 operator[0].modems
+
+# policies_and_modems 11
+~ \"strict\" > \"aged\"
+= 2 operator[0].step
+
+# policies_and_modems 12
+~ \"strict\" > \"aged\"|step = 0
+= 3 operator[0].step
+
+# policies_and_modems 13
+~ \"strict\" > \"aged\"|step = 256
+= 3 operator[0].step
+
+# arrays_of_tables 1
+alone
+> [plant]
+> frame_minislots = 72
+> head = 8
+> frame_us = 2000
+> bytes_per_minislot = 16
+> short_max = 4
+> channel = 1
+> ucd_count = 1
+>
+= 2 operator
+
+# arrays_of_tables 2
+alone
+> operator = []
+> [plant]
+> frame_minislots = 72
+> head = 8
+> frame_us = 2000
+> bytes_per_minislot = 16
+> short_max = 4
+> channel = 1
+> ucd_count = 1
+>
+= 3 operator
+
+# arrays_of_tables 3
+alone
+> operator = [1]
+> [plant]
+> frame_minislots = 72
+> head = 8
+> frame_us = 2000
+> bytes_per_minislot = 16
+> short_max = 4
+> channel = 1
+> ucd_count = 1
+>
+= 3 operator[0]
+
+# arrays_of_tables 4
+~ [plant] > class = []|[plant]
+= ok
+
+# arrays_of_tables 5
+~ [plant] > class = 1|[plant]
+= 3 class
+
+# arrays_of_tables 6
+~ [plant] > class = [1]|[plant]
+= 3 class[0]
+
+# arrays_of_tables 7
+~ 02\"]| > 02\"]|flow = []|
+= ok
+
+# arrays_of_tables 8
+~ 02\"]| > 02\"]|flow = 1|
+= 3 operator[0].flow
+
+# arrays_of_tables 9
+~ 02\"]| > 02\"]|flow = [1]|
+= 3 operator[0].flow[0]
+
+# the_first_key_of_two_at_fault 1
+~ frame_us = 2000|bytes_per_minislot > bytes_per_minislot
+~ short_max = 4| > short_max = 4097|
+= 2 plant.frame_us
+
+# the_first_key_of_two_at_fault 2
+~ head = 8 > head = 73
+~ frame_us = 2000|bytes_per_minislot > bytes_per_minislot
+= 3 plant.head
+
+# the_first_key_of_two_at_fault 3
+~ \"strict\" > \"first\"
+~ short_max = 4| > short_max = 4097|
+= 3 plant.short_max
+
+# the_first_key_of_two_at_fault 4
+~ \"strict\" > \"first\"
+~ [plant] > class = [{}]|[plant]
+= 2 class[0].name
+
+# the_first_key_of_two_at_fault 5
+~ \"strict\" > \"first\"
+~ 00002\" > 0000\"
+= 3 operator[0].policy
+
+# the_first_key_of_two_at_fault 6
+~ 00002\" > 0000\"
+~ name = \"B\"|slice > |slice
+= 3 operator[0].modems
+
+# the_first_key_of_two_at_fault 7
+~ [40, 32] > [39, 32]
+~ name = \"B\"|slice > |slice
+= 2 operator[1].name
+
+# the_first_of_two_faults_of_all_keys 1
+~ [40, 32] > [39, 32]
+~ [513, 528] > [257, 528]
+= 4 A B
+
+# the_first_of_two_faults_of_all_keys 2
+~ [513, 768] > [257, 768]
+~ [513, 528] > [257, 528]
+= 5 A B
+
+# the_first_of_two_faults_of_all_keys 3
+~ [513, 768] > [257, 768]
+~ 00003 > 00001
+= 6 A B
+
+# the_first_of_two_faults_of_all_keys 4
+~ elements = 8 > elements = 226
+~ 00003 > 00001
+= 7 020000000001
+
+# the_first_of_two_faults_of_all_keys 5
+~ elements = 8 > elements = 226
+~ budget = 32 > budget = 33
+= 8 241
+
+# the_first_of_two_faults_of_all_keys 6
+~ 02\"]| > 02\"]|[[operator.flow]]|modem = \"020000000001\"|encoding = \"0601030a0400200b20\"|[[operator.flow]]|modem = \"020000000001\"|encoding = \"0601030a0400200b20\"|
+~ budget = 32 > budget = 33
+= 9 A
+
+# encodings_of_provisioned_flows 1
+~ 02\"]| > 02\"]|[[operator.flow]]|modem = \"020000000001\"|encoding = \"060101\"|
+= ok
+
+# encodings_of_provisioned_flows 2
+~ 02\"]| > 02\"]|[[operator.flow]]|modem = \"020000000001\"|encoding = \"01020001020400000001030200010601016301ff\"|
+= ok
+
+# encodings_of_provisioned_flows 3
+~ 02\"]| > 02\"]|[[operator.flow]]|modem = \"020000000001\"|encoding = \"060102\"|
+= 3 operator[0].flow[0].encoding
+
+# encodings_of_provisioned_flows 4
+~ 02\"]| > 02\"]|[[operator.flow]]|modem = \"020000000001\"|encoding = \"\"|
+= 3 operator[0].flow[0].encoding
+
+# encodings_of_provisioned_flows 5
+~ 02\"]| > 02\"]|[[operator.flow]]|modem = \"020000000001\"|encoding = \"06010\"|
+= 3 operator[0].flow[0].encoding
+
+# encodings_of_provisioned_flows 6
+~ 02\"]| > 02\"]|[[operator.flow]]|modem = \"020000000001\"|encoding = \"0601010f0105\"|
+= 3 operator[0].flow[0].encoding
+
+# encodings_of_provisioned_flows 7
+~ 02\"]| > 02\"]|[[operator.flow]]|modem = \"020000000001\"|encoding = \"0405676f6c6400060101\"|
+= 3 operator[0].flow[0].encoding
+
+# encodings_of_provisioned_flows 8
+~ 02\"]| > 02\"]|[[operator.flow]]|encoding = \"\"|modem = \"020000000003\"|
+= 3 operator[0].flow[0].modem
+
+# encodings_of_provisioned_flows 9
+~ 02\"]| > 02\"]|[[operator.flow]]|
+= 2 operator[0].flow[0].modem
+
+# provisioned_flows_that_do_not_fit 1
+~ 02\"]| > 02\"]|[[operator.flow]]|modem = \"020000000001\"|encoding = \"060101\"|[[operator.flow]]|modem = \"020000000001\"|encoding = \"060101\"|
+~ flows = 4 > flows = 2
+= ok
+
+# provisioned_flows_that_do_not_fit 2
+~ 02\"]| > 02\"]|[[operator.flow]]|modem = \"020000000001\"|encoding = \"060101\"|[[operator.flow]]|modem = \"020000000001\"|encoding = \"060101\"|
+~ flows = 4 > flows = 1
+= 10 A
+
+# provisioned_flows_that_do_not_fit 3
+~ 02\"]| > 02\"]|[[operator.flow]]|modem = \"020000000001\"|encoding = \"060101\"|[[operator.flow]]|modem = \"020000000001\"|encoding = \"060101\"|
+~ [257, 512] > [257, 257]
+= 10 A
+
+# provisioned_flows_that_do_not_fit 4
+~ 02\"]| > 02\"]|[[operator.flow]]|modem = \"020000000001\"|encoding = \"060103\"|[[operator.flow]]|modem = \"020000000001\"|encoding = \"060103\"|
+~ [257, 272] > [257, 257]
+= 10 A
+
+# provisioned_flows_that_do_not_fit 5
+~ 02\"]| > 02\"]|[[operator.flow]]|modem = \"020000000001\"|encoding = \"060101\"|[[operator.flow]]|modem = \"020000000001\"|encoding = \"060101\"|
+~ [257, 272] > [257, 257]
+= ok
+
+# provisioned_flows_that_do_not_fit 6
+~ 02\"]| > 02\"]|[[operator.flow]]|modem = \"020000000001\"|encoding = \"060107\"|[[operator.flow]]|modem = \"020000000001\"|encoding = \"060107\"|
+~ elements = 8 > elements = 4
+= ok
+
+# provisioned_flows_that_do_not_fit 7
+~ 02\"]| > 02\"]|[[operator.flow]]|modem = \"020000000001\"|encoding = \"060107\"|[[operator.flow]]|modem = \"020000000001\"|encoding = \"060107\"|
+~ elements = 8 > elements = 3
+= 10 A
+
+# provisioned_flows_that_do_not_fit 8
+// A reserved rate of one bit a second takes a minislot of each frame.
+~ 02\"]| > 02\"]|[[operator.flow]]|modem = \"020000000001\"|encoding = \"0601030a0400000001\"|[[operator.flow]]|modem = \"020000000001\"|encoding = \"0601030a0400000001\"|
+~ budget = 32 > budget = 2
+= ok
+
+# provisioned_flows_that_do_not_fit 9
+~ 02\"]| > 02\"]|[[operator.flow]]|modem = \"020000000001\"|encoding = \"0601030a0400000001\"|[[operator.flow]]|modem = \"020000000001\"|encoding = \"0601030a0400000001\"|
+~ budget = 32 > budget = 1
+= 10 A
+
+# provisioned_flows_that_do_not_fit 10
+~ 02\"]| > 02\"]|[[operator.flow]]|modem = \"020000000001\"|encoding = \"0601010a0400000001\"|[[operator.flow]]|modem = \"020000000001\"|encoding = \"0601010a0400000001\"|
+~ budget = 32 > budget = 0
+= ok
+
+# service_classes 1
+> [[class]]
+> name = \"gold\"
+> encoding = \"0f0102070105\"
+= ok
+
+# service_classes 2
+> [[class]]
+> name = \"abcdefgh0123456\"
+> encoding = \"\"
+= ok
+
+# service_classes 3
+> [[class]]
+> name = \"abcdefgh01234567\"
+> encoding = \"\"
+= 3 class[0].name
+
+# service_classes 4
+> [[class]]
+> name = \"\"
+> encoding = \"\"
+= 3 class[0].name
+
+# service_classes 5
+> [[class]]
+> name = \"gold\"
+> encoding = \"060101\"
+= 3 class[0].encoding
+
+# service_classes 6
+> [[class]]
+> name = \"gold\"
+> encoding = \"0405676f6c6400\"
+= 3 class[0].encoding
+
+# service_classes 7
+> [[class]]
+> name = \"gold\"
+> encoding = \"070108\"
+= 3 class[0].encoding
+
+# service_classes 8
+> [[class]]
+> name = \"gold\"
+> encoding = \"\"
+> [[class]]
+> name = \"gold\"
+> encoding = \"\"
+= 3 class[1].name
+
+# service_classes 9
+> [[class]]
+> name = \"gold\"
+= 2 class[0].encoding";

@@ -1,5 +1,14 @@
-//! Texts of the plants of the worked examples: two operators, A and B, that share a frame of 72 minislots.
+//! Texts of the plants of the worked examples: two operators, A and B, that share a frame of 72 minislots. And texts of cases
+//! that are played on them.
 #![tactic(auto)]
+
+mod asking;
+mod cases;
+mod many;
+
+pub use asking::{Asked, asked_by};
+pub use cases::{Case, cases_in, changed, put_difference};
+pub use many::many_operators;
 
 /// The tables of these names, behind the texts that stand behind the brackets.
 macro_rules! tables {

@@ -1,6 +1,5 @@
 //! The program with a writer for its reasons: what it answers stays, whatever becomes of them.
 
-use crate::reasons::PLANT;
 use plant_script::{Ending, run_program_with_reasons};
 use std::alloc::Global;
 use std::io;
@@ -9,6 +8,7 @@ use std::process::Abort;
 use std::sync::Wait;
 use std::test::Fail;
 use std::thread::Threads;
+use worked_plants::PLANT;
 
 /// Fails at each read.
 #[derive(Drop)]

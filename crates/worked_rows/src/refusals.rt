@@ -1,6 +1,6 @@
 //! Steps that the core refuses, cores that are not opened, and that a refusal changes nothing.
 
-use crate::checking::check;
+use crate::checking::check_cases;
 use grant_policy::Policy;
 use plant_core::{CoreFault, CoreOpenFault, PlantCore, RunStop};
 use plant_runs::{Out, Step};
@@ -9,65 +9,6 @@ use std::process::Abort;
 use std::test::Fail;
 use worked_plants::{OPERATOR_A, OPERATOR_B, SHARED};
 use worked_playing::{opened, plant_of, put_outs, ranking};
-
-/// A modem that no row holds is unknown, whatever it sends, and no history has it.
-#[test]
-fn a_modem_of_no_operator_is_unknown(rt: HostRuntime) -> Result<(), Fail> {
-    check(
-        &rt,
-        rt.alloc(),
-        "
-A 020000000009 0F00
-= refused: UnknownModem { modem: Modem([2, 0, 0, 0, 0, 9]) }
-Q 020000000009 257 5
-= refused: UnknownModem { modem: Modem([2, 0, 0, 0, 0, 9]) }
-H A
-H B",
-    )
-}
-
-/// Operators are told by their places, from 0: of two there is none at place 2, and no history of it.
-#[test]
-fn an_operator_past_the_last_is_unknown(rt: HostRuntime) -> Result<(), Fail> {
-    check(
-        &rt,
-        rt.alloc(),
-        "
-W C
-= refused: UnknownOperator { op: 2 }
-K C
-= refused: UnknownOperator { op: 2 }
-C C
-= refused: UnknownOperator { op: 2 }
-H A
-H B
-H C
-= none",
-    )
-}
-
-/// There is nothing to collect before a tick, and of each tick once.
-#[test]
-fn a_frame_is_collected_once_and_not_before_its_tick(rt: HostRuntime) -> Result<(), Fail> {
-    check(
-        &rt,
-        rt.alloc(),
-        "
-C A
-= refused: NothingToCollect { op: 0 }
-K B
-= F B 0 0/6/40/32
-C A
-= refused: NothingToCollect { op: 0 }
-K A
-= F A 0 0/6/8/32
-C A
-C A
-= refused: NothingToCollect { op: 0 }
-H A
-= K",
-    )
-}
 
 /// A core is opened with one ranking for each operator.
 #[test]
@@ -139,13 +80,47 @@ fn a_run_stops_at_the_refused_step(rt: HostRuntime) -> Result<(), Fail> {
     }
 }
 
-/// Refused steps among others change nothing: the frame that waits is there, and its MAP comes out whole.
-#[test]
-fn refused_steps_lose_no_part_of_a_map(rt: HostRuntime) -> Result<(), Fail> {
-    check(
-        &rt,
-        rt.alloc(),
-        "
+/// Steps, some of them refused.
+const CASES: &str = "# a_modem_of_no_operator_is_unknown
+// A modem that no row holds is unknown, whatever it sends, and no history has it.
+A 020000000009 0F00
+= refused: UnknownModem { modem: Modem([2, 0, 0, 0, 0, 9]) }
+Q 020000000009 257 5
+= refused: UnknownModem { modem: Modem([2, 0, 0, 0, 0, 9]) }
+H A
+H B
+
+# an_operator_past_the_last_is_unknown
+// Operators are told by their places, from 0: of two there is none at place 2, and no history of it.
+W C
+= refused: UnknownOperator { op: 2 }
+K C
+= refused: UnknownOperator { op: 2 }
+C C
+= refused: UnknownOperator { op: 2 }
+H A
+H B
+H C
+= none
+
+# a_frame_is_collected_once_and_not_before_its_tick
+// There is nothing to collect before a tick, and of each tick once.
+C A
+= refused: NothingToCollect { op: 0 }
+K B
+= F B 0 0/6/40/32
+C A
+= refused: NothingToCollect { op: 0 }
+K A
+= F A 0 0/6/8/32
+C A
+C A
+= refused: NothingToCollect { op: 0 }
+H A
+= K
+
+# refused_steps_lose_no_part_of_a_map
+// Refused steps among others change nothing: the frame that waits is there, and its MAP comes out whole.
 M 020000000001 0F0001180A010200010601060F0102
 = R A 020000000001 10000100180E0102000102040000010103020101
 M 020000000001 11000100
@@ -170,6 +145,9 @@ H A
 = W
 = K
 H B
-= K",
-    )
+= K";
+
+#[test]
+fn refused_steps(rt: HostRuntime) -> Result<(), Fail> {
+    check_cases(&rt, rt.alloc(), CASES, 4)
 }

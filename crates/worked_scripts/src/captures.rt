@@ -1,20 +1,19 @@
 //! Captures of scripts' runs, over text in memory. The files are as another implementation of their formats writes them.
 
-use crate::programs::PLANT;
-use crate::runs::{BOTH, check_input, check_script};
+use crate::runs::{BOTH, told};
 use hex::encode_upper;
-use plant_script::run_program;
 use std::alloc::Global;
 use std::process::Abort;
 use std::sync::Wait;
 use std::test::Fail;
 use std::thread::Threads;
+use worked_plants::PLANT;
 
 /// The file of no packet: pcap, the low byte first, of DOCSIS frames.
 const EMPTY: &str = "D4C3B2A1020004000000000000000000050001008F000000";
 
 /// A DSA-REQ of a modem of each operator, the DSA-RSP to it and its DSA-ACK, and the MAP of frame 0.
-pub const OF_BOTH: &str = concat!(
+pub(crate) const OF_BOTH: &str = concat!(
     "D4C3B2A1020004000000000000000000050001008F000000",
     "00000000000000002C0000002C000000",
     "C200002645BA0200000000000200000000010014000003020F000001180A010200010601060F01024E325519",
@@ -51,12 +50,9 @@ fn check_file(
     status: u8,
     file: &str,
 ) -> Result<(), Fail> {
-    let mut reader = input.as_bytes();
-    let mut written = Vec::new(alloc);
-    let told = run_program(rt, alloc, &["capture"], &mut reader, &mut written);
-    assert_eq!(rt; told, status, "at {input}");
+    let (told, written) = told(rt, alloc, &["capture"], input);
     let digits = encode_upper(alloc, written.as_slice())?;
-    assert_eq!(rt; digits.as_str(), file, "at {input}");
+    assert_eq!(rt; (told, digits.as_str()), (status, file), "at {input}");
     Ok(())
 }
 
@@ -83,14 +79,4 @@ fn a_file_ends_before_a_step_that_is_refused(rt: HostRuntime) -> Result<(), Fail
     let script = "T B\nZ 0 8/32/32 40/32/32\nM 020000000001 11000100\nT\n";
     let input = format!(in rt.alloc(); "{PLANT}---\n{script}")?;
     check_file(&rt, rt.alloc(), input.as_str(), 4, EMPTY)
-}
-
-#[test]
-fn what_has_no_capture_is_told(rt: HostRuntime) -> Result<(), Fail> {
-    let capture: &[&str] = &["capture"];
-    let alloc = rt.alloc();
-    check_script(&rt, alloc, capture, "T\nT C\n", 4, "fault: line 2\n")?;
-    let input = "x\n---\nT C\n";
-    check_input(&rt, alloc, capture, input, 3, "fault: plant 1\n")?;
-    check_script(&rt, alloc, &["capture", "A"], "T\n", 2, "fault: words\n")
 }

@@ -1,7 +1,7 @@
 //! The program where a read or a write fails: each read and each write of a script in turn, for each word.
 
 use crate::captures::OF_BOTH;
-use crate::programs::PLANT;
+use crate::runs::BOTH;
 use hex::decode;
 use plant_script::run_program;
 use std::alloc::Global;
@@ -11,18 +11,9 @@ use std::process::Abort;
 use std::sync::Wait;
 use std::test::Fail;
 use std::thread::Threads;
+use worked_plants::PLANT;
 
-/// A modem of each operator asks for a flow and for minislots of it, and all tick.
-const SCRIPT: &str = "M 020000000001 0F0001180A010200010601060F0102
-M 020000000001 11000100
-Q 020000000001 257 5
-M 020000000003 0F0001180A010200010601060F0102
-M 020000000003 11000100
-Q 020000000003 513 3
-T
-";
-
-/// What `run` writes of it.
+/// What `run` writes of the script.
 const RUN: &str = "R 020000000001 10000100180E0102000102040000010103020101
 R 020000000003 10000100180E0102000102040000020103020201
 F A 0 257/6/8/5 0/6/13/27
@@ -111,7 +102,7 @@ impl Write for Narrow {
 
 /// The plant with the script.
 fn input(alloc: Global) -> Result<String, Fail> {
-    Ok(format!(in alloc; "{PLANT}---\n{SCRIPT}")?)
+    Ok(format!(in alloc; "{PLANT}---\n{BOTH}")?)
 }
 
 /// Asserts what words get where a read fails: the status and the text, and that this read is the last one. The read behind the last

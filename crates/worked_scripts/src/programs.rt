@@ -1,314 +1,29 @@
 //! The program over text in memory, and over readers and writers that fail.
 
+use crate::runs::{check_cases, told};
 use plant_script::run_program;
-use std::alloc::Global;
 use std::io;
 use std::io::{Read, Write};
-use std::process::Abort;
-use std::sync::Wait;
 use std::test::Fail;
-use std::thread::Threads;
 
 const ADDITION: &str = "0F0001180A010200010601060F0102\n";
 
 const REPLY: &str = "10000100180E0102000102040000010103020101\n";
 
-/// A plant of two operators.
-pub const PLANT: &str = "[plant]
-frame_minislots = 72
-head = 8
-frame_us = 2000
-bytes_per_minislot = 16
-short_max = 4
-channel = 1
-ucd_count = 1
-
-[[operator]]
-name = \"A\"
-slice = [8, 32]
-sfids = [257, 512]
-sids = [257, 272]
-flows = 4
-transactions = 4
-inbox = 4
-budget = 32
-elements = 8
-policy = \"strict\"
-modems = [\"020000000001\", \"020000000002\"]
-
-[[operator]]
-name = \"B\"
-slice = [40, 32]
-sfids = [513, 768]
-sids = [513, 528]
-flows = 4
-transactions = 4
-inbox = 4
-budget = 32
-elements = 8
-policy = \"strict\"
-modems = [\"020000000003\"]
-";
-
-/// The status and the text that an input gets under a word.
-fn told<R: Threads + Wait + Sync>(rt: &R, alloc: Global, word: &str, input: &str) -> (u8, Vec<u8>) {
-    let mut reader = input.as_bytes();
-    let mut text = Vec::new(alloc);
-    let status = run_program(rt, alloc, &[word], &mut reader, &mut text);
-    (status, text)
-}
-
-/// Asserts the status and the text that an input of `one` gets.
-fn check_one(
-    rt: &(impl Abort + Threads + Wait + Sync),
-    alloc: Global,
-    input: &str,
-    status: u8,
-    text: &str,
-) -> Result<(), Fail> {
-    let answer = told(rt, alloc, "one", input);
-    assert_eq!(rt; answer.0, status, "at {input}");
-    assert_eq!(rt; answer.1.as_slice(), text.as_bytes(), "at {input}");
-    Ok(())
-}
-
-/// Asserts the status and the text that an input of `check` gets.
-fn check_file(
-    rt: &(impl Abort + Threads + Wait + Sync),
-    alloc: Global,
-    input: &str,
-    status: u8,
-    text: &str,
-) -> Result<(), Fail> {
-    let answer = told(rt, alloc, "check", input);
-    assert_eq!(rt; answer.0, status, "at {input}");
-    assert_eq!(rt; answer.1.as_slice(), text.as_bytes(), "at {input}");
-    Ok(())
-}
-
-/// Asserts what `check` says of the plant with its first `old` changed to `new`.
-fn check_changed(
-    rt: &(impl Abort + Threads + Wait + Sync),
-    alloc: Global,
-    old: &str,
-    new: &str,
-    status: u8,
-    text: &str,
-) -> Result<(), Fail> {
-    let (head, tail) = PLANT.split_once(old).ok_or("not there")?;
-    let input = format!(in alloc; "{head}{new}{tail}")?;
-    check_file(rt, alloc, input.as_str(), status, text)
-}
-
-/// Asserts what `check` says of the plant with a script.
-fn check_script(
-    rt: &(impl Abort + Threads + Wait + Sync),
-    alloc: Global,
-    script: &str,
-    status: u8,
-    text: &str,
-) -> Result<(), Fail> {
-    let input = format!(in alloc; "{PLANT}---\n{script}")?;
-    check_file(rt, alloc, input.as_str(), status, text)
-}
-
 #[test]
-fn plants_and_their_faults(rt: HostRuntime) -> Result<(), Fail> {
-    for (old, new, status, text) in [
-        ("[plant]", "[plant]", 0, "ok\n"),
-        ("elements = 8", "elements = 225", 0, "ok\n"),
-        ("[plant]", "x", 3, "fault: plant 1\n"),
-        (
-            "frame_us = 2000\n",
-            "",
-            3,
-            "fault: plant 2 plant.frame_us\n",
-        ),
-        ("strict", "first", 3, "fault: plant 3 operator[0].policy\n"),
-        ("[40, 32]", "[39, 32]", 3, "fault: plant 4 A B\n"),
-        ("[513, 528]", "[272, 528]", 3, "fault: plant 5 A B\n"),
-        ("[513, 768]", "[512, 768]", 3, "fault: plant 6 A B\n"),
-        (
-            "020000000003",
-            "020000000001",
-            3,
-            "fault: plant 7 020000000001\n",
-        ),
-        ("elements = 8", "elements = 226", 3, "fault: plant 8 241\n"),
-        ("budget = 32", "budget = 33", 3, "fault: plant 9 A\n"),
-    ] {
-        check_changed(&rt, rt.alloc(), old, new, status, text)?;
-    }
-    Ok(())
-}
-
-#[test]
-fn scripts_that_are_well(rt: HostRuntime) -> Result<(), Fail> {
-    for script in [
-        "",
-        "\n\nT\n",
-        "M 020000000001 0F0001180A010200010601060F0102\nM 020000000002 0f00\nM 020000000003 -",
-        "Q 020000000001 257 5\nQ 020000000003 00001 65535\nT A\nT B\nT",
-        "Z 1 8/32/32 40/32/32\nZ 4294967295 0/0/0 65535/65535/00000\n",
-    ] {
-        check_script(&rt, rt.alloc(), script, 0, "ok\n")?;
-    }
-    Ok(())
-}
-
-#[test]
-fn fields_at_fault(rt: HostRuntime) -> Result<(), Fail> {
-    for script in [
-        // A modem or an operator that the plant does not have.
-        "M 020000000009 00",
-        "T C",
-        // Fields too few, too many, or empty.
-        "M 020000000001",
-        "M 020000000001 ",
-        "M 020000000001 00 00",
-        "T  A",
-        " T",
-        "T A B",
-        "T\r",
-        // Bytes that are none, and numbers that are none or too great.
-        "M 020000000001 0",
-        "Q 020000000001 65536 1",
-        "Q 020000000001 000001 1",
-        "Q 020000000001 +1 1",
-        "Q 020000000001 1 -1",
-        "Z 4294967296 8/32/32 40/32/32",
-        "Z 00000000001 8/32/32 40/32/32",
-        // A slice and a budget of one operator alone, or a part of them.
-        "Z 1 8/32/32",
-        "Z 1 8/32 40/32/32",
-        "Z",
-        // Another word, and another line of three dashes.
-        "m 020000000001 00",
-        "---",
-    ] {
-        check_script(&rt, rt.alloc(), script, 4, "fault: line 1\n")?;
-    }
-    Ok(())
-}
-
-#[test]
-fn parts_of_an_input(rt: HostRuntime) -> Result<(), Fail> {
-    // The first line at fault is told; lines that are empty count.
-    check_script(&rt, rt.alloc(), "T\n\nT C\nT D\n", 4, "fault: line 3\n")?;
-    // The plant comes before the script.
-    check_file(&rt, rt.alloc(), "x\n---\nT C\n", 3, "fault: plant 1\n")?;
-    for input in ["", "---", "---\nT C\n"] {
-        let text = "fault: plant 2 plant.frame_minislots\n";
-        check_file(&rt, rt.alloc(), input, 3, text)?;
-    }
-    // A line of three dashes ends the plant within a text too; one of four ends nothing.
-    let input = "x = \"\"\"\n---\n\"\"\"\n";
-    check_file(&rt, rt.alloc(), input, 3, "fault: plant 1\n")?;
-    check_file(&rt, rt.alloc(), "----\n", 3, "fault: plant 1\n")?;
-    let input = format!(in rt.alloc(); "{PLANT}---")?;
-    check_file(&rt, rt.alloc(), input.as_str(), 0, "ok\n")
-}
-
-#[test]
-fn messages_and_their_answers(rt: HostRuntime) -> Result<(), Fail> {
-    for (input, text) in [
-        // A lone addition.
-        (ADDITION, REPLY),
-        // The last line may lack its end; empty lines say nothing; digits may be lower case.
-        ("\n0f0001180a010200010601060f0102", REPLY),
-        // A type 24 that says 11 bytes where 10 are.
-        ("0F0003180B010200010601060F0102\n", "10000301\n"),
-        // A known subtype of a wrong length beside a skipped one.
-        (
-            "0F0002180E010200010601066301FF0F020002\n",
-            "10000202180C01020001050601010F020102\n",
-        ),
-        // A transaction ID of the CMTS's half, with nothing kept; and the last of the modems' half.
-        (
-            "0F8000180A010200010601060F0102\n0F8000180A010200010601060F0102\n",
-            "1080000A\n1080000A\n",
-        ),
-        (
-            "0F7FFF180A010200010601060F0102\n",
-            "107FFF00180E0102000102040000010103020101\n",
-        ),
-        // A downstream flow is left out; an unknown type is skipped, and no encoding stands.
-        ("0F00011900\n0F00021B00\n", "10000102\n10000208\n"),
-        // No byte, a short message, a type that is not handled, an acknowledgement for which nothing waits.
-        (
-            "-\n0F00\n10000100\n14000100\n",
-            "S Empty\nS Short\nS NotOurs\nS UnknownAck\n",
-        ),
-        ("", ""),
-    ] {
-        check_one(&rt, rt.alloc(), input, 0, text)?;
-    }
-    Ok(())
-}
-
-#[test]
-fn transactions_one_after_the_other(rt: HostRuntime) -> Result<(), Fail> {
-    for (input, text) in [
-        // A request repeated while it waits, its acknowledgement, and another that nothing waits for.
-        (
-            "0F0001180A010200010601060F0102\n0F0001180A010200010601060F0102\n11000100\n11000100\n",
-            "10000100180E0102000102040000010103020101\n10000100180E0102000102040000010103020101\nS UnknownAck\n",
-        ),
-        // A deletion under a transaction ID that an addition has in use.
-        (
-            "0F0001180A010200010601060F0102\n150001000000000101\n",
-            "10000100180E0102000102040000010103020101\nS TidInUse\n",
-        ),
-        // Grants that fill the budget, the next flow refused until they are deleted.
-        (
-            "0F00011817010200010601060F0106130202001404000007D0160101\n11000100\n\
-             0F00021810010200020601060F01020A0400000001\n150003000000000101\n\
-             0F00041810010200020601060F01020A0400000001\n",
-            "10000100180E0102000102040000010103020101\n10000203\n1600030000\n\
-             10000400180E0102000202040000010103020101\n",
-        ),
-        // A grant interval under a frame.
-        (
-            "0F00011817010200010601060F0106130202001404000007CF160101\n",
-            "10000117180C010200010506010114020117\n",
-        ),
-    ] {
-        check_one(&rt, rt.alloc(), input, 0, text)?;
-    }
-    Ok(())
-}
-
-#[test]
-fn lines_at_fault(rt: HostRuntime) -> Result<(), Fail> {
-    // The first of them is told, and no step is made.
-    for (input, text) in [
-        ("0F0001180A010200010601060F0102\n\n0F0\n", "fault: line 3\n"),
-        ("11000100\r\n", "fault: line 1\n"),
-        (" \n-\n", "fault: line 1\n"),
-        ("--\n", "fault: line 1\n"),
-    ] {
-        check_one(&rt, rt.alloc(), input, 4, text)?;
-    }
-    Ok(())
-}
-
-/// The status and the text that words get.
-fn said<R: Threads + Wait + Sync>(rt: &R, alloc: Global, words: &[&str]) -> (u8, Vec<u8>) {
-    let mut reader = ADDITION.as_bytes();
-    let mut text = Vec::new(alloc);
-    let status = run_program(rt, alloc, words, &mut reader, &mut text);
-    (status, text)
+fn plants_scripts_and_messages(rt: HostRuntime) -> Result<(), Fail> {
+    check_cases(&rt, rt.alloc(), CASES, 62)
 }
 
 #[test]
 fn other_words_are_refused(rt: HostRuntime) -> Result<(), Fail> {
-    let none = said(&rt, rt.alloc(), &[]);
-    let other = said(&rt, rt.alloc(), &["two"]);
-    let more = said(&rt, rt.alloc(), &["one", "one"]);
-    let nobody = said(&rt, rt.alloc(), &["history"]);
-    for answer in [none, other, more, nobody] {
-        assert_eq!(rt; answer.0, 2);
-        assert_eq!(rt; answer.1.as_slice(), b"fault: words\n".as_slice());
+    let words: [&[&str]; 4] = [&[], &["two"], &["one", "one"], &["history"]];
+    for words in words {
+        let (status, text) = told(&rt, rt.alloc(), words, ADDITION);
+        assert_eq!(rt;
+            (status, text.as_slice()),
+            (2, b"fault: words\n".as_slice())
+        );
     }
     Ok(())
 }
@@ -485,7 +200,7 @@ fn an_input_that_is_too_long_or_no_text_is_status_6(rt: HostRuntime) -> Result<(
 
 #[test]
 fn help_is_told_where_it_is_asked_for(rt: HostRuntime) -> Result<(), Fail> {
-    let (status, text) = said(&rt, rt.alloc(), &["--help"]);
+    let (status, text) = told(&rt, rt.alloc(), &["--help"], ADDITION);
     assert_eq!(rt; status, 0);
     let Ok(text) = str::from_utf8(text.as_slice()) else {
         return Err(Fail::new("help is no text"));
@@ -493,3 +208,424 @@ fn help_is_told_where_it_is_asked_for(rt: HostRuntime) -> Result<(), Fail> {
     assert!(rt; text.contains("Usage: plant_script"));
     Ok(())
 }
+
+/// Plant files and scripts under `check`, and messages under `one`: the status, the input, and what is written.
+const CASES: &str = "# plants_and_their_faults 1
+0 check
+= ok
+
+# plants_and_their_faults 2
+~ elements = 8 > elements = 225
+0 check
+= ok
+
+# plants_and_their_faults 3
+~ [plant] > x
+3 check
+= fault: plant 1
+
+# plants_and_their_faults 4
+~ frame_us = 2000|bytes_per_minislot > bytes_per_minislot
+3 check
+= fault: plant 2 plant.frame_us
+
+# plants_and_their_faults 5
+~ strict > first
+3 check
+= fault: plant 3 operator[0].policy
+
+# plants_and_their_faults 6
+~ [40, 32] > [39, 32]
+3 check
+= fault: plant 4 A B
+
+# plants_and_their_faults 7
+~ [513, 528] > [272, 528]
+3 check
+= fault: plant 5 A B
+
+# plants_and_their_faults 8
+~ [513, 768] > [512, 768]
+3 check
+= fault: plant 6 A B
+
+# plants_and_their_faults 9
+~ 020000000003 > 020000000001
+3 check
+= fault: plant 7 020000000001
+
+# plants_and_their_faults 10
+~ elements = 8 > elements = 226
+3 check
+= fault: plant 8 241
+
+# plants_and_their_faults 11
+~ budget = 32 > budget = 33
+3 check
+= fault: plant 9 A
+
+# scripts_that_are_well 1
+0 check
+> ---
+= ok
+
+# scripts_that_are_well 2
+0 check
+> ---
+>
+>
+> T
+= ok
+
+# scripts_that_are_well 3
+0 check
+> ---
+> M 020000000001 0F0001180A010200010601060F0102
+> M 020000000002 0f00
+. M 020000000003 -
+= ok
+
+# scripts_that_are_well 4
+0 check
+> ---
+> Q 020000000001 257 5
+> Q 020000000003 00001 65535
+> T A
+> T B
+. T
+= ok
+
+# scripts_that_are_well 5
+0 check
+> ---
+> Z 1 8/32/32 40/32/32
+> Z 4294967295 0/0/0 65535/65535/00000
+= ok
+
+# fields_at_fault 1
+// A modem or an operator that the plant does not have.
+4 check
+> ---
+. M 020000000009 00
+= fault: line 1
+
+# fields_at_fault 2
+4 check
+> ---
+. T C
+= fault: line 1
+
+# fields_at_fault 3
+// Fields too few, too many, or empty.
+4 check
+> ---
+. M 020000000001
+= fault: line 1
+
+# fields_at_fault 4
+4 check
+> ---
+. M 020000000001 
+= fault: line 1
+
+# fields_at_fault 5
+4 check
+> ---
+. M 020000000001 00 00
+= fault: line 1
+
+# fields_at_fault 6
+4 check
+> ---
+. T  A
+= fault: line 1
+
+# fields_at_fault 7
+4 check
+> ---
+.  T
+= fault: line 1
+
+# fields_at_fault 8
+4 check
+> ---
+. T A B
+= fault: line 1
+
+# fields_at_fault 9
+4 check
+> ---
+. T\r
+= fault: line 1
+
+# fields_at_fault 10
+// Bytes that are none, and numbers that are none or too great.
+4 check
+> ---
+. M 020000000001 0
+= fault: line 1
+
+# fields_at_fault 11
+4 check
+> ---
+. Q 020000000001 65536 1
+= fault: line 1
+
+# fields_at_fault 12
+4 check
+> ---
+. Q 020000000001 000001 1
+= fault: line 1
+
+# fields_at_fault 13
+4 check
+> ---
+. Q 020000000001 +1 1
+= fault: line 1
+
+# fields_at_fault 14
+4 check
+> ---
+. Q 020000000001 1 -1
+= fault: line 1
+
+# fields_at_fault 15
+4 check
+> ---
+. Z 4294967296 8/32/32 40/32/32
+= fault: line 1
+
+# fields_at_fault 16
+4 check
+> ---
+. Z 00000000001 8/32/32 40/32/32
+= fault: line 1
+
+# fields_at_fault 17
+// A slice and a budget of one operator alone, or a part of them.
+4 check
+> ---
+. Z 1 8/32/32
+= fault: line 1
+
+# fields_at_fault 18
+4 check
+> ---
+. Z 1 8/32 40/32/32
+= fault: line 1
+
+# fields_at_fault 19
+4 check
+> ---
+. Z
+= fault: line 1
+
+# fields_at_fault 20
+// Another word, and another line of three dashes.
+4 check
+> ---
+. m 020000000001 00
+= fault: line 1
+
+# fields_at_fault 21
+4 check
+> ---
+. ---
+= fault: line 1
+
+# parts_of_an_input 1
+// The first line at fault is told; lines that are empty count.
+4 check
+> ---
+> T
+>
+> T C
+> T D
+= fault: line 3
+
+# parts_of_an_input 2
+// The plant comes before the script.
+3 check
+alone
+> x
+> ---
+> T C
+= fault: plant 1
+
+# parts_of_an_input 3
+3 check
+alone
+= fault: plant 2 plant.frame_minislots
+
+# parts_of_an_input 4
+3 check
+alone
+. ---
+= fault: plant 2 plant.frame_minislots
+
+# parts_of_an_input 5
+3 check
+alone
+> ---
+> T C
+= fault: plant 2 plant.frame_minislots
+
+# parts_of_an_input 6
+// A line of three dashes ends the plant within a text too; one of four ends nothing.
+3 check
+alone
+> x = \"\"\"
+> ---
+> \"\"\"
+= fault: plant 1
+
+# parts_of_an_input 7
+3 check
+alone
+> ----
+= fault: plant 1
+
+# parts_of_an_input 8
+0 check
+. ---
+= ok
+
+# messages_and_their_answers 1
+// A lone addition.
+0 one
+alone
+> 0F0001180A010200010601060F0102
+= 10000100180E0102000102040000010103020101
+
+# messages_and_their_answers 2
+// The last line may lack its end; empty lines say nothing; digits may be lower case.
+0 one
+alone
+>
+. 0f0001180a010200010601060f0102
+= 10000100180E0102000102040000010103020101
+
+# messages_and_their_answers 3
+// A type 24 that says 11 bytes where 10 are.
+0 one
+alone
+> 0F0003180B010200010601060F0102
+= 10000301
+
+# messages_and_their_answers 4
+// A known subtype of a wrong length beside a skipped one.
+0 one
+alone
+> 0F0002180E010200010601066301FF0F020002
+= 10000202180C01020001050601010F020102
+
+# messages_and_their_answers 5
+// A transaction ID of the CMTS's half, with nothing kept; and the last of the modems' half.
+0 one
+alone
+> 0F8000180A010200010601060F0102
+> 0F8000180A010200010601060F0102
+= 1080000A
+= 1080000A
+
+# messages_and_their_answers 6
+0 one
+alone
+> 0F7FFF180A010200010601060F0102
+= 107FFF00180E0102000102040000010103020101
+
+# messages_and_their_answers 7
+// A downstream flow is left out; an unknown type is skipped, and no encoding stands.
+0 one
+alone
+> 0F00011900
+> 0F00021B00
+= 10000102
+= 10000208
+
+# messages_and_their_answers 8
+// No byte, a short message, a type that is not handled, an acknowledgement for which nothing waits.
+0 one
+alone
+> -
+> 0F00
+> 10000100
+> 14000100
+= S Empty
+= S Short
+= S NotOurs
+= S UnknownAck
+
+# messages_and_their_answers 9
+0 one
+alone
+
+# transactions_one_after_the_other 1
+// A request repeated while it waits, its acknowledgement, and another that nothing waits for.
+0 one
+alone
+> 0F0001180A010200010601060F0102
+> 0F0001180A010200010601060F0102
+> 11000100
+> 11000100
+= 10000100180E0102000102040000010103020101
+= 10000100180E0102000102040000010103020101
+= S UnknownAck
+
+# transactions_one_after_the_other 2
+// A deletion under a transaction ID that an addition has in use.
+0 one
+alone
+> 0F0001180A010200010601060F0102
+> 150001000000000101
+= 10000100180E0102000102040000010103020101
+= S TidInUse
+
+# transactions_one_after_the_other 3
+// Grants that fill the budget, the next flow refused until they are deleted.
+0 one
+alone
+> 0F00011817010200010601060F0106130202001404000007D0160101
+> 11000100
+> 0F00021810010200020601060F01020A0400000001
+> 150003000000000101
+> 0F00041810010200020601060F01020A0400000001
+= 10000100180E0102000102040000010103020101
+= 10000203
+= 1600030000
+= 10000400180E0102000202040000010103020101
+
+# transactions_one_after_the_other 4
+// A grant interval under a frame.
+0 one
+alone
+> 0F00011817010200010601060F0106130202001404000007CF160101
+= 10000117180C010200010506010114020117
+
+# lines_at_fault 1
+// The first of them is told, and no step is made.
+4 one
+alone
+> 0F0001180A010200010601060F0102
+>
+> 0F0
+= fault: line 3
+
+# lines_at_fault 2
+4 one
+alone
+> 11000100\r
+= fault: line 1
+
+# lines_at_fault 3
+4 one
+alone
+>  
+> -
+= fault: line 1
+
+# lines_at_fault 4
+4 one
+alone
+> --
+= fault: line 1";

@@ -12,34 +12,8 @@ use std::process::Abort;
 use std::sync::Wait;
 use std::test::Fail;
 use std::thread::Threads;
-use worked_plants::SHARED;
+use worked_plants::many_operators;
 use worked_playing::{ranking, steps_in};
-
-/// 32 operators with a slice of two minislots each.
-fn operators(alloc: Global) -> Result<String, Fail> {
-    let mut text = String::from_str(alloc, SHARED)?;
-    for place in 0..32u32 {
-        let (start, sfid, sid) = (8 + 2 * place, 1000 + place, 100 + place);
-        let row = format!(in alloc;
-            "
-[[operator]]
-name = \"Operator{place:08}\"
-slice = [{start}, 2]
-sfids = [{sfid}, {sfid}]
-sids = [{sid}, {sid}]
-flows = 1
-transactions = 1
-inbox = 1
-budget = 1
-elements = 5
-policy = \"strict\"
-modems = [\"0200000000{place:02X}\"]
-"
-        )?;
-        text.push_str(row.as_str())?;
-    }
-    Ok(text)
-}
 
 /// Whether an entry put out the frame of this number with the operator's two minislots idle.
 fn is_idle_frame(op: Op, frame: usize, entry: &Entry) -> bool {
@@ -102,7 +76,7 @@ fn run_idle<R: Threads + Wait + Sync>(
 #[test]
 fn thirty_four_threads(rt: HostRuntime) -> Result<(), Fail> {
     let alloc = rt.alloc();
-    let text = operators(alloc)?;
+    let text = many_operators(alloc, 32, 2)?;
     let plant = read_plant(alloc, text.as_str()).ok().ok_or("no plant")?;
     let steps = steps_in(alloc, &plant, "T\nT\nT")?;
     let is_idle = run_idle(&rt, alloc, plant, steps)?;
