@@ -62,7 +62,13 @@ fn help_is_shown(rt: HostRuntime) {
         )
     );
     assert!(rt; shows(alloc, &["trace", "-h"], "Usage: plant_script trace"));
-    assert!(rt; shows(alloc, &["trace", "--help"], "plant_script trace < script.txt"));
+    assert!(rt;
+        shows(
+            alloc,
+            &["trace", "--help"],
+            "plant_script trace < script.txt"
+        )
+    );
 }
 
 #[test]
