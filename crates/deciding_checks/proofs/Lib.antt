@@ -1,3 +1,4 @@
 pub mod ListLemmas
 pub mod HoldLemmas
 pub mod FirstLemmas
+pub mod MessageLemmas
