@@ -77,6 +77,27 @@ impl Standing {
         })
     }
 
+    /// What all operators share.
+    pub fn consts(&self) -> &Consts
+        ensures { result.now ≡ self.now.consts }
+    {
+        &self.consts
+    }
+
+    /// The operator's row.
+    pub fn row(&self) -> &OperatorRow
+        ensures { result.now ≡ self.now.row }
+    {
+        &self.row
+    }
+
+    /// The state of its machine.
+    pub fn state(&self) -> &StateView
+        ensures { result.now ≡ self.now.state }
+    {
+        &self.state
+    }
+
     /// A law: the state is one that a machine can have.
     pub fn sound(&self)
         ensures { IsSound self.now }

@@ -1,0 +1,3 @@
+pub mod DecisionLemmas
+pub mod TextLemmas
+pub mod TraceLemmas

@@ -1,0 +1,170 @@
+-- The steps of a script, one after the other.
+use Rattle.std.proofs.Common.{◌≡◌, ◌≢◌, ◌⊎◌, inl, inr, ℕ, zero, suc, List, [], ◌∷◌, ◌++◌, take, drop, Option, Some, None, IsSome, Err, refl, sym, ap, subst, ◌∙◌, append_assoc}
+use Rattle.std.specs.Prelude.{slice_get}
+use Rattle.std.proofs.KnownBytes.{Appends-nil, Appends-trans}
+use Rattle.std.proofs.lemmas.List.{map-append}
+use Rattle.slice_table.specs.declared.plant.PlantFields.{PlantFields}
+use Rattle.plant_runs.specs.declared.step.Step.{Step}
+use Rattle.plant_runs.specs.declared.step.Out.{Out}
+use Rattle.plant_runs.specs.Reached.{CoreView, Reached}
+use Rattle.plant_core.specs.declared.core_fault.CoreFault.{CoreFault}
+use Rattle.plant_core.specs.declared.core_fault.CoreFault.TheVariants.{UnknownModem, UnknownOperator, Book, Gather, NothingToCollect, NoMemory, Reslice}
+use Rattle.plant_core.specs.Faults.{step_fault, IsTold}
+use Rattle.plant_lines.specs.declared.script.LineStep.{LineStep}
+use Rattle.plant_lines.specs.Script.{unnumbered}
+use Rattle.plant_service.specs.declared.steps_end.StepsEnd.{StepsEnd}
+use Rattle.plant_service.specs.declared.steps_end.StepsEnd.TheVariants as ends
+use Rattle.plant_service.specs.Steps.{IsStepsEndAt}
+use Rattle.plant_trace.specs.declared.decision.Decision.{Decision}
+use Rattle.plant_trace.specs.Decision.{IsDecision}
+use Rattle.plant_trace.specs.Trace.{AreDecided, IsTraceText, HasTraced}
+use Rattle.plant_trace.specs.SoFar.{HasRemarked, HasToldStep, IsTracedSoFar}
+use Rattle.plant_trace.proofs.TextLemmas.{text_remark, text_more, decided_more}
+
+-- ---- what is left of a list
+
+first_left : {A : Type 0} (xs : List A) (k : ℕ) (x : A) (rest : List A) → drop k xs ≡ x ∷ rest → slice_get xs k ≡ Some x
+first_left [] zero x rest h = cc
+first_left [] (suc k) x rest h = cc
+first_left (y ∷ xs) zero x rest h = cc
+first_left (y ∷ xs) (suc k) x rest h = first_left xs k x rest h
+
+none_left : {A : Type 0} (xs : List A) (k : ℕ) → drop k xs ≡ [] → slice_get xs k ≡ None
+none_left [] zero h = refl
+none_left [] (suc k) h = refl
+none_left (y ∷ xs) zero h = cc
+none_left (y ∷ xs) (suc k) h = none_left xs k h
+
+take_next : {A : Type 0} (xs : List A) (k : ℕ) (x : A) (rest : List A) → drop k xs ≡ x ∷ rest → take (suc k) xs ≡ take k xs ++ x ∷ []
+take_next [] zero x rest h = cc
+take_next [] (suc k) x rest h = cc
+take_next (y ∷ xs) zero x rest h = cc
+take_next (y ∷ xs) (suc k) x rest h = ap (λ (l : List _). y ∷ l) (take_next xs k x rest h)
+
+drop_next : {A : Type 0} (xs : List A) (k : ℕ) (x : A) (rest : List A) → drop k xs ≡ x ∷ rest → drop (suc k) xs ≡ rest
+drop_next [] zero x rest h = cc
+drop_next [] (suc k) x rest h = cc
+drop_next (y ∷ xs) zero x rest h = cc
+drop_next (y ∷ xs) (suc k) x rest h = drop_next xs k x rest h
+
+module _ (plant : PlantFields) (steps : List LineStep) where
+  abbrev SoFar : CoreView → Option (List ℕ) → Option (List ℕ) → List LineStep → Type 0
+  SoFar core old new left = IsTracedSoFar plant steps core old new left
+
+  -- ---- one step more
+
+  -- nothing is done yet
+  pub none_traced : (core : CoreView) (known : Option (List ℕ)) → Reached plant [] [] core → SoFar core known known steps
+  none_traced core known reached = record {
+    at = zero;
+    told = [];
+    decisions = [];
+    text = [];
+    reached = reached;
+    decided = tt;
+    is_text = tt;
+    written = Appends-nil known;
+    left_are = refl;
+  }
+
+  -- a remark more
+  pub remark_traced : (core : CoreView) (w0 w1 w2 : Option (List ℕ)) (left : List LineStep) → SoFar core w0 w1 left → HasRemarked w1 w2 → SoFar core w0 w2 left
+  remark_traced core w0 w1 w2 left half remarked = record {
+    at = half.at;
+    told = half.told;
+    decisions = half.decisions;
+    text = half.text ++ remarked.0;
+    reached = half.reached;
+    decided = half.decided;
+    is_text = text_remark half.decisions half.text remarked.0 half.is_text;
+    written = Appends-trans w0 w1 w2 half.text remarked.0 half.written remarked.1;
+    left_are = half.left_are;
+  }
+
+  module _ (old new : CoreView) (w0 w1 w2 : Option (List ℕ)) (line : LineStep) (rest : List LineStep) (now : List Out) (decision : Option Decision)
+      (half : SoFar old w0 w1 (line ∷ rest)) (is : IsDecision old line.step decision)
+      (reached : (b : List Step) (t : List Out) → Reached old.plant b t old → Reached old.plant (b ++ line.step ∷ []) (t ++ now) new) where
+    done : List Step
+    done = unnumbered (take half.at steps)
+
+    steps_more : done ++ line.step ∷ [] ≡ unnumbered (take (suc half.at) steps)
+    unfolding done
+    steps_more =
+        sym (map-append (λ (l : LineStep). l.step) (take half.at steps) (line ∷ []))
+        ∙ ap unnumbered (sym (take_next steps half.at line rest half.left_are))
+
+    reached_more : Reached plant (done ++ line.step ∷ []) (half.told ++ now) new
+    unfolding done
+    reached_more =
+        let same : old.plant ≡ plant = half.reached.plant_is in
+        subst (λ (p : PlantFields). Reached p (done ++ line.step ∷ []) (half.told ++ now) new) same
+        (reached done half.told (subst (λ (p : PlantFields). Reached p done half.told old) (sym same) half.reached))
+
+    -- the step is done and told
+    pub step_traced : HasToldStep decision w1 w2 → SoFar new w0 w2 rest
+    unfolding done
+    step_traced told = record {
+      at = suc half.at;
+      told = half.told ++ now;
+      decisions = half.decisions ++ decision ∷ [];
+      text = half.text ++ (told.0 ++ told.1);
+      reached = subst (λ (s : List Step). Reached plant s (half.told ++ now) new) steps_more reached_more;
+      decided =
+          subst (λ (s : List Step). AreDecided plant [] s (half.decisions ++ decision ∷ [])) steps_more
+          (decided_more plant [] done half.decisions line.step decision half.decided (old, half.told, half.reached, is));
+      is_text =
+          subst (λ (t : List ℕ). IsTraceText (half.decisions ++ decision ∷ []) t) (append_assoc half.text told.0 told.1)
+          (text_remark (half.decisions ++ decision ∷ []) (half.text ++ told.0) told.1 (text_more half.decisions decision half.text told.0 half.is_text told.2));
+      written = Appends-trans w0 w1 w2 half.text (told.0 ++ told.1) half.written told.3;
+      left_are = drop_next steps half.at line rest half.left_are;
+    }
+
+  -- ---- how a trace ends
+
+  ends_so : (core : CoreView) (end : StepsEnd) (w0 w1 : Option (List ℕ)) (left : List LineStep) (half : SoFar core w0 w1 left) → IsStepsEndAt core (slice_get steps half.at) end
+      → HasTraced plant steps core end w0 w1
+  ends_so core end w0 w1 left half ends = record {
+    at = half.at;
+    told = half.told;
+    decisions = half.decisions;
+    text = half.text;
+    reached = half.reached;
+    ends = ends;
+    decided = half.decided;
+    is_text = half.is_text;
+    written = half.written;
+  }
+
+  pub all_traced : (core : CoreView) (w0 w1 : Option (List ℕ)) (left : List LineStep) → SoFar core w0 w1 left → left ≡ [] → HasTraced plant steps core ends.Done w0 w1
+  all_traced core w0 w1 left half none = ends_so core ends.Done w0 w1 left half (rw (none_left steps half.at (half.left_are ∙ none)) tt)
+
+  pub memory_wants : (core : CoreView) (w0 w1 : Option (List ℕ)) (left : List LineStep) → SoFar core w0 w1 left → HasTraced plant steps core ends.NoMemory w0 w1
+  memory_wants core w0 w1 left half = ends_so core ends.NoMemory w0 w1 left half tt
+
+  -- a fault that is told, other than want of memory
+  fault_is_told : (A : Type 0) (fault : CoreFault) (reason : Option CoreFault) → IsTold {A = A} (Err fault) reason → fault ≢ NoMemory → reason ≡ Some fault
+  fault_is_told A (UnknownModem modem) reason told other = told
+  fault_is_told A (UnknownOperator op) reason told other = told
+  fault_is_told A (Book refused) reason told other = told
+  fault_is_told A (Gather refused) reason told other = told
+  fault_is_told A (NothingToCollect op) reason told other = told
+  fault_is_told A NoMemory reason told other = absurd (other refl)
+  fault_is_told A (Reslice refused) reason told other = told
+
+  step_is_refused : (core : CoreView) (w0 w1 : Option (List ℕ)) (line : LineStep) (rest : List LineStep) (A : Type 0) (fault : CoreFault) → SoFar core w0 w1 (line ∷ rest)
+      → IsTold {A = A} (Err fault) (step_fault core line.step) → fault ≢ NoMemory → HasTraced plant steps core (ends.Refused line.number) w0 w1
+  step_is_refused core w0 w1 line rest A fault half told other =
+      let refused : step_fault core line.step ≡ Some fault = fault_is_told A fault (step_fault core line.step) told other in
+      let some : IsSome (step_fault core line.step) = rw refused refl in
+      ends_so core (ends.Refused line.number) w0 w1 (line ∷ rest) half (rw (first_left steps half.at line rest half.left_are) (refl, some))
+
+  -- a trace ends where a step is not done
+  pub step_not_done : (old core : CoreView) (w0 w1 : Option (List ℕ)) (line : LineStep) (rest : List LineStep) (A : Type 0) (fault : CoreFault) (end : StepsEnd)
+      → SoFar old w0 w1 (line ∷ rest) → core ≡ old → IsTold {A = A} (Err fault) (step_fault old line.step)
+      → (end ≡ ends.NoMemory) ⊎ ((end ≡ ends.Refused line.number) × (fault ≢ NoMemory)) → HasTraced plant steps core end w0 w1
+  step_not_done old core w0 w1 line rest A fault end half same told (inl wants) =
+      subst (λ (c : CoreView). HasTraced plant steps c end w0 w1) (sym same)
+      (subst (λ (e : StepsEnd). HasTraced plant steps old e w0 w1) (sym wants) (memory_wants old w0 w1 (line ∷ rest) half))
+  step_not_done old core w0 w1 line rest A fault end half same told (inr refused) =
+      subst (λ (c : CoreView). HasTraced plant steps c end w0 w1) (sym same)
+      (subst (λ (e : StepsEnd). HasTraced plant steps old e w0 w1) (sym refused.0) (step_is_refused old w0 w1 line rest A fault half told refused.1))
