@@ -69,40 +69,41 @@ fn put_detail(text: &mut String, detail: Detail) -> Result<(), AllocError> {
     }
 }
 
-/// A set of a flow, by the minislots that it needs of the budget.
-fn put_set(
+/// Sets of a flow, by the minislots that each needs of the budget.
+fn put_listed(
     text: &mut String,
     units: Units,
-    name: &str,
-    set: Option<ParamSet>,
+    sets: &[(&str, Option<ParamSet>)],
 ) -> Result<(), AllocError> {
-    match set {
-        None => Ok(()),
-        Some(set) => {
-            let minislots = need(&set, &units).minislots;
-            write!(text, ", {name} {minislots} minislots")
+    let mut before = "";
+    for (name, set) in sets {
+        if let Some(set) = set {
+            let minislots = need(set, &units).minislots;
+            write!(text, "{before}{name} {minislots} minislots")?;
+            before = ", ";
         }
     }
+    if before.is_empty() {
+        text.push_str("no set")?;
+    }
+    Ok(())
 }
 
 /// The sets of a flow: those it has, and those that wait for an acknowledgement.
 fn put_sets(text: &mut String, units: Units, sfid: u32, flow: &Flow) -> Result<(), AllocError> {
-    write!(text, "    SFID {sfid}: has")?;
+    write!(text, "    SFID {sfid}: ")?;
     let has = flow.sets.get_fields();
-    if has.provisioned.is_none() && has.admitted.is_none() && has.active.is_none() {
-        text.push_str(", no set")?;
-    }
-    put_set(text, units, "provisioned", has.provisioned)?;
-    put_set(text, units, "admitted", has.admitted)?;
-    put_set(text, units, "active", has.active)?;
+    let sets = [
+        ("provisioned", has.provisioned),
+        ("admitted", has.admitted),
+        ("active", has.active),
+    ];
+    put_listed(text, units, sets.as_slice())?;
     if let Some(pending) = flow.pending {
         let waits = pending.sets.get_fields();
-        text.push_str("; waits for")?;
-        if waits.admitted.is_none() && waits.active.is_none() {
-            text.push_str(", no set")?;
-        }
-        put_set(text, units, "admitted", waits.admitted)?;
-        put_set(text, units, "active", waits.active)?;
+        text.push_str("; waiting: ")?;
+        let sets = [("admitted", waits.admitted), ("active", waits.active)];
+        put_listed(text, units, sets.as_slice())?;
     }
     text.push_str("\n")
 }

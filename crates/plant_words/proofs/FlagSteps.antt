@@ -10,7 +10,7 @@ use Rattle.plant_words.specs.ClapLine.{faults}
 use Rattle.plant_words.specs.CommandLine.{hyphens}
 use Rattle.plant_words.proofs.WalkSteps.{plain_shape, history_shape, sub_fault}
 
--- ---- behind `one`, `check`, `run`, `threads`, `capture` or `serve`
+-- ---- behind `one`, `check`, `run`, `threads`, `capture`, `serve` or `trace`
 
 pub plain_unknown_long : (n w : Text) (rest : List Text) (name : Text) (v : Option Text) → bytes_eq w hyphens ≡ false → long_of w ≡ Some (name, v) → bytes_eq (codes "help") name ≡ false
     → sub_fault (plain_shape n) (w ∷ rest) ≡ kind.UnknownArgument ∷ []
@@ -168,43 +168,44 @@ pub record IsNoName (w : Text) : Type 0 where
   pub threads : bytes_eq (codes "threads") w ≡ false
   pub capture : bytes_eq (codes "capture") w ≡ false
   pub serve : bytes_eq (codes "serve") w ≡ false
+  pub trace : bytes_eq (codes "trace") w ≡ false
   pub history : bytes_eq (codes "history") w ≡ false
   pub help : bytes_eq (codes "help") w ≡ false
 
 pub top_unknown_long : (w : Text) (rest : List Text) (name : Text) (v : Option Text) → IsNoName w → bytes_eq w hyphens ≡ false → long_of w ≡ Some (name, v) → bytes_eq (codes "help") name ≡ false
     → faults (w ∷ rest) ≡ kind.UnknownArgument ∷ []
 unfolding faults clap_on_literals
-top_unknown_long w rest name v strange other long unknown = rw (strange.one, strange.check, strange.run, strange.threads, strange.capture, strange.serve, strange.history, strange.help, other, long, unknown) refl
+top_unknown_long w rest name v strange other long unknown = rw (strange.one, strange.check, strange.run, strange.threads, strange.capture, strange.serve, strange.trace, strange.history, strange.help, other, long, unknown) refl
 
 pub top_help_value : (w : Text) (rest : List Text) (name v : Text) → IsNoName w → bytes_eq w hyphens ≡ false → long_of w ≡ Some (name, Some v) → bytes_eq (codes "help") name ≡ true
     → faults (w ∷ rest) ≡ kind.TooManyValues ∷ []
 unfolding faults clap_on_literals
-top_help_value w rest name v strange other long known = rw (strange.one, strange.check, strange.run, strange.threads, strange.capture, strange.serve, strange.history, strange.help, other, long, known) refl
+top_help_value w rest name v strange other long known = rw (strange.one, strange.check, strange.run, strange.threads, strange.capture, strange.serve, strange.trace, strange.history, strange.help, other, long, known) refl
 
 pub top_help : (w : Text) (rest : List Text) (name : Text) → IsNoName w → bytes_eq w hyphens ≡ false → long_of w ≡ Some (name, None) → bytes_eq (codes "help") name ≡ true
     → faults (w ∷ rest) ≡ kind.DisplayHelp ∷ []
 unfolding faults clap_on_literals
-top_help w rest name strange other long known = rw (strange.one, strange.check, strange.run, strange.threads, strange.capture, strange.serve, strange.history, strange.help, other, long, known) refl
+top_help w rest name strange other long known = rw (strange.one, strange.check, strange.run, strange.threads, strange.capture, strange.serve, strange.trace, strange.history, strange.help, other, long, known) refl
 
 pub top_short_help : (w : Text) (rest : List Text) (b : ℕ) (flags : Text) (x : ℕ) → IsNoName w → bytes_eq w hyphens ≡ false → long_of w ≡ None → short_of w ≡ Some (b ∷ flags) → slice_get (chars (b ∷ flags)) 0 ≡ Some x → (104 == x) ≡ true
     → faults (w ∷ rest) ≡ kind.DisplayHelp ∷ []
 unfolding faults clap_on_literals
-top_short_help w rest b flags x strange other long short first is = rw (strange.one, strange.check, strange.run, strange.threads, strange.capture, strange.serve, strange.history, strange.help, other, long, short, first, is) refl
+top_short_help w rest b flags x strange other long short first is = rw (strange.one, strange.check, strange.run, strange.threads, strange.capture, strange.serve, strange.trace, strange.history, strange.help, other, long, short, first, is) refl
 
 pub top_short_unknown : (w : Text) (rest : List Text) (b : ℕ) (flags : Text) (x : ℕ) → IsNoName w → bytes_eq w hyphens ≡ false → long_of w ≡ None → short_of w ≡ Some (b ∷ flags) → slice_get (chars (b ∷ flags)) 0 ≡ Some x → (104 == x) ≡ false
     → faults (w ∷ rest) ≡ kind.UnknownArgument ∷ []
 unfolding faults clap_on_literals
-top_short_unknown w rest b flags x strange other long short first differs = rw (strange.one, strange.check, strange.run, strange.threads, strange.capture, strange.serve, strange.history, strange.help, other, long, short, first, differs) refl
+top_short_unknown w rest b flags x strange other long short first differs = rw (strange.one, strange.check, strange.run, strange.threads, strange.capture, strange.serve, strange.trace, strange.history, strange.help, other, long, short, first, differs) refl
 
 pub top_stray : (w : Text) (rest : List Text) → IsNoName w → bytes_eq w hyphens ≡ false → long_of w ≡ None → short_of w ≡ None
     → faults (w ∷ rest) ≡ kind.UnknownArgument ∷ kind.InvalidSubcommand ∷ []
 unfolding faults clap_on_literals
-top_stray w rest strange other long short = rw (strange.one, strange.check, strange.run, strange.threads, strange.capture, strange.serve, strange.history, strange.help, other, long, short) refl
+top_stray w rest strange other long short = rw (strange.one, strange.check, strange.run, strange.threads, strange.capture, strange.serve, strange.trace, strange.history, strange.help, other, long, short) refl
 
 pub top_odd : (w : Text) (rest : List Text) (b : ℕ) (flags : Text) → IsNoName w → bytes_eq w hyphens ≡ false → long_of w ≡ None → short_of w ≡ Some (b ∷ flags) → slice_get (chars (b ∷ flags)) 0 ≡ None
     → faults (w ∷ rest) ≡ kind.UnknownArgument ∷ kind.InvalidSubcommand ∷ []
 unfolding faults clap_on_literals
-top_odd w rest b flags strange other long short first = rw (strange.one, strange.check, strange.run, strange.threads, strange.capture, strange.serve, strange.history, strange.help, other, long, short, first) refl
+top_odd w rest b flags strange other long short first = rw (strange.one, strange.check, strange.run, strange.threads, strange.capture, strange.serve, strange.trace, strange.history, strange.help, other, long, short, first) refl
 
 -- ---- behind the two hyphens
 

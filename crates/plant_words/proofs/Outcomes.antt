@@ -5,15 +5,15 @@ use Rattle.std.proofs.lemmas.Slice.Eq.{bytes_eq-Decides}
 use Rattle.clap.specs.Kinds.{IsAmong, Kinds}
 use Rattle.clap.specs.Walk.{Text}
 use Rattle.clap.specs.declared.error.kind.ErrorKind.TheVariants as kind
-use Rattle.plant_words.specs.Order.{Order, one, check, run, threads, capture, serve, history}
+use Rattle.plant_words.specs.Order.{Order, one, check, run, threads, capture, serve, trace, history}
 use Rattle.plant_words.specs.ClapLine.{faults}
 use Rattle.plant_words.specs.CommandLine.{AsksHelp, IsHelpFlag, IsHelpWord, IsOperand, MayLead, Names, StandsAlone, hyphens}
 use Rattle.plant_words.proofs.FlagSteps as step
 use Rattle.plant_words.proofs.FlagSteps.{IsNoName}
-use Rattle.plant_words.proofs.WalkSteps.{plain_shape, history_shape, sub_fault, one_below, check_below, run_below, threads_below, capture_below, serve_below, history_below}
+use Rattle.plant_words.proofs.WalkSteps.{plain_shape, history_shape, sub_fault, one_below, check_below, run_below, threads_below, capture_below, serve_below, trace_below, history_below}
 use Rattle.plant_words.proofs.Shapes.{Fails, IsRefused, Meets, OperandShape, no_hyphen, odd_hyphen, flag_fails, operand_of_shape, refused_by}
 
--- ---- behind `one`, `check`, `run`, `threads`, `capture` or `serve`
+-- ---- behind `one`, `check`, `run`, `threads`, `capture`, `serve` or `trace`
 
 pub plain_meets : (n w : Text) (rest : List Text) → Meets w (sub_fault (plain_shape n) (w ∷ rest))
 plain_meets n w rest = record {
@@ -206,7 +206,7 @@ at_history rest = elim (history_rest rest) [
       flag = asks.0;
       behind = asks.1;
       are = ap (λ (r : List Text). codes "history" ∷ r) asks.2;
-      may_lead = inr (inr (inr (inr (inr (inr refl)))));
+      may_lead = inr (inr (inr (inr (inr (inr (inr refl))))));
       is_help = asks.3;
     },
     history_below rest ∙ is,
@@ -239,6 +239,7 @@ outcome (w ∷ rest) =
     unless (codes "threads") (at_plain (codes "threads") threads (inr (inr (inr (inl refl)))) (λ words alone. alone) rest (threads_below rest)) (λ no_threads.
     unless (codes "capture") (at_plain (codes "capture") capture (inr (inr (inr (inr (inl refl))))) (λ words alone. alone) rest (capture_below rest)) (λ no_capture.
     unless (codes "serve") (at_plain (codes "serve") serve (inr (inr (inr (inr (inr (inl refl)))))) (λ words alone. alone) rest (serve_below rest)) (λ no_serve.
+    unless (codes "trace") (at_plain (codes "trace") trace (inr (inr (inr (inr (inr (inr (inl refl))))))) (λ words alone. alone) rest (trace_below rest)) (λ no_trace.
     unless (codes "history") (at_history rest) (λ no_history.
     unless (codes "help") (helped (record { topics = rest; are = refl })) (λ no_help.
     at_flag w rest (top_fails w rest (record {
@@ -248,9 +249,10 @@ outcome (w ∷ rest) =
       threads = no_threads;
       capture = no_capture;
       serve = no_serve;
+      trace = no_trace;
       history = no_history;
       help = no_help;
-    }))))))))))
+    })))))))))))
   where
     -- the word is this name, or what follows is so of another
     is_or_not : (n : Text) (t : Bool) → bytes_eq n w ≡ t → Outcome (n ∷ rest) → (bytes_eq n w ≡ false → Outcome (w ∷ rest)) → Outcome (w ∷ rest)

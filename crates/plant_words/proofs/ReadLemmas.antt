@@ -11,11 +11,11 @@ use Rattle.clap.specs.declared.error.kind.ErrorKind.TheVariants as kind
 use Rattle.clap.proofs.OnLiterals.{clap_on_literals}
 use Rattle.plant_words.specs.ClapLine.{IsFaultOf, StandsFor, entered, faults}
 use Rattle.plant_words.specs.CommandLine.{Allows, AreWrong, AsksHelp, GivesHelp, GivesOrder, GivesWrong, IsHelpFlag, IsHelpWord, MayLead, Names, first_flag, hyphens}
-use Rattle.plant_words.specs.Order.{Order, one, check, run, threads, capture, serve, history, order_of}
+use Rattle.plant_words.specs.Order.{Order, one, check, run, threads, capture, serve, trace, history, order_of}
 use Rattle.plant_words.specs.declared.asked.Word.{Word}
 use Rattle.plant_words.specs.declared.asked.WordsFault.{WordsFault}
 use Rattle.plant_words.specs.declared.asked.WordsFault.TheVariants as fault
-use Rattle.plant_words.proofs.WalkSteps.{one_below, check_below, run_below, threads_below, capture_below, serve_below, history_below}
+use Rattle.plant_words.proofs.WalkSteps.{one_below, check_below, run_below, threads_below, capture_below, serve_below, trace_below, history_below}
 use Rattle.plant_words.proofs.Shapes.{IsRefused, OperandShape, no_hyphen, odd_hyphen, flag_helps, none_is_some, shape_of_operand}
 use Rattle.plant_words.proofs.Outcomes.{named, helped, failing, outcome, plain_meets, operand_meets, after_meets, top_meets}
 
@@ -73,6 +73,14 @@ serve_ended : Takes (codes "serve" ∷ hyphens ∷ []) serve
 unfolding faults entered clap_on_literals
 serve_ended = (refl, refl)
 
+trace_taken : Takes (codes "trace" ∷ []) trace
+unfolding faults entered clap_on_literals
+trace_taken = (refl, refl)
+
+trace_ended : Takes (codes "trace" ∷ hyphens ∷ []) trace
+unfolding faults entered clap_on_literals
+trace_ended = (refl, refl)
+
 operand_taken : (w : Text) → OperandShape w → Takes (codes "history" ∷ w ∷ []) (history w)
 unfolding faults entered clap_on_literals
 operand_taken w (no_hyphen other long short) =
@@ -115,6 +123,8 @@ names_taken words capture (inl e) = at_words words _ capture e capture_taken
 names_taken words capture (inr e) = at_words words _ capture e capture_ended
 names_taken words serve (inl e) = at_words words _ serve e serve_taken
 names_taken words serve (inr e) = at_words words _ serve e serve_ended
+names_taken words trace (inl e) = at_words words _ trace e trace_taken
+names_taken words trace (inr e) = at_words words _ trace e trace_ended
 names_taken words (history name) (inl (operand, inl e)) = at_words words _ (history name) e (operand_taken name (shape_of_operand name operand))
 names_taken words (history name) (inl (operand, inr e)) = at_words words _ (history name) e (operand_ended name (shape_of_operand name operand))
 names_taken words (history name) (inr e) = at_words words _ (history name) e (operand_behind name)
@@ -130,6 +140,7 @@ letters run = 231
 letters threads = 220
 letters capture = 196
 letters serve = 216
+letters trace = 230
 letters (history name) = 209
 
 letters_at : (o : Order) (s : Text × List Row) → StandsFor o s → two_letters s.0 ≡ letters o
@@ -140,6 +151,7 @@ letters_at run s e = ap two_letters e
 letters_at threads s e = ap two_letters e
 letters_at capture s e = ap two_letters e
 letters_at serve s e = ap two_letters e
+letters_at trace s e = ap two_letters e
 letters_at (history name) s e = ap two_letters e.0
 
 same_letters : (o p : Order) (s : Text × List Row) → letters o ≡ letters p → StandsFor o s → StandsFor p s → o ≡ p
@@ -150,6 +162,7 @@ same_letters run run s e a b = refl
 same_letters threads threads s e a b = refl
 same_letters capture capture s e a b = refl
 same_letters serve serve s e a b = refl
+same_letters trace trace s e a b = refl
 same_letters (history n) (history m) s e a b = let same = sym a.1 ∙ b.1 in let is : n ≡ m = cc in ap history is
 same_letters o p s e a b = absurd (omega arith)
 
@@ -179,6 +192,7 @@ help_behind [] flag behind lead help = flag_helps flag _ (top_meets flag behind 
   threads = not_name (codes "threads") flag refl (other_letter _ 116 refl (λ e. omega arith)) help;
   capture = not_name (codes "capture") flag refl (other_letter _ 99 refl (λ e. omega arith)) help;
   serve = not_name (codes "serve") flag refl (other_letter _ 115 refl (λ e. omega arith)) help;
+  trace = not_name (codes "trace") flag refl (other_letter _ 116 refl (λ e. omega arith)) help;
   history = not_name (codes "history") flag refl (other_letter _ 104 refl (λ e. omega arith)) help;
   help = not_name (codes "help") flag refl (other_letter _ 104 refl (λ e. omega arith)) help;
 })) help
@@ -194,7 +208,9 @@ help_behind (w ∷ []) flag behind (inr (inr (inr (inr (inl e))))) help = subst 
     (capture_below (flag ∷ behind) ∙ flag_helps flag _ (plain_meets (codes "capture") flag behind) help)
 help_behind (w ∷ []) flag behind (inr (inr (inr (inr (inr (inl e)))))) help = subst (λ (x : Text). faults (x ∷ flag ∷ behind) ≡ kind.DisplayHelp ∷ []) (sym e)
     (serve_below (flag ∷ behind) ∙ flag_helps flag _ (plain_meets (codes "serve") flag behind) help)
-help_behind (w ∷ []) flag behind (inr (inr (inr (inr (inr (inr e)))))) help = subst (λ (x : Text). faults (x ∷ flag ∷ behind) ≡ kind.DisplayHelp ∷ []) (sym e)
+help_behind (w ∷ []) flag behind (inr (inr (inr (inr (inr (inr (inl e))))))) help = subst (λ (x : Text). faults (x ∷ flag ∷ behind) ≡ kind.DisplayHelp ∷ []) (sym e)
+    (trace_below (flag ∷ behind) ∙ flag_helps flag _ (plain_meets (codes "trace") flag behind) help)
+help_behind (w ∷ []) flag behind (inr (inr (inr (inr (inr (inr (inr e))))))) help = subst (λ (x : Text). faults (x ∷ flag ∷ behind) ≡ kind.DisplayHelp ∷ []) (sym e)
     (history_below (flag ∷ behind) ∙ flag_helps flag _ (operand_meets flag behind) help)
 help_behind (w ∷ u ∷ []) flag behind lead help = subst (λ (x : Text). faults (x ∷ u ∷ flag ∷ behind) ≡ kind.DisplayHelp ∷ []) (sym lead.0)
     (history_below (u ∷ flag ∷ behind) ∙ flag_helps flag _ (after_meets u flag behind (shape_of_operand u lead.1)) help)

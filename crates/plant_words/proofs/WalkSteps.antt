@@ -74,6 +74,11 @@ unfolding faults clap_on_literals
 serve_below rest = rw (words_collected top_rules top_names (codes "serve") [] rest, words_pass (built program).top top_names (codes "serve") [] rest)
     (or_nothing (sub_fault (plain_shape (codes "serve")) rest))
 
+pub trace_below : (rest : List Text) → faults (codes "trace" ∷ rest) ≡ sub_fault (plain_shape (codes "trace")) rest
+unfolding faults clap_on_literals
+trace_below rest = rw (words_collected top_rules top_names (codes "trace") [] rest, words_pass (built program).top top_names (codes "trace") [] rest)
+    (or_nothing (sub_fault (plain_shape (codes "trace")) rest))
+
 pub threads_below : (rest : List Text) → faults (codes "threads" ∷ rest) ≡ sub_fault (plain_shape (codes "threads")) rest
 unfolding faults clap_on_literals
 threads_below rest = rw (words_collected top_rules top_names (codes "threads") [] rest, words_pass (built program).top top_names (codes "threads") [] rest)

@@ -5,7 +5,7 @@ use Rattle.clap.specs.Words.{App, Kinds, Row, Rule, Text, fault_of, first_of, ne
 use Rattle.clap.specs.Words.{subcommand_of, with_rule, with_subcommand}
 use Rattle.clap.specs.declared.error.kind.ErrorKind.{ErrorKind}
 use Rattle.clap.specs.declared.error.kind.ErrorKind.TheVariants as kind
-use Rattle.plant_words.specs.Order.{Order, one, check, run, threads, capture, serve, history}
+use Rattle.plant_words.specs.Order.{Order, one, check, run, threads, capture, serve, trace, history}
 use Rattle.plant_words.specs.declared.asked.WordsFault.{WordsFault}
 use Rattle.plant_words.specs.declared.asked.WordsFault.TheVariants as fault
 
@@ -21,11 +21,12 @@ operator = record (new_rule (codes "operator")) { required = true; value_names =
 abbrev pub history_app : App
 history_app = with_rule (new_app (codes "history")) operator
 
--- `one`, `check`, `run`, `threads`, `capture`, `serve` and `history OPERATOR`
+-- `one`, `check`, `run`, `threads`, `capture`, `serve`, `trace` and `history OPERATOR`
 abbrev pub program : App
 program = with_subcommand (with_subcommand (with_subcommand (with_subcommand (with_subcommand (with_subcommand
-    (with_subcommand top (new_app (codes "one")).top) (new_app (codes "check")).top) (new_app (codes "run")).top)
-    (new_app (codes "threads")).top) (new_app (codes "capture")).top) (new_app (codes "serve")).top) history_app.top
+    (with_subcommand (with_subcommand top (new_app (codes "one")).top) (new_app (codes "check")).top)
+    (new_app (codes "run")).top) (new_app (codes "threads")).top) (new_app (codes "capture")).top)
+    (new_app (codes "serve")).top) (new_app (codes "trace")).top) history_app.top
 
 -- the kinds of error that clap may answer the words with: none where it takes them
 unfoldable pub faults : List Text → Kinds
@@ -43,6 +44,7 @@ StandsFor run s = s.0 ≡ codes "run"
 StandsFor threads s = s.0 ≡ codes "threads"
 StandsFor capture s = s.0 ≡ codes "capture"
 StandsFor serve s = s.0 ≡ codes "serve"
+StandsFor trace s = s.0 ≡ codes "trace"
 StandsFor (history name) s = (s.0 ≡ codes "history") × (first_of (codes "operator") s.1 ≡ Some name)
 
 -- the fault that an error of clap of this kind comes to, or want of memory

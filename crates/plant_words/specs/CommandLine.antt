@@ -3,7 +3,7 @@ use Rattle.std.specs.Prelude.{◌≡◌, ◌≢◌, ◌⊎◌, ⊤, ℕ, List, [
 use Rattle.std.specs.Prelude.{option_and_then, slice_get}
 use Rattle.std.specs.Str.{chars}
 use Rattle.clap.specs.Lexer.{long_of, short_of}
-use Rattle.plant_words.specs.Order.{Order, one, check, run, threads, capture, serve, history, order_of}
+use Rattle.plant_words.specs.Order.{Order, one, check, run, threads, capture, serve, trace, history, order_of}
 use Rattle.plant_words.specs.declared.asked.Word.{Word}
 use Rattle.plant_words.specs.declared.asked.WordsFault.{WordsFault}
 use Rattle.plant_words.specs.declared.asked.WordsFault.TheVariants as fault
@@ -42,6 +42,7 @@ Names words run = StandsAlone (codes "run") words
 Names words threads = StandsAlone (codes "threads") words
 Names words capture = StandsAlone (codes "capture") words
 Names words serve = StandsAlone (codes "serve") words
+Names words trace = StandsAlone (codes "trace") words
 Names words (history name) =
     (IsOperand name × ((words ≡ codes "history" ∷ name ∷ [])
     ⊎ (words ≡ codes "history" ∷ name ∷ hyphens ∷ [])))
@@ -51,7 +52,8 @@ Names words (history name) =
 abbrev pub MayLead : List (List ℕ) → Type 0
 MayLead [] = ⊤
 MayLead (w ∷ []) = (w ≡ codes "one") ⊎ ((w ≡ codes "check") ⊎ ((w ≡ codes "run")
-    ⊎ ((w ≡ codes "threads") ⊎ ((w ≡ codes "capture") ⊎ ((w ≡ codes "serve") ⊎ (w ≡ codes "history"))))))
+    ⊎ ((w ≡ codes "threads") ⊎ ((w ≡ codes "capture") ⊎ ((w ≡ codes "serve")
+    ⊎ ((w ≡ codes "trace") ⊎ (w ≡ codes "history")))))))
 MayLead (w ∷ u ∷ []) = (w ≡ codes "history") × IsOperand u
 MayLead (w ∷ u ∷ v ∷ rest) = ⊥
 

@@ -4,7 +4,7 @@ use Rattle.plant_words.specs.declared.asked.Word.{Word}
 use Rattle.plant_words.specs.declared.asked.Word.TheVariants as word
 
 -- the messages of one modem, a check of a plant and a script, a run, a run on threads, a run's capture,
--- a plant in service, or one operator's history (own)
+-- a plant in service, a run told in words, or one operator's history (own)
 pub data Order : Type 0 where
   one : Order
   check : Order
@@ -12,6 +12,7 @@ pub data Order : Type 0 where
   threads : Order
   capture : Order
   serve : Order
+  trace : Order
   history : List ℕ → Order
 
 -- the word, with the operator's name as its bytes
@@ -22,4 +23,5 @@ order_of word.Run = run
 order_of word.Threads = threads
 order_of word.Capture = capture
 order_of word.Serve = serve
+order_of word.Trace = trace
 order_of (word.History operator) = history operator.now

@@ -19,6 +19,8 @@ pub enum Word<'a> {
     Capture,
     /// Keep a plant running, and answer each line of a script as it comes.
     Serve,
+    /// Run a script over a plant, and tell of each step which check decided and what came of it.
+    Trace,
     /// Tell an operator's history.
     History {
         /// The operator's name, as it was written.

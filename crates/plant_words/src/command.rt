@@ -65,6 +65,16 @@ behind the line ---. No history is kept: memory does not grow with the number of
 Exit status: 0 the end of the input, 3 a plant at fault, 5 want of memory before the first line, 6 a read or a write that
 failed, or a plant file that is too long or no UTF-8.";
 
+const TRACE_INPUT: &str =
+    "Standard input: a plant file, a line --- and a script. Standard output: each line of the script, and for each of its
+steps the check that decided it, with its number and its name, what was put out, and why nothing was. Every book keeps
+its history, as for `threads`.
+
+    plant_script trace < script.txt
+
+Exit status: 0 all well, 3 a plant at fault, 4 a line at fault or a step that is refused, 5 want of memory, 6 a read or
+a write that failed.";
+
 const HISTORY_INPUT: &str = "Standard input: a plant file, a line --- and a script.
 
     plant_script history A < script.txt
@@ -106,6 +116,12 @@ fn command_line<'a>(alloc: Global) -> Result<Command<'a>, AllocError>
             "serve",
             "Keep a plant running: answer each line of a script as it comes",
             SERVE_INPUT,
+        ))?
+        .subcommand(plain_command(
+            alloc,
+            "trace",
+            "Run a script over a plant, and tell in words what decided each step and what came of it",
+            TRACE_INPUT,
         ))?
         .subcommand(history_command(alloc)?)
 }

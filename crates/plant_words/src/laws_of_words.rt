@@ -1,6 +1,6 @@
 //! Laws of what words come to. They need no value, and run nothing.
 ghost use Rattle.std.specs.Prelude.{◌≡◌, ◌≢◌, ◌⊎◌, List, ℕ, [], ◌∷◌, codes};
-ghost use Rattle.plant_words.specs.Order.{Order, one, check, run, threads, capture, serve, history};
+ghost use Rattle.plant_words.specs.Order.{Order, one, check, run, threads, capture, serve, trace, history};
 ghost use Rattle.plant_words.specs.CommandLine.{AreWrong, AsksHelp, IsHelpWord, Names};
 
 /// All words are an order's, ask for help, begin with clap's own `help`, or are wrong; of these they are one alone, and
@@ -23,6 +23,7 @@ pub fn orders_are_named()
     ensures threads { Names (codes "threads" ∷ []) threads }
     ensures capture { Names (codes "capture" ∷ []) capture }
     ensures serve { Names (codes "serve" ∷ []) serve }
+    ensures trace { Names (codes "trace" ∷ []) trace }
     ensures history { Names (codes "history" ∷ codes "A" ∷ []) (history (codes "A")) }
     ensures operand { (name : List ℕ) → ((rest : List ℕ) → name ≢ 45 ∷ rest)
         → Names (codes "history" ∷ name ∷ []) (history name) }

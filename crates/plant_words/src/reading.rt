@@ -52,6 +52,7 @@ fn word_named<'a>(name: &str, inner: &ArgMatches<'a>) -> Option<Word<'a>>
         "threads" => Some(Word::Threads),
         "capture" => Some(Word::Capture),
         "serve" => Some(Word::Serve),
+        "trace" => Some(Word::Trace),
         "history" => {
             let operator = inner.get_str("operator")?;
             Some(Word::History { operator })

@@ -24,6 +24,7 @@ fn each_word_is_read(rt: HostRuntime) -> Result<(), Fail> {
     assert!(rt; read_words(alloc, &["threads"])? == Word::Threads);
     assert!(rt; read_words(alloc, &["capture"])? == Word::Capture);
     assert!(rt; read_words(alloc, &["serve"])? == Word::Serve);
+    assert!(rt; read_words(alloc, &["trace"])? == Word::Trace);
     assert!(rt; read_words(alloc, &["history", "A"])? == Word::History { operator: "A" });
     Ok(())
 }
@@ -60,6 +61,14 @@ fn help_is_shown(rt: HostRuntime) {
             "(cat plant.toml; echo ---; cat) | plant_script serve"
         )
     );
+    assert!(rt; shows(alloc, &["trace", "-h"], "Usage: plant_script trace"));
+    assert!(rt;
+        shows(
+            alloc,
+            &["trace", "--help"],
+            "plant_script trace < script.txt"
+        )
+    );
 }
 
 #[test]
@@ -73,6 +82,7 @@ fn other_words_are_wrong(rt: HostRuntime) {
     assert!(rt; is_wrong(alloc, &["threads", "2"]));
     assert!(rt; is_wrong(alloc, &["capture", "run.pcap"]));
     assert!(rt; is_wrong(alloc, &["serve", "4000"]));
+    assert!(rt; is_wrong(alloc, &["trace", "3"]));
     assert!(rt; is_wrong(alloc, &["--check"]));
     assert!(rt; is_wrong(alloc, &["history"]));
     assert!(rt; is_wrong(alloc, &["history", "A", "B"]));

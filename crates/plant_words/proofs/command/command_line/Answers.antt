@@ -12,6 +12,7 @@ returns c =
     let threads = added_subcommand _ _ c.in_ok-subcommand-4.field-0 _ _ run c.plain_command-4.ensures refl c.in_ok-subcommand-4.ensures in
     let capture = added_subcommand _ _ c.in_ok-subcommand-5.field-0 _ _ threads c.plain_command-5.ensures refl c.in_ok-subcommand-5.ensures in
     let serve = added_subcommand _ _ c.in_ok-subcommand-6.field-0 _ _ capture c.plain_command-6.ensures refl c.in_ok-subcommand-6.ensures in
-    IfOk-weaker c.subcommand-7.result _ _
-    (λ command added. added_subcommand _ _ command _ _ serve c.in_ok-history_command.ensures refl added)
-    c.subcommand-7.ensures
+    let trace = added_subcommand _ _ c.in_ok-subcommand-7.field-0 _ _ serve c.plain_command-7.ensures refl c.in_ok-subcommand-7.ensures in
+    IfOk-weaker c.subcommand-8.result _ _
+    (λ command added. added_subcommand _ _ command _ _ trace c.in_ok-history_command.ensures refl added)
+    c.subcommand-8.ensures
