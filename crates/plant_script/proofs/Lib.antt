@@ -4,4 +4,5 @@ pub mod Services
 pub mod StepRuns
 pub mod Tasks
 pub mod Telling
+pub mod TracedRuns
 pub mod Unreadable

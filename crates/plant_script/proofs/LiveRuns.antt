@@ -48,7 +48,7 @@ run_ends plant lines live end status w0 w1 w2 has is wrote = (
 )
 
 -- a run that ends has not status 5
-no_five : (core : CoreView) (next : Option LineStep) (status : ℕ) → IsEnd core next status → status ≢ 5
+pub no_five : (core : CoreView) (next : Option LineStep) (status : ℕ) → IsEnd core next status → status ≢ 5
 no_five core None status is = λ five. absurd (let wrong : ◌≡◌ {A = ℕ} 0 5 = sym is ∙ five in cc)
 no_five core (Some line) status is = λ five. absurd (let wrong : ◌≡◌ {A = ℕ} 4 5 = sym is.0 ∙ five in cc)
 

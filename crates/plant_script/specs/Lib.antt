@@ -8,5 +8,6 @@ pub mod Run
 pub mod RunSoFar
 pub mod Serving
 pub mod Task
+pub mod Traced
 pub mod View
 pub mod Words

@@ -8,14 +8,15 @@ use Rattle.plant_lines.specs.declared.script.LineStep.{LineStep}
 use Rattle.plant_lines.specs.Text.{outs_text, history_text}
 use Rattle.plant_script.specs.declared.answer.Answer.{Answer}
 use Rattle.plant_script.specs.declared.task.Told.{Told}
-use Rattle.plant_script.specs.declared.task.Told.TheVariants.{Outs, History, Threads, Capture}
+use Rattle.plant_script.specs.declared.task.Told.TheVariants.{Outs, History, Threads, Capture, Trace}
 use Rattle.plant_script.specs.declared.task.Wanted.{Wanted}
 use Rattle.plant_script.specs.declared.task.Wanted.TheVariants as wanted
 use Rattle.plant_script.specs.declared.task.Served.{Served}
 use Rattle.plant_script.specs.declared.task.Served.TheVariants as served
 use Rattle.plant_script.specs.Run.{memory_line, IsRunOf, IsCapturedRunOf}
 use Rattle.plant_script.specs.OnThreads.{IsThreadedRunOf}
-use Rattle.plant_script.specs.Words.{AnswersRun, AnswersThreads, AnswersCapture, AnswersHistory}
+use Rattle.plant_script.specs.Traced.{IsTracedRunOf}
+use Rattle.plant_script.specs.Words.{AnswersRun, AnswersThreads, AnswersCapture, AnswersTrace, AnswersHistory}
 
 -- nothing of an operator that the plant does not have
 abbrev pub history_at : Option RowFields → ℕ → List Step → List ℕ
@@ -29,6 +30,7 @@ RunsTo plant (History op) lines status text =
     IsRunOf plant lines (λ done told. history_at (slice_get plant.rows op) op done) status text
 RunsTo plant Threads lines status text = IsThreadedRunOf plant lines status text
 RunsTo plant Capture lines status text = IsCapturedRunOf plant lines status text
+RunsTo plant Trace lines status text = IsTracedRunOf plant lines status text
 
 -- what the run comes to is written; or memory was wanting, and its line is written alone, or behind what the run had put out until then
 abbrev pub IsTold : PlantFields → Told → List LineStep → ℕ → (List ℕ → Type 0) → Type 0
@@ -42,6 +44,7 @@ abbrev pub asked : Wanted → PlantFields → List ℕ → ℕ → List ℕ → 
 asked wanted.Run = AnswersRun
 asked wanted.Threads = AnswersThreads
 asked wanted.Capture = AnswersCapture
+asked wanted.Trace = AnswersTrace
 asked (wanted.History name) = AnswersHistory name.now
 
 -- what is served is such an answer: at once, or whatever the run of the task comes to

@@ -10,7 +10,7 @@ use Rattle.slice_table.specs.ReadPlant.{text_plant}
 use Rattle.plant_lines.specs.declared.script.LineStep.{LineStep}
 use Rattle.plant_words.specs.declared.asked.WordsFault.{WordsFault}
 use Rattle.plant_words.specs.declared.asked.WordsFault.TheVariants as faults
-use Rattle.plant_words.specs.Order.{Order, one, check, run, threads, capture, serve, history}
+use Rattle.plant_words.specs.Order.{Order, one, check, run, threads, capture, serve, trace, history}
 use Rattle.plant_words.specs.CommandLine.{Names}
 use Rattle.plant_lines.specs.Input.{plant_text, script_text}
 use Rattle.plant_lines.specs.Script.{is_named, steps_of}
@@ -19,6 +19,7 @@ use Rattle.plant_script.specs.One.{Answer, is_readable, answer_of}
 use Rattle.plant_script.specs.Check.{answer_to_steps, answer_to_plant, check_of}
 use Rattle.plant_script.specs.Run.{memory_line, IsRunOf, IsCapturedRunOf}
 use Rattle.plant_script.specs.OnThreads.{IsThreadedRunOf}
+use Rattle.plant_script.specs.Traced.{IsTracedRunOf}
 use Rattle.plant_script.specs.Serving.{IsServed}
 
 -- ---- no answer
@@ -54,6 +55,10 @@ AnswersThreads plant script status text = AnswersSteps (IsThreadedRunOf plant) (
 -- the capture of the run
 abbrev pub AnswersCapture : PlantFields → List ℕ → ℕ → List ℕ → Type 0
 AnswersCapture plant script status text = AnswersSteps (IsCapturedRunOf plant) (steps_of plant script) status text
+
+-- what decided each step of the run, and what came of it
+abbrev pub AnswersTrace : PlantFields → List ℕ → ℕ → List ℕ → Type 0
+AnswersTrace plant script status text = AnswersSteps (IsTracedRunOf plant) (steps_of plant script) status text
 
 -- an operator that the plant does not have is told alone, before the script is judged; else its own of the run's steps
 abbrev pub AnswersOperator : PlantFields → List ℕ → Option ℕ → ℕ → List ℕ → Type 0
@@ -97,6 +102,7 @@ Answers run input status text = AnswersInput AnswersRun input status text
 Answers threads input status text = AnswersInput AnswersThreads input status text
 Answers capture input status text = AnswersInput AnswersCapture input status text
 Answers serve input status text = AnswersServe input status text
+Answers trace input status text = AnswersInput AnswersTrace input status text
 Answers (history operator) input status text = AnswersInput (AnswersHistory operator) input status text
 
 -- ---- want of memory

@@ -19,7 +19,7 @@ use crate::running::{Ending, write_task};
 use crate::serving::serve_words;
 use crate::task::{Served, Wanted, task_of};
 use grant_policy::{RankInput, Ranking, rank_by};
-use plant_lines::{LineFault, messages_of, parts_of};
+use plant_lines::{LineFault, before_bar, messages_of, parts_of, script_text};
 use plant_reasons::{Trouble, reason_of, reason_of_trouble, reason_of_words};
 use plant_words::{Word, WordsFault, read_words};
 use std::alloc::{AllocError, Global};
@@ -153,6 +153,7 @@ fn serve_input(alloc: Global, word: Word<'_>, input: &[u8]) -> Result<Served, St
         Word::Threads => task_of(alloc, Wanted::Threads, input),
         Word::Capture => task_of(alloc, Wanted::Capture, input),
         Word::Serve => unreachable!(),
+        Word::Trace => task_of(alloc, Wanted::Trace, input),
         Word::History { operator } => task_of(alloc, Wanted::History(operator), input),
     }
 }
@@ -175,6 +176,14 @@ fn serve<R: Read>(
     let served = serve_input(alloc, word, input.as_slice());
     seen.input = Some(input);
     served
+}
+
+/// The script of the input that was noted.
+fn script_of<'s>(seen: &'s Seen<'_>) -> &'s [u8] {
+    match &seen.input {
+        Some(input) => script_text(input.as_slice(), before_bar(input.as_slice())),
+        None => b"",
+    }
 }
 
 /// Writes why there is no answer.
@@ -227,7 +236,7 @@ fn answer_of_words<'a, H: Threads + Wait + Sync, R: Read, W: Write>(
     // Nothing is read for words that are wrong or ask for help.
     ensures unread_if_wrong { AreWrong (texts words.entry.now) → reader.new ≡ reader.old }
     ensures unread_for_help { AsksHelp (texts words.entry.now) → reader.new ≡ reader.old }
-    // Want of memory is told as such, and nothing else is; what `run` had written until then stands before it.
+    // Want of memory is told as such, and nothing else is; what `run` or `trace` had written until then stands before it.
     ensures memory { result ≡ 5 → TellsMemory (texts words.entry.now) (R.remaining reader.old)
         (λ text. Appends (W.contents writer.old) (W.contents writer.new) text) }
 {
@@ -266,7 +275,7 @@ fn answer_of_words<'a, H: Threads + Wait + Sync, R: Read, W: Write>(
             return stopped(writer, Stop::Memory);
         }
     }
-    write_task(rt, alloc, task, rankings, ending, writer)
+    write_task(rt, alloc, task, script_of(seen), rankings, ending, writer)
 }
 
 /// Runs the program: the words after its name, its input and its output. Answers the exit status:
@@ -280,7 +289,7 @@ fn answer_of_words<'a, H: Threads + Wait + Sync, R: Read, W: Write>(
 /// Under the word `threads` it may wait, and nothing is said of its returning; under all others it waits for nobody.
 ///
 /// Under the word `run` what the steps put out is written as it is made, and no history is kept: where memory is wanting for a later
-/// step, the lines of those before it stand before the last line, `fault: memory`.
+/// step, the lines of those before it stand before the last line, `fault: memory`. Under `trace` what decided each step is written so.
 ///
 /// Statuses 5 and 6 may come at any time, since no clause says what memory or a writer does; where 6 comes, what stands
 /// before the last line is not fixed. Of help's text no clause says anything.
@@ -304,7 +313,7 @@ pub fn run_program<'a, H: Threads + Wait + Sync, R: Read, W: Write>(
     // Nothing is read for words that are wrong or ask for help.
     ensures unread_if_wrong { AreWrong (texts words.entry.now) → reader.new ≡ reader.old }
     ensures unread_for_help { AsksHelp (texts words.entry.now) → reader.new ≡ reader.old }
-    // Want of memory is told as such, and nothing else is; what `run` had written until then stands before it.
+    // Want of memory is told as such, and nothing else is; what `run` or `trace` had written until then stands before it.
     ensures memory { result ≡ 5 → TellsMemory (texts words.entry.now) (R.remaining reader.old)
         (λ text. Appends (W.contents writer.old) (W.contents writer.new) text) }
 {
@@ -339,7 +348,7 @@ pub fn run_program_with_reasons<'a, H: Threads + Wait + Sync, R: Read, W: Write,
     // Nothing is read for words that are wrong or ask for help.
     ensures unread_if_wrong { AreWrong (texts words.entry.now) → reader.new ≡ reader.old }
     ensures unread_for_help { AsksHelp (texts words.entry.now) → reader.new ≡ reader.old }
-    // Want of memory is told as such, and nothing else is; what `run` had written until then stands before it.
+    // Want of memory is told as such, and nothing else is; what `run` or `trace` had written until then stands before it.
     ensures memory { result ≡ 5 → TellsMemory (texts words.entry.now) (R.remaining reader.old)
         (λ text. Appends (W.contents writer.old) (W.contents writer.new) text) }
 {

@@ -21,6 +21,7 @@ use crate::input::Stop;
 use crate::on_threads::answer_of_threads;
 use crate::program::{finish, stopped};
 use crate::task::{Task, Told};
+use crate::tracing::write_traced_run;
 use grant_policy::Ranking;
 use live_core::LiveCore;
 use plant_core::{CoreFault, CoreOpenFault, PlantCore};
@@ -106,7 +107,11 @@ fn answer_of_history(
 }
 
 /// A core of the plant, as it is opened. The rankings stand in the plant's order of operators.
-fn core_of(alloc: Global, plant: Plant, rankings: Vec<Ranking>) -> Result<PlantCore, AllocError>
+pub(crate) fn core_of(
+    alloc: Global,
+    plant: Plant,
+    rankings: Vec<Ranking>,
+) -> Result<PlantCore, AllocError>
     requires { map (λ ranking. ranking.policy) rankings.items ≡ map (λ row. row.policy) plant.rows }
     ensures { IfOk result (λ core. Reached plant [] [] (core_view core)) }
 {
@@ -127,7 +132,7 @@ pub enum Ending {
 }
 
 /// Takes a core apart, or leaves it to the end of the process.
-fn put_away<C: Drop>(core: C, ending: Ending) {
+pub(crate) fn put_away<C: Drop>(core: C, ending: Ending) {
     match ending {
         Ending::GoesOn => drop(core),
         Ending::Ends => forget(core),
@@ -144,7 +149,8 @@ fn answer_of_task<R: Threads + Wait + Sync>(
     ending: Ending,
 ) -> Result<Answer, AllocError>
     requires policies { map (λ ranking. ranking.policy) rankings.items ≡ map (λ row. row.policy) task.plant.rows }
-    requires whole { task.told ≢ tellings.Outs }
+    requires no_outs { task.told ≢ tellings.Outs }
+    requires no_trace { task.told ≢ tellings.Trace }
     ensures { IfOk result (λ answer. RunsTo task.plant task.told task.lines.items answer.status answer.text.items) }
 {
     let Task { plant, lines, told } = task;
@@ -163,11 +169,12 @@ fn answer_of_task<R: Threads + Wait + Sync>(
             Ok(answer)
         }
         Told::Threads => answer_of_threads(rt, alloc, plant, lines, rankings),
+        Told::Trace => unreachable!(),
     }
 }
 
 /// Writes the last line of a run whose steps ended so, if it has one. Answers the status.
-fn write_end<W: Write>(writer: &mut W, end: StepsEnd) -> io::Result<u8>
+pub(crate) fn write_end<W: Write>(writer: &mut W, end: StepsEnd) -> io::Result<u8>
     ensures status { IfOk result (λ status. status ≡ status_of end) }
     ensures written { OnOk result (Appends (W.contents writer.old) (W.contents writer.new) (line_of end)) }
 {
@@ -234,12 +241,13 @@ fn write_outs_run<W: Write>(
     }
 }
 
-/// Runs a task, and writes what that comes to. The rankings stand in the plant's order of operators. Only a run on threads may wait.
-/// Answers the exit status.
+/// Runs a task, and writes what that comes to. The rankings stand in the plant's order of operators; of the script, whose steps the task
+/// has, `trace` shows the lines. Only a run on threads may wait. Answers the exit status.
 pub fn write_task<R: Threads + Wait + Sync, W: Write>(
     rt: &R,
     alloc: Global,
     task: Task,
+    script: &[u8],
     rankings: Vec<Ranking>,
     ending: Ending,
     writer: &mut W,
@@ -250,6 +258,9 @@ pub fn write_task<R: Threads + Wait + Sync, W: Write>(
 {
     if let Told::Outs = task.told {
         return write_outs_run(alloc, task, rankings, ending, writer);
+    }
+    if let Told::Trace = task.told {
+        return write_traced_run(alloc, task, script, rankings, ending, writer);
     }
     match answer_of_task(rt, alloc, task, rankings, ending) {
         Ok(answer) => finish(writer, answer.status, answer.text.as_slice()),

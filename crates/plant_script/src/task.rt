@@ -28,6 +28,8 @@ pub enum Told {
     Threads,
     /// A capture file, with what the modems send, the replies and the MAPs.
     Capture,
+    /// What decided each step, and what came of it, in words.
+    Trace,
 }
 
 /// What is wanted of a plant and a script.
@@ -39,6 +41,8 @@ pub enum Wanted<'a> {
     Threads,
     /// The capture of their run.
     Capture,
+    /// What decided each step of their run.
+    Trace,
     /// What the operator of this name did in their run.
     History(&'a str),
 }
@@ -106,6 +110,7 @@ fn task_of_plant(
         Wanted::Run => task_of_script(alloc, plant, Told::Outs, script),
         Wanted::Threads => task_of_script(alloc, plant, Told::Threads, script),
         Wanted::Capture => task_of_script(alloc, plant, Told::Capture, script),
+        Wanted::Trace => task_of_script(alloc, plant, Told::Trace, script),
         Wanted::History(name) => task_of_operator(alloc, plant, name, script),
     }
 }

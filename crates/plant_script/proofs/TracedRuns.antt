@@ -1,0 +1,67 @@
+-- A run that is told in words as its steps are done.
+use Rattle.std.proofs.Common.{◌≡◌, inl, inr, ℕ, List, ◌++◌, Option, Some, None, refl, sym, ap, subst, ◌∙◌}
+use Rattle.std.specs.Prelude.{slice_get}
+use Rattle.std.specs.Io.KnownBytes.{Appends}
+use Rattle.std.proofs.KnownBytes.{Appends-trans}
+use Rattle.slice_table.specs.declared.plant.PlantFields.{PlantFields}
+use Rattle.plant_runs.specs.Reached.{CoreView}
+use Rattle.plant_lines.specs.declared.script.LineStep.{LineStep}
+use Rattle.plant_service.specs.declared.steps_end.StepsEnd.{StepsEnd}
+use Rattle.plant_service.specs.declared.steps_end.StepsEnd.TheVariants as ends
+use Rattle.plant_service.specs.Steps.{IsStepsEndAt}
+use Rattle.plant_trace.specs.Trace.{HasTraced}
+use Rattle.plant_script.specs.declared.task.Told.TheVariants.{Trace}
+use Rattle.plant_script.specs.Run.{memory_line, EndsBy}
+use Rattle.plant_script.specs.Ends.{status_of, line_of}
+use Rattle.plant_script.specs.Traced.{IsTracedRunOf, EndsTraced}
+use Rattle.plant_script.specs.Task.{IsTold}
+use Rattle.plant_script.proofs.LiveRuns.{no_five}
+
+-- the run ends where its steps do
+ends_by : (core : CoreView) (next : Option LineStep) (end : StepsEnd) → IsStepsEndAt core next end → EndsBy core next (status_of end) (line_of end)
+ends_by core None ends.Done at = inl (refl, refl)
+ends_by core (Some line) ends.Done at = absurd at
+ends_by core None (ends.Refused number) at = absurd at
+ends_by core (Some line) (ends.Refused number) at = inl ((refl, at.1), ap (λ (n : ℕ). line_of (ends.Refused n)) at.0)
+ends_by core None ends.NoMemory at = inr (refl, refl)
+ends_by core (Some line) ends.NoMemory at = inr (refl, refl)
+
+-- what was told of the steps, and the last line behind it
+pub trace_ends : (plant : PlantFields) (lines : List LineStep) (core : CoreView) (end : StepsEnd) (status : ℕ) (w0 w1 w2 : Option (List ℕ)) → HasTraced plant lines core end w0 w1
+    → status ≡ status_of end → Appends w1 w2 (line_of end) → EndsTraced plant lines status (λ text. Appends w0 w2 text)
+trace_ends plant lines core end status w0 w1 w2 has is wrote = (
+  has.text ++ line_of end,
+  record {
+    at = has.at;
+    outs = has.told;
+    core = core;
+    reached = has.reached;
+    decisions = has.decisions;
+    decided = has.decided;
+    told = has.text;
+    is_text = has.is_text;
+    last = line_of end;
+    ends = subst (λ (n : ℕ). EndsBy core (slice_get lines has.at) n (line_of end)) (sym is) (ends_by core (slice_get lines has.at) end has.ends);
+    text_is = refl;
+  },
+  Appends-trans w0 w1 w2 has.text (line_of end) has.written wrote,
+)
+
+-- what a trace came to is told
+pub trace_told : (plant : PlantFields) (lines : List LineStep) (status : ℕ) (w0 w1 : Option (List ℕ)) → EndsTraced plant lines status (λ text. Appends w0 w1 text)
+    → IsTold plant Trace lines status (λ text. Appends w0 w1 text)
+trace_told plant lines status w0 w1 ran = by ran.1.ends
+  where
+    run : IsTracedRunOf plant lines status ran.0
+    run = ran.1
+
+    by : (ends : EndsBy run.core (slice_get lines run.at) status run.last) → IsTold plant Trace lines status (λ text. Appends w0 w1 text)
+    by (inl well) = inl (ran.0, no_five run.core (slice_get lines run.at) status well.0, run, ran.2)
+    by (inr want) =
+        let text_is : ran.0 ≡ run.told ++ memory_line = run.text_is ∙ ap (λ (l : List ℕ). run.told ++ l) want.1 in
+        inr (
+          run.told,
+          want.0,
+          subst (λ (t : List ℕ). Appends w0 w1 t) text_is ran.2,
+          inr (subst (λ (t : List ℕ). IsTracedRunOf plant lines 5 t) text_is (subst (λ (n : ℕ). IsTracedRunOf plant lines n ran.0) want.0 run)),
+        )

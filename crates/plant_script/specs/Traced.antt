@@ -1,0 +1,29 @@
+-- A run that is told in words, and what `trace` writes of it (own).
+use Rattle.std.specs.Prelude.{◌≡◌, ℕ, List, [], ◌++◌, take, slice_get, Option}
+use Rattle.slice_table.specs.declared.plant.PlantFields.{PlantFields}
+use Rattle.plant_runs.specs.declared.step.Out.{Out}
+use Rattle.plant_runs.specs.Reached.{CoreView, Reached}
+use Rattle.plant_lines.specs.declared.script.LineStep.{LineStep}
+use Rattle.plant_lines.specs.Script.{unnumbered}
+use Rattle.plant_trace.specs.declared.decision.Decision.{Decision}
+use Rattle.plant_trace.specs.Trace.{AreDecided, IsTraceText}
+use Rattle.plant_script.specs.Run.{EndsBy}
+
+-- So many steps are done, as in `IsRunOf`. For each there is what decided it, by the definitions of the checks and by the core as it stood
+-- before the step, and a line for it is written, one after the other, among words of which nothing is said. Behind them stands the last line.
+pub record IsTracedRunOf (plant : PlantFields) (lines : List LineStep) (status : ℕ) (text : List ℕ) : Type 0 where
+  pub at : ℕ
+  pub outs : List Out
+  pub core : CoreView
+  pub reached : Reached plant (unnumbered (take at lines)) outs core
+  pub decisions : List (Option Decision)
+  pub decided : AreDecided plant [] (unnumbered (take at lines)) decisions
+  pub told : List ℕ
+  pub is_text : IsTraceText decisions told
+  pub last : List ℕ
+  pub ends : EndsBy core (slice_get lines at) status last
+  pub text_is : text ≡ told ++ last
+
+-- what `trace` comes to is written
+abbrev pub EndsTraced : PlantFields → List LineStep → ℕ → (List ℕ → Type 0) → Type 0
+EndsTraced plant lines status wrote = (text : List ℕ) × IsTracedRunOf plant lines status text × wrote text
