@@ -48,12 +48,38 @@ F B 0 513/5/40/3 0/6/43/29
 MAP 0 01010600000000000000000000000000FFFC4000040580080001800D080540280001802B0001C048
 ";
 
+/// What `trace` writes of it.
+const TRACE: &str = "line 1: M 020000000001 0F0001180A010200010601060F0102
+  check 22, accepted
+    DSA-RSP to 020000000001, transaction 1: okay, reference 1, SFID 257, SID 257
+    SFID 257: no set; waiting: admitted 0 minislots, active 0 minislots
+    the budget of 32 minislots holds 0
+line 2: M 020000000001 11000100
+line 3: Q 020000000001 257 5
+line 4: M 020000000003 0F0001180A010200010601060F0102
+  check 22, accepted
+    DSA-RSP to 020000000003, transaction 1: okay, reference 1, SFID 513, SID 513
+    SFID 513: no set; waiting: admitted 0 minislots, active 0 minislots
+    the budget of 32 minislots holds 0
+line 5: M 020000000003 11000100
+line 6: Q 020000000003 513 3
+line 7: T
+    frame 0 of A
+    SID 257: long grant of 5 minislots from 8
+    idle: 27 minislots from 13
+    frame 0 of B
+    SID 513: short grant of 3 minislots from 40
+    idle: 29 minislots from 43
+    MAP of frame 0 made
+";
+
 /// Words, and the status and the text that they get where nothing fails: no line of a plant is a message of `one`.
-const CASES: [(&[&str], u8, &str); 5] = [
+const CASES: [(&[&str], u8, &str); 6] = [
     (&["one"], 4, "fault: line 1\n"),
     (&["check"], 0, "ok\n"),
     (&["run"], 0, RUN),
     (&["threads"], 0, THREADS),
+    (&["trace"], 0, TRACE),
     (&["history", "A"], 0, HISTORY),
 ];
 
