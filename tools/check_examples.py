@@ -6,8 +6,8 @@ shows is so. tools/examples.sh calls it.
 
 An input is `WORD.txt` or `WORD_more.txt`, its output has the same name with `.out`; the first examples have names of their own. A block
 of a README that begins with ``` and the name of an input shows the script of this input, below each line what it prints, and indented
-below a message its words (tools/dsx). All such blocks together are the whole of the script, in order. A block of `toml` stands in one of
-the plant files word by word. Together the examples meet each check of the table in docs/PROFILE.md, each confirmation code and each cause
+below a message its words (tools/dsx); of `trace`, whose output has the script's lines, it shows the output. All such blocks together are
+the whole of it, in order. A block of `toml` stands in one of the plant files word by word. Together the examples meet each check of the table in docs/PROFILE.md, each confirmation code and each cause
 that a script can meet, and the plant file of examples/every_key has each key.
 """
 
@@ -17,7 +17,7 @@ import sys
 
 sys.path.insert(0, str(pathlib.Path(__file__).resolve().parent))
 
-from compare_program import PROGRAM, program_answer, reference_answer  # noqa: E402
+from compare_program import PROGRAM, fixed_answer, program_answer, reference_answer  # noqa: E402
 from message_words import CODES, WordsFault, octets, parts_of_message, words_of  # noqa: E402
 from reference import coverage  # noqa: E402
 from reference.book import StepRefused, arrive, open_book, work  # noqa: E402
@@ -25,7 +25,7 @@ from reference.program import MODEM_OF_ONE, Core, answer_line, judged_plant, lin
 
 EXAMPLES = pathlib.Path(__file__).resolve().parent.parent / "examples"
 OF_ONE = ("first_flow", "several_messages")
-WORDS = ("one", "check", "run")
+WORDS = ("one", "check", "run", "trace")
 
 
 # Outputs
@@ -45,7 +45,7 @@ def wrong_answers(program, path):
     """Who answers an input otherwise than what stands beside it."""
     data, output = path.read_bytes(), path.with_suffix(".out").read_bytes()
     right, word = (status_of(output), output), word_of(path)
-    if reference_answer([word], data) != right:
+    if reference_answer([word], data) != fixed_answer([word], right):
         yield f"{path}: the reference answers otherwise"
     if pathlib.Path(program).exists() and program_answer(program, [word], data) != right:
         yield f"{path}: the program answers otherwise"
@@ -111,7 +111,8 @@ def differences(folder):
     shown = blocks((folder / "README.md").read_text())
     inputs = {path.stem: path.read_text() for path in sorted(folder.glob("*.txt"))}
     for name, text in inputs.items():
-        right = list(with_words(transcript(word_of(folder / f"{name}.txt"), text)))
+        word = word_of(folder / f"{name}.txt")
+        right = (folder / f"{name}.out").read_text().splitlines() if word == "trace" else list(with_words(transcript(word, text)))
         said = [line for block, lines in shown if block == name for line in lines]
         for place in range(max(len(right), len(said))):
             pair = [lines[place] if place < len(lines) else "(nothing)" for lines in (said, right)]

@@ -5,6 +5,7 @@ import subprocess
 
 from reference.captures import captured
 from reference.program import answer
+from reference.traces import fixed, traced
 
 PROGRAM = str(pathlib.Path(__file__).resolve().parent.parent / "crates/plant_program/out/plant_program")
 
@@ -17,5 +18,10 @@ def program_answer(program, words, data):
 def reference_answer(words, data):
     if words == ["capture"]:
         return captured(data)
-    status, text = answer(words, data)
+    status, text = traced(data) if words == ["trace"] else answer(words, data)
     return status, text.encode()
+
+
+def fixed_answer(words, answer):
+    """An answer of the program without what is not fixed: of `trace` the reference knows the lines of checks and faults alone."""
+    return (answer[0], fixed(answer[1])) if words == ["trace"] else answer

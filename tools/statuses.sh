@@ -35,6 +35,7 @@ script
 expect 0 'ok' check
 expect 0 '' run
 expect 0 '' threads
+expect 0 '' trace
 expect 0 '' history A
 script 'M 020000000001 -'
 expect 0 'S 020000000001 Empty' run
@@ -45,17 +46,20 @@ expect 2 'fault: words' walk
 expect 2 'fault: words' run run
 expect 2 'fault: words' threads 2
 expect 2 'fault: words' capture run.pcap
+expect 2 'fault: words' trace 3
 expect 2 'fault: words' history
 expect 2 'fault: words' history C
 script 'T' 'T C'
 expect 4 'fault: line 2' run
 expect 4 'fault: line 2' threads
 expect 4 'fault: line 2' capture
+expect 4 'fault: line 2' trace
 expect 4 'fault: line 2' check
 expect 4 'fault: line 2' history B
 script 'T' 'Z 1 8/16/16 24/48/32'
 expect 4 'fault: line 2' run
 expect 4 'fault: line 2' threads
+expect 4 'fault: line 2' trace
 expect 0 'ok' check
 printf '0F0001\n\n0F0\n' >"$work/input"
 expect 4 'fault: line 3' one

@@ -8,6 +8,7 @@ import unittest
 sys.path.insert(0, str(pathlib.Path(__file__).resolve().parent))
 
 from reference.captures import captured, header_sum  # noqa: E402
+from reference.traces import fixed, traced  # noqa: E402
 from reference.encodings import FlowFault, read_flow  # noqa: E402
 from reference.plant import PlantFault, read_plant  # noqa: E402
 from reference.program import answer  # noqa: E402
@@ -220,6 +221,18 @@ class Scripts(unittest.TestCase):
         self.assertEqual(file("T", "Z 1 8/32/32 40/32/32"), (4, of_a_frame))
         self.assertEqual(file("T", "T C"), (4, b"fault: line 2\n".hex().upper()))
         self.assertEqual(header_sum(b"123456789"), 0x906E)
+
+    def test_traces(self):
+        def checks(*script):
+            status, text = traced((P2 + "---\n" + "".join(f"{line}\n" for line in script)).encode())
+            return status, [line.split(",")[0].removeprefix("  check ") for line in text.splitlines()]
+
+        self.assertEqual(checks(f"M {A1} -", f"M {A1} 0F8000", f"M {A1} 0F00011805"), (0, ["0", "1", "4"]))
+        addition = f"M {A1} 0F0001180A010200010601060F0102"
+        self.assertEqual(checks(addition, addition, f"M {A1} 11000100", "T", f"Q {A1} 257 5"), (0, ["22", "2"]))
+        self.assertEqual(checks(f"M {A1} 0F0001", "T", "Z 1 8/32/32 40/32/32"), (4, ["6", "fault: line 3"]))
+        self.assertEqual(checks(f"M {A1} 0F0001", "T C"), (4, ["fault: line 2"]))
+        self.assertEqual(fixed(b"x\n  check 6, no encoding\n y\nfault: line 3\n"), b"  check 6, no encoding\nfault: line 3\n")
 
     def test_words(self):
         for words in ([], ["walk"], ["run", "run"], ["history"], ["history", "A", "B"]):

@@ -1,7 +1,7 @@
 #!/bin/bash
 # Tests of the tools: the reference on the examples and on values typed from docs/PROFILE.md; the generator writes the same twice,
 # and tools/hostile.py meets each check of the table. Where the program is built, it is compared with the reference on 50 generated
-# cases, by `run`, by `threads` and by `capture`, and `threads` and `serve` with `run` on the examples; then on the inputs of tools/hostile.py and of
+# cases, by `run`, by `threads`, by `capture` and by `trace`, and `threads` and `serve` with `run` on the examples; then on the inputs of tools/hostile.py and of
 # tools/corners.py, and tools/statuses.sh and tools/reasons.py are run. Where socat is installed plants are served behind a socket, and where
 # tshark is installed it reads what is captured of the examples.
 # Usage: tools/test_tools.sh     Needs bash and python3; takes less than 10 seconds, with socat 20 seconds, with tshark half a minute.
@@ -33,6 +33,7 @@ if [ -x "$program" ]; then
     "$here/compare" 0 50
     "$here/compare" --threads 0 50
     "$here/compare" --capture 0 50
+    "$here/compare" --trace 0 50
     "$here/threads_as_run.py" >"$work/told" || { cat "$work/told" >&2; exit 1; }
     "$here/hostile.py" --compare >"$work/told" || { cat "$work/told" >&2; exit 1; }
     "$here/corners.py" >"$work/told" || { cat "$work/told" >&2; exit 1; }

@@ -9,7 +9,7 @@ from .plant import PlantFault, is_address, read_plant
 
 MOST_INPUT = 1_048_576
 WORDS, PLANT, LINE, IO = 2, 3, 4, 6
-HELP = "The words are: one, check, run, threads, capture, history OP\n"
+HELP = "The words are: one, check, run, threads, capture, trace, history OP\n"
 
 PLANT_OF_ONE = """
 [plant]
