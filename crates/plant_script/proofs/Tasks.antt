@@ -1,5 +1,5 @@
 -- What a task's run answers.
-use Rattle.std.proofs.Common.{◌≡◌, ◌≢◌, ℕ, suc, ◌+◌, inl, inr, Bool, List, [], ◌∷◌, ◌++◌, Option, Some, None, Result, Ok, IfSome, subst, arith, refl}
+use Rattle.std.proofs.Common.{◌≡◌, ◌≢◌, ℕ, suc, ◌+◌, inl, inr, Bool, List, [], ◌∷◌, ◌++◌, Option, Some, None, Result, Ok, IfSome, sym, subst, arith, refl, ◌∙◌}
 use Rattle.std.specs.Prelude.{slice_get}
 use Rattle.std.specs.Io.KnownBytes.{Appends}
 use Rattle.std.specs.List.{position_from}
@@ -12,6 +12,8 @@ use Rattle.plant_script.specs.declared.task.Told.TheVariants.{History}
 use Rattle.plant_script.specs.declared.task.Task.{Task}
 use Rattle.plant_script.specs.declared.task.Served.{Served}
 use Rattle.plant_script.specs.declared.task.Served.TheVariants as served
+use Rattle.plant_script.specs.declared.input.Stop.{Stop}
+use Rattle.plant_script.specs.declared.input.Stop.TheVariants as stops
 use Rattle.plant_script.specs.Run.{memory_line, IsRunOf}
 use Rattle.plant_script.specs.Task.{history_at, RunsTo, IsTold, Comes}
 use Rattle.plant_words.specs.Order.{Order, order_of}
@@ -69,6 +71,18 @@ task_served (Some input) order asked task status before after serves same (inr (
 -- the line of want of memory stands alone
 pub told_alone : (words : List (List ℕ)) (left : Option (List ℕ)) (before after : Option (List ℕ)) → Appends before after memory_line → TellsMemory words left (λ text. Appends before after text)
 told_alone words left before after wrote = ([], wrote, inl refl)
+
+-- what is told of a stop has status 5 or 6
+pub stop_has_status : {P : Type 0} (stop : Stop) (status : ℕ) (wrote : Type 0) → (stop ≡ stops.Memory → status ≢ 6 → (status ≡ 5) × wrote) → (stop ≡ stops.Io → status ≡ 6)
+    → status ≢ 5 → status ≢ 6 → P
+stop_has_status stops.Memory status wrote memory io not_5 not_6 = absurd (not_5 (memory refl not_6).0)
+stop_has_status stops.Io status wrote memory io not_5 not_6 = absurd (not_6 (io refl))
+
+-- and with 5 the line of want of memory is written
+pub stop_wants : (stop : Stop) (status : ℕ) (wrote : Type 0) → (stop ≡ stops.Memory → status ≢ 6 → (status ≡ 5) × wrote) → (stop ≡ stops.Io → status ≡ 6)
+    → status ≡ 5 → wrote
+stop_wants stops.Memory status wrote memory io five = (memory refl (λ six. absurd (let wrong : ◌≡◌ {A = ℕ} 5 6 = sym five ∙ six in cc))).1
+stop_wants stops.Io status wrote memory io five = absurd (let wrong : ◌≡◌ {A = ℕ} 5 6 = sym five ∙ io refl in cc)
 
 -- or behind what a run had put out
 pub task_wants : (words : List (List ℕ)) (left : Option (List ℕ)) (order : Order) (task : Task) (status : ℕ) (before after : Option (List ℕ)) → IfSome left (λ input. Comes (served.Task task) (Answers order input))

@@ -1,8 +1,10 @@
 use Rattle.std.proofs.Common.{◌≡◌, ℕ, Ok, subst}
 use Rattle.clap.specs.Walk.{texts}
 use Rattle.plant_words.specs.Order.{order_of}
-use Rattle.plant_words.specs.CommandLine.{GivesHelp}
-use Rattle.plant_script.proofs.Tasks.{same_order, task_served, task_wants}
+use Rattle.plant_words.specs.CommandLine.{GivesHelp, GivesWrong}
+use Rattle.std.specs.Io.KnownBytes.{Appends}
+use Rattle.plant_script.specs.Run.{memory_line}
+use Rattle.plant_script.proofs.Tasks.{same_order, stop_has_status, stop_wants, task_served, task_wants, told_alone}
 use Rattle.plant_script.proofs.program.answer_of_words.Goals as goal
 
 pub returns-clause-served : goal.returns-clause-served
@@ -38,3 +40,19 @@ returns-clause-unread_for_help g c = λ asks.
 pub returns-in-Ok-Answer-clause-unread_for_help : goal.returns-in-Ok-Answer-clause-unread_for_help
 returns-in-Ok-Answer-clause-unread_for_help g c = λ asks.
     let given : GivesHelp (Ok c.in-Ok.word) = subst GivesHelp c.in-Ok.is (c.read_words.ensures.help asks) in absurd given
+
+pub returns-in-Err-serve : goal.returns-in-Err-serve
+returns-in-Err-serve g c =
+    let stop = c.in-Err-serve.stop in
+    let old = g.W.Write.contents c.args.writer.now in
+    let new = g.W.Write.contents c.stopped.new.writer in
+    let wrote = Appends old new memory_line in
+    record {
+      served = λ order named. stop_has_status stop c.stopped.result wrote c.stopped.ensures.memory c.stopped.ensures.io;
+      refused = λ wrong. stop_has_status stop c.stopped.result wrote c.stopped.ensures.memory c.stopped.ensures.io;
+      helped = λ asks. stop_has_status stop c.stopped.result wrote c.stopped.ensures.memory c.stopped.ensures.io;
+      unread_if_wrong = λ wrong. let given : GivesWrong (Ok c.in-Ok.word) = subst GivesWrong c.in-Ok.is (c.read_words.ensures.wrong wrong) in absurd given;
+      unread_for_help = λ asks. let given : GivesHelp (Ok c.in-Ok.word) = subst GivesHelp c.in-Ok.is (c.read_words.ensures.help asks) in absurd given;
+      memory = λ five. told_alone (texts c.args.words.now) (g.R.Read.remaining c.args.reader.now) old new
+          (stop_wants stop c.stopped.result wrote c.stopped.ensures.memory c.stopped.ensures.io five);
+    }

@@ -1,4 +1,4 @@
-use Rattle.std.proofs.Common.{[], inl, inr, refl, sym, subst}
+use Rattle.std.proofs.Common.{sym, subst}
 use Rattle.std.specs.Io.KnownBytes.{Appends}
 use Rattle.slice_table.specs.declared.plant.PlantFields.{PlantFields}
 use Rattle.plant_script.specs.declared.task.Told.{Told}
@@ -16,6 +16,3 @@ returns-in-Ok-write_traced g c well =
     subst (λ (t : Told). IsTold task.plant t task.lines.items status (λ text. Appends old new text)) (sym c.requires.traced)
     (trace_told task.plant task.lines.items status old new
     (subst (λ (p : PlantFields). EndsTraced p task.lines.items status (λ text. Appends old new text)) c.in-Ok.ensures.plant_is c.in-Ok-write_traced.ensures))
-
-pub returns-in-Err : goal.returns-in-Err
-returns-in-Err g c well = let told = c.stopped.ensures.memory refl well in inr ([], told.0, told.1, inl refl)
