@@ -1,5 +1,5 @@
 -- That a table stays one where a flow's backlog changes.
-use Rattle.std.proofs.Common.{◌≡◌, ℕ, true, false, cond, List, [], ◌∷◌, length, Option, Some, None, IsSome, IfSome, refl, sym, ap, ◌∙◌, subst, arith, inl, inr}
+use Rattle.std.proofs.Common.{◌≡◌, ◌≤◌, ℕ, true, false, cond, List, [], ◌∷◌, length, Option, Some, None, IsSome, IfSome, refl, sym, ap, ◌∙◌, subst, arith, inl, inr}
 use Rattle.std.specs.List.Sorted.{IsStrictlySortedBy}
 use Rattle.std.specs.declared.cmp.Ordering.TheVariants.{Less, Equal, Greater}
 use Rattle.std.specs.Ordering.{nat_cmp}
@@ -9,13 +9,14 @@ use Rattle.std.proofs.lemmas.Option.{none-some, same_Some}
 use Rattle.admission.specs.Ledger.{Committed}
 use Rattle.param_sets.specs.Units.{UnitSizes}
 use Rattle.flow_table.specs.declared.flow.Flow.{Flow}
+use Rattle.flow_table.specs.declared.flows.Moved.{Moved}
 use Rattle.flow_table.specs.Flow.{committed_of}
 use Rattle.flow_table.specs.Table.{flow_at, sid_if, is_sid, with_flow}
 use Rattle.flow_table.specs.Index.{IsIndex, IsFlowTable, without_sid_of, rows_of}
-use Rattle.flow_table.specs.Moved.{moved_if, moved_at}
+use Rattle.flow_table.specs.Moved.{moved_if, moved_at, told_of}
 use Rattle.flow_table.proofs.EntryLemmas.{written, put_same, length_put_there}
 use Rattle.flow_table.proofs.RowLemmas.{rows_put}
-use Rattle.flow_table.proofs.IndexLemmas.{index_changed, is_sid_yes}
+use Rattle.flow_table.proofs.IndexLemmas.{index_changed, is_sid_yes, changed_room, row_room, table_put}
 
 -- a flow that is written in place, where there is one
 pub moved_some : (flows : List (ℕ × Flow)) (sfid : ℕ) (change : Flow → Flow) (old : Flow) → IsStrictlySortedBy nat_cmp (keys_of flows) → flow_at sfid flows ≡ Some old
@@ -60,3 +61,37 @@ module _ {capacity : ℕ} {units : UnitSizes} {flows : List (ℕ × Flow)} {inde
       by : (o : Option Flow) → flow_at sfid flows ≡ o → IsFlowTable capacity units (moved_if sfid change flows o) index ledger
       by None at = kept
       by (Some old) at = some_moved old at (sid old) (committed old)
+
+  -- ---- a flow that is changed so that its SID stays or is free, with what is told of that
+
+  pub told_room : (moved : Moved) → Some moved ≡ told_of units change (flow_at sfid flows)
+      → length (insert_entry nat_cmp ledger.rows sfid moved.committed) ≤ ledger.room
+  told_room moved = by (flow_at sfid flows) refl
+    where
+      by : (o : Option Flow) → flow_at sfid flows ≡ o → Some moved ≡ told_of units change o
+          → length (insert_entry nat_cmp ledger.rows sfid moved.committed) ≤ ledger.room
+      by None at told = absurd (none-some moved (sym told))
+      by (Some old) at told =
+          subst (λ (m : Moved). length (insert_entry nat_cmp ledger.rows sfid m.committed) ≤ ledger.room)
+          (sym (same_Some moved (record { had = old.sid; has = (change old).sid; committed = committed_of units (change old) }) told))
+          (row_room kept sfid (change old) (changed_room kept sfid (change old) (subst IsSome (sym at) refl)))
+
+  pub told_table : ((old : Flow) → flow_at sfid flows ≡ Some old → IfSome (change old).sid (λ sid. sid_if (flow_at sfid flows) ≡ Some sid))
+      → (moved : Moved) → Some moved ≡ told_of units change (flow_at sfid flows)
+      → IsFlowTable capacity units (moved_at sfid change flows) (without_sid_of moved.had moved.has index)
+      (record { room = ledger.room; rows = insert_entry nat_cmp ledger.rows sfid moved.committed })
+  told_table keeps moved = by (flow_at sfid flows) refl
+    where
+      by : (o : Option Flow) → flow_at sfid flows ≡ o → Some moved ≡ told_of units change o
+          → IsFlowTable capacity units (moved_if sfid change flows o) (without_sid_of moved.had moved.has index)
+          (record { room = ledger.room; rows = insert_entry nat_cmp ledger.rows sfid moved.committed })
+      by None at told = absurd (none-some moved (sym told))
+      by (Some old) at told =
+          let there : IsSome (flow_at sfid flows) = subst IsSome (sym at) refl in
+          let indexed : IsIndex (with_flow sfid (change old) flows) (without_sid_of old.sid (change old).sid index) =
+          subst (λ (o : Option ℕ). IsIndex (with_flow sfid (change old) flows) (without_sid_of o (change old).sid index)) (ap sid_if at)
+          (index_changed kept.indexed sfid (change old) (keeps old at)) in
+          subst (λ (m : Moved). IsFlowTable capacity units (with_flow sfid (change old) flows) (without_sid_of m.had m.has index)
+          (record { room = ledger.room; rows = insert_entry nat_cmp ledger.rows sfid m.committed }))
+          (sym (same_Some moved (record { had = old.sid; has = (change old).sid; committed = committed_of units (change old) }) told))
+          (table_put kept sfid (change old) _ (changed_room kept sfid (change old) there) indexed)

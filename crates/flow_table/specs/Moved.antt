@@ -3,7 +3,9 @@ use Rattle.std.specs.Prelude.{ℕ, Bool, List, Option, Some, None}
 use Rattle.dsx_messages.specs.declared.modem.Modem.{Modem}
 use Rattle.flow_table.specs.declared.flow.Flow.{Flow}
 use Rattle.flow_table.specs.declared.flow.Asker.{Asker}
-use Rattle.flow_table.specs.Flow.{asks_for_grants}
+use Rattle.param_sets.specs.Units.{UnitSizes}
+use Rattle.flow_table.specs.declared.flows.Moved.{Moved}
+use Rattle.flow_table.specs.Flow.{asks_for_grants, committed_of}
 use Rattle.flow_table.specs.Table.{flow_at, with_flow}
 
 -- the flow of an SFID is changed so, if there is one
@@ -13,6 +15,11 @@ moved_if sfid change flows (Some flow) = with_flow sfid (change flow) flows
 
 abbrev pub moved_at : ℕ → (Flow → Flow) → List (ℕ × Flow) → List (ℕ × Flow)
 moved_at sfid change flows = moved_if sfid change flows (flow_at sfid flows)
+
+-- what the index and the ledger have to know of a flow that is changed so: the SIDs that it had and has, and what it has committed
+abbrev pub told_of : UnitSizes → (Flow → Flow) → Option Flow → Option Moved
+told_of units change None = None
+told_of units change (Some flow) = Some (record { had = flow.sid; has = (change flow).sid; committed = committed_of units (change flow) })
 
 -- whose the flow is that has a SID, and whether it may ask
 abbrev pub asker_of : Option (ℕ × Flow) → Option Asker

@@ -1,6 +1,6 @@
 //! A service flow.
 
-ghost use Rattle.std.specs.Prelude.{◌≡◌, ◌<◌, IfSome, Some};
+ghost use Rattle.std.specs.Prelude.{◌≡◌, ◌==◌, ◌+◌, ◌<◌, if◌then◌else◌, is_some, IfSome, Some, None};
 ghost use Rattle.param_sets.specs.Need.{need_if};
 ghost use Rattle.flow_table.specs.Flow.{committed_of, asks_for_grants, acknowledged, taken_back, requested, granted};
 
@@ -91,74 +91,94 @@ impl Flow {
         asks_for_grants(self.sets.get_active())
     }
 
-    /// The flow once its pending sets are acknowledged in this frame: they are its sets, its intervals count from this
-    /// frame, its SID is free where none is admitted, and its backlog is cleared where it may not ask.
-    pub fn acknowledged(&self, frame: u32) -> Flow
-        ensures value { result ≡ acknowledged frame self.now }
-        ensures sid { IfSome result.sid (λ sid. self.now.sid ≡ Some sid) }
+    /// Makes the pending sets the flow's, acknowledged in this frame: its intervals count from this frame, its SID is free
+    /// where none is admitted, and its backlog is cleared where it may not ask.
+    pub fn acknowledge(&mut self, frame: u32)
+        ensures value { self.new ≡ acknowledged frame self.old }
+        ensures sid { IfSome self.new.sid (λ sid. self.old.sid ≡ Some sid) }
     {
-        match self.pending {
-            None => *self,
-            Some(pending) => Flow {
-                modem: self.modem,
-                sid: if pending.sets.get_admitted().is_some() {
-                    self.sid
-                } else {
-                    None
-                },
-                sets: pending.sets,
-                pending: None,
-                start: frame,
-                backlog: if asks_for_grants(pending.sets.get_active()) {
-                    self.backlog
-                } else {
-                    0
-                },
-                since: self.since,
-            },
+        if let Some(pending) = &self.pending {
+            self.sid = sid_under(&pending.sets, self.sid);
+            self.backlog = backlog_under(&pending.sets, self.backlog);
+            self.sets = pending.sets;
+            self.start = frame;
+            self.pending = None;
         }
     }
 
-    /// The flow once its pending sets are taken back, and its SID where it came with them.
-    pub fn taken_back(&self) -> Flow
-        ensures value { result ≡ taken_back self.now }
-        ensures sid { IfSome result.sid (λ sid. self.now.sid ≡ Some sid) }
+    /// Takes the pending sets back, and the SID where it came with them.
+    pub fn take_back(&mut self)
+        ensures value { self.new ≡ taken_back self.old }
+        ensures sid { IfSome self.new.sid (λ sid. self.old.sid ≡ Some sid) }
     {
-        match self.pending {
-            None => *self,
-            Some(pending) => Flow {
-                sid: if pending.sid_is_new { None } else { self.sid },
-                pending: None,
-                ..*self
-            },
+        if let Some(pending) = &self.pending {
+            self.sid = sid_without(pending, self.sid);
+            self.pending = None;
         }
     }
 
-    /// The flow once its modem has asked for so many minislots in this frame: they are its backlog from now on, which waits
-    /// since this frame where there was none.
-    pub fn requested(&self, minislots: u16, frame: u32) -> Flow
-        ensures value { result ≡ requested minislots frame self.now }
-        ensures sid { IfSome result.sid (λ sid. self.now.sid ≡ Some sid) }
+    /// Takes it that the modem asks for so many minislots in this frame: they are the backlog from now on, which waits since
+    /// this frame where there was none.
+    pub fn request(&mut self, minislots: u16, frame: u32)
+        ensures value { self.new ≡ requested minislots frame self.old }
+        ensures sid { self.new.sid ≡ self.old.sid }
     {
-        Flow {
-            backlog: minislots,
-            since: if self.backlog == 0 { frame } else { self.since },
-            ..*self
-        }
+        self.since = since_asked(self.backlog, self.since, frame);
+        self.backlog = minislots;
     }
 
-    /// The flow once it was granted so many minislots in this frame: its backlog falls by them, and what is left waits since
-    /// the next frame.
-    pub fn granted(&self, minislots: u16, frame: u32) -> Flow
+    /// Grants so many minislots in this frame: the backlog falls by them, and what is left waits since the next frame.
+    pub fn grant(&mut self, minislots: u16, frame: u32)
         requires { frame < 4294967295 }
-        ensures value { result ≡ granted minislots frame self.now }
-        ensures sid { result.sid ≡ self.now.sid }
+        ensures value { self.new ≡ granted minislots frame self.old }
+        ensures sid { self.new.sid ≡ self.old.sid }
     {
         let left = self.backlog.saturating_sub(minislots);
-        Flow {
-            backlog: left,
-            since: if left == 0 { self.since } else { frame + 1 },
-            ..*self
-        }
+        self.since = since_granted(left, self.since, frame);
+        self.backlog = left;
     }
+}
+
+/// The SID of a flow whose sets these become: none where none is admitted.
+fn sid_under(sets: &Sets, sid: Option<u16>) -> Option<u16>
+    ensures { result ≡ if is_some sets.now.admitted then sid else None }
+{
+    if sets.get_admitted().is_some() {
+        sid
+    } else {
+        None
+    }
+}
+
+/// The backlog of a flow whose sets these become: none where it may not ask.
+fn backlog_under(sets: &Sets, backlog: u16) -> u16
+    ensures { result ≡ if asks_for_grants sets.now.active then backlog else 0 }
+{
+    if asks_for_grants(sets.get_active()) {
+        backlog
+    } else {
+        0
+    }
+}
+
+/// The SID of a flow of which this is taken back.
+fn sid_without(pending: &Pending, sid: Option<u16>) -> Option<u16>
+    ensures { result ≡ if pending.now.sid_is_new then None else sid }
+{
+    if pending.sid_is_new { None } else { sid }
+}
+
+/// Since when a backlog waits that was asked for in this frame.
+fn since_asked(backlog: u16, since: u32, frame: u32) -> u32
+    ensures { result ≡ if backlog == 0 then frame else since }
+{
+    if backlog == 0 { frame } else { since }
+}
+
+/// Since when waits what is left of a backlog after a grant of this frame.
+fn since_granted(left: u16, since: u32, frame: u32) -> u32
+    requires { frame < 4294967295 }
+    ensures { result ≡ if left == 0 then since else frame + 1 }
+{
+    if left == 0 { since } else { frame + 1 }
 }

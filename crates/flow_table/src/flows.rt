@@ -2,15 +2,16 @@
 
 ghost use Rattle.std.specs.Prelude.{◌≡◌, ◌==◌, ◌+◌, ◌<◌, ◌≤◌, ◌↔◌, if◌then◌else◌, nat_le, None, [], length, IsOk, IsSome, IsNone, IfOk, IfSome, OnOk, OnErr, Some};
 ghost use Rattle.std.specs.List.Sorted.{IsStrictlySortedBy};
+ghost use Rattle.std.specs.Option.{option_copied};
 ghost use Rattle.std.specs.Ordering.{nat_cmp};
 ghost use Rattle.std.specs.Map.{keys_of, lookup, remove_entry};
 ghost use Rattle.std.specs.BTreeMap.{insert_entry, is_at};
 ghost use Rattle.admission.specs.Free.{IsLeastFree, least_free_of};
 ghost use Rattle.flow_table.specs.Table.{flow_at, flow_with, sid_if, sfids_of, sids_of, with_flow, committed_minislots, committed_elements, MayStand, HaveOwnSids, flowing_in, flowing_of_set};
-ghost use Rattle.flow_table.specs.Flow.{requested, granted};
+ghost use Rattle.flow_table.specs.Flow.{acknowledged, taken_back, requested, granted};
 ghost use Rattle.flow_table.specs.Gap.{gap_from};
 ghost use Rattle.flow_table.specs.Index.{with_sid_of, without_sid_of};
-ghost use Rattle.flow_table.specs.Moved.{moved_at, asker_of};
+ghost use Rattle.flow_table.specs.Moved.{moved_at, told_of, asker_of};
 
 use crate::flow::{Asker, Flow};
 use admission::{Budget, IdRange, Ledger, Over};
@@ -66,10 +67,10 @@ impl Flows {
     }
 
     /// The flow of an SFID. Takes no memory.
-    pub fn get(&self, sfid: u32) -> Option<Flow>
-        ensures { result ≡ flow_at sfid self.now.flows }
+    pub fn get(&self, sfid: u32) -> Option<&Flow>
+        ensures { option_copied result ≡ flow_at sfid self.now.flows }
     {
-        self.by_sfid.get(&sfid).copied()
+        self.by_sfid.get(&sfid)
     }
 
     /// The flow that has this SID, with its SFID. Takes no memory.
@@ -96,22 +97,20 @@ impl Flows {
         })
     }
 
-    /// The least SFID of a range that no flow has.
-    pub fn free_sfid(&self, alloc: Global, range: &IdRange) -> Result<Option<u32>, AllocError>
-        ensures exact { IfOk result (λ sfid. sfid ≡ least_free_of range.now (sfids_of self.now.flows)) }
-        ensures found { IfOk result (λ sfid. IfSome sfid (IsLeastFree range.now (sfids_of self.now.flows))) }
+    /// The least SFID of a range that no flow has. Takes no memory.
+    pub fn free_sfid(&self, range: &IdRange) -> Option<u32>
+        ensures exact { result ≡ least_free_of range.now (sfids_of self.now.flows) }
+        ensures found { IfSome result (IsLeastFree range.now (sfids_of self.now.flows)) }
     {
-        let _ = alloc;
-        Ok(least_free_sfid(&self.by_sfid, range))
+        least_free_sfid(&self.by_sfid, range)
     }
 
-    /// The least SID of a range that no flow has.
-    pub fn free_sid(&self, alloc: Global, range: &IdRange) -> Result<Option<u32>, AllocError>
-        ensures exact { IfOk result (λ sid. sid ≡ least_free_of range.now (sids_of self.now.flows)) }
-        ensures found { IfOk result (λ sid. IfSome sid (IsLeastFree range.now (sids_of self.now.flows))) }
+    /// The least SID of a range that no flow has. Takes no memory.
+    pub fn free_sid(&self, range: &IdRange) -> Option<u32>
+        ensures exact { result ≡ least_free_of range.now (sids_of self.now.flows) }
+        ensures found { IfSome result (IsLeastFree range.now (sids_of self.now.flows)) }
     {
-        let _ = alloc;
-        Ok(least_free_sid(&self.by_sid, range))
+        least_free_sid(&self.by_sid, range)
     }
 
     /// Whether the totals of what is committed, with this flow under this SFID, stay within a limit; elements are tried
@@ -137,9 +136,9 @@ impl Flows {
     }
 
     /// Puts a flow under an SFID, in place of the one that is there. At `AllocError` nothing has changed.
-    pub fn put(&mut self, sfid: u32, flow: Flow) -> Result<(), AllocError>
-        requires { MayStand self.old sfid flow }
-        ensures ok { OnOk result (self.new ≡ record self.old { flows = with_flow sfid flow self.old.flows }) }
+    pub fn put(&mut self, sfid: u32, flow: &Flow) -> Result<(), AllocError>
+        requires { MayStand self.old sfid flow.now }
+        ensures ok { OnOk result (self.new ≡ record self.old { flows = with_flow sfid flow.now self.old.flows }) }
         ensures err { OnErr result (self.new ≡ self.old) }
     {
         let committed = flow.committed(self.units);
@@ -150,17 +149,24 @@ impl Flows {
         Ok(())
     }
 
-    /// Puts another flow in place of the one that is under an SFID; it has the SID of that one, or none. Takes no memory.
-    pub fn change(&mut self, sfid: u32, flow: Flow)
-        requires there { IsSome (flow_at sfid self.old.flows) }
-        requires sid { IfSome flow.sid (λ sid. sid_if (flow_at sfid self.old.flows) ≡ Some sid) }
-        ensures { self.new ≡ record self.old { flows = with_flow sfid flow self.old.flows } }
+    /// Acknowledges in a frame what waits of the flow of an SFID, if there is one, in place. Takes no memory.
+    pub fn acknowledge(&mut self, sfid: u32, frame: u32)
+        ensures { self.new ≡ record self.old { flows = moved_at sfid (acknowledged frame) self.old.flows } }
     {
-        let committed = flow.committed(self.units);
-        let had = sid_at(&self.by_sfid, sfid);
-        replace(&mut self.by_sfid, sfid, flow);
-        free(&mut self.by_sid, had, flow.sid);
-        commit(&mut self.ledger, sfid, committed);
+        if let Some(moved) = acknowledge_in(&mut self.by_sfid, self.units, sfid, frame) {
+            free(&mut self.by_sid, moved.had, moved.has);
+            commit(&mut self.ledger, sfid, moved.committed);
+        }
+    }
+
+    /// Takes back what waits of the flow of an SFID, if there is one, in place. Takes no memory.
+    pub fn take_back(&mut self, sfid: u32)
+        ensures { self.new ≡ record self.old { flows = moved_at sfid taken_back self.old.flows } }
+    {
+        if let Some(moved) = take_back_in(&mut self.by_sfid, self.units, sfid) {
+            free(&mut self.by_sid, moved.had, moved.has);
+            commit(&mut self.ledger, sfid, moved.committed);
+        }
     }
 
     /// What the modem of a flow asks for in a frame is its backlog, in place. Takes no memory.
@@ -348,10 +354,10 @@ fn grow(
     by_sfid: &mut BTreeMap<u32, Flow>,
     by_sid: &mut BTreeMap<u16, u32>,
     sfid: u32,
-    flow: Flow,
+    flow: &Flow,
 ) -> Result<(), AllocError>
-    ensures flows { OnOk result (by_sfid.new.entries ≡ with_flow sfid flow by_sfid.old.entries) }
-    ensures index { OnOk result (by_sid.new.entries ≡ with_sid_of flow.sid sfid by_sid.old.entries) }
+    ensures flows { OnOk result (by_sfid.new.entries ≡ with_flow sfid flow.now by_sfid.old.entries) }
+    ensures index { OnOk result (by_sid.new.entries ≡ with_sid_of flow.now.sid sfid by_sid.old.entries) }
     ensures err { OnErr result ((by_sfid.new.entries ≡ by_sfid.old.entries)
         × (by_sid.new.entries ≡ by_sid.old.entries)) }
 {
@@ -360,11 +366,11 @@ fn grow(
     match by_sfid.entry(sfid)? {
         Entry::Vacant(place) => {
             list(by_sid, flow.sid, sfid)?;
-            let _flow = place.insert(flow);
+            let _flow = place.insert(*flow);
         }
         Entry::Occupied(place) => {
             list(by_sid, flow.sid, sfid)?;
-            *place.into_mut() = flow;
+            *place.into_mut() = *flow;
         }
     }
     Ok(())
@@ -392,29 +398,52 @@ fn free(by_sid: &mut BTreeMap<u16, u32>, had: Option<u16>, has: Option<u16>)
     }
 }
 
-/// Puts a flow in place of the one of its SFID.
-fn replace(by_sfid: &mut BTreeMap<u32, Flow>, sfid: u32, flow: Flow)
-    requires { IsSome (flow_at sfid by_sfid.old.entries) }
-    ensures { by_sfid.new.entries ≡ with_flow sfid flow by_sfid.old.entries }
-{
-    if let Some(place) = by_sfid.get_mut(&sfid) {
-        *place = flow;
-    }
+/// What the index and the ledger have to know of a flow that was changed in place.
+#[derive(Clone, Copy, Debug, PartialEq, Eq)]
+struct Moved {
+    /// The SID that it had.
+    had: Option<u16>,
+    /// The SID that it has.
+    has: Option<u16>,
+    /// What it has committed.
+    committed: Budget,
 }
 
-/// Since when a backlog waits that was asked for in this frame.
-fn since_asked(backlog: u16, since: u32, frame: u32) -> u32
-    ensures { result ≡ if backlog == 0 then frame else since }
+/// Acknowledges what waits of the flow of an SFID, where there is one.
+fn acknowledge_in(
+    by_sfid: &mut BTreeMap<u32, Flow>,
+    units: Units,
+    sfid: u32,
+    frame: u32,
+) -> Option<Moved>
+    ensures flows { by_sfid.new.entries ≡ moved_at sfid (acknowledged frame) by_sfid.old.entries }
+    ensures told { result ≡ told_of units (acknowledged frame) (flow_at sfid by_sfid.old.entries) }
 {
-    if backlog == 0 { frame } else { since }
+    let flow = by_sfid.get_mut(&sfid)?;
+    let had = flow.sid;
+    flow.acknowledge(frame);
+    let (has, committed) = (flow.sid, flow.committed(units));
+    Some(Moved {
+        had,
+        has,
+        committed,
+    })
 }
 
-/// Since when waits what is left of a backlog after a grant of this frame.
-fn since_granted(left: u16, since: u32, frame: u32) -> u32
-    requires { frame < 4294967295 }
-    ensures { result ≡ if left == 0 then since else frame + 1 }
+/// Takes back what waits of the flow of an SFID, where there is one.
+fn take_back_in(by_sfid: &mut BTreeMap<u32, Flow>, units: Units, sfid: u32) -> Option<Moved>
+    ensures flows { by_sfid.new.entries ≡ moved_at sfid taken_back by_sfid.old.entries }
+    ensures told { result ≡ told_of units taken_back (flow_at sfid by_sfid.old.entries) }
 {
-    if left == 0 { since } else { frame + 1 }
+    let flow = by_sfid.get_mut(&sfid)?;
+    let had = flow.sid;
+    flow.take_back();
+    let (has, committed) = (flow.sid, flow.committed(units));
+    Some(Moved {
+        had,
+        has,
+        committed,
+    })
 }
 
 /// The flow of an SFID asks for so many minislots, where there is one.
@@ -422,8 +451,7 @@ fn request_in(by_sfid: &mut BTreeMap<u32, Flow>, sfid: u32, minislots: u16, fram
     ensures { by_sfid.new.entries ≡ moved_at sfid (requested minislots frame) by_sfid.old.entries }
 {
     if let Some(flow) = by_sfid.get_mut(&sfid) {
-        flow.since = since_asked(flow.backlog, flow.since, frame);
-        flow.backlog = minislots;
+        flow.request(minislots, frame);
     }
 }
 
@@ -433,9 +461,7 @@ fn grant_in(by_sfid: &mut BTreeMap<u32, Flow>, sfid: u32, minislots: u16, frame:
     ensures { by_sfid.new.entries ≡ moved_at sfid (granted minislots frame) by_sfid.old.entries }
 {
     if let Some(flow) = by_sfid.get_mut(&sfid) {
-        let left = flow.backlog.saturating_sub(minislots);
-        flow.since = since_granted(left, flow.since, frame);
-        flow.backlog = left;
+        flow.grant(minislots, frame);
     }
 }
 

@@ -6,7 +6,6 @@ ghost use Rattle.std.specs.Ordering.{nat_cmp};
 ghost use Rattle.std.specs.Map.{keys_of};
 ghost use Rattle.admission.specs.Free.{Numbers, least_free_of};
 ghost use Rattle.flow_table.specs.declared.flow.Flow.{Flow};
-ghost use Rattle.flow_table.specs.Flow.{acknowledged, taken_back, requested, granted};
 ghost use Rattle.flow_table.specs.Table.{FlowTable, MayStand, HaveOwnSids, flow_at, flow_with, sid_if, sids_of, with_flow};
 
 /// Where there is room for one more flow, it may stand under any SFID with the least free SID, or with none.
@@ -53,21 +52,4 @@ pub fn sid_finds_its_flow()
         → IsStrictlySortedBy nat_cmp (keys_of flows)
         → HaveOwnSids flows
         → (flow_with sid flows ≡ Some (sfid, flow)) ↔ ((flow_at sfid flows ≡ Some flow) × (flow.sid ≡ Some sid)) }
-{}
-
-/// What becomes of a flow keeps its SID or frees it, as `Flows::change` requires.
-#[tactic(auto, using(crate::proofs::StandLemmas::acknowledged_keeps, crate::proofs::StandLemmas::taken_back_keeps, crate::proofs::StandLemmas::requested_keeps, crate::proofs::StandLemmas::granted_keeps))]
-pub fn flow_keeps_its_sid()
-    ensures acknowledged { (flows : List (ℕ × Flow)) (sfid : ℕ) (flow : Flow) (frame : ℕ)
-        → flow_at sfid flows ≡ Some flow
-        → IfSome (acknowledged frame flow).sid (λ sid. sid_if (flow_at sfid flows) ≡ Some sid) }
-    ensures taken_back { (flows : List (ℕ × Flow)) (sfid : ℕ) (flow : Flow)
-        → flow_at sfid flows ≡ Some flow
-        → IfSome (taken_back flow).sid (λ sid. sid_if (flow_at sfid flows) ≡ Some sid) }
-    ensures requested { (flows : List (ℕ × Flow)) (sfid : ℕ) (flow : Flow) (minislots frame : ℕ)
-        → flow_at sfid flows ≡ Some flow
-        → IfSome (requested minislots frame flow).sid (λ sid. sid_if (flow_at sfid flows) ≡ Some sid) }
-    ensures granted { (flows : List (ℕ × Flow)) (sfid : ℕ) (flow : Flow) (minislots frame : ℕ)
-        → flow_at sfid flows ≡ Some flow
-        → IfSome (granted minislots frame flow).sid (λ sid. sid_if (flow_at sfid flows) ≡ Some sid) }
 {}

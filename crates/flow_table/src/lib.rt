@@ -8,6 +8,6 @@ mod laws;
 pub use flow::{Asker, Flow, Pending};
 pub use flows::Flows;
 pub use laws::{
-    flow_keeps_its_sid, known_flow_may_stand, known_flow_may_stand_anew, new_flow_may_stand,
-    put_flow_is_there, sid_finds_its_flow,
+    known_flow_may_stand, known_flow_may_stand_anew, new_flow_may_stand, put_flow_is_there,
+    sid_finds_its_flow,
 };

@@ -1,12 +1,12 @@
 //! What the encodings of a request ask for: the checks that ask for no room.
 
-ghost use Rattle.std.specs.Prelude.{◌≡◌, ◌≢◌, find, Some, None, IfOk};
+ghost use Rattle.std.specs.Prelude.{◌≡◌, ◌≢◌, find, Some, None, Ok, Err, IfOk, MatchResult};
 ghost use Rattle.std.specs.Option.{option_copied};
 ghost use Rattle.std.specs.List.{list_all};
 ghost use Rattle.dsx_messages.specs.declared.kind.Kind.TheVariants.{Dsa, Dsc, Dsd};
 ghost use Rattle.flow_table.specs.Table.{flow_at};
 ghost use Rattle.operator_book.specs.Over.{asked_over};
-ghost use Rattle.operator_machine.specs.Asked.{stand_together, is_unclassed, number_in, is_same, has_set_type, first_of, first_encoding, free_flow, set_of, is_change, asked_by_type, asked_by_one, in_order, asked_by_two, asked_sets, failing_active, failing_admitted, nested_sets, addition_of, change_of};
+ghost use Rattle.operator_machine.specs.Asked.{stand_together, is_unclassed, number_in, is_same, has_set_type, first_of, first_encoding, free_flow, set_over_class, set_of, is_change, asked_by_type, asked_by_one, in_order, asked_by_two, asked_sets, failing_active, failing_admitted, nested_sets, addition_of, change_of};
 
 use crate::refusal::{refusal, refusal_naming};
 use dsx_messages::{Code, Kind, Reply};
@@ -86,11 +86,21 @@ fn first_of(t: Transaction, encodings: &[FlowTlv]) -> Result<FlowTlv, Reply>
     Ok(*first)
 }
 
+/// Whether an encoding names a class that the plant has not.
+fn is_unclassed(consts: &Consts, flow: &FlowTlv) -> bool
+    ensures { result ≡ is_unclassed consts.now.classes flow.now }
+{
+    match flow.get_class_name() {
+        None => false,
+        Some(name) => consts.class(&name).is_none(),
+    }
+}
+
 /// The first encoding that names a class that the plant has not.
 fn first_unclassed<'a>(consts: &Consts, encodings: &'a [FlowTlv]) -> Option<&'a FlowTlv>
     ensures { option_copied result ≡ find (is_unclassed consts.now.classes) encodings.now }
 {
-    encodings.iter().find(|flow| consts.asked(flow).is_none())
+    encodings.iter().find(|flow| is_unclassed(consts, flow))
 }
 
 /// The first of the encodings, where they stand together and none names a class that the plant has not.
@@ -106,8 +116,9 @@ fn first_encoding(t: Transaction, consts: &Consts, encodings: &[FlowTlv]) -> Res
 }
 
 /// The flow of an SFID, where this modem may change or delete it now.
-pub(crate) fn free_flow(t: Transaction, flow: Option<Flow>) -> Result<Flow, Reply>
-    ensures { result ≡ free_flow t flow }
+pub(crate) fn free_flow(t: Transaction, flow: Option<&Flow>) -> Result<&Flow, Reply>
+    ensures { MatchResult result (λ free. free_flow t (option_copied flow.entry) ≡ Ok free.now)
+        (λ reply. free_flow t (option_copied flow.entry) ≡ Err reply) }
 {
     let Some(flow) = flow else {
         return Err(refusal(t.kind, t.tid, Code::RejectFlowNotFound));
@@ -121,18 +132,35 @@ pub(crate) fn free_flow(t: Transaction, flow: Option<Flow>) -> Result<Flow, Repl
     Ok(flow)
 }
 
-/// The parameter set of an encoding, over its class.
-#[tactic(auto, unfolding(operator_machine::specs::Asked::set_of), using(crate::proofs::Replies::set_is_refused))]
+/// The parameter set of what an encoding asks for.
+#[tactic(auto, using(crate::proofs::Replies::set_is_refused))]
+fn set_from(
+    t: Transaction,
+    consts: &Consts,
+    flow: &FlowTlv,
+    asked: &FlowTlv,
+) -> Result<ParamSet, Reply>
+    requires { t.kind ≢ Dsd }
+    ensures { result ≡ set_over_class t consts.now.units flow.now (Some asked.now) }
+{
+    match from_tlv(asked, &consts.get_fields().units) {
+        Ok(set) => Ok(set),
+        Err(refused) => Err(refusal_naming(t, refused.code, flow, refused.subtype)),
+    }
+}
+
+/// The parameter set of an encoding, over its class. One that names no class is not copied.
+#[tactic(auto, unfolding(operator_machine::specs::Asked::set_of))]
 fn set_of(t: Transaction, consts: &Consts, flow: &FlowTlv) -> Result<ParamSet, Reply>
     requires { t.kind ≢ Dsd }
     ensures { result ≡ set_of t consts.now flow.now }
 {
-    let Some(asked) = consts.asked(flow) else {
-        return Err(refusal_naming(t, Code::RejectPermanent, flow, 4));
-    };
-    match from_tlv(&asked, &consts.get_fields().units) {
-        Ok(set) => Ok(set),
-        Err(refused) => Err(refusal_naming(t, refused.code, flow, refused.subtype)),
+    if flow.get_class_name().is_none() {
+        return set_from(t, consts, flow, flow);
+    }
+    match consts.asked(flow) {
+        Some(asked) => set_from(t, consts, flow, &asked),
+        None => Err(refusal_naming(t, Code::RejectPermanent, flow, 4)),
     }
 }
 
@@ -317,7 +345,7 @@ pub(crate) fn change_of(
     let Some(sfid) = first.get_sfid() else {
         return Err(refusal_naming(t, Code::RejectRequiredParameterNotPresent, &first, 2));
     };
-    let flow = free_flow(t, flows.get(sfid))?;
+    let flow = *free_flow(t, flows.get(sfid))?;
     let asked = asked_sets(t, consts, encodings)?;
     let sets = nested_sets(t, &first, flow.sets, &asked)?;
     Ok(Change { sfid, flow, sets })

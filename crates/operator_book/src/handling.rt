@@ -105,13 +105,13 @@ impl Machine {
         kind: Kind,
         tid: u16,
         sfid: u32,
-        flow: Flow,
+        flow: &Flow,
         reply: Reply,
     ) -> Result<Both, AllocError>
-        requires stands { MayStand (table_of self.old) sfid flow }
+        requires stands { MayStand (table_of self.old) sfid flow.now }
         requires free { IsNone (find (is_of modem tid) self.old.state.kept) }
         requires room { length self.old.state.kept < self.old.row.transactions }
-        ensures { Does twice self.old self.new result (carried_out self.old modem kind tid (Put sfid flow reply)) }
+        ensures { Does twice self.old self.new result (carried_out self.old modem kind tid (Put sfid flow.now reply)) }
     {
         let bytes = Bytes::from_vec(write_reply(alloc, &reply)?);
         let both = answer(alloc, twice, modem, &bytes)?;
@@ -160,7 +160,7 @@ impl Machine {
         match verdict {
             Verdict::Refused { reply } => self.refused_out(alloc, twice, modem, kind, tid, reply),
             Verdict::Put { sfid, flow, reply } => {
-                self.put_out(alloc, twice, modem, kind, tid, sfid, flow, reply)
+                self.put_out(alloc, twice, modem, kind, tid, sfid, &flow, reply)
             }
             Verdict::Deleted { sfid, reply } => {
                 self.deleted_out(alloc, twice, modem, kind, tid, sfid, reply)
@@ -225,10 +225,8 @@ impl Machine {
         if let Some(both) = self.early_answer(alloc, twice, modem, kind, tid)? {
             return Ok(both);
         }
-        match self.verdict(alloc, modem, request) {
-            Ok(verdict) => self.carried_out(alloc, twice, modem, kind, tid, verdict),
-            Err(AllocError) => Err(AllocError),
-        }
+        let verdict = self.verdict(modem, request);
+        self.carried_out(alloc, twice, modem, kind, tid, verdict)
     }
 
     /// A request that could not be read is refused with this reply.
@@ -249,26 +247,22 @@ impl Machine {
         self.refused_out(alloc, twice, modem, kind, tid, reply)
     }
 
-    /// The pending sets of a flow become its sets.
+    /// Makes the pending sets of a flow its sets.
+    #[tactic(auto, using(crate::proofs::Room::moved_is_changed))]
     fn commit(&mut self, sfid: u32)
         ensures { self.new ≡ with_change self.old sfid (acknowledged self.old.state.frame) }
     {
-        if let Some(flow) = self.flows.get(sfid) {
-            self.flows.change(sfid, flow.acknowledged(self.frame));
-        }
+        self.flows.acknowledge(sfid, self.frame);
     }
 
-    /// What a transaction asked for is undone.
+    /// Undoes what a transaction asked for.
+    #[tactic(auto, using(crate::proofs::Room::moved_is_changed))]
     pub(crate) fn undo(&mut self, kind: Kind, sfid: u32)
         ensures { self.new ≡ with_flows self.old (undone kind sfid self.old.state.flows) }
     {
         match kind {
             Kind::Dsa => self.flows.remove(sfid),
-            Kind::Dsc => {
-                if let Some(flow) = self.flows.get(sfid) {
-                    self.flows.change(sfid, flow.taken_back());
-                }
-            }
+            Kind::Dsc => self.flows.take_back(sfid),
             Kind::Dsd => {}
         }
     }

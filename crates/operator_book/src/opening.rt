@@ -18,21 +18,16 @@ use std::collections::VecDeque;
 use transactions::Kept;
 
 /// The SID of a flow that is opened with these sets: the least free one where a set is admitted.
-fn sid_for(
-    alloc: Global,
-    row: &OperatorRow,
-    flows: &Flows,
-    sets: Sets,
-) -> Result<Option<u16>, AllocError>
-    ensures value { IfOk result (λ sid. sid ≡ sid_for row.now flows.now.flows sets) }
-    ensures free { IfOk result (λ sid. IfSome sid (IsLeastFree row.now.sids (sids_of flows.now.flows))) }
+fn sid_for(row: &OperatorRow, flows: &Flows, sets: Sets) -> Option<u16>
+    ensures value { result ≡ sid_for row.now flows.now.flows sets }
+    ensures free { IfSome result (IsLeastFree row.now.sids (sids_of flows.now.flows)) }
 {
     if sets.get_admitted().is_none() {
-        return Ok(None);
+        return None;
     }
-    match flows.free_sid(alloc, &row.get_fields().sids)? {
-        None => Ok(None),
-        Some(sid) => Ok(Some(sid as u16)),
+    match flows.free_sid(&row.get_fields().sids) {
+        None => None,
+        Some(sid) => Some(sid as u16),
     }
 }
 
@@ -54,7 +49,6 @@ fn opened_flow(frame: u32, modem: Modem, sid: Option<u16>, sets: Sets) -> Flow
 /// One provisioned flow more, under the least free SFID.
 #[tactic(auto, using(crate::proofs::Room::longer), unfolding(crate::specs::Opening::put_provision))]
 fn put_provision(
-    alloc: Global,
     consts: &Consts,
     row: &OperatorRow,
     flows: &mut Flows,
@@ -68,30 +62,25 @@ fn put_provision(
     let Some(sets) = provision.sets(consts) else {
         return Ok(());
     };
-    let Some(sfid) = flows.free_sfid(alloc, &row.get_fields().sfids)? else {
+    let Some(sfid) = flows.free_sfid(&row.get_fields().sfids) else {
         return Ok(());
     };
-    let sid = sid_for(alloc, row, flows, sets)?;
+    let sid = sid_for(row, flows, sets);
     flows.kept();
     let flow = opened_flow(consts.get_fields().first_frame, provision.modem, sid, sets);
-    flows.put(sfid, flow)?;
+    flows.put(sfid, &flow)?;
     Ok(())
 }
 
 /// The provisioned flows, in the file's order.
-fn put_provisions(
-    alloc: Global,
-    consts: &Consts,
-    row: &OperatorRow,
-    flows: &mut Flows,
-) -> Result<(), AllocError>
+fn put_provisions(consts: &Consts, row: &OperatorRow, flows: &mut Flows) -> Result<(), AllocError>
     requires none { flows.old.flows ≡ [] }
     requires fits { length row.now.provisions ≤ flows.old.capacity }
     ensures ok { OnOk result (flows.new
         ≡ record flows.old { flows = put_provisions consts.now row.now [] row.now.provisions }) }
 {
     for provision in row.get_fields().provisions.as_slice() {
-        put_provision(alloc, consts, row, flows, provision)?;
+        put_provision(consts, row, flows, provision)?;
     }
     Ok(())
 }
@@ -111,7 +100,7 @@ impl Machine {
         let keys = row.get_fields();
         let shared = consts.get_fields();
         let mut flows = Flows::new(alloc, u32::from(keys.flows), shared.units)?;
-        put_provisions(alloc, consts, row, &mut flows)?;
+        put_provisions(consts, row, &mut flows)?;
         Ok(Machine {
             consts: consts.copy(alloc)?,
             row: row.copy(alloc)?,

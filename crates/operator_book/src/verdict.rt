@@ -133,36 +133,41 @@ impl Machine {
     }
 
     /// A flow that is put under an SFID, unless more would be committed with it than may be.
-    fn put_within_limit(&self, kind: Kind, tid: u16, sfid: u32, flow: Flow, reply: Reply) -> Verdict
-        requires { MayStand (table_of self.now) sfid flow }
-        ensures value { result ≡ put_within_limit self.now kind tid sfid flow reply }
+    fn put_within_limit(
+        &self,
+        kind: Kind,
+        tid: u16,
+        sfid: u32,
+        flow: &Flow,
+        reply: Reply,
+    ) -> Verdict
+        requires { MayStand (table_of self.now) sfid flow.now }
+        ensures value { result ≡ put_within_limit self.now kind tid sfid flow.now reply }
         ensures puts { MayPut (table_of self.now) result }
     {
-        match self.flows.fits(self.limit(), sfid, &flow) {
-            Ok(()) => Verdict::Put { sfid, flow, reply },
+        match self.flows.fits(self.limit(), sfid, flow) {
+            Ok(()) => Verdict::Put {
+                sfid,
+                flow: *flow,
+                reply,
+            },
             Err(_) => no_room(kind, tid),
         }
     }
 
     /// An addition, where there is room for it.
     #[tactic(auto, unfolding(operator_machine::specs::Verdict::added))]
-    fn added(
-        &self,
-        alloc: Global,
-        modem: Modem,
-        tid: u16,
-        addition: &Addition,
-    ) -> Result<Verdict, AllocError>
-        ensures value { IfOk result (λ v. v ≡ added self.now modem tid addition.now) }
-        ensures puts { IfOk result (MayPut (table_of self.now)) }
+    fn added(&self, modem: Modem, tid: u16, addition: &Addition) -> Verdict
+        ensures value { result ≡ added self.now modem tid addition.now }
+        ensures puts { MayPut (table_of self.now) result }
     {
         let row = self.row.get_fields();
         if self.flows.len() >= usize::from(row.flows) {
-            return Ok(no_room(Kind::Dsa, tid));
+            return no_room(Kind::Dsa, tid);
         }
-        let sfid = self.flows.free_sfid(alloc, &row.sfids)?;
-        let sid = self.flows.free_sid(alloc, &row.sids)?;
-        Ok(self.added_under(modem, tid, addition, sfid, sid))
+        let sfid = self.flows.free_sfid(&row.sfids);
+        let sid = self.flows.free_sid(&row.sids);
+        self.added_under(modem, tid, addition, sfid, sid)
     }
 
     /// An addition under identifiers that are free.
@@ -186,7 +191,7 @@ impl Machine {
         let sid = self.sid_of(sid);
         let flow = new_flow(modem, self.frame, addition.sets, sid);
         let reply = added_reply(tid, addition.reference, sfid, sid);
-        self.put_within_limit(Kind::Dsa, tid, sfid, flow, reply)
+        self.put_within_limit(Kind::Dsa, tid, sfid, &flow, reply)
     }
 
     /// A change of a flow to this SID, where there is room for it.
@@ -198,37 +203,31 @@ impl Machine {
     {
         let flow = changed_flow(change, sid, sid_is_new);
         let reply = changed_reply(tid, change.sfid, change.sets, sid);
-        self.put_within_limit(Kind::Dsc, tid, change.sfid, flow, reply)
+        self.put_within_limit(Kind::Dsc, tid, change.sfid, &flow, reply)
     }
 
     /// A change, where there is room for it.
     #[tactic(auto, unfolding(operator_machine::specs::Verdict::changed))]
-    fn changed(&self, alloc: Global, tid: u16, change: &Change) -> Result<Verdict, AllocError>
+    fn changed(&self, tid: u16, change: &Change) -> Verdict
         requires there { flow_at change.now.sfid self.now.state.flows ≡ Some change.now.flow }
         requires range { IfSome change.now.flow.sid (λ n. n ≤ 8191) }
-        ensures value { IfOk result (λ v. v ≡ changed self.now tid change.now) }
-        ensures puts { IfOk result (MayPut (table_of self.now)) }
+        ensures value { result ≡ changed self.now tid change.now }
+        ensures puts { MayPut (table_of self.now) result }
     {
         self.flows.kept();
         if !wants_sid(change) {
-            return Ok(self.changed_with(tid, change, change.flow.sid, false));
+            return self.changed_with(tid, change, change.flow.sid, false);
         }
-        match self.flows.free_sid(alloc, &self.row.get_fields().sids)? {
-            None => Ok(no_room(Kind::Dsc, tid)),
-            Some(sid) => Ok(self.changed_with(tid, change, Some(self.sid_of(sid)), true)),
+        match self.flows.free_sid(&self.row.get_fields().sids) {
+            None => no_room(Kind::Dsc, tid),
+            Some(sid) => self.changed_with(tid, change, Some(self.sid_of(sid)), true),
         }
     }
 
     /// What becomes of an addition.
-    fn addition_verdict(
-        &self,
-        alloc: Global,
-        modem: Modem,
-        tid: u16,
-        encodings: &[FlowTlv],
-    ) -> Result<Verdict, AllocError>
-        ensures value { IfOk result (λ v. v ≡ addition_verdict self.now modem tid encodings.now) }
-        ensures puts { IfOk result (MayPut (table_of self.now)) }
+    fn addition_verdict(&self, modem: Modem, tid: u16, encodings: &[FlowTlv]) -> Verdict
+        ensures value { result ≡ addition_verdict self.now modem tid encodings.now }
+        ensures puts { MayPut (table_of self.now) result }
     {
         let t = Transaction {
             modem,
@@ -236,22 +235,16 @@ impl Machine {
             tid,
         };
         match addition_of(&self.consts, t, encodings) {
-            Err(reply) => Ok(Verdict::Refused { reply }),
-            Ok(addition) => self.added(alloc, modem, tid, &addition),
+            Err(reply) => Verdict::Refused { reply },
+            Ok(addition) => self.added(modem, tid, &addition),
         }
     }
 
     /// What becomes of a change.
-    fn change_verdict(
-        &self,
-        alloc: Global,
-        modem: Modem,
-        tid: u16,
-        encodings: &[FlowTlv],
-    ) -> Result<Verdict, AllocError>
+    fn change_verdict(&self, modem: Modem, tid: u16, encodings: &[FlowTlv]) -> Verdict
         requires { All (IsIn self.now.row.sids) (sids_of self.now.state.flows) }
-        ensures value { IfOk result (λ v. v ≡ change_verdict self.now modem tid encodings.now) }
-        ensures puts { IfOk result (MayPut (table_of self.now)) }
+        ensures value { result ≡ change_verdict self.now modem tid encodings.now }
+        ensures puts { MayPut (table_of self.now) result }
     {
         let t = Transaction {
             modem,
@@ -259,10 +252,10 @@ impl Machine {
             tid,
         };
         match change_of(&self.consts, &self.flows, t, encodings) {
-            Err(reply) => Ok(Verdict::Refused { reply }),
+            Err(reply) => Verdict::Refused { reply },
             Ok(change) => {
                 let _row = self.row.get_fields();
-                self.changed(alloc, tid, &change)
+                self.changed(tid, &change)
             }
         }
     }
@@ -293,24 +286,15 @@ impl Machine {
 
     /// What becomes of a request whose transaction is new: the first check of the table that holds decides.
     #[tactic(auto, unfolding(operator_machine::specs::Verdict::verdict))]
-    pub(crate) fn verdict(
-        &self,
-        alloc: Global,
-        modem: Modem,
-        request: &Request,
-    ) -> Result<Verdict, AllocError>
+    pub(crate) fn verdict(&self, modem: Modem, request: &Request) -> Verdict
         requires { All (IsIn self.now.row.sids) (sids_of self.now.state.flows) }
-        ensures value { IfOk result (λ v. v ≡ verdict self.now modem request.now) }
-        ensures puts { IfOk result (MayPut (table_of self.now)) }
+        ensures value { result ≡ verdict self.now modem request.now }
+        ensures puts { MayPut (table_of self.now) result }
     {
         match request {
-            Request::Dsa { tid, flows } => {
-                self.addition_verdict(alloc, modem, *tid, flows.as_slice())
-            }
-            Request::Dsc { tid, flows } => {
-                self.change_verdict(alloc, modem, *tid, flows.as_slice())
-            }
-            Request::Dsd { tid, sfid } => Ok(self.deletion_verdict(modem, *tid, *sfid)),
+            Request::Dsa { tid, flows } => self.addition_verdict(modem, *tid, flows.as_slice()),
+            Request::Dsc { tid, flows } => self.change_verdict(modem, *tid, flows.as_slice()),
+            Request::Dsd { tid, sfid } => self.deletion_verdict(modem, *tid, *sfid),
         }
     }
 }

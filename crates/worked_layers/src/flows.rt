@@ -59,7 +59,7 @@ fn units() -> Units {
 /// Checks the flows under some SFIDs.
 fn check_at(rt: &impl Abort, flows: &Flows, rows: &[(u32, Option<Flow>)]) {
     for (sfid, wanted) in rows {
-        same!(rt; flows.get(*sfid), *wanted);
+        same!(rt; flows.get(*sfid).copied(), *wanted);
     }
 }
 
@@ -71,15 +71,8 @@ fn check_with(rt: &impl Abort, flows: &Flows, rows: &[(u16, Option<(u32, Flow)>)
 }
 
 /// Checks the least SID of 40 and 41 that no flow has.
-fn check_free(
-    rt: &impl Abort,
-    alloc: Global,
-    flows: &Flows,
-    wanted: Option<u32>,
-) -> Result<(), Fail> {
-    let free = flows.free_sid(alloc, &IdRange::new(40, 41))?;
-    same!(rt; free, wanted);
-    Ok(())
+fn check_free(rt: &impl Abort, flows: &Flows, wanted: Option<u32>) {
+    same!(rt; flows.free_sid(&IdRange::new(40, 41)), wanted);
 }
 
 /// Checks how many minislots are committed.
@@ -91,20 +84,21 @@ fn check_committed(rt: &impl Abort, flows: &Flows, wanted: u64) {
 fn two_flows_are_found(rt: HostRuntime) -> Result<(), Fail> {
     let alloc = rt.alloc();
     let mut flows = Flows::new(alloc, 2, units())?;
-    flows.put(7, flow(40, 64000))?;
-    flows.put(3, flow(41, 128000))?;
+    flows.put(7, &flow(40, 64000))?;
+    flows.put(3, &flow(41, 128000))?;
     same!(rt; flows.len(), 2);
     check_at(&rt, &flows, &[(7, Some(flow(40, 64000))), (4, None)]);
     let second = Some((3, flow(41, 128000)));
     check_with(&rt, &flows, &[(41, second), (42, None)]);
     check_committed(&rt, &flows, 3);
-    check_free(&rt, alloc, &flows, None)?;
-    flows.change(3, flow(41, 192000));
+    check_free(&rt, &flows, None);
+    flows.put(3, &flow(41, 192000))?;
     check_committed(&rt, &flows, 4);
     flows.remove(7);
     check_at(&rt, &flows, &[(7, None)]);
     check_with(&rt, &flows, &[(40, None)]);
-    check_free(&rt, alloc, &flows, Some(40))
+    check_free(&rt, &flows, Some(40));
+    Ok(())
 }
 
 /// Checks what is said of a flow under an SFID beside some limits, of minislots and of elements.
@@ -126,7 +120,7 @@ fn check_fits(
 #[test]
 fn the_limits_of_what_is_committed(rt: HostRuntime) -> Result<(), Fail> {
     let mut flows = Flows::new(rt.alloc(), 2, units())?;
-    flows.put(7, flow(40, 64000))?;
+    flows.put(7, &flow(40, 64000))?;
     check_fits(
         &rt,
         &flows,
@@ -179,11 +173,11 @@ fn what_is_listed(rt: HostRuntime) -> Result<(), Fail> {
         ..flow(40, 64000)
     };
     let mut flows = Flows::new(alloc, 2, units())?;
-    flows.put(7, flow(40, 64000))?;
-    flows.put(3, idle)?;
+    flows.put(7, &flow(40, 64000))?;
+    flows.put(3, &idle)?;
     check_listed(&rt, alloc, &flows, &[(3, idle), (7, flow(40, 64000))])?;
     check_flowing(&rt, alloc, &flows, (7, 40))?;
-    same!(rt; flows.free_sfid(alloc, &IdRange::new(3, 9))?, Some(4));
+    same!(rt; flows.free_sfid(&IdRange::new(3, 9)), Some(4));
     Ok(())
 }
 
@@ -197,22 +191,57 @@ fn a_request_and_its_end(rt: HostRuntime) {
         ..flow(40, 64000)
     };
     same!(rt; asked.committed(units()), Budget { minislots: 4, elements: 2 });
-    let served = asked.acknowledged(9);
+    let mut served = asked;
+    served.acknowledge(9);
     same!(rt; served.sets, active(256000));
     same!(rt; served.sid, Some(40));
     same!(rt; served.start, 9);
-    same!(rt; asked.taken_back().sid, None);
-    same!(rt; asked.taken_back().sets, active(64000));
+    let mut left = asked;
+    left.take_back();
+    same!(rt; left.sid, None);
+    same!(rt; left.sets, active(64000));
+}
+
+#[test]
+fn what_waits_in_a_table_and_its_end(rt: HostRuntime) -> Result<(), Fail> {
+    let asked = Flow {
+        pending: Some(Pending {
+            sets: active(256000),
+            sid_is_new: true,
+        }),
+        ..flow(40, 64000)
+    };
+    let mut flows = Flows::new(rt.alloc(), 2, units())?;
+    flows.put(7, &asked)?;
+    check_committed(&rt, &flows, 4);
+    flows.take_back(7);
+    check_with(&rt, &flows, &[(40, None)]);
+    check_committed(&rt, &flows, 1);
+    flows.put(3, &asked)?;
+    flows.request(3, 12, 8);
+    flows.acknowledge(3, 9);
+    check_committed(&rt, &flows, 5);
+    flows.grant(3, 5, 9);
+    let served = Flow {
+        start: 9,
+        backlog: 7,
+        since: 10,
+        ..flow(40, 256000)
+    };
+    check_with(&rt, &flows, &[(40, Some((3, served)))]);
+    Ok(())
 }
 
 #[test]
 fn a_backlog_and_since_when_it_waits(rt: HostRuntime) {
-    let waiting = flow(40, 64000).requested(20, 5);
+    let mut waiting = flow(40, 64000);
+    waiting.request(20, 5);
     same!(rt; waiting.asks_for_grants(), true);
-    same!(rt; waiting.requested(30, 6).since, 5);
-    let left = waiting.granted(8, 7);
-    same!(rt; left.backlog, 12);
-    same!(rt; left.since, 8);
-    same!(rt; left.granted(12, 8).backlog, 0);
-    same!(rt; left.granted(13, 8).since, 8);
+    waiting.grant(8, 7);
+    same!(rt; waiting.backlog, 12);
+    same!(rt; waiting.since, 8);
+    waiting.request(30, 9);
+    same!(rt; (waiting.backlog, waiting.since), (30, 8));
+    waiting.grant(31, 10);
+    same!(rt; (waiting.backlog, waiting.since), (0, 8));
 }

@@ -8,4 +8,4 @@ pub returns-in-Some : goal.returns-in-Some
 returns-in-Some c =
     let at = sym c.get_mut.ensures.value ∙ ap option_copied_mut c.in-Some.is in
     (c.get_mut.follows.holds _).0
-    ∙ rw (c.since_granted-flow.ensures, c.saturating_sub-left.ensures) (moved_some c.args.by_sfid.now.entries c.args.sfid (granted c.args.minislots c.args.frame) c.in-Some.flow.now c.get_mut.ensures.ordered at)
+    ∙ rw (c.grant.ensures.value) (moved_some c.args.by_sfid.now.entries c.args.sfid (granted c.args.minislots c.args.frame) c.in-Some.flow.now c.get_mut.ensures.ordered at)
