@@ -6,6 +6,7 @@ ghost use Rattle.std.specs.Io.KnownBytes.{ReadConsumes};
 ghost use Rattle.plant_script.specs.One.{is_readable};
 ghost use Rattle.plant_script.specs.declared.input.Stop.TheVariants.{Memory};
 
+use simdutf8::compat::from_utf8;
 use std::alloc::{AllocError, AllocFailed, Global};
 use std::io;
 use std::io::Read;
@@ -92,7 +93,7 @@ pub fn read_input<R: Read>(
         → (failed.new ≡ true) ⊎ IfSome (R.remaining reader.old) (λ bytes. is_readable bytes ≡ false) }
 {
     let input = read_bytes(alloc, reader, failed)?;
-    match str::from_utf8(input.as_slice()) {
+    match from_utf8(input.as_slice()) {
         Ok(_text) => Ok(input),
         Err(error) => {
             *valid = Some(error.valid_up_to());

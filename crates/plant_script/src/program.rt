@@ -22,6 +22,7 @@ use grant_policy::{RankInput, Ranking, rank_by};
 use plant_lines::{LineFault, before_bar, messages_of, parts_of, script_text};
 use plant_reasons::{Trouble, reason_of, reason_of_trouble, reason_of_words};
 use plant_words::{Word, WordsFault, read_words};
+use simdutf8::compat::from_utf8;
 use std::alloc::{AllocError, Global};
 use std::io::{Read, Write};
 use std::sync::Wait;
@@ -75,7 +76,7 @@ fn reasons_of<'a>(
 ) -> Result<String, AllocError> {
     match (seen.word, &seen.input) {
         (Some(word), Some(input)) => {
-            let text = str::from_utf8(input.as_slice()).unwrap_or("");
+            let text = from_utf8(input.as_slice()).unwrap_or("");
             reason_of(alloc, word, text, status)
         }
         (None, _) if status == 2 => reason_of_words(alloc, words),
