@@ -71,8 +71,9 @@ fn all_name(kind: Kind, first: &FlowTlv, others: &[FlowTlv]) -> bool
 }
 
 /// The first of the encodings, where they stand together.
-fn first_of(t: Transaction, encodings: &[FlowTlv]) -> Result<FlowTlv, Reply>
-    ensures { result ≡ first_of t encodings.now }
+fn first_of(t: Transaction, encodings: &[FlowTlv]) -> Result<&FlowTlv, Reply>
+    ensures { MatchResult result (λ first. first_of t encodings.now ≡ Ok first.now)
+        (λ reply. first_of t encodings.now ≡ Err reply) }
 {
     let Some((first, others)) = encodings.split_first() else {
         return Err(refusal(t.kind, t.tid, Code::RejectRequiredParameterNotPresent));
@@ -83,7 +84,7 @@ fn first_of(t: Transaction, encodings: &[FlowTlv]) -> Result<FlowTlv, Reply>
     if !stand_together(encodings) {
         return Err(refusal(t.kind, t.tid, Code::RejectDuplicateReference));
     }
-    Ok(*first)
+    Ok(first)
 }
 
 /// Whether an encoding names a class that the plant has not.
@@ -105,9 +106,14 @@ fn first_unclassed<'a>(consts: &Consts, encodings: &'a [FlowTlv]) -> Option<&'a 
 
 /// The first of the encodings, where they stand together and none names a class that the plant has not.
 #[tactic(auto, unfolding(operator_machine::specs::Asked::first_encoding))]
-fn first_encoding(t: Transaction, consts: &Consts, encodings: &[FlowTlv]) -> Result<FlowTlv, Reply>
+fn first_encoding<'a>(
+    t: Transaction,
+    consts: &Consts,
+    encodings: &'a [FlowTlv],
+) -> Result<&'a FlowTlv, Reply>
     requires { t.kind ≢ Dsd }
-    ensures { result ≡ first_encoding t consts.now.classes encodings.now }
+    ensures { MatchResult result (λ first. first_encoding t consts.now.classes encodings.now ≡ Ok first.now)
+        (λ reply. first_encoding t consts.now.classes encodings.now ≡ Err reply) }
 {
     match first_unclassed(consts, encodings) {
         Some(flow) => Err(refusal_naming(t, Code::RejectPermanent, flow, 4)),
@@ -322,10 +328,10 @@ pub(crate) fn addition_of(
 {
     let first = first_encoding(t, consts, encodings)?;
     let Some(reference) = first.get_reference() else {
-        return Err(refusal_naming(t, Code::RejectRequiredParameterNotPresent, &first, 1));
+        return Err(refusal_naming(t, Code::RejectRequiredParameterNotPresent, first, 1));
     };
     let asked = asked_sets(t, consts, encodings)?;
-    let sets = nested_sets(t, &first, Sets::dynamic(), &asked)?;
+    let sets = nested_sets(t, first, Sets::dynamic(), &asked)?;
     Ok(Addition { reference, sets })
 }
 
@@ -343,10 +349,10 @@ pub(crate) fn change_of(
 {
     let first = first_encoding(t, consts, encodings)?;
     let Some(sfid) = first.get_sfid() else {
-        return Err(refusal_naming(t, Code::RejectRequiredParameterNotPresent, &first, 2));
+        return Err(refusal_naming(t, Code::RejectRequiredParameterNotPresent, first, 2));
     };
     let flow = *free_flow(t, flows.get(sfid))?;
     let asked = asked_sets(t, consts, encodings)?;
-    let sets = nested_sets(t, &first, flow.sets, &asked)?;
+    let sets = nested_sets(t, first, flow.sets, &asked)?;
     Ok(Change { sfid, flow, sets })
 }

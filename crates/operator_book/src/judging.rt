@@ -8,26 +8,9 @@ ghost use Rattle.operator_book.specs.MostOutputs.{most_outputs_of};
 
 use crate::book::BookFault;
 use crate::machine::Machine;
-use dsx_messages::Modem;
-use operator_machine::{Action, Unfit};
+use operator_machine::Action;
 
 impl Machine {
-    /// The modem of an Arrive, where it is not of this row.
-    fn stranger_of(&self, action: &Action) -> Option<Modem>
-        ensures { result ≡ stranger_of self.now.row action.now }
-    {
-        match action {
-            Action::Arrive { modem, heard: _ } => {
-                if self.row.get_fields().modems.contains(*modem) {
-                    None
-                } else {
-                    Some(*modem)
-                }
-            }
-            Action::Work | Action::Tick | Action::Reslice { from: _, row: _ } => None,
-        }
-    }
-
     /// Whether this is a tick past the last frame.
     pub(crate) fn is_spent(&self, action: &Action) -> bool
         ensures { result ≡ is_spent self.now.state action.now }
@@ -37,16 +20,6 @@ impl Machine {
             Action::Arrive { modem: _, heard: _ }
             | Action::Work
             | Action::Reslice { from: _, row: _ } => false,
-        }
-    }
-
-    /// Why a slice that is offered cannot be taken.
-    fn unfit_of(&self, action: &Action) -> Option<Unfit>
-        ensures { result ≡ unfit_of self.now.consts self.now.state action.now }
-    {
-        match action {
-            Action::Reslice { from, row } => self.unfit_from(*from, *row),
-            Action::Arrive { modem: _, heard: _ } | Action::Work | Action::Tick => None,
         }
     }
 
@@ -60,15 +33,26 @@ impl Machine {
         ensures allowed { OnOk result (IsAllowed self.now action.now) }
         ensures memory { result ≡ Err BookFault.NoMemory → ⊥ }
     {
-        if let Some(modem) = self.stranger_of(action) {
-            return Err(BookFault::NotMine { modem });
-        }
-        if self.is_spent(action) {
-            return Err(BookFault::FramesSpent);
-        }
-        match self.unfit_of(action) {
-            Some(unfit) => Err(BookFault::Unfit(unfit)),
-            None => Ok(()),
+        match action {
+            Action::Arrive { modem, heard: _ } => {
+                if self.row.get_fields().modems.contains(*modem) {
+                    Ok(())
+                } else {
+                    Err(BookFault::NotMine { modem: *modem })
+                }
+            }
+            Action::Work => Ok(()),
+            Action::Tick => {
+                if self.frame == u32::MAX {
+                    Err(BookFault::FramesSpent)
+                } else {
+                    Ok(())
+                }
+            }
+            Action::Reslice { from, row } => match self.unfit_from(*from, *row) {
+                Some(unfit) => Err(BookFault::Unfit(unfit)),
+                None => Ok(()),
+            },
         }
     }
 

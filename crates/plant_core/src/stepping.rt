@@ -28,6 +28,9 @@ pub fn append(outs: &mut Vec<Out>, op: Op, told: Vec<Output>)
     requires { vec_len outs.old + vec_len told ≤ vec_capacity outs.old }
     ensures { outs.new.items ≡ outs.old.items ++ under op told.items }
 {
+    if told.is_empty() {
+        return;
+    }
     for output in told {
         outs.push_reserved(Out::Of { op, output });
     }
