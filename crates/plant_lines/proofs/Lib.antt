@@ -4,3 +4,4 @@ pub mod Marked
 pub mod Outcomes
 pub mod Scripts
 pub mod Splits
+pub mod Unhexed

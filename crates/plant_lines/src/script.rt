@@ -12,8 +12,8 @@ use crate::fields::{
     FieldFault, bytes_in, halves, number_in, short_in, three_in, three_of, two_in,
 };
 use crate::lines::{LineFault, parts_of, put_parts};
+use crate::unhex::decode_into;
 use dsx_messages::Modem;
-use hex::FromHex;
 use operator_machine::{Heard, SliceRow};
 use plant_runs::{SliceRows, Step};
 use slice_table::{Op, OperatorRow, Plant};
@@ -38,9 +38,10 @@ pub struct Sender {
 fn sender_in(plant: &Plant, field: &[u8]) -> Result<Sender, FieldFault>
     ensures { result ≡ sender_in plant.now field.now }
 {
-    let Ok(address) = <[u8; 6] as FromHex>::from_hex(field) else {
+    let mut address = [0u8; 6];
+    if field.len() != 12 || !decode_into(field, &mut address) {
         return Err(FieldFault::Shape);
-    };
+    }
     let modem = Modem(address);
     match plant.operator_of(modem) {
         Some(op) => Ok(Sender { modem, op }),
