@@ -5,3 +5,5 @@ pub mod Outcomes
 pub mod Scripts
 pub mod Splits
 pub mod Unhexed
+pub mod Spaces
+pub mod FirstFields
