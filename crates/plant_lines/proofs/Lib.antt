@@ -4,3 +4,6 @@ pub mod Marked
 pub mod Outcomes
 pub mod Scripts
 pub mod Splits
+pub mod Unhexed
+pub mod Spaces
+pub mod FirstFields

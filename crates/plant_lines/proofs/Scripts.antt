@@ -10,7 +10,7 @@ use Rattle.operator_machine.specs.declared.action.SliceRow.{SliceRow}
 use Rattle.plant_lines.specs.declared.fields.FieldFault.{FieldFault}
 use Rattle.plant_lines.specs.declared.fields.FieldFault.TheVariants.{Shape, NoMemory}
 use Rattle.plant_lines.specs.declared.script.LineStep.{LineStep}
-use Rattle.plant_lines.specs.Fields.{Read, ◌>>=◌, Fails, behind, two_of, three_of}
+use Rattle.plant_lines.specs.Fields.{Read, ◌>>=◌, Fails, behind}
 use Rattle.plant_lines.specs.Script.{tick_steps, all_ticks, message_steps, request_steps, ticked_steps, resliced_steps, steps_in, share_in, shares_after, line_steps, steps_after}
 
 -- an element stands at each place
@@ -60,30 +60,7 @@ pub steps_fail : (plant : PlantFields) (number : ℕ) (steps : List LineStep) (l
 steps_fail plant number steps line lines fault (Ok more) e h = absurd cc
 steps_fail plant number steps line lines fault (Err other) e h = steps_by plant number steps line lines (Err other) e
 
--- ---- fields one after the other
-
-pub two_alone : (line : List ℕ) (fields : List (List ℕ)) → fields ≡ line ∷ [] → two_of fields ≡ Err Shape
-two_alone line fields e = rw e refl
-
-pub two_both : (first rest : List ℕ) (fields others : List (List ℕ)) → fields ≡ first ∷ others → others ≡ rest ∷ [] → two_of fields ≡ Ok (first, rest)
-two_both first rest fields others e f = rw (e, f) refl
-
-pub two_more : (first second rest : List ℕ) (fields others : List (List ℕ)) → fields ≡ first ∷ others → others ≡ second ∷ parts_of 32 rest → two_of fields ≡ Err Shape
-two_more first second rest fields others e f = let more = field_first rest in rw (e, f, more.2) refl
-
-pub three_alone : (line : List ℕ) (fields : List (List ℕ)) → fields ≡ line ∷ [] → three_of fields ≡ Err Shape
-three_alone line fields e = rw e refl
-
-three_by : (first : List ℕ) (others : List (List ℕ)) → three_of (first ∷ others) ≡ (two_of others >>= λ two. Ok (first, two.0, two.1))
-three_by first [] = refl
-three_by first (a ∷ []) = refl
-three_by first (a ∷ b ∷ []) = refl
-three_by first (a ∷ b ∷ c ∷ others) = refl
-
-pub three_first : (first : List ℕ) (fields others : List (List ℕ)) (two : Read (List ℕ × List ℕ)) → fields ≡ first ∷ others → two_of others ≡ two
-    → three_of fields ≡ (two >>= λ two. Ok (first, two.0, two.1))
-three_first first fields others two e f =
-    ap three_of e ∙ (three_by first others ∙ ap (λ (r : Read (List ℕ × List ℕ)). r >>= λ two. Ok (first, two.0, two.1)) f)
+-- ---- a line by its fields
 
 -- a line of one field, other than `T`
 pub alone : (plant : PlantFields) (number : ℕ) (word : List ℕ) → bytes_eq word (codes "T") ≡ false → steps_in plant number (word ∷ []) ≡ Err Shape

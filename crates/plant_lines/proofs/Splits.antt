@@ -1,6 +1,6 @@
 -- Lines and the messages in them, one after the other.
-use Rattle.std.proofs.Common.{◌≡◌, ℕ, zero, suc, ◌+◌, ◌<◌, ◌==◌, Bool, true, false, List, [], ◌∷◌, ◌++◌, length, map, take, drop, get_or, Option, Some, None, Err, refl, sym, ap, ◌∙◌, append_assoc, append-nil, add-one, drop-cons, arith}
-use Rattle.std.proofs.lemmas.Bool.{false_from_ne_true}
+use Rattle.std.proofs.Common.{◌≡◌, ℕ, zero, suc, ◌+◌, ◌<◌, ◌==◌, Bool, true, false, List, [], ◌∷◌, ◌++◌, length, map, take, drop, get_or, Option, Some, None, Err, refl, sym, ap, ◌∙◌, append_assoc, append-nil, add-one, drop-cons, eq-eqb, arith, slice_index}
+use Rattle.std.proofs.lemmas.Bool.{eqb-true, false_from_ne_true}
 use Rattle.std.proofs.lemmas.List.{take_all}
 use Rattle.std.specs.List.{drop-map}
 use Rattle.std.specs.Borrow.{Bor}
@@ -56,6 +56,15 @@ pub halves_of : (line first behind : List ℕ) (place : ℕ) → NoneBefore (Pas
     → first ≡ drop 0 (take place line) → behind ≡ drop (place + 1) (take (length line) line) → parts_of 32 line ≡ first ∷ parts_of 32 behind
 unfolding parts_of
 halves_of line first behind place found first_is behind_is = sym (split_more 32 line line first behind [] place found first_is behind_is refl)
+
+-- a line whose first field is of one byte
+pub word_of : (line first behind : List ℕ) → 1 < length line → (slice_index line 0 ≡ 32 → ⊥) → slice_index line 1 ≡ 32
+    → first ≡ drop 0 (take 1 line) → behind ≡ drop 2 (take (length line) line) → parts_of 32 line ≡ first ∷ parts_of 32 behind
+word_of line first behind long word space first_is behind_is =
+    halves_of line first behind 1 (record { low = omega arith; high = long; before = before }, eq-eqb (slice_index line 1) 32 space) first_is behind_is where
+      before : Nowhere (Passes (is_byte 32) line) 0 1
+      before zero low high hit = word (eqb-true (slice_index line 0) 32 hit)
+      before (suc k) low high hit = absurd (omega (arith, high))
 
 pub whole_of : (line : List ℕ) → Nowhere (Passes (is_byte 32) line) 0 (length line) → parts_of 32 line ≡ line ∷ []
 whole_of line none = sym (split_last 32 line line [] none refl)

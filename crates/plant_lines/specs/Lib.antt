@@ -8,3 +8,4 @@ pub mod Text
 pub mod LineFault
 pub mod SaidSoFar
 pub mod StepsSoFar
+pub mod Senders

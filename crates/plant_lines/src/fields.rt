@@ -1,7 +1,7 @@
 //! What stands in a field of a script's line.
 
 ghost use Rattle.std.specs.Prelude.{◌≡◌, ◌≤◌, [], ◌∷◌, map, MatchOption, IfOk};
-ghost use Rattle.plant_lines.specs.Fields.{Gives, seen, two_of, three_of, number_in, short_in, bytes_in};
+ghost use Rattle.plant_lines.specs.Fields.{Gives, seen, three_of, number_in, short_in, bytes_in};
 ghost use Rattle.plant_lines.specs.Lines.{fields_of};
 ghost use Rattle.plant_lines.specs.declared.fields.FieldFault.TheVariants.{NoMemory};
 
@@ -47,29 +47,16 @@ pub fn halves(line: &[u8]) -> Option<(&[u8], &[u8])>
     }
 }
 
-/// Two fields of a line and no more.
-pub fn two_in(line: &[u8]) -> Result<(&[u8], &[u8]), FieldFault>
-    ensures { seen (λ p. (p.0.now, p.1.now)) result ≡ two_of (fields_of line.now) }
+/// A line in two as by `halves`, with no search where its first field is of one byte, as that of most lines is.
+#[tactic(auto, using(crate::proofs::Splits::word_of))]
+pub fn word_and_rest(line: &[u8]) -> Option<(&[u8], &[u8])>
+    ensures { MatchOption result (fields_of line.now ≡ line.now ∷ [])
+        (λ p. fields_of line.now ≡ p.0.now ∷ fields_of p.1.now) }
 {
-    let Some((first, rest)) = halves(line) else {
-        return Err(FieldFault::Shape);
-    };
-    match halves(rest) {
-        Some(_more) => Err(FieldFault::Shape),
-        None => Ok((first, rest)),
-    }
-}
-
-/// Three fields of a line and no more.
-pub fn three_in(line: &[u8]) -> Result<(&[u8], &[u8], &[u8]), FieldFault>
-    ensures { seen (λ p. (p.0.now, p.1.now, p.2.now)) result ≡ three_of (fields_of line.now) }
-{
-    let Some((first, rest)) = halves(line) else {
-        return Err(FieldFault::Shape);
-    };
-    match two_in(rest) {
-        Ok((second, third)) => Ok((first, second, third)),
-        Err(fault) => Err(fault),
+    if line.len() > 1 && line[0] != b' ' && line[1] == b' ' {
+        Some((part(line, 0, 1), part(line, 2, line.len())))
+    } else {
+        halves(line)
     }
 }
 

@@ -10,6 +10,7 @@ mod input;
 mod lines;
 mod script;
 mod text;
+mod unhex;
 mod writing;
 
 pub use causes::name_of;

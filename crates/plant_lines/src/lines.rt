@@ -6,7 +6,7 @@ ghost use Rattle.plant_lines.specs.Messages.{message_in, messages_of};
 ghost use Rattle.plant_lines.specs.LineFault.{Gives};
 ghost use Rattle.plant_lines.specs.declared.lines.LineFault.TheVariants.{NoMemory};
 
-use hex::{FromHexError, decode};
+use crate::unhex::decode_into;
 use memchr::memchr;
 use std::alloc::{AllocError, AllocFailed, Global};
 use tlv24::Bytes;
@@ -77,10 +77,14 @@ pub fn message_in(alloc: Global, line: &[u8]) -> Result<Option<Bytes>, AllocErro
     if line == b"-".as_slice() {
         return Ok(Some(Bytes::from_vec(Vec::new(alloc))));
     }
-    match decode(alloc, line) {
-        Ok(bytes) => Ok(Some(Bytes::from_vec(bytes))),
-        Err(FromHexError::OutOfMemory) => Err(AllocError),
-        Err(_shape) => Ok(None),
+    if line.len() % 2 == 1 {
+        return Ok(None);
+    }
+    let mut bytes = vec![in alloc; 0u8; line.len() / 2]?;
+    if decode_into(line, bytes.as_mut_slice()) {
+        Ok(Some(Bytes::from_vec(bytes)))
+    } else {
+        Ok(None)
     }
 }
 

@@ -6,14 +6,13 @@ ghost use Rattle.plant_lines.specs.declared.fields.FieldFault.TheVariants.{Shape
 ghost use Rattle.plant_lines.specs.Fields.{Gives, seen, behind};
 ghost use Rattle.plant_lines.specs.Lines.{lines_of, fields_of};
 ghost use Rattle.plant_lines.specs.Script.{sender_in, is_named, operator_in, heard_steps, message_steps, request_steps, tick_steps, all_ticks, ticked_steps, share_in, shares_after, shares_in, resliced_steps, steps_in, line_steps, steps_after, steps_of};
+ghost use Rattle.plant_lines.specs.Senders.{sender_first};
 ghost use Rattle.plant_lines.specs.StepsSoFar.{GivesSteps};
 
-use crate::fields::{
-    FieldFault, bytes_in, halves, number_in, short_in, three_in, three_of, two_in,
-};
-use crate::lines::{LineFault, parts_of, put_parts};
+use crate::fields::{FieldFault, bytes_in, halves, number_in, short_in, three_of, word_and_rest};
+use crate::lines::{LineFault, part, parts_of, put_parts};
+use crate::unhex::decode_into;
 use dsx_messages::Modem;
-use hex::FromHex;
 use operator_machine::{Heard, SliceRow};
 use plant_runs::{SliceRows, Step};
 use slice_table::{Op, OperatorRow, Plant};
@@ -38,13 +37,28 @@ pub struct Sender {
 fn sender_in(plant: &Plant, field: &[u8]) -> Result<Sender, FieldFault>
     ensures { result ≡ sender_in plant.now field.now }
 {
-    let Ok(address) = <[u8; 6] as FromHex>::from_hex(field) else {
+    let mut address = [0u8; 6];
+    if field.len() != 12 || !decode_into(field, &mut address) {
         return Err(FieldFault::Shape);
-    };
+    }
     let modem = Modem(address);
     match plant.operator_of(modem) {
         Some(op) => Ok(Sender { modem, op }),
         None => Err(FieldFault::Shape),
+    }
+}
+
+/// The sender in a line's first field, and what stands behind it. An address has 12 digits: no space is searched for.
+#[tactic(auto, using(crate::proofs::FirstFields::sender_lacks, crate::proofs::FirstFields::sender_unparted))]
+fn sender_first<'a>(plant: &Plant, line: &'a [u8]) -> Result<(Sender, &'a [u8]), FieldFault>
+    ensures { seen (λ p. (p.0, fields_of p.1.now)) result ≡ sender_first plant.now (fields_of line.now) }
+{
+    if line.len() < 13 || line[12] != b' ' {
+        return Err(FieldFault::Shape);
+    }
+    match sender_in(plant, part(line, 0, 12)) {
+        Ok(sender) => Ok((sender, part(line, 13, line.len()))),
+        Err(_fault) => Err(FieldFault::Shape),
     }
 }
 
@@ -91,7 +105,7 @@ fn put_heard(
 }
 
 /// The steps of a message.
-#[tactic(auto, unfolding(crate::specs::Script::message_steps))]
+#[tactic(auto, using(crate::proofs::FirstFields::message_stop, crate::proofs::FirstFields::message_read, crate::proofs::FirstFields::message_unread))]
 fn put_message(
     alloc: Global,
     plant: &Plant,
@@ -103,14 +117,13 @@ fn put_message(
         (behind steps.old.items (message_steps plant.now number (fields_of line.now))) }
     ensures unsaid { result ≡ Err Shape → steps.new.items ≡ steps.old.items }
 {
-    let (address, message) = two_in(line)?;
-    let sender = sender_in(plant, address)?;
+    let (sender, message) = sender_first(plant, line)?;
     let bytes = bytes_in(alloc, message)?;
     put_heard(number, sender, Heard::Message(bytes), steps)
 }
 
 /// The steps of a request for minislots.
-#[tactic(auto, unfolding(crate::specs::Script::request_steps))]
+#[tactic(auto, using(crate::proofs::FirstFields::request_stop, crate::proofs::FirstFields::request_alone, crate::proofs::FirstFields::request_sid_unread, crate::proofs::FirstFields::request_unread, crate::proofs::FirstFields::request_read))]
 fn put_request(
     plant: &Plant,
     number: u64,
@@ -121,8 +134,10 @@ fn put_request(
         (behind steps.old.items (request_steps plant.now number (fields_of line.now))) }
     ensures unsaid { result ≡ Err Shape → steps.new.items ≡ steps.old.items }
 {
-    let (address, sid, minislots) = three_in(line)?;
-    let sender = sender_in(plant, address)?;
+    let (sender, numbers) = sender_first(plant, line)?;
+    let Some((sid, minislots)) = halves(numbers) else {
+        return Err(FieldFault::Shape);
+    };
     let sid = short_in(sid)?;
     let minislots = short_in(minislots)?;
     put_heard(number, sender, Heard::Request { sid, minislots }, steps)
@@ -302,7 +317,7 @@ pub fn put_line<'a>(
     if line.is_empty() {
         return Ok(());
     }
-    match halves(line) {
+    match word_and_rest(line) {
         Some((word, rest)) => put_word(alloc, plant, number, word, rest, fields, steps),
         None => put_alone(plant, number, line, steps),
     }
