@@ -23,7 +23,7 @@ pub record FitsElement (e : MapElement) : Type 0 where
   pub iuc : e.iuc < 2 ^ iuc_bits
   pub offset : e.offset < 2 ^ offset_bits
 
--- the Null: SID 0 and IUC 7
+-- the Null: the SID of nobody, and the Null's IUC
 abbrev pub is_null : MapElement → Bool
 is_null e = e.sid == nobodys_sid && e.iuc == null_iuc
 

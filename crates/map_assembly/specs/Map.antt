@@ -53,7 +53,7 @@ map_spans layout parts = head_span layout.head ++ filled layout.head layout.fram
 
 -- ---- the header
 
--- when a frame begins: the low bits of the minislots before it
+-- when a frame begins: the minislots before it, as the low bits that a time has
 abbrev pub frame_start : MapLayout → ℕ → ℕ
 frame_start layout frame = frame * layout.frame_minislots % 2 ^ time_bits
 
@@ -93,7 +93,7 @@ map_of layout frame parts = ordered_map layout frame (in_order parts)
 
 -- ---- its elements
 
--- a grant pending: a short one at the Null's offset
+-- a grant pending: the IUC of a short grant, at the Null's offset
 abbrev pub pending_at : ℕ → ℕ → MapElement
 pending_at end sid = record { sid = sid; iuc = short_iuc; offset = end }
 

@@ -31,7 +31,7 @@ abbrev pub AreJoined : ℕ → List MapSpan → Type 0
 AreJoined end [] = Unit {0}
 AreJoined end (s ∷ spans) = (0 < s.len) × (s.start + s.len ≡ first_start end spans) × AreJoined end spans
 
--- a grant pending: IUC 5 or 6 at the Null's offset
+-- a grant pending: the IUC of a short or of a long grant, at the Null's offset
 abbrev pub is_pending : ℕ → MapElement → Bool
 is_pending end e = (e.iuc == short_iuc || e.iuc == long_iuc) && e.offset == end
 

@@ -1,4 +1,4 @@
--- The numbers of a MAP's layout (own layout, after CM-SP-MULPIv3.1, 6.4.4).
+-- The numbers of a MAP's layout (own layout, after CM-SP-MULPIv3.1, 6.4.4, where no other section is named).
 use Rattle.std.specs.Prelude.{ℕ}
 use Rattle.slice_scheduler.specs.Iuc.{number_of}
 use Rattle.slice_scheduler.specs.declared.span.Iuc.TheVariants.{Request, Short, Long}
@@ -57,7 +57,7 @@ iuc_bits = 4
 abbrev pub offset_bits : ℕ
 offset_bits = 14
 
--- ---- to whom
+-- ---- to whom (Annex A, A.2)
 
 -- the SID of minislots that are granted to nobody, and of the Null
 abbrev pub nobodys_sid : ℕ

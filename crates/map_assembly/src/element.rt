@@ -39,7 +39,7 @@ impl MapElement {
         self.sid as u32 * (IUCS * OFFSETS) + self.iuc as u32 * OFFSETS + self.offset as u32
     }
 
-    /// Whether it is a Null element: the SID of nobody, and the IUC of the Null.
+    /// Whether it is a Null element: the SID of nobody, and the Null's IUC.
     pub(crate) fn is_null(self) -> bool
         ensures { result ≡ is_null self }
     {
@@ -59,7 +59,8 @@ pub(crate) fn first_element(bytes: &[u8]) -> Option<FirstElement<'_>>
     ensures elements { MatchOption result (elements_in bytes.now ≡ []) (λ first. elements_in bytes.now
         ≡ first.element ∷ elements_in first.rest.now) }
     ensures fits { IfSome result (λ first. FitsElement first.element) }
-    ensures rest { MatchOption result (length bytes.now < element_bytes) (λ first. length bytes.now ≡ length first.rest.now + element_bytes) }
+    ensures rest { MatchOption result (length bytes.now < element_bytes) (λ first. length bytes.now
+        ≡ length first.rest.now + element_bytes) }
 {
     let [a, b, c, d, rest @ ..] = bytes else {
         return None;

@@ -21,7 +21,7 @@ use slice_scheduler::{Iuc, Sids};
 use slice_table::Backoffs;
 use std::alloc::{AllocError, Global};
 
-/// Whether an element is a grant pending: a short or a long one at the Null's offset.
+/// Whether an element is a grant pending: the IUC of a short or of a long grant, at the Null's offset.
 fn is_pending(element: MapElement, end: u16) -> bool
     ensures { result ≡ is_pending end element }
 {

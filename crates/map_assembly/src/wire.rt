@@ -1,5 +1,5 @@
-//! The numbers of a MAP's layout (own layout, after CM-SP-MULPIv3.1, 6.4.4). Places are bytes of the header, from 0. Of the
-//! Interval Usage Codes, `slice_scheduler` has those that it uses.
+//! The numbers of a MAP's layout (own layout, after CM-SP-MULPIv3.1, 6.4.4, where no other section is named). Places are bytes
+//! of the header, from 0. Of the Interval Usage Codes, `slice_scheduler` has those that it uses.
 
 /// Where the upstream channel ID is.
 pub(crate) const CHANNEL_PLACE: usize = 0;
@@ -43,10 +43,10 @@ pub(crate) const OFFSETS: u32 = 1 << 14;
 /// How many Interval Usage Codes an element can have: 4 bits of them (6.4.4.2).
 pub(crate) const IUCS: u32 = 1 << 4;
 
-/// The SID of minislots that are granted to nobody, and of the Null.
+/// The SID of minislots that are granted to nobody, and of the Null (Annex A, A.2).
 pub(crate) const NOBODYS_SID: u16 = 0;
 
-/// The SID of all modems.
+/// The SID of all modems (Annex A, A.2).
 pub(crate) const BROADCAST_SID: u16 = 0x3FFF;
 
 /// The Interval Usage Code of the Null.
