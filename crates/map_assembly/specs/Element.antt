@@ -3,24 +3,29 @@ use Rattle.std.specs.Prelude.{ℕ, ◌+◌, ◌*◌, ◌/◌, ◌%◌, ◌^◌, 
 use Rattle.std.specs.List.{flat_map}
 use Rattle.std.specs.Int.{w32, to_be_bytes, from_be_bytes}
 use Rattle.map_assembly.specs.declared.element.MapElement.{MapElement}
+use Rattle.map_assembly.specs.Wire.{sid_bits, iuc_bits, offset_bits, nobodys_sid, null_iuc}
 
--- an element's 32 bits: 14 of the SID, 4 of the IUC, 14 of the offset
+-- an element's 32 bits: those of the SID, of the IUC and of the offset
 abbrev pub word_of : MapElement → ℕ
-word_of e = e.sid * 262144 + e.iuc * 16384 + e.offset
+word_of e = e.sid * 2 ^ (iuc_bits + offset_bits) + e.iuc * 2 ^ offset_bits + e.offset
 
 -- the element of 32 bits
 abbrev pub element_of : ℕ → MapElement
-element_of word = record { sid = word / 262144; iuc = word / 16384 % 16; offset = word % 16384 }
+element_of word = record {
+  sid = word / 2 ^ (iuc_bits + offset_bits);
+  iuc = word / 2 ^ offset_bits % 2 ^ iuc_bits;
+  offset = word % 2 ^ offset_bits;
+}
 
 -- each field of an element has its bits
 pub record FitsElement (e : MapElement) : Type 0 where
-  pub sid : e.sid < 2 ^ 14
-  pub iuc : e.iuc < 2 ^ 4
-  pub offset : e.offset < 2 ^ 14
+  pub sid : e.sid < 2 ^ sid_bits
+  pub iuc : e.iuc < 2 ^ iuc_bits
+  pub offset : e.offset < 2 ^ offset_bits
 
--- the Null: SID 0 and IUC 7
+-- the Null: the SID of nobody, and the Null's IUC
 abbrev pub is_null : MapElement → Bool
-is_null e = e.sid == 0 && e.iuc == 7
+is_null e = e.sid == nobodys_sid && e.iuc == null_iuc
 
 -- an element's four bytes
 abbrev pub spelled_element : MapElement → List ℕ

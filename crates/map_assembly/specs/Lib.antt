@@ -1,3 +1,4 @@
+pub mod Wire
 pub mod Element
 pub mod Reading
 pub mod Judging

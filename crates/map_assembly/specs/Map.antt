@@ -10,6 +10,7 @@ use Rattle.map_assembly.specs.declared.layout.MapLayout.{MapLayout}
 use Rattle.map_assembly.specs.declared.view.MapHeader.{MapHeader}
 use Rattle.map_assembly.specs.declared.view.MapSpan.{MapSpan}
 use Rattle.map_assembly.specs.declared.view.MapView.{MapView}
+use Rattle.map_assembly.specs.Wire.{time_bits, nobodys_sid, broadcast_sid, request_iuc, short_iuc, long_iuc}
 use Rattle.map_assembly.specs.Reading.{element_of_span, null_at}
 use Rattle.map_assembly.specs.Sorted.{sorted_by}
 
@@ -28,11 +29,12 @@ layout_of consts = record {
 
 -- the minislots from one up to another, granted to nobody: none where there are none
 abbrev pub idle_span : ℕ → ℕ → List MapSpan
-idle_span from to = if nat_lt from to then record { sid = 0; iuc = 6; start = from; len = to - from } ∷ [] else []
+idle_span from to =
+    if nat_lt from to then record { sid = nobodys_sid; iuc = long_iuc; start = from; len = to - from } ∷ [] else []
 
--- the head of a frame, in which every modem may ask: SID 0x3FFF
+-- the head of a frame, in which every modem may ask
 abbrev pub head_span : ℕ → List MapSpan
-head_span head = if head == 0 then [] else record { sid = 16383; iuc = 1; start = 0; len = head } ∷ []
+head_span head = if head == 0 then [] else record { sid = broadcast_sid; iuc = request_iuc; start = 0; len = head } ∷ []
 
 -- a span of an operator's part
 abbrev pub map_span : Span → MapSpan
@@ -51,9 +53,9 @@ map_spans layout parts = head_span layout.head ++ filled layout.head layout.fram
 
 -- ---- the header
 
--- when a frame begins: the low 32 bits of the minislots before it
+-- when a frame begins: the minislots before it, as the low bits that a time has
 abbrev pub frame_start : MapLayout → ℕ → ℕ
-frame_start layout frame = frame * layout.frame_minislots % 2 ^ 32
+frame_start layout frame = frame * layout.frame_minislots % 2 ^ time_bits
 
 -- the header of a frame's MAP with so many elements: it answers the requests up to its own beginning
 abbrev pub map_header : MapLayout → ℕ → ℕ → MapHeader
@@ -91,9 +93,9 @@ map_of layout frame parts = ordered_map layout frame (in_order parts)
 
 -- ---- its elements
 
--- a grant pending: IUC 5 at the Null's offset
+-- a grant pending: the IUC of a short grant, at the Null's offset
 abbrev pub pending_at : ℕ → ℕ → MapElement
-pending_at end sid = record { sid = sid; iuc = 5; offset = end }
+pending_at end sid = record { sid = sid; iuc = short_iuc; offset = end }
 
 -- the elements that say these spans and grants pending
 abbrev pub elements_of_map : ℕ → List MapSpan → List ℕ → List MapElement

@@ -7,6 +7,7 @@ use Rattle.slice_scheduler.specs.Tiles.{IsTiled}
 use Rattle.slice_scheduler.specs.declared.elements.ElementsFields.{ElementsFields}
 use Rattle.slice_table.specs.declared.operator_row.RowFields.{RowFields}
 use Rattle.map_assembly.specs.declared.share.Share.{Share}
+use Rattle.map_assembly.specs.Wire.{nobodys_sid}
 
 -- the share of a row's operator
 abbrev pub share_of : RowFields → Share
@@ -18,7 +19,7 @@ is_within range n = nat_le range.first n && nat_le n range.last
 
 -- a SID that is nobody's, or of the range
 abbrev pub is_mine : Numbers → ℕ → Bool
-is_mine range sid = sid == 0 || is_within range sid
+is_mine range sid = sid == nobodys_sid || is_within range sid
 
 -- the two slices are the same
 abbrev pub is_slice : Minislots → Minislots → Bool

@@ -4,23 +4,26 @@ use Rattle.slice_scheduler.specs.Minislots.{Minislots}
 use Rattle.slice_table.specs.Plant.{slices_meet, ranges_meet}
 use Rattle.map_assembly.specs.declared.layout.MapLayout.{MapLayout}
 use Rattle.map_assembly.specs.declared.share.Share.{Share}
+use Rattle.map_assembly.specs.Wire.{last_unicast_sid, longest_frame, element_limit}
 
--- a frame has at most 4,096 minislots, its head among them
+-- a frame is not longer than the longest one, its head among its minislots
 pub record IsLayout (layout : MapLayout) : Type 0 where
-  pub frame : layout.frame_minislots ≤ 4096
+  pub frame : layout.frame_minislots ≤ longest_frame
   pub head : layout.head ≤ layout.frame_minislots
 
--- a share has SIDs, which are 1 to 8,191
+-- a share has SIDs, from 1 to the last that one flow may have
 pub record IsShare (share : Share) : Type 0 where
   pub low : 1 ≤ share.sids.first
-  pub high : share.sids.last ≤ 8191
+  pub high : share.sids.last ≤ last_unicast_sid
 
--- there is an operator, no two share a SID, and a MAP of all their quotas has at most 240 elements
+-- there is an operator, no two share a SID, and a MAP of all their quotas keeps its limit of elements: beside the quotas, two
+-- more for each operator (an idle span of its own, and one behind its slice) and three more (the head, the idle span behind it
+-- and the Null)
 pub record AreShares (shares : List Share) : Type 0 where
   pub some : 1 ≤ length shares
   pub each : All IsShare shares
   pub apart : AllPairs (λ a b. ranges_meet a.sids b.sids ≡ false) shares
-  pub few : sum_by (λ share. share.elements) shares + 2 * length shares + 3 ≤ 240
+  pub few : sum_by (λ share. share.elements) shares + 2 * length shares + 3 ≤ element_limit
 
 -- a slice has a minislot, and lies in the frame, behind the head
 pub record IsInFrame (layout : MapLayout) (slice : Minislots) : Type 0 where

@@ -8,6 +8,7 @@ use Rattle.map_assembly.specs.declared.view.MapSpan.{MapSpan}
 use Rattle.map_assembly.specs.declared.view.MapView.{MapView}
 use Rattle.map_assembly.specs.declared.view.MapFault.{MapFault}
 use Rattle.map_assembly.specs.declared.view.MapFault.TheVariants.{Short, Count, Backward, NoNull, AfterNull, NoMemory}
+use Rattle.map_assembly.specs.Wire.{channel_place, ucd_count_place, count_place, alloc_start_place, ack_time_place, ranging_start_place, ranging_end_place, data_start_place, data_end_place, header_bytes, element_bytes, nobodys_sid, short_iuc, long_iuc, null_iuc}
 use Rattle.map_assembly.specs.Element.{is_null, elements_in}
 
 -- ---- the elements
@@ -18,7 +19,7 @@ element_of_span s = record { sid = s.sid; iuc = s.iuc; offset = s.start }
 
 -- the Null at this offset
 abbrev pub null_at : ℕ → MapElement
-null_at end = record { sid = 0; iuc = 7; offset = end }
+null_at end = record { sid = nobodys_sid; iuc = null_iuc; offset = end }
 
 -- where the first of these spans begins: at `end` where there is none
 abbrev pub first_start : ℕ → List MapSpan → ℕ
@@ -30,9 +31,9 @@ abbrev pub AreJoined : ℕ → List MapSpan → Type 0
 AreJoined end [] = Unit {0}
 AreJoined end (s ∷ spans) = (0 < s.len) × (s.start + s.len ≡ first_start end spans) × AreJoined end spans
 
--- a grant pending: IUC 5 or 6 at the Null's offset
+-- a grant pending: the IUC of a short or of a long grant, at the Null's offset
 abbrev pub is_pending : ℕ → MapElement → Bool
-is_pending end e = (e.iuc == 5 || e.iuc == 6) && e.offset == end
+is_pending end e = (e.iuc == short_iuc || e.iuc == long_iuc) && e.offset == end
 
 -- elements say these spans and these SIDs of grants pending: first the spans, none of which is the Null, then the Null at
 -- the end of the last, and behind it the grants pending
@@ -47,29 +48,33 @@ pub record ElementsSay (elements : List MapElement) (spans : List MapSpan) (sids
 
 -- ---- the header
 
--- the 16 bytes of a header: the fourth is reserved and not read
+-- the bytes of a header: the reserved one is not read
 abbrev pub header_in : List ℕ → MapHeader
 header_in bytes = record {
-  channel = slice_index bytes 0;
-  ucd_count = slice_index bytes 1;
-  elements = slice_index bytes 2;
-  alloc_start = from_be_bytes w32 (slice_range bytes 4 8);
-  ack_time = from_be_bytes w32 (slice_range bytes 8 12);
+  channel = slice_index bytes channel_place;
+  ucd_count = slice_index bytes ucd_count_place;
+  elements = slice_index bytes count_place;
+  alloc_start = from_be_bytes w32 (slice_range bytes alloc_start_place ack_time_place);
+  ack_time = from_be_bytes w32 (slice_range bytes ack_time_place ranging_start_place);
   backoffs = record {
-    ranging_start = slice_index bytes 12;
-    ranging_end = slice_index bytes 13;
-    data_start = slice_index bytes 14;
-    data_end = slice_index bytes 15;
+    ranging_start = slice_index bytes ranging_start_place;
+    ranging_end = slice_index bytes ranging_end_place;
+    data_start = slice_index bytes data_start_place;
+    data_end = slice_index bytes data_end_place;
   };
 }
 
 -- the elements behind a header
 abbrev pub elements_behind : List ℕ → List MapElement
-elements_behind bytes = elements_in (drop 16 bytes)
+elements_behind bytes = elements_in (drop header_bytes bytes)
 
--- the bytes are a header and as many elements as it counts, four bytes each
+-- how many bytes a header and the elements that it counts have
+abbrev pub counted_bytes : List ℕ → ℕ
+counted_bytes bytes = header_bytes + element_bytes * slice_index bytes count_place
+
+-- the bytes are a header and as many elements as it counts
 abbrev pub IsCounted : List ℕ → Type 0
-IsCounted bytes = length bytes ≡ 16 + 4 * slice_index bytes 2
+IsCounted bytes = length bytes ≡ counted_bytes bytes
 
 -- bytes say what a MAP says: a header, spans and grants pending
 pub record MapReads (bytes : List ℕ) (view : MapView) : Type 0 where
@@ -131,8 +136,8 @@ ElementsFault elements fault = ⊥
 
 -- the first fault of bytes
 abbrev pub IsFirstMapFault : List ℕ → MapFault → Type 0
-IsFirstMapFault bytes Short = length bytes < 16
-IsFirstMapFault bytes Count = (16 ≤ length bytes) × (length bytes ≢ 16 + 4 * slice_index bytes 2)
+IsFirstMapFault bytes Short = length bytes < header_bytes
+IsFirstMapFault bytes Count = (header_bytes ≤ length bytes) × (length bytes ≢ counted_bytes bytes)
 IsFirstMapFault bytes NoMemory = ⊥
 IsFirstMapFault bytes fault = IsCounted bytes × ElementsFault (elements_behind bytes) fault
 

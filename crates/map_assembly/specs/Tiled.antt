@@ -6,6 +6,7 @@ use Rattle.map_assembly.specs.declared.share.Share.{Share}
 use Rattle.map_assembly.specs.declared.view.MapSpan.{MapSpan}
 use Rattle.map_assembly.specs.declared.view.MapView.{MapView}
 use Rattle.slice_scheduler.specs.declared.elements.ElementsFields.{ElementsFields}
+use Rattle.map_assembly.specs.Wire.{nobodys_sid}
 use Rattle.map_assembly.specs.Map.{map_span}
 use Rattle.map_assembly.specs.Part.{is_within}
 
@@ -46,4 +47,7 @@ part_of range view = record { spans = filter (λ span. is_within range span.sid)
 
 -- what an operator put, as its part of the MAP: the spans with a SID, and the grants pending with one
 abbrev pub own_part : ElementsFields → MapPart
-own_part part = record { spans = map map_span (filter (λ span. not (span.sid == 0)) part.spans); pending = filter (λ sid. not (sid == 0)) part.pending }
+own_part part = record {
+  spans = map map_span (filter (λ span. not (span.sid == nobodys_sid)) part.spans);
+  pending = filter (λ sid. not (sid == nobodys_sid)) part.pending;
+}

@@ -2,6 +2,7 @@
 
 ghost use Rattle.std.specs.Prelude.{◌≡◌, ℕ, ◌≤◌, [], ◌∷◌, ◌++◌, map, length, All, IfOk, OnOk};
 ghost use Rattle.slice_scheduler.specs.declared.elements.ElementsFields.{ElementsFields};
+ghost use Rattle.map_assembly.specs.Wire.{element_limit};
 ghost use Rattle.map_assembly.specs.Element.{FitsElement};
 ghost use Rattle.map_assembly.specs.Reading.{element_of_span, null_at};
 ghost use Rattle.map_assembly.specs.Map.{filled, map_pending, pending_at, map_header};
@@ -12,13 +13,11 @@ ghost use Rattle.map_assembly.specs.Assembled.{ordered_elements};
 use crate::element::MapElement;
 use crate::layout::MapLayout;
 use crate::queue::{Queue, part_at};
+use crate::wire::ELEMENT_LIMIT;
 use crate::writing::{push_head, push_idle, push_null, push_pending, push_spans, write_map};
 use slice_scheduler::Elements;
 use slice_table::Op;
 use std::alloc::{AllocError, Global};
-
-/// The most elements that a MAP has.
-const MOST: usize = 240;
 
 /// Adds the spans behind the head: those of each operator in this order, and the minislots that no slice holds.
 fn push_filled(
@@ -73,7 +72,7 @@ fn ordered_elements(
 ) -> Result<Vec<MapElement>, AllocError>
     ensures { IfOk result (λ list. list.items ≡ ordered_elements layout order.now queues.now op part.now) }
 {
-    let mut list = Vec::with_capacity(alloc, MOST)?;
+    let mut list = Vec::with_capacity(alloc, ELEMENT_LIMIT)?;
     push_head(&mut list, layout.head)?;
     push_filled(&mut list, layout, order, queues, op, part)?;
     push_null(&mut list, layout.frame_minislots)?;
@@ -91,7 +90,7 @@ pub(crate) fn map_bytes(
     op: Op,
     part: &Elements,
 ) -> Result<Vec<u8>, AllocError>
-    requires few { length (ordered_elements layout order.now queues.now op part.now) ≤ 240 }
+    requires few { length (ordered_elements layout order.now queues.now op part.now) ≤ element_limit }
     requires fit { All FitsElement (ordered_elements layout order.now queues.now op part.now) }
     ensures { IfOk result (λ bytes. bytes.items
         ≡ spelled_map (map_header layout frame (length (ordered_elements layout order.now queues.now op part.now)))

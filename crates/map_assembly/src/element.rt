@@ -2,7 +2,10 @@
 
 ghost use Rattle.std.specs.Prelude.{◌≡◌, ◌+◌, [], ◌∷◌, ◌<◌, length, MatchOption, IfSome};
 ghost use Rattle.std.specs.Int.{w32, to_be_bytes};
+ghost use Rattle.map_assembly.specs.Wire.{element_bytes};
 ghost use Rattle.map_assembly.specs.Element.{word_of, element_of, is_null, FitsElement, elements_in};
+
+use crate::wire::{IUCS, NOBODYS_SID, NULL_IUC, OFFSETS};
 
 /// An information element of a MAP (CM-SP-MULPIv3.1, 6.4.4.2): 32 bits.
 #[derive(Clone, Copy, Debug, PartialEq, Eq)]
@@ -22,9 +25,9 @@ impl MapElement {
         ensures fits { FitsElement result }
     {
         MapElement {
-            sid: (word / 262144) as u16,
-            iuc: (word / 16384 % 16) as u8,
-            offset: (word % 16384) as u16,
+            sid: (word / (IUCS * OFFSETS)) as u16,
+            iuc: (word / OFFSETS % IUCS) as u8,
+            offset: (word % OFFSETS) as u16,
         }
     }
 
@@ -33,14 +36,14 @@ impl MapElement {
         requires { FitsElement self }
         ensures { result ≡ word_of self }
     {
-        self.sid as u32 * 262144 + self.iuc as u32 * 16384 + self.offset as u32
+        self.sid as u32 * (IUCS * OFFSETS) + self.iuc as u32 * OFFSETS + self.offset as u32
     }
 
-    /// Whether it is a Null element: SID 0 and IUC 7.
+    /// Whether it is a Null element: the SID of nobody, and the Null's IUC.
     pub(crate) fn is_null(self) -> bool
         ensures { result ≡ is_null self }
     {
-        self.sid == 0 && self.iuc == 7
+        self.sid == NOBODYS_SID && self.iuc == NULL_IUC
     }
 }
 
@@ -56,7 +59,8 @@ pub(crate) fn first_element(bytes: &[u8]) -> Option<FirstElement<'_>>
     ensures elements { MatchOption result (elements_in bytes.now ≡ []) (λ first. elements_in bytes.now
         ≡ first.element ∷ elements_in first.rest.now) }
     ensures fits { IfSome result (λ first. FitsElement first.element) }
-    ensures rest { MatchOption result (length bytes.now < 4) (λ first. length bytes.now ≡ length first.rest.now + 4) }
+    ensures rest { MatchOption result (length bytes.now < element_bytes) (λ first. length bytes.now
+        ≡ length first.rest.now + element_bytes) }
 {
     let [a, b, c, d, rest @ ..] = bytes else {
         return None;

@@ -13,6 +13,7 @@ mod refused;
 mod share;
 mod slicing;
 mod view;
+mod wire;
 mod writing;
 
 pub use gather::Gather;

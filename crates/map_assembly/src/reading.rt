@@ -1,7 +1,8 @@
 //! Reading a MAP.
 
-ghost use Rattle.std.specs.Prelude.{◌≡◌, ◌≢◌, ◌↔◌, ◌+◌, ◌++◌, [], ℕ, ◌≤◌, ◌<◌, ◌==◌, length, map, drop, slice_range, Result, MatchOption, MatchResult, Ok, Err, IfOk, IfErr, OnOk};
+ghost use Rattle.std.specs.Prelude.{◌≡◌, ◌≢◌, ◌↔◌, ◌+◌, ◌*◌, ◌++◌, [], ℕ, ◌≤◌, ◌<◌, ◌==◌, length, map, drop, slice_range, Result, MatchOption, MatchResult, Ok, Err, IfOk, IfErr, OnOk};
 ghost use Rattle.std.specs.Int.{w32, from_be_bytes};
+ghost use Rattle.map_assembly.specs.Wire.{header_bytes, element_bytes};
 ghost use Rattle.map_assembly.specs.Element.{is_null, elements_in};
 ghost use Rattle.map_assembly.specs.Judging.{judged, judged_behind, next_offset, spans_in, behind_null, pending_in};
 ghost use Rattle.map_assembly.specs.Reading.{is_pending, header_in, elements_behind, IsCounted, MapReads, IsOkUnlessMemory, IsFirstMapFault};
@@ -11,24 +12,27 @@ ghost use Rattle.map_assembly.specs.declared.view.MapFault.TheVariants.{NoMemory
 
 use crate::element::{MapElement, first_element};
 use crate::view::{MapFault, MapHeader, MapSpan, MapSpans, MapView};
-use slice_scheduler::Sids;
+use crate::wire::{
+    ACK_TIME_PLACE, ALLOC_START_PLACE, CHANNEL_PLACE, COUNT_PLACE, DATA_END_PLACE,
+    DATA_START_PLACE, ELEMENT_BYTES, HEADER_BYTES, RANGING_END_PLACE, RANGING_START_PLACE,
+    UCD_COUNT_PLACE,
+};
+use slice_scheduler::{Iuc, Sids};
 use slice_table::Backoffs;
 use std::alloc::{AllocError, Global};
 
-/// The bytes of a header.
-const HEADER: usize = 16;
-
-/// Whether an element is a grant pending: IUC 5 or 6 at the Null's offset.
+/// Whether an element is a grant pending: the IUC of a short or of a long grant, at the Null's offset.
 fn is_pending(element: MapElement, end: u16) -> bool
     ensures { result ≡ is_pending end element }
 {
-    (element.iuc == 5 || element.iuc == 6) && element.offset == end
+    (element.iuc == Iuc::Short.number() || element.iuc == Iuc::Long.number())
+        && element.offset == end
 }
 
 /// How many elements stand before the Null, given those behind it: each is a grant pending.
 fn judge_behind(bytes: &[u8], spans: usize, end: u16) -> Result<usize, MapFault>
-    requires few { length bytes.now ≤ 1020 }
-    requires place { spans ≤ 255 }
+    requires few { length bytes.now ≤ element_bytes * u8.MAX }
+    requires place { spans ≤ u8.MAX }
     ensures { result ≡ judged_behind spans end (spans + 1) (elements_in bytes.now) }
 {
     let mut at = spans + 1;
@@ -45,7 +49,7 @@ fn judge_behind(bytes: &[u8], spans: usize, end: u16) -> Result<usize, MapFault>
 
 /// How many elements stand before the Null. No more than 255 elements.
 fn judge(bytes: &[u8]) -> Result<usize, MapFault>
-    requires { length bytes.now ≤ 1020 }
+    requires { length bytes.now ≤ element_bytes * u8.MAX }
     ensures { result ≡ judged 0 0 (elements_in bytes.now) }
 {
     let mut at = 0;
@@ -135,30 +139,30 @@ fn long_at(bytes: &[u8], at: usize) -> u32
 
 /// The header that the bytes begin with.
 fn header_in(bytes: &[u8]) -> MapHeader
-    requires { 16 ≤ length bytes.now }
+    requires { header_bytes ≤ length bytes.now }
     ensures { result ≡ header_in bytes.now }
 {
     MapHeader {
-        channel: bytes[0],
-        ucd_count: bytes[1],
-        elements: bytes[2],
-        alloc_start: long_at(bytes, 4),
-        ack_time: long_at(bytes, 8),
+        channel: bytes[CHANNEL_PLACE],
+        ucd_count: bytes[UCD_COUNT_PLACE],
+        elements: bytes[COUNT_PLACE],
+        alloc_start: long_at(bytes, ALLOC_START_PLACE),
+        ack_time: long_at(bytes, ACK_TIME_PLACE),
         backoffs: Backoffs {
-            ranging_start: bytes[12],
-            ranging_end: bytes[13],
-            data_start: bytes[14],
-            data_end: bytes[15],
+            ranging_start: bytes[RANGING_START_PLACE],
+            ranging_end: bytes[RANGING_END_PLACE],
+            data_start: bytes[DATA_START_PLACE],
+            data_end: bytes[DATA_END_PLACE],
         },
     }
 }
 
 /// The bytes behind the header.
 fn body_of(bytes: &[u8]) -> &[u8]
-    requires { 16 ≤ length bytes.now }
-    ensures { result.now ≡ drop 16 bytes.now }
+    requires { header_bytes ≤ length bytes.now }
+    ensures { result.now ≡ drop header_bytes bytes.now }
 {
-    let (_header, body) = bytes.split_at(HEADER);
+    let (_header, body) = bytes.split_at(HEADER_BYTES);
     body
 }
 
@@ -168,11 +172,11 @@ fn count_spans(bytes: &[u8]) -> Result<usize, MapFault>
     ensures judged { IfOk result (λ count. judged 0 0 (elements_behind bytes.now) ≡ Ok count) }
     ensures fault { IfErr result (λ told. (fault : MapFault) → (told ≡ fault) ↔ IsFirstMapFault bytes.now fault) }
 {
-    if bytes.len() < HEADER {
+    if bytes.len() < HEADER_BYTES {
         return Err(MapFault::Short);
     }
     let body = body_of(bytes);
-    if body.len() != 4 * bytes[2] as usize {
+    if body.len() != ELEMENT_BYTES * bytes[COUNT_PLACE] as usize {
         return Err(MapFault::Count);
     }
     judge(body)
@@ -180,7 +184,7 @@ fn count_spans(bytes: &[u8]) -> Result<usize, MapFault>
 
 /// What the bytes of a MAP with so many spans say.
 fn view_in(alloc: Global, bytes: &[u8], count: usize) -> Result<MapView, AllocError>
-    requires { 16 ≤ length bytes.now }
+    requires { header_bytes ≤ length bytes.now }
     ensures header { IfOk result (λ view. view.header ≡ header_in bytes.now) }
     ensures spans { IfOk result (λ view. view.spans ≡ spans_in (elements_behind bytes.now)) }
     ensures pending { IfOk result (λ view. view.pending ≡ pending_in (elements_behind bytes.now)) }
@@ -188,7 +192,7 @@ fn view_in(alloc: Global, bytes: &[u8], count: usize) -> Result<MapView, AllocEr
     let body = body_of(bytes);
     let behind = behind_null(body);
     let spans = spans_in(alloc, body, count)?;
-    let pending = sids_in(alloc, behind, behind.len() / 4)?;
+    let pending = sids_in(alloc, behind, behind.len() / ELEMENT_BYTES)?;
     Ok(MapView {
         header: header_in(bytes),
         spans: MapSpans::from_vec(spans),

@@ -4,6 +4,7 @@ ghost use Rattle.std.specs.Prelude.{◌≡◌};
 ghost use Rattle.std.specs.List.{list_all};
 ghost use Rattle.map_assembly.specs.Part.{share_of, is_mine, is_slice, is_fitting};
 
+use crate::wire::NOBODYS_SID;
 use admission::IdRange;
 use slice_scheduler::{Elements, Slice, Span};
 use slice_table::OperatorRow;
@@ -33,7 +34,8 @@ impl Share {
     fn is_mine(&self, sid: u16) -> bool
         ensures { result ≡ is_mine self.now.sids sid }
     {
-        sid == 0 || self.sids.get_first() <= sid as u32 && sid as u32 <= self.sids.get_last()
+        sid == NOBODYS_SID
+            || self.sids.get_first() <= sid as u32 && sid as u32 <= self.sids.get_last()
     }
 
     /// Whether each span's SID is nobody's or the operator's own.

@@ -10,7 +10,8 @@ ghost use Rattle.map_assembly.specs.Writing.{spelled_header, spelled_map};
 
 use crate::element::MapElement;
 use crate::view::MapHeader;
-use slice_scheduler::Elements;
+use crate::wire::{BROADCAST_SID, ELEMENT_BYTES, HEADER_BYTES, NOBODYS_SID, NULL_IUC, RESERVED};
+use slice_scheduler::{Elements, Iuc};
 use std::alloc::{AllocError, Global};
 
 /// Adds the head, in which every modem may ask.
@@ -19,8 +20,8 @@ pub(crate) fn push_head(elements: &mut Vec<MapElement>, head: u16) -> Result<(),
 {
     if head > 0 {
         elements.push(MapElement {
-            sid: 0x3FFF,
-            iuc: 1,
+            sid: BROADCAST_SID,
+            iuc: Iuc::Request.number(),
             offset: 0,
         })?;
     }
@@ -37,8 +38,8 @@ pub(crate) fn push_idle(
 {
     if from < to {
         elements.push(MapElement {
-            sid: 0,
-            iuc: 6,
+            sid: NOBODYS_SID,
+            iuc: Iuc::Long.number(),
             offset: from,
         })?;
     }
@@ -65,8 +66,8 @@ pub(crate) fn push_null(elements: &mut Vec<MapElement>, end: u16) -> Result<(), 
     ensures { OnOk result (elements.new.items ≡ elements.old.items ++ null_at end ∷ []) }
 {
     elements.push(MapElement {
-        sid: 0,
-        iuc: 7,
+        sid: NOBODYS_SID,
+        iuc: NULL_IUC,
         offset: end,
     })?;
     Ok(())
@@ -83,7 +84,7 @@ pub(crate) fn push_pending(
     for sid in part.get_pending() {
         elements.push(MapElement {
             sid: *sid,
-            iuc: 5,
+            iuc: Iuc::Short.number(),
             offset: end,
         })?;
     }
@@ -96,12 +97,12 @@ pub(crate) fn write_map(
     header: MapHeader,
     elements: &[MapElement],
 ) -> Result<Vec<u8>, AllocError>
-    requires few { length elements.now < 256 }
+    requires few { length elements.now ≤ u8.MAX }
     requires fit { All FitsElement elements.now }
     ensures { IfOk result (λ bytes. bytes.items ≡ spelled_map header elements.now) }
 {
-    let mut bytes = Vec::with_capacity(alloc, 16 + 4 * elements.len())?;
-    bytes.extend_from_slice(&[header.channel, header.ucd_count, header.elements, 0])?;
+    let mut bytes = Vec::with_capacity(alloc, HEADER_BYTES + ELEMENT_BYTES * elements.len())?;
+    bytes.extend_from_slice(&[header.channel, header.ucd_count, header.elements, RESERVED])?;
     bytes.extend_from_slice(&header.alloc_start.to_be_bytes())?;
     bytes.extend_from_slice(&header.ack_time.to_be_bytes())?;
     bytes.extend_from_slice(&[

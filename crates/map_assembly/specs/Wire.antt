@@ -1,0 +1,100 @@
+-- The numbers of a MAP's layout (own layout, after CM-SP-MULPIv3.1, 6.4.4, where no other section is named).
+use Rattle.std.specs.Prelude.{ℕ}
+use Rattle.slice_scheduler.specs.Iuc.{number_of}
+use Rattle.slice_scheduler.specs.declared.span.Iuc.TheVariants.{Request, Short, Long}
+
+-- ---- the header: at which of its bytes each field begins, and how many bytes it has
+
+abbrev pub channel_place : ℕ
+channel_place = 0
+
+abbrev pub ucd_count_place : ℕ
+ucd_count_place = 1
+
+abbrev pub count_place : ℕ
+count_place = 2
+
+abbrev pub alloc_start_place : ℕ
+alloc_start_place = 4
+
+abbrev pub ack_time_place : ℕ
+ack_time_place = 8
+
+abbrev pub ranging_start_place : ℕ
+ranging_start_place = 12
+
+abbrev pub ranging_end_place : ℕ
+ranging_end_place = 13
+
+abbrev pub data_start_place : ℕ
+data_start_place = 14
+
+abbrev pub data_end_place : ℕ
+data_end_place = 15
+
+abbrev pub header_bytes : ℕ
+header_bytes = 16
+
+-- what the reserved byte of a header is written as; it is the fourth
+abbrev pub reserved : ℕ
+reserved = 0
+
+-- the bits of the Alloc Start Time and of the Ack Time
+abbrev pub time_bits : ℕ
+time_bits = 32
+
+-- ---- an element (6.4.4.2): its bytes, and the bits of its fields
+
+abbrev pub element_bytes : ℕ
+element_bytes = 4
+
+abbrev pub sid_bits : ℕ
+sid_bits = 14
+
+abbrev pub iuc_bits : ℕ
+iuc_bits = 4
+
+abbrev pub offset_bits : ℕ
+offset_bits = 14
+
+-- ---- to whom (Annex A, A.2)
+
+-- the SID of minislots that are granted to nobody, and of the Null
+abbrev pub nobodys_sid : ℕ
+nobodys_sid = 0
+
+-- the last SID that a single flow may have: 0x1FFF
+abbrev pub last_unicast_sid : ℕ
+last_unicast_sid = 8191
+
+-- the SID of all modems: 0x3FFF
+abbrev pub broadcast_sid : ℕ
+broadcast_sid = 16383
+
+-- ---- for what use: Interval Usage Codes
+
+-- a region for requests: 1
+abbrev pub request_iuc : ℕ
+request_iuc = number_of Request
+
+-- a grant of few minislots: 5
+abbrev pub short_iuc : ℕ
+short_iuc = number_of Short
+
+-- a grant of more: 6
+abbrev pub long_iuc : ℕ
+long_iuc = number_of Long
+
+-- the Null: 7
+abbrev pub null_iuc : ℕ
+null_iuc = 7
+
+-- ---- limits
+
+-- the most minislots of a frame
+abbrev pub longest_frame : ℕ
+longest_frame = 4096
+
+-- the most elements of a MAP
+abbrev pub element_limit : ℕ
+element_limit = 240
