@@ -4,9 +4,16 @@
 `operators`: a plant of 8 operators with 16 modems each, and a script of 20,000 lines, about one megabyte: each modem adds a
 flow, then asks for minislots and changes the flow in turn, and all frames are ticked behind each round.
 
-`flows TICKS`: a plant of one operator with 1,024 provisioned flows, of which as many are active as its 234 elements allow (117
-best-effort flows of 2 elements each); all of these ask for more than is granted, and then so many frames are ticked. Two inputs
-with different TICKS tell the cost of a tick.
+`flows TICKS [FLOWS]`: a plant of one operator with 1,024 provisioned flows (or FLOWS), of which as many are active as its 234
+elements allow (117 best-effort flows of 2 elements each, in proportion where there are fewer flows); all of these ask for more than
+is granted, and then so many frames are ticked. Two inputs with different TICKS tell the cost of a tick.
+
+`standing FLOWS ROUNDS`: a plant of one operator with so many provisioned flows that stand idle, and so many rounds in which its modem
+adds a flow, acknowledges the reply and deletes the flow, with a tick behind each 16. Two inputs with different ROUNDS tell the cost of
+such a round, and of a line of history.
+
+`maps OPERATORS FLOWS TICKS`: a plant of so many operators, each with so many active flows that ask, and so many ticks of all of them.
+Two inputs with different TICKS tell the cost of the frames and of the MAP of a tick.
 """
 
 import sys
@@ -53,22 +60,55 @@ def of_operators():
     return text + "---\n" + "\n".join(lines[:LINES]) + "\n"
 
 
-def of_flows(ticks):
+def provisioned(modem, set_type):
+    return f'[[operator.flow]]\nmodem = "{modem}"\nencoding = "0601{set_type:02X}0F0102"\n'
+
+
+def of_flows(ticks, flows=1024):
     modem = "020000000001"
+    active = 117 * flows // 1024
     text = channel_text(4096, 0)
     text += operator_text("A", [modem], (0, 4096), (1, 2000), 234, flows=1024, transactions=64)
-    for place in range(1024):
-        set_type = 7 if place % 8 == 0 and place < 8 * 117 else 1
-        text += f'[[operator.flow]]\nmodem = "{modem}"\nencoding = "0601{set_type:02X}0F0102"\n'
-    asked = "".join(f"Q {modem} {1 + place} {60000 + place}\n" for place in range(117))
+    text += "".join(provisioned(modem, 7 if place % 8 == 0 and place < 8 * active else 1) for place in range(flows))
+    asked = "".join(f"Q {modem} {1 + place} {60000 + place}\n" for place in range(active))
+    return text + "---\n" + asked + "T\n" * ticks
+
+
+def of_standing(flows, rounds):
+    modem = "020000000001"
+    text = channel_text(4096, 0, ack_wait=4, hold=1)
+    text += operator_text("A", [modem], (0, 4096), (1, 2000), 234, flows=1024, transactions=64)
+    text += provisioned(modem, 1) * flows
+    lines = []
+    for turn in range(rounds):
+        added, deleted = 2 * turn % 30_000 + 1, 2 * turn % 30_000 + 2
+        lines += [f"M {modem} 0F{added:04X}180A010200010601060F0102", f"M {modem} 11{added:04X}00",
+                  f"M {modem} 15{deleted:04X}0000{flows + 1:08X}"]
+        if turn % 16 == 15:
+            lines.append("T")
+    return text + "---\n" + "\n".join(lines) + "\n"
+
+
+def of_maps(operators, flows, ticks):
+    text, asked = channel_text(4096, 0), ""
+    for place in range(operators):
+        modem = f"0200000000{place:02X}"
+        identifiers = (1 + place * 100, 100 + place * 100)
+        text += operator_text(f"OP{place}", [modem], (place * 4096 // operators, 4096 // operators), identifiers, 2 * flows, flows=flows)
+        text += provisioned(modem, 7) * flows
+        asked += "".join(f"Q {modem} {identifiers[0] + flow} {60000 + flow}\n" for flow in range(flows))
     return text + "---\n" + asked + "T\n" * ticks
 
 
 def main():
     if sys.argv[1:] == ["operators"]:
         sys.stdout.write(of_operators())
-    elif len(sys.argv) == 3 and sys.argv[1] == "flows":
-        sys.stdout.write(of_flows(int(sys.argv[2])))
+    elif sys.argv[1:2] == ["flows"] and len(sys.argv) in (3, 4):
+        sys.stdout.write(of_flows(*map(int, sys.argv[2:])))
+    elif sys.argv[1:2] == ["standing"] and len(sys.argv) == 4:
+        sys.stdout.write(of_standing(*map(int, sys.argv[2:])))
+    elif sys.argv[1:2] == ["maps"] and len(sys.argv) == 5:
+        sys.stdout.write(of_maps(*map(int, sys.argv[2:])))
     else:
         sys.exit(__doc__)
 
