@@ -142,8 +142,7 @@ impl Flows {
         ensures err { OnErr result (self.new ≡ self.old) }
     {
         let committed = flow.committed(self.units);
-        let had = sid_at(&self.by_sfid, sfid);
-        grow(&mut self.by_sfid, &mut self.by_sid, sfid, flow)?;
+        let had = grow(&mut self.by_sfid, &mut self.by_sid, sfid, flow)?;
         free(&mut self.by_sid, had, flow.sid);
         commit(&mut self.ledger, sfid, committed);
         Ok(())
@@ -188,8 +187,7 @@ impl Flows {
     pub fn remove(&mut self, sfid: u32)
         ensures { self.new ≡ record self.old { flows = remove_entry (is_at (nat_cmp sfid)) self.old.flows } }
     {
-        let had = sid_at(&self.by_sfid, sfid);
-        let _flow = self.by_sfid.remove(&sfid);
+        let had = remove_in(&mut self.by_sfid, sfid);
         free(&mut self.by_sid, had, None);
         release(&mut self.ledger, sfid);
     }
@@ -228,11 +226,12 @@ impl Flows {
     }
 }
 
-/// The SID of the flow of an SFID.
-fn sid_at(flows: &BTreeMap<u32, Flow>, sfid: u32) -> Option<u16>
-    ensures { result ≡ sid_if (flow_at sfid flows.now.entries) }
+/// Removes the flow of an SFID, if there is one, and answers the SID that it had.
+fn remove_in(by_sfid: &mut BTreeMap<u32, Flow>, sfid: u32) -> Option<u16>
+    ensures flows { by_sfid.new.entries ≡ remove_entry (is_at (nat_cmp sfid)) by_sfid.old.entries }
+    ensures had { result ≡ sid_if (flow_at sfid by_sfid.old.entries) }
 {
-    match flows.get(&sfid) {
+    match by_sfid.remove(&sfid) {
         None => None,
         Some(flow) => flow.sid,
     }
@@ -349,13 +348,15 @@ fn flowing_of(sfid: u32, flow: &Flow) -> Option<Flowing>
     })
 }
 
-/// Puts a flow under its SFID and, where it has a SID, its SFID under that: both or neither.
+/// Puts a flow under its SFID and, where it has a SID, its SFID under that: both or neither. Answers the SID that the flow had that
+/// was there.
 fn grow(
     by_sfid: &mut BTreeMap<u32, Flow>,
     by_sid: &mut BTreeMap<u16, u32>,
     sfid: u32,
     flow: &Flow,
-) -> Result<(), AllocError>
+) -> Result<Option<u16>, AllocError>
+    ensures had { IfOk result (λ had. had ≡ sid_if (flow_at sfid by_sfid.old.entries)) }
     ensures flows { OnOk result (by_sfid.new.entries ≡ with_flow sfid flow.now by_sfid.old.entries) }
     ensures index { OnOk result (by_sid.new.entries ≡ with_sid_of flow.now.sid sfid by_sid.old.entries) }
     ensures err { OnErr result ((by_sfid.new.entries ≡ by_sfid.old.entries)
@@ -367,13 +368,15 @@ fn grow(
         Entry::Vacant(place) => {
             list(by_sid, flow.sid, sfid)?;
             let _flow = place.insert(*flow);
+            Ok(None)
         }
         Entry::Occupied(place) => {
+            let had = place.get().sid;
             list(by_sid, flow.sid, sfid)?;
             *place.into_mut() = *flow;
+            Ok(had)
         }
     }
-    Ok(())
 }
 
 /// Puts an SFID under a SID, where there is one.
