@@ -61,6 +61,7 @@ impl LiveDesk {
 
     /// Does an action, and tells what it puts out. Its frame waits. The caller has seen that the frame numbers are not spent.
     #[tactic(auto, using(crate::proofs::DeskLemmas::frame_waits, crate::proofs::DeskLemmas::none_waits, crate::proofs::DeskLemmas::quiet_waits))]
+    #[inline(always)]
     pub fn act(&mut self, alloc: Global, action: Action) -> Result<Vec<Output>, BookFault>
         requires fresh { is_spent self.old.live.sound.state action ≡ false }
         ensures book { OnOk result (book_at self.new ≡ went (book_at self.old) action) }

@@ -23,6 +23,7 @@ use std::alloc::Global;
 
 impl LiveCore {
     /// An operator takes an action that is its own.
+    #[inline(always)]
     fn act_at(
         &mut self,
         alloc: Global,
@@ -58,6 +59,7 @@ impl LiveCore {
     }
 
     /// The operator at this place acts, if there is one.
+    #[inline(always)]
     fn act_if(
         &mut self,
         alloc: Global,
@@ -79,6 +81,7 @@ impl LiveCore {
     }
 
     /// The operator that has this modem takes what was heard of it into its inbox.
+    #[inline(always)]
     fn arrive(
         &mut self,
         alloc: Global,
@@ -99,6 +102,7 @@ impl LiveCore {
     }
 
     /// The oldest frame that waits of the operator at this place goes into the assembly.
+    #[inline(always)]
     fn collect_at(&mut self, alloc: Global, op: Op, outs: &mut Vec<Out>) -> Result<(), CoreFault>
         requires { op < vec_len self.old.desks }
         ensures ok { OnOk result ((now : List Out) × (outs.new.items ≡ outs.old.items ++ now)
@@ -127,6 +131,7 @@ impl LiveCore {
     }
 
     /// The oldest frame that waits of the operator at this place goes into the assembly, if there is one.
+    #[inline(always)]
     fn collect(&mut self, alloc: Global, op: Op, outs: &mut Vec<Out>) -> Result<(), CoreFault>
         ensures ok { OnOk result ((now : List Out) × (outs.new.items ≡ outs.old.items ++ now)
             × GoesOn (Collects op) (live_view self.old) (live_view self.new) now) }
@@ -141,6 +146,7 @@ impl LiveCore {
     }
 
     /// One step, whose outputs are added. A refused step changes nothing, and adds nothing.
+    #[inline(always)]
     pub fn step_into(
         &mut self,
         alloc: Global,

@@ -425,6 +425,7 @@ impl Machine {
     }
 
     /// What was heard goes to the end of the inbox, without a copy.
+    #[inline(always)]
     pub(crate) fn take_in(
         &mut self,
         alloc: Global,

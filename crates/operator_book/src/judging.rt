@@ -12,6 +12,7 @@ use operator_machine::Action;
 
 impl Machine {
     /// Whether this is a tick past the last frame.
+    #[inline(always)]
     pub(crate) fn is_spent(&self, action: &Action) -> bool
         ensures { result ≡ is_spent self.now.state action.now }
     {
@@ -24,6 +25,7 @@ impl Machine {
     }
 
     /// Why an action is refused: a stranger first, then a tick past the last frame, then a slice that does not fit.
+    #[inline(always)]
     pub(crate) fn judge(&self, action: &Action) -> Result<(), BookFault>
         ensures not_mine { (modem : Modem) → (result ≡ Err (BookFault.NotMine modem))
             ↔ (stranger_of self.now.row action.now ≡ Some modem) }
@@ -58,6 +60,7 @@ impl Machine {
 
     /// How many outputs an action has at most, if it is done next: a tick what it sends again and its frame, any other action one.
     #[tactic(auto, using(crate::proofs::Few::few_outputs))]
+    #[inline(always)]
     pub(crate) fn most_outputs(&self, action: &Action) -> usize
         ensures value { result ≡ most_outputs_of self.now.state action.now }
         ensures bound { length (own_step self.now action.now).outputs ≤ result }

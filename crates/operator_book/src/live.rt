@@ -59,6 +59,7 @@ impl SoundMachine {
     }
 
     /// Does an action that is not refused, and tells what it puts out, maybe twice.
+    #[inline(always)]
     fn act(
         &mut self,
         alloc: Global,
@@ -117,6 +118,7 @@ impl Live {
 
     /// Does an action, and tells what it puts out, and where `twice` once more: for what the caller keeps of it. A refused action changes
     /// nothing.
+    #[inline(always)]
     pub fn act(
         &mut self,
         alloc: Global,

@@ -42,6 +42,7 @@ impl Machine {
 
     /// Does an action that is not refused, of which what was heard is not copied.
     #[tactic(auto, unfolding(operator_machine::specs::Machine::own_step))]
+    #[inline(always)]
     pub(crate) fn step_with(
         &mut self,
         alloc: Global,

@@ -24,6 +24,7 @@ use slice_table::Op;
 use std::alloc::Global;
 
 /// Adds an operator's outputs, for which there is room.
+#[inline(always)]
 pub fn append(outs: &mut Vec<Out>, op: Op, told: Vec<Output>)
     requires { vec_len outs.old + vec_len told ≤ vec_capacity outs.old }
     ensures { outs.new.items ≡ outs.old.items ++ under op told.items }
