@@ -48,6 +48,7 @@ pub struct Asker {
 }
 
 /// What a set needs, where there is one.
+#[inline(always)]
 fn need_if(units: Units, set: Option<ParamSet>) -> Budget
     ensures { result ≡ need_if units set }
 {
@@ -70,6 +71,7 @@ fn asks_for_grants(active: Option<ParamSet>) -> bool
 impl Flow {
     /// What it has committed: of minislots and of elements the greater of what its admitted set needs and of what the one
     /// that is pending needs.
+    #[inline(always)]
     pub fn committed(&self, units: Units) -> Budget
         ensures { result ≡ committed_of units self.now }
     {

@@ -136,6 +136,7 @@ impl Flows {
     }
 
     /// Puts a flow under an SFID, in place of the one that is there. At `AllocError` nothing has changed.
+    #[inline(always)]
     pub fn put(&mut self, sfid: u32, flow: &Flow) -> Result<(), AllocError>
         requires { MayStand self.old sfid flow.now }
         ensures ok { OnOk result (self.new ≡ record self.old { flows = with_flow sfid flow.now self.old.flows }) }
@@ -184,6 +185,7 @@ impl Flows {
     }
 
     /// Removes the flow of an SFID, if there is one. Takes no memory.
+    #[inline(always)]
     pub fn remove(&mut self, sfid: u32)
         ensures { self.new ≡ record self.old { flows = remove_entry (is_at (nat_cmp sfid)) self.old.flows } }
     {
@@ -227,6 +229,7 @@ impl Flows {
 }
 
 /// Removes the flow of an SFID, if there is one, and answers the SID that it had.
+#[inline(always)]
 fn remove_in(by_sfid: &mut BTreeMap<u32, Flow>, sfid: u32) -> Option<u16>
     ensures flows { by_sfid.new.entries ≡ remove_entry (is_at (nat_cmp sfid)) by_sfid.old.entries }
     ensures had { result ≡ sid_if (flow_at sfid by_sfid.old.entries) }
@@ -350,6 +353,7 @@ fn flowing_of(sfid: u32, flow: &Flow) -> Option<Flowing>
 
 /// Puts a flow under its SFID and, where it has a SID, its SFID under that: both or neither. Answers the SID that the flow had that
 /// was there.
+#[inline(always)]
 fn grow(
     by_sfid: &mut BTreeMap<u32, Flow>,
     by_sid: &mut BTreeMap<u16, u32>,
@@ -380,6 +384,7 @@ fn grow(
 }
 
 /// Puts an SFID under a SID, where there is one.
+#[inline(always)]
 fn list(by_sid: &mut BTreeMap<u16, u32>, sid: Option<u16>, sfid: u32) -> Result<(), AllocError>
     ensures ok { OnOk result (by_sid.new.entries ≡ with_sid_of sid sfid by_sid.old.entries) }
     ensures err { OnErr result (by_sid.new.entries ≡ by_sid.old.entries) }
@@ -391,6 +396,7 @@ fn list(by_sid: &mut BTreeMap<u16, u32>, sid: Option<u16>, sfid: u32) -> Result<
 }
 
 /// Removes the SID that a flow had, where it has it no more.
+#[inline(always)]
 fn free(by_sid: &mut BTreeMap<u16, u32>, had: Option<u16>, has: Option<u16>)
     ensures { by_sid.new.entries ≡ without_sid_of had has by_sid.old.entries }
 {
@@ -469,6 +475,7 @@ fn grant_in(by_sfid: &mut BTreeMap<u32, Flow>, sfid: u32, minislots: u16, frame:
 }
 
 /// Puts the row of a flow, in place of the one that is there.
+#[inline(always)]
 fn commit(ledger: &mut Ledger, sfid: u32, budget: Budget)
     requires { length (insert_entry nat_cmp ledger.old.rows sfid budget) ≤ ledger.old.room }
     ensures { ledger.new ≡ record ledger.old { rows = insert_entry nat_cmp ledger.old.rows sfid budget } }
@@ -480,6 +487,7 @@ fn commit(ledger: &mut Ledger, sfid: u32, budget: Budget)
 }
 
 /// Adds the row of a flow that has none.
+#[inline(always)]
 fn add(ledger: &mut Ledger, sfid: u32, budget: Budget)
     requires room { length ledger.old.rows < ledger.old.room }
     requires absent { IsNone (lookup (is_at (nat_cmp sfid)) ledger.old.rows) }

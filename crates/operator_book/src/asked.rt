@@ -71,6 +71,7 @@ fn all_name(kind: Kind, first: &FlowTlv, others: &[FlowTlv]) -> bool
 }
 
 /// The first of the encodings, where they stand together.
+#[inline(always)]
 fn first_of(t: Transaction, encodings: &[FlowTlv]) -> Result<&FlowTlv, Reply>
     ensures { MatchResult result (λ first. first_of t encodings.now ≡ Ok first.now)
         (λ reply. first_of t encodings.now ≡ Err reply) }
@@ -106,6 +107,7 @@ fn first_unclassed<'a>(consts: &Consts, encodings: &'a [FlowTlv]) -> Option<&'a 
 
 /// The first of the encodings, where they stand together and none names a class that the plant has not.
 #[tactic(auto, unfolding(operator_machine::specs::Asked::first_encoding))]
+#[inline(always)]
 fn first_encoding<'a>(
     t: Transaction,
     consts: &Consts,
@@ -140,6 +142,7 @@ pub(crate) fn free_flow(t: Transaction, flow: Option<&Flow>) -> Result<&Flow, Re
 
 /// The parameter set of what an encoding asks for.
 #[tactic(auto, using(crate::proofs::Replies::set_is_refused))]
+#[inline(always)]
 fn set_from(
     t: Transaction,
     consts: &Consts,
@@ -157,6 +160,7 @@ fn set_from(
 
 /// The parameter set of an encoding, over its class. One that names no class is not copied.
 #[tactic(auto, unfolding(operator_machine::specs::Asked::set_of))]
+#[inline(always)]
 fn set_of(t: Transaction, consts: &Consts, flow: &FlowTlv) -> Result<ParamSet, Reply>
     requires { t.kind ≢ Dsd }
     ensures { result ≡ set_of t consts.now flow.now }
@@ -177,6 +181,7 @@ fn is_change(kind: Kind) -> bool
 }
 
 /// The sets that one encoding of this set type asks for.
+#[inline(always)]
 fn asked_by_type(
     t: Transaction,
     consts: &Consts,
@@ -210,6 +215,7 @@ fn asked_by_type(
 }
 
 /// The sets that one encoding asks for.
+#[inline(always)]
 fn asked_by_one(t: Transaction, consts: &Consts, flow: &FlowTlv) -> Result<AskedSets, Reply>
     requires { t.kind ≢ Dsd }
     ensures { result ≡ asked_by_one t consts.now flow.now flow.now.set_type }
@@ -254,6 +260,7 @@ fn asked_by_two(
 
 /// The sets that the encodings of a request ask for.
 #[tactic(auto, unfolding(operator_machine::specs::Asked::asked_sets))]
+#[inline(always)]
 fn asked_sets(t: Transaction, consts: &Consts, encodings: &[FlowTlv]) -> Result<AskedSets, Reply>
     requires { t.kind ≢ Dsd }
     ensures { result ≡ asked_sets t consts.now encodings.now }
@@ -278,6 +285,7 @@ fn failing_active(asked: &AskedSets) -> Option<u8>
 
 /// The flow's sets with those that are asked for.
 #[tactic(auto, unfolding(operator_machine::specs::Asked::nested_sets))]
+#[inline(always)]
 fn nested_sets(
     t: Transaction,
     first: &FlowTlv,
@@ -302,6 +310,7 @@ fn nested_sets(
 }
 
 /// These sets with those that are asked for.
+#[inline(always)]
 fn with_asked(sets: Sets, asked: &AskedSets) -> Result<Sets, Refusal>
     requires { failing_active asked.now.active asked.now.admitted ≡ None }
     ensures { result ≡ asked_over sets asked.now }
@@ -318,6 +327,7 @@ fn with_asked(sets: Sets, asked: &AskedSets) -> Result<Sets, Refusal>
 
 /// What an addition asks for.
 #[tactic(auto, unfolding(operator_machine::specs::Asked::addition_of))]
+#[inline(always)]
 pub(crate) fn addition_of(
     consts: &Consts,
     t: Transaction,

@@ -97,6 +97,7 @@ impl Machine {
     }
 
     /// A flow is put under its SFID, and the reply is told and kept.
+    #[inline(always)]
     fn put_out(
         &mut self,
         alloc: Global,
@@ -121,6 +122,7 @@ impl Machine {
     }
 
     /// A flow goes, and the reply is told and kept.
+    #[inline(always)]
     fn deleted_out(
         &mut self,
         alloc: Global,
@@ -143,6 +145,7 @@ impl Machine {
     }
 
     /// A verdict is carried out, and its reply is told and kept.
+    #[inline(always)]
     fn carried_out(
         &mut self,
         alloc: Global,
@@ -170,6 +173,7 @@ impl Machine {
 
     /// The answer to a request that is not judged: its transaction ID is of the CMTS's half, it is kept already, or as many
     /// are kept as the row allows. None where its transaction is new.
+    #[inline(always)]
     fn early_answer(
         &self,
         alloc: Global,
@@ -400,6 +404,7 @@ impl Machine {
     }
 
     /// What was heard first is handled, and taken out of the inbox.
+    #[inline(always)]
     pub(crate) fn work(&mut self, alloc: Global, twice: bool) -> Result<Both, AllocError>
         requires { All (IsIn self.old.row.sids) (sids_of self.old.state.flows) }
         ensures { Does twice self.old self.new result (worked self.old) }

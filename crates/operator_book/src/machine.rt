@@ -63,6 +63,7 @@ pub(crate) fn nothing(alloc: Global, twice: bool) -> Both
 }
 
 /// One output.
+#[inline(always)]
 fn single(alloc: Global, output: Output) -> Result<Vec<Output>, AllocError>
     ensures { IfOk result (λ outputs. outputs.items ≡ output ∷ []) }
 {
@@ -88,6 +89,7 @@ fn silence_if(
 }
 
 /// No answer.
+#[inline(always)]
 pub(crate) fn silent(
     alloc: Global,
     twice: bool,
@@ -103,6 +105,7 @@ pub(crate) fn silent(
 }
 
 /// A reply of these bytes.
+#[inline(always)]
 fn reply_of(alloc: Global, modem: Modem, reply: &Bytes) -> Result<Vec<Output>, AllocError>
     ensures { IfOk result (λ told. told.items ≡ outputs.Reply modem reply.now ∷ []) }
 {
@@ -111,6 +114,7 @@ fn reply_of(alloc: Global, modem: Modem, reply: &Bytes) -> Result<Vec<Output>, A
 }
 
 /// A reply of these bytes, where it is wanted.
+#[inline(always)]
 fn reply_if(
     alloc: Global,
     wanted: bool,
@@ -127,6 +131,7 @@ fn reply_if(
 }
 
 /// A reply of these bytes is told.
+#[inline(always)]
 pub(crate) fn answer(
     alloc: Global,
     twice: bool,

@@ -133,6 +133,7 @@ impl Machine {
     }
 
     /// A flow that is put under an SFID, unless more would be committed with it than may be.
+    #[inline(always)]
     fn put_within_limit(
         &self,
         kind: Kind,
@@ -157,6 +158,7 @@ impl Machine {
 
     /// An addition, where there is room for it.
     #[tactic(auto, unfolding(operator_machine::specs::Verdict::added))]
+    #[inline(always)]
     fn added(&self, modem: Modem, tid: u16, addition: &Addition) -> Verdict
         ensures value { result ≡ added self.now modem tid addition.now }
         ensures puts { MayPut (table_of self.now) result }
@@ -171,6 +173,7 @@ impl Machine {
     }
 
     /// An addition under identifiers that are free.
+    #[inline(always)]
     fn added_under(
         &self,
         modem: Modem,
@@ -225,6 +228,7 @@ impl Machine {
     }
 
     /// What becomes of an addition.
+    #[inline(always)]
     fn addition_verdict(&self, modem: Modem, tid: u16, encodings: &[FlowTlv]) -> Verdict
         ensures value { result ≡ addition_verdict self.now modem tid encodings.now }
         ensures puts { MayPut (table_of self.now) result }
@@ -286,6 +290,7 @@ impl Machine {
 
     /// What becomes of a request whose transaction is new: the first check of the table that holds decides.
     #[tactic(auto, unfolding(operator_machine::specs::Verdict::verdict))]
+    #[inline(always)]
     pub(crate) fn verdict(&self, modem: Modem, request: &Request) -> Verdict
         requires { All (IsIn self.now.row.sids) (sids_of self.now.state.flows) }
         ensures value { result ≡ verdict self.now modem request.now }

@@ -54,6 +54,7 @@ impl Routes {
     }
 
     /// The operator that lists this modem, if one does. Where no memory is left to remember it, it is not remembered.
+    #[inline(always)]
     pub fn place_of(&mut self, modem: Modem) -> Option<Op>
         ensures value { result ≡ holder self.old.rows modem }
         ensures plant { self.new ≡ self.old }

@@ -71,6 +71,7 @@ pub fn put_parts<'a>(mark: u8, input: &'a [u8], parts: &mut Vec<&'a [u8]>) -> Re
 }
 
 /// The message in a line that is not empty; none where it is no message.
+#[inline(always)]
 pub fn message_in(alloc: Global, line: &[u8]) -> Result<Option<Bytes>, AllocError>
     ensures { IfOk result (λ message. message ≡ message_in line.now) }
 {

@@ -34,6 +34,7 @@ pub struct Sender {
 
 /// A modem of the plant by its address.
 #[tactic(auto, unfolding(crate::specs::Script::sender_in))]
+#[inline(always)]
 fn sender_in(plant: &Plant, field: &[u8]) -> Result<Sender, FieldFault>
     ensures { result ≡ sender_in plant.now field.now }
 {
@@ -50,6 +51,7 @@ fn sender_in(plant: &Plant, field: &[u8]) -> Result<Sender, FieldFault>
 
 /// The sender in a line's first field, and what stands behind it. An address has 12 digits: no space is searched for.
 #[tactic(auto, using(crate::proofs::FirstFields::sender_lacks, crate::proofs::FirstFields::sender_unparted))]
+#[inline(always)]
 fn sender_first<'a>(plant: &Plant, line: &'a [u8]) -> Result<(Sender, &'a [u8]), FieldFault>
     ensures { seen (λ p. (p.0, fields_of p.1.now)) result ≡ sender_first plant.now (fields_of line.now) }
 {
@@ -87,6 +89,7 @@ fn operator_in(plant: &Plant, field: &[u8]) -> Result<Op, FieldFault>
 }
 
 /// The steps of what is heard of a modem.
+#[inline(always)]
 fn put_heard(
     number: u64,
     sender: Sender,
@@ -106,6 +109,7 @@ fn put_heard(
 
 /// The steps of a message.
 #[tactic(auto, using(crate::proofs::FirstFields::message_stop, crate::proofs::FirstFields::message_read, crate::proofs::FirstFields::message_unread))]
+#[inline(always)]
 fn put_message(
     alloc: Global,
     plant: &Plant,
@@ -124,6 +128,7 @@ fn put_message(
 
 /// The steps of a request for minislots.
 #[tactic(auto, using(crate::proofs::FirstFields::request_stop, crate::proofs::FirstFields::request_alone, crate::proofs::FirstFields::request_sid_unread, crate::proofs::FirstFields::request_unread, crate::proofs::FirstFields::request_read))]
+#[inline(always)]
 fn put_request(
     plant: &Plant,
     number: u64,
@@ -273,6 +278,7 @@ fn put_alone(
 
 /// The steps of a line by its first field, of which the others are these.
 #[tactic(auto, unfolding(crate::specs::Script::steps_in))]
+#[inline(always)]
 fn put_word<'a>(
     alloc: Global,
     plant: &Plant,
