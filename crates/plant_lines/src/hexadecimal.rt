@@ -13,16 +13,15 @@ const STEP: usize = 64;
 /// Room for their digits, and for the end of a line.
 const ROOM: usize = 129;
 
+/// The digits, in upper case.
+const DIGITS: &[u8; 16] = b"0123456789ABCDEF";
+
 /// The digit of a number below 16.
 fn digit(number: u8) -> u8
     requires { number < 16 }
     ensures { result ≡ slice_index upper_digits number }
 {
-    if number < 10 {
-        b'0' + number
-    } else {
-        b'A' - 10 + number
-    }
+    DIGITS[number as usize]
 }
 
 /// Puts the digits of bytes at the front of their room.

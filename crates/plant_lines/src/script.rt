@@ -99,11 +99,12 @@ fn put_heard(
     ensures said { Gives (λ _. steps.new.items) result (behind steps.old.items (Ok (heard_steps number sender heard))) }
     ensures memory { IfErr result (λ fault. fault ≡ NoMemory) }
 {
+    steps.reserve(2)?;
     let modem = sender.modem;
     let step = Step::Arrive { modem, heard };
-    steps.push(LineStep { number, step })?;
+    steps.push_reserved(LineStep { number, step });
     let step = Step::Work { op: sender.op };
-    steps.push(LineStep { number, step })?;
+    steps.push_reserved(LineStep { number, step });
     Ok(())
 }
 
