@@ -21,10 +21,10 @@ use Rattle.transactions.specs.Keeping.{begun}
 use Rattle.transactions.specs.Keeping as keeping
 use Rattle.transactions.specs.Timers.{given_up_in}
 use Rattle.slice_scheduler.specs.Schedule.{granted_of}
-use Rattle.slice_table.specs.declared.consts.ConstsFields.{ConstsFields}
-use Rattle.slice_table.specs.declared.operator_row.RowFields.{RowFields}
-use Rattle.slice_table.specs.Provisioned.{Opened, opened_flows}
-use Rattle.slice_table.specs.Row.{same_modem, IsRowOf}
+use Rattle.plant.specs.declared.consts.ConstsFields.{ConstsFields}
+use Rattle.plant.specs.declared.operator_row.RowFields.{RowFields}
+use Rattle.plant.specs.Provisioned.{Opened, opened_flows}
+use Rattle.plant.specs.Row.{same_modem, IsRowOf}
 use Rattle.flow_table.specs.declared.flow.Flow.{Flow}
 use Rattle.flow_table.specs.Flow.{asks_for_grants, acknowledged, requested}
 use Rattle.flow_table.specs.Table.{flow_at, flow_with, with_flow, is_sid, flowing_in}

@@ -1,9 +1,9 @@
 //! What is opened, what an action leaves, and what a history comes to.
 
 ghost use Rattle.std.specs.Prelude.{◌≤◌, List};
-ghost use Rattle.slice_table.specs.declared.consts.ConstsFields.{ConstsFields};
-ghost use Rattle.slice_table.specs.declared.operator_row.RowFields.{RowFields};
-ghost use Rattle.slice_table.specs.Row.{IsRowOf};
+ghost use Rattle.plant.specs.declared.consts.ConstsFields.{ConstsFields};
+ghost use Rattle.plant.specs.declared.operator_row.RowFields.{RowFields};
+ghost use Rattle.plant.specs.Row.{IsRowOf};
 ghost use Rattle.operator_machine.specs.declared.action.Action.{Action};
 ghost use Rattle.operator_machine.specs.declared.action.Entry.{Entry};
 ghost use Rattle.operator_machine.specs.State.{OperatorState, Operator, opened};

@@ -16,8 +16,8 @@ use Rattle.dsx_messages.specs.declared.reply.FlowId.TheVariants as ids
 use Rattle.dsx_messages.specs.declared.reply.Detail.TheVariants.{Errored}
 use Rattle.dsx_messages.specs.declared.reply.ReplyFields.{ReplyFields}
 use Rattle.param_sets.specs.Overridden.{overridden_of}
-use Rattle.slice_table.specs.declared.class_table.Class.{Class}
-use Rattle.slice_table.specs.Classes.{is_named, asked_over}
+use Rattle.plant.specs.declared.class_table.Class.{Class}
+use Rattle.plant.specs.Classes.{is_named, asked_over}
 use Rattle.operator_machine.specs.declared.verdict.Transaction.{Transaction}
 use Rattle.operator_machine.specs.declared.verdict.Verdict.TheVariants.{Refused}
 use Rattle.operator_machine.specs.State.{Operator}

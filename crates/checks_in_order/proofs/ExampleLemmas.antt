@@ -20,7 +20,7 @@ use Rattle.flow_table.specs.Table.{sfids_of, sids_of}
 use Rattle.operator_machine.specs.State.{Operator}
 use Rattle.operator_machine.specs.Verdict.{new_flow}
 use Rattle.operator_machine.specs.Worked.{first_modem, second_modem}
-use Rattle.slice_table.specs.Row.{same_modem}
+use Rattle.plant.specs.Row.{same_modem}
 use Rattle.std.proofs.lemmas.Bool.{true≢false}
 use Rattle.checks_in_order.specs.Said.{Said, said_by, identifier, Names, IsAbout, AsksFor, IsRefused, Admits, Activates, IsSetWhere}
 use Rattle.checks_in_order.specs.Holding.{would_commit, NamesUnknownClass, AreTwoAndFour, IsTaken, GivesNoSet}

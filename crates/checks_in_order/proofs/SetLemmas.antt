@@ -16,7 +16,7 @@ use Rattle.param_sets.specs.declared.param_set.ParamFields.{ParamFields}
 use Rattle.param_sets.specs.declared.sets.SetsFields.{SetsFields}
 use Rattle.param_sets.specs.declared.refusal.Refusal.{Refusal}
 use Rattle.param_sets.proofs.WithinLemmas.{is_within, nothing_fails}
-use Rattle.slice_table.specs.Classes.{asked_of}
+use Rattle.plant.specs.Classes.{asked_of}
 use Rattle.flow_table.specs.declared.flow.Flow.{Flow}
 use Rattle.operator_machine.specs.declared.verdict.AskedSets.{AskedSets}
 use Rattle.operator_machine.specs.declared.verdict.Verdict.TheVariants.{Refused}

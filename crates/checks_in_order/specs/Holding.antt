@@ -10,8 +10,8 @@ use Rattle.param_sets.specs.Need.{need_if}
 use Rattle.param_sets.specs.Within.{IsWithin}
 use Rattle.param_sets.specs.declared.param_set.ParamFields.{ParamFields}
 use Rattle.param_sets.specs.declared.refusal.Refusal.{Refusal}
-use Rattle.slice_table.specs.declared.consts.ConstsFields.{ConstsFields}
-use Rattle.slice_table.specs.declared.class_table.Class.{Class}
+use Rattle.plant.specs.declared.consts.ConstsFields.{ConstsFields}
+use Rattle.plant.specs.declared.class_table.Class.{Class}
 use Rattle.flow_table.specs.declared.flow.Flow.{Flow}
 use Rattle.flow_table.specs.Flow.{committed_of}
 use Rattle.flow_table.specs.Table.{sfids_of, sids_of, sid_if}

@@ -11,8 +11,8 @@ use Rattle.dsx_messages.specs.declared.reply.FlowId.TheVariants as ids
 use Rattle.param_sets.specs.Reading.{parameter_set_of}
 use Rattle.param_sets.specs.declared.param_set.ParamFields.{ParamFields}
 use Rattle.param_sets.specs.declared.refusal.Refusal.{Refusal}
-use Rattle.slice_table.specs.declared.consts.ConstsFields.{ConstsFields}
-use Rattle.slice_table.specs.Classes.{asked_of}
+use Rattle.plant.specs.declared.consts.ConstsFields.{ConstsFields}
+use Rattle.plant.specs.Classes.{asked_of}
 use Rattle.flow_table.specs.declared.flow.Flow.{Flow}
 use Rattle.operator_machine.specs.State.{Operator}
 

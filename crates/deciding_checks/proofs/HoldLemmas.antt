@@ -17,8 +17,8 @@ use Rattle.param_sets.specs.Within.{IsWithin, first_failing}
 use Rattle.param_sets.specs.declared.param_set.ParamFields.{ParamFields}
 use Rattle.param_sets.specs.declared.refusal.Refusal.{Refusal}
 use Rattle.param_sets.proofs.WithinLemmas.{is_within, nothing_fails}
-use Rattle.slice_table.specs.Row.{same_modem}
-use Rattle.slice_table.specs.declared.consts.ConstsFields.{ConstsFields}
+use Rattle.plant.specs.Row.{same_modem}
+use Rattle.plant.specs.declared.consts.ConstsFields.{ConstsFields}
 use Rattle.flow_table.specs.declared.flow.Flow.{Flow}
 use Rattle.flow_table.specs.Table.{sfids_of, sids_of, sid_if}
 use Rattle.operator_machine.specs.declared.share.NextShare.{NextShare}

@@ -13,7 +13,7 @@ use Rattle.dsx_messages.specs.declared.fault.MessageFault.TheVariants as faults
 use Rattle.dsx_messages.specs.Reading.{message_of}
 use Rattle.transactions.specs.declared.entry.KeptEntry.{KeptEntry}
 use Rattle.transactions.specs.Entry.{is_of}
-use Rattle.slice_table.specs.Row.{same_modem}
+use Rattle.plant.specs.Row.{same_modem}
 use Rattle.operator_machine.specs.declared.heard.Heard.TheVariants as heards
 use Rattle.operator_machine.specs.declared.output.Cause.{Cause}
 use Rattle.operator_machine.specs.declared.output.Cause.TheVariants as causes

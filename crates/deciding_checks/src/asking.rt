@@ -10,7 +10,7 @@ use crate::standing::Standing;
 use dsx_messages::{Kind, Request};
 use flow_table::Flow;
 use param_sets::{ParamSet, Refusal, from_tlv};
-use slice_table::Consts;
+use plant::Consts;
 use std::alloc::{AllocError, Global};
 use tlv24::FlowTlv;
 

@@ -21,7 +21,7 @@ use checks_in_order::Check;
 use dsx_messages::{Kind, Modem, Request};
 use flow_table::Flow;
 use param_sets::{ParamSet, Units, need, within};
-use slice_table::Consts;
+use plant::Consts;
 use tlv24::FlowTlv;
 
 /// What a request is about and asks for.

@@ -7,7 +7,7 @@ ghost use Rattle.operator_machine.specs.Sound.{IsSound};
 
 use flow_table::Flow;
 use operator_book::{Book, StateView};
-use slice_table::{Consts, OperatorRow};
+use plant::{Consts, OperatorRow};
 use std::alloc::{AllocError, Global};
 use std::marker::Model;
 

@@ -10,14 +10,14 @@ use Rattle.toml.specs.Data.{Data, string, array, table, Items, Members, get_memb
 use Rattle.tlv24.specs.Flow.{flow_of}
 use Rattle.tlv24.specs.declared.fields.FlowFields.{FlowFields}
 use Rattle.tlv24.specs.declared.fault.FlowFault.{FlowFault}
-use Rattle.slice_table.specs.declared.class_table.Class.{Class}
+use Rattle.plant.specs.declared.class_table.Class.{Class}
 use Rattle.slice_table.specs.declared.plant_fault.PlantFault.TheVariants.{BadValue}
 use Rattle.slice_table.specs.declared.plant_key.Key.{Key}
 use Rattle.slice_table.specs.declared.plant_key.Key.TheVariants.{Classes, Table, Entry}
 use Rattle.slice_table.specs.declared.plant_key.Field.TheVariants as field
 use Rattle.slice_table.specs.declared.plant_key.Place.{Place}
 use Rattle.slice_table.specs.declared.plant_key.Place.TheVariants as place
-use Rattle.slice_table.specs.Classes.{is_named, StatesParameters}
+use Rattle.plant.specs.Classes.{is_named, StatesParameters}
 use Rattle.slice_table.specs.Tree.{◌>>=◌, each, items_len, expected, checked, at_field, text_at, bytes_at, table_of}
 use Rattle.slice_table.specs.ReadConsts.{is_class_name, class_name_at, states_parameters, parameters_in, class_encoding_at, class_read, classes_in, classes_if}
 use Rattle.slice_table.specs.Says.{SaysClassName, SaysParameters}

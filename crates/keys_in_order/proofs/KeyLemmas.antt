@@ -5,7 +5,7 @@ use Rattle.toml.specs.Data.{Data, string, integer, array, table, Members, as_arr
 use Rattle.hex.specs.Hex.{decode_of}
 use Rattle.admission.specs.Free.{Numbers}
 use Rattle.slice_scheduler.specs.Minislots.{Minislots}
-use Rattle.slice_table.specs.declared.consts.ConstsFields.{ConstsFields}
+use Rattle.plant.specs.declared.consts.ConstsFields.{ConstsFields}
 use Rattle.slice_table.specs.declared.plant_fault.PlantFault.TheVariants.{BadValue}
 use Rattle.slice_table.specs.declared.plant_key.Field.{Field}
 use Rattle.slice_table.specs.declared.plant_key.Field.TheVariants as field

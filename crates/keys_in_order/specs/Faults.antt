@@ -1,8 +1,8 @@
 -- The fault of a plant file: that of the first of its keys that is at fault (own).
 use Rattle.std.specs.Prelude.{◌≡◌, ◌⊎◌, All, List, Some, None}
 use Rattle.toml.specs.Data.{Data, Members}
-use Rattle.slice_table.specs.declared.consts.ConstsFields.{ConstsFields}
-use Rattle.slice_table.specs.declared.operator_row.RowFields.{RowFields}
+use Rattle.plant.specs.declared.consts.ConstsFields.{ConstsFields}
+use Rattle.plant.specs.declared.operator_row.RowFields.{RowFields}
 use Rattle.slice_table.specs.declared.plant_fault.PlantFault.{PlantFault}
 use Rattle.slice_table.specs.declared.plant_fault.PlantFault.TheVariants.{Missing, BadValue}
 use Rattle.slice_table.specs.declared.plant_key.Key.{Key}

@@ -7,16 +7,16 @@ use Rattle.hex.specs.Hex.{decode_of}
 use Rattle.tlv24.specs.Flow.{flow_of}
 use Rattle.tlv24.specs.declared.fields.FlowFields.{FlowFields}
 use Rattle.dsx_messages.specs.declared.modem.Modem.{Modem}
-use Rattle.slice_table.specs.declared.consts.ConstsFields.{ConstsFields}
+use Rattle.plant.specs.declared.consts.ConstsFields.{ConstsFields}
 use Rattle.slice_table.specs.declared.plant_key.Field.{Field}
 use Rattle.slice_table.specs.declared.plant_key.Field.TheVariants as field
 use Rattle.slice_table.specs.declared.plant_key.Place.TheVariants as place
 use Rattle.slice_table.specs.declared.plant_key.Key.{Key}
 use Rattle.slice_table.specs.declared.plant_key.Key.TheVariants.{Classes, Operators, Table, Entry}
-use Rattle.slice_table.specs.Name.{IsOperatorName}
-use Rattle.slice_table.specs.Classes.{StatesParameters}
-use Rattle.slice_table.specs.Provisioned.{sets_of_encoding}
-use Rattle.slice_table.specs.Row.{is_listed, IsFrom}
+use Rattle.plant.specs.Name.{IsOperatorName}
+use Rattle.plant.specs.Classes.{StatesParameters}
+use Rattle.plant.specs.Provisioned.{sets_of_encoding}
+use Rattle.plant.specs.Row.{is_listed, IsFrom}
 use Rattle.slice_table.specs.Tree.{items_len}
 use Rattle.slice_table.specs.Says.{two, IsAddress, SaysConsts, SaysModems}
 use Rattle.keys_in_order.specs.Held.{table_in, standing_at, held}

@@ -2,9 +2,9 @@
 
 ghost use Rattle.std.specs.Prelude.{◌≡◌, ◌⊎◌, ◌↔◌, List, Ok, Err};
 ghost use Rattle.toml.specs.Data.{Members};
-ghost use Rattle.slice_table.specs.declared.consts.ConstsFields.{ConstsFields};
-ghost use Rattle.slice_table.specs.declared.operator_row.RowFields.{RowFields};
-ghost use Rattle.slice_table.specs.declared.plant.PlantFields.{PlantFields};
+ghost use Rattle.plant.specs.declared.consts.ConstsFields.{ConstsFields};
+ghost use Rattle.plant.specs.declared.operator_row.RowFields.{RowFields};
+ghost use Rattle.plant.specs.declared.plant.PlantFields.{PlantFields};
 ghost use Rattle.slice_table.specs.declared.plant_fault.PlantFault.{PlantFault};
 ghost use Rattle.slice_table.specs.ReadPlant.{plant_of};
 ghost use Rattle.slice_table.specs.Says.{SaysConsts, SaysRows};

@@ -4,8 +4,8 @@ use Rattle.std.specs.Prelude.{slice_get}
 use Rattle.std.specs.Option.{option_or}
 use Rattle.std.proofs.lemmas.List.{length-map}
 use Rattle.std.proofs.lemmas.Option.{slice_get-map}
-use Rattle.slice_table.specs.declared.plant.PlantFields.{PlantFields}
-use Rattle.slice_table.specs.Roster.{holder}
+use Rattle.plant.specs.declared.plant.PlantFields.{PlantFields}
+use Rattle.plant.specs.Roster.{holder}
 use Rattle.operator_machine.specs.declared.action.SliceRow.{SliceRow}
 use Rattle.operator_machine.specs.declared.action.Action.{Action}
 use Rattle.operator_machine.specs.declared.action.Action.TheVariants as actions

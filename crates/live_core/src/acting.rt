@@ -1,7 +1,7 @@
 //! What is done to an operator's live desk.
 
 ghost use Rattle.std.specs.Prelude.{◌≡◌, ◌≢◌, ◌↔◌, ◌<◌, ◌≤◌, false, [], ◌++◌, length, slice_get, Err, IfOk, IfErr, OnOk, OnErr};
-ghost use Rattle.slice_table.specs.Row.{IsRowOf};
+ghost use Rattle.plant.specs.Row.{IsRowOf};
 ghost use Rattle.operator_machine.specs.Frames.{is_tick};
 ghost use Rattle.operator_machine.specs.State.{operator};
 ghost use Rattle.operator_machine.specs.Machine.{own_step, is_spent, IsAllowed};
@@ -16,8 +16,8 @@ use grant_policy::Ranking;
 use map_assembly::{Gather, MapBytes};
 use operator_book::{BookFault, Live, OpenFault};
 use operator_machine::{Action, Output};
+use plant::{Consts, Op, OperatorRow};
 use slice_scheduler::Elements;
-use slice_table::{Consts, Op, OperatorRow};
 use std::alloc::{AllocError, Global};
 use std::collections::VecDeque;
 

@@ -13,8 +13,8 @@ ghost use Rattle.live_core.specs.LiveView.{live_view};
 use crate::desk::LiveDesk;
 use crate::held::LiveCore;
 use operator_machine::{SliceRow, Unfit};
+use plant::Op;
 use plant_core::{CoreFault, ResliceFault, is_same, least_meeting};
-use slice_table::Op;
 use std::alloc::Global;
 
 impl LiveDesk {

@@ -1,8 +1,8 @@
 //! What a live core always keeps, and laws of its runs.
 
 ghost use Rattle.std.specs.Prelude.{◌≡◌, false, [], ◌∷◌, ◌++◌, List};
-ghost use Rattle.slice_table.specs.declared.plant.PlantFields.{PlantFields};
-ghost use Rattle.slice_table.specs.Plant.{IsPlant};
+ghost use Rattle.plant.specs.declared.plant.PlantFields.{PlantFields};
+ghost use Rattle.plant.specs.Plant.{IsPlant};
 ghost use Rattle.map_assembly.specs.Gathering.{IsGathering};
 ghost use Rattle.map_assembly.specs.LettingGo.{has_begun};
 ghost use Rattle.plant_runs.specs.declared.step.Step.{Step};
@@ -17,7 +17,7 @@ ghost use Rattle.live_core.specs.After.{IsAfter, TwoLiveCores};
 ghost use Rattle.live_core.specs.LiveView.{live_view};
 
 use crate::held::LiveCore;
-use slice_table::Plant;
+use plant::Plant;
 
 impl LiveCore {
     /// A law: the plant is valid, what is gathered is as the assembly always keeps it, and no slices are held that only earlier frames

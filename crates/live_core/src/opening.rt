@@ -1,7 +1,7 @@
 //! Opening a live core.
 
 ghost use Rattle.std.specs.Prelude.{◌≡◌, ◌≢◌, ◌↔◌, [], map, length, replicate, All, Err, IfOk};
-ghost use Rattle.slice_table.specs.Row.{IsRowOf};
+ghost use Rattle.plant.specs.Row.{IsRowOf};
 ghost use Rattle.plant_runs.specs.Opened.{opened_book, opened_core};
 ghost use Rattle.plant_core.specs.declared.core_fault.CoreOpenFault.{CoreOpenFault};
 ghost use Rattle.plant_core.specs.declared.core_fault.CoreOpenFault.TheVariants.{RankingsMismatch};
@@ -13,8 +13,8 @@ use crate::desk::LiveDesk;
 use crate::held::LiveCore;
 use grant_policy::Ranking;
 use map_assembly::Gather;
+use plant::{Consts, OperatorRow, Plant};
 use plant_core::{CoreOpenFault, Routes, follow};
-use slice_table::{Consts, OperatorRow, Plant};
 use std::alloc::{AllocError, Global};
 
 /// The desk of each operator, with nothing done.

@@ -16,9 +16,9 @@ use crate::held::LiveCore;
 use dsx_messages::Modem;
 use operator_book::BookFault;
 use operator_machine::{Action, Heard};
+use plant::Op;
 use plant_core::{CoreFault, append, append_map};
 use plant_runs::{Out, Step};
-use slice_table::Op;
 use std::alloc::Global;
 
 impl LiveCore {

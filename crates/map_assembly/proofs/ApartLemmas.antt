@@ -3,7 +3,7 @@ use Rattle.std.proofs.Common.{◌≡◌, List, [], ◌∷◌, true, false, not, 
 use Rattle.std.specs.List.{AllByRecursion, AllPairs, list_all}
 use Rattle.std.proofs.lemmas.Bool.{and_parts, and_from, not-true, not_from_false}
 use Rattle.slice_scheduler.specs.Minislots.{Minislots}
-use Rattle.slice_table.specs.Plant.{slices_meet}
+use Rattle.plant.specs.Plant.{slices_meet}
 use Rattle.map_assembly.specs.Apart.{all_apart}
 use Rattle.map_assembly.proofs.OrderLemmas.{PairsByRecursion, pairs_from_AllPairs}
 use Rattle.map_assembly.proofs.NewLemmas.{AllPairs-from_pairs}

@@ -12,7 +12,7 @@ use Rattle.slice_scheduler.specs.declared.span.Iuc.{Iuc}
 use Rattle.slice_scheduler.specs.declared.span.Iuc.TheVariants.{Request, Short, Long}
 use Rattle.slice_scheduler.specs.declared.span.Span.{Span}
 use Rattle.slice_scheduler.specs.declared.elements.ElementsFields.{ElementsFields}
-use Rattle.slice_table.specs.Plant.{ranges_meet}
+use Rattle.plant.specs.Plant.{ranges_meet}
 use Rattle.map_assembly.specs.declared.element.MapElement.{MapElement}
 use Rattle.map_assembly.specs.declared.layout.MapLayout.{MapLayout}
 use Rattle.map_assembly.specs.declared.share.Share.{Share}

@@ -9,7 +9,7 @@ use Rattle.slice_scheduler.specs.Minislots.{Minislots}
 use Rattle.slice_scheduler.specs.declared.span.Span.{Span}
 use Rattle.slice_scheduler.specs.declared.elements.ElementsFields.{ElementsFields}
 use Rattle.slice_scheduler.specs.Tiles.{IsTiled}
-use Rattle.slice_table.specs.Plant.{slices_meet, ranges_meet}
+use Rattle.plant.specs.Plant.{slices_meet, ranges_meet}
 use Rattle.map_assembly.specs.declared.layout.MapLayout.{MapLayout}
 use Rattle.map_assembly.specs.declared.share.Share.{Share}
 use Rattle.map_assembly.specs.declared.view.MapSpan.{MapSpan}

@@ -2,7 +2,7 @@
 use Rattle.std.specs.Prelude.{not, ◌&&◌, Bool, true, List, [], ◌∷◌}
 use Rattle.std.specs.List.{list_all}
 use Rattle.slice_scheduler.specs.Minislots.{Minislots}
-use Rattle.slice_table.specs.Plant.{slices_meet}
+use Rattle.plant.specs.Plant.{slices_meet}
 
 -- no two of these slices meet
 abbrev pub all_apart : List Minislots → Bool

@@ -4,7 +4,7 @@ use Rattle.std.specs.List.{flat_map}
 use Rattle.slice_scheduler.specs.Iuc.{number_of}
 use Rattle.slice_scheduler.specs.declared.span.Span.{Span}
 use Rattle.slice_scheduler.specs.declared.elements.ElementsFields.{ElementsFields}
-use Rattle.slice_table.specs.declared.consts.ConstsFields.{ConstsFields}
+use Rattle.plant.specs.declared.consts.ConstsFields.{ConstsFields}
 use Rattle.map_assembly.specs.declared.element.MapElement.{MapElement}
 use Rattle.map_assembly.specs.declared.layout.MapLayout.{MapLayout}
 use Rattle.map_assembly.specs.declared.view.MapHeader.{MapHeader}

@@ -1,7 +1,7 @@
 -- What the assembly of MAPs knows of a plant (own).
 use Rattle.std.specs.Prelude.{◌≡◌, ℕ, ◌+◌, ◌*◌, ◌≤◌, false, List, length, All, AllPairs, sum_by}
 use Rattle.slice_scheduler.specs.Minislots.{Minislots}
-use Rattle.slice_table.specs.Plant.{slices_meet, ranges_meet}
+use Rattle.plant.specs.Plant.{slices_meet, ranges_meet}
 use Rattle.map_assembly.specs.declared.layout.MapLayout.{MapLayout}
 use Rattle.map_assembly.specs.declared.share.Share.{Share}
 use Rattle.map_assembly.specs.Wire.{last_unicast_sid, longest_frame, element_limit}

@@ -15,8 +15,8 @@ use crate::layout::MapLayout;
 use crate::queue::{Queue, part_at};
 use crate::wire::ELEMENT_LIMIT;
 use crate::writing::{push_head, push_idle, push_null, push_pending, push_spans, write_map};
+use plant::Op;
 use slice_scheduler::Elements;
-use slice_table::Op;
 use std::alloc::{AllocError, Global};
 
 /// Adds the spans behind the head: those of each operator in this order, and the minislots that no slice holds.

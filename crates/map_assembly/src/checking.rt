@@ -2,7 +2,7 @@
 
 ghost use Rattle.std.specs.Prelude.{◌≡◌, ◌↔◌, not, false, length, All, AllPairs, IsTrue};
 ghost use Rattle.std.specs.List.{list_all};
-ghost use Rattle.slice_table.specs.Plant.{slices_meet};
+ghost use Rattle.plant.specs.Plant.{slices_meet};
 ghost use Rattle.map_assembly.specs.Plan.{IsInFrame, AreSlices};
 ghost use Rattle.map_assembly.specs.Apart.{all_apart};
 

@@ -4,7 +4,7 @@ ghost use Rattle.std.specs.Prelude.{◌≡◌};
 ghost use Rattle.map_assembly.specs.Map.{layout_of, frame_start, map_header};
 
 use crate::view::MapHeader;
-use slice_table::{Backoffs, Consts};
+use plant::{Backoffs, Consts};
 
 /// What the MAPs of a plant have in common.
 #[derive(Clone, Copy, Debug, PartialEq, Eq)]

@@ -6,8 +6,8 @@ ghost use Rattle.std.specs.Option.{option_copied};
 ghost use Rattle.slice_scheduler.specs.declared.elements.ElementsFields.{ElementsFields};
 ghost use Rattle.map_assembly.specs.Gathering.{is_whole, part_at, queue_of, front_or};
 
+use plant::Op;
 use slice_scheduler::Elements;
-use slice_table::Op;
 use std::alloc::Global;
 use std::collections::VecDeque;
 use std::marker::Model;

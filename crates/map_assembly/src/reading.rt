@@ -17,8 +17,8 @@ use crate::wire::{
     DATA_START_PLACE, ELEMENT_BYTES, HEADER_BYTES, RANGING_END_PLACE, RANGING_START_PLACE,
     UCD_COUNT_PLACE,
 };
+use plant::Backoffs;
 use slice_scheduler::{Iuc, Sids};
-use slice_table::Backoffs;
 use std::alloc::{AllocError, Global};
 
 /// Whether an element is a grant pending: the IUC of a short or of a long grant, at the Null's offset.

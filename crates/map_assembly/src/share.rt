@@ -6,8 +6,8 @@ ghost use Rattle.map_assembly.specs.Part.{share_of, is_mine, is_slice, is_fittin
 
 use crate::wire::NOBODYS_SID;
 use admission::IdRange;
+use plant::OperatorRow;
 use slice_scheduler::{Elements, Slice, Span};
-use slice_table::OperatorRow;
 
 /// What an operator may put into a MAP.
 #[derive(Clone, Copy, Debug, PartialEq, Eq)]

@@ -3,8 +3,8 @@
 ghost use Rattle.std.specs.Prelude.{◌≡◌};
 ghost use Rattle.map_assembly.specs.declared.view.MapFault.TheVariants.{NoMemory};
 
+use plant::Backoffs;
 use slice_scheduler::Sids;
-use slice_table::Backoffs;
 use std::alloc::{AllocError, AllocFailed};
 use std::marker::Model;
 

@@ -9,10 +9,10 @@ use Rattle.std.specs.BTreeMap.{insert_entry}
 use Rattle.admission.specs.Free.{least_free_of}
 use Rattle.dsx_messages.specs.declared.modem.Modem.{Modem}
 use Rattle.param_sets.specs.declared.sets.SetsFields.{SetsFields}
-use Rattle.slice_table.specs.declared.consts.ConstsFields.{ConstsFields}
-use Rattle.slice_table.specs.declared.operator_row.RowFields.{RowFields}
-use Rattle.slice_table.specs.declared.provision.Provision.{Provision}
-use Rattle.slice_table.specs.Provisioned.{Opened, sets_of_encoding, opened_sfids, opened_sids, opened_sid, and_under, and_opened, all_opened}
+use Rattle.plant.specs.declared.consts.ConstsFields.{ConstsFields}
+use Rattle.plant.specs.declared.operator_row.RowFields.{RowFields}
+use Rattle.plant.specs.declared.provision.Provision.{Provision}
+use Rattle.plant.specs.Provisioned.{Opened, sets_of_encoding, opened_sfids, opened_sids, opened_sid, and_under, and_opened, all_opened}
 use Rattle.flow_table.specs.declared.flow.Flow.{Flow}
 use Rattle.flow_table.specs.Table.{sfids_of, sids_of, with_flow}
 use Rattle.operator_machine.specs.State.{opened_flow, opened}

@@ -1,8 +1,8 @@
 -- A history that grows by one action is the replay of the state that the action makes.
 use Rattle.std.proofs.Common.{◌≡◌, ℕ, List, [], ◌∷◌, ◌++◌, None, ap, sym, ◌∙◌, refl, subst}
 use Rattle.std.proofs.lemmas.List.{map-append}
-use Rattle.slice_table.specs.declared.consts.ConstsFields.{ConstsFields}
-use Rattle.slice_table.specs.declared.operator_row.RowFields.{RowFields}
+use Rattle.plant.specs.declared.consts.ConstsFields.{ConstsFields}
+use Rattle.plant.specs.declared.operator_row.RowFields.{RowFields}
 use Rattle.operator_machine.specs.declared.action.Action.{Action}
 use Rattle.operator_machine.specs.declared.action.Entry.{Entry}
 use Rattle.operator_machine.specs.State.{OperatorState, opened, Operator, operator}

@@ -5,8 +5,8 @@ use Rattle.dsx_messages.specs.declared.fault.MessageFault.{MessageFault}
 use Rattle.dsx_messages.specs.declared.fault.MessageFault.TheVariants as faults
 use Rattle.dsx_messages.specs.WellFormed.{Names}
 use Rattle.flow_table.specs.Table.{FlowTable, MayStand}
-use Rattle.slice_table.specs.declared.consts.ConstsFields.{ConstsFields}
-use Rattle.slice_table.specs.declared.operator_row.RowFields.{RowFields}
+use Rattle.plant.specs.declared.consts.ConstsFields.{ConstsFields}
+use Rattle.plant.specs.declared.operator_row.RowFields.{RowFields}
 use Rattle.transactions.specs.Keeping.{Keeping}
 use Rattle.operator_machine.specs.declared.verdict.Verdict.{Verdict}
 use Rattle.operator_machine.specs.declared.verdict.Verdict.TheVariants.{Refused, Put, Deleted}

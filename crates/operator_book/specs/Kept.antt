@@ -1,8 +1,8 @@
 -- What a book always keeps (own).
 use Rattle.std.specs.Prelude.{◌≤◌, ℕ, List}
-use Rattle.slice_table.specs.declared.consts.ConstsFields.{ConstsFields}
-use Rattle.slice_table.specs.declared.operator_row.RowFields.{RowFields}
-use Rattle.slice_table.specs.Row.{IsRowOf}
+use Rattle.plant.specs.declared.consts.ConstsFields.{ConstsFields}
+use Rattle.plant.specs.declared.operator_row.RowFields.{RowFields}
+use Rattle.plant.specs.Row.{IsRowOf}
 use Rattle.operator_machine.specs.declared.action.Entry.{Entry}
 use Rattle.operator_machine.specs.State.{OperatorState}
 use Rattle.operator_machine.specs.Replay.{BookView, IsReplay}

@@ -13,7 +13,7 @@ use dsx_messages::{Code, Kind, Reply};
 use flow_table::{Flow, Flows};
 use operator_machine::{Addition, AskedSets, Change, Transaction};
 use param_sets::{ParamSet, Refusal, Sets, from_tlv, within};
-use slice_table::Consts;
+use plant::Consts;
 use tlv24::FlowTlv;
 
 /// The identifier of an encoding as a number.

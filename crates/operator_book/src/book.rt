@@ -2,7 +2,7 @@
 
 ghost use Rattle.std.specs.Prelude.{◌≡◌, ◌≢◌, ◌↔◌, ◌+◌, ◌<◌, ◌≤◌, true, [], length, Err, Some, None, IfOk, OnOk, OnErr};
 ghost use Rattle.dsx_messages.specs.declared.modem.Modem.{Modem};
-ghost use Rattle.slice_table.specs.Row.{IsRowOf};
+ghost use Rattle.plant.specs.Row.{IsRowOf};
 ghost use Rattle.operator_machine.specs.declared.action.Unfit.{Unfit};
 ghost use Rattle.operator_machine.specs.declared.action.Action.{Action};
 ghost use Rattle.operator_machine.specs.declared.action.Action.TheVariants as actions;
@@ -18,7 +18,7 @@ use crate::state_view::StateView;
 use dsx_messages::Modem;
 use grant_policy::Ranking;
 use operator_machine::{Action, Entry, Output, SliceRow, Unfit};
-use slice_table::{Consts, OperatorRow};
+use plant::{Consts, OperatorRow};
 use std::alloc::{AllocError, Global};
 
 /// Why a book was not opened, in the order tried.

@@ -2,7 +2,7 @@
 
 ghost use Rattle.std.specs.Prelude.{◌≡◌, ◌≢◌, ◌↔◌, ◌≤◌, true, length, Err, Some, None, IfOk, OnOk, OnErr};
 ghost use Rattle.dsx_messages.specs.declared.modem.Modem.{Modem};
-ghost use Rattle.slice_table.specs.Row.{IsRowOf};
+ghost use Rattle.plant.specs.Row.{IsRowOf};
 ghost use Rattle.operator_machine.specs.declared.action.Unfit.{Unfit};
 ghost use Rattle.operator_machine.specs.declared.action.Action.TheVariants as actions;
 ghost use Rattle.operator_machine.specs.State.{operator, opened};
@@ -15,7 +15,7 @@ use crate::machine::{Both, Machine};
 use crate::state_view::StateView;
 use grant_policy::Ranking;
 use operator_machine::{Action, Output, SliceRow, Unfit, opened_is_sound, step_keeps_sound};
-use slice_table::{Consts, OperatorRow};
+use plant::{Consts, OperatorRow};
 use std::alloc::{AllocError, Global};
 use std::marker::Model;
 

@@ -6,7 +6,7 @@ ghost use Rattle.operator_machine.specs.declared.output.Output.TheVariants as ou
 use dsx_messages::Modem;
 use flow_table::Flows;
 use operator_machine::{Arrival, Cause, NextShare, Output, Share};
-use slice_table::{Consts, OperatorRow};
+use plant::{Consts, OperatorRow};
 use std::alloc::{AllocError, Global};
 use std::collections::VecDeque;
 use std::marker::Model;

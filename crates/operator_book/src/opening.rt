@@ -3,7 +3,7 @@
 ghost use Rattle.std.specs.Prelude.{◌≡◌, ◌<◌, ◌≤◌, ◌+◌, [], IfOk, IfSome, OnOk, length};
 ghost use Rattle.admission.specs.Free.{IsLeastFree};
 ghost use Rattle.flow_table.specs.Table.{sids_of};
-ghost use Rattle.slice_table.specs.Row.{IsRowOf};
+ghost use Rattle.plant.specs.Row.{IsRowOf};
 ghost use Rattle.operator_machine.specs.State.{opened_flow, opened};
 ghost use Rattle.operator_book.specs.Opening.{sid_for, put_provision, put_provisions};
 
@@ -12,7 +12,7 @@ use dsx_messages::Modem;
 use flow_table::{Flow, Flows};
 use operator_machine::Share;
 use param_sets::Sets;
-use slice_table::{Consts, OperatorRow, Provision};
+use plant::{Consts, OperatorRow, Provision};
 use std::alloc::{AllocError, Global};
 use std::collections::VecDeque;
 use transactions::Kept;

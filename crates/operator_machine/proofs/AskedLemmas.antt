@@ -11,9 +11,9 @@ use Rattle.param_sets.specs.declared.param_set.ParamFields.{ParamFields}
 use Rattle.param_sets.specs.declared.sets.SetsFields.{SetsFields}
 use Rattle.param_sets.specs.declared.refusal.Refusal.{Refusal}
 use Rattle.param_sets.proofs.WithinLemmas.{is_within}
-use Rattle.slice_table.specs.declared.consts.ConstsFields.{ConstsFields}
-use Rattle.slice_table.specs.Classes.{asked_of}
-use Rattle.slice_table.specs.Row.{same_modem}
+use Rattle.plant.specs.declared.consts.ConstsFields.{ConstsFields}
+use Rattle.plant.specs.Classes.{asked_of}
+use Rattle.plant.specs.Row.{same_modem}
 use Rattle.flow_table.specs.declared.flow.Flow.{Flow}
 use Rattle.flow_table.specs.declared.flow.Pending.{Pending}
 use Rattle.flow_table.specs.Table.{flow_at}

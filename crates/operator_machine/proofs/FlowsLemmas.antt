@@ -10,7 +10,7 @@ use Rattle.std.proofs.lemmas.Option.{none-some}
 use Rattle.std.proofs.lemmas.Map.Views.{All-values-insert_entry, All-keys-insert_entry, All-map-remove_entry, IfSome-lookup_from_All}
 use Rattle.param_sets.specs.Units.{UnitSizes}
 use Rattle.admission.specs.Free.{IsIn}
-use Rattle.slice_table.specs.declared.operator_row.RowFields.{RowFields}
+use Rattle.plant.specs.declared.operator_row.RowFields.{RowFields}
 use Rattle.flow_table.specs.declared.flow.Flow.{Flow}
 use Rattle.flow_table.specs.Flow.{committed_of}
 use Rattle.flow_table.specs.Table.{sfids_of, sids_of, flow_at, sid_if, with_flow, committed_minislots, committed_elements, HaveOwnSids}

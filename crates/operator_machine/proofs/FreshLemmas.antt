@@ -9,7 +9,7 @@ use Rattle.std.proofs.lemmas.Bool.{cases_eq}
 use Rattle.std.proofs.lemmas.Option.{none-some}
 use Rattle.param_sets.specs.Units.{UnitSizes}
 use Rattle.admission.specs.Free.{Numbers, IsIn, IsFree}
-use Rattle.slice_table.specs.declared.operator_row.RowFields.{RowFields}
+use Rattle.plant.specs.declared.operator_row.RowFields.{RowFields}
 use Rattle.flow_table.specs.declared.flow.Flow.{Flow}
 use Rattle.flow_table.specs.Flow.{committed_of}
 use Rattle.flow_table.specs.Table.{sfids_of, sids_of, flow_at, sid_if, with_flow, committed_minislots, committed_elements}

@@ -10,7 +10,7 @@ use Rattle.transactions.specs.declared.entry.KeptEntry.{KeptEntry}
 use Rattle.transactions.specs.Waits.{Waits}
 use Rattle.transactions.specs.Entry.{same_kind, is_waiting, is_of, waits_for}
 use Rattle.transactions.specs.Keeping.{held_entry, acknowledged}
-use Rattle.slice_table.specs.Row.{same_modem}
+use Rattle.plant.specs.Row.{same_modem}
 use Rattle.flow_table.specs.declared.flow.Flow.{Flow}
 use Rattle.flow_table.specs.Flow.{asks_for_grants, requested}
 use Rattle.flow_table.specs.Flow as flows

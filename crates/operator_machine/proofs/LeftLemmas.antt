@@ -15,7 +15,7 @@ use Rattle.transactions.specs.Entry.{is_waiting}
 use Rattle.transactions.specs.Timers.{is_due, is_resent, is_given_up, is_forgotten, given_up_of, given_up_in, kept_after}
 use Rattle.transactions.specs.Timers as timers
 use Rattle.param_sets.specs.Units.{UnitSizes}
-use Rattle.slice_table.specs.declared.operator_row.RowFields.{RowFields}
+use Rattle.plant.specs.declared.operator_row.RowFields.{RowFields}
 use Rattle.flow_table.specs.declared.flow.Flow.{Flow}
 use Rattle.flow_table.specs.Flow.{granted}
 use Rattle.flow_table.specs.Table.{flow_at}

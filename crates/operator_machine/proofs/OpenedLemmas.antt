@@ -10,11 +10,11 @@ use Rattle.dsx_messages.specs.declared.modem.Modem.{Modem}
 use Rattle.admission.specs.Free.{IsFree, least_free_of}
 use Rattle.param_sets.specs.Need.{need_if}
 use Rattle.param_sets.specs.declared.sets.SetsFields.{SetsFields}
-use Rattle.slice_table.specs.declared.consts.ConstsFields.{ConstsFields}
-use Rattle.slice_table.specs.declared.provision.Provision.{Provision}
-use Rattle.slice_table.specs.declared.operator_row.RowFields.{RowFields}
-use Rattle.slice_table.specs.Provisioned.{sets_of_encoding, Opened, opened_sfids, opened_sids, opened_sid, and_under, and_opened, all_opened, opened_flows}
-use Rattle.slice_table.specs.Row.{need_of_sets, need_of_provision, admits, count_of, IsRowOf}
+use Rattle.plant.specs.declared.consts.ConstsFields.{ConstsFields}
+use Rattle.plant.specs.declared.provision.Provision.{Provision}
+use Rattle.plant.specs.declared.operator_row.RowFields.{RowFields}
+use Rattle.plant.specs.Provisioned.{sets_of_encoding, Opened, opened_sfids, opened_sids, opened_sid, and_under, and_opened, all_opened, opened_flows}
+use Rattle.plant.specs.Row.{need_of_sets, need_of_provision, admits, count_of, IsRowOf}
 use Rattle.flow_table.specs.declared.flow.Flow.{Flow}
 use Rattle.flow_table.specs.Table.{sfids_of, sids_of, committed_minislots, committed_elements}
 use Rattle.operator_machine.specs.State.{opened_flow, opened, operator}

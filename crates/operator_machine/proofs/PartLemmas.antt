@@ -18,7 +18,7 @@ use Rattle.slice_scheduler.specs.Tiles.{IsTiled}
 use Rattle.slice_scheduler.proofs.TiledLemmas.{elements-tiled}
 use Rattle.slice_scheduler.proofs.NamedLemmas.{spans-named, pending-named}
 use Rattle.slice_scheduler.proofs.FewLemmas.{elements-few, one-nobody}
-use Rattle.slice_table.specs.Row.{IsRow}
+use Rattle.plant.specs.Row.{IsRow}
 use Rattle.flow_table.specs.declared.flow.Flow.{Flow}
 use Rattle.flow_table.specs.Flow.{is_unsolicited, asks_for_grants}
 use Rattle.flow_table.specs.Table.{flowing_of_set, flowing_in}

@@ -15,9 +15,9 @@ use Rattle.param_sets.specs.declared.param_set.ParamFields.{ParamFields}
 use Rattle.param_sets.specs.declared.refusal.Refusal.{Refusal}
 use Rattle.param_sets.specs.declared.sets.SetsFields.{SetsFields}
 use Rattle.param_sets.proofs.WithinLemmas.{within_self}
-use Rattle.slice_table.specs.declared.consts.ConstsFields.{ConstsFields}
-use Rattle.slice_table.specs.Classes.{asked_of}
-use Rattle.slice_table.specs.Provisioned.{sets_of_type, sets_of_set, sets_over_class, sets_of_flow, Opened, opened_sfids, opened_sids}
+use Rattle.plant.specs.declared.consts.ConstsFields.{ConstsFields}
+use Rattle.plant.specs.Classes.{asked_of}
+use Rattle.plant.specs.Provisioned.{sets_of_type, sets_of_set, sets_over_class, sets_of_flow, Opened, opened_sfids, opened_sids}
 use Rattle.flow_table.specs.declared.flow.Flow.{Flow}
 use Rattle.flow_table.specs.Table.{sfids_of, sids_of, with_flow}
 use Rattle.operator_machine.specs.State.{opened_flow}

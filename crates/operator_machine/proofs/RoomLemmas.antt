@@ -9,7 +9,7 @@ use Rattle.std.proofs.lemmas.Map.Made.{length-le_from_is_member}
 use Rattle.std.proofs.lemmas.List.FromFn.{length-range_with_len}
 use Rattle.admission.specs.Free.{Numbers, IsFree, IsLeastFree, is_used, least_free_of}
 use Rattle.admission.proofs.FreeLemmas.{test_from_used, least_free_cases, least_free_iff}
-use Rattle.slice_table.specs.Row.{count_of}
+use Rattle.plant.specs.Row.{count_of}
 
 -- ---- the numbers of a range
 

@@ -9,8 +9,8 @@ use Rattle.std.proofs.lemmas.List.Folds.{find-append}
 use Rattle.transactions.specs.Timers.{resent_in}
 use Rattle.slice_scheduler.specs.Minislots.{Minislots}
 use Rattle.slice_scheduler.proofs.SumLemmas.{recursion-weaker, recursion-append}
-use Rattle.slice_table.specs.declared.consts.ConstsFields.{ConstsFields}
-use Rattle.slice_table.specs.declared.operator_row.RowFields.{RowFields}
+use Rattle.plant.specs.declared.consts.ConstsFields.{ConstsFields}
+use Rattle.plant.specs.declared.operator_row.RowFields.{RowFields}
 use Rattle.operator_machine.specs.declared.action.Action.{Action}
 use Rattle.operator_machine.specs.declared.action.Action.TheVariants.{Arrive, Work, Tick, Reslice}
 use Rattle.operator_machine.specs.declared.action.SliceRow.{SliceRow}

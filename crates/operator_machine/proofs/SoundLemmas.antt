@@ -1,8 +1,8 @@
 -- What a state may go on with, and stay sound.
 use Rattle.std.proofs.Common.{ℕ, ◌≤◌, List, length, Option, Some, None, IfSome, All, arith}
 use Rattle.transactions.specs.declared.entry.KeptEntry.{KeptEntry}
-use Rattle.slice_table.specs.declared.consts.ConstsFields.{ConstsFields}
-use Rattle.slice_table.specs.declared.operator_row.RowFields.{RowFields}
+use Rattle.plant.specs.declared.consts.ConstsFields.{ConstsFields}
+use Rattle.plant.specs.declared.operator_row.RowFields.{RowFields}
 use Rattle.flow_table.specs.declared.flow.Flow.{Flow}
 use Rattle.flow_table.specs.Table.{committed_minislots, committed_elements}
 use Rattle.operator_machine.specs.declared.heard.Arrival.{Arrival}

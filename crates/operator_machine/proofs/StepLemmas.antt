@@ -4,9 +4,9 @@ use Rattle.std.proofs.lemmas.Bool.{cond_both, leb-false, ltb-false, eqb-false, o
 use Rattle.std.proofs.lemmas.List.{length_push}
 use Rattle.std.proofs.lemmas.Option.{none-some}
 use Rattle.dsx_messages.specs.declared.modem.Modem.{Modem}
-use Rattle.slice_table.specs.declared.consts.ConstsFields.{ConstsFields}
-use Rattle.slice_table.specs.declared.operator_row.RowFields.{RowFields}
-use Rattle.slice_table.specs.Row.{IsRowOf}
+use Rattle.plant.specs.declared.consts.ConstsFields.{ConstsFields}
+use Rattle.plant.specs.declared.operator_row.RowFields.{RowFields}
+use Rattle.plant.specs.Row.{IsRowOf}
 use Rattle.flow_table.specs.Table.{committed_minislots}
 use Rattle.operator_machine.specs.declared.heard.Heard.{Heard}
 use Rattle.operator_machine.specs.declared.heard.Arrival.{Arrival}

@@ -20,10 +20,10 @@ use Rattle.param_sets.specs.Sets.{failing_in_provisioned}
 use Rattle.param_sets.specs.declared.param_set.ParamFields.{ParamFields}
 use Rattle.param_sets.specs.declared.sets.SetsFields.{SetsFields}
 use Rattle.param_sets.specs.declared.refusal.Refusal.{Refusal}
-use Rattle.slice_table.specs.declared.consts.ConstsFields.{ConstsFields}
-use Rattle.slice_table.specs.declared.class_table.Class.{Class}
-use Rattle.slice_table.specs.Classes.{asked_of}
-use Rattle.slice_table.specs.Row.{same_modem}
+use Rattle.plant.specs.declared.consts.ConstsFields.{ConstsFields}
+use Rattle.plant.specs.declared.class_table.Class.{Class}
+use Rattle.plant.specs.Classes.{asked_of}
+use Rattle.plant.specs.Row.{same_modem}
 use Rattle.flow_table.specs.declared.flow.Flow.{Flow}
 use Rattle.flow_table.specs.Table.{flow_at}
 use Rattle.operator_machine.specs.declared.verdict.Transaction.{Transaction}

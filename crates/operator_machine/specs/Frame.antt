@@ -7,7 +7,7 @@ use Rattle.transactions.specs.Timers.{resent_in, given_up_in, kept_after}
 use Rattle.slice_scheduler.specs.declared.flowing.At.{At}
 use Rattle.slice_scheduler.specs.declared.elements.ElementsFields.{ElementsFields}
 use Rattle.slice_scheduler.specs.Schedule.{elements_of, granted_of}
-use Rattle.slice_table.specs.declared.consts.ConstsFields.{ConstsFields}
+use Rattle.plant.specs.declared.consts.ConstsFields.{ConstsFields}
 use Rattle.flow_table.specs.declared.flow.Flow.{Flow}
 use Rattle.flow_table.specs.Flow.{granted}
 use Rattle.flow_table.specs.Table.{flowing_in}

@@ -21,8 +21,8 @@ use Rattle.transactions.specs.declared.entry.KeptEntry.{KeptEntry}
 use Rattle.transactions.specs.Entry.{same_kind, is_of, waits_for}
 use Rattle.transactions.specs.Keeping.{begun}
 use Rattle.transactions.specs.Keeping as keeping
-use Rattle.slice_table.specs.declared.consts.ConstsFields.{ConstsFields}
-use Rattle.slice_table.specs.Row.{same_modem}
+use Rattle.plant.specs.declared.consts.ConstsFields.{ConstsFields}
+use Rattle.plant.specs.Row.{same_modem}
 use Rattle.flow_table.specs.declared.flow.Flow.{Flow}
 use Rattle.flow_table.specs.Flow.{asks_for_grants, acknowledged, taken_back, requested}
 use Rattle.flow_table.specs.Table.{flow_at, flow_with, with_flow}

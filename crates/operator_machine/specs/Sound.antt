@@ -12,7 +12,7 @@ use Rattle.param_sets.specs.ParamSet.{IsOfKind}
 use Rattle.param_sets.specs.Sets.{AreNested}
 use Rattle.param_sets.specs.declared.param_set.ParamFields.{ParamFields}
 use Rattle.param_sets.specs.declared.sets.SetsFields.{SetsFields}
-use Rattle.slice_table.specs.declared.consts.ConstsFields.{ConstsFields}
+use Rattle.plant.specs.declared.consts.ConstsFields.{ConstsFields}
 use Rattle.flow_table.specs.declared.flow.Flow.{Flow}
 use Rattle.flow_table.specs.declared.flow.Pending.{Pending}
 use Rattle.flow_table.specs.Flow.{asks_for_grants}

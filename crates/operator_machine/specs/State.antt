@@ -1,9 +1,9 @@
 -- What an operator's machine keeps (CM-SP-MULPIv3.1, 7.5 and 11.2; the tables are own).
 use Rattle.std.specs.Prelude.{ℕ, List, [], map, Option, None}
 use Rattle.transactions.specs.declared.entry.KeptEntry.{KeptEntry}
-use Rattle.slice_table.specs.declared.consts.ConstsFields.{ConstsFields}
-use Rattle.slice_table.specs.declared.operator_row.RowFields.{RowFields}
-use Rattle.slice_table.specs.Provisioned.{Opened, opened_flows}
+use Rattle.plant.specs.declared.consts.ConstsFields.{ConstsFields}
+use Rattle.plant.specs.declared.operator_row.RowFields.{RowFields}
+use Rattle.plant.specs.Provisioned.{Opened, opened_flows}
 use Rattle.flow_table.specs.declared.flow.Flow.{Flow}
 use Rattle.operator_machine.specs.declared.heard.Arrival.{Arrival}
 use Rattle.operator_machine.specs.declared.share.Share.{Share}

@@ -16,7 +16,7 @@ use Rattle.admission.specs.Free.{least_free_of}
 use Rattle.admission.specs.declared.budget.Budget.{Budget}
 use Rattle.param_sets.specs.Units.{UnitSizes}
 use Rattle.param_sets.specs.declared.sets.SetsFields.{SetsFields}
-use Rattle.slice_table.specs.declared.operator_row.RowFields.{RowFields}
+use Rattle.plant.specs.declared.operator_row.RowFields.{RowFields}
 use Rattle.flow_table.specs.declared.flow.Flow.{Flow}
 use Rattle.flow_table.specs.Table.{sfids_of, sids_of, flow_at, with_flow, committed_minislots, committed_elements}
 use Rattle.operator_machine.specs.declared.share.NextShare.{NextShare}

@@ -4,7 +4,7 @@ use Rattle.std.proofs.Common.{arith, sym, ◌∙◌, ap}
 use Rattle.std.proofs.lemmas.List.{map-append}
 use Rattle.std.proofs.lemmas.List.Elements.{filter_map-append}
 use Rattle.std.proofs.lemmas.Grind.{flat_map-append}
-use Rattle.slice_table.specs.declared.plant.PlantFields.{PlantFields}
+use Rattle.plant.specs.declared.plant.PlantFields.{PlantFields}
 use Rattle.operator_machine.specs.declared.heard.Heard.TheVariants.{Message, Request}
 use Rattle.operator_machine.specs.declared.output.Output.TheVariants as outputs
 use Rattle.map_assembly.specs.declared.map_bytes.MapBytes.{MapBytes}

@@ -1,7 +1,7 @@
 -- The packets of a plant's run (own).
 use Rattle.std.specs.Prelude.{◌≡◌, ℕ, List, [], ◌∷◌, ◌++◌, map, filter, Bool, true, false, not}
 use Rattle.std.specs.List.{flat_map}
-use Rattle.slice_table.specs.declared.consts.ConstsFields.{ConstsFields}
+use Rattle.plant.specs.declared.consts.ConstsFields.{ConstsFields}
 use Rattle.operator_machine.specs.declared.heard.Heard.TheVariants.{Message}
 use Rattle.operator_machine.specs.declared.output.Output.TheVariants as outputs
 use Rattle.plant_runs.specs.declared.step.Step.{Step}

@@ -2,7 +2,7 @@
 
 ghost use Rattle.std.specs.Prelude.{◌≡◌, ◌++◌, List, IfOk, OnOk, OnErr};
 ghost use Rattle.std.specs.List.{flat_map};
-ghost use Rattle.slice_table.specs.declared.consts.ConstsFields.{ConstsFields};
+ghost use Rattle.plant.specs.declared.consts.ConstsFields.{ConstsFields};
 ghost use Rattle.plant_runs.specs.declared.step.Step.{Step};
 ghost use Rattle.plant_runs.specs.declared.step.Out.{Out};
 ghost use Rattle.plant_capture.specs.File.{file_of};
@@ -12,8 +12,8 @@ use crate::clock::Clock;
 use crate::packet::Packet;
 use crate::recording::file_of;
 use operator_machine::{Heard, Output};
+use plant::Consts;
 use plant_runs::{Out, Step};
-use slice_table::Consts;
 use std::alloc::{AllocError, Global};
 use std::marker::Model;
 

@@ -5,9 +5,9 @@ use Rattle.std.proofs.lemmas.Slice.Eq.{bytes_eq-Decides}
 use Rattle.lru.specs.LruCache.{LruCache, lru_cache, promoted, put_entries}
 use Rattle.lru.proofs.CallerLemmas.{Contains-promoted, Contains-lookup, Contains-put_entries}
 use Rattle.dsx_messages.specs.declared.modem.Modem.{Modem}
-use Rattle.slice_table.specs.declared.operator_row.RowFields.{RowFields}
-use Rattle.slice_table.specs.Row.{same_modem}
-use Rattle.slice_table.specs.Roster.{holder}
+use Rattle.plant.specs.declared.operator_row.RowFields.{RowFields}
+use Rattle.plant.specs.Row.{same_modem}
+use Rattle.plant.specs.Roster.{holder}
 use Rattle.plant_core.specs.Cached.{AreRight}
 
 same_is_equal : (a b : Modem) → same_modem a b ≡ true → a ≡ b

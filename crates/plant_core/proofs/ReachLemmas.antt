@@ -5,9 +5,9 @@ use Rattle.std.proofs.lemmas.Option.{some_pair_parts}
 use Rattle.std.proofs.Math.Logic.{∥∥₁_map, ∥∥₁_elim}
 use Rattle.slice_scheduler.specs.declared.elements.ElementsFields.{ElementsFields}
 use Rattle.dsx_messages.specs.declared.modem.Modem.{Modem}
-use Rattle.slice_table.specs.declared.plant.PlantFields.{PlantFields}
-use Rattle.slice_table.specs.Plant.{IsPlant}
-use Rattle.slice_table.specs.Roster.{holder}
+use Rattle.plant.specs.declared.plant.PlantFields.{PlantFields}
+use Rattle.plant.specs.Plant.{IsPlant}
+use Rattle.plant.specs.Roster.{holder}
 use Rattle.operator_machine.specs.declared.action.Action.{Action}
 use Rattle.operator_machine.specs.declared.action.Action.TheVariants as actions
 use Rattle.operator_machine.specs.State.{operator}

@@ -1,8 +1,8 @@
 -- What a cache of operators keeps (own).
 use Rattle.std.specs.Prelude.{◌≡◌, ℕ, List, Contains, Some}
 use Rattle.dsx_messages.specs.declared.modem.Modem.{Modem}
-use Rattle.slice_table.specs.declared.operator_row.RowFields.{RowFields}
-use Rattle.slice_table.specs.Roster.{holder}
+use Rattle.plant.specs.declared.operator_row.RowFields.{RowFields}
+use Rattle.plant.specs.Roster.{holder}
 
 -- each modem stands beside the operator that lists it
 abbrev pub AreRight : List RowFields → List (Modem × ℕ) → Type 0

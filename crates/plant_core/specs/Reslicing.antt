@@ -2,7 +2,7 @@
 use Rattle.std.specs.Prelude.{ℕ, ◌+◌, ◌==◌, Bool, true, false, List, [], ◌∷◌, length, option_map, Option, Some, None, if◌then◌else◌}
 use Rattle.std.specs.Option.{option_or}
 use Rattle.std.specs.List.{position_from}
-use Rattle.slice_table.specs.Plant.{slices_meet}
+use Rattle.plant.specs.Plant.{slices_meet}
 use Rattle.operator_machine.specs.declared.action.SliceRow.{SliceRow}
 use Rattle.operator_machine.specs.declared.action.Unfit.{Unfit}
 use Rattle.operator_machine.specs.declared.action.Unfit.TheVariants as unfits

@@ -1,7 +1,7 @@
 //! What is done to an operator's desk.
 
 ghost use Rattle.std.specs.Prelude.{◌≡◌, ◌≢◌, ◌↔◌, ◌≤◌, [], ◌++◌, length, slice_get, IsSome, Err, IfOk, OnOk, OnErr};
-ghost use Rattle.slice_table.specs.Row.{IsRowOf};
+ghost use Rattle.plant.specs.Row.{IsRowOf};
 ghost use Rattle.operator_machine.specs.State.{opened, operator};
 ghost use Rattle.operator_machine.specs.Machine.{own_step, IsAllowed};
 ghost use Rattle.operator_machine.specs.Replay.{acted};
@@ -14,7 +14,7 @@ use crate::desk::Desk;
 use grant_policy::Ranking;
 use operator_book::{Book, BookFault, OpenFault};
 use operator_machine::{Action, Output};
-use slice_table::{Consts, OperatorRow};
+use plant::{Consts, OperatorRow};
 use std::alloc::{AllocError, Global};
 
 impl Desk {

@@ -6,7 +6,7 @@ ghost use Rattle.plant_core.specs.declared.core_fault.CoreOpenFault.TheVariants 
 use dsx_messages::Modem;
 use map_assembly::GatherFault;
 use operator_book::BookFault;
-use slice_table::Op;
+use plant::Op;
 use std::alloc::AllocError;
 
 /// Why a plant's core was not opened, in the order tried.

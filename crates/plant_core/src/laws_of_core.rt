@@ -1,13 +1,13 @@
 //! What a core always keeps.
 
 ghost use Rattle.std.specs.Prelude.{◌≡◌, option_map, slice_get};
-ghost use Rattle.slice_table.specs.Plant.{IsPlant};
+ghost use Rattle.plant.specs.Plant.{IsPlant};
 ghost use Rattle.map_assembly.specs.Gathering.{IsGathering};
 ghost use Rattle.plant_core.specs.CoreView.{core_view};
 
 use crate::held::PlantCore;
 use operator_machine::Entry;
-use slice_table::{Op, Plant};
+use plant::{Op, Plant};
 
 impl PlantCore {
     /// A law: the plant is valid, and what is gathered is as the assembly always keeps it. Does nothing.

@@ -1,7 +1,7 @@
 //! Opening a plant's core.
 
 ghost use Rattle.std.specs.Prelude.{◌≡◌, ◌≢◌, ◌↔◌, [], map, length, replicate, All, IsTrue, Err, IfOk};
-ghost use Rattle.slice_table.specs.Row.{IsRowOf};
+ghost use Rattle.plant.specs.Row.{IsRowOf};
 ghost use Rattle.plant_runs.specs.Opened.{opened_book, opened_core};
 ghost use Rattle.plant_runs.specs.Reached.{Reached};
 ghost use Rattle.plant_core.specs.DeskView.{book_at, waiting_at};
@@ -13,7 +13,7 @@ use crate::held::PlantCore;
 use crate::routes::Routes;
 use grant_policy::Ranking;
 use map_assembly::Gather;
-use slice_table::{Consts, OperatorRow, Plant};
+use plant::{Consts, OperatorRow, Plant};
 use std::alloc::{AllocError, Global};
 
 /// Whether a ranking follows the row's policy.

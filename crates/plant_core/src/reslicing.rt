@@ -13,7 +13,7 @@ use crate::core_fault::{CoreFault, ResliceFault};
 use crate::held::PlantCore;
 use operator_book::Book;
 use operator_machine::{SliceRow, Unfit};
-use slice_table::Op;
+use plant::Op;
 use std::alloc::Global;
 
 /// Whether two faults are the same.

@@ -1,12 +1,12 @@
 //! To which operator a modem's messages go.
 
 ghost use Rattle.std.specs.Prelude.{◌≡◌, Some, IfOk};
-ghost use Rattle.slice_table.specs.Plant.{IsPlant};
-ghost use Rattle.slice_table.specs.Roster.{holder};
+ghost use Rattle.plant.specs.Plant.{IsPlant};
+ghost use Rattle.plant.specs.Roster.{holder};
 
 use dsx_messages::Modem;
 use lru::LruCache;
-use slice_table::{Op, Plant};
+use plant::{Op, Plant};
 use std::alloc::{AllocError, Global};
 use std::marker::Model;
 use std::num::NonZeroUsize;
@@ -27,7 +27,7 @@ pub struct Routes {
 }
 
 impl Model for Routes {
-    ghost use Rattle.slice_table.specs.declared.plant.PlantFields.{PlantFields};
+    ghost use Rattle.plant.specs.declared.plant.PlantFields.{PlantFields};
     ghost use Rattle.plant_core.specs.Cached.{AreRight};
 
     ghost Value = { PlantFields };

@@ -19,8 +19,8 @@ use dsx_messages::Modem;
 use map_assembly::{GatherFault, MapBytes};
 use operator_book::BookFault;
 use operator_machine::{Action, Heard, Output};
+use plant::Op;
 use plant_runs::{Out, Step};
-use slice_table::Op;
 use std::alloc::Global;
 
 /// Adds an operator's outputs, for which there is room.

@@ -7,8 +7,8 @@ use Rattle.hex.specs.Hex.{decode_sized}
 use Rattle.hex.specs.declared.error.FromHexError.{FromHexError}
 use Rattle.hex.proofs.HexLemmas.{decode_sized-ok}
 use Rattle.dsx_messages.specs.declared.modem.Modem.{Modem}
-use Rattle.slice_table.specs.declared.plant.PlantFields.{PlantFields}
-use Rattle.slice_table.specs.Roster.{holder}
+use Rattle.plant.specs.declared.plant.PlantFields.{PlantFields}
+use Rattle.plant.specs.Roster.{holder}
 use Rattle.operator_machine.specs.declared.heard.Heard.TheVariants.{Message, Request}
 use Rattle.plant_lines.specs.declared.fields.FieldFault.{FieldFault}
 use Rattle.plant_lines.specs.declared.fields.FieldFault.TheVariants.{Shape}

@@ -4,8 +4,8 @@ use Rattle.std.specs.Str.{bytes_eq}
 use Rattle.std.proofs.lemmas.Slice.Eq.{bytes_eq-Decides}
 use Rattle.plant_lines.specs.Lines.{parts_of}
 use Rattle.plant_lines.proofs.Splits.{field_first}
-use Rattle.slice_table.specs.declared.operator_row.RowFields.{RowFields}
-use Rattle.slice_table.specs.declared.plant.PlantFields.{PlantFields}
+use Rattle.plant.specs.declared.operator_row.RowFields.{RowFields}
+use Rattle.plant.specs.declared.plant.PlantFields.{PlantFields}
 use Rattle.operator_machine.specs.declared.action.SliceRow.{SliceRow}
 use Rattle.plant_lines.specs.declared.fields.FieldFault.{FieldFault}
 use Rattle.plant_lines.specs.declared.fields.FieldFault.TheVariants.{Shape, NoMemory}

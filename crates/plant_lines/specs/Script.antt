@@ -5,9 +5,9 @@ use Rattle.std.specs.Str.{bytes_eq}
 use Rattle.hex.specs.Hex.{decode_sized}
 use Rattle.hex.specs.declared.error.FromHexError.{FromHexError}
 use Rattle.dsx_messages.specs.declared.modem.Modem.{Modem}
-use Rattle.slice_table.specs.declared.operator_row.RowFields.{RowFields}
-use Rattle.slice_table.specs.declared.plant.PlantFields.{PlantFields}
-use Rattle.slice_table.specs.Roster.{holder}
+use Rattle.plant.specs.declared.operator_row.RowFields.{RowFields}
+use Rattle.plant.specs.declared.plant.PlantFields.{PlantFields}
+use Rattle.plant.specs.Roster.{holder}
 use Rattle.operator_machine.specs.declared.action.SliceRow.{SliceRow}
 use Rattle.operator_machine.specs.declared.heard.Heard.{Heard}
 use Rattle.operator_machine.specs.declared.heard.Heard.TheVariants.{Message, Request}

@@ -1,6 +1,6 @@
 -- The sender in the first field of a line (own).
 use Rattle.std.specs.Prelude.{ℕ, List, [], ◌∷◌, Ok, Err}
-use Rattle.slice_table.specs.declared.plant.PlantFields.{PlantFields}
+use Rattle.plant.specs.declared.plant.PlantFields.{PlantFields}
 use Rattle.plant_lines.specs.declared.fields.FieldFault.TheVariants.{Shape}
 use Rattle.plant_lines.specs.declared.script.Sender.{Sender}
 use Rattle.plant_lines.specs.Fields.{Read, ◌>>=◌}

@@ -1,7 +1,7 @@
 -- Which lines were read so far, and what reading a script answered.
 use Rattle.std.specs.Prelude.{◌≡◌, ℕ, ◌+◌, List, [], drop, Result, Ok, Err}
 use Rattle.std.specs.Global.{Vec}
-use Rattle.slice_table.specs.declared.plant.PlantFields.{PlantFields}
+use Rattle.plant.specs.declared.plant.PlantFields.{PlantFields}
 use Rattle.plant_lines.specs.declared.lines.LineFault.{LineFault}
 use Rattle.plant_lines.specs.declared.lines.LineFault.TheVariants.{Shape, NoMemory}
 use Rattle.plant_lines.specs.declared.script.LineStep.{LineStep}

@@ -14,8 +14,8 @@ use crate::lines::{LineFault, part, parts_of, put_parts};
 use crate::unhex::decode_into;
 use dsx_messages::Modem;
 use operator_machine::{Heard, SliceRow};
+use plant::{Op, OperatorRow, Plant};
 use plant_runs::{SliceRows, Step};
-use slice_table::{Op, OperatorRow, Plant};
 use std::alloc::{AllocError, Global};
 
 /// A step, and the number of the line that says it; the first line has number 1.

@@ -13,8 +13,8 @@ use dsx_messages::Modem;
 use hex::encode_upper;
 use map_assembly::MapBytes;
 use operator_machine::{Action, Cause, Entry, Heard, Output, SliceRow};
+use plant::{Op, Plant};
 use slice_scheduler::{Elements, Span};
-use slice_table::{Op, Plant};
 use std::alloc::{AllocError, Global};
 
 /// Spans, each behind a space.

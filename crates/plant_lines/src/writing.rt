@@ -16,9 +16,9 @@ use crate::hexadecimal::write_hex_line;
 use dsx_messages::Modem;
 use map_assembly::MapBytes;
 use operator_machine::{Cause, Output};
+use plant::{Op, Plant};
 use plant_runs::Out;
 use slice_scheduler::{Elements, Span};
-use slice_table::{Op, Plant};
 use std::io;
 use std::io::Write;
 

@@ -6,8 +6,8 @@ use Rattle.std.proofs.lemmas.List.{length-map, length-replicate, length-drop, le
 use Rattle.std.proofs.lemmas.List.Elements.{All-from_recursion}
 use Rattle.std.proofs.lemmas.Option.{none-some, same_Some, slice_get_within}
 use Rattle.slice_scheduler.specs.declared.elements.ElementsFields.{ElementsFields}
-use Rattle.slice_table.specs.declared.operator_row.RowFields.{RowFields}
-use Rattle.slice_table.specs.declared.plant.PlantFields.{PlantFields}
+use Rattle.plant.specs.declared.operator_row.RowFields.{RowFields}
+use Rattle.plant.specs.declared.plant.PlantFields.{PlantFields}
 use Rattle.map_assembly.specs.declared.map_bytes.MapBytes.{MapBytes}
 use Rattle.map_assembly.specs.Gathering.{Gathering, gathering_of, queue_of, IsGathering}
 use Rattle.plant_runs.specs.declared.step.Step.{Step}

@@ -4,13 +4,12 @@ use Rattle.std.specs.Prelude.{◌==◌, slice_get}
 use Rattle.std.proofs.lemmas.Bool.{cases_eq, eq-eqb, ne_eqb, false_from_ne_true, false≢true}
 use Rattle.std.proofs.lemmas.Option.{none-some}
 use Rattle.dsx_messages.specs.declared.modem.Modem.{Modem}
-use Rattle.slice_table.specs.declared.operator_row.RowFields.{RowFields}
-use Rattle.slice_table.specs.declared.plant.PlantFields.{PlantFields}
-use Rattle.slice_table.specs.Row.{is_listed}
-use Rattle.slice_table.specs.Plant.{IsPlant}
-use Rattle.slice_table.specs.Roster.{holder}
-use Rattle.slice_table.specs.First.{Holds}
-use Rattle.slice_table.proofs.FirstLaws.{holder_holds, holder_is, one_lists}
+use Rattle.plant.specs.declared.operator_row.RowFields.{RowFields}
+use Rattle.plant.specs.declared.plant.PlantFields.{PlantFields}
+use Rattle.plant.specs.Row.{is_listed}
+use Rattle.plant.specs.Plant.{IsPlant}
+use Rattle.plant.specs.Roster.{holder, Holds}
+use Rattle.plant.proofs.Holders.{holder_holds, holder_is, one_lists}
 use Rattle.operator_machine.specs.declared.action.Action.{Action}
 use Rattle.operator_machine.specs.declared.action.Action.TheVariants as actions
 use Rattle.plant_runs.specs.declared.step.Step.{Step}

@@ -1,7 +1,7 @@
 -- What is due of each operator (own).
 use Rattle.std.specs.Prelude.{◌≡◌, ℕ, ◌≤◌, List, length, take, slice_get, Some}
-use Rattle.slice_table.specs.declared.operator_row.RowFields.{RowFields}
-use Rattle.slice_table.specs.declared.plant.PlantFields.{PlantFields}
+use Rattle.plant.specs.declared.operator_row.RowFields.{RowFields}
+use Rattle.plant.specs.declared.plant.PlantFields.{PlantFields}
 use Rattle.plant_runs.specs.declared.step.Step.{Step}
 use Rattle.plant_runs.specs.OwnSteps.{collects_of}
 use Rattle.plant_runs.specs.Shown.{alone}

@@ -1,8 +1,8 @@
 -- What two rows, two plants or two encodings have in common (own).
 use Rattle.std.specs.Prelude.{◌≡◌}
 use Rattle.tlv24.specs.declared.fields.FlowFields.{FlowFields}
-use Rattle.slice_table.specs.declared.consts.ConstsFields.{ConstsFields}
-use Rattle.slice_table.specs.declared.operator_row.RowFields.{RowFields}
+use Rattle.plant.specs.declared.consts.ConstsFields.{ConstsFields}
+use Rattle.plant.specs.declared.operator_row.RowFields.{RowFields}
 
 -- their limits, and by what they order their flows
 pub record HaveSameLimits (a b : RowFields) : Type 0 where

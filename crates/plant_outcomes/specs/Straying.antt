@@ -1,7 +1,7 @@
 -- Where a run is not what its steps make of its plant (own).
 use Rattle.std.specs.Prelude.{◌≡◌, ◌≢◌, ◌⊎◌, ℕ, ◌+◌, ◌<◌, List, take, slice_get, Some}
-use Rattle.slice_table.specs.declared.operator_row.RowFields.{RowFields}
-use Rattle.slice_table.specs.declared.plant.PlantFields.{PlantFields}
+use Rattle.plant.specs.declared.operator_row.RowFields.{RowFields}
+use Rattle.plant.specs.declared.plant.PlantFields.{PlantFields}
 use Rattle.operator_machine.specs.Replay.{BookView, actions_of}
 use Rattle.plant_runs.specs.declared.step.Step.{Step}
 use Rattle.plant_runs.specs.OwnSteps.{own_steps}

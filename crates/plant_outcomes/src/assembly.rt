@@ -3,7 +3,7 @@
 ghost use Rattle.std.specs.Prelude.{◌≡◌, ◌≢◌, ◌↔◌, ℕ, [], ◌∷◌, ◌++◌, List, map, All, IsTrue, Option, Some, None, Result, Ok, Err, IfOk, OnOk, OnErr, ◌<◌, vec_len, vec_capacity, true, false};
 ghost use Rattle.slice_scheduler.specs.Minislots.{IsSlice};
 ghost use Rattle.slice_scheduler.specs.declared.elements.ElementsFields.{ElementsFields};
-ghost use Rattle.slice_table.specs.Plant.{IsPlant};
+ghost use Rattle.plant.specs.Plant.{IsPlant};
 ghost use Rattle.operator_machine.specs.declared.action.SliceRow.{SliceRow};
 ghost use Rattle.map_assembly.specs.declared.map_bytes.MapBytes.{MapBytes};
 ghost use Rattle.map_assembly.specs.declared.refused.GatherFault.{GatherFault};
@@ -17,9 +17,9 @@ ghost use Rattle.plant_outcomes.specs.Placings.{new_assembly, listed, HasPut, Ha
 use crate::placing::Placing;
 use map_assembly::{Gather, GatherFault, MapBytes};
 use operator_machine::SliceRow;
+use plant::{Op, Plant};
 use plant_runs::SliceRows;
 use slice_scheduler::{Elements, Slice};
-use slice_table::{Op, Plant};
 use std::alloc::{AllocError, Global};
 use std::marker::Model;
 

@@ -11,9 +11,9 @@ use crate::following::first_stray;
 use crate::putting::{count_collects, first_put_stray};
 use crate::same::is_same_plant;
 use operator_book::Book;
+use plant::{Op, Plant};
 use plant_receipts::{RunFault, Settled};
 use plant_runs::Step;
-use slice_table::{Op, Plant};
 use std::alloc::{AllocError, Global};
 
 /// Whether a step is a tick of this operator.

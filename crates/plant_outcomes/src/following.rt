@@ -1,9 +1,9 @@
 //! Whether operators' histories follow the steps of a run.
 
 ghost use Rattle.std.specs.Prelude.{◌≡◌, ◌↔◌, ◌<◌, List, length, map, IsTrue, is_some, Some, slice_get, MatchOption};
-ghost use Rattle.slice_table.specs.Row.{is_listed};
+ghost use Rattle.plant.specs.Row.{is_listed};
 ghost use Rattle.operator_machine.specs.declared.action.Action.{Action};
-ghost use Rattle.slice_table.specs.declared.operator_row.RowFields.{RowFields};
+ghost use Rattle.plant.specs.declared.operator_row.RowFields.{RowFields};
 ghost use Rattle.operator_machine.specs.Replay.{actions_of};
 ghost use Rattle.operator_book.specs.ViewOf.{view_of};
 ghost use Rattle.plant_runs.specs.OwnSteps.{action_of, own_steps};
@@ -15,9 +15,9 @@ use crate::same::{are_same_consts, is_same_row};
 use dsx_messages::Modem;
 use operator_book::Book;
 use operator_machine::{Action, Entry};
+use plant::{Op, Plant};
 use plant_receipts::is_same_heard;
 use plant_runs::Step;
-use slice_table::{Op, Plant};
 
 /// Whether a modem is of this operator.
 fn is_of(plant: &Plant, modem: Modem, op: Op) -> bool

@@ -1,7 +1,7 @@
 //! Laws of assemblies.
 
 ghost use Rattle.std.specs.Prelude.{List};
-ghost use Rattle.slice_table.specs.declared.plant.PlantFields.{PlantFields};
+ghost use Rattle.plant.specs.declared.plant.PlantFields.{PlantFields};
 ghost use Rattle.map_assembly.specs.declared.map_bytes.MapBytes.{MapBytes};
 ghost use Rattle.map_assembly.specs.Gathering.{Gathering, gathering_of, IsGathering};
 ghost use Rattle.plant_runs.specs.declared.step.Step.{Step};

@@ -1,8 +1,8 @@
 //! What is placed in an assembly.
 
+use plant::Op;
 use plant_runs::SliceRows;
 use slice_scheduler::Elements;
-use slice_table::Op;
 
 /// What was placed in an assembly: a part that was put, or slices that were given.
 #[derive(Debug, Drop)]

@@ -14,10 +14,10 @@ ghost use Rattle.plant_outcomes.specs.declared.putting.Frame.{Frame};
 use crate::placing::Placing;
 use operator_book::Book;
 use operator_machine::{Entry, Output};
+use plant::Op;
 use plant_receipts::are_same_elements;
 use plant_runs::Step;
 use slice_scheduler::Elements;
-use slice_table::Op;
 use std::alloc::{AllocError, Global};
 
 /// A frame, by its number and its elements.

@@ -5,10 +5,8 @@ ghost use Rattle.plant_outcomes.specs.Same.{HaveSameLimits, HaveSameRanges, Have
 
 use admission::IdRange;
 use dsx_messages::Modem;
+use plant::{Class, Consts, ConstsFields, OperatorName, OperatorRow, Plant, Provision, RowFields};
 use slice_scheduler::Slice;
-use slice_table::{
-    Class, Consts, ConstsFields, OperatorName, OperatorRow, Plant, Provision, RowFields,
-};
 use tlv24::{ClassName, ErrorEncodings, FlowFields, FlowTlv};
 
 /// Whether two flows are provisioned alike.

@@ -8,7 +8,7 @@ use crate::turns::{Place, Slot};
 use crate::view::{Key, View};
 use atomic_table::Table;
 use grant_policy::Ranking;
-use slice_table::Modems;
+use plant::Modems;
 use std::alloc::Global;
 
 /// A book that threads share, each with a pass of its own. What contracts say of it they say of `cell_of`.

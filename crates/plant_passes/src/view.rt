@@ -1,7 +1,7 @@
 //! What the proofs say of a cell. No value of `Origin`, `Mark` or `View` is made.
 
 use operator_book::{Entry, Logged};
-use slice_table::{Consts, OperatorRow};
+use plant::{Consts, OperatorRow};
 use std::collections::LinkedList;
 
 /// What a book was opened with.

@@ -2,7 +2,8 @@
 
 use crate::tree::{named, number, pair, values};
 use dsx_messages::Modem;
-use slice_table::{Field, OperatorName};
+use plant::OperatorName;
+use slice_table::Field;
 use std::alloc::{AllocError, Global};
 use toml::{Table, Value};
 

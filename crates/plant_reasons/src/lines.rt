@@ -8,8 +8,8 @@ use crate::values::address_wrong;
 use dsx_messages::Modem;
 use hex::FromHex;
 use operator_book::{Heard, SliceRow};
+use plant::{Op, OperatorRow, Plant};
 use plant_runs::{SliceRows, Step};
-use slice_table::{Op, OperatorRow, Plant};
 use std::alloc::{AllocError, Global};
 use tlv24::Bytes;
 

@@ -5,7 +5,8 @@ use crate::fault::Fault;
 use crate::joint::name_of;
 use crate::tree::{named, number, pair, text, values};
 use param_sets::Units;
-use slice_table::{Field, OperatorName};
+use plant::OperatorName;
+use slice_table::Field;
 use std::alloc::{AllocError, Global};
 use toml::{Table, Value};
 

@@ -7,8 +7,9 @@ use crate::plants::{fault_reason, put_no_bar, toml_reason};
 use crate::refusals::refused_of;
 use crate::show::quoted;
 use crate::unread::put_unread;
+use plant::Plant;
 use plant_words::{Word, text_of_wrong};
-use slice_table::{Plant, PlantFault, read_plant};
+use slice_table::{PlantFault, read_plant};
 use std::alloc::{AllocError, Global};
 use toml::Table;
 

@@ -1,15 +1,15 @@
 //! Why a step of a script is refused: the script is run again up to there.
 
-ghost use Rattle.slice_table.specs.Plant.{IsPlant};
+ghost use Rattle.plant.specs.Plant.{IsPlant};
 ghost use Rattle.plant_core.specs.CoreView.{core_view};
 
 use crate::joint::name_of;
 use crate::lines::{LineReason, LineStep};
 use grant_policy::{RankInput, Ranking, rank_by};
 use operator_book::{Action, BookFault, SliceRow};
+use plant::{Op, Plant};
 use plant_core::{CoreFault, CoreOpenFault, PlantCore, ResliceFault};
 use plant_runs::Step;
-use slice_table::{Op, Plant};
 use std::alloc::{AllocError, Global};
 
 /// What a refused step asked for, as far as a reason tells it.

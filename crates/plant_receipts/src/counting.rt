@@ -8,7 +8,7 @@ ghost use Rattle.plant_receipts.specs.Settling.{IsFirstShort, NoneIsShort};
 
 use crate::receipt::{Callers, Receipt, Receipts};
 use operator_book::Book;
-use slice_table::Op;
+use plant::Op;
 use std::alloc::{AllocError, Global};
 
 /// Counts the receipts of a caller at their indices, up to 255; an index past the end is not counted.

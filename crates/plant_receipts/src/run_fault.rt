@@ -4,8 +4,8 @@ ghost use Rattle.std.specs.Prelude.{◌≡◌};
 ghost use Rattle.plant_receipts.specs.declared.run_fault.RunFault.TheVariants.{NoMemory};
 
 use crate::fault_text::{CoreText, ResliceText};
+use plant::Op;
 use plant_core::{CoreFault, ResliceFault};
-use slice_table::Op;
 use std::alloc::{AllocError, AllocFailed};
 use thiserror::Error;
 

@@ -10,7 +10,7 @@ ghost use Rattle.plant_receipts.specs.Settling.{IsFirstStrayed, EachStands};
 use crate::receipt::{Callers, Receipt, Receipts};
 use crate::same::{are_same_outputs, is_same_action};
 use operator_book::{Book, Entry};
-use slice_table::Op;
+use plant::Op;
 
 /// Whether the entry at the receipt's index has its action and its outputs.
 fn stands(history: &[Entry], receipt: &Receipt) -> bool

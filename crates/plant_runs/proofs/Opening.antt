@@ -4,9 +4,9 @@ use Rattle.std.specs.Prelude.{slice_get}
 use Rattle.std.proofs.lemmas.List.{length-map, length-replicate}
 use Rattle.std.proofs.lemmas.List.Elements.{All-nil}
 use Rattle.std.proofs.lemmas.Option.{slice_get-map, same_Some, none-some}
-use Rattle.slice_table.specs.declared.operator_row.RowFields.{RowFields}
-use Rattle.slice_table.specs.declared.plant.PlantFields.{PlantFields}
-use Rattle.slice_table.specs.Plant.{IsPlant}
+use Rattle.plant.specs.declared.operator_row.RowFields.{RowFields}
+use Rattle.plant.specs.declared.plant.PlantFields.{PlantFields}
+use Rattle.plant.specs.Plant.{IsPlant}
 use Rattle.plant_runs.specs.Shown.{IsMapIn, IsUnder}
 use Rattle.plant_runs.specs.Reached.{IsBookAfter, Reached}
 use Rattle.plant_runs.specs.Opened.{opened_book, opened_core}

@@ -6,8 +6,8 @@ use Rattle.std.proofs.lemmas.List.{length-map, map-append, reverse-append}
 use Rattle.std.proofs.lemmas.Option.{slice_get-map}
 use Rattle.slice_scheduler.specs.Minislots.{Minislots}
 use Rattle.slice_scheduler.proofs.SumLemmas.{recursion-append}
-use Rattle.slice_table.specs.declared.operator_row.RowFields.{RowFields}
-use Rattle.slice_table.specs.Row.{is_listed}
+use Rattle.plant.specs.declared.operator_row.RowFields.{RowFields}
+use Rattle.plant.specs.Row.{is_listed}
 use Rattle.operator_machine.specs.Slices.{SliceFrom, reslicings_in, slice_or, slice_at}
 use Rattle.map_assembly.specs.declared.slicing.Reslicing.{Reslicing}
 use Rattle.map_assembly.specs.Gathering.{slices_or, slices_at}

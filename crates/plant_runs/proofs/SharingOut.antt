@@ -3,8 +3,8 @@ use Rattle.std.proofs.Common.{◌≡◌, ℕ, count_by, List, Some, option_map, 
 use Rattle.std.specs.Prelude.{slice_get, Contains}
 use Rattle.std.proofs.lemmas.Option.{slice_get-map, slice_get_within}
 use Rattle.std.proofs.lemmas.List.Elements.{All-contains}
-use Rattle.slice_table.specs.declared.operator_row.RowFields.{RowFields}
-use Rattle.slice_table.specs.declared.plant.PlantFields.{PlantFields}
+use Rattle.plant.specs.declared.operator_row.RowFields.{RowFields}
+use Rattle.plant.specs.declared.plant.PlantFields.{PlantFields}
 use Rattle.map_assembly.specs.declared.map_bytes.MapBytes.{MapBytes}
 use Rattle.map_assembly.specs.declared.view.MapView.{MapView}
 use Rattle.map_assembly.specs.Map.{layout_of, map_of}

@@ -1,6 +1,6 @@
 -- Two cores in which an operator's own steps are the same, and two books that agree.
 use Rattle.std.proofs.Common.{◌≡◌, ℕ, List, refl, sym, ap, ◌∙◌}
-use Rattle.slice_table.specs.Plant.{AgreeOn}
+use Rattle.plant.specs.Plant.{AgreeOn}
 use Rattle.operator_machine.specs.declared.action.Action.{Action}
 use Rattle.operator_machine.specs.State.{operator}
 use Rattle.operator_machine.specs.Machine.{own_step}

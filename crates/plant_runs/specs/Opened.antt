@@ -1,8 +1,8 @@
 -- A core as it is opened (own).
 use Rattle.std.specs.Prelude.{[], map, length, replicate}
-use Rattle.slice_table.specs.declared.consts.ConstsFields.{ConstsFields}
-use Rattle.slice_table.specs.declared.operator_row.RowFields.{RowFields}
-use Rattle.slice_table.specs.declared.plant.PlantFields.{PlantFields}
+use Rattle.plant.specs.declared.consts.ConstsFields.{ConstsFields}
+use Rattle.plant.specs.declared.operator_row.RowFields.{RowFields}
+use Rattle.plant.specs.declared.plant.PlantFields.{PlantFields}
 use Rattle.operator_machine.specs.State.{opened}
 use Rattle.operator_machine.specs.Replay.{BookView}
 use Rattle.map_assembly.specs.Gathering.{gathering_of}

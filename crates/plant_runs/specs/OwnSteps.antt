@@ -1,8 +1,8 @@
 -- Whose step a step is, and what of a plant's outputs is an operator's (own).
 use Rattle.std.specs.Prelude.{◌==◌, ℕ, List, filter_map, map, count_by, Bool, false, Option, Some, None, slice_get, if◌then◌else◌}
 use Rattle.slice_scheduler.specs.Minislots.{Minislots}
-use Rattle.slice_table.specs.declared.operator_row.RowFields.{RowFields}
-use Rattle.slice_table.specs.Row.{is_listed}
+use Rattle.plant.specs.declared.operator_row.RowFields.{RowFields}
+use Rattle.plant.specs.Row.{is_listed}
 use Rattle.operator_machine.specs.declared.action.SliceRow.{SliceRow}
 use Rattle.operator_machine.specs.declared.action.Action.{Action}
 use Rattle.operator_machine.specs.declared.action.Action.TheVariants as actions

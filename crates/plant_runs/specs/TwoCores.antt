@@ -1,6 +1,6 @@
 -- The headline at cores, and what a core answers to an operator's action (own).
 use Rattle.std.specs.Prelude.{◌≡◌, ℕ, List}
-use Rattle.slice_table.specs.Plant.{AgreeOn}
+use Rattle.plant.specs.Plant.{AgreeOn}
 use Rattle.operator_machine.specs.declared.action.Action.{Action}
 use Rattle.plant_runs.specs.declared.step.Step.{Step}
 use Rattle.plant_runs.specs.declared.step.Out.{Out}

@@ -2,8 +2,8 @@
 
 ghost use Rattle.std.specs.Prelude.{◌≡◌, ℕ, List, [], ◌∷◌, ◌++◌, map, length, AllPairs, slice_get, false, Some, None};
 ghost use Rattle.std.specs.List.{Contains};
-ghost use Rattle.slice_table.specs.declared.plant.PlantFields.{PlantFields};
-ghost use Rattle.slice_table.specs.Plant.{IsPlant, slices_meet};
+ghost use Rattle.plant.specs.declared.plant.PlantFields.{PlantFields};
+ghost use Rattle.plant.specs.Plant.{IsPlant, slices_meet};
 ghost use Rattle.map_assembly.specs.declared.map_bytes.MapBytes.{MapBytes};
 ghost use Rattle.map_assembly.specs.declared.view.MapView.{MapView};
 ghost use Rattle.slice_scheduler.specs.declared.elements.ElementsFields.{ElementsFields};

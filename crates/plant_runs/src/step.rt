@@ -5,7 +5,7 @@ ghost use Rattle.std.specs.Prelude.{◌≡◌, IfOk};
 use dsx_messages::Modem;
 use map_assembly::MapBytes;
 use operator_machine::{Heard, Output, SliceRow};
-use slice_table::Op;
+use plant::Op;
 use std::alloc::{AllocError, Global};
 use std::marker::Model;
 

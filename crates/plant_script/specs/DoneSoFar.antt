@@ -1,6 +1,6 @@
 -- What was done of a script.
 use Rattle.std.specs.Prelude.{◌≡◌, ℕ, List, [], take, drop, slice_get, Option, Some, None, IsSome}
-use Rattle.slice_table.specs.declared.plant.PlantFields.{PlantFields}
+use Rattle.plant.specs.declared.plant.PlantFields.{PlantFields}
 use Rattle.operator_machine.specs.Replay.{BookView, actions_of}
 use Rattle.plant_runs.specs.declared.step.Out.{Out}
 use Rattle.plant_runs.specs.Reached.{CoreView, Reached}

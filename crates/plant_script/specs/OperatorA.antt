@@ -3,8 +3,8 @@
 use Rattle.std.specs.Prelude.{[], ◌∷◌, codes}
 use Rattle.dsx_messages.specs.declared.modem.Modem.{Modem}
 use Rattle.grant_policy.specs.declared.policy.Policy.TheVariants.{Strict}
-use Rattle.slice_table.specs.declared.consts.ConstsFields.{ConstsFields}
-use Rattle.slice_table.specs.declared.operator_row.RowFields.{RowFields}
+use Rattle.plant.specs.declared.consts.ConstsFields.{ConstsFields}
+use Rattle.plant.specs.declared.operator_row.RowFields.{RowFields}
 
 abbrev pub first_modem : Modem
 first_modem = record { 0 = 2 ∷ 0 ∷ 0 ∷ 0 ∷ 0 ∷ 1 ∷ [] }

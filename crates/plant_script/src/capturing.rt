@@ -1,7 +1,7 @@
 //! A script's run on a plant's core, as a capture.
 
 ghost use Rattle.std.specs.Prelude.{◌≡◌, ◌++◌, ◌∷◌, [], List, IfOk, OnOk};
-ghost use Rattle.slice_table.specs.declared.consts.ConstsFields.{ConstsFields};
+ghost use Rattle.plant.specs.declared.consts.ConstsFields.{ConstsFields};
 ghost use Rattle.plant_runs.specs.declared.step.Step.{Step};
 ghost use Rattle.plant_runs.specs.declared.step.Out.{Out};
 ghost use Rattle.plant_runs.specs.Reached.{Reached};

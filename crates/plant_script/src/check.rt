@@ -11,8 +11,9 @@ ghost use Rattle.plant_script.specs.declared.input.Stop.TheVariants.{Memory};
 
 use crate::answer::Answer;
 use crate::input::Stop;
+use plant::Plant;
 use plant_lines::{LineFault, before_bar, plant_text, script_text, steps_of};
-use slice_table::{Plant, PlantFault, read_plant};
+use slice_table::{PlantFault, read_plant};
 use std::alloc::{AllocError, Global};
 
 /// The line of a plant at fault.

@@ -7,11 +7,11 @@ use admission::IdRange;
 use dsx_messages::Modem;
 use grant_policy::Policy;
 use param_sets::Units;
-use slice_scheduler::Slice;
-use slice_table::{
+use plant::{
     Backoffs, Classes, Consts, ConstsFields, Modems, OperatorName, OperatorRow, Provisions,
     RowFields,
 };
+use slice_scheduler::Slice;
 use std::alloc::{AllocError, Global};
 use transactions::Timers;
 

@@ -13,8 +13,9 @@ ghost use Rattle.plant_script.specs.declared.input.Stop.TheVariants.{Memory};
 use crate::answer::Answer;
 use crate::check::{answer_to_fault, answer_to_line};
 use crate::input::Stop;
+use plant::{Op, Plant};
 use plant_lines::{LineFault, LineStep, before_bar, place_of, plant_text, script_text, steps_of};
-use slice_table::{Op, Plant, PlantFault, read_plant};
+use slice_table::{PlantFault, read_plant};
 use std::alloc::Global;
 
 /// What is written of a run.

@@ -1,7 +1,7 @@
 -- Steps of lines that are done one after the other, and what they put out (own).
 use Rattle.std.specs.Prelude.{◌≡◌, ℕ, List, ◌++◌, take, slice_get, Option, Some, None, IsSome, ⊤}
 use Rattle.std.specs.Io.KnownBytes.{Appends}
-use Rattle.slice_table.specs.declared.plant.PlantFields.{PlantFields}
+use Rattle.plant.specs.declared.plant.PlantFields.{PlantFields}
 use Rattle.plant_runs.specs.declared.step.Step.{Step}
 use Rattle.plant_runs.specs.declared.step.Out.{Out}
 use Rattle.plant_runs.specs.Reached.{CoreView}

@@ -2,7 +2,7 @@
 
 ghost use Rattle.std.specs.Prelude.{◌≡◌, ◌≢◌, ◌⊎◌, List, IfOk, OnOk};
 ghost use Rattle.std.specs.Io.KnownBytes.{Appends};
-ghost use Rattle.slice_table.specs.declared.plant.PlantFields.{PlantFields};
+ghost use Rattle.plant.specs.declared.plant.PlantFields.{PlantFields};
 ghost use Rattle.plant_runs.specs.declared.step.Out.{Out};
 ghost use Rattle.plant_runs.specs.declared.step.Step.{Step};
 ghost use Rattle.plant_core.specs.declared.core_fault.CoreFault.TheVariants as faults;
@@ -19,9 +19,9 @@ use crate::held_line::MOST_BYTES;
 use crate::line_end::LineEnd;
 use crate::steps_end::StepsEnd;
 use live_core::LiveCore;
+use plant::Plant;
 use plant_core::CoreFault;
 use plant_lines::{FieldFault, LineStep, put_line, write_outs};
-use slice_table::Plant;
 use std::alloc::Global;
 use std::io;
 use std::io::Write;

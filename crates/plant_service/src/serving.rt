@@ -1,7 +1,7 @@
 //! Serving a plant as long as there are lines.
 
 ghost use Rattle.std.specs.Prelude.{◌≡◌, ◌+◌, [], ◌∷◌, List, ℕ, Option, IfOk, OnOk, IfSome};
-ghost use Rattle.slice_table.specs.declared.plant.PlantFields.{PlantFields};
+ghost use Rattle.plant.specs.declared.plant.PlantFields.{PlantFields};
 ghost use Rattle.plant_runs.specs.declared.step.Out.{Out};
 ghost use Rattle.plant_runs.specs.declared.step.Step.{Step};
 ghost use Rattle.live_core.specs.After.{IsAfter, IsReachable};

@@ -1,6 +1,6 @@
 -- Decisions and their texts, one behind the other.
 use Rattle.std.proofs.Common.{◌≡◌, ℕ, List, [], ◌∷◌, ◌++◌, Option, sym, ap, ◌∙◌, subst, append_assoc, append-nil}
-use Rattle.slice_table.specs.declared.plant.PlantFields.{PlantFields}
+use Rattle.plant.specs.declared.plant.PlantFields.{PlantFields}
 use Rattle.plant_runs.specs.declared.step.Step.{Step}
 use Rattle.plant_trace.specs.declared.decision.Decision.{Decision}
 use Rattle.plant_trace.specs.Trace.{IsDecisionAfter, AreDecided, IsDecisionText, IsTraceText}

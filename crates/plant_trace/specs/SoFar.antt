@@ -1,7 +1,7 @@
 -- How much of a trace is written so far (own; for inner functions).
 use Rattle.std.specs.Prelude.{◌≡◌, ℕ, List, [], ◌++◌, take, drop, Option}
 use Rattle.std.specs.Io.KnownBytes.{Appends}
-use Rattle.slice_table.specs.declared.plant.PlantFields.{PlantFields}
+use Rattle.plant.specs.declared.plant.PlantFields.{PlantFields}
 use Rattle.plant_runs.specs.declared.step.Out.{Out}
 use Rattle.plant_runs.specs.Reached.{CoreView, Reached}
 use Rattle.plant_lines.specs.declared.script.LineStep.{LineStep}

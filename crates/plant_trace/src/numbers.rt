@@ -8,7 +8,7 @@ use dsx_messages::{Message, Request, read};
 use flow_table::Flow;
 use operator_machine::Heard;
 use param_sets::{ParamSet, Units, from_tlv, need};
-use slice_table::Consts;
+use plant::Consts;
 use std::alloc::{AllocError, Global};
 use tlv24::FlowTlv;
 

@@ -6,11 +6,11 @@ use dsx_messages::{Code, Detail, FlowId, Kind, Modem, Reply, read_reply};
 use flow_table::Flow;
 use operator_machine::{Cause, Output};
 use param_sets::{ParamSet, Units, need};
+use plant::Op;
 use plant_core::PlantCore;
 use plant_lines::{name_of, put_name};
 use plant_runs::Out;
 use slice_scheduler::{Elements, Iuc, Span};
-use slice_table::Op;
 use std::alloc::{AllocError, Global};
 
 fn response_name(kind: Kind) -> &'static str {

@@ -1,7 +1,7 @@
 //! Why an operator's cell refused a call.
 
 use operator_book::BookFault;
-use slice_table::Op;
+use plant::Op;
 
 /// Why an operator's cell refused a call.
 #[derive(Clone, Copy, Debug, PartialEq, Eq)]

@@ -6,8 +6,8 @@ ghost use Rattle.plant_core.specs.Reslicing.{least_unfit, row_fault, reslice_fau
 
 use crate::held::Held;
 use operator_machine::{SliceRow, Unfit};
+use plant::Op;
 use plant_core::{ResliceFault, is_refused, least_meeting};
-use slice_table::Op;
 
 /// The least operator whose book refuses its row with this fault.
 fn least_unfit(helds: &[Held], from: u32, rows: &[SliceRow], unfit: Unfit) -> Option<Op>

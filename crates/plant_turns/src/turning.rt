@@ -15,9 +15,9 @@ use crate::cell_fault::CellFault;
 use crate::held::Held;
 use operator_book::BookFault;
 use operator_machine::Action;
+use plant::Op;
 use plant_receipts::Receipt;
 use slice_scheduler::Elements;
-use slice_table::Op;
 use std::alloc::Global;
 
 impl Held {

@@ -6,11 +6,11 @@ use Rattle.std.proofs.lemmas.Grind.{get_or-set_at}
 use Rattle.std.proofs.lemmas.List.{length-set, get_or-set_other}
 use Rattle.std.proofs.lemmas.Option.{none-some, same_Some, slice_get_within, get_or_from_slice_get}
 use Rattle.dsx_messages.specs.declared.modem.Modem.{Modem}
-use Rattle.slice_table.specs.declared.operator_row.RowFields.{RowFields}
-use Rattle.slice_table.specs.declared.plant.PlantFields.{PlantFields}
-use Rattle.slice_table.specs.Plant.{IsPlant}
-use Rattle.slice_table.specs.Row.{is_listed}
-use Rattle.slice_table.specs.Roster.{holder}
+use Rattle.plant.specs.declared.operator_row.RowFields.{RowFields}
+use Rattle.plant.specs.declared.plant.PlantFields.{PlantFields}
+use Rattle.plant.specs.Plant.{IsPlant}
+use Rattle.plant.specs.Row.{is_listed}
+use Rattle.plant.specs.Roster.{holder}
 use Rattle.operator_machine.specs.declared.heard.Heard.{Heard}
 use Rattle.operator_machine.specs.declared.action.Action.TheVariants as actions
 use Rattle.plant_runs.specs.declared.step.Step.{Step}

@@ -6,10 +6,10 @@ ghost use Rattle.plant_runs.specs.declared.step.Step.{Step};
 ghost use Rattle.plant_outcomes.specs.Outcome.{AreTicked};
 ghost use Rattle.plant_walks.specs.Serving.{unserved_by, IsServable, IsFirstUnserved, IsRefusal, AreWaiting};
 
+use plant::Plant;
 use plant_core::CoreFault;
 use plant_receipts::RunFault;
 use plant_runs::Step;
-use slice_table::Plant;
 use std::alloc::Global;
 
 /// Why the step at a place does not find what it asks for, if it does not; `waiting` has how many frames of each operator

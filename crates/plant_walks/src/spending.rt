@@ -5,8 +5,8 @@ ghost use Rattle.plant_outcomes.specs.Outcome.{is_tick_of};
 ghost use Rattle.plant_outcomes.specs.Numbering.{lesser};
 ghost use Rattle.plant_walks.specs.Spending.{IsOwnSpent, NoneSpentBefore, IsFirstSpent};
 
+use plant::{Op, Plant};
 use plant_runs::Step;
-use slice_table::{Op, Plant};
 
 /// Whether a step is a Tick of this operator.
 fn is_tick_of(op: Op, step: &Step) -> bool

@@ -1,15 +1,15 @@
 //! Where in its operator's history each step of a run is due.
 
 ghost use Rattle.std.specs.Prelude.{◌≡◌, ◌+◌, ◌<◌, ◌++◌, [], ◌∷◌, length, take, slice_get, unwrap_or, Some, ◌↔◌, IsTrue, OnOk, IfOk};
-ghost use Rattle.slice_table.specs.Roster.{holder};
-ghost use Rattle.slice_table.specs.declared.operator_row.RowFields.{RowFields};
+ghost use Rattle.plant.specs.Roster.{holder};
+ghost use Rattle.plant.specs.declared.operator_row.RowFields.{RowFields};
 ghost use Rattle.plant_runs.specs.declared.step.Step.{Step};
 ghost use Rattle.plant_walks.specs.Turns.{AreTurns};
 ghost use Rattle.plant_walks.specs.Courses.{IsCourse, IsOwnTurn, AreWritten};
 
 use dsx_messages::Modem;
+use plant::{Op, Plant};
 use plant_runs::Step;
-use slice_table::{Op, Plant};
 use std::alloc::{AllocError, Global};
 
 /// How far an operator has come.

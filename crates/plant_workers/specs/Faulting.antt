@@ -1,6 +1,6 @@
 -- What a run on threads is refused for (own).
 use Rattle.std.specs.Prelude.{◌≡◌, ◌≢◌, ◌⊎◌, ℕ, List, slice_get, Some}
-use Rattle.slice_table.specs.declared.plant.PlantFields.{PlantFields}
+use Rattle.plant.specs.declared.plant.PlantFields.{PlantFields}
 use Rattle.operator_machine.specs.declared.action.SliceRow.{SliceRow}
 use Rattle.operator_book.specs.declared.book.BookFault.TheVariants as book_faults
 use Rattle.map_assembly.specs.declared.refused.GatherFault.TheVariants as gather_faults

@@ -11,10 +11,10 @@ use crate::turn::Turn;
 use dsx_messages::Modem;
 use operator_book::Book;
 use operator_machine::{Action, Heard};
+use plant::Op;
 use plant_receipts::Receipt;
 use plant_turns::{CellFault, Held};
 use slice_scheduler::Elements;
-use slice_table::Op;
 use std::alloc::{AllocError, Global};
 use std::sync::{Condvar, Mutex, Wait};
 

@@ -9,11 +9,11 @@ use crate::crew::Crew;
 use crate::lists::callers_of;
 use map_assembly::MapBytes;
 use operator_book::Book;
+use plant::Plant;
 use plant_outcomes::{Assembly, compare};
 use plant_receipts::{Callers, RunFault, Settled, settle};
 use plant_runs::Step;
 use plant_turns::Held;
-use slice_table::Plant;
 use std::alloc::{AllocError, Global};
 
 /// The books, with no lock round them.

@@ -1,6 +1,6 @@
 //! What is called at each turn.
 
-use slice_table::Op;
+use plant::Op;
 use std::sync::Wait;
 
 /// What is called at each turn of an operator, with the place of its action in the history.

@@ -1,9 +1,9 @@
 //! The steps of a run, each with its operator and its turn.
 
 use operator_machine::Action;
+use plant::{Op, Plant};
 use plant_runs::Step;
 use plant_walks::turns_of;
-use slice_table::{Op, Plant};
 use std::alloc::{AllocError, Global};
 
 /// A step, its operator, and how many entries that operator's history has when the step's turn comes.

@@ -2,8 +2,8 @@
 
 use grant_policy::Ranking;
 use operator_book::Book;
+use plant::Plant;
 use plant_turns::Held;
-use slice_table::Plant;
 use std::alloc::{AllocError, Global};
 
 /// The book of each operator, with nothing done.

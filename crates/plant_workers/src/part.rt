@@ -1,8 +1,8 @@
 //! What each thread of a run does.
 
 use crate::job::Job;
+use plant::Op;
 use plant_runs::Step;
-use slice_table::Op;
 use std::alloc::{AllocError, Global};
 
 /// What one thread of a run does, in the order of the steps.

@@ -4,7 +4,7 @@ ghost use Rattle.std.specs.Prelude.{◌≡◌, ◌↔◌, map, IsTrue};
 ghost use Rattle.operator_book.specs.ViewOf.{policy_of};
 
 use grant_policy::Ranking;
-use slice_table::{OperatorRow, Plant};
+use plant::{OperatorRow, Plant};
 
 /// Whether a ranking follows the row's policy.
 fn follows(ranking: &Ranking, row: &OperatorRow) -> bool

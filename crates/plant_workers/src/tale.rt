@@ -7,10 +7,10 @@ ghost use Rattle.plant_workers.specs.Faulting.{IsOfRun};
 use crate::part::Part;
 use map_assembly::GatherFault;
 use operator_book::BookFault;
+use plant::Op;
 use plant_core::CoreFault;
 use plant_receipts::{Receipt, RunFault};
 use plant_turns::CellFault;
-use slice_table::Op;
 
 /// A receipt, and the operator that gave it.
 #[derive(Drop)]

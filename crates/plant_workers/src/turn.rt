@@ -5,10 +5,10 @@ ghost use Rattle.plant_turns.specs.Telling.{IsOfBook, IsOfTurn, IsOfTaking};
 
 use crate::gate::Gate;
 use operator_machine::Action;
+use plant::Op;
 use plant_receipts::Receipt;
 use plant_turns::{CellFault, Held};
 use slice_scheduler::Elements;
-use slice_table::Op;
 use std::alloc::{AllocError, Global};
 use std::sync::{Condvar, Mutex, MutexGuard, Wait};
 

@@ -9,13 +9,13 @@ use Rattle.toml.specs.Data.{Data, Items, Members, as_array}
 use Rattle.tlv24.specs.Flow.{flow_of}
 use Rattle.tlv24.specs.declared.fields.FlowFields.{FlowFields}
 use Rattle.tlv24.specs.declared.fault.FlowFault.{FlowFault}
-use Rattle.slice_table.specs.declared.class_table.Class.{Class}
+use Rattle.plant.specs.declared.class_table.Class.{Class}
 use Rattle.slice_table.specs.declared.plant_key.Key.{Key}
 use Rattle.slice_table.specs.declared.plant_key.Key.TheVariants.{Classes, Entry}
 use Rattle.slice_table.specs.declared.plant_key.Place.{Place}
 use Rattle.slice_table.specs.declared.plant_key.Place.TheVariants as place
 use Rattle.slice_table.specs.declared.plant_key.Field.TheVariants as field
-use Rattle.slice_table.specs.Classes.{is_named, StatesParameters, IsClass, AreClasses}
+use Rattle.plant.specs.Classes.{is_named, StatesParameters, IsClass, AreClasses}
 use Rattle.slice_table.specs.Tree.{items_len, expected, checked, text_at, bytes_at, table_of}
 use Rattle.slice_table.specs.ReadConsts.{is_class_name, class_name_at, states_parameters, parameters_in, class_encoding_at, class_read, classes_in, classes_if}
 use Rattle.slice_table.proofs.Parsed.{bind_ok, checked_ok, each_keeps, each_len}

@@ -7,30 +7,20 @@ use Rattle.std.proofs.lemmas.Bool.{cases_Bool, false≢true}
 use Rattle.std.proofs.lemmas.List.{get_or-append-add}
 use Rattle.std.proofs.lemmas.List.Quantifiers.{all_pairs_push}
 use Rattle.dsx_messages.specs.declared.modem.Modem.{Modem}
-use Rattle.slice_table.specs.declared.operator_row.RowFields.{RowFields}
-use Rattle.slice_table.specs.Row.{is_listed, same_modem}
-use Rattle.slice_table.specs.Plant.{all_modems}
-use Rattle.slice_table.specs.Roster.{holder}
+use Rattle.plant.specs.declared.operator_row.RowFields.{RowFields}
+use Rattle.plant.specs.Row.{is_listed, same_modem}
+use Rattle.plant.specs.Plant.{all_modems}
+use Rattle.plant.specs.Roster.{holder}
 use Rattle.slice_table.specs.declared.checks.Apart.{Apart}
 use Rattle.slice_table.specs.Checks.{meets, first_pair, first_meeting, first_named, first_again}
-use Rattle.slice_table.specs.First.{IsLeastPair, IsFirst, StandsAgain, Holds}
+use Rattle.slice_table.specs.First.{IsLeastPair, IsFirst, StandsAgain}
+use Rattle.plant.proofs.Addresses.{same_is_equal, listed_append}
+use Rattle.plant.proofs.Holders.{same_some, true_false, first_least}
 use Rattle.slice_table.proofs.Values.{none_passes}
-use Rattle.slice_table.proofs.Places.{same_is_equal, listed_append, some_holder}
 use Rattle.slice_table.proofs.PlantReading.{told_modems, none_step, passed}
 use Rattle.slice_table.proofs.SaidPlant.{is_new, none_again}
 
-same_some : {A : Type 0} (x y : A) → ◌≡◌ {A = Option A} (Some x) (Some y) → x ≡ y
-same_some x y h = cc
-
-true_false : (b : Bool) → b ≡ true → b ≡ false → ⊥
-true_false b h k = false≢true (sym k ∙ h)
-
 -- ---- the first that passes
-
-first_least : {A : Type 0} (test : A → Bool) (x : A) (xs : List A) → test x ≡ false → (place : ℕ) → ((i : ℕ) (c : A) → slice_get xs i ≡ Some c → test c ≡ true → place ≤ i)
-    → (i : ℕ) (c : A) → slice_get (x ∷ xs) i ≡ Some c → test c ≡ true → suc place ≤ i
-first_least test x xs other place least zero c is passes = absurd (true_false (test c) passes (subst (λ y. test y ≡ false) (same_some x c is) other))
-first_least test x xs other place least (suc i) c is passes = let h = least i c is passes in omega (arith, h)
 
 pub find_first : {A : Type 0} (test : A → Bool) (xs : List A) (a : A) → find test xs ≡ Some a → IsFirst test xs a
 find_first test [] a h = cc
@@ -130,86 +120,6 @@ again_is modems m = (
   again_from [] modems m (λ i j d lt more. absurd (omega (arith, more))),
   λ s. ap (first_again []) s.is ∙ again_at [] s.before s.behind m s.distinct s.stood,
 )
-
--- ---- whose modem a modem is
-
-holder_from : (m : Modem) (n : ℕ) (rows : List RowFields) (i : ℕ) → position_from (λ row. is_listed m row.modems) n rows ≡ Some i
-    → (k : ℕ) × (i ≡ n + k) × Holds rows m k
-holder_from m n [] i h = cc
-holder_from m n (row ∷ rows) i h = elim (cases_Bool (is_listed m row.modems)) [
-  | inl listed ↦
-      let is : n ≡ i = same_some n i (rw listed at h) in
-      (0, omega (arith, is), record { row = row; here = refl; listed = listed; first = λ j other e l. omega arith })
-  | inr none ↦
-      let rest = holder_from m (n + 1) rows i (rw none at h) in (
-        suc rest.0,
-        omega (arith, rest.1),
-        record {
-          row = rest.2.row;
-          here = rest.2.here;
-          listed = rest.2.listed;
-          first = first_least (λ r. is_listed m r.modems) row rows none rest.0 rest.2.first;
-        },
-      )
-]
-
-pub holder_holds : (rows : List RowFields) (m : Modem) (i : ℕ) → holder rows m ≡ Some i → Holds rows m i
-holder_holds rows m i h =
-    let found = holder_from m 0 rows i h in
-    subst (Holds rows m) (let e : found.0 ≡ i = omega (arith, found.1) in e) found.2
-
--- ---- at most one
-
-both_list : (xs ys : List Modem) (m : Modem) → first_again xs ys ≡ None → is_listed m xs ≡ true → is_listed m ys ≡ true → ⊥
-both_list xs [] m h a b = false≢true b
-both_list xs (y ∷ ys) m h a b = elim (cases_Bool (same_modem y m)) [
-  | inl same ↦
-      let is : y ≡ m = same_is_equal y m same in
-      true_false (is_listed m xs) a (subst (λ (k : Modem). is_listed k xs ≡ false) is (passed xs ys y h).0)
-  | inr other ↦ both_list (xs ++ y ∷ []) ys m (passed xs ys y h).1 (listed_append m xs (y ∷ []) ∙ rw a refl) (rw other at b)
-]
-
-or_true : (b : Bool) → (b || true) ≡ true
-or_true true = refl
-or_true false = refl
-
-listed_in_row : (rows : List RowFields) (i : ℕ) (row : RowFields) (m : Modem) → slice_get rows i ≡ Some row → is_listed m row.modems ≡ true → is_listed m (all_modems rows) ≡ true
-listed_in_row [] i row m e h = let f : ◌≡◌ {A = Option RowFields} None (Some row) = e in cc
-listed_in_row (r ∷ rows) zero row m e h =
-    let here : is_listed m r.modems ≡ true = subst (λ (x : RowFields). is_listed m x.modems ≡ true) (sym (same_some r row e)) h in
-    listed_append m r.modems (all_modems rows) ∙ rw here refl
-listed_in_row (r ∷ rows) (suc i) row m e h =
-    listed_append m r.modems (all_modems rows) ∙ (let rest = listed_in_row rows i row m e h in rw rest (or_true (is_listed m r.modems)))
-
-apart_behind : (xs ys : List Modem) → AllPairs (λ a b. a ≢ b) (xs ++ ys) → AllPairs (λ a b. a ≢ b) ys
-apart_behind xs ys h i j d lt more e =
-    h (length xs + i) (length xs + j) d (omega (arith, lt)) (omega (arith, more, length-append xs ys))
-    (get_or-append-add xs ys i d ∙ e ∙ sym (get_or-append-add xs ys j d))
-
-pub one_lists : (rows : List RowFields) (m : Modem) (i j : ℕ) (a b : RowFields) → AllPairs (λ a b. a ≢ b) (all_modems rows)
-    → slice_get rows i ≡ Some a → slice_get rows j ≡ Some b → is_listed m a.modems ≡ true → is_listed m b.modems ≡ true → i ≡ j
-one_lists [] m i j a b apart e f g h = let x : ◌≡◌ {A = Option RowFields} None (Some a) = e in cc
-one_lists (r ∷ rows) m zero zero a b apart e f g h = refl
-one_lists (r ∷ rows) m zero (suc j) a b apart e f g h =
-    absurd (both_list r.modems (all_modems rows) m (none_again r.modems (all_modems rows) apart)
-    (subst (λ (x : RowFields). is_listed m x.modems ≡ true) (sym (same_some r a e)) g) (listed_in_row rows j b m f h))
-one_lists (r ∷ rows) m (suc i) zero a b apart e f g h =
-    absurd (both_list r.modems (all_modems rows) m (none_again r.modems (all_modems rows) apart)
-    (subst (λ (x : RowFields). is_listed m x.modems ≡ true) (sym (same_some r b f)) h) (listed_in_row rows i a m e g))
-one_lists (r ∷ rows) m (suc i) (suc j) a b apart e f g h = ap suc (one_lists rows m i j a b (apart_behind r.modems (all_modems rows) apart) e f g h)
-
-by_holder : (rows : List RowFields) (m : Modem) (i : ℕ) (o : Option ℕ) → holder rows m ≡ o → Holds rows m i → holder rows m ≡ Some i
-by_holder rows m i None e s =
-    let listed = listed_in_row rows i s.row m s.here s.listed in
-    absurd (false≢true (ap (is_some {T = ℕ}) (sym e) ∙ some_holder m 0 rows ∙ listed))
-by_holder rows m i (Some k) e s =
-    let there = holder_holds rows m k e in
-    let low = s.first k there.row there.here there.listed in
-    let high = there.first i s.row s.here s.listed in
-    e ∙ ap (λ (n : ℕ). Some n) (let same : k ≡ i = omega (arith, low, high) in same)
-
-pub holder_is : (rows : List RowFields) (m : Modem) (i : ℕ) → (holder rows m ≡ Some i) ↔ Holds rows m i
-holder_is rows m i = (holder_holds rows m i, by_holder rows m i (holder rows m) refl)
 
 -- ---- their names
 

@@ -8,31 +8,19 @@ use Rattle.std.proofs.lemmas.List.Folds.{list_any-append}
 use Rattle.std.proofs.lemmas.List.Concat.{flat_map-append}
 use Rattle.std.proofs.lemmas.Slice.Eq.{bytes_eq-Decides}
 use Rattle.dsx_messages.specs.declared.modem.Modem.{Modem}
-use Rattle.slice_table.specs.declared.operator_row.RowFields.{RowFields}
-use Rattle.slice_table.specs.Row.{same_modem, is_listed}
-use Rattle.slice_table.specs.Plant.{all_modems}
-use Rattle.slice_table.specs.Roster.{Places, place_of, holder, Finds, Lists, Adds}
+use Rattle.plant.specs.declared.operator_row.RowFields.{RowFields}
+use Rattle.plant.specs.Row.{same_modem, is_listed}
+use Rattle.plant.specs.Plant.{all_modems}
+use Rattle.plant.specs.Roster.{Places, place_of, holder, Finds, Lists, Adds}
 use Rattle.slice_table.specs.declared.plant_fault.PlantFault.{PlantFault}
 use Rattle.slice_table.specs.declared.plant_fault.PlantFault.TheVariants.{NoMemory, ModemTwice}
+use Rattle.plant.proofs.Addresses.{same_is_equal, modem_itself, or_false, listed_append, some_holder}
 use Rattle.slice_table.specs.Tree.{Read, Fails}
 use Rattle.slice_table.specs.Checks.{first_again, repeated, unless}
 
 pub copied_none : (o : Option (Bor ℕ)) → is_some o ≡ false → option_copied o ≡ None
 copied_none None h = refl
 copied_none (Some x) h = absurd (false≢true (sym h))
-
-pub same_is_equal : (a b : Modem) → same_modem a b ≡ true → a ≡ b
-same_is_equal a b h = ap (λ (bytes : List ℕ). record { 0 = bytes }) ((bytes_eq-Decides a.0 b.0).0 h)
-
-pub modem_itself : (a : Modem) → same_modem a a ≡ true
-modem_itself a = (bytes_eq-Decides a.0 a.0).1 refl
-
-or_false : (b : Bool) → (b || false) ≡ b
-or_false true = refl
-or_false false = refl
-
-pub listed_append : (m : Modem) (xs ys : List Modem) → is_listed m (xs ++ ys) ≡ (is_listed m xs || is_listed m ys)
-listed_append m xs ys = list_any-append (λ x. same_modem x m) xs ys
 
 listed_push : (m : Modem) (xs : List Modem) (y : Modem) → is_listed m (xs ++ y ∷ []) ≡ (is_listed m xs || same_modem y m)
 listed_push m xs y = listed_append m xs (y ∷ []) ∙ ap (λ (b : Bool). is_listed m xs || b) (or_false (same_modem y m))
@@ -113,14 +101,6 @@ finds_more rows i d old new lt found added m =
     ∙ ap (λ (k : ℕ). option_or (holder (take i rows) m) (if is_listed m (get_or rows i d).modems then Some k else None))
     (let e : 0 + length (take i rows) ≡ i = omega (arith, length-take i rows) in e))
 
-pub some_holder : (m : Modem) (n : ℕ) (rows : List RowFields) → is_some (position_from (λ row. is_listed m row.modems) n rows) ≡ is_listed m (all_modems rows)
-some_holder m n [] = refl
-some_holder m n (row ∷ rows) = elim (cases_Bool (is_listed m row.modems)) [
-  | inl listed ↦ rw (listed_append m row.modems (all_modems rows), listed) refl
-  | inr other ↦ rw (listed_append m row.modems (all_modems rows), other) (some_holder m (n + 1) rows)
-]
-
--- the map of some rows has their addresses
 pub lists_found : (rows : List RowFields) (places : Places) → Finds rows places → Lists places (all_modems rows)
 lists_found rows places found m = ap (is_some {T = ℕ}) (found m) ∙ some_holder m 0 rows
 

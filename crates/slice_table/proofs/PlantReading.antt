@@ -7,16 +7,16 @@ use Rattle.std.proofs.lemmas.List.Kept.{AllPairs-cons}
 use Rattle.dsx_messages.specs.declared.modem.Modem.{Modem}
 use Rattle.slice_table.specs.declared.checks.Apart.{Apart}
 use Rattle.slice_table.specs.declared.checks.Apart.TheVariants.{Slices, Sids, Sfids}
-use Rattle.slice_table.specs.declared.consts.ConstsFields.{ConstsFields}
-use Rattle.slice_table.specs.declared.operator_row.RowFields.{RowFields}
+use Rattle.plant.specs.declared.consts.ConstsFields.{ConstsFields}
+use Rattle.plant.specs.declared.operator_row.RowFields.{RowFields}
 use Rattle.slice_table.specs.declared.plant_fault.PlantFault.{PlantFault}
 use Rattle.slice_table.specs.declared.plant_fault.PlantFault.TheVariants.{SlicesMeet, SidsMeet, SfidsMeet, ModemTwice, TooManyElements, BudgetOverSlice, ProvisionedOver}
-use Rattle.slice_table.specs.Consts.{AreConsts}
-use Rattle.slice_table.specs.Row.{is_listed, same_modem, DoesFit, count_of}
-use Rattle.slice_table.specs.Plant.{IsPlant, all_modems, most_elements}
+use Rattle.plant.specs.Consts.{AreConsts}
+use Rattle.plant.specs.Row.{is_listed, same_modem, DoesFit, count_of}
+use Rattle.plant.specs.Plant.{IsPlant, all_modems, most_elements}
 use Rattle.slice_table.specs.Checks.{meets, first_pair, first_meeting, first_again, is_over_slice, is_overfull, sids_needed, minislots_needed, elements_needed, counts_fit, needs_fit, do_fit, first_named, meeting_fault, twice_fault, elements_fault, budget_fault, provisioned_fault, late_fault, rows_fault, unless}
 use Rattle.slice_table.proofs.Values.{at_most, none_passes}
-use Rattle.slice_table.proofs.Places.{modem_itself}
+use Rattle.plant.proofs.Addresses.{modem_itself}
 use Rattle.slice_table.proofs.RowReading.{AreRows}
 
 -- ---- where there is none

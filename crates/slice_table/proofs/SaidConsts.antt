@@ -10,16 +10,16 @@ use Rattle.tlv24.specs.declared.fields.FlowFields.{FlowFields}
 use Rattle.tlv24.specs.declared.fault.FlowFault.{FlowFault}
 use Rattle.param_sets.specs.Units.{UnitSizes}
 use Rattle.transactions.specs.Waits.{Waits}
-use Rattle.slice_table.specs.declared.class_table.Class.{Class}
-use Rattle.slice_table.specs.declared.consts.Backoffs.{Backoffs}
-use Rattle.slice_table.specs.declared.consts.ConstsFields.{ConstsFields}
+use Rattle.plant.specs.declared.class_table.Class.{Class}
+use Rattle.plant.specs.declared.consts.Backoffs.{Backoffs}
+use Rattle.plant.specs.declared.consts.ConstsFields.{ConstsFields}
 use Rattle.slice_table.specs.declared.read_consts.PlantKeys.{PlantKeys}
 use Rattle.slice_table.specs.declared.plant_key.Key.{Key}
 use Rattle.slice_table.specs.declared.plant_key.Key.TheVariants.{Classes, Entry}
 use Rattle.slice_table.specs.declared.plant_key.Field.TheVariants as field
 use Rattle.slice_table.specs.declared.plant_key.Place.{Place}
 use Rattle.slice_table.specs.declared.plant_key.Place.TheVariants as place
-use Rattle.slice_table.specs.Classes.{is_named, StatesParameters}
+use Rattle.plant.specs.Classes.{is_named, StatesParameters}
 use Rattle.slice_table.specs.Tree.{items_len, required, expected, checked, number_at, number_or, text_at, bytes_at, table_of}
 use Rattle.slice_table.specs.ReadConsts.{units_at, backoffs_at, timers_at, plant_keys_at, plant_keys_of, is_class_name, class_name_at, states_parameters, parameters_in, class_encoding_at, class_read, classes_in, classes_if, with_classes, consts_of}
 use Rattle.slice_table.specs.Says.{SayInTurn, SaysUnits, SaysBackoffs, SaysTimers, SaysKeys, SaysClassName, SaysParameters, SaysClass, SaysClasses, SaysConsts}

@@ -7,22 +7,22 @@ use Rattle.toml.specs.Data.{Members, get_member}
 use Rattle.dsx_messages.specs.declared.modem.Modem.{Modem}
 use Rattle.slice_table.specs.declared.checks.Apart.{Apart}
 use Rattle.slice_table.specs.declared.checks.Apart.TheVariants.{Slices, Sids, Sfids}
-use Rattle.slice_table.specs.declared.consts.ConstsFields.{ConstsFields}
-use Rattle.slice_table.specs.declared.operator_row.RowFields.{RowFields}
-use Rattle.slice_table.specs.declared.plant.PlantFields.{PlantFields}
+use Rattle.plant.specs.declared.consts.ConstsFields.{ConstsFields}
+use Rattle.plant.specs.declared.operator_row.RowFields.{RowFields}
+use Rattle.plant.specs.declared.plant.PlantFields.{PlantFields}
 use Rattle.slice_table.specs.declared.plant_fault.PlantFault.{PlantFault}
 use Rattle.slice_table.specs.declared.plant_key.Field.{Field}
 use Rattle.slice_table.specs.declared.plant_key.Field.TheVariants as field
-use Rattle.slice_table.specs.Consts.{AreConsts}
-use Rattle.slice_table.specs.Row.{is_listed, same_modem, DoesFit, count_of}
-use Rattle.slice_table.specs.Plant.{IsPlant, all_modems, most_elements}
+use Rattle.plant.specs.Consts.{AreConsts}
+use Rattle.plant.specs.Row.{is_listed, same_modem, DoesFit, count_of}
+use Rattle.plant.specs.Plant.{IsPlant, all_modems, most_elements}
 use Rattle.slice_table.specs.ReadConsts.{consts_of}
 use Rattle.slice_table.specs.ReadRows.{rows_of}
 use Rattle.slice_table.specs.Checks.{meets, first_pair, first_meeting, first_again, is_over_slice, is_overfull, sids_needed, minislots_needed, elements_needed, counts_fit, needs_fit, do_fit, meeting_fault, twice_fault, elements_fault, budget_fault, provisioned_fault, late_fault, rows_fault, unless}
 use Rattle.slice_table.specs.ReadPlant.{plant_of}
 use Rattle.slice_table.specs.Says.{SaysNumberOr, SaysConsts, SaysPlant}
 use Rattle.slice_table.proofs.Parsed.{ok_same, bind_ok}
-use Rattle.slice_table.proofs.Places.{same_is_equal}
+use Rattle.plant.proofs.Addresses.{same_is_equal}
 use Rattle.slice_table.proofs.ClassReading.{classes_read}
 use Rattle.slice_table.proofs.RowReading.{rows_read}
 use Rattle.slice_table.proofs.PlantReading.{valid, no_fault}

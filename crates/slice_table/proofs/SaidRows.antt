@@ -8,16 +8,16 @@ use Rattle.std.proofs.lemmas.List.Folds.{list_any_none}
 use Rattle.std.proofs.lemmas.Slice.Eq.{bytes_eq-Decides}
 use Rattle.toml.specs.Data.{Data, array, table, Items, Members, get_member, as_array}
 use Rattle.dsx_messages.specs.declared.modem.Modem.{Modem}
-use Rattle.slice_table.specs.declared.consts.ConstsFields.{ConstsFields}
-use Rattle.slice_table.specs.declared.operator_row.RowFields.{RowFields}
-use Rattle.slice_table.specs.declared.provision.Provision.{Provision}
+use Rattle.plant.specs.declared.consts.ConstsFields.{ConstsFields}
+use Rattle.plant.specs.declared.operator_row.RowFields.{RowFields}
+use Rattle.plant.specs.declared.provision.Provision.{Provision}
 use Rattle.slice_table.specs.declared.plant_key.Field.TheVariants as field
 use Rattle.slice_table.specs.declared.plant_key.Place.{Place}
 use Rattle.slice_table.specs.declared.plant_key.Place.TheVariants as place
 use Rattle.slice_table.specs.declared.plant_key.Key.TheVariants.{Operators, Entry}
-use Rattle.slice_table.specs.Name.{IsOperatorName}
-use Rattle.slice_table.specs.Provisioned.{sets_of_encoding}
-use Rattle.slice_table.specs.Row.{is_listed}
+use Rattle.plant.specs.Name.{IsOperatorName}
+use Rattle.plant.specs.Provisioned.{sets_of_encoding}
+use Rattle.plant.specs.Row.{is_listed}
 use Rattle.slice_table.specs.Tree.{items_len, required, expected, checked, at_field, number_at, text_at, bytes_at, array_at, modem_at, table_of}
 use Rattle.slice_table.specs.ReadRows.{is_operator_name, is_called, name_at, slice_at, range_at, policy_at, modem_read, modems_at, own_modem_at, has_sets, provision_at, provision_read, provisions_in, provisions_if, row_at, row_read, rows_of}
 use Rattle.slice_table.specs.Says.{IsAddress, SayInTurn, SaysName, SaysModems, SaysProvision, SaysProvisions, SaysRow, SaysRows}

@@ -4,14 +4,14 @@ use Rattle.std.specs.Option.{option_or}
 use Rattle.dsx_messages.specs.declared.modem.Modem.{Modem}
 use Rattle.slice_table.specs.declared.checks.Apart.{Apart}
 use Rattle.slice_table.specs.declared.checks.Apart.TheVariants.{Slices, Sids, Sfids}
-use Rattle.slice_table.specs.declared.consts.ConstsFields.{ConstsFields}
-use Rattle.slice_table.specs.declared.operator_row.RowFields.{RowFields}
-use Rattle.slice_table.specs.declared.provision.Provision.{Provision}
+use Rattle.plant.specs.declared.consts.ConstsFields.{ConstsFields}
+use Rattle.plant.specs.declared.operator_row.RowFields.{RowFields}
+use Rattle.plant.specs.declared.provision.Provision.{Provision}
 use Rattle.slice_table.specs.declared.plant_fault.PlantFault.{PlantFault}
 use Rattle.slice_table.specs.declared.plant_fault.PlantFault.TheVariants.{SlicesMeet, SidsMeet, SfidsMeet, ModemTwice, TooManyElements, BudgetOverSlice, ProvisionedOver}
-use Rattle.slice_table.specs.Provisioned.{sets_of_encoding}
-use Rattle.slice_table.specs.Row.{is_listed, need_of_provision, admits, count_of}
-use Rattle.slice_table.specs.Plant.{slices_meet, ranges_meet, all_modems, most_elements}
+use Rattle.plant.specs.Provisioned.{sets_of_encoding}
+use Rattle.plant.specs.Row.{is_listed, need_of_provision, admits, count_of}
+use Rattle.plant.specs.Plant.{slices_meet, ranges_meet, all_modems, most_elements}
 use Rattle.slice_table.specs.Tree.{Read}
 
 -- ---- two operators have something in common

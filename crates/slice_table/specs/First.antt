@@ -1,8 +1,7 @@
--- Which of several faults is named, and whose modem a modem is (own).
+-- Which of several faults is named (own).
 use Rattle.std.specs.Prelude.{◌≡◌, ◌≢◌, ℕ, ◌<◌, ◌≤◌, ◌⊎◌, Bool, true, IsTrue, List, ◌∷◌, ◌++◌, AllPairs, Some, slice_get}
 use Rattle.dsx_messages.specs.declared.modem.Modem.{Modem}
-use Rattle.slice_table.specs.declared.operator_row.RowFields.{RowFields}
-use Rattle.slice_table.specs.Row.{is_listed}
+use Rattle.plant.specs.Row.{is_listed}
 
 -- a and b stand at the least pair of places of which the test holds: the first counts before the second
 pub record IsLeastPair {A : Type 0} (test : A → A → Bool) (xs : List A) (a b : A) : Type 0 where
@@ -28,10 +27,3 @@ pub record StandsAgain (modems : List Modem) (modem : Modem) : Type 0 where
   pub is : modems ≡ before ++ modem ∷ behind
   pub stood : IsTrue (is_listed modem before)
   pub distinct : AllPairs (λ a b. a ≢ b) before
-
--- the operator at this place lists the modem, and none before it does
-pub record Holds (rows : List RowFields) (modem : Modem) (operator : ℕ) : Type 0 where
-  pub row : RowFields
-  pub here : slice_get rows operator ≡ Some row
-  pub listed : IsTrue (is_listed modem row.modems)
-  pub first : (i : ℕ) (other : RowFields) → slice_get rows i ≡ Some other → IsTrue (is_listed modem other.modems) → operator ≤ i

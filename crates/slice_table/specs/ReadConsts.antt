@@ -8,9 +8,9 @@ use Rattle.tlv24.specs.declared.fault.FlowFault.{FlowFault}
 use Rattle.tlv24.specs.Flow.{flow_of}
 use Rattle.param_sets.specs.Units.{UnitSizes}
 use Rattle.transactions.specs.Waits.{Waits}
-use Rattle.slice_table.specs.declared.class_table.Class.{Class}
-use Rattle.slice_table.specs.declared.consts.Backoffs.{Backoffs}
-use Rattle.slice_table.specs.declared.consts.ConstsFields.{ConstsFields}
+use Rattle.plant.specs.declared.class_table.Class.{Class}
+use Rattle.plant.specs.declared.consts.Backoffs.{Backoffs}
+use Rattle.plant.specs.declared.consts.ConstsFields.{ConstsFields}
 use Rattle.slice_table.specs.declared.read_consts.PlantKeys.{PlantKeys}
 use Rattle.slice_table.specs.declared.plant_fault.PlantFault.TheVariants.{BadValue}
 use Rattle.slice_table.specs.declared.plant_key.Key.{Key}
@@ -18,8 +18,8 @@ use Rattle.slice_table.specs.declared.plant_key.Key.TheVariants.{Classes, Entry}
 use Rattle.slice_table.specs.declared.plant_key.Place.{Place}
 use Rattle.slice_table.specs.declared.plant_key.Place.TheVariants as place
 use Rattle.slice_table.specs.declared.plant_key.Field.TheVariants as field
-use Rattle.slice_table.specs.Classes.{is_named}
-use Rattle.slice_table.specs.Consts.{AreBackoffs}
+use Rattle.plant.specs.Classes.{is_named}
+use Rattle.plant.specs.Consts.{AreBackoffs}
 use Rattle.slice_table.specs.Tree.{Read, ◌>>=◌, each, items_len, required, expected, checked, number_at, number_or, text_at, bytes_at, table_of}
 
 -- ---- the table `plant`

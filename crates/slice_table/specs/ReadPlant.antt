@@ -1,7 +1,7 @@
 -- What a plant file says: the plant of its text, or the first fault (own).
 use Rattle.std.specs.Prelude.{Option, Some, None, Err}
 use Rattle.toml.specs.Data.{Members}
-use Rattle.slice_table.specs.declared.plant.PlantFields.{PlantFields}
+use Rattle.plant.specs.declared.plant.PlantFields.{PlantFields}
 use Rattle.slice_table.specs.declared.plant_fault.PlantFault.TheVariants.{NotToml}
 use Rattle.slice_table.specs.Tree.{Read, ◌>>=◌}
 use Rattle.slice_table.specs.ReadConsts.{consts_of}

@@ -9,17 +9,17 @@ use Rattle.admission.specs.Free.{Numbers}
 use Rattle.grant_policy.specs.declared.policy.Policy.{Policy}
 use Rattle.grant_policy.specs.declared.policy.Policy.TheVariants.{Strict, Aged, Short}
 use Rattle.slice_scheduler.specs.Minislots.{Minislots}
-use Rattle.slice_table.specs.declared.consts.ConstsFields.{ConstsFields}
-use Rattle.slice_table.specs.declared.operator_row.RowFields.{RowFields}
-use Rattle.slice_table.specs.declared.provision.Provision.{Provision}
+use Rattle.plant.specs.declared.consts.ConstsFields.{ConstsFields}
+use Rattle.plant.specs.declared.operator_row.RowFields.{RowFields}
+use Rattle.plant.specs.declared.provision.Provision.{Provision}
 use Rattle.slice_table.specs.declared.plant_fault.PlantFault.TheVariants.{BadValue}
 use Rattle.slice_table.specs.declared.plant_key.Field.{Field}
 use Rattle.slice_table.specs.declared.plant_key.Field.TheVariants as field
 use Rattle.slice_table.specs.declared.plant_key.Place.{Place}
 use Rattle.slice_table.specs.declared.plant_key.Place.TheVariants as place
 use Rattle.slice_table.specs.declared.plant_key.Key.TheVariants.{Operators, Entry}
-use Rattle.slice_table.specs.Provisioned.{sets_of_encoding}
-use Rattle.slice_table.specs.Row.{is_listed}
+use Rattle.plant.specs.Provisioned.{sets_of_encoding}
+use Rattle.plant.specs.Row.{is_listed}
 use Rattle.slice_table.specs.Tree.{Read, ◌>>=◌, each, items_len, required, expected, checked, at_field, number_at, pair_at, text_at, bytes_at, array_at, modem_of, modem_at, table_of}
 
 -- ---- an operator's own keys

@@ -13,19 +13,19 @@ use Rattle.grant_policy.specs.declared.policy.Policy.TheVariants.{Strict, Aged, 
 use Rattle.slice_scheduler.specs.Minislots.{Minislots}
 use Rattle.param_sets.specs.Units.{UnitSizes}
 use Rattle.transactions.specs.Waits.{Waits}
-use Rattle.slice_table.specs.declared.class_table.Class.{Class}
-use Rattle.slice_table.specs.declared.consts.Backoffs.{Backoffs}
-use Rattle.slice_table.specs.declared.consts.ConstsFields.{ConstsFields}
-use Rattle.slice_table.specs.declared.operator_row.RowFields.{RowFields}
-use Rattle.slice_table.specs.declared.plant.PlantFields.{PlantFields}
-use Rattle.slice_table.specs.declared.provision.Provision.{Provision}
+use Rattle.plant.specs.declared.class_table.Class.{Class}
+use Rattle.plant.specs.declared.consts.Backoffs.{Backoffs}
+use Rattle.plant.specs.declared.consts.ConstsFields.{ConstsFields}
+use Rattle.plant.specs.declared.operator_row.RowFields.{RowFields}
+use Rattle.plant.specs.declared.plant.PlantFields.{PlantFields}
+use Rattle.plant.specs.declared.provision.Provision.{Provision}
 use Rattle.slice_table.specs.declared.plant_key.Field.{Field}
 use Rattle.slice_table.specs.declared.plant_key.Field.TheVariants as field
-use Rattle.slice_table.specs.Name.{IsOperatorName}
-use Rattle.slice_table.specs.Classes.{StatesParameters}
-use Rattle.slice_table.specs.Provisioned.{sets_of_encoding}
-use Rattle.slice_table.specs.Row.{is_listed, IsFrom}
-use Rattle.slice_table.specs.Plant.{IsPlant}
+use Rattle.plant.specs.Name.{IsOperatorName}
+use Rattle.plant.specs.Classes.{StatesParameters}
+use Rattle.plant.specs.Provisioned.{sets_of_encoding}
+use Rattle.plant.specs.Row.{is_listed, IsFrom}
+use Rattle.plant.specs.Plant.{IsPlant}
 use Rattle.slice_table.specs.Tree.{at_field, items_len}
 
 -- ---- one key

@@ -1,14 +1,12 @@
 //! What is asked of all keys of a plant file together.
 
 ghost use Rattle.std.specs.Prelude.{◌≡◌, ◌≤◌, length, find, option_map, option_copied};
-ghost use Rattle.slice_table.specs.Plant.{slices_meet, ranges_meet, most_elements};
+ghost use Rattle.plant.specs.Plant.{slices_meet, ranges_meet, most_elements};
 ghost use Rattle.slice_table.specs.Checks.{meets, first_meeting, is_over_slice, do_fit, first_named, is_overfull, meeting_fault, elements_fault, budget_fault, provisioned_fault};
 
-use crate::consts::Consts;
-use crate::name::OperatorName;
-use crate::operator_row::OperatorRow;
 use crate::plant_fault::PlantFault;
 use admission::IdRange;
+use plant::{Consts, OperatorName, OperatorRow};
 use slice_scheduler::Slice;
 
 /// What no two operators may have in common.
@@ -33,33 +31,31 @@ fn ranges_meet(a: &IdRange, b: &IdRange) -> bool
     a.get_first() <= b.get_last() && b.get_first() <= a.get_last()
 }
 
-impl OperatorRow {
-    /// The operator's name.
-    fn name(&self) -> OperatorName
-        ensures { result ≡ self.now.name }
-    {
-        self.get_fields().name
-    }
+/// An operator's name.
+fn name_of(row: &OperatorRow) -> OperatorName
+    ensures { result ≡ row.now.name }
+{
+    row.get_fields().name
+}
 
-    /// Whether two operators have this in common.
-    fn meets(&self, apart: Apart, other: &OperatorRow) -> bool
-        ensures { result ≡ meets apart self.now other.now }
-    {
-        let (a, b) = (self.get_fields(), other.get_fields());
-        match apart {
-            Apart::Slices => slices_meet(&a.slice, &b.slice),
-            Apart::Sids => ranges_meet(&a.sids, &b.sids),
-            Apart::Sfids => ranges_meet(&a.sfids, &b.sfids),
-        }
+/// Whether two operators have this in common.
+fn meets(apart: Apart, row: &OperatorRow, other: &OperatorRow) -> bool
+    ensures { result ≡ meets apart row.now other.now }
+{
+    let (a, b) = (row.get_fields(), other.get_fields());
+    match apart {
+        Apart::Slices => slices_meet(&a.slice, &b.slice),
+        Apart::Sids => ranges_meet(&a.sids, &b.sids),
+        Apart::Sfids => ranges_meet(&a.sfids, &b.sfids),
     }
+}
 
-    /// Whether the budget is more than the slice.
-    fn is_over_slice(&self) -> bool
-        ensures { result ≡ is_over_slice self.now }
-    {
-        let row = self.get_fields();
-        row.slice.get_length() < row.budget
-    }
+/// Whether an operator's budget is more than its slice.
+fn is_over_slice(row: &OperatorRow) -> bool
+    ensures { result ≡ is_over_slice row.now }
+{
+    let fields = row.get_fields();
+    fields.slice.get_length() < fields.budget
 }
 
 /// The first operator that has this in common with one.
@@ -70,7 +66,7 @@ fn first_met<'a>(
 ) -> Option<&'a OperatorRow>
     ensures { option_copied result ≡ find (meets apart row.now) others.now }
 {
-    others.iter().find(|other| row.meets(apart, other))
+    others.iter().find(|other| meets(apart, row, other))
 }
 
 /// The names of the first two operators that have this in common.
@@ -80,7 +76,7 @@ fn first_meeting(apart: Apart, rows: &[OperatorRow]) -> Option<(OperatorName, Op
 {
     for (place, row) in rows.iter().enumerate() {
         if let Some(other) = first_met(apart, row, &rows[place + 1..]) {
-            return Some((row.name(), other.name()));
+            return Some((name_of(row), name_of(other)));
         }
     }
     None
@@ -131,7 +127,7 @@ pub(crate) fn elements_fault(rows: &[OperatorRow]) -> Option<PlantFault>
 fn first_over_slice(rows: &[OperatorRow]) -> Option<&OperatorRow>
     ensures { option_copied result ≡ find is_over_slice rows.now }
 {
-    rows.iter().find(|row| row.is_over_slice())
+    rows.iter().find(|row| is_over_slice(row))
 }
 
 /// The fault that a budget is more than its slice.
@@ -141,7 +137,7 @@ pub(crate) fn budget_fault(rows: &[OperatorRow]) -> Option<PlantFault>
 {
     match first_over_slice(rows) {
         Some(row) => Some(PlantFault::BudgetOverSlice {
-            operator: row.name(),
+            operator: name_of(row),
         }),
         None => None,
     }

@@ -1,15 +1,13 @@
 //! Whether the provisioned flows of an operator fit its keys.
 
 ghost use Rattle.std.specs.Prelude.{◌≡◌, ◌≤◌, true, length, find, option_copied};
-ghost use Rattle.slice_table.specs.Row.{need_of_sets, admits, count_of};
+ghost use Rattle.plant.specs.Row.{need_of_sets, admits, count_of};
 ghost use Rattle.slice_table.specs.Checks.{sids_needed, minislots_needed, elements_needed, counts_fit, needs_fit, do_fit, is_overfull, provisioned_fault};
 
-use crate::consts::Consts;
-use crate::operator_row::{OperatorRow, RowFields};
 use crate::plant_fault::PlantFault;
-use crate::provision::Provision;
 use admission::{Budget, IdRange};
 use param_sets::{Sets, Units, need};
+use plant::{Consts, OperatorRow, Provision, RowFields};
 
 /// What the provisioned flows of an operator need together.
 #[derive(Clone, Copy)]
@@ -95,22 +93,20 @@ fn needs_fit(consts: &Consts, row: &RowFields) -> bool
         && demand.elements <= u64::from(row.elements)
 }
 
-impl OperatorRow {
-    /// Whether the provisioned flows fit.
-    #[tactic(auto, unfolding(crate::specs::Checks::do_fit))]
-    fn do_fit(&self, consts: &Consts) -> bool
-        ensures { result ≡ do_fit consts.now self.now }
-    {
-        let row = self.get_fields();
-        counts_fit(row) && needs_fit(consts, row)
-    }
+/// Whether an operator's provisioned flows fit.
+#[tactic(auto, unfolding(crate::specs::Checks::do_fit))]
+fn do_fit(consts: &Consts, row: &OperatorRow) -> bool
+    ensures { result ≡ do_fit consts.now row.now }
+{
+    let fields = row.get_fields();
+    counts_fit(fields) && needs_fit(consts, fields)
 }
 
 /// The first operator whose provisioned flows do not fit.
 fn first_overfull<'a>(consts: &Consts, rows: &'a [OperatorRow]) -> Option<&'a OperatorRow>
     ensures { option_copied result ≡ find (is_overfull consts.now) rows.now }
 {
-    rows.iter().find(|row| !row.do_fit(consts))
+    rows.iter().find(|row| !do_fit(consts, row))
 }
 
 /// The fault that the provisioned flows of an operator do not fit.

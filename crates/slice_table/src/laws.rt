@@ -1,30 +1,27 @@
-//! Laws of plant files: what the keys say, whose modem a modem is, and which of several faults is named.
+//! Laws of plant files: what the keys say, and which of several faults is named.
 
-ghost use Rattle.std.specs.Prelude.{◌≡◌, ◌↔◌, ℕ, Bool, IsTrue, List, [], Option, Some, Ok, slice_get};
+ghost use Rattle.std.specs.Prelude.{◌≡◌, ◌↔◌, ℕ, Bool, List, [], Option, Some, Ok};
 ghost use Rattle.toml.specs.Data.{Data, Members};
 ghost use Rattle.dsx_messages.specs.declared.modem.Modem.{Modem};
 ghost use Rattle.admission.specs.Free.{Numbers};
 ghost use Rattle.grant_policy.specs.declared.policy.Policy.{Policy};
 ghost use Rattle.slice_scheduler.specs.Minislots.{Minislots};
 ghost use Rattle.slice_table.specs.declared.checks.Apart.{Apart};
-ghost use Rattle.slice_table.specs.declared.consts.ConstsFields.{ConstsFields};
-ghost use Rattle.slice_table.specs.declared.operator_row.RowFields.{RowFields};
-ghost use Rattle.slice_table.specs.declared.plant.PlantFields.{PlantFields};
+ghost use Rattle.plant.specs.declared.consts.ConstsFields.{ConstsFields};
+ghost use Rattle.plant.specs.declared.operator_row.RowFields.{RowFields};
+ghost use Rattle.plant.specs.declared.plant.PlantFields.{PlantFields};
 ghost use Rattle.slice_table.specs.declared.plant_key.Field.{Field};
 ghost use Rattle.slice_table.specs.declared.plant_key.Field.TheVariants.{Flow};
 ghost use Rattle.slice_table.specs.declared.plant_key.Key.{Key};
-ghost use Rattle.slice_table.specs.declared.provision.Provision.{Provision};
+ghost use Rattle.plant.specs.declared.provision.Provision.{Provision};
 ghost use Rattle.slice_table.specs.declared.plant_key.Place.{Place};
-ghost use Rattle.slice_table.specs.Row.{is_listed};
-ghost use Rattle.slice_table.specs.Plant.{IsPlant};
-ghost use Rattle.slice_table.specs.Roster.{holder};
 ghost use Rattle.slice_table.specs.Tree.{at_field, number_at, number_or, modem_of};
 ghost use Rattle.slice_table.specs.ReadConsts.{consts_of};
 ghost use Rattle.slice_table.specs.ReadRows.{slice_at, range_at, policy_at, modems_at, row_read, rows_of, name_at, provisions_if};
 ghost use Rattle.slice_table.specs.ReadPlant.{plant_of};
 ghost use Rattle.slice_table.specs.Checks.{meets, first_meeting, first_named, first_again};
 ghost use Rattle.slice_table.specs.Says.{SaysNumber, SaysNumberOr, SaysSlice, SaysRange, SaysPolicy, SaysModems, SaysConsts, SaysRow, SaysRows, SaysPlant, SaysName, IsAddress, SaysProvisions};
-ghost use Rattle.slice_table.specs.First.{IsLeastPair, IsFirst, StandsAgain, Holds};
+ghost use Rattle.slice_table.specs.First.{IsLeastPair, IsFirst, StandsAgain};
 
 /// A number is read exactly where it stands under its key, in its range.
 pub fn number_is_said()
@@ -83,19 +80,6 @@ pub fn consts_are_said()
 /// A plant is read exactly where the keys of the document say it and it is valid.
 pub fn plant_is_said()
     ensures { (document : Members) (plant : PlantFields) → (plant_of document ≡ Ok plant) ↔ SaysPlant document plant }
-{}
-
-/// The holder of a modem is the first operator that lists it.
-pub fn holder_is_first()
-    ensures { (rows : List RowFields) (modem : Modem) (operator : ℕ) → (holder rows modem ≡ Some operator)
-        ↔ Holds rows modem operator }
-{}
-
-/// At most one operator of a valid plant lists a modem.
-pub fn one_operator_lists()
-    ensures { (plant : PlantFields) (modem : Modem) (i j : ℕ) (a b : RowFields) → IsPlant plant
-        → slice_get plant.rows i ≡ Some a → slice_get plant.rows j ≡ Some b → IsTrue (is_listed modem a.modems)
-        → IsTrue (is_listed modem b.modems) → i ≡ j }
 {}
 
 /// Of the operators that have something in common, the least pair is named.

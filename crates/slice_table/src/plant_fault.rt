@@ -3,9 +3,9 @@
 ghost use Rattle.std.specs.Prelude.{◌≡◌};
 ghost use Rattle.slice_table.specs.declared.plant_fault.PlantFault.TheVariants.{NoMemory};
 
-use crate::name::OperatorName;
 use crate::plant_key::Key;
 use dsx_messages::Modem;
+use plant::OperatorName;
 use std::alloc::{AllocError, AllocFailed};
 use thiserror::Error;
 

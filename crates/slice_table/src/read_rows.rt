@@ -9,30 +9,25 @@ ghost use Rattle.slice_table.specs.declared.plant_key.Field.TheVariants.{Flow as
 ghost use Rattle.slice_table.specs.Tree.{Gives, each, at_field};
 ghost use Rattle.slice_table.specs.ReadRows.{is_operator_name, is_called, name_at, is_within, slice_at, is_range, range_at, aged_at, policy_named, policy_at, modem_read, modems_at, own_modem_at, has_sets, provision_at, provision_read, provisions_in, provisions_if, row_at, row_read, rows_of};
 
-use crate::consts::Consts;
-use crate::name::OperatorName;
-use crate::operator_row::{Modems, OperatorRow, RowFields};
 use crate::plant_fault::PlantFault;
 use crate::plant_key::{Field, Key, Place};
-use crate::provision::{Provision, Provisions};
 use crate::tree::{
     array_at, array_of, bytes_at, entry, modem_at, modem_of, number_at, pair_at, table_of, text_at,
 };
 use admission::IdRange;
 use dsx_messages::Modem;
 use grant_policy::Policy;
+use plant::{Consts, Modems, OperatorName, OperatorRow, Provision, Provisions, RowFields};
 use slice_scheduler::Slice;
 use std::alloc::Global;
 use tlv24::Bytes;
 use toml::{Table, Value};
 
-impl OperatorRow {
-    /// Whether this is the operator of that name.
-    fn is_called(&self, name: &OperatorName) -> bool
-        ensures { result ≡ is_called name.now self.now }
-    {
-        self.get_fields().name.as_slice() == name.as_slice()
-    }
+/// Whether this is the operator of that name.
+fn is_called(name: &OperatorName, row: &OperatorRow) -> bool
+    ensures { result ≡ is_called name.now row.now }
+{
+    row.get_fields().name.as_slice() == name.as_slice()
 }
 
 /// The name of an operator.
@@ -46,7 +41,7 @@ fn operator_name(text: &[u8]) -> Option<OperatorName>
 fn is_taken(name: &OperatorName, rows: &[OperatorRow]) -> bool
     ensures { result ≡ list_any (is_called name.now) rows.now }
 {
-    rows.iter().any(|row| row.is_called(name))
+    rows.iter().any(|row| is_called(name, row))
 }
 
 /// The name of an operator that comes behind others.

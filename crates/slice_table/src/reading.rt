@@ -4,25 +4,23 @@ ghost use Rattle.std.specs.Prelude.{◌≡◌, ◌≤◌, length, IfOk, Some, Ok
 ghost use Rattle.toml.specs.Data.{Members};
 ghost use Rattle.toml.specs.Parse.{parse_document};
 ghost use Rattle.toml.specs.View.{table_view};
-ghost use Rattle.slice_table.specs.declared.plant.PlantFields.{PlantFields};
-ghost use Rattle.slice_table.specs.Plant.{IsPlant};
+ghost use Rattle.plant.specs.declared.plant.PlantFields.{PlantFields};
+ghost use Rattle.plant.specs.Plant.{IsPlant};
 ghost use Rattle.slice_table.specs.Says.{SaysPlant};
-ghost use Rattle.slice_table.specs.Roster.{Finds};
+ghost use Rattle.plant.specs.Roster.{Finds};
 ghost use Rattle.slice_table.specs.Tree.{Gives};
 ghost use Rattle.slice_table.specs.Checks.{late_fault, rows_fault, unless};
 ghost use Rattle.slice_table.specs.ReadPlant.{plant_of, text_plant};
 
 use crate::checks::{budget_fault, elements_fault, meeting_fault};
-use crate::consts::Consts;
 use crate::fits::provisioned_fault;
-use crate::operator_row::OperatorRow;
-use crate::plant::{Plant, PlantFields, Rows};
 use crate::plant_fault::PlantFault;
 use crate::read_consts::consts_of;
 use crate::read_rows::rows_of;
 use crate::roster::places_of;
 use dsx_messages::Modem;
 use indexmap::IndexMap;
+use plant::{Consts, OperatorRow, Plant, PlantFields, Rows};
 use std::alloc::Global;
 use toml::Table;
 

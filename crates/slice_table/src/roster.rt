@@ -2,15 +2,15 @@
 
 ghost use Rattle.std.specs.Prelude.{◌≡◌, List, IfOk, OnOk};
 ghost use Rattle.dsx_messages.specs.declared.modem.Modem.{Modem};
-ghost use Rattle.slice_table.specs.Plant.{all_modems};
-ghost use Rattle.slice_table.specs.Roster.{Finds, Lists, Adds, place_of, holder};
+ghost use Rattle.plant.specs.Plant.{all_modems};
+ghost use Rattle.plant.specs.Roster.{Finds, Lists, Adds, place_of, holder};
 ghost use Rattle.slice_table.specs.Tree.{Gives};
 ghost use Rattle.slice_table.specs.Checks.{first_again, repeated, twice_fault, unless};
 
-use crate::operator_row::OperatorRow;
 use crate::plant_fault::PlantFault;
 use dsx_messages::Modem;
 use indexmap::IndexMap;
+use plant::OperatorRow;
 use std::alloc::Global;
 
 /// Adds the modems of the operator at this place; the first that is there already is the fault.

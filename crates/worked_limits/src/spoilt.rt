@@ -3,9 +3,10 @@
 use dsx_messages::Modem;
 use hex::decode;
 use operator_machine::Heard;
+use plant::Plant;
 use plant_core::PlantCore;
 use plant_runs::Step;
-use slice_table::{Plant, read_plant};
+use slice_table::read_plant;
 use std::alloc::Global;
 use std::process::Abort;
 use std::test::Fail;

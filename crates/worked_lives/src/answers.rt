@@ -1,7 +1,8 @@
 //! What a live core answers.
 
 use crate::playing::played_live;
-use slice_table::{Plant, read_plant};
+use plant::Plant;
+use slice_table::read_plant;
 use std::alloc::Global;
 use std::process::Abort;
 use std::test::Fail;

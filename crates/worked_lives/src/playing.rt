@@ -1,8 +1,8 @@
 //! Scripts, played over a live core.
 
 use live_core::LiveCore;
+use plant::Plant;
 use plant_runs::Step;
-use slice_table::Plant;
 use std::alloc::Global;
 use std::test::Fail;
 use worked_playing::{put_outs, steps_of};
@@ -12,7 +12,7 @@ use worked_playing::{put_outs, steps_of};
 macro_rules! live {
     ($alloc:expr, $plant:expr) => {{
         let alloc = $alloc;
-        let plant: slice_table::Plant = $plant;
+        let plant: plant::Plant = $plant;
         let mut rankings = Vec::new(alloc);
         for row in plant.rows() {
             let policy = row.get_fields().policy;

@@ -1,7 +1,7 @@
 //! MAPs as bytes.
 
 use map_assembly::{MapFault, MapHeader, MapSpan, read_map};
-use slice_table::Backoffs;
+use plant::Backoffs;
 use std::test::Fail;
 
 /// One operator of two has a grant: the header, the head, the grant, an idle span of each operator, the Null.

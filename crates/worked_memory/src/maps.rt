@@ -3,8 +3,8 @@
 use crate::again::{again, again_if};
 use crate::tables::plant;
 use map_assembly::{Gather, GatherFault, MapBytes, MapFault, read_map};
+use plant::Op;
 use slice_scheduler::{Elements, ElementsFields, Iuc, Sids, Slice, Span, Spans};
-use slice_table::Op;
 use std::alloc::{AllocError, Global};
 use std::process::Abort;
 use std::test::Fail;

@@ -3,7 +3,8 @@
 use crate::again::{again, again_if};
 use admission::{Budget, Ledger};
 use dsx_messages::{Kind, Modem};
-use slice_table::{Consts, OperatorRow, Plant, PlantFault, read_plant};
+use plant::{Consts, OperatorRow, Plant};
+use slice_table::{PlantFault, read_plant};
 use std::alloc::{AllocError, Global};
 use std::test::Fail;
 use tlv24::Bytes;

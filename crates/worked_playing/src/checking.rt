@@ -2,7 +2,8 @@
 
 use crate::opened;
 use crate::playing::{Want, play_all};
-use slice_table::{Plant, read_plant};
+use plant::Plant;
+use slice_table::read_plant;
 use std::alloc::Global;
 use std::test::Fail;
 

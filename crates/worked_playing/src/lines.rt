@@ -3,8 +3,8 @@
 use dsx_messages::Modem;
 use hex::decode;
 use operator_machine::{Heard, SliceRow};
+use plant::{Op, Plant};
 use plant_runs::{SliceRows, Step};
-use slice_table::{Op, Plant};
 use std::alloc::Global;
 use std::test::Fail;
 use tlv24::Bytes;

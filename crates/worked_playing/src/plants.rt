@@ -1,6 +1,7 @@
 //! Plants of texts.
 
-use slice_table::{Plant, read_plant};
+use plant::Plant;
+use slice_table::read_plant;
 use std::alloc::Global;
 use std::test::Fail;
 

@@ -19,7 +19,7 @@ macro_rules! ranking {
 macro_rules! opened {
     ($alloc:expr, $plant:expr) => {{
         let alloc = $alloc;
-        let plant: slice_table::Plant = $plant;
+        let plant: plant::Plant = $plant;
         let mut rankings = Vec::new(alloc);
         for row in plant.rows() {
             let policy = row.get_fields().policy;

@@ -3,9 +3,9 @@
 use dsx_messages::Modem;
 use hex::encode_upper;
 use operator_machine::{Action, Entry, Heard, Output};
+use plant::Op;
 use plant_runs::Out;
 use slice_scheduler::{Elements, Iuc};
-use slice_table::Op;
 use std::alloc::{AllocError, Global};
 
 /// The name of an operator: a letter of the first two, the number of another's place.

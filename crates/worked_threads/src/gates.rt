@@ -1,8 +1,8 @@
 //! Operators that work at the same time, as a gate can see.
 
 use crate::playing::told;
+use plant::Op;
 use plant_workers::Gate;
-use slice_table::Op;
 use std::process::Abort;
 use std::sync::Wait;
 use std::sync::atomic::{AtomicU64, Ordering};

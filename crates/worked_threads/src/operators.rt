@@ -3,10 +3,11 @@
 use grant_policy::Policy;
 use operator_book::Book;
 use operator_machine::{Entry, Output};
+use plant::{Op, Plant};
 use plant_runs::Step;
 use plant_workers::{OpenGate, are_ranked, run_workers};
 use slice_scheduler::Iuc;
-use slice_table::{Op, Plant, read_plant};
+use slice_table::read_plant;
 use std::alloc::Global;
 use std::process::Abort;
 use std::sync::Wait;

@@ -2,9 +2,10 @@
 
 use crate::telling::settled_text;
 use grant_policy::{Policy, Ranking};
+use plant::Plant;
 use plant_runs::Step;
 use plant_workers::{Gate, are_ranked, run_workers_on};
-use slice_table::{Plant, read_plant};
+use slice_table::read_plant;
 use std::alloc::Global;
 use std::sync::Wait;
 use std::test::Fail;

@@ -3,8 +3,8 @@
 use hex::encode_upper;
 use map_assembly::MapBytes;
 use operator_machine::{Entry, Output};
+use plant::Op;
 use plant_workers::Settled;
-use slice_table::Op;
 use std::alloc::{AllocError, Global};
 use worked_playing::put_output;
 

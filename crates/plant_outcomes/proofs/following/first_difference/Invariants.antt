@@ -1,6 +1,6 @@
 use Rattle.std.proofs.Common.{◌≡◌, ◌≤◌, ◌++◌, take, drop, length, Some}
 use Rattle.std.specs.Prelude.{slice_get}
-use Rattle.slice_table.specs.declared.operator_row.RowFields.{RowFields}
+use Rattle.plant.specs.declared.operator_row.RowFields.{RowFields}
 use Rattle.operator_machine.specs.Replay.{actions_of}
 use Rattle.plant_runs.specs.OwnSteps.{own_steps}
 use Rattle.plant_outcomes.proofs.following.first_difference.Given as goal

@@ -1,6 +1,6 @@
 use Rattle.std.proofs.Common.{◌≡◌, ℕ, ◌<◌, map, Some}
 use Rattle.std.specs.Prelude.{slice_get}
-use Rattle.slice_table.specs.declared.operator_row.RowFields.{RowFields}
+use Rattle.plant.specs.declared.operator_row.RowFields.{RowFields}
 use Rattle.operator_machine.specs.Replay.{BookView}
 use Rattle.operator_book.specs.ViewOf.{view_of}
 use Rattle.plant_runs.specs.Reached.{IsBookAfter}

@@ -1,7 +1,7 @@
 use Rattle.std.proofs.Common.{◌≡◌, List, sym, ap, ◌∙◌, subst, refl, get_or}
 use Rattle.std.specs.Prelude.{MatchOption}
 use Rattle.std.proofs.lemmas.Option.{get_or_from_slice_get}
-use Rattle.slice_table.specs.declared.operator_row.RowFields.{RowFields}
+use Rattle.plant.specs.declared.operator_row.RowFields.{RowFields}
 use Rattle.operator_machine.specs.declared.action.Entry.{Entry}
 use Rattle.operator_machine.specs.Replay.{actions_of}
 use Rattle.operator_book.specs.ViewOf.{view_of}

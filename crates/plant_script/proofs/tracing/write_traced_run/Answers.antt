@@ -1,6 +1,6 @@
 use Rattle.std.proofs.Common.{sym, subst}
 use Rattle.std.specs.Io.KnownBytes.{Appends}
-use Rattle.slice_table.specs.declared.plant.PlantFields.{PlantFields}
+use Rattle.plant.specs.declared.plant.PlantFields.{PlantFields}
 use Rattle.plant_script.specs.declared.task.Told.{Told}
 use Rattle.plant_script.specs.Task.{IsTold}
 use Rattle.plant_script.specs.Traced.{EndsTraced}

@@ -1,5 +1,5 @@
 use Rattle.std.proofs.Common.{◌≡◌, Ok, subst, sym, ◌∙◌}
-use Rattle.slice_table.specs.declared.plant.PlantFields.{PlantFields}
+use Rattle.plant.specs.declared.plant.PlantFields.{PlantFields}
 use Rattle.live_core.specs.LiveView.{live_view}
 use Rattle.plant_service.specs.declared.line_end.LineEnd.{LineEnd}
 use Rattle.plant_service.specs.Service.{steps_said}

@@ -1,5 +1,5 @@
 use Rattle.std.proofs.Common.{List}
-use Rattle.slice_table.specs.declared.plant.PlantFields.{PlantFields}
+use Rattle.plant.specs.declared.plant.PlantFields.{PlantFields}
 use Rattle.plant_runs.specs.declared.step.Out.{Out}
 use Rattle.plant_runs.specs.declared.step.Step.{Step}
 use Rattle.live_core.specs.After.{IsAfter, IsReachable}

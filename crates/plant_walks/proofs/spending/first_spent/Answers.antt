@@ -1,5 +1,5 @@
 use Rattle.std.proofs.Common.{◌≡◌, ℕ, ◌+◌, length, sym, ap, ◌∙◌, subst, arith}
-use Rattle.slice_table.specs.declared.consts.ConstsFields.{ConstsFields}
+use Rattle.plant.specs.declared.consts.ConstsFields.{ConstsFields}
 use Rattle.plant_walks.proofs.Spent.{IsLeastOf, least_more, least_of_all}
 use Rattle.plant_walks.proofs.spending.first_spent.Goals as goal
 

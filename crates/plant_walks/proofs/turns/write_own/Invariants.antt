@@ -1,6 +1,6 @@
 use Rattle.std.proofs.Common.{◌≡◌, take, Some}
 use Rattle.std.specs.Prelude.{slice_get}
-use Rattle.slice_table.specs.declared.operator_row.RowFields.{RowFields}
+use Rattle.plant.specs.declared.operator_row.RowFields.{RowFields}
 use Rattle.plant_walks.specs.Courses.{IsCourse, AreWritten}
 use Rattle.plant_walks.proofs.turns.write_own.Given as goal
 

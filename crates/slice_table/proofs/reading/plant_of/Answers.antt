@@ -1,9 +1,9 @@
 use Rattle.std.proofs.Common.{◌≡◌, ◌≤◌, None, List, length, subst, sym}
 use Rattle.toml.specs.View.{table_view}
-use Rattle.slice_table.specs.declared.operator_row.RowFields.{RowFields}
-use Rattle.slice_table.specs.declared.consts.ConstsFields.{ConstsFields}
-use Rattle.slice_table.specs.Consts.{AreConsts}
-use Rattle.slice_table.specs.Plant.{IsPlant}
+use Rattle.plant.specs.declared.operator_row.RowFields.{RowFields}
+use Rattle.plant.specs.declared.consts.ConstsFields.{ConstsFields}
+use Rattle.plant.specs.Consts.{AreConsts}
+use Rattle.plant.specs.Plant.{IsPlant}
 use Rattle.slice_table.specs.Checks.{rows_fault}
 use Rattle.slice_table.proofs.RowReading.{rows_read}
 use Rattle.slice_table.proofs.PlantReading.{valid, no_fault}

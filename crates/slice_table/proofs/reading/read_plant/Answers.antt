@@ -1,7 +1,7 @@
 use Rattle.std.proofs.Common.{◌≡◌, Option, Some, None, Ok, Err, IfOk, refl, ap, subst, ◌∙◌}
 use Rattle.toml.specs.Data.{Members}
 use Rattle.toml.specs.Parse.{parse_document}
-use Rattle.slice_table.specs.declared.plant.PlantFields.{PlantFields}
+use Rattle.plant.specs.declared.plant.PlantFields.{PlantFields}
 use Rattle.slice_table.specs.Tree.{Read, Gives}
 use Rattle.slice_table.specs.ReadPlant.{text_plant}
 use Rattle.slice_table.specs.Says.{SaysPlant}

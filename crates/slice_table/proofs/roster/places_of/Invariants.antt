@@ -1,6 +1,6 @@
 use Rattle.std.proofs.Common.{◌≡◌, [], take, drop}
-use Rattle.slice_table.specs.Plant.{all_modems}
-use Rattle.slice_table.specs.Roster.{Finds}
+use Rattle.plant.specs.Plant.{all_modems}
+use Rattle.plant.specs.Roster.{Finds}
 use Rattle.slice_table.specs.Checks.{first_again}
 use Rattle.slice_table.proofs.roster.places_of.Given as goal
 

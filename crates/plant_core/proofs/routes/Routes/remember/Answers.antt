@@ -1,6 +1,6 @@
 use Rattle.std.proofs.Common.{◌∙◌, ap}
-use Rattle.slice_table.specs.declared.plant.PlantFields.{PlantFields}
-use Rattle.slice_table.specs.Roster.{holder}
+use Rattle.plant.specs.declared.plant.PlantFields.{PlantFields}
+use Rattle.plant.specs.Roster.{holder}
 use Rattle.plant_core.proofs.CachedLemmas.{after_put_right}
 use Rattle.plant_core.proofs.routes.Routes.remember.Goals as goal
 

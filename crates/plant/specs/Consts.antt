@@ -1,0 +1,21 @@
+-- What all operators of a plant share (own; the backoffs: CM-SP-MULPIv3.1, 6.4.4).
+use Rattle.std.specs.Prelude.{◌≤◌}
+use Rattle.plant.specs.declared.consts.Backoffs.{Backoffs}
+use Rattle.plant.specs.declared.consts.ConstsFields.{ConstsFields}
+use Rattle.plant.specs.Classes.{AreClasses}
+
+-- each backoff is the exponent of a window: 0 to 15
+pub record AreBackoffs (backoffs : Backoffs) : Type 0 where
+  pub ranging_start : backoffs.ranging_start ≤ 15
+  pub ranging_end : backoffs.ranging_end ≤ 15
+  pub data_start : backoffs.data_start ≤ 15
+  pub data_end : backoffs.data_end ≤ 15
+
+-- a frame has 1 to 4,096 minislots, and its head is of these
+pub record AreConsts (consts : ConstsFields) : Type 0 where
+  pub some_frame : 1 ≤ consts.frame_minislots
+  pub frame : consts.frame_minislots ≤ 4096
+  pub head : consts.head ≤ consts.frame_minislots
+  pub short_max : consts.short_max ≤ 4096
+  pub backoffs : AreBackoffs consts.backoffs
+  pub classes : AreClasses consts.classes

@@ -1,0 +1,8 @@
+pub mod Name
+pub mod Padding
+pub mod Classes
+pub mod Consts
+pub mod Provisioned
+pub mod Row
+pub mod Plant
+pub mod Roster

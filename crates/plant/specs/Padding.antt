@@ -1,0 +1,13 @@
+-- A padded name is told by its bytes alone.
+use Rattle.std.proofs.Common.{◌≡◌, ℕ, ◌-◌, ◌≤◌, List, ◌++◌, length, take, arith, sym, ap, ◌∙◌}
+use Rattle.std.specs.Prelude.{replicate}
+use Rattle.std.proofs.lemmas.List.{length-take}
+use Rattle.plant.specs.Name.{IsPaddedName}
+
+pub unpadded : (bytes : List ℕ) (len : ℕ) → IsPaddedName bytes len
+    → (take len bytes ++ replicate (16 - length (take len bytes)) 0 ≡ bytes) × (length (take len bytes) ≡ len)
+unpadded bytes len h =
+    let fits : len ≤ 16 = h.fits in
+    let whole : length bytes ≡ 16 = h.whole in
+    let same : length (take len bytes) ≡ len = omega (arith, length-take len bytes) in
+    (ap (λ (n : ℕ). take len bytes ++ replicate (16 - n) 0) same ∙ sym h.padded, same)

@@ -1,0 +1,121 @@
+//! What all operators of a plant share.
+
+ghost use Rattle.std.specs.Prelude.{◌≡◌, IfOk};
+ghost use Rattle.std.specs.Option.{option_copied};
+ghost use Rattle.plant.specs.Consts.{AreConsts};
+ghost use Rattle.plant.specs.Classes.{class_of, asked_of};
+ghost use Rattle.plant.specs.declared.consts.ConstsFields.{ConstsFields};
+
+use crate::class_table::Classes;
+use param_sets::{Units, overridden};
+use std::alloc::{AllocError, Global};
+use std::marker::Model;
+use tlv24::{ClassName, FlowTlv};
+use transactions::Timers;
+
+/// The backoff windows of a MAP (CM-SP-MULPIv3.1, 6.4.4), each a power of two by its exponent: 0 to 15.
+#[derive(Clone, Copy, Debug, PartialEq, Eq)]
+pub struct Backoffs {
+    pub ranging_start: u8,
+    pub ranging_end: u8,
+    pub data_start: u8,
+    pub data_end: u8,
+}
+
+/// What all operators of a plant share.
+#[derive(Debug, Drop)]
+pub struct ConstsFields {
+    /// Minislots of a frame: 1 to 4,096.
+    pub frame_minislots: u16,
+    /// Minislots at the head of each frame in which any modem may ask: 0 to the frame's length.
+    pub head: u16,
+    /// How long a frame is and how much a minislot carries.
+    pub units: Units,
+    /// The most minislots of a grant that is sent as short: 0 to 4,096.
+    pub short_max: u16,
+    /// The upstream channel ID of the MAPs.
+    pub channel: u8,
+    /// The UCD count of the MAPs.
+    pub ucd_count: u8,
+    /// The backoff windows of the MAPs.
+    pub backoffs: Backoffs,
+    /// How long responses are kept, in ticks.
+    pub timers: Timers,
+    /// The number of the first frame.
+    pub first_frame: u32,
+    /// The service classes.
+    pub classes: Classes,
+}
+
+/// What all operators of a plant share, each value in its range. Contracts see the values.
+#[derive(Debug, Drop)]
+pub struct Consts {
+    fields: ConstsFields,
+}
+
+impl Model for Consts {
+    ghost Value = { ConstsFields };
+
+    ghost view = { λ c. c.fields };
+
+    ghost invariant = { λ c. AreConsts c.fields };
+}
+
+impl Consts {
+    /// These values. The caller knows that each is in its range.
+    pub fn new(fields: ConstsFields) -> Consts
+        requires { AreConsts fields }
+        ensures { result ≡ fields }
+    {
+        Consts { fields }
+    }
+
+    /// The values.
+    pub fn get_fields(&self) -> &ConstsFields
+        ensures value { result.now ≡ self.now }
+        ensures in_range { AreConsts result.now }
+    {
+        &self.fields
+    }
+
+    /// The encoding of the service class of this name, if there is one. Takes no memory.
+    pub fn class(&self, name: &ClassName) -> Option<&FlowTlv>
+        ensures { option_copied result ≡ class_of name.now self.now.classes }
+    {
+        self.fields.classes.find(name)
+    }
+
+    /// What an encoding asks for: what it states, over its service class where it names one (CM-SP-MULPIv3.1, Annex C,
+    /// subtype 4). None where no class has that name. Takes no memory.
+    pub fn asked(&self, stated: &FlowTlv) -> Option<FlowTlv>
+        ensures { result ≡ asked_of self.now.classes stated.now }
+    {
+        match stated.get_class_name() {
+            None => Some(*stated),
+            Some(name) => {
+                let class = self.class(&name)?;
+                Some(overridden(class, stated))
+            }
+        }
+    }
+
+    /// Equal values with memory of their own.
+    pub fn copy(&self, alloc: Global) -> Result<Consts, AllocError>
+        ensures { IfOk result (λ consts. consts ≡ self.now) }
+    {
+        Ok(Consts {
+            fields: ConstsFields {
+                frame_minislots: self.fields.frame_minislots,
+                head: self.fields.head,
+                units: self.fields.units,
+                short_max: self.fields.short_max,
+                channel: self.fields.channel,
+                ucd_count: self.fields.ucd_count,
+                backoffs: self.fields.backoffs,
+                timers: self.fields.timers,
+                first_frame: self.fields.first_frame,
+                classes: self.fields.classes.copy(alloc)?,
+            },
+        })
+    }
+}

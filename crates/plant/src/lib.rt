@@ -1,0 +1,18 @@
+//! What a plant is: what all operators share, what each operator is provisioned with, and when a plant is valid.
+#![tactic(auto)]
+
+mod class_table;
+mod consts;
+mod laws;
+mod name;
+mod operator_row;
+mod plant;
+mod provision;
+
+pub use class_table::{Class, Classes};
+pub use consts::{Backoffs, Consts, ConstsFields};
+pub use laws::{holder_is_first, one_operator_lists};
+pub use name::{OperatorName, is_alphanumeric};
+pub use operator_row::{Modems, OperatorRow, RowFields};
+pub use plant::{Op, Plant, PlantFields, Rows};
+pub use provision::{Provision, Provisions};

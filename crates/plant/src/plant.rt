@@ -1,0 +1,137 @@
+//! The plant: what all operators share, and each operator's row.
+
+ghost use Rattle.std.specs.Prelude.{◌≡◌, IfOk};
+ghost use Rattle.plant.specs.Plant.{IsPlant};
+ghost use Rattle.plant.specs.Roster.{Finds, holder};
+ghost use Rattle.plant.specs.declared.operator_row.RowFields.{RowFields};
+ghost use Rattle.plant.specs.declared.plant.PlantFields.{PlantFields};
+
+use crate::consts::Consts;
+use crate::operator_row::OperatorRow;
+use dsx_messages::Modem;
+use indexmap::IndexMap;
+use std::alloc::{AllocError, Global};
+use std::marker::Model;
+
+/// An operator, by its place in the plant, from 0.
+pub type Op = usize;
+
+/// The rows of a plant's operators, in the file's order. Contracts see their list.
+#[derive(Debug, Drop)]
+pub struct Rows {
+    rows: Vec<OperatorRow>,
+}
+
+impl Model for Rows {
+    ghost use Rattle.std.specs.Prelude.{List};
+    ghost use Rattle.plant.specs.declared.operator_row.RowFields.{RowFields};
+
+    ghost Value = { List RowFields };
+
+    ghost view = { λ r. r.rows.items };
+}
+
+impl Rows {
+    /// These rows, without a copy.
+    pub fn from_vec(rows: Vec<OperatorRow>) -> Rows
+        ensures { result ≡ rows.items }
+    {
+        Rows { rows }
+    }
+
+    /// The rows in place.
+    pub fn as_slice(&self) -> &[OperatorRow]
+        ensures { result.now ≡ self.now }
+    {
+        self.rows.as_slice()
+    }
+
+    /// An equal list with memory of its own.
+    pub fn copy(&self, alloc: Global) -> Result<Rows, AllocError>
+        ensures { IfOk result (λ rows. rows ≡ self.now) }
+    {
+        let mut rows = Vec::with_capacity(alloc, self.rows.len())?;
+        for row in &self.rows {
+            rows.push(row.copy(alloc)?)?;
+        }
+        Ok(Rows { rows })
+    }
+}
+
+/// What a plant is made of.
+#[derive(Debug, Drop)]
+pub struct PlantFields {
+    /// What all operators share.
+    pub consts: Consts,
+    /// Each operator's row, in the file's order.
+    pub rows: Rows,
+}
+
+/// An equal map with memory of its own.
+fn copy_places(places: &IndexMap<Modem, Op>) -> Result<IndexMap<Modem, Op>, AllocError>
+    ensures { IfOk result (λ copy. copy.entries ≡ places.now.entries) }
+{
+    places.clone()
+}
+
+/// A valid plant. Contracts see what it is made of. The operator of a modem is found by the modem's address.
+#[derive(Debug, Drop)]
+pub struct Plant {
+    fields: PlantFields,
+    places: IndexMap<Modem, Op>,
+}
+
+impl Model for Plant {
+    ghost Value = { PlantFields };
+
+    ghost view = { λ p. p.fields };
+
+    ghost invariant = { λ p. IsPlant p.fields × Finds p.fields.rows p.places };
+}
+
+impl Plant {
+    /// The plant of these fields, with each operator's modems by their addresses.
+    pub fn new(fields: PlantFields, places: IndexMap<Modem, Op>) -> Plant
+        requires valid { IsPlant fields }
+        requires found { Finds fields.rows places }
+        ensures { result ≡ fields }
+    {
+        Plant { fields, places }
+    }
+
+    /// The operator that lists this modem, if one does: at most one does. Takes no memory.
+    pub fn operator_of(&self, modem: Modem) -> Option<Op>
+        ensures { result ≡ holder self.now.rows modem }
+    {
+        self.places.get(&modem).copied()
+    }
+
+    /// Each operator's row, in the file's order: an operator is told by its place in it.
+    pub fn rows(&self) -> &[OperatorRow]
+        ensures value { result.now ≡ self.now.rows }
+        ensures valid { IsPlant self.now }
+    {
+        self.fields.rows.as_slice()
+    }
+
+    /// What all operators share.
+    pub fn consts(&self) -> &Consts
+        ensures value { result.now ≡ self.now.consts }
+        ensures valid { IsPlant self.now }
+    {
+        &self.fields.consts
+    }
+
+    /// An equal plant with memory of its own.
+    pub fn copy(&self, alloc: Global) -> Result<Plant, AllocError>
+        ensures { IfOk result (λ plant. plant ≡ self.now) }
+    {
+        Ok(Plant {
+            fields: PlantFields {
+                consts: self.fields.consts.copy(alloc)?,
+                rows: self.fields.rows.copy(alloc)?,
+            },
+            places: copy_places(&self.places)?,
+        })
+    }
+}

@@ -1,0 +1,107 @@
+//! Provisioned flows.
+
+ghost use Rattle.std.specs.Prelude.{◌≡◌, IfOk};
+ghost use Rattle.plant.specs.Provisioned.{sets_of_type, sets_of_asked, sets_of_encoding};
+ghost use Rattle.plant.specs.declared.provision.Provision.{Provision};
+
+use crate::consts::Consts;
+use dsx_messages::Modem;
+use param_sets::{ParamSet, Sets, Units, from_tlv};
+use std::alloc::{AllocError, Global};
+use std::marker::Model;
+use tlv24::{Bytes, FlowTlv, read_flow};
+
+/// A flow that an operator is provisioned with.
+#[derive(Debug, Drop)]
+pub struct Provision {
+    /// Whose flow it is.
+    pub modem: Modem,
+    /// What it is provisioned with: the value of a type 24 TLV (CM-SP-MULPIv3.1, Annex C).
+    pub encoding: Bytes,
+}
+
+impl Provision {
+    /// The sets that the flow is opened with: set type 1 provisions a parameter set, 3 also admits it, 7 also activates it.
+    /// None where the encoding cannot be read, names no class of the plant, asks for no parameter set, or has another set
+    /// type. Takes no memory.
+    pub fn sets(&self, consts: &Consts) -> Option<Sets>
+        ensures { result ≡ sets_of_encoding consts.now self.now.encoding }
+    {
+        let stated = read_flow(self.encoding.as_slice()).ok()?;
+        let asked = consts.asked(&stated)?;
+        sets_of_asked(consts.get_fields().units, stated.get_set_type(), &asked)
+    }
+
+    /// An equal value with memory of its own.
+    pub fn copy(&self, alloc: Global) -> Result<Provision, AllocError>
+        ensures { IfOk result (λ provision. provision ≡ self.now) }
+    {
+        Ok(Provision {
+            modem: self.modem,
+            encoding: self.encoding.copy(alloc)?,
+        })
+    }
+}
+
+/// The sets of a flow that asks for this.
+fn sets_of_asked(units: Units, set_type: Option<u8>, asked: &FlowTlv) -> Option<Sets>
+    ensures { result ≡ sets_of_asked units set_type asked.now }
+{
+    let set = from_tlv(asked, &units).ok()?;
+    sets_of_type(set_type?, set)
+}
+
+/// The sets that a set type makes of one parameter set.
+fn sets_of_type(set_type: u8, set: ParamSet) -> Option<Sets>
+    ensures { result ≡ sets_of_type set_type set }
+{
+    let provisioned = Sets::provisioned(set);
+    match set_type {
+        1 => Some(provisioned),
+        3 => provisioned.admit(set).ok(),
+        7 => provisioned.admit(set).ok()?.activate(set).ok(),
+        _ => None,
+    }
+}
+
+/// The flows that an operator is provisioned with, in the file's order. Contracts see their list.
+#[derive(Debug, Drop)]
+pub struct Provisions {
+    provisions: Vec<Provision>,
+}
+
+impl Model for Provisions {
+    ghost use Rattle.std.specs.Prelude.{List};
+    ghost use Rattle.plant.specs.declared.provision.Provision.{Provision};
+
+    ghost Value = { List Provision };
+
+    ghost view = { λ p. p.provisions.items };
+}
+
+impl Provisions {
+    /// These flows, without a copy.
+    pub fn from_vec(provisions: Vec<Provision>) -> Provisions
+        ensures { result ≡ provisions.items }
+    {
+        Provisions { provisions }
+    }
+
+    /// The flows in place.
+    pub fn as_slice(&self) -> &[Provision]
+        ensures { result.now ≡ self.now }
+    {
+        self.provisions.as_slice()
+    }
+
+    /// An equal list with memory of its own.
+    pub fn copy(&self, alloc: Global) -> Result<Provisions, AllocError>
+        ensures { IfOk result (λ provisions. provisions ≡ self.now) }
+    {
+        let mut provisions = Vec::with_capacity(alloc, self.provisions.len())?;
+        for provision in &self.provisions {
+            provisions.push(provision.copy(alloc)?)?;
+        }
+        Ok(Provisions { provisions })
+    }
+}
