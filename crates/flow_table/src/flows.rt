@@ -169,14 +169,14 @@ impl Flows {
         }
     }
 
-    /// What the modem of a flow asks for in a frame is its backlog, in place. Takes no memory.
+    /// Makes what the modem of a flow asks for in a frame its backlog, in place. Takes no memory.
     pub fn request(&mut self, sfid: u32, minislots: u16, frame: u32)
         ensures { self.new ≡ record self.old { flows = moved_at sfid (requested minislots frame) self.old.flows } }
     {
         request_in(&mut self.by_sfid, sfid, minislots, frame);
     }
 
-    /// What a flow is granted in a frame lowers its backlog, in place. Takes no memory.
+    /// Lowers the backlog of a flow by what it is granted in a frame, in place. Takes no memory.
     pub fn grant(&mut self, sfid: u32, minislots: u16, frame: u32)
         requires { frame < 4294967295 }
         ensures { self.new ≡ record self.old { flows = moved_at sfid (granted minislots frame) self.old.flows } }
@@ -455,7 +455,7 @@ fn take_back_in(by_sfid: &mut BTreeMap<u32, Flow>, units: Units, sfid: u32) -> O
     })
 }
 
-/// The flow of an SFID asks for so many minislots, where there is one.
+/// Makes so many minislots the backlog of the flow of an SFID, where there is one.
 fn request_in(by_sfid: &mut BTreeMap<u32, Flow>, sfid: u32, minislots: u16, frame: u32)
     ensures { by_sfid.new.entries ≡ moved_at sfid (requested minislots frame) by_sfid.old.entries }
 {
@@ -464,7 +464,7 @@ fn request_in(by_sfid: &mut BTreeMap<u32, Flow>, sfid: u32, minislots: u16, fram
     }
 }
 
-/// The flow of an SFID is granted so many minislots, where there is one.
+/// Grants the flow of an SFID so many minislots, where there is one.
 fn grant_in(by_sfid: &mut BTreeMap<u32, Flow>, sfid: u32, minislots: u16, frame: u32)
     requires { frame < 4294967295 }
     ensures { by_sfid.new.entries ≡ moved_at sfid (granted minislots frame) by_sfid.old.entries }

@@ -67,7 +67,7 @@ fn unkept(
 }
 
 impl Machine {
-    /// A reply is kept.
+    /// Keeps a reply.
     fn keep(&mut self, modem: Modem, kind: Kind, tid: u16, reply: Bytes, sfid: u32, waits: bool)
         requires free { IsNone (find (is_of modem tid) self.old.state.kept) }
         requires room { length self.old.state.kept < self.old.row.transactions }
@@ -76,7 +76,7 @@ impl Machine {
         self.kept.begin_new(modem, tid, kind, reply, sfid, waits);
     }
 
-    /// A refusal is told and kept.
+    /// Tells a refusal, and keeps it.
     fn refused_out(
         &mut self,
         alloc: Global,
@@ -96,7 +96,7 @@ impl Machine {
         Ok(both)
     }
 
-    /// A flow is put under its SFID, and the reply is told and kept.
+    /// Puts a flow under its SFID; tells the reply, and keeps it.
     #[inline(always)]
     fn put_out(
         &mut self,
@@ -121,7 +121,7 @@ impl Machine {
         Ok(both)
     }
 
-    /// A flow goes, and the reply is told and kept.
+    /// Removes a flow; tells the reply, and keeps it.
     #[inline(always)]
     fn deleted_out(
         &mut self,
@@ -144,7 +144,7 @@ impl Machine {
         Ok(both)
     }
 
-    /// A verdict is carried out, and its reply is told and kept.
+    /// Carries out a verdict; tells its reply, and keeps it.
     #[inline(always)]
     fn carried_out(
         &mut self,
@@ -213,7 +213,7 @@ impl Machine {
         Ok(None)
     }
 
-    /// A request that was read is handled.
+    /// Handles a request that was read.
     fn request_handled(
         &mut self,
         alloc: Global,
@@ -233,7 +233,7 @@ impl Machine {
         self.carried_out(alloc, twice, modem, kind, tid, verdict)
     }
 
-    /// A request that could not be read is refused with this reply.
+    /// Refuses with this reply a request that could not be read.
     fn fault_handled(
         &mut self,
         alloc: Global,
@@ -271,7 +271,7 @@ impl Machine {
         }
     }
 
-    /// An acknowledgement: code 0 commits, another takes back.
+    /// Handles an acknowledgement: code 0 commits, another takes back.
     fn acked(
         &mut self,
         alloc: Global,
@@ -294,7 +294,7 @@ impl Machine {
         Ok(nothing(alloc, twice))
     }
 
-    /// A request for minislots.
+    /// Handles a request for minislots.
     fn asked_of_flow(
         &mut self,
         alloc: Global,
@@ -318,7 +318,7 @@ impl Machine {
         Ok(nothing(alloc, twice))
     }
 
-    /// A message that could not be read is handled.
+    /// Handles a message that could not be read.
     fn unread_handled(
         &mut self,
         alloc: Global,
@@ -359,7 +359,7 @@ impl Machine {
         }
     }
 
-    /// What a message says is handled.
+    /// Handles what a message says.
     fn message_handled(
         &mut self,
         alloc: Global,
@@ -376,7 +376,7 @@ impl Machine {
         }
     }
 
-    /// Bytes that were read are handled.
+    /// Handles bytes that were read, or why they were not.
     fn read_handled(
         &mut self,
         alloc: Global,
@@ -396,14 +396,14 @@ impl Machine {
         }
     }
 
-    /// What was heard first is taken out of the inbox.
+    /// Takes what was heard first out of the inbox.
     fn take_first(&mut self)
         ensures { self.new ≡ with_inbox self.old (drop 1 self.old.state.inbox) }
     {
         let _first = self.inbox.pop_front();
     }
 
-    /// What was heard first is handled, and taken out of the inbox.
+    /// Handles what was heard first, and takes it out of the inbox.
     #[inline(always)]
     pub(crate) fn work(&mut self, alloc: Global, twice: bool) -> Result<Both, AllocError>
         requires { All (IsIn self.old.row.sids) (sids_of self.old.state.flows) }
@@ -429,7 +429,7 @@ impl Machine {
         }
     }
 
-    /// What was heard goes to the end of the inbox, without a copy.
+    /// Puts what was heard at the end of the inbox, without a copy.
     #[inline(always)]
     pub(crate) fn take_in(
         &mut self,
@@ -447,7 +447,7 @@ impl Machine {
         Ok(nothing(alloc, twice))
     }
 
-    /// A copy of what was heard goes to the end of the inbox.
+    /// Puts a copy of what was heard at the end of the inbox.
     pub(crate) fn arrive(
         &mut self,
         alloc: Global,

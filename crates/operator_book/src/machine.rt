@@ -130,7 +130,7 @@ fn reply_if(
     }
 }
 
-/// A reply of these bytes is told.
+/// Tells a reply of these bytes.
 #[inline(always)]
 pub(crate) fn answer(
     alloc: Global,

@@ -68,7 +68,7 @@ impl Machine {
         Ok(served)
     }
 
-    /// What is given up is undone, in order.
+    /// Undoes what is given up, in order.
     fn undo_all(&mut self, given_up: &[GivenUp])
         ensures { self.new ≡ with_flows self.old (all_undone given_up.now self.old.state.flows) }
     {
@@ -77,7 +77,7 @@ impl Machine {
         }
     }
 
-    /// A grant of this frame lowers its flow's backlog.
+    /// Lowers the backlog of a flow by its grant of this frame.
     fn grant(&mut self, frame: u32, sfid: u32, minislots: u16)
         requires { frame < 4294967295 }
         ensures { self.new ≡ with_change self.old sfid (granted minislots frame) }
@@ -85,7 +85,7 @@ impl Machine {
         self.flows.grant(sfid, minislots, frame);
     }
 
-    /// Each grant of this frame lowers its flow's backlog.
+    /// Lowers the backlog of each flow by its grant of this frame.
     fn grant_all(&mut self, frame: u32, grants: &[(u32, u16)])
         requires { frame < 4294967295 }
         ensures { self.new ≡ with_flows self.old (all_granted frame grants.now self.old.state.flows) }
@@ -95,7 +95,7 @@ impl Machine {
         }
     }
 
-    /// The next frame, and the share that waits for it.
+    /// Goes on to the next frame, and takes the share that waits for it.
     fn go_on(&mut self)
         requires { self.old.state.frame < 4294967295 }
         ensures { self.new ≡ record self.old {
