@@ -1,9 +1,10 @@
 //! Why a plant file is refused.
 
 ghost use Rattle.std.specs.Prelude.{◌≡◌};
-ghost use Rattle.slice_table.specs.declared.plant_fault.PlantFault.TheVariants.{NoMemory};
+ghost use Rattle.slice_table.specs.declared.plant_fault.PlantFault.TheVariants.{BadValue, NoMemory};
+ghost use Rattle.slice_table.specs.declared.plant_key.Key.TheVariants.{Entry};
 
-use crate::plant_key::Key;
+use crate::plant_key::{Field, Key, Place};
 use dsx_messages::Modem;
 use plant::OperatorName;
 use std::alloc::{AllocError, AllocFailed};
@@ -45,6 +46,17 @@ pub enum PlantFault {
     /// There was no memory.
     #[error("out of memory")]
     NoMemory,
+}
+
+impl Place {
+    /// The fault that what stands under a key of this table is not of its type, or not in its range.
+    pub(crate) fn wrong(self, field: Field) -> PlantFault
+        ensures { result ≡ BadValue (Entry self field) }
+    {
+        PlantFault::BadValue {
+            key: Key::Entry(self, field),
+        }
+    }
 }
 
 impl From<AllocError> for PlantFault {

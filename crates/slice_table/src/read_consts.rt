@@ -142,9 +142,7 @@ fn class_name_at(classes: &[Class], table: &Table, place: Place) -> Result<Class
     let text = text_at(table, place, Field::Name)?;
     match class_name(text.as_bytes()) {
         Some(name) if !is_class(&name, classes) => Ok(name),
-        _ => Err(PlantFault::BadValue {
-            key: Key::Entry(place, Field::Name),
-        }),
+        _ => Err(place.wrong(Field::Name)),
     }
 }
 
@@ -169,9 +167,7 @@ fn class_encoding_at(alloc: Global, table: &Table, place: Place) -> Result<FlowT
     let bytes = bytes_at(alloc, table, place, Field::Encoding)?;
     match read_flow(bytes.as_slice()) {
         Ok(flow) if states_parameters(&flow) => Ok(flow),
-        _ => Err(PlantFault::BadValue {
-            key: Key::Entry(place, Field::Encoding),
-        }),
+        _ => Err(place.wrong(Field::Encoding)),
     }
 }
 

@@ -52,9 +52,7 @@ fn name_at(rows: &[OperatorRow], table: &Table, place: Place) -> Result<Operator
     let text = text_at(table, place, Field::Name)?;
     match operator_name(text.as_bytes()) {
         Some(name) if !is_taken(&name, rows) => Ok(name),
-        _ => Err(PlantFault::BadValue {
-            key: Key::Entry(place, Field::Name),
-        }),
+        _ => Err(place.wrong(Field::Name)),
     }
 }
 
@@ -79,12 +77,7 @@ fn slice_at(consts: &Consts, table: &Table, place: Place) -> Result<Slice, Plant
     ensures { result ≡ slice_at consts.now place (table_view table.now) }
 {
     let (start, length) = pair_at(table, place, Field::Slice)?;
-    match slice_of(consts, start, length) {
-        Some(slice) => Ok(slice),
-        None => Err(PlantFault::BadValue {
-            key: Key::Entry(place, Field::Slice),
-        }),
-    }
+    slice_of(consts, start, length).ok_or(place.wrong(Field::Slice))
 }
 
 /// A range of identifiers from 1 to `high`.
@@ -97,9 +90,7 @@ fn range_at(table: &Table, place: Place, field: Field, high: u32) -> Result<IdRa
     if 1 <= first && first <= last && last <= u64::from(high) {
         Ok(IdRange::new(first as u32, last as u32))
     } else {
-        Err(PlantFault::BadValue {
-            key: Key::Entry(place, field),
-        })
+        Err(place.wrong(field))
     }
 }
 
@@ -124,9 +115,7 @@ fn policy_named(text: &str, table: &Table, place: Place) -> Result<Policy, Plant
         "strict" => Ok(Policy::Strict),
         "aged" => aged_at(table, place),
         "short" => Ok(Policy::Short),
-        _ => Err(PlantFault::BadValue {
-            key: Key::Entry(place, Field::Policy),
-        }),
+        _ => Err(place.wrong(Field::Policy)),
     }
 }
 
@@ -157,9 +146,7 @@ fn modems_at(alloc: Global, table: &Table, place: Place) -> Result<Modems, Plant
 {
     let values = array_at(table, place, Field::Modems)?;
     if values.is_empty() || values.len() > 1024 {
-        return Err(PlantFault::BadValue {
-            key: Key::Entry(place, Field::Modems),
-        });
+        return Err(place.wrong(Field::Modems));
     }
     Ok(Modems::from_vec(modems_each(alloc, values, place)?))
 }
@@ -173,9 +160,7 @@ fn own_modem_at(modems: &Modems, table: &Table, place: Place) -> Result<Modem, P
     if modems.contains(modem) {
         Ok(modem)
     } else {
-        Err(PlantFault::BadValue {
-            key: Key::Entry(place, Field::Modem),
-        })
+        Err(place.wrong(Field::Modem))
     }
 }
 
@@ -204,9 +189,7 @@ fn provision_at(
     if has_sets(consts, &provision) {
         Ok(provision)
     } else {
-        Err(PlantFault::BadValue {
-            key: Key::Entry(place, Field::Encoding),
-        })
+        Err(place.wrong(Field::Encoding))
     }
 }
 

@@ -130,12 +130,7 @@ pub(crate) fn pair_at(table: &Table, place: Place, field: Field) -> Result<(u64,
     ensures { result ≡ pair_at place field (table_view table.now) }
 {
     let values = array_at(table, place, field)?;
-    match pair_in(values) {
-        Some(pair) => Ok(pair),
-        None => Err(PlantFault::BadValue {
-            key: Key::Entry(place, field),
-        }),
-    }
+    pair_in(values).ok_or(place.wrong(field))
 }
 
 /// The text under a key that is required.
@@ -146,9 +141,7 @@ pub(crate) fn text_at(table: &Table, place: Place, field: Field) -> Result<&str,
     let value = required(table, place, field)?;
     match value.as_str() {
         Some(text) => Ok(text),
-        None => Err(PlantFault::BadValue {
-            key: Key::Entry(place, field),
-        }),
+        None => Err(place.wrong(field)),
     }
 }
 
@@ -166,9 +159,7 @@ pub(crate) fn bytes_at(
     match hex::decode(alloc, text) {
         Ok(bytes) => Ok(bytes),
         Err(FromHexError::OutOfMemory) => Err(PlantFault::NoMemory),
-        Err(_) => Err(PlantFault::BadValue {
-            key: Key::Entry(place, field),
-        }),
+        Err(_) => Err(place.wrong(field)),
     }
 }
 
