@@ -1,5 +1,5 @@
 -- The steps of a script's lines, one after the other.
-use Rattle.std.proofs.Common.{◌≡◌, ◌≢◌, inl, ℕ, zero, suc, ◌<◌, ◌≤◌, length, arith, List, [], ◌∷◌, ◌++◌, take, drop, Option, Some, None, IsSome, Err, refl, sym, ap, subst, ◌∙◌, append-nil}
+use Rattle.std.proofs.Common.{◌≡◌, inl, ℕ, zero, suc, ◌<◌, ◌≤◌, length, arith, List, [], ◌∷◌, ◌++◌, take, Option, Some, None, IsSome, refl, sym, ap, subst, ◌∙◌, append-nil}
 use Rattle.std.specs.Prelude.{slice_get}
 use Rattle.std.proofs.lemmas.List.{map-append}
 use Rattle.std.proofs.lemmas.Option.{slice_get_past, slice_get_within}
@@ -9,41 +9,17 @@ use Rattle.plant_runs.specs.declared.step.Step.{Step}
 use Rattle.plant_runs.specs.declared.step.Out.{Out}
 use Rattle.plant_runs.specs.Reached.{CoreView, Reached}
 use Rattle.plant_core.specs.declared.core_fault.CoreFault.{CoreFault}
-use Rattle.plant_core.specs.declared.core_fault.CoreFault.TheVariants.{UnknownModem, UnknownOperator, Book, Gather, NothingToCollect, NoMemory, Reslice}
-use Rattle.plant_core.specs.Faults.{step_fault, IsTold}
+use Rattle.plant_core.specs.Faults.{step_fault}
 use Rattle.plant_lines.specs.declared.script.LineStep.{LineStep}
 use Rattle.plant_lines.specs.Script.{unnumbered}
 use Rattle.plant_lines.specs.Text.{actions_text}
+use Rattle.plant_service.proofs.LeftLemmas.{first_left, none_left, take_next, drop_next}
 use Rattle.plant_script.specs.declared.answer.Answer.{Answer}
 use Rattle.plant_script.specs.Run.{last_line, IsEnd, IsRunOf}
 use Rattle.plant_script.specs.Task.{history_at, IsEnded}
 use Rattle.plant_script.specs.DoneSoFar.{IsRefused, HasRun, IsHalfDone, book_text}
 
--- ---- what is left of a list
-
-first_left : {A : Type 0} (xs : List A) (k : ℕ) (x : A) (rest : List A) → drop k xs ≡ x ∷ rest → slice_get xs k ≡ Some x
-first_left [] zero x rest h = cc
-first_left [] (suc k) x rest h = cc
-first_left (y ∷ xs) zero x rest h = cc
-first_left (y ∷ xs) (suc k) x rest h = first_left xs k x rest h
-
-none_left : {A : Type 0} (xs : List A) (k : ℕ) → drop k xs ≡ [] → slice_get xs k ≡ None
-none_left [] zero h = refl
-none_left [] (suc k) h = refl
-none_left (y ∷ xs) zero h = cc
-none_left (y ∷ xs) (suc k) h = none_left xs k h
-
-take_next : {A : Type 0} (xs : List A) (k : ℕ) (x : A) (rest : List A) → drop k xs ≡ x ∷ rest → take (suc k) xs ≡ take k xs ++ x ∷ []
-take_next [] zero x rest h = cc
-take_next [] (suc k) x rest h = cc
-take_next (y ∷ xs) zero x rest h = cc
-take_next (y ∷ xs) (suc k) x rest h = ap (λ (l : List _). y ∷ l) (take_next xs k x rest h)
-
-drop_next : {A : Type 0} (xs : List A) (k : ℕ) (x : A) (rest : List A) → drop k xs ≡ x ∷ rest → drop (suc k) xs ≡ rest
-drop_next [] zero x rest h = cc
-drop_next [] (suc k) x rest h = cc
-drop_next (y ∷ xs) zero x rest h = cc
-drop_next (y ∷ xs) (suc k) x rest h = drop_next xs k x rest h
+-- ---- what stands at a place of a list
 
 slice_get_none : {A : Type 0} (xs : List A) (k : ℕ) → slice_get xs k ≡ None → length xs ≤ k
 slice_get_none [] k h = omega arith
@@ -108,16 +84,6 @@ line_refused plant lines say old core text line rest fault half same refused =
     let told : IsSome (step_fault old line.step) = rw refused refl in
     subst (λ (c : CoreView). HasRun plant lines say (Some line.number) c text) (sym same)
     (record { at = half.at; done = half.done; ends = rw (first_left lines half.at line rest half.left_are) (refl, told) })
-
--- a fault that is told, other than want of memory
-pub fault_is_told : (A : Type 0) (fault : CoreFault) (reason : Option CoreFault) → IsTold {A = A} (Err fault) reason → fault ≢ NoMemory → reason ≡ Some fault
-fault_is_told A (UnknownModem modem) reason told other = told
-fault_is_told A (UnknownOperator op) reason told other = told
-fault_is_told A (Book refused) reason told other = told
-fault_is_told A (Gather refused) reason told other = told
-fault_is_told A (NothingToCollect op) reason told other = told
-fault_is_told A NoMemory reason told other = absurd (other refl)
-fault_is_told A (Reslice refused) reason told other = told
 
 -- ---- what is written
 

@@ -1,4 +1,5 @@
 pub mod FrontLemmas
+pub mod LeftLemmas
 pub mod StepLemmas
 pub mod LineLemmas
 pub mod ServiceLemmas

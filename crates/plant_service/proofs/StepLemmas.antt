@@ -1,6 +1,5 @@
 -- The steps of a line, one after the other.
-use Rattle.std.proofs.Common.{◌≡◌, ◌≢◌, ◌⊎◌, inl, inr, Result, Ok, OnOk, ℕ, zero, suc, List, [], ◌∷◌, ◌++◌, take, drop, Option, Some, None, IsSome, Err, refl, sym, ap, subst, ◌∙◌, append_assoc, append-nil}
-use Rattle.std.specs.Prelude.{slice_get}
+use Rattle.std.proofs.Common.{◌≡◌, ◌≢◌, ◌⊎◌, inl, inr, Result, Ok, OnOk, ℕ, zero, suc, List, [], ◌∷◌, ◌++◌, take, Option, Some, IsSome, Err, refl, sym, ap, subst, ◌∙◌, append_assoc, append-nil}
 use Rattle.std.specs.Io.KnownBytes.{Appends}
 use Rattle.std.proofs.KnownBytes.{Appends-nil, Appends-trans}
 use Rattle.std.proofs.lemmas.List.{map-append}
@@ -20,32 +19,7 @@ use Rattle.plant_service.specs.declared.steps_end.StepsEnd.{StepsEnd}
 use Rattle.plant_service.specs.declared.steps_end.StepsEnd.TheVariants as ends
 use Rattle.plant_service.specs.SoFar.{IsHalfDone}
 use Rattle.plant_service.specs.Steps.{HasDone}
-
--- ---- what is left of a list
-
-first_left : {A : Type 0} (xs : List A) (k : ℕ) (x : A) (rest : List A) → drop k xs ≡ x ∷ rest → slice_get xs k ≡ Some x
-first_left [] zero x rest h = cc
-first_left [] (suc k) x rest h = cc
-first_left (y ∷ xs) zero x rest h = cc
-first_left (y ∷ xs) (suc k) x rest h = first_left xs k x rest h
-
-none_left : {A : Type 0} (xs : List A) (k : ℕ) → drop k xs ≡ [] → slice_get xs k ≡ None
-none_left [] zero h = refl
-none_left [] (suc k) h = refl
-none_left (y ∷ xs) zero h = cc
-none_left (y ∷ xs) (suc k) h = none_left xs k h
-
-take_next : {A : Type 0} (xs : List A) (k : ℕ) (x : A) (rest : List A) → drop k xs ≡ x ∷ rest → take (suc k) xs ≡ take k xs ++ x ∷ []
-take_next [] zero x rest h = cc
-take_next [] (suc k) x rest h = cc
-take_next (y ∷ xs) zero x rest h = cc
-take_next (y ∷ xs) (suc k) x rest h = ap (λ (l : List _). y ∷ l) (take_next xs k x rest h)
-
-drop_next : {A : Type 0} (xs : List A) (k : ℕ) (x : A) (rest : List A) → drop k xs ≡ x ∷ rest → drop (suc k) xs ≡ rest
-drop_next [] zero x rest h = cc
-drop_next [] (suc k) x rest h = cc
-drop_next (y ∷ xs) zero x rest h = cc
-drop_next (y ∷ xs) (suc k) x rest h = drop_next xs k x rest h
+use Rattle.plant_service.proofs.LeftLemmas.{first_left, none_left, take_next, drop_next}
 
 -- ---- one step more
 
@@ -120,7 +94,7 @@ memory_wants plant before shown steps old live w0 w1 left half same =
     (record { at = half.at; told = half.told; after = half.after; ends = tt; written = half.written })
 
 -- a fault that is told, other than want of memory
-fault_is_told : (A : Type 0) (fault : CoreFault) (reason : Option CoreFault) → IsTold {A = A} (Err fault) reason → fault ≢ NoMemory → reason ≡ Some fault
+pub fault_is_told : (A : Type 0) (fault : CoreFault) (reason : Option CoreFault) → IsTold {A = A} (Err fault) reason → fault ≢ NoMemory → reason ≡ Some fault
 fault_is_told A (UnknownModem modem) reason told other = told
 fault_is_told A (UnknownOperator op) reason told other = told
 fault_is_told A (Book refused) reason told other = told

@@ -1,5 +1,5 @@
 -- The steps of a script, one after the other.
-use Rattle.std.proofs.Common.{◌≡◌, ◌≢◌, ◌⊎◌, inl, inr, ℕ, zero, suc, List, [], ◌∷◌, ◌++◌, take, drop, Option, Some, None, IsSome, Err, refl, sym, ap, subst, ◌∙◌, append_assoc}
+use Rattle.std.proofs.Common.{◌≡◌, ◌≢◌, ◌⊎◌, inl, inr, ℕ, zero, suc, List, [], ◌∷◌, ◌++◌, take, Option, Some, IsSome, Err, refl, sym, ap, subst, ◌∙◌, append_assoc}
 use Rattle.std.specs.Prelude.{slice_get}
 use Rattle.std.proofs.KnownBytes.{Appends-nil, Appends-trans}
 use Rattle.std.proofs.lemmas.List.{map-append}
@@ -8,7 +8,7 @@ use Rattle.plant_runs.specs.declared.step.Step.{Step}
 use Rattle.plant_runs.specs.declared.step.Out.{Out}
 use Rattle.plant_runs.specs.Reached.{CoreView, Reached}
 use Rattle.plant_core.specs.declared.core_fault.CoreFault.{CoreFault}
-use Rattle.plant_core.specs.declared.core_fault.CoreFault.TheVariants.{UnknownModem, UnknownOperator, Book, Gather, NothingToCollect, NoMemory, Reslice}
+use Rattle.plant_core.specs.declared.core_fault.CoreFault.TheVariants.{NoMemory}
 use Rattle.plant_core.specs.Faults.{step_fault, IsTold}
 use Rattle.plant_lines.specs.declared.script.LineStep.{LineStep}
 use Rattle.plant_lines.specs.Script.{unnumbered}
@@ -19,33 +19,9 @@ use Rattle.plant_trace.specs.declared.decision.Decision.{Decision}
 use Rattle.plant_trace.specs.Decision.{IsDecision}
 use Rattle.plant_trace.specs.Trace.{AreDecided, IsTraceText, HasTraced}
 use Rattle.plant_trace.specs.SoFar.{HasRemarked, HasToldStep, IsTracedSoFar}
+use Rattle.plant_service.proofs.LeftLemmas.{first_left, none_left, take_next, drop_next}
+use Rattle.plant_service.proofs.StepLemmas.{fault_is_told}
 use Rattle.plant_trace.proofs.TextLemmas.{text_remark, text_more, decided_more}
-
--- ---- what is left of a list
-
-first_left : {A : Type 0} (xs : List A) (k : ℕ) (x : A) (rest : List A) → drop k xs ≡ x ∷ rest → slice_get xs k ≡ Some x
-first_left [] zero x rest h = cc
-first_left [] (suc k) x rest h = cc
-first_left (y ∷ xs) zero x rest h = cc
-first_left (y ∷ xs) (suc k) x rest h = first_left xs k x rest h
-
-none_left : {A : Type 0} (xs : List A) (k : ℕ) → drop k xs ≡ [] → slice_get xs k ≡ None
-none_left [] zero h = refl
-none_left [] (suc k) h = refl
-none_left (y ∷ xs) zero h = cc
-none_left (y ∷ xs) (suc k) h = none_left xs k h
-
-take_next : {A : Type 0} (xs : List A) (k : ℕ) (x : A) (rest : List A) → drop k xs ≡ x ∷ rest → take (suc k) xs ≡ take k xs ++ x ∷ []
-take_next [] zero x rest h = cc
-take_next [] (suc k) x rest h = cc
-take_next (y ∷ xs) zero x rest h = cc
-take_next (y ∷ xs) (suc k) x rest h = ap (λ (l : List _). y ∷ l) (take_next xs k x rest h)
-
-drop_next : {A : Type 0} (xs : List A) (k : ℕ) (x : A) (rest : List A) → drop k xs ≡ x ∷ rest → drop (suc k) xs ≡ rest
-drop_next [] zero x rest h = cc
-drop_next [] (suc k) x rest h = cc
-drop_next (y ∷ xs) zero x rest h = cc
-drop_next (y ∷ xs) (suc k) x rest h = drop_next xs k x rest h
 
 module _ (plant : PlantFields) (steps : List LineStep) where
   abbrev SoFar : CoreView → Option (List ℕ) → Option (List ℕ) → List LineStep → Type 0
@@ -140,16 +116,6 @@ module _ (plant : PlantFields) (steps : List LineStep) where
 
   pub memory_wants : (core : CoreView) (w0 w1 : Option (List ℕ)) (left : List LineStep) → SoFar core w0 w1 left → HasTraced plant steps core ends.NoMemory w0 w1
   memory_wants core w0 w1 left half = ends_so core ends.NoMemory w0 w1 left half tt
-
-  -- a fault that is told, other than want of memory
-  fault_is_told : (A : Type 0) (fault : CoreFault) (reason : Option CoreFault) → IsTold {A = A} (Err fault) reason → fault ≢ NoMemory → reason ≡ Some fault
-  fault_is_told A (UnknownModem modem) reason told other = told
-  fault_is_told A (UnknownOperator op) reason told other = told
-  fault_is_told A (Book refused) reason told other = told
-  fault_is_told A (Gather refused) reason told other = told
-  fault_is_told A (NothingToCollect op) reason told other = told
-  fault_is_told A NoMemory reason told other = absurd (other refl)
-  fault_is_told A (Reslice refused) reason told other = told
 
   step_is_refused : (core : CoreView) (w0 w1 : Option (List ℕ)) (line : LineStep) (rest : List LineStep) (A : Type 0) (fault : CoreFault) → SoFar core w0 w1 (line ∷ rest)
       → IsTold {A = A} (Err fault) (step_fault core line.step) → fault ≢ NoMemory → HasTraced plant steps core (ends.Refused line.number) w0 w1

@@ -1,12 +1,14 @@
-use Rattle.std.proofs.Common.{◌≡◌, ◌∷◌, [], length, ap, sym, ◌∙◌, arith}
+use Rattle.std.proofs.Common.{◌≡◌, ◌∷◌, [], sym, ◌∙◌}
 use Rattle.std.proofs.lemmas.List.{nil_from_length}
-use Rattle.std.specs.Vec.Iter.{into_iter_items}
+use Rattle.std.specs.Vec.Iter.{into_iter_items, into_iter_len}
 use Rattle.std.specs.Global.{Vec}
 use Rattle.plant_runs.specs.declared.step.Out.{Out}
 use Rattle.plant_core.specs.CoreView.{core_view}
 use Rattle.plant_core.specs.Faults.{step_fault}
 use Rattle.plant_lines.proofs.Outcomes.{if_ok}
-use Rattle.plant_script.proofs.StepRuns.{unheard_more, all_done, line_refused, fault_is_told}
+use Rattle.plant_service.proofs.LeftLemmas.{count_next}
+use Rattle.plant_service.proofs.StepLemmas.{fault_is_told}
+use Rattle.plant_script.proofs.StepRuns.{unheard_more, all_done, line_refused}
 use Rattle.plant_script.proofs.running.run_unheard.Goals as goal
 
 pub loop-number-preserved : goal.loop-number-preserved
@@ -14,13 +16,10 @@ loop-number-preserved g c =
     let at = c.loop-number in
     let line = c.in-Some.field-0 in
     let left : into_iter_items at.number-iterator ≡ line ∷ into_iter_items c.next.new.self = c.in-Some.ensures.steps.0 in
-    let short = ap length left in
-    let gone = c.in-Some.ensures.steps.1 in
-    let count = at.invariant.count in
     record {
       next = tt;
       finite = tt;
-      count = omega (arith, short, gone, count);
+      count = count_next (into_iter_items at.number-iterator) line (into_iter_items c.next.new.self) (into_iter_len at.number-iterator) (into_iter_len c.next.new.self) left c.in-Some.ensures.steps.1 at.invariant.count;
       half = unheard_more (core_view c.args.core.now).plant c.args.lines.items (core_view at.core) (core_view c.step.new.self) line (into_iter_items c.next.new.self) c.in-Ok._outs.items (rw left at at.invariant.half) c.in-Ok.ensures.reached;
     }
 

@@ -1,7 +1,8 @@
-use Rattle.std.proofs.Common.{◌≡◌, [], ◌∷◌, length, ap, sym, ◌∙◌, arith}
-use Rattle.std.specs.Vec.Iter.{into_iter_items}
+use Rattle.std.proofs.Common.{◌≡◌, [], ◌∷◌, length, ap, sym, ◌∙◌}
+use Rattle.std.specs.Vec.Iter.{into_iter_items, into_iter_len}
 use Rattle.std.proofs.lemmas.List.{nil_from_length}
 use Rattle.live_core.specs.LiveView.{live_view}
+use Rattle.plant_service.proofs.LeftLemmas.{count_next}
 use Rattle.plant_service.proofs.StepLemmas.{none_done, half_more, all_are_done, step_not_done}
 use Rattle.plant_service.proofs.answering.run_steps.Goals as goal
 
@@ -20,13 +21,10 @@ loop-number-preserved g c =
     let at = c.loop-number in
     let line = c.in-Some.field-0 in
     let left : into_iter_items at.number-iterator ≡ line ∷ into_iter_items c.next.new.self = c.in-Some.ensures.steps.0 in
-    let short = ap length left in
-    let gone = c.in-Some.ensures.steps.1 in
-    let count = at.invariant.count in
     record {
       next = tt;
       finite = tt;
-      count = omega (arith, short, gone, count);
+      count = count_next (into_iter_items at.number-iterator) line (into_iter_items c.next.new.self) (into_iter_len at.number-iterator) (into_iter_len c.next.new.self) left c.in-Some.ensures.steps.1 at.invariant.count;
       half = λ plant before shown after.
           half_more plant before shown c.args.steps.items (live_view at.core) (live_view c.step_over.new.self) (g.W.Write.contents c.args.writer.now) (g.W.Write.contents at.writer) (g.W.Write.contents c.write_outs.new.writer) line (into_iter_items c.next.new.self) c.step_over.new.outs.items
           (rw left at (at.invariant.half plant before shown after)) c.in-Ok.ensures.reached
