@@ -1,7 +1,8 @@
 -- What each order answers to an input (own).
-use Rattle.std.specs.Prelude.{◌≡◌, ◌⊎◌, ℕ, List, [], ◌∷◌, ◌++◌, MatchBool, slice_get, Option, Some, None, IfSome, Result, Ok, Err, codes}
+use Rattle.std.specs.Prelude.{◌≡◌, ◌≢◌, ◌⊎◌, ℕ, List, [], ◌∷◌, ◌++◌, MatchBool, slice_get, Option, Some, None, IfSome, Result, Ok, Err, codes}
 use Rattle.std.specs.List.{position_from}
 use Rattle.std.specs.String.{string_bytes}
+use Rattle.std.specs.Io.KnownBytes.{Appends}
 use Rattle.toml.specs.Parse.{parse_document}
 use Rattle.plant.specs.declared.operator_row.RowFields.{RowFields}
 use Rattle.plant.specs.declared.plant.PlantFields.{PlantFields}
@@ -11,7 +12,7 @@ use Rattle.plant_lines.specs.declared.script.LineStep.{LineStep}
 use Rattle.plant_words.specs.declared.asked.WordsFault.{WordsFault}
 use Rattle.plant_words.specs.declared.asked.WordsFault.TheVariants as faults
 use Rattle.plant_words.specs.Order.{Order, one, check, run, threads, capture, serve, trace, history}
-use Rattle.plant_words.specs.CommandLine.{Names}
+use Rattle.plant_words.specs.CommandLine.{Names, AsksHelp, AreWrong}
 use Rattle.plant_lines.specs.Input.{plant_text, script_text}
 use Rattle.plant_lines.specs.Script.{is_named, steps_of}
 use Rattle.plant_lines.specs.Text.{outs_text, history_text}
@@ -104,6 +105,23 @@ Answers capture input status text = AnswersInput AnswersCapture input status tex
 Answers serve input status text = AnswersServe input status text
 Answers trace input status text = AnswersInput AnswersTrace input status text
 Answers (history operator) input status text = AnswersInput (AnswersHistory operator) input status text
+
+-- ---- what a writer that had the bytes old, and has new, was given with this status; of statuses 5 and 6 nothing is said here
+
+-- under words that name an order, an answer to what is read
+abbrev pub AnswersWhatIsRead : List (List ℕ) → Option (List ℕ) → ℕ → Option (List ℕ) → Option (List ℕ) → Type 0
+AnswersWhatIsRead words read status old new = (order : Order) → Names words order → status ≢ 5 → status ≢ 6
+    → IfSome read (λ input. (text : List ℕ) × Answers order input status text × Appends old new text)
+
+-- under wrong words, with status 2, that they are a fault
+abbrev pub TellsWrong : List (List ℕ) → ℕ → Option (List ℕ) → Option (List ℕ) → Type 0
+TellsWrong words status old new = AreWrong words → status ≢ 5 → status ≢ 6
+    → (status ≡ 2) × Appends old new (codes "fault: words" ++ 10 ∷ [])
+
+-- under words that ask for help, with status 0, some text
+abbrev pub TellsHelp : List (List ℕ) → ℕ → Option (List ℕ) → Option (List ℕ) → Type 0
+TellsHelp words status old new = AsksHelp words → status ≢ 5 → status ≢ 6
+    → (text : List ℕ) × (status ≡ 0) × Appends old new text
 
 -- ---- want of memory
 

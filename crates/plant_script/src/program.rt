@@ -1,14 +1,14 @@
 //! The program over any reader and any writer.
 
-ghost use Rattle.std.specs.Prelude.{◌≡◌, ◌≢◌, ◌⊎◌, ℕ, true, false, List, ◌∷◌, [], ◌++◌, codes, Err, IfOk, IfErr, IfSome};
+ghost use Rattle.std.specs.Prelude.{◌≡◌, ◌≢◌, ◌⊎◌, true, false, Err, IfOk, IfErr, IfSome};
 ghost use Rattle.clap.specs.Walk.{texts};
 ghost use Rattle.std.specs.Io.KnownBytes.{Appends};
 ghost use Rattle.plant_script.specs.Task.{Comes};
 ghost use Rattle.plant_words.specs.declared.asked.Word.TheVariants as words;
-ghost use Rattle.plant_words.specs.Order.{Order, order_of};
-ghost use Rattle.plant_words.specs.CommandLine.{Names, AsksHelp, AreWrong};
+ghost use Rattle.plant_words.specs.Order.{order_of};
+ghost use Rattle.plant_words.specs.CommandLine.{AsksHelp, AreWrong};
 ghost use Rattle.plant_script.specs.Run.{memory_line};
-ghost use Rattle.plant_script.specs.Words.{AnswersFault, Answers, TellsMemory};
+ghost use Rattle.plant_script.specs.Words.{AnswersFault, Answers, AnswersWhatIsRead, TellsWrong, TellsHelp, TellsMemory};
 ghost use Rattle.plant_script.specs.One.{answer_of, is_readable};
 
 use crate::answer::Answer;
@@ -225,15 +225,12 @@ fn answer_of_words<'a, H: Threads + Wait + Sync, R: Read, W: Write>(
 ) -> u8
     requires untried { seen.old.failed ≡ false }
     // What is written answers what is read.
-    ensures served { (order : Order) → Names (texts words.entry.now) order → result ≢ 5 → result ≢ 6
-        → IfSome (R.remaining reader.old) (λ input.
-        (text : List ℕ) × Answers order input result text × Appends (W.contents writer.old) (W.contents writer.new) text) }
+    ensures served { AnswersWhatIsRead (texts words.entry.now) (R.remaining reader.old) result
+        (W.contents writer.old) (W.contents writer.new) }
     // Other words are a fault.
-    ensures refused { AreWrong (texts words.entry.now) → result ≢ 5 → result ≢ 6 →
-        (result ≡ 2) × Appends (W.contents writer.old) (W.contents writer.new) (codes "fault: words" ++ 10 ∷ []) }
+    ensures refused { TellsWrong (texts words.entry.now) result (W.contents writer.old) (W.contents writer.new) }
     // Help is told where it is asked for.
-    ensures helped { AsksHelp (texts words.entry.now) → result ≢ 5 → result ≢ 6 →
-        (text : List ℕ) × (result ≡ 0) × Appends (W.contents writer.old) (W.contents writer.new) text }
+    ensures helped { TellsHelp (texts words.entry.now) result (W.contents writer.old) (W.contents writer.new) }
     // Nothing is read for words that are wrong or ask for help.
     ensures unread_if_wrong { AreWrong (texts words.entry.now) → reader.new ≡ reader.old }
     ensures unread_for_help { AsksHelp (texts words.entry.now) → reader.new ≡ reader.old }
@@ -302,15 +299,12 @@ pub fn run_program<'a, H: Threads + Wait + Sync, R: Read, W: Write>(
     writer: &mut W,
 ) -> u8
     // What is written answers what is read.
-    ensures served { (order : Order) → Names (texts words.entry.now) order → result ≢ 5 → result ≢ 6
-        → IfSome (R.remaining reader.old) (λ input.
-        (text : List ℕ) × Answers order input result text × Appends (W.contents writer.old) (W.contents writer.new) text) }
+    ensures served { AnswersWhatIsRead (texts words.entry.now) (R.remaining reader.old) result
+        (W.contents writer.old) (W.contents writer.new) }
     // Other words are a fault.
-    ensures refused { AreWrong (texts words.entry.now) → result ≢ 5 → result ≢ 6 →
-        (result ≡ 2) × Appends (W.contents writer.old) (W.contents writer.new) (codes "fault: words" ++ 10 ∷ []) }
+    ensures refused { TellsWrong (texts words.entry.now) result (W.contents writer.old) (W.contents writer.new) }
     // Help is told where it is asked for.
-    ensures helped { AsksHelp (texts words.entry.now) → result ≢ 5 → result ≢ 6 →
-        (text : List ℕ) × (result ≡ 0) × Appends (W.contents writer.old) (W.contents writer.new) text }
+    ensures helped { TellsHelp (texts words.entry.now) result (W.contents writer.old) (W.contents writer.new) }
     // Nothing is read for words that are wrong or ask for help.
     ensures unread_if_wrong { AreWrong (texts words.entry.now) → reader.new ≡ reader.old }
     ensures unread_for_help { AsksHelp (texts words.entry.now) → reader.new ≡ reader.old }
@@ -318,8 +312,8 @@ pub fn run_program<'a, H: Threads + Wait + Sync, R: Read, W: Write>(
     ensures memory { result ≡ 5 → TellsMemory (texts words.entry.now) (R.remaining reader.old)
         (λ text. Appends (W.contents writer.old) (W.contents writer.new) text) }
 {
-    let mut seen = Seen::new();
     let ending = Ending::GoesOn;
+    let mut seen = Seen::new();
     answer_of_words(rt, alloc, words, reader, writer, &mut seen, ending)
 }
 
@@ -337,15 +331,12 @@ pub fn run_program_with_reasons<'a, H: Threads + Wait + Sync, R: Read, W: Write,
     ending: Ending,
 ) -> u8
     // What is written answers what is read.
-    ensures served { (order : Order) → Names (texts words.entry.now) order → result ≢ 5 → result ≢ 6
-        → IfSome (R.remaining reader.old) (λ input.
-        (text : List ℕ) × Answers order input result text × Appends (W.contents writer.old) (W.contents writer.new) text) }
+    ensures served { AnswersWhatIsRead (texts words.entry.now) (R.remaining reader.old) result
+        (W.contents writer.old) (W.contents writer.new) }
     // Other words are a fault.
-    ensures refused { AreWrong (texts words.entry.now) → result ≢ 5 → result ≢ 6 →
-        (result ≡ 2) × Appends (W.contents writer.old) (W.contents writer.new) (codes "fault: words" ++ 10 ∷ []) }
+    ensures refused { TellsWrong (texts words.entry.now) result (W.contents writer.old) (W.contents writer.new) }
     // Help is told where it is asked for.
-    ensures helped { AsksHelp (texts words.entry.now) → result ≢ 5 → result ≢ 6 →
-        (text : List ℕ) × (result ≡ 0) × Appends (W.contents writer.old) (W.contents writer.new) text }
+    ensures helped { TellsHelp (texts words.entry.now) result (W.contents writer.old) (W.contents writer.new) }
     // Nothing is read for words that are wrong or ask for help.
     ensures unread_if_wrong { AreWrong (texts words.entry.now) → reader.new ≡ reader.old }
     ensures unread_for_help { AsksHelp (texts words.entry.now) → reader.new ≡ reader.old }
