@@ -11,7 +11,7 @@ ghost use Rattle.plant_script.specs.DoneSoFar.{HasCaptured, IsStatusOf};
 ghost use Rattle.plant_script.specs.Run.{IsCapturedRunOf};
 
 use crate::answer::Answer;
-use crate::running::refused;
+use crate::ending::refused;
 use plant_capture::Capture;
 use plant_core::PlantCore;
 use plant_lines::LineStep;

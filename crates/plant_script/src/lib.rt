@@ -10,6 +10,7 @@ mod answer;
 mod capturing;
 mod check;
 mod command;
+mod ending;
 mod input;
 mod on_threads;
 mod one;
@@ -21,5 +22,5 @@ mod task;
 mod tracing;
 
 pub use command::{behind_name, exit_code};
+pub use ending::Ending;
 pub use program::{run_program, run_program_with_reasons};
-pub use running::Ending;

@@ -13,9 +13,10 @@ ghost use Rattle.plant_script.specs.One.{answer_of, is_readable};
 
 use crate::answer::Answer;
 use crate::check::check_of;
+use crate::ending::Ending;
 use crate::input::{Stop, read_input};
 use crate::one::text_of;
-use crate::running::{Ending, write_task};
+use crate::running::write_task;
 use crate::serving::serve_words;
 use crate::task::{Served, Wanted, task_of};
 use grant_policy::{RankInput, Ranking, rank_by};

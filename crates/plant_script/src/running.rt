@@ -1,22 +1,21 @@
 //! A script's run on a plant's core.
 
-ghost use Rattle.std.specs.Prelude.{◌≡◌, ◌≢◌, ◌++◌, [], map, slice_get, Some, IfOk, OnOk};
+ghost use Rattle.std.specs.Prelude.{◌≡◌, ◌≢◌, ◌++◌, [], map, slice_get, IfOk, OnOk};
 ghost use Rattle.std.specs.Io.KnownBytes.{Appends};
 ghost use Rattle.std.specs.String.{string_bytes};
 ghost use Rattle.plant.specs.declared.plant.PlantFields.{PlantFields};
 ghost use Rattle.plant_runs.specs.Reached.{Reached};
-ghost use Rattle.plant_core.specs.declared.core_fault.CoreFault.TheVariants.{NoMemory};
 ghost use Rattle.plant_core.specs.CoreView.{core_view};
 ghost use Rattle.live_core.specs.After.{IsAfter, IsReachable};
 ghost use Rattle.live_core.specs.LiveView.{live_view};
 ghost use Rattle.plant_script.specs.DoneSoFar.{HasRun, book_text};
-ghost use Rattle.plant_script.specs.Ends.{status_of, line_of};
 ghost use Rattle.plant_script.specs.Run.{IsRunOf};
 ghost use Rattle.plant_script.specs.Task.{history_at, RunsTo, IsTold, EndsRun, IsEnded};
 ghost use Rattle.plant_script.specs.declared.task.Told.TheVariants as tellings;
 
 use crate::answer::Answer;
 use crate::capturing::answer_of_capture;
+use crate::ending::{Ending, put_away, refused, write_end};
 use crate::input::Stop;
 use crate::on_threads::answer_of_threads;
 use crate::program::{finish, stopped};
@@ -25,25 +24,14 @@ use crate::tracing::write_traced_run;
 use grant_policy::Ranking;
 use live_core::LiveCore;
 use plant::{Op, Plant};
-use plant_core::{CoreFault, CoreOpenFault, PlantCore};
+use plant_core::{CoreOpenFault, PlantCore};
 use plant_lines::{LineStep, put_actions};
-use plant_service::{StepsEnd, run_steps};
+use plant_service::run_steps;
 use std::alloc::{AllocError, Global};
 use std::io;
 use std::io::Write;
-use std::mem::{drop, forget};
 use std::sync::Wait;
 use std::thread::Threads;
-
-/// The number of a line whose step is refused, other than for want of memory.
-pub(crate) fn refused(number: u64, fault: CoreFault) -> Result<Option<u64>, AllocError>
-    ensures { IfOk result (λ refused. (refused ≡ Some number) × (fault ≢ NoMemory)) }
-{
-    match fault {
-        CoreFault::NoMemory => Err(AllocError),
-        _ => Ok(Some(number)),
-    }
-}
 
 /// Does the steps of lines, and drops their outputs. Answers the number of the first line whose step is refused,
 /// at which it stops; none where all are done.
@@ -122,23 +110,6 @@ pub(crate) fn core_of(
     }
 }
 
-/// What becomes of a core behind its last step.
-#[derive(Clone, Copy, Debug, PartialEq, Eq)]
-pub enum Ending {
-    /// It is taken apart, and gives its memory back.
-    GoesOn,
-    /// It is left as it stands: the process ends behind the answer, and its memory goes with it.
-    Ends,
-}
-
-/// Takes a core apart, or leaves it to the end of the process.
-pub(crate) fn put_away<C: Drop>(core: C, ending: Ending) {
-    match ending {
-        Ending::GoesOn => drop(core),
-        Ending::Ends => forget(core),
-    }
-}
-
 /// What the run of a task answers that is not written as it goes. The rankings stand in the plant's order of operators. Only a run on
 /// threads may wait.
 fn answer_of_task<R: Threads + Wait + Sync>(
@@ -170,24 +141,6 @@ fn answer_of_task<R: Threads + Wait + Sync>(
         }
         Told::Threads => answer_of_threads(rt, alloc, plant, lines, rankings),
         Told::Trace => unreachable!(),
-    }
-}
-
-/// Writes the last line of a run whose steps ended so, if it has one. Answers the status.
-pub(crate) fn write_end<W: Write>(writer: &mut W, end: StepsEnd) -> io::Result<u8>
-    ensures status { IfOk result (λ status. status ≡ status_of end) }
-    ensures written { OnOk result (Appends (W.contents writer.old) (W.contents writer.new) (line_of end)) }
-{
-    match end {
-        StepsEnd::Done => Ok(0),
-        StepsEnd::Refused { number } => {
-            write!(writer, "fault: line {number}\n")?;
-            Ok(4)
-        }
-        StepsEnd::NoMemory => {
-            writer.write_all(b"fault: memory\n")?;
-            Ok(5)
-        }
     }
 }
 

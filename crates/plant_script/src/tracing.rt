@@ -8,9 +8,10 @@ ghost use Rattle.plant_script.specs.Traced.{EndsTraced};
 ghost use Rattle.plant_script.specs.Task.{IsTold};
 ghost use Rattle.plant_script.specs.declared.task.Told.TheVariants as tellings;
 
+use crate::ending::{Ending, put_away, write_end};
 use crate::input::Stop;
 use crate::program::stopped;
-use crate::running::{Ending, core_of, put_away, write_end};
+use crate::running::core_of;
 use crate::task::Task;
 use grant_policy::Ranking;
 use plant_core::PlantCore;

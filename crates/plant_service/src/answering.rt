@@ -1,15 +1,13 @@
 //! Steps that are done one after the other, and the answer to one line.
 
-ghost use Rattle.std.specs.Prelude.{◌≡◌, ◌≢◌, ◌⊎◌, List, IfOk, OnOk};
+ghost use Rattle.std.specs.Prelude.{◌≡◌, List, IfOk, OnOk};
 ghost use Rattle.std.specs.Io.KnownBytes.{Appends};
 ghost use Rattle.plant.specs.declared.plant.PlantFields.{PlantFields};
 ghost use Rattle.plant_runs.specs.declared.step.Out.{Out};
 ghost use Rattle.plant_runs.specs.declared.step.Step.{Step};
-ghost use Rattle.plant_core.specs.declared.core_fault.CoreFault.TheVariants as faults;
 ghost use Rattle.live_core.specs.After.{IsAfter, IsReachable};
 ghost use Rattle.live_core.specs.LiveView.{live_view};
 ghost use Rattle.plant_lines.specs.Fields.{Gives};
-ghost use Rattle.plant_service.specs.declared.steps_end.StepsEnd.TheVariants as steps_ends;
 ghost use Rattle.plant_service.specs.Service.{steps_said, end_text};
 ghost use Rattle.plant_service.specs.Ends.{line_end};
 ghost use Rattle.plant_service.specs.SoFar.{HasAnswered, IsAnswered};
@@ -17,10 +15,9 @@ ghost use Rattle.plant_service.specs.Steps.{HasDone};
 
 use crate::held_line::MOST_BYTES;
 use crate::line_end::LineEnd;
-use crate::steps_end::StepsEnd;
+use crate::steps_end::{StepsEnd, end_of};
 use live_core::LiveCore;
 use plant::Plant;
-use plant_core::CoreFault;
 use plant_lines::{FieldFault, LineStep, put_line, write_outs};
 use std::alloc::Global;
 use std::io;
@@ -43,16 +40,6 @@ fn steps_said(
     match put_line(alloc, plant, number, line, &mut fields, &mut steps) {
         Ok(()) => Ok(steps),
         Err(fault) => Err(fault),
-    }
-}
-
-/// How steps end of which this line's is not done.
-fn end_of(number: u64, fault: CoreFault) -> StepsEnd
-    ensures { (result ≡ steps_ends.NoMemory) ⊎ ((result ≡ steps_ends.Refused number) × (fault ≢ faults.NoMemory)) }
-{
-    match fault {
-        CoreFault::NoMemory => StepsEnd::NoMemory,
-        _ => StepsEnd::Refused { number },
     }
 }
 
