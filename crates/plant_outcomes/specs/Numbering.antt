@@ -4,7 +4,7 @@ use Rattle.slice_scheduler.specs.declared.elements.ElementsFields.{ElementsField
 use Rattle.operator_machine.specs.Replay.{BookView}
 use Rattle.plant_runs.specs.declared.step.Step.{Step}
 use Rattle.plant_outcomes.specs.declared.placing.Placing.{Placing}
-use Rattle.plant_outcomes.specs.declared.putting.Frame.{Frame}
+use Rattle.plant_receipts.specs.declared.own_frames.Frame.{Frame}
 use Rattle.plant_outcomes.specs.Placings.{puts_of}
 use Rattle.plant_outcomes.specs.Outs.{due_of}
 use Rattle.plant_outcomes.specs.Straying.{DifferFirst}

@@ -1,31 +1,19 @@
 //! Whether what was put in an assembly is what operators' histories put out.
 
-ghost use Rattle.std.specs.Prelude.{◌≡◌, ◌++◌, ◌≤◌, ◌<◌, ◌+◌, ℕ, List, length, map, option_map, slice_get, MatchOption, IfOk, OnOk, IsTrue, ◌↔◌, Option, Some, None};
+ghost use Rattle.std.specs.Prelude.{◌≡◌, ◌<◌, ℕ, length, map, option_map, slice_get, MatchOption, IfOk, IsTrue, ◌↔◌, Option, Some, None};
 ghost use Rattle.operator_book.specs.ViewOf.{view_of};
 ghost use Rattle.plant_runs.specs.OwnSteps.{is_collect, collects_of};
-ghost use Rattle.plant_runs.specs.Reached.{frames_of};
-ghost use Rattle.plant_core.specs.Waiting.{frames_in};
 ghost use Rattle.plant_outcomes.specs.Placings.{put_by, puts_of};
 ghost use Rattle.plant_outcomes.specs.Outs.{due_of};
 ghost use Rattle.plant_outcomes.specs.Straying.{ArePut, IsPutStray};
 ghost use Rattle.plant_outcomes.specs.Numbering.{frame_of, numbered, AreNumbered, AllAreNumbered, IsMissed, lesser};
-ghost use Rattle.plant_outcomes.specs.declared.putting.Frame.{Frame};
 
 use crate::placing::Placing;
 use operator_book::Book;
-use operator_machine::{Entry, Output};
 use plant::Op;
-use plant_receipts::are_same_elements;
+use plant_receipts::{Frame, are_same_elements, frames_in};
 use plant_runs::Step;
-use slice_scheduler::Elements;
 use std::alloc::{AllocError, Global};
-
-/// A frame, by its number and its elements.
-#[derive(Clone, Copy)]
-pub(crate) struct Frame<'a> {
-    pub number: u32,
-    pub elements: &'a Elements,
-}
 
 /// Whether a step collects a frame of this operator.
 fn is_collect(op: Op, step: &Step) -> bool
@@ -45,32 +33,6 @@ pub(crate) fn count_collects(op: Op, steps: &[Step]) -> usize
     ensures { result ≡ collects_of op steps.now }
 {
     steps.iter().filter(|step| is_collect(op, step)).count()
-}
-
-/// Adds the frames among outputs behind others.
-fn push_frames<'a>(frames: &mut Vec<Frame<'a>>, outputs: &'a [Output]) -> Result<(), AllocError>
-    ensures { OnOk result (numbered frames.new.items ≡ numbered frames.old.items ++ frames_of outputs.now) }
-{
-    for output in outputs {
-        if let Output::Frame { number, elements } = output {
-            frames.push(Frame {
-                number: *number,
-                elements,
-            })?;
-        }
-    }
-    Ok(())
-}
-
-/// The frames of a history, in order.
-fn frames_in<'a>(alloc: Global, history: &'a [Entry]) -> Result<Vec<Frame<'a>>, AllocError>
-    ensures { IfOk result (λ frames. numbered frames.items ≡ frames_in history.now) }
-{
-    let mut frames = Vec::new(alloc);
-    for entry in history {
-        push_frames(&mut frames, entry.outputs.as_slice())?;
-    }
-    Ok(frames)
 }
 
 /// The frames of an operator's history that the Collects of the steps take.

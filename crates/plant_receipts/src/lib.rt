@@ -14,6 +14,7 @@ mod settled;
 mod settling;
 mod straying;
 
+pub use own_frames::{Frame, frames_in};
 pub use receipt::{Callers, Receipt, Receipts};
 pub use run_fault::RunFault;
 pub use same::{are_same_elements, is_same_heard};

@@ -17,8 +17,10 @@ use std::alloc::{AllocError, Global};
 
 /// A frame that a book has put out.
 #[derive(Clone, Copy, Debug)]
-pub(crate) struct Frame<'a> {
+pub struct Frame<'a> {
+    /// Its number.
     pub number: u32,
+    /// What stands in it.
     pub elements: &'a Elements,
 }
 
@@ -44,8 +46,8 @@ fn push_frames<'a>(frames: &mut Vec<Frame<'a>>, outputs: &'a [Output]) -> Result
     Ok(())
 }
 
-/// The frames of a history.
-fn frames_in<'a>(alloc: Global, history: &'a [Entry]) -> Result<Vec<Frame<'a>>, AllocError>
+/// The frames of a history, in order.
+pub fn frames_in<'a>(alloc: Global, history: &'a [Entry]) -> Result<Vec<Frame<'a>>, AllocError>
     ensures { IfOk result (λ frames. numbered frames.items ≡ frames_of (outputs_of history.now)) }
 {
     let mut frames = Vec::new(alloc);
