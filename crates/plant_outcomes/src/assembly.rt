@@ -2,16 +2,13 @@
 
 ghost use Rattle.std.specs.Prelude.{◌≡◌, ◌≢◌, ◌↔◌, ℕ, [], ◌∷◌, ◌++◌, List, map, All, IsTrue, Option, Some, None, Result, Ok, Err, IfOk, OnOk, OnErr, ◌<◌, vec_len, vec_capacity, true, false};
 ghost use Rattle.slice_scheduler.specs.Minislots.{IsSlice};
-ghost use Rattle.slice_scheduler.specs.declared.elements.ElementsFields.{ElementsFields};
 ghost use Rattle.plant.specs.Plant.{IsPlant};
 ghost use Rattle.operator_machine.specs.declared.action.SliceRow.{SliceRow};
 ghost use Rattle.map_assembly.specs.declared.map_bytes.MapBytes.{MapBytes};
 ghost use Rattle.map_assembly.specs.declared.refused.GatherFault.{GatherFault};
 ghost use Rattle.map_assembly.specs.declared.refused.GatherFault.TheVariants.{NoMemory};
-ghost use Rattle.map_assembly.specs.Gathering.{gathering_of, put_fault, after_put, MayReslice, resliced, IsGathering};
-ghost use Rattle.map_assembly.specs.Assembled.{IsAnswer};
+ghost use Rattle.map_assembly.specs.Gathering.{gathering_of, put_fault, MayReslice, IsGathering};
 ghost use Rattle.plant_runs.specs.OwnSteps.{slice_of};
-ghost use Rattle.plant_outcomes.specs.declared.placing.Placing.TheVariants as placings;
 ghost use Rattle.plant_outcomes.specs.Placings.{new_assembly, listed, HasPut, HasResliced, HaveMade};
 
 use crate::placing::Placing;
