@@ -13,6 +13,7 @@ use Rattle.admission.specs.Free.{least_free_of}
 use Rattle.param_sets.specs.Within.{IsWithin, first_failing}
 use Rattle.param_sets.proofs.WithinLemmas.{within_self, nothing_fails}
 use Rattle.param_sets.specs.declared.param_set.ParamFields.{ParamFields}
+use Rattle.param_sets.specs.declared.scheduling.Scheduling.TheVariants.{BestEffort}
 use Rattle.param_sets.specs.declared.refusal.Refusal.{Refusal}
 use Rattle.flow_table.specs.declared.flow.Flow.{Flow}
 use Rattle.flow_table.specs.declared.flow.Pending.{Pending}
@@ -287,6 +288,18 @@ module _ (op : Operator) (modem : Modem) (tid : ℕ) where
         let asked : AsksFor op.consts e x = subst (λ (y : FlowFields). AsksFor op.consts y x) same h.4.1 in
         cc
 
+    sets_within : AllByRecursion (Fails op modem changes) (WrongSetType ∷ NoParameterSet ∷ ActiveNotWithin ∷ [])
+    sets_within = (
+      (λ h. let same : e ≡ h.0 = cc in h.2 (inr (inl (sym (ap (λ (x : FlowFields). x.set_type) same) ∙ six)))),
+      (
+        none_any (GivesNoSet op.consts) (e ∷ []) ((λ h. let no : IsRefused op.consts e h.1 = h.2 in cc), tt),
+        (
+          (λ h. h.4 (subst (λ (x : ParamFields). IsWithin x h.1) (sym (the_set_of Activates h.0 h.2)) (subst (IsWithin set) (sym (the_set_of Admits h.1 h.3)) (within_self set)))),
+          tt,
+        ),
+      ),
+    )
+
     change_within : AllByRecursion (Fails op modem changes) (up_to_flow ++ WrongSetType ∷ NoParameterSet ∷ ActiveNotWithin ∷ [])
     change_within = (
       none_any (NamesUnknownClass op.consts.classes) (e ∷ []) (unclassed_fails e plain, tt),
@@ -304,16 +317,7 @@ module _ (op : Operator) (modem : Modem) (tid : ℕ) where
                   (λ h. h.3 (ap (λ (f : Flow). f.modem) (the_one h.0 h.1 h.2.1) ∙ mine)),
                   (
                     (λ h. true≢false (sym h.3 ∙ (ap (λ (f : Flow). is_some f.pending) (the_one h.0 h.1 h.2.1) ∙ ap (λ (p : Option Pending). is_some p) rests))),
-                    (
-                      (λ h. let same : e ≡ h.0 = cc in h.2 (inr (inl (sym (ap (λ (x : FlowFields). x.set_type) same) ∙ six)))),
-                      (
-                        none_any (GivesNoSet op.consts) (e ∷ []) ((λ h. let no : IsRefused op.consts e h.1 = h.2 in cc), tt),
-                        (
-                          (λ h. h.4 (subst (λ (x : ParamFields). IsWithin x h.1) (sym (the_set_of Activates h.0 h.2)) (subst (IsWithin set) (sym (the_set_of Admits h.1 h.3)) (within_self set)))),
-                          tt,
-                        ),
-                      ),
-                    ),
+                    sets_within,
                   ),
                 ),
               ),
@@ -408,6 +412,23 @@ unstated = record {
   grant_interval = None;
   grant_jitter = None;
   grants_per_interval = None;
+}
+
+-- a best-effort set with this reserved rate
+abbrev pub reserving : ℕ → ParamFields
+reserving rate = record {
+  scheduling = BestEffort;
+  priority = 0;
+  max_sustained_rate = 0;
+  max_burst = 0;
+  min_reserved_rate = rate;
+  request_policy = 0;
+  polling_interval = 0;
+  poll_jitter = 0;
+  grant_size = 0;
+  grant_interval = 0;
+  grant_jitter = 0;
+  grants_per_interval = 0;
 }
 
 -- best effort under a reference, its set admitted and active

@@ -1,4 +1,4 @@
-use Rattle.std.proofs.Common.{ℕ, Some, arith, refl}
+use Rattle.std.proofs.Common.{Some, arith, refl}
 use Rattle.tlv24.specs.Flow.{fault_of, flow_of}
 use Rattle.tlv24.specs.Tlv.{front_of}
 use Rattle.dsx_messages.specs.Reading.{flow_in, flows_in, message_of}
@@ -7,28 +7,9 @@ use Rattle.operator_machine.specs.Asked.{first_encoding, set_of, asked_sets, nes
 use Rattle.operator_machine.specs.Verdict.{added, changed, verdict}
 use Rattle.operator_machine.specs.Machine.{own_step}
 use Rattle.operator_machine.specs.Worked.{worked_row, first_modem}
-use Rattle.param_sets.specs.declared.scheduling.Scheduling.TheVariants.{BestEffort}
-use Rattle.param_sets.specs.declared.param_set.ParamFields.{ParamFields}
 use Rattle.checks_in_order.specs.Examples.{worked, one_added, full_added}
-use Rattle.checks_in_order.proofs.ExampleLemmas.{best_effort, too_many_flows, sfids_used, sids_used, elements_over, minislots_over}
+use Rattle.checks_in_order.proofs.ExampleLemmas.{best_effort, reserving, too_many_flows, sfids_used, sids_used, elements_over, minislots_over}
 use Rattle.checks_in_order.proofs.worked.worked_room.Goals as goal
-
--- a best-effort set with this reserved rate
-abbrev reserving : ℕ → ParamFields
-reserving rate = record {
-  scheduling = BestEffort;
-  priority = 0;
-  max_sustained_rate = 0;
-  max_burst = 0;
-  min_reserved_rate = rate;
-  request_policy = 0;
-  polling_interval = 0;
-  poll_jitter = 0;
-  grant_size = 0;
-  grant_interval = 0;
-  grant_jitter = 0;
-  grants_per_interval = 0;
-}
 
 pub returns-clause-flows : goal.returns-clause-flows
 unfolding flow_in flows_in message_of fault_of flow_of front_of first_free least_free_of first_encoding set_of asked_sets nested_sets addition_of change_of added changed verdict own_step

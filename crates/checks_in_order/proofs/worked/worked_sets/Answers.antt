@@ -1,31 +1,12 @@
-use Rattle.std.proofs.Common.{ℕ, [], Some, refl}
+use Rattle.std.proofs.Common.{[], Some, refl}
 use Rattle.tlv24.specs.Flow.{fault_of, flow_of}
 use Rattle.tlv24.specs.Tlv.{front_of}
 use Rattle.dsx_messages.specs.Reading.{flow_in, flows_in, message_of}
 use Rattle.admission.specs.Free.{first_free, least_free_of}
 use Rattle.operator_machine.specs.Worked.{worked_row, first_modem}
-use Rattle.param_sets.specs.declared.scheduling.Scheduling.TheVariants.{BestEffort}
-use Rattle.param_sets.specs.declared.param_set.ParamFields.{ParamFields}
 use Rattle.checks_in_order.specs.Examples.{worked, provisioned_row}
-use Rattle.checks_in_order.proofs.ExampleLemmas.{unstated, first_flow, two_beyond, change_beyond}
+use Rattle.checks_in_order.proofs.ExampleLemmas.{unstated, reserving, first_flow, two_beyond, change_beyond}
 use Rattle.checks_in_order.proofs.worked.worked_sets.Goals as goal
-
--- a best-effort set with this reserved rate
-abbrev reserving : ℕ → ParamFields
-reserving rate = record {
-  scheduling = BestEffort;
-  priority = 0;
-  max_sustained_rate = 0;
-  max_burst = 0;
-  min_reserved_rate = rate;
-  request_policy = 0;
-  polling_interval = 0;
-  poll_jitter = 0;
-  grant_size = 0;
-  grant_interval = 0;
-  grant_jitter = 0;
-  grants_per_interval = 0;
-}
 
 pub returns-clause-active : goal.returns-clause-active
 unfolding flow_in flows_in message_of fault_of flow_of front_of first_free least_free_of
