@@ -2,6 +2,7 @@ pub mod Trees
 pub mod Parsed
 pub mod Values
 pub mod ClassReading
+pub mod RowParts
 pub mod RowReading
 pub mod Places
 pub mod PlantReading

@@ -19,8 +19,9 @@ use Rattle.slice_table.specs.declared.plant_key.Place.TheVariants as place
 use Rattle.plant.specs.Provisioned.{sets_of_encoding}
 use Rattle.plant.specs.Row.{is_listed, IsFrom, IsRow, IsProvision}
 use Rattle.slice_table.specs.Tree.{items_len, required, expected, checked, at_field, natural, number_of, modem_at, number_at, pair_at, text_at, bytes_at, array_at, table_of}
-use Rattle.slice_table.specs.ReadRows.{is_operator_name, is_called, name_at, is_within, slice_at, is_range, range_at, policy_at, modem_read, modems_at, own_modem_at, has_sets, provision_at, provision_read, provisions_in, provisions_if, row_at, row_read, rows_of}
-use Rattle.slice_table.proofs.Parsed.{bind_ok, ok_same, checked_ok, each_keeps, each_len}
+use Rattle.slice_table.specs.ReadRows.{is_operator_name, is_called, name_at, is_within, slice_at, is_range, range_at, modem_read, modems_at, own_modem_at, has_sets, provision_at, provision_read, provisions_in, provisions_if, row_at, row_read, rows_of}
+use Rattle.slice_table.proofs.Parsed.{bind_ok, checked_ok, each_keeps, each_len}
+use Rattle.slice_table.proofs.RowParts.{row_parts}
 use Rattle.slice_table.proofs.Values.{none_passes, told_apart, at_most}
 
 -- ---- one key
@@ -140,46 +141,18 @@ pub record IsReadRow (consts : ConstsFields) (row : RowFields) : Type 0 where
 
 one_at : (consts : ConstsFields) (rows : List RowFields) (operator : ℕ) (ms : Members) (row : RowFields) → row_at consts rows operator ms ≡ Ok row
     → IsReadRow consts row × (list_any (is_called row.name) rows ≡ false)
-unfolding row_at
 one_at consts rows operator ms row h =
     let place : Place = place.Operator operator in
-    let name = bind_ok (name_at rows place ms) _ row h in
-    let slice = bind_ok (slice_at consts place ms) _ row name.2 in
-    let sfids = bind_ok (range_at place field.Sfids 4294967295 ms) _ row slice.2 in
-    let sids = bind_ok (range_at place field.Sids 8191 ms) _ row sfids.2 in
-    let flows = bind_ok (number_at place field.Flows 1 1024 ms) _ row sids.2 in
-    let transactions = bind_ok (number_at place field.Transactions 1 256 ms) _ row flows.2 in
-    let inbox = bind_ok (number_at place field.Inbox 1 256 ms) _ row transactions.2 in
-    let budget = bind_ok (number_at place field.Budget 0 4096 ms) _ row inbox.2 in
-    let elements = bind_ok (number_at place field.Elements 0 235 ms) _ row budget.2 in
-    let policy = bind_ok (policy_at place ms) _ row elements.2 in
-    let modems = bind_ok (modems_at place ms) _ row policy.2 in
-    let provisions = bind_ok (provisions_if consts operator modems.0 (at_field field.Flow ms)) _ row modems.2 in
-    let made : RowFields = record {
-      name = name.0;
-      slice = slice.0;
-      sfids = sfids.0;
-      sids = sids.0;
-      flows = flows.0;
-      transactions = transactions.0;
-      inbox = inbox.0;
-      budget = budget.0;
-      elements = elements.0;
-      policy = policy.0;
-      modems = modems.0;
-      provisions = provisions.0;
-    } in
-    let is : made ≡ row = ok_same made row provisions.2 in
-    let sliced = slice_read consts place ms slice.0 slice.1 in
-    let sfids_in = range_read place field.Sfids 4294967295 ms sfids.0 sfids.1 in
-    let sids_in = range_read place field.Sids 8191 ms sids.0 sids.1 in
-    let flows_in = number_read place field.Flows 1 1024 ms flows.0 flows.1 in
-    let transactions_in = number_read place field.Transactions 1 256 ms transactions.0 transactions.1 in
-    let inbox_in = number_read place field.Inbox 1 256 ms inbox.0 inbox.1 in
-    let budget_in = number_read place field.Budget 0 4096 ms budget.0 budget.1 in
-    let elements_in = number_read place field.Elements 0 235 ms elements.0 elements.1 in
-    let own = provisions_read consts operator modems.0 (at_field field.Flow ms) provisions.0 provisions.1 in
-    subst (λ (r : RowFields). IsReadRow consts r × (list_any (is_called r.name) rows ≡ false)) is (
+    let parts = row_parts consts rows operator ms row h in
+    let sliced = slice_read consts place ms row.slice parts.slice in
+    let sfids_in = range_read place field.Sfids 4294967295 ms row.sfids parts.sfids in
+    let sids_in = range_read place field.Sids 8191 ms row.sids parts.sids in
+    let flows_in = number_read place field.Flows 1 1024 ms row.flows parts.flows in
+    let transactions_in = number_read place field.Transactions 1 256 ms row.transactions parts.transactions in
+    let inbox_in = number_read place field.Inbox 1 256 ms row.inbox parts.inbox in
+    let budget_in = number_read place field.Budget 0 4096 ms row.budget parts.budget in
+    let elements_in = number_read place field.Elements 0 235 ms row.elements parts.elements in
+    let own = provisions_read consts operator row.modems (at_field field.Flow ms) row.provisions parts.provisions in (
       record {
         keys = record {
           sfids = sfids_in.0;
@@ -190,13 +163,13 @@ one_at consts rows operator ms row h =
           inbox = record { low = inbox_in.0; high = inbox_in.1 };
           budget = budget_in.1;
           elements = elements_in.1;
-          modems = modems_read place ms modems.0 modems.1;
+          modems = modems_read place ms row.modems parts.modems;
         };
         behind_head = sliced.behind_head;
         within_frame = sliced.within_frame;
         provisions = λ k e lt. record { mine = (own k e lt).mine; sets = (own k e lt).sets };
       },
-      name_read rows place ms name.0 name.1,
+      name_read rows place ms row.name parts.name,
     )
 
 -- ---- all rows

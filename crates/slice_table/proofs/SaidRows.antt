@@ -22,6 +22,7 @@ use Rattle.slice_table.specs.Tree.{items_len, required, expected, checked, at_fi
 use Rattle.slice_table.specs.ReadRows.{is_operator_name, is_called, name_at, slice_at, range_at, policy_at, modem_read, modems_at, own_modem_at, has_sets, provision_at, provision_read, provisions_in, provisions_if, row_at, row_read, rows_of}
 use Rattle.slice_table.specs.Says.{IsAddress, SayInTurn, SaysName, SaysModems, SaysProvision, SaysProvisions, SaysRow, SaysRows}
 use Rattle.slice_table.proofs.Parsed.{ok_same, bind_ok, required_ok, expected_ok, checked_ok}
+use Rattle.slice_table.proofs.RowParts.{row_parts}
 use Rattle.slice_table.proofs.Values.{at_most, none_passes, told_apart}
 use Rattle.slice_table.proofs.SaidKeys.{bind_both, required_said, checked_said, both_true, le_true, array_is, under, number_is, slice_is, range_is, text_said, text_again, bytes_is, address_is, policy_is, turn_is, array_said, array_again, table_said, table_again}
 
@@ -181,51 +182,25 @@ provisions_are consts operator modems ms ps = (
 
 row_said : (consts : ConstsFields) (rows : List RowFields) (operator : ℕ) (ms : Members) (row : RowFields) → row_at consts rows operator ms ≡ Ok row
     → SaysRow consts rows (table ms) row
-unfolding row_at
 row_said consts rows operator ms row h =
     let place : Place = place.Operator operator in
-    let name = bind_ok (name_at rows place ms) _ row h in
-    let slice = bind_ok (slice_at consts place ms) _ row name.2 in
-    let sfids = bind_ok (range_at place field.Sfids 4294967295 ms) _ row slice.2 in
-    let sids = bind_ok (range_at place field.Sids 8191 ms) _ row sfids.2 in
-    let flows = bind_ok (number_at place field.Flows 1 1024 ms) _ row sids.2 in
-    let transactions = bind_ok (number_at place field.Transactions 1 256 ms) _ row flows.2 in
-    let inbox = bind_ok (number_at place field.Inbox 1 256 ms) _ row transactions.2 in
-    let budget = bind_ok (number_at place field.Budget 0 4096 ms) _ row inbox.2 in
-    let elements = bind_ok (number_at place field.Elements 0 235 ms) _ row budget.2 in
-    let policy = bind_ok (policy_at place ms) _ row elements.2 in
-    let modems = bind_ok (modems_at place ms) _ row policy.2 in
-    let provisions = bind_ok (provisions_if consts operator modems.0 (at_field field.Flow ms)) _ row modems.2 in
-    let made : RowFields = record {
-      name = name.0;
-      slice = slice.0;
-      sfids = sfids.0;
-      sids = sids.0;
-      flows = flows.0;
-      transactions = transactions.0;
-      inbox = inbox.0;
-      budget = budget.0;
-      elements = elements.0;
-      policy = policy.0;
-      modems = modems.0;
-      provisions = provisions.0;
-    } in
-    subst (SaysRow consts rows (table ms)) (ok_same made row provisions.2) (record {
+    let parts = row_parts consts rows operator ms row h in
+    record {
       ms = ms;
       is = refl;
-      name = (name_is rows place ms name.0).0 name.1;
-      slice = (slice_is consts place ms slice.0).0 slice.1;
-      sfids = (range_is place field.Sfids 4294967295 ms sfids.0).0 sfids.1;
-      sids = (range_is place field.Sids 8191 ms sids.0).0 sids.1;
-      flows = (number_is place field.Flows 1 1024 ms flows.0).0 flows.1;
-      transactions = (number_is place field.Transactions 1 256 ms transactions.0).0 transactions.1;
-      inbox = (number_is place field.Inbox 1 256 ms inbox.0).0 inbox.1;
-      budget = (number_is place field.Budget 0 4096 ms budget.0).0 budget.1;
-      elements = (number_is place field.Elements 0 235 ms elements.0).0 elements.1;
-      policy = (policy_is place ms policy.0).0 policy.1;
-      modems = (modems_are place ms modems.0).0 modems.1;
-      provisions = (provisions_are consts operator modems.0 ms provisions.0).0 provisions.1;
-    })
+      name = (name_is rows place ms row.name).0 parts.name;
+      slice = (slice_is consts place ms row.slice).0 parts.slice;
+      sfids = (range_is place field.Sfids 4294967295 ms row.sfids).0 parts.sfids;
+      sids = (range_is place field.Sids 8191 ms row.sids).0 parts.sids;
+      flows = (number_is place field.Flows 1 1024 ms row.flows).0 parts.flows;
+      transactions = (number_is place field.Transactions 1 256 ms row.transactions).0 parts.transactions;
+      inbox = (number_is place field.Inbox 1 256 ms row.inbox).0 parts.inbox;
+      budget = (number_is place field.Budget 0 4096 ms row.budget).0 parts.budget;
+      elements = (number_is place field.Elements 0 235 ms row.elements).0 parts.elements;
+      policy = (policy_is place ms row.policy).0 parts.policy;
+      modems = (modems_are place ms row.modems).0 parts.modems;
+      provisions = (provisions_are consts operator row.modems ms row.provisions).0 parts.provisions;
+    }
 
 row_again : (consts : ConstsFields) (rows : List RowFields) (operator : ℕ) (d : Data) (row : RowFields) (s : SaysRow consts rows d row)
     → row_at consts rows operator s.ms ≡ Ok row
