@@ -4,8 +4,10 @@
 
 mod check;
 mod laws;
+mod message_laws;
 mod worked;
 
 pub use check::{Check, MessageCheck};
-pub use laws::{decided_once, handled_once, message_is_decided, verdict_is_decided};
+pub use laws::{decided_once, verdict_is_decided};
+pub use message_laws::{handled_once, message_is_decided};
 pub use worked::{worked_encodings, worked_flows, worked_messages, worked_room, worked_sets};

@@ -1,5 +1,5 @@
 use Rattle.checks_in_order.proofs.HandledLemmas.{handled_once}
-use Rattle.checks_in_order.proofs.laws.handled_once.Goals as goal
+use Rattle.checks_in_order.proofs.message_laws.handled_once.Goals as goal
 
 pub returns : goal.returns
 returns c = handled_once

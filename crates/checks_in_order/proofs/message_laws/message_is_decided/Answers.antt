@@ -1,5 +1,5 @@
 use Rattle.checks_in_order.proofs.MessageLemmas.{bytes-handled}
-use Rattle.checks_in_order.proofs.laws.message_is_decided.Goals as goal
+use Rattle.checks_in_order.proofs.message_laws.message_is_decided.Goals as goal
 
 pub returns : goal.returns
 returns c = bytes-handled
