@@ -1,10 +1,8 @@
-//! What a live core always keeps, and laws of its runs.
+//! Laws of a live core's runs.
 
-ghost use Rattle.std.specs.Prelude.{◌≡◌, false, [], ◌∷◌, ◌++◌, List};
+ghost use Rattle.std.specs.Prelude.{◌≡◌, [], ◌∷◌, ◌++◌, List};
 ghost use Rattle.plant.specs.declared.plant.PlantFields.{PlantFields};
 ghost use Rattle.plant.specs.Plant.{IsPlant};
-ghost use Rattle.map_assembly.specs.Gathering.{IsGathering};
-ghost use Rattle.map_assembly.specs.LettingGo.{has_begun};
 ghost use Rattle.plant_runs.specs.declared.step.Step.{Step};
 ghost use Rattle.plant_runs.specs.declared.step.Out.{Out};
 ghost use Rattle.plant_runs.specs.Ordered.{Ordered};
@@ -14,30 +12,6 @@ ghost use Rattle.plant_runs.specs.Steps.{Steps};
 ghost use Rattle.plant_core.specs.Faults.{step_fault};
 ghost use Rattle.live_core.specs.GoingOn.{IsOf, GoesOn};
 ghost use Rattle.live_core.specs.After.{IsAfter, TwoLiveCores};
-ghost use Rattle.live_core.specs.LiveView.{live_view};
-
-use crate::held::LiveCore;
-use plant::Plant;
-
-impl LiveCore {
-    /// A law: the plant is valid, what is gathered is as the assembly always keeps it, and no slices are held that only earlier frames
-    /// than the one whose MAP comes next had. Does nothing.
-    pub fn always(&self)
-        ensures plant { IsPlant (live_view self.now).plant }
-        ensures gathering { IsGathering (live_view self.now).gathering }
-        ensures let_go { has_begun (live_view self.now).gathering ≡ false }
-    {
-        let _rows = self.routes.plant().rows();
-        self.gather.kept();
-    }
-
-    /// The plant.
-    pub fn plant(&self) -> &Plant
-        ensures { result.now ≡ (live_view self.now).plant }
-    {
-        self.routes.plant()
-    }
-}
 
 /// A step leaves a live core as it is after that step more.
 #[tactic(auto, using(crate::proofs::GoLemmas::after_more))]

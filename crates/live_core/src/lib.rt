@@ -7,6 +7,7 @@ mod desk;
 mod giving;
 mod held;
 mod judging;
+mod keeping;
 mod laws;
 mod opening;
 mod stepping;
