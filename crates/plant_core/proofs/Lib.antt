@@ -5,6 +5,7 @@ pub mod StepLemmas
 pub mod ReachLemmas
 pub mod RunLemmas
 pub mod OpenLemmas
+pub mod DeskPlaces
 pub mod OfferLemmas
 pub mod FreeLemmas
 pub mod GiveLemmas
