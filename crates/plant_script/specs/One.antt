@@ -11,10 +11,11 @@ use Rattle.operator_machine.specs.declared.output.Output.{Output}
 use Rattle.operator_machine.specs.declared.output.Output.TheVariants.{Reply, Silent, Frame}
 use Rattle.operator_machine.specs.State.{opened, operator}
 use Rattle.operator_machine.specs.Machine.{own_run}
+use Rattle.operator_machine.specs.Worked.{first_modem}
 use Rattle.plant_lines.specs.Lines.{lines_of}
 use Rattle.plant_lines.specs.Messages.{messages_of}
 use Rattle.plant_lines.specs.Causes.{name_of}
-use Rattle.plant_script.specs.OperatorA.{first_modem, row_a, consts_a}
+use Rattle.plant_script.specs.OperatorA.{row_a, consts_a}
 
 -- ---- messages to outputs
 
