@@ -1,14 +1,12 @@
-//! Worked inputs of the program, as tests alone: over text in memory, and over readers and writers that fail. The expected
-//! lines are typed from the tables of the profile.
+//! The program over readers and writers that fail, as tests alone. What it prints of an input is told by the cases of `tests/`,
+//! which are walked on the built program.
 #![tactic(auto)]
 
 #[cfg(test)]
-mod captures;
+mod reading;
 #[cfg(test)]
-mod failing;
+mod streams;
 #[cfg(test)]
-mod on_threads;
+mod wanted;
 #[cfg(test)]
-mod programs;
-#[cfg(test)]
-mod runs;
+mod writing;
