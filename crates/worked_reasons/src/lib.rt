@@ -1,4 +1,5 @@
-//! One test for each mistake that the program gives a reason for, the text typed by hand, as tests alone.
+//! Reasons where reads and writes fail, and those of the library alone, as tests alone. One for each mistake that a person can make
+//! is told by the cases of `tests/reasons.txt`, which are walked on the built program.
 #![tactic(auto)]
 
 #[cfg(test)]

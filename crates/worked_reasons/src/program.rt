@@ -1,10 +1,9 @@
-//! The program with a writer for its reasons: what it answers stays, whatever becomes of them.
+//! The program with a writer for its reasons, and with readers and writers that fail.
 
 use plant_script::{Ending, run_program_with_reasons};
 use std::alloc::Global;
 use std::io;
 use std::io::{Read, Write};
-use std::process::Abort;
 use std::sync::Wait;
 use std::test::Fail;
 use std::thread::Threads;
@@ -34,107 +33,42 @@ impl Write for Closed {
     }
 }
 
-/// Asserts the status, the answer and the reasons that an input gets, and that with reasons that are lost the others stay.
-fn check_told(
-    rt: &(impl Abort + Threads + Wait + Sync),
+/// The status that an input gets under `run`, with a writer for its reasons, and the answer.
+fn told<R: Threads + Wait + Sync, E: Write>(
+    rt: &R,
     alloc: Global,
-    words: &[&str],
-    input: &[u8],
-    wanted: (u8, &str, &str),
-) -> Result<(), Fail> {
-    let (mut answer, mut reasons) = (Vec::new(alloc), Vec::new(alloc));
-    let mut reader = input;
+    input: &str,
+    reasons: &mut E,
+) -> (u8, Vec<u8>) {
+    let mut answer = Vec::new(alloc);
+    let mut reader = input.as_bytes();
     let status = run_program_with_reasons(
         rt,
         alloc,
-        words,
+        &["run"],
         &mut reader,
         &mut answer,
-        &mut reasons,
+        reasons,
         Ending::GoesOn,
     );
-    assert_eq!(rt; status, wanted.0);
-    assert_eq!(rt; answer.as_slice(), wanted.1.as_bytes());
-    assert_eq!(rt; reasons.as_slice(), wanted.2.as_bytes());
-    let mut again = Vec::new(alloc);
-    let mut reader = input;
-    let status = run_program_with_reasons(
-        rt,
-        alloc,
-        words,
-        &mut reader,
-        &mut again,
-        &mut Closed,
-        Ending::GoesOn,
-    );
-    assert_eq!(rt; status, wanted.0);
-    assert_eq!(rt; again.as_slice(), wanted.1.as_bytes());
-    Ok(())
+    (status, answer)
 }
 
 #[test]
-fn answers_and_their_reasons(rt: HostRuntime) -> Result<(), Fail> {
+fn an_answer_and_its_reason(rt: HostRuntime) -> Result<(), Fail> {
     let alloc = rt.alloc();
-    let script = format!(in alloc; "{PLANT}---\nM 020000000001 -\nT C\n")?;
-    let reason =
-        "line 37 of the input, 2 of the script, \"T C\": no operator of the plant is called \"C\": they are called A, B\n";
-    let wanted = (4, "fault: line 2\n", reason);
-    for words in [
-        ["check"].as_slice(),
-        ["run"].as_slice(),
-        ["threads"].as_slice(),
-        ["history", "A"].as_slice(),
-    ] {
-        check_told(&rt, alloc, words, script.as_bytes(), wanted)?;
-    }
-    // Of a step that is refused, what the steps before it put out stands before the fault.
-    let script = format!(in alloc; "{PLANT}---\nM 020000000001 -\nZ 0 8/32/32 40/32/32\n")?;
+    let input = format!(in alloc; "{PLANT}---\nM 020000000001 -\nZ 0 8/32/32 40/32/32\n")?;
+    let wanted = b"S 020000000001 Empty\nfault: line 2\n".as_slice();
+    let mut reasons = Vec::new(alloc);
+    let (status, answer) = told(&rt, alloc, input.as_str(), &mut reasons);
+    assert_eq!(rt; (status, answer.as_slice()), (4, wanted));
     let reason =
         "line 37 of the input, 2 of the script, \"Z 0 8/32/32 40/32/32\": operator A is at frame 0: other slices from frame 0 on come too late\n";
-    let wanted = (4, "S 020000000001 Empty\nfault: line 2\n", reason);
-    check_told(&rt, alloc, &["run"], script.as_bytes(), wanted)?;
-    let wanted = (4, "fault: line 2\n", reason);
-    check_told(&rt, alloc, &["threads"], script.as_bytes(), wanted)?;
-    // A key that nothing reads changes no answer.
-    let script = format!(in alloc; "{PLANT}colour = 3\n---\nM 020000000001 -\n")?;
-    let wanted = (
-        0,
-        "S 020000000001 Empty\n",
-        "warning: nothing reads operator[1].colour\n",
-    );
-    check_told(&rt, alloc, &["run"], script.as_bytes(), wanted)?;
-    // An operator that is none.
-    let script = format!(in alloc; "{PLANT}---\nT\n")?;
-    let reason = "no operator of the plant is called \"C\": they are called A, B\n";
-    check_told(
-        &rt,
-        alloc,
-        &["history", "C"],
-        script.as_bytes(),
-        (2, "fault: words\n", reason),
-    )?;
-    check_told(&rt, alloc, &["check"], script.as_bytes(), (0, "ok\n", ""))
-}
-
-#[test]
-fn plants_and_lines_and_their_reasons(rt: HostRuntime) -> Result<(), Fail> {
-    let alloc = rt.alloc();
-    let reason =
-        "the input is empty: a plant file is read from standard input, then a line ---, then a script\n";
-    let wanted = (3, "fault: plant 2 plant.frame_minislots\n", reason);
-    check_told(&rt, alloc, &["run"], b"", wanted)?;
-    let wanted = (
-        4,
-        "fault: line 1\n",
-        "line 1, \"0F0\": the message: 3 digits are no whole bytes\n",
-    );
-    check_told(&rt, alloc, &["one"], b"0F0\n", wanted)?;
-    let wanted = (
-        6,
-        "fault: io\n",
-        "the input is no UTF-8 text: byte 4 is of no character\n",
-    );
-    check_told(&rt, alloc, &["one"], b"-\n-\xFF\n", wanted)
+    assert_eq!(rt; reasons.as_slice(), reason.as_bytes());
+    // With reasons that are lost the others stay.
+    let (status, answer) = told(&rt, alloc, input.as_str(), &mut Closed);
+    assert_eq!(rt; (status, answer.as_slice()), (4, wanted));
+    Ok(())
 }
 
 #[test]
@@ -174,17 +108,4 @@ fn reads_and_writes_that_fail(rt: HostRuntime) -> Result<(), Fail> {
         assert_eq!(rt; reasons.as_slice(), wanted);
     }
     Ok(())
-}
-
-#[test]
-fn an_input_that_is_too_long(rt: HostRuntime) -> Result<(), Fail> {
-    let alloc = rt.alloc();
-    let mut reader = Vec::new(alloc);
-    reader.resize(1_048_577, b'\n')?;
-    let wanted = (
-        6,
-        "fault: io\n",
-        "the input has more than 1048576 bytes, and no more are read\n",
-    );
-    check_told(&rt, alloc, &["one"], reader.as_slice(), wanted)
 }
