@@ -2,11 +2,9 @@
 //! that are played on them.
 #![tactic(auto)]
 
-mod asking;
 mod cases;
 mod many;
 
-pub use asking::{Asked, asked_by};
 pub use cases::{Case, cases_in, changed, put_difference};
 pub use many::many_operators;
 
