@@ -11,7 +11,7 @@ how many cases it has, so that one that is lost is seen. A case begins with `# N
     ~ old > new      a change of the plant, which is examples/plant_p2.toml: its first `old` becomes `new`; `|` ends a line, `…` is any text
     ~ old *> 9 new   the same, with the new text so many times, as behind `*`
     alone            the input has no plant before it
-    > line           the input's next line; in it `\\r`, `\\t` and `\\xFF` are a carriage return, a tab and the byte FF
+    > line           the input's next line; in it `\\r`, `\\t` and `\\xFF` are a carriage return, a tab and the byte FF, and a blank at the end is `\\x20`
     . text           the same, and no end of the line
     * 9 text         a text so many times, in which `|` ends a line, `{8}` is 8, then 9, then 10, and `{0:02x}` is 00, then 01, in hexadecimal
     = line           the next line that is wanted on standard output; `…` is any text, of one line or of many
@@ -88,7 +88,9 @@ def case_of(name, lines):
 
 
 def take_line(case, line):
-    """Takes a line by its sign."""
+    """Takes a line by its sign. None ends in a blank, which nobody would see."""
+    if line.endswith(" "):
+        sys.exit(f"{case.name}: a line ends in a blank")
     sign, _, text = line.partition(" ")
     if sign.isdigit():
         case.status, case.words = int(sign), shlex.split(text)

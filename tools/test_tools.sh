@@ -4,7 +4,7 @@
 # cases too; it is compared with the reference on 50 generated cases, by `run`, by `threads`, by `capture` and by `trace`, and `threads` and `serve`
 # with `run` on the examples; then on the inputs of tools/hostile.py and of tools/corners.py, and tools/statuses.sh and tools/reasons.py are run.
 # Where socat is installed plants are served behind a socket, and where tshark is installed it reads what is captured of the examples.
-# Usage: tools/test_tools.sh     Needs bash and python3; takes less than 15 seconds, with socat 25 seconds, with tshark half a minute.
+# Usage: tools/test_tools.sh     Needs bash and python3; takes 15 seconds; where the program is built half a minute, with socat and tshark more.
 set -euo pipefail
 
 here=$(cd "$(dirname "$0")" && pwd)
