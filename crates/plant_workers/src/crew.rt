@@ -9,7 +9,7 @@ use crate::job::Job;
 use crate::lists::{Lists, add_owned, add_tales, no_lists};
 use crate::part::parts_of;
 use crate::shared::run_shared;
-use crate::tale::first_fault;
+use crate::tale::{Tale, first_fault};
 use operator_machine::SliceRow;
 use plant::Plant;
 use plant_core::CoreFault;
@@ -56,6 +56,34 @@ fn signals(alloc: Global, operators: usize) -> Result<Vec<Condvar>, AllocError> 
     Ok(signals)
 }
 
+/// Does these jobs in threads, and joins them all: what each tells, or the first fault that one tells.
+fn tales_of<R: Threads + Wait + Sync, G: Gate<R> + Sync>(
+    rt: &R,
+    alloc: Global,
+    locks: &[Mutex<Held>],
+    assembly: &Mutex<Assembly>,
+    jobs: &[Job],
+    gate: &G,
+    stacks: &[usize],
+) -> Result<Vec<Tale>, RunFault>
+    ensures { IfErr result (λ fault. (steps : List Step) → IsOfRun steps fault) }
+{
+    let parts = parts_of(alloc, locks.len())?;
+    let changed = signals(alloc, locks.len())?;
+    let changed = changed.as_slice();
+    let of_all = parts.as_slice();
+    let tales = run_shared(
+        rt, alloc, locks, changed, assembly, jobs, gate, of_all, stacks,
+    )?;
+    if let Some(fault) = first_fault(tales.as_slice()) {
+        return Err(fault);
+    }
+    if tales.len() != parts.len() {
+        return Err(RunFault::NoMemory);
+    }
+    Ok(tales)
+}
+
 impl Crew {
     /// A run with nothing done.
     pub(crate) fn new(alloc: Global, plant: &Plant, helds: Vec<Held>) -> Result<Crew, AllocError> {
@@ -87,27 +115,9 @@ impl Crew {
             assembly,
             mut lists,
         } = self;
-        let parts = parts_of(alloc, helds.len())?;
-        let changed = signals(alloc, helds.len())?;
         let locks = locked(alloc, helds)?;
         let assembly = Mutex::new(assembly);
-        let tales = run_shared(
-            rt,
-            alloc,
-            locks.as_slice(),
-            changed.as_slice(),
-            &assembly,
-            jobs,
-            gate,
-            parts.as_slice(),
-            stacks,
-        )?;
-        if let Some(fault) = first_fault(tales.as_slice()) {
-            return Err(fault);
-        }
-        if tales.len() != parts.len() {
-            return Err(RunFault::NoMemory);
-        }
+        let tales = tales_of(rt, alloc, locks.as_slice(), &assembly, jobs, gate, stacks)?;
         add_tales(&mut lists, tales)?;
         Ok(Crew {
             helds: unlocked(alloc, locks)?,
