@@ -33,18 +33,23 @@ fn last_map(outs: &[Out]) -> Option<u32> {
     }
 }
 
+/// Asserts that each frame has its MAP, the last one with its number, and that none waits then.
+fn check_frames(rt: &impl Abort, alloc: Global, core: &mut LiveCore) {
+    let mut outs = Vec::new(alloc);
+    for _frame in 0..FRAMES {
+        put_frame(rt, alloc, core, &mut outs);
+    }
+    assert_eq!(rt; last_map(outs.as_slice()), Some(FRAMES - 1));
+    let refused = core.step(alloc, Step::Collect { op: 0 });
+    assert!(rt; matches!(refused, Err(CoreFault::NothingToCollect { op: 0 })));
+}
+
 /// Frame behind frame is given out, and each has its MAP, the last one with its number.
 #[test]
 fn frames_go_on(rt: HostRuntime) -> Result<(), Fail> {
     let alloc = rt.alloc();
     let plant = read_plant(alloc, PLANT).ok().ok_or("no plant")?;
     let mut core = live!(alloc, plant);
-    let mut outs = Vec::new(alloc);
-    for _frame in 0..FRAMES {
-        put_frame(&rt, alloc, &mut core, &mut outs);
-    }
-    assert_eq!(rt; last_map(outs.as_slice()), Some(FRAMES - 1));
-    let refused = core.step(alloc, Step::Collect { op: 0 });
-    assert!(rt; matches!(refused, Err(CoreFault::NothingToCollect { op: 0 })));
+    check_frames(&rt, alloc, &mut core);
     Ok(())
 }

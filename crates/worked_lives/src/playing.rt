@@ -48,17 +48,39 @@ fn play_steps(
     Ok(())
 }
 
+/// Plays a line, and writes it with what is put out below it; of an empty line and of one behind `=` nothing.
+fn play_line(
+    alloc: Global,
+    core: &mut LiveCore,
+    text: &mut String,
+    line: &str,
+) -> Result<(), Fail> {
+    if line.is_empty() || line.starts_with('=') {
+        return Ok(());
+    }
+    text.push_str("\n")?;
+    text.push_str(line)?;
+    let steps = steps_of(alloc, core.plant(), line)?;
+    play_steps(alloc, core, text, steps)
+}
+
+/// Plays the lines of a script.
+fn play_lines(
+    alloc: Global,
+    core: &mut LiveCore,
+    text: &mut String,
+    script: &str,
+) -> Result<(), Fail> {
+    for line in script.split('\n') {
+        play_line(alloc, core, text, line)?;
+    }
+    Ok(())
+}
+
 /// A script but for the lines behind `=`, played over the live core of a plant: each line with what is put out below it.
 pub(crate) fn played_live(alloc: Global, plant: Plant, script: &str) -> Result<String, Fail> {
-    let mut core = live!(alloc, plant);
     let mut text = String::new(alloc);
-    for line in script.split('\n') {
-        if !line.is_empty() && !line.starts_with('=') {
-            text.push_str("\n")?;
-            text.push_str(line)?;
-            let steps = steps_of(alloc, core.plant(), line)?;
-            play_steps(alloc, &mut core, &mut text, steps)?;
-        }
-    }
+    let mut core = live!(alloc, plant);
+    play_lines(alloc, &mut core, &mut text, script)?;
     Ok(text)
 }
