@@ -9,6 +9,7 @@ use Rattle.tlv24.specs.declared.tlv.TlvFault.TheVariants.{Cut, WrongLength, Twic
 use Rattle.tlv24.specs.declared.fields.ErrorEncodings.{ErrorEncodings}
 use Rattle.tlv24.specs.declared.fields.FlowFields.{FlowFields}
 use Rattle.tlv24.specs.declared.fault.FlowFault.{FlowFault}
+use Rattle.tlv24.specs.Subtype.{reference_subtype, sfid_subtype, sid_subtype, class_name_subtype, errored_subtype, set_type_subtype, traffic_priority_subtype, max_sustained_rate_subtype, max_burst_subtype, min_reserved_rate_subtype, scheduling_type_subtype, request_policy_subtype, polling_interval_subtype, poll_jitter_subtype, grant_size_subtype, grant_interval_subtype, grant_jitter_subtype, grants_per_interval_subtype, errored_parameter_subtype, error_code_subtype}
 use Rattle.tlv24.specs.Tlv.{IsTlvList, IsFront, Begins, NoTlvBegins, spelled, front_of}
 
 -- Numbers in a value, the most significant byte first.
@@ -37,24 +38,24 @@ errored_of value = record { errored_parameter = slice_index value 2; code = slic
 -- The known subtypes, each with the least and the greatest length of its value in bytes.
 abbrev pub known : List (ℕ × (ℕ × ℕ))
 known =
-    (1, (2, 2)) ∷
-    (2, (4, 4)) ∷
-    (3, (2, 2)) ∷
-    (4, (2, 16)) ∷
-    (5, (6, 6)) ∷
-    (6, (1, 1)) ∷
-    (7, (1, 1)) ∷
-    (8, (4, 4)) ∷
-    (9, (4, 4)) ∷
-    (10, (4, 4)) ∷
-    (15, (1, 1)) ∷
-    (16, (4, 4)) ∷
-    (17, (4, 4)) ∷
-    (18, (4, 4)) ∷
-    (19, (2, 2)) ∷
-    (20, (4, 4)) ∷
-    (21, (4, 4)) ∷
-    (22, (1, 1)) ∷ []
+    (reference_subtype, (2, 2)) ∷
+    (sfid_subtype, (4, 4)) ∷
+    (sid_subtype, (2, 2)) ∷
+    (class_name_subtype, (2, 16)) ∷
+    (errored_subtype, (6, 6)) ∷
+    (set_type_subtype, (1, 1)) ∷
+    (traffic_priority_subtype, (1, 1)) ∷
+    (max_sustained_rate_subtype, (4, 4)) ∷
+    (max_burst_subtype, (4, 4)) ∷
+    (min_reserved_rate_subtype, (4, 4)) ∷
+    (scheduling_type_subtype, (1, 1)) ∷
+    (request_policy_subtype, (4, 4)) ∷
+    (polling_interval_subtype, (4, 4)) ∷
+    (poll_jitter_subtype, (4, 4)) ∷
+    (grant_size_subtype, (2, 2)) ∷
+    (grant_interval_subtype, (4, 4)) ∷
+    (grant_jitter_subtype, (4, 4)) ∷
+    (grants_per_interval_subtype, (1, 1)) ∷ []
 
 abbrev pub lengths_of : ℕ → Option (ℕ × ℕ)
 lengths_of subtype = option_map (λ row. row.1) (find (λ row. row.0 == subtype) known)
@@ -66,16 +67,16 @@ is_terminated value = (slice_index_or value (length value - 1) 1 == 0) && list_a
 -- the value is 01 01 p 02 01 c
 abbrev pub is_error_pair : List ℕ → Bool
 is_error_pair value =
-    (slice_index value 0 == 1) && (slice_index value 1 == 1) && (slice_index value 3 == 2) && (slice_index value 4 == 1)
+    (slice_index value 0 == errored_parameter_subtype) && (slice_index value 1 == 1) && (slice_index value 3 == error_code_subtype) && (slice_index value 4 == 1)
 
 -- Which values a subtype takes, of those that have its length; where none is named, it takes all.
 abbrev pub in_range : ℕ → List ℕ → Bool
 in_range subtype value =
-    if subtype == 1 then not (word value == 0) else
-    if subtype == 2 then not (long value == 0) else
-    if subtype == 4 then is_terminated value else
-    if subtype == 5 then is_error_pair value else
-    if subtype == 7 then nat_le (byte value) 7 else
+    if subtype == reference_subtype then not (word value == 0) else
+    if subtype == sfid_subtype then not (long value == 0) else
+    if subtype == class_name_subtype then is_terminated value else
+    if subtype == errored_subtype then is_error_pair value else
+    if subtype == traffic_priority_subtype then nat_le (byte value) 7 else
     true
 
 -- the values that stand under a subtype, in order
@@ -88,24 +89,24 @@ value_of subtype tlvs = slice_get (values_of subtype tlvs) 0
 -- The fields that a list of TLVs states: other subtypes are skipped.
 abbrev pub fields_of : List Tlv → FlowFields
 fields_of tlvs = record {
-  reference = option_map word (value_of 1 tlvs);
-  sfid = option_map long (value_of 2 tlvs);
-  sid = option_map low_bits (value_of 3 tlvs);
-  class_name = option_map name_of (value_of 4 tlvs);
-  errored = option_map errored_of (value_of 5 tlvs);
-  set_type = option_map byte (value_of 6 tlvs);
-  traffic_priority = option_map byte (value_of 7 tlvs);
-  max_sustained_rate = option_map long (value_of 8 tlvs);
-  max_burst = option_map long (value_of 9 tlvs);
-  min_reserved_rate = option_map long (value_of 10 tlvs);
-  scheduling_type = option_map byte (value_of 15 tlvs);
-  request_policy = option_map long (value_of 16 tlvs);
-  polling_interval = option_map long (value_of 17 tlvs);
-  poll_jitter = option_map long (value_of 18 tlvs);
-  grant_size = option_map word (value_of 19 tlvs);
-  grant_interval = option_map long (value_of 20 tlvs);
-  grant_jitter = option_map long (value_of 21 tlvs);
-  grants_per_interval = option_map byte (value_of 22 tlvs);
+  reference = option_map word (value_of reference_subtype tlvs);
+  sfid = option_map long (value_of sfid_subtype tlvs);
+  sid = option_map low_bits (value_of sid_subtype tlvs);
+  class_name = option_map name_of (value_of class_name_subtype tlvs);
+  errored = option_map errored_of (value_of errored_subtype tlvs);
+  set_type = option_map byte (value_of set_type_subtype tlvs);
+  traffic_priority = option_map byte (value_of traffic_priority_subtype tlvs);
+  max_sustained_rate = option_map long (value_of max_sustained_rate_subtype tlvs);
+  max_burst = option_map long (value_of max_burst_subtype tlvs);
+  min_reserved_rate = option_map long (value_of min_reserved_rate_subtype tlvs);
+  scheduling_type = option_map byte (value_of scheduling_type_subtype tlvs);
+  request_policy = option_map long (value_of request_policy_subtype tlvs);
+  polling_interval = option_map long (value_of polling_interval_subtype tlvs);
+  poll_jitter = option_map long (value_of poll_jitter_subtype tlvs);
+  grant_size = option_map word (value_of grant_size_subtype tlvs);
+  grant_interval = option_map long (value_of grant_interval_subtype tlvs);
+  grant_jitter = option_map long (value_of grant_jitter_subtype tlvs);
+  grants_per_interval = option_map byte (value_of grants_per_interval_subtype tlvs);
 }
 
 -- a value as its subtype has it

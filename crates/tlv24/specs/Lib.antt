@@ -1,3 +1,4 @@
+pub mod Subtype
 pub mod Tlv
 pub mod Name
 pub mod Padding

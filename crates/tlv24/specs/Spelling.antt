@@ -5,6 +5,7 @@ use Rattle.std.specs.Int.{w16, w32, to_be_bytes}
 use Rattle.tlv24.specs.declared.tlv.Tlv.{Tlv}
 use Rattle.tlv24.specs.declared.fields.ErrorEncodings.{ErrorEncodings}
 use Rattle.tlv24.specs.declared.fields.FlowFields.{FlowFields}
+use Rattle.tlv24.specs.Subtype.{reference_subtype, sfid_subtype, sid_subtype, class_name_subtype, errored_subtype, set_type_subtype, traffic_priority_subtype, max_sustained_rate_subtype, max_burst_subtype, min_reserved_rate_subtype, scheduling_type_subtype, request_policy_subtype, polling_interval_subtype, poll_jitter_subtype, grant_size_subtype, grant_interval_subtype, grant_jitter_subtype, grants_per_interval_subtype, errored_parameter_subtype, error_code_subtype}
 use Rattle.tlv24.specs.Tlv.{tlv}
 
 -- a number of one byte
@@ -17,7 +18,7 @@ terminated name = name ++ 0 ∷ []
 
 -- error encodings are two TLVs of their own: 5.1 the subtype at fault, 5.2 the confirmation code
 abbrev pub spelled_error : ErrorEncodings → List ℕ
-spelled_error e = 1 ∷ 1 ∷ e.errored_parameter ∷ 2 ∷ 1 ∷ e.code ∷ []
+spelled_error e = errored_parameter_subtype ∷ 1 ∷ e.errored_parameter ∷ error_code_subtype ∷ 1 ∷ e.code ∷ []
 
 -- the TLV of a field that stands, under its subtype, or nothing
 abbrev pub under : ℕ → Option (List ℕ) → List Tlv
@@ -27,21 +28,21 @@ under subtype (Some value) = tlv subtype value ∷ []
 -- the TLVs of the fields
 abbrev pub tlvs_of : FlowFields → List Tlv
 tlvs_of m =
-    under 1 (option_map (to_be_bytes w16) m.reference) ++
-    under 2 (option_map (to_be_bytes w32) m.sfid) ++
-    under 3 (option_map (to_be_bytes w16) m.sid) ++
-    under 4 (option_map terminated m.class_name) ++
-    under 5 (option_map spelled_error m.errored) ++
-    under 6 (option_map single m.set_type) ++
-    under 7 (option_map single m.traffic_priority) ++
-    under 8 (option_map (to_be_bytes w32) m.max_sustained_rate) ++
-    under 9 (option_map (to_be_bytes w32) m.max_burst) ++
-    under 10 (option_map (to_be_bytes w32) m.min_reserved_rate) ++
-    under 15 (option_map single m.scheduling_type) ++
-    under 16 (option_map (to_be_bytes w32) m.request_policy) ++
-    under 17 (option_map (to_be_bytes w32) m.polling_interval) ++
-    under 18 (option_map (to_be_bytes w32) m.poll_jitter) ++
-    under 19 (option_map (to_be_bytes w16) m.grant_size) ++
-    under 20 (option_map (to_be_bytes w32) m.grant_interval) ++
-    under 21 (option_map (to_be_bytes w32) m.grant_jitter) ++
-    under 22 (option_map single m.grants_per_interval)
+    under reference_subtype (option_map (to_be_bytes w16) m.reference) ++
+    under sfid_subtype (option_map (to_be_bytes w32) m.sfid) ++
+    under sid_subtype (option_map (to_be_bytes w16) m.sid) ++
+    under class_name_subtype (option_map terminated m.class_name) ++
+    under errored_subtype (option_map spelled_error m.errored) ++
+    under set_type_subtype (option_map single m.set_type) ++
+    under traffic_priority_subtype (option_map single m.traffic_priority) ++
+    under max_sustained_rate_subtype (option_map (to_be_bytes w32) m.max_sustained_rate) ++
+    under max_burst_subtype (option_map (to_be_bytes w32) m.max_burst) ++
+    under min_reserved_rate_subtype (option_map (to_be_bytes w32) m.min_reserved_rate) ++
+    under scheduling_type_subtype (option_map single m.scheduling_type) ++
+    under request_policy_subtype (option_map (to_be_bytes w32) m.request_policy) ++
+    under polling_interval_subtype (option_map (to_be_bytes w32) m.polling_interval) ++
+    under poll_jitter_subtype (option_map (to_be_bytes w32) m.poll_jitter) ++
+    under grant_size_subtype (option_map (to_be_bytes w16) m.grant_size) ++
+    under grant_interval_subtype (option_map (to_be_bytes w32) m.grant_interval) ++
+    under grant_jitter_subtype (option_map (to_be_bytes w32) m.grant_jitter) ++
+    under grants_per_interval_subtype (option_map single m.grants_per_interval)

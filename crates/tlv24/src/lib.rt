@@ -8,6 +8,7 @@ mod fields;
 mod flow;
 mod laws;
 mod read;
+pub mod subtype;
 mod tlv;
 mod write;
 

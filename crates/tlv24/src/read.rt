@@ -11,6 +11,7 @@ use crate::class_name::{ClassName, has_no_zero};
 use crate::fault::FlowFault;
 use crate::fields::{ErrorEncodings, FlowFields};
 use crate::flow::FlowTlv;
+use crate::subtype;
 use crate::tlv::{TlvFault, first_tlv};
 
 /// The byte at a place, 0 past the end.
@@ -67,9 +68,9 @@ fn is_terminated(value: &[u8]) -> bool
 fn is_error_pair(value: &[u8]) -> bool
     ensures { result ≡ is_error_pair value.now }
 {
-    byte_at(value, 0) == 1
+    byte_at(value, 0) == subtype::ERRORED_PARAMETER
         && byte_at(value, 1) == 1
-        && byte_at(value, 3) == 2
+        && byte_at(value, 3) == subtype::ERROR_CODE
         && byte_at(value, 4) == 1
 }
 
@@ -78,11 +79,22 @@ fn lengths_of(subtype: u8) -> Option<(usize, usize)>
     ensures { result ≡ lengths_of subtype }
 {
     match subtype {
-        1 | 3 | 19 => Some((2, 2)),
-        2 | 8 | 9 | 10 | 16 | 17 | 18 | 20 | 21 => Some((4, 4)),
-        4 => Some((2, 16)),
-        5 => Some((6, 6)),
-        6 | 7 | 15 | 22 => Some((1, 1)),
+        subtype::REFERENCE | subtype::SID | subtype::GRANT_SIZE => Some((2, 2)),
+        subtype::SFID
+        | subtype::MAX_SUSTAINED_RATE
+        | subtype::MAX_BURST
+        | subtype::MIN_RESERVED_RATE
+        | subtype::REQUEST_POLICY
+        | subtype::POLLING_INTERVAL
+        | subtype::POLL_JITTER
+        | subtype::GRANT_INTERVAL
+        | subtype::GRANT_JITTER => Some((4, 4)),
+        subtype::CLASS_NAME => Some((2, 16)),
+        subtype::ERRORED => Some((6, 6)),
+        subtype::SET_TYPE
+        | subtype::TRAFFIC_PRIORITY
+        | subtype::SCHEDULING_TYPE
+        | subtype::GRANTS_PER_INTERVAL => Some((1, 1)),
         _ => None,
     }
 }
@@ -91,11 +103,11 @@ fn in_range(subtype: u8, value: &[u8]) -> bool
     ensures { result ≡ in_range subtype value.now }
 {
     match subtype {
-        1 => word(value) != 0,
-        2 => long(value) != 0,
-        4 => is_terminated(value),
-        5 => is_error_pair(value),
-        7 => byte_at(value, 0) <= 7,
+        subtype::REFERENCE => word(value) != 0,
+        subtype::SFID => long(value) != 0,
+        subtype::CLASS_NAME => is_terminated(value),
+        subtype::ERRORED => is_error_pair(value),
+        subtype::TRAFFIC_PRIORITY => byte_at(value, 0) <= 7,
         _ => true,
     }
 }
@@ -106,24 +118,24 @@ fn stands(fields: &FlowFields, subtype: u8) -> bool
         → result ≡ is_some (value_of subtype before) }
 {
     match subtype {
-        1 => fields.reference.is_some(),
-        2 => fields.sfid.is_some(),
-        3 => fields.sid.is_some(),
-        4 => fields.class_name.is_some(),
-        5 => fields.errored.is_some(),
-        6 => fields.set_type.is_some(),
-        7 => fields.traffic_priority.is_some(),
-        8 => fields.max_sustained_rate.is_some(),
-        9 => fields.max_burst.is_some(),
-        10 => fields.min_reserved_rate.is_some(),
-        15 => fields.scheduling_type.is_some(),
-        16 => fields.request_policy.is_some(),
-        17 => fields.polling_interval.is_some(),
-        18 => fields.poll_jitter.is_some(),
-        19 => fields.grant_size.is_some(),
-        20 => fields.grant_interval.is_some(),
-        21 => fields.grant_jitter.is_some(),
-        22 => fields.grants_per_interval.is_some(),
+        subtype::REFERENCE => fields.reference.is_some(),
+        subtype::SFID => fields.sfid.is_some(),
+        subtype::SID => fields.sid.is_some(),
+        subtype::CLASS_NAME => fields.class_name.is_some(),
+        subtype::ERRORED => fields.errored.is_some(),
+        subtype::SET_TYPE => fields.set_type.is_some(),
+        subtype::TRAFFIC_PRIORITY => fields.traffic_priority.is_some(),
+        subtype::MAX_SUSTAINED_RATE => fields.max_sustained_rate.is_some(),
+        subtype::MAX_BURST => fields.max_burst.is_some(),
+        subtype::MIN_RESERVED_RATE => fields.min_reserved_rate.is_some(),
+        subtype::SCHEDULING_TYPE => fields.scheduling_type.is_some(),
+        subtype::REQUEST_POLICY => fields.request_policy.is_some(),
+        subtype::POLLING_INTERVAL => fields.polling_interval.is_some(),
+        subtype::POLL_JITTER => fields.poll_jitter.is_some(),
+        subtype::GRANT_SIZE => fields.grant_size.is_some(),
+        subtype::GRANT_INTERVAL => fields.grant_interval.is_some(),
+        subtype::GRANT_JITTER => fields.grant_jitter.is_some(),
+        subtype::GRANTS_PER_INTERVAL => fields.grants_per_interval.is_some(),
         _ => false,
     }
 }
@@ -154,24 +166,24 @@ fn put(fields: &mut FlowFields, subtype: u8, value: &[u8])
         → States (before ++ tlv subtype value.now ∷ []) fields.new }
 {
     match subtype {
-        1 => fields.reference = Some(word(value)),
-        2 => fields.sfid = Some(long(value)),
-        3 => fields.sid = Some(word(value) % 16384),
-        4 => fields.class_name = class_name(value),
-        5 => fields.errored = Some(errored(value)),
-        6 => fields.set_type = Some(byte_at(value, 0)),
-        7 => fields.traffic_priority = Some(byte_at(value, 0)),
-        8 => fields.max_sustained_rate = Some(long(value)),
-        9 => fields.max_burst = Some(long(value)),
-        10 => fields.min_reserved_rate = Some(long(value)),
-        15 => fields.scheduling_type = Some(byte_at(value, 0)),
-        16 => fields.request_policy = Some(long(value)),
-        17 => fields.polling_interval = Some(long(value)),
-        18 => fields.poll_jitter = Some(long(value)),
-        19 => fields.grant_size = Some(word(value)),
-        20 => fields.grant_interval = Some(long(value)),
-        21 => fields.grant_jitter = Some(long(value)),
-        22 => fields.grants_per_interval = Some(byte_at(value, 0)),
+        subtype::REFERENCE => fields.reference = Some(word(value)),
+        subtype::SFID => fields.sfid = Some(long(value)),
+        subtype::SID => fields.sid = Some(word(value) % 16384),
+        subtype::CLASS_NAME => fields.class_name = class_name(value),
+        subtype::ERRORED => fields.errored = Some(errored(value)),
+        subtype::SET_TYPE => fields.set_type = Some(byte_at(value, 0)),
+        subtype::TRAFFIC_PRIORITY => fields.traffic_priority = Some(byte_at(value, 0)),
+        subtype::MAX_SUSTAINED_RATE => fields.max_sustained_rate = Some(long(value)),
+        subtype::MAX_BURST => fields.max_burst = Some(long(value)),
+        subtype::MIN_RESERVED_RATE => fields.min_reserved_rate = Some(long(value)),
+        subtype::SCHEDULING_TYPE => fields.scheduling_type = Some(byte_at(value, 0)),
+        subtype::REQUEST_POLICY => fields.request_policy = Some(long(value)),
+        subtype::POLLING_INTERVAL => fields.polling_interval = Some(long(value)),
+        subtype::POLL_JITTER => fields.poll_jitter = Some(long(value)),
+        subtype::GRANT_SIZE => fields.grant_size = Some(word(value)),
+        subtype::GRANT_INTERVAL => fields.grant_interval = Some(long(value)),
+        subtype::GRANT_JITTER => fields.grant_jitter = Some(long(value)),
+        subtype::GRANTS_PER_INTERVAL => fields.grants_per_interval = Some(byte_at(value, 0)),
         _ => {}
     }
 }

@@ -11,6 +11,7 @@ ghost use Rattle.tlv24.specs.Spelling.{single, terminated, spelled_error, under,
 use crate::class_name::ClassName;
 use crate::fields::ErrorEncodings;
 use crate::flow::FlowTlv;
+use crate::subtype;
 use std::alloc::{AllocError, Global};
 
 /// Appends one TLV.
@@ -87,7 +88,18 @@ fn put_errored(
     ensures { OnOk result (out.new.items ≡ out.old.items ++ spelled (under subtype (option_map spelled_error value))) }
 {
     match value {
-        Some(e) => put_tlv(out, subtype, &[1, 1, e.errored_parameter, 2, 1, e.code]),
+        Some(e) => put_tlv(
+            out,
+            subtype,
+            &[
+                subtype::ERRORED_PARAMETER,
+                1,
+                e.errored_parameter,
+                subtype::ERROR_CODE,
+                1,
+                e.code,
+            ],
+        ),
         None => Ok(()),
     }
 }
@@ -102,23 +114,35 @@ pub fn write_flow(alloc: Global, flow: &FlowTlv) -> Result<Vec<u8>, AllocError>
 {
     let fields = flow.get_fields();
     let mut out = Vec::new(alloc);
-    put_word(&mut out, 1, fields.reference)?;
-    put_long(&mut out, 2, fields.sfid)?;
-    put_word(&mut out, 3, fields.sid)?;
-    put_class_name(&mut out, 4, fields.class_name)?;
-    put_errored(&mut out, 5, fields.errored)?;
-    put_byte(&mut out, 6, fields.set_type)?;
-    put_byte(&mut out, 7, fields.traffic_priority)?;
-    put_long(&mut out, 8, fields.max_sustained_rate)?;
-    put_long(&mut out, 9, fields.max_burst)?;
-    put_long(&mut out, 10, fields.min_reserved_rate)?;
-    put_byte(&mut out, 15, fields.scheduling_type)?;
-    put_long(&mut out, 16, fields.request_policy)?;
-    put_long(&mut out, 17, fields.polling_interval)?;
-    put_long(&mut out, 18, fields.poll_jitter)?;
-    put_word(&mut out, 19, fields.grant_size)?;
-    put_long(&mut out, 20, fields.grant_interval)?;
-    put_long(&mut out, 21, fields.grant_jitter)?;
-    put_byte(&mut out, 22, fields.grants_per_interval)?;
+    put_word(&mut out, subtype::REFERENCE, fields.reference)?;
+    put_long(&mut out, subtype::SFID, fields.sfid)?;
+    put_word(&mut out, subtype::SID, fields.sid)?;
+    put_class_name(&mut out, subtype::CLASS_NAME, fields.class_name)?;
+    put_errored(&mut out, subtype::ERRORED, fields.errored)?;
+    put_byte(&mut out, subtype::SET_TYPE, fields.set_type)?;
+    put_byte(&mut out, subtype::TRAFFIC_PRIORITY, fields.traffic_priority)?;
+    put_long(
+        &mut out,
+        subtype::MAX_SUSTAINED_RATE,
+        fields.max_sustained_rate,
+    )?;
+    put_long(&mut out, subtype::MAX_BURST, fields.max_burst)?;
+    put_long(
+        &mut out,
+        subtype::MIN_RESERVED_RATE,
+        fields.min_reserved_rate,
+    )?;
+    put_byte(&mut out, subtype::SCHEDULING_TYPE, fields.scheduling_type)?;
+    put_long(&mut out, subtype::REQUEST_POLICY, fields.request_policy)?;
+    put_long(&mut out, subtype::POLLING_INTERVAL, fields.polling_interval)?;
+    put_long(&mut out, subtype::POLL_JITTER, fields.poll_jitter)?;
+    put_word(&mut out, subtype::GRANT_SIZE, fields.grant_size)?;
+    put_long(&mut out, subtype::GRANT_INTERVAL, fields.grant_interval)?;
+    put_long(&mut out, subtype::GRANT_JITTER, fields.grant_jitter)?;
+    put_byte(
+        &mut out,
+        subtype::GRANTS_PER_INTERVAL,
+        fields.grants_per_interval,
+    )?;
     Ok(out)
 }
