@@ -1,4 +1,6 @@
 pub mod Code
+pub mod MessageType
+pub mod TlvType
 pub mod WellFormed
 pub mod Spelling
 pub mod Reading

@@ -16,6 +16,8 @@ use Rattle.dsx_messages.specs.declared.message.Message.{Message}
 use Rattle.dsx_messages.specs.declared.message.Message.TheVariants as messages
 use Rattle.dsx_messages.specs.declared.fault.MessageFault.{MessageFault}
 use Rattle.dsx_messages.specs.declared.fault.MessageFault.TheVariants as faults
+use Rattle.dsx_messages.specs.MessageType.{dsa_req, dsa_ack, dsc_req, dsc_ack, dsd_req}
+use Rattle.dsx_messages.specs.TlvType.{upstream_service_flow}
 use Rattle.dsx_messages.specs.Reading.{is_left_out, id_of}
 
 -- the bytes begin with a message type and a transaction ID, and the body follows
@@ -36,7 +38,7 @@ pub record SaysFlows (list : List ℕ) (flows : List FlowFields) : Type 0 where
   pub tlvs : List Tlv
   pub spelling : IsTlvList list tlvs
   pub none_left_out : find is_left_out tlvs ≡ None
-  pub said : AreSaid (values_of 24 tlvs) flows
+  pub said : AreSaid (values_of upstream_service_flow tlvs) flows
 
 -- two reserved bytes and an SFID; what follows is not read
 pub record SaysSfid (body : List ℕ) (sfid : ℕ) : Type 0 where
@@ -50,34 +52,34 @@ pub record SaysSfid (body : List ℕ) (sfid : ℕ) : Type 0 where
 
 -- What a message says, by its type byte.
 abbrev pub Says : List ℕ → Message → Type 0
-Says bytes (messages.Request (requests.Dsa tid flows)) = (list : List ℕ) × IsHeaded bytes 15 tid list × SaysFlows list flows
-Says bytes (messages.Request (requests.Dsc tid flows)) = (list : List ℕ) × IsHeaded bytes 18 tid list × SaysFlows list flows
-Says bytes (messages.Request (requests.Dsd tid sfid)) = (body : List ℕ) × IsHeaded bytes 21 tid body × SaysSfid body sfid
-Says bytes (messages.Ack Dsa tid code) = (more : List ℕ) × IsHeaded bytes 17 tid (code ∷ more)
-Says bytes (messages.Ack Dsc tid code) = (more : List ℕ) × IsHeaded bytes 20 tid (code ∷ more)
+Says bytes (messages.Request (requests.Dsa tid flows)) = (list : List ℕ) × IsHeaded bytes dsa_req tid list × SaysFlows list flows
+Says bytes (messages.Request (requests.Dsc tid flows)) = (list : List ℕ) × IsHeaded bytes dsc_req tid list × SaysFlows list flows
+Says bytes (messages.Request (requests.Dsd tid sfid)) = (body : List ℕ) × IsHeaded bytes dsd_req tid body × SaysSfid body sfid
+Says bytes (messages.Ack Dsa tid code) = (more : List ℕ) × IsHeaded bytes dsa_ack tid (code ∷ more)
+Says bytes (messages.Ack Dsc tid code) = (more : List ℕ) × IsHeaded bytes dsc_ack tid (code ∷ more)
 Says bytes (messages.Ack Dsd tid code) = ⊥
 
 -- the type byte of a request that carries flow encodings
 abbrev pub HasType : Kind → ℕ → Type 0
-HasType Dsa mtype = mtype ≡ 15
-HasType Dsc mtype = mtype ≡ 18
+HasType Dsa mtype = mtype ≡ dsa_req
+HasType Dsc mtype = mtype ≡ dsc_req
 HasType Dsd mtype = ⊥
 
 -- how many bytes follow the type byte of a message of ours at least
 pub record IsShortBody (mtype : ℕ) (body : List ℕ) : Type 0 where
-  pub addition : mtype ≡ 15 → length body < 2
-  pub addition_ack : mtype ≡ 17 → length body < 3
-  pub change : mtype ≡ 18 → length body < 2
-  pub change_ack : mtype ≡ 20 → length body < 3
-  pub deletion : mtype ≡ 21 → length body < 8
+  pub addition : mtype ≡ dsa_req → length body < 2
+  pub addition_ack : mtype ≡ dsa_ack → length body < 3
+  pub change : mtype ≡ dsc_req → length body < 2
+  pub change_ack : mtype ≡ dsc_ack → length body < 3
+  pub deletion : mtype ≡ dsd_req → length body < 8
 
 -- a message type that is none of ours
 pub record IsForeign (mtype : ℕ) : Type 0 where
-  pub addition : mtype ≢ 15
-  pub addition_ack : mtype ≢ 17
-  pub change : mtype ≢ 18
-  pub change_ack : mtype ≢ 20
-  pub deletion : mtype ≢ 21
+  pub addition : mtype ≢ dsa_req
+  pub addition_ack : mtype ≢ dsa_ack
+  pub change : mtype ≢ dsc_req
+  pub change_ack : mtype ≢ dsc_ack
+  pub deletion : mtype ≢ dsd_req
 
 -- a request with flow encodings has this type, transaction ID and list
 pub record IsRequest (bytes : List ℕ) (tid : ℕ) (kind : Kind) (list : List ℕ) : Type 0 where
@@ -100,7 +102,7 @@ pub record IsFaultyFlow (list : List ℕ) (kind : Kind) (id : Option FlowId) (fa
   pub before : List (List ℕ)
   pub value : List ℕ
   pub after : List (List ℕ)
-  pub values : values_of 24 tlvs ≡ before ++ value ∷ after
+  pub values : values_of upstream_service_flow tlvs ≡ before ++ value ∷ after
   pub flows : List FlowFields
   pub said : AreSaid before flows
   pub told : FlowFault

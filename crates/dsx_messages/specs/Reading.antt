@@ -8,6 +8,8 @@ use Rattle.tlv24.specs.declared.fields.FlowFields.{FlowFields}
 use Rattle.tlv24.specs.declared.fault.FlowFault.{FlowFault}
 use Rattle.tlv24.specs.Tlv.{Front, front_of}
 use Rattle.tlv24.specs.Flow.{word, long, values_of, flow_of}
+use Rattle.dsx_messages.specs.MessageType.{dsa_req, dsa_ack, dsc_req, dsc_ack, dsd_req}
+use Rattle.dsx_messages.specs.TlvType.{upstream_classifier, downstream_classifier, upstream_service_flow, downstream_service_flow, payload_header_suppression}
 use Rattle.dsx_messages.specs.declared.kind.Kind.{Kind}
 use Rattle.dsx_messages.specs.declared.kind.Kind.TheVariants.{Dsa, Dsc, Dsd}
 use Rattle.dsx_messages.specs.declared.reply.FlowId.{FlowId}
@@ -32,9 +34,11 @@ abbrev pub Gives : {X Y : Type 0} → (X → Y) → Result X MessageFault → Re
 Gives view (Ok x) read = read ≡ Ok (view x)
 Gives view (Err fault) read = Fails fault read
 
--- classifiers (22, 23), downstream flows (25) and payload header suppression (26) are left out of this product
+-- classifiers, downstream flows and payload header suppression are left out of this product
 abbrev pub is_left_out : Tlv → Bool
-is_left_out t = (t.kind == 22) || (t.kind == 23) || (t.kind == 25) || (t.kind == 26)
+is_left_out t =
+    (t.kind == upstream_classifier) || (t.kind == downstream_classifier) || (t.kind == downstream_service_flow) ||
+    (t.kind == payload_header_suppression)
 
 -- the identifier of an encoding: a reference in an addition, an SFID in a change
 abbrev pub id_of : Kind → FlowFault → Option FlowId
@@ -65,7 +69,7 @@ left_out_in tlvs = option_map (λ t. t.kind) (find is_left_out tlvs)
 
 abbrev pub flows_in_front : ℕ → Kind → List ℕ → Front → Result (List FlowFields) MessageFault
 flows_in_front tid kind list front =
-    if length front.rest == 0 then flows_unless tid kind (left_out_in front.tlvs) (values_of 24 front.tlvs)
+    if length front.rest == 0 then flows_unless tid kind (left_out_in front.tlvs) (values_of upstream_service_flow front.tlvs)
     else Err (faults.Tlv tid kind None (Cut (length list - length front.rest)))
 
 unfoldable pub flows_in : ℕ → Kind → List ℕ → Result (List FlowFields) MessageFault
@@ -93,25 +97,25 @@ ack_of kind body = Err faults.Short
 unfoldable pub message_of : List ℕ → Result Message MessageFault
 message_of [] = Err faults.Empty
 message_of (mtype ∷ body) =
-    if mtype == 15 then addition_of body else
-    if mtype == 17 then ack_of Dsa body else
-    if mtype == 18 then change_of body else
-    if mtype == 20 then ack_of Dsc body else
-    if mtype == 21 then deletion_of body else
+    if mtype == dsa_req then addition_of body else
+    if mtype == dsa_ack then ack_of Dsa body else
+    if mtype == dsc_req then change_of body else
+    if mtype == dsc_ack then ack_of Dsc body else
+    if mtype == dsd_req then deletion_of body else
     Err (faults.NotOurs mtype)
 
 -- a whole list of TLVs of which none is left out and some are flow encodings (type 24)
 pub record HoldsFlows (list : List ℕ) : Type 0 where
   pub whole : length (front_of list).rest ≡ 0
   pub none_left_out : left_out_in (front_of list).tlvs ≡ None
-  pub some : values_of 24 (front_of list).tlvs ≢ []
+  pub some : values_of upstream_service_flow (front_of list).tlvs ≢ []
 
 -- such a list behind a transaction ID
 abbrev pub HoldsFlowsBehindTid : List ℕ → Type 0
 HoldsFlowsBehindTid (high ∷ low ∷ list) = HoldsFlows list
 HoldsFlowsBehindTid body = ⊥
 
--- a DSA-REQ (15) or DSC-REQ (18) with such a list: all that reading takes memory for
+-- a DSA-REQ or DSC-REQ with such a list: all that reading takes memory for
 abbrev pub BringsFlows : List ℕ → Type 0
-BringsFlows (mtype ∷ body) = ((mtype ≡ 15) ⊎ (mtype ≡ 18)) × HoldsFlowsBehindTid body
+BringsFlows (mtype ∷ body) = ((mtype ≡ dsa_req) ⊎ (mtype ≡ dsc_req)) × HoldsFlowsBehindTid body
 BringsFlows [] = ⊥

@@ -1,6 +1,7 @@
 -- The one spelling of each reply (own layout).
 use Rattle.std.specs.Prelude.{ℕ, List, [], ◌∷◌, ◌++◌, Option, Some, None}
 use Rattle.std.specs.Int.{w16, w32, to_be_bytes}
+use Rattle.tlv24.specs.Subtype.{reference_subtype, sfid_subtype, sid_subtype, errored_subtype, errored_parameter_subtype, error_code_subtype}
 use Rattle.tlv24.specs.Tlv.{tlv, spelled}
 use Rattle.tlv24.specs.declared.tlv.Tlv.{Tlv}
 use Rattle.dsx_messages.specs.declared.kind.Kind.{Kind}
@@ -12,39 +13,43 @@ use Rattle.dsx_messages.specs.declared.reply.Detail.{Detail}
 use Rattle.dsx_messages.specs.declared.reply.Detail.TheVariants.{Nothing, Given, Errored}
 use Rattle.dsx_messages.specs.declared.reply.ReplyFields.{ReplyFields}
 use Rattle.dsx_messages.specs.Code.{number_of}
+use Rattle.dsx_messages.specs.MessageType.{dsa_rsp, dsc_rsp, dsd_rsp}
+use Rattle.dsx_messages.specs.TlvType.{upstream_service_flow}
 
 -- the message type of a response
 abbrev pub response_type : Kind → ℕ
-response_type Dsa = 16
-response_type Dsc = 19
-response_type Dsd = 22
+response_type Dsa = dsa_rsp
+response_type Dsc = dsc_rsp
+response_type Dsd = dsd_rsp
 
 abbrev pub reference_tlv : Option ℕ → List Tlv
 reference_tlv None = []
-reference_tlv (Some reference) = tlv 1 (to_be_bytes w16 reference) ∷ []
+reference_tlv (Some reference) = tlv reference_subtype (to_be_bytes w16 reference) ∷ []
 
 abbrev pub sid_tlv : Option ℕ → List Tlv
 sid_tlv None = []
-sid_tlv (Some sid) = tlv 3 (to_be_bytes w16 sid) ∷ []
+sid_tlv (Some sid) = tlv sid_subtype (to_be_bytes w16 sid) ∷ []
 
 abbrev pub id_tlv : Option FlowId → List Tlv
 id_tlv None = []
-id_tlv (Some (Reference reference)) = tlv 1 (to_be_bytes w16 reference) ∷ []
-id_tlv (Some (Sfid sfid)) = tlv 2 (to_be_bytes w32 sfid) ∷ []
+id_tlv (Some (Reference reference)) = tlv reference_subtype (to_be_bytes w16 reference) ∷ []
+id_tlv (Some (Sfid sfid)) = tlv sfid_subtype (to_be_bytes w32 sfid) ∷ []
 
 -- what stands under type 24: the flow that was added or changed
 abbrev pub given_tlvs : Option ℕ → ℕ → Option ℕ → List Tlv
-given_tlvs reference sfid sid = reference_tlv reference ++ tlv 2 (to_be_bytes w32 sfid) ∷ sid_tlv sid
+given_tlvs reference sfid sid = reference_tlv reference ++ tlv sfid_subtype (to_be_bytes w32 sfid) ∷ sid_tlv sid
 
 -- or the encoding at fault, and its error encodings: the subtype, and the reply's code again
 abbrev pub errored_tlvs : Code → Option FlowId → ℕ → List Tlv
-errored_tlvs code id subtype = id_tlv id ++ tlv 5 (spelled (tlv 1 (subtype ∷ []) ∷ tlv 2 (number_of code ∷ []) ∷ [])) ∷ []
+errored_tlvs code id subtype =
+    id_tlv id ++
+    tlv errored_subtype (spelled (tlv errored_parameter_subtype (subtype ∷ []) ∷ tlv error_code_subtype (number_of code ∷ []) ∷ [])) ∷ []
 
 -- the TLVs of a response: one type 24, or nothing
 abbrev pub tlvs_in : Code → Detail → List Tlv
 tlvs_in code Nothing = []
-tlvs_in code (Given reference sfid sid) = tlv 24 (spelled (given_tlvs reference sfid sid)) ∷ []
-tlvs_in code (Errored id subtype) = tlv 24 (spelled (errored_tlvs code id subtype)) ∷ []
+tlvs_in code (Given reference sfid sid) = tlv upstream_service_flow (spelled (given_tlvs reference sfid sid)) ∷ []
+tlvs_in code (Errored id subtype) = tlv upstream_service_flow (spelled (errored_tlvs code id subtype)) ∷ []
 
 -- what follows the confirmation code: a deletion has a reserved byte, which is 0
 abbrev pub tail_of : Kind → Code → Detail → List ℕ

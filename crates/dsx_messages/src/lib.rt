@@ -7,11 +7,13 @@ mod fault;
 mod kind;
 mod laws;
 mod message;
+pub mod message_type;
 mod modem;
 mod reading;
 mod reply;
 mod reply_reading;
 mod spell;
+pub mod tlv_type;
 
 pub use code::Code;
 pub use fault::MessageFault;

@@ -3,6 +3,7 @@
 ghost use Rattle.std.specs.Prelude.{◌≡◌, ◌≢◌, ◌==◌, ◌||◌, ℕ, List, [], length, Option, Some, None, Result, Ok, Err, IfOk, IfErr, MatchResult};
 ghost use Rattle.tlv24.specs.Tlv.{front_of};
 ghost use Rattle.tlv24.specs.Flow.{word, long, values_of};
+ghost use Rattle.dsx_messages.specs.TlvType.{upstream_service_flow};
 ghost use Rattle.dsx_messages.specs.Reading.{id_of, Gives, Fails, flow_in, flows_after, flows_in, addition_of, change_of, deletion_of, ack_of, message_of, HoldsFlows, HoldsFlowsBehindTid, BringsFlows};
 ghost use Rattle.dsx_messages.specs.Survey.{left_out_kind, first_some, flow_count, IsSurveyed, IsCutSurvey};
 ghost use Rattle.dsx_messages.specs.Message.{Says, IsFirstMessageFault};
@@ -13,6 +14,7 @@ use crate::fault::MessageFault;
 use crate::kind::Kind;
 use crate::message::{Flows, Message, Request};
 use crate::reply::FlowId;
+use crate::{message_type, tlv_type};
 use std::alloc::Global;
 use tlv24::{FlowFault, FlowTlv, TlvFault, first_tlv, read_flow};
 
@@ -26,7 +28,13 @@ struct Survey {
 fn left_out_kind(kind: u8) -> Option<u8>
     ensures { result ≡ left_out_kind kind }
 {
-    if matches!(kind, 22 | 23 | 25 | 26) {
+    if matches!(
+        kind,
+        tlv_type::UPSTREAM_CLASSIFIER
+            | tlv_type::DOWNSTREAM_CLASSIFIER
+            | tlv_type::DOWNSTREAM_SERVICE_FLOW
+            | tlv_type::PAYLOAD_HEADER_SUPPRESSION
+    ) {
         Some(kind)
     } else {
         None
@@ -47,7 +55,11 @@ fn first_some(first: Option<u8>, second: Option<u8>) -> Option<u8>
 fn flow_count(kind: u8) -> usize
     ensures { result ≡ flow_count kind }
 {
-    if kind == 24 { 1 } else { 0 }
+    if kind == tlv_type::UPSTREAM_SERVICE_FLOW {
+        1
+    } else {
+        0
+    }
 }
 
 /// Goes over the TLVs by their lengths; where they are cut, answers the place.
@@ -104,12 +116,13 @@ fn flows_of(
     list: &[u8],
     count: usize,
 ) -> Result<Vec<FlowTlv>, MessageFault>
-    ensures { Gives (λ flows. flows.items) result (flows_after tid kind [] (values_of 24 (front_of list.now).tlvs)) }
+    ensures { Gives (λ flows. flows.items) result (flows_after tid kind []
+        (values_of upstream_service_flow (front_of list.now).tlvs)) }
 {
     let mut flows = Vec::with_capacity(alloc, count)?;
     let mut rest = list;
     while let Some(first) = first_tlv(rest) {
-        if first.kind == 24 {
+        if first.kind == tlv_type::UPSTREAM_SERVICE_FLOW {
             let flow = flow_in(tid, kind, first.value)?;
             flows.push(flow)?;
         }
@@ -212,11 +225,11 @@ fn message_of(alloc: Global, bytes: &[u8]) -> Result<Message, MessageFault>
         return Err(MessageFault::Empty);
     };
     match *mtype {
-        15 => addition_of(alloc, body),
-        17 => ack_of(Kind::Dsa, body),
-        18 => change_of(alloc, body),
-        20 => ack_of(Kind::Dsc, body),
-        21 => deletion_of(body),
+        message_type::DSA_REQ => addition_of(alloc, body),
+        message_type::DSA_ACK => ack_of(Kind::Dsa, body),
+        message_type::DSC_REQ => change_of(alloc, body),
+        message_type::DSC_ACK => ack_of(Kind::Dsc, body),
+        message_type::DSD_REQ => deletion_of(body),
         mtype => Err(MessageFault::NotOurs { mtype }),
     }
 }

@@ -19,7 +19,9 @@ use crate::code::Code;
 use crate::kind::Kind;
 use crate::reply::{Detail, FlowId, Reply, ReplyFields};
 use crate::spell::write_reply;
+use crate::{message_type, tlv_type};
 use std::alloc::{AllocError, Global};
+use tlv24::subtype;
 
 /// What a response answers to, by its message type.
 fn kind_of(mtype: u8) -> Option<Kind>
@@ -27,9 +29,9 @@ fn kind_of(mtype: u8) -> Option<Kind>
     ensures every { (kind : Kind) → response_type kind ≡ mtype → result ≡ Some kind }
 {
     match mtype {
-        16 => Some(Kind::Dsa),
-        19 => Some(Kind::Dsc),
-        22 => Some(Kind::Dsd),
+        message_type::DSA_RSP => Some(Kind::Dsa),
+        message_type::DSC_RSP => Some(Kind::Dsc),
+        message_type::DSD_RSP => Some(Kind::Dsd),
         _ => None,
     }
 }
@@ -42,7 +44,24 @@ fn added(tail: &[u8]) -> Option<(u16, u32, u16)>
         → result ≡ Some (reference, sfid, sid) }
 {
     match tail {
-        [24, 14, 1, 2, rh, rl, 2, 4, a, b, c, d, 3, 2, sh, sl] => Some((
+        [
+            tlv_type::UPSTREAM_SERVICE_FLOW,
+            14,
+            subtype::REFERENCE,
+            2,
+            rh,
+            rl,
+            subtype::SFID,
+            4,
+            a,
+            b,
+            c,
+            d,
+            subtype::SID,
+            2,
+            sh,
+            sl,
+        ] => Some((
             u16::from_be_bytes([*rh, *rl]),
             u32::from_be_bytes([*a, *b, *c, *d]),
             u16::from_be_bytes([*sh, *sl]),
@@ -58,7 +77,16 @@ fn changed(tail: &[u8]) -> Option<u32>
         → result ≡ Some sfid }
 {
     match tail {
-        [24, 6, 2, 4, a, b, c, d] => Some(u32::from_be_bytes([*a, *b, *c, *d])),
+        [
+            tlv_type::UPSTREAM_SERVICE_FLOW,
+            6,
+            subtype::SFID,
+            4,
+            a,
+            b,
+            c,
+            d,
+        ] => Some(u32::from_be_bytes([*a, *b, *c, *d])),
         _ => None,
     }
 }
@@ -70,7 +98,20 @@ fn changed_with_sid(tail: &[u8]) -> Option<(u32, u16)>
         → tail.now ≡ tail_of Dsc Okay (Given None sfid (Some sid)) → result ≡ Some (sfid, sid) }
 {
     match tail {
-        [24, 10, 2, 4, a, b, c, d, 3, 2, sh, sl] => Some((
+        [
+            tlv_type::UPSTREAM_SERVICE_FLOW,
+            10,
+            subtype::SFID,
+            4,
+            a,
+            b,
+            c,
+            d,
+            subtype::SID,
+            2,
+            sh,
+            sl,
+        ] => Some((
             u32::from_be_bytes([*a, *b, *c, *d]),
             u16::from_be_bytes([*sh, *sl]),
         )),
@@ -83,7 +124,19 @@ fn errored(code: Code, tail: &[u8]) -> Option<u8>
     ensures spelled { IfSome result (λ subtype. tail.now ≡ spelled (tlvs_in code (Errored None subtype))) }
     ensures every { (subtype : ℕ) → tail.now ≡ spelled (tlvs_in code (Errored None subtype)) → result ≡ Some subtype }
 {
-    let [24, 8, 5, 6, 1, 1, subtype, 2, 1, number] = tail else {
+    let [
+        tlv_type::UPSTREAM_SERVICE_FLOW,
+        8,
+        subtype::ERRORED,
+        6,
+        subtype::ERRORED_PARAMETER,
+        1,
+        subtype,
+        subtype::ERROR_CODE,
+        1,
+        number,
+    ] = tail
+    else {
         return None;
     };
     if *number == code.number() {
@@ -100,7 +153,23 @@ fn errored_reference(code: Code, tail: &[u8]) -> Option<(u16, u8)>
         → tail.now ≡ spelled (tlvs_in code (Errored (Some (Reference reference)) subtype))
         → result ≡ Some (reference, subtype) }
 {
-    let [24, 12, 1, 2, high, low, 5, 6, 1, 1, subtype, 2, 1, number] = tail else {
+    let [
+        tlv_type::UPSTREAM_SERVICE_FLOW,
+        12,
+        subtype::REFERENCE,
+        2,
+        high,
+        low,
+        subtype::ERRORED,
+        6,
+        subtype::ERRORED_PARAMETER,
+        1,
+        subtype,
+        subtype::ERROR_CODE,
+        1,
+        number,
+    ] = tail
+    else {
         return None;
     };
     if *number == code.number() {
@@ -116,7 +185,25 @@ fn errored_sfid(code: Code, tail: &[u8]) -> Option<(u32, u8)>
     ensures every { (sfid subtype : ℕ) → sfid < 2 ^ 32
         → tail.now ≡ spelled (tlvs_in code (Errored (Some (Sfid sfid)) subtype)) → result ≡ Some (sfid, subtype) }
 {
-    let [24, 14, 2, 4, a, b, c, d, 5, 6, 1, 1, subtype, 2, 1, number] = tail else {
+    let [
+        tlv_type::UPSTREAM_SERVICE_FLOW,
+        14,
+        subtype::SFID,
+        4,
+        a,
+        b,
+        c,
+        d,
+        subtype::ERRORED,
+        6,
+        subtype::ERRORED_PARAMETER,
+        1,
+        subtype,
+        subtype::ERROR_CODE,
+        1,
+        number,
+    ] = tail
+    else {
         return None;
     };
     if *number == code.number() {

@@ -4,12 +4,15 @@ ghost use Rattle.std.specs.Prelude.{◌≡◌, ℕ, ◌<◌, ◌+◌, ◌^◌, [
 ghost use Rattle.std.specs.Int.{w16, w32, to_be_bytes};
 ghost use Rattle.tlv24.specs.Tlv.{tlv, spelled, spelled_one};
 ghost use Rattle.dsx_messages.specs.Code.{number_of};
+ghost use Rattle.dsx_messages.specs.TlvType.{upstream_service_flow};
 ghost use Rattle.dsx_messages.specs.Spelling.{response_type, reference_tlv, sid_tlv, id_tlv, given_tlvs, errored_tlvs, tlvs_in, tail_of, spell_reply};
 
 use crate::code::Code;
 use crate::kind::Kind;
 use crate::reply::{Detail, FlowId, Reply};
+use crate::{message_type, tlv_type};
 use std::alloc::{AllocError, Global};
+use tlv24::subtype;
 
 /// The most bytes that a reply has.
 const LONGEST: usize = 20;
@@ -18,9 +21,9 @@ fn response_type(kind: Kind) -> u8
     ensures { result ≡ response_type kind }
 {
     match kind {
-        Kind::Dsa => 16,
-        Kind::Dsc => 19,
-        Kind::Dsd => 22,
+        Kind::Dsa => message_type::DSA_RSP,
+        Kind::Dsc => message_type::DSC_RSP,
+        Kind::Dsd => message_type::DSD_RSP,
     }
 }
 
@@ -45,7 +48,7 @@ fn put_reference(out: &mut Vec<u8>, reference: Option<u16>) -> Result<(), AllocE
 {
     match reference {
         None => Ok(()),
-        Some(reference) => put_word(out, 1, reference),
+        Some(reference) => put_word(out, subtype::REFERENCE, reference),
     }
 }
 
@@ -54,7 +57,7 @@ fn put_sid(out: &mut Vec<u8>, sid: Option<u16>) -> Result<(), AllocError>
 {
     match sid {
         None => Ok(()),
-        Some(sid) => put_word(out, 3, sid),
+        Some(sid) => put_word(out, subtype::SID, sid),
     }
 }
 
@@ -63,8 +66,8 @@ fn put_id(out: &mut Vec<u8>, id: Option<FlowId>) -> Result<(), AllocError>
 {
     match id {
         None => Ok(()),
-        Some(FlowId::Reference(reference)) => put_word(out, 1, reference),
-        Some(FlowId::Sfid(sfid)) => put_long(out, 2, sfid),
+        Some(FlowId::Reference(reference)) => put_word(out, subtype::REFERENCE, reference),
+        Some(FlowId::Sfid(sfid)) => put_long(out, subtype::SFID, sfid),
     }
 }
 
@@ -98,12 +101,12 @@ fn put_given(
     sid: Option<u16>,
 ) -> Result<(), AllocError>
     ensures { OnOk result (out.new.items ≡ out.old.items
-        ++ spelled (tlv 24 (spelled (given_tlvs reference sfid sid)) ∷ [])) }
+        ++ spelled (tlv upstream_service_flow (spelled (given_tlvs reference sfid sid)) ∷ [])) }
 {
     let count = word_len(reference) + 6 + word_len(sid);
-    out.extend_from_slice(&[24, count])?;
+    out.extend_from_slice(&[tlv_type::UPSTREAM_SERVICE_FLOW, count])?;
     put_reference(out, reference)?;
-    put_long(out, 2, sfid)?;
+    put_long(out, subtype::SFID, sfid)?;
     put_sid(out, sid)
 }
 
@@ -115,12 +118,21 @@ fn put_errored(
     subtype: u8,
 ) -> Result<(), AllocError>
     ensures { OnOk result (out.new.items ≡ out.old.items
-        ++ spelled (tlv 24 (spelled (errored_tlvs code id subtype)) ∷ [])) }
+        ++ spelled (tlv upstream_service_flow (spelled (errored_tlvs code id subtype)) ∷ [])) }
 {
     let count = id_len(id) + 8;
-    out.extend_from_slice(&[24, count])?;
+    out.extend_from_slice(&[tlv_type::UPSTREAM_SERVICE_FLOW, count])?;
     put_id(out, id)?;
-    out.extend_from_slice(&[5, 6, 1, 1, subtype, 2, 1, code.number()])
+    out.extend_from_slice(&[
+        subtype::ERRORED,
+        6,
+        subtype::ERRORED_PARAMETER,
+        1,
+        subtype,
+        subtype::ERROR_CODE,
+        1,
+        code.number(),
+    ])
 }
 
 fn put_detail(out: &mut Vec<u8>, code: Code, detail: Detail) -> Result<(), AllocError>
