@@ -1,6 +1,7 @@
--- What a refusal says: 15 is named where the kind is unknown, and a missing subtype where it is required.
+-- What a refusal says: the scheduling type is named where the kind is unknown, and a missing subtype where it is required.
 use Rattle.std.proofs.Common.{◌≡◌, ℕ, Bool, true, false, List, [], ◌∷◌, refl, ◌∙◌, ap, arith}
 use Rattle.std.specs.Prelude.{Option, Some, None, Result, Ok, Err, ◌↔◌}
+use Rattle.tlv24.specs.Subtype.{scheduling_type_subtype}
 use Rattle.tlv24.specs.declared.fields.FlowFields.{FlowFields}
 use Rattle.dsx_messages.specs.declared.code.Code.{Code}
 use Rattle.dsx_messages.specs.declared.code.Code.TheVariants.{RejectRequiredParameterNotPresent, RejectInvalidForContext}
@@ -30,7 +31,7 @@ not_named number [] others same = cc
 not_named number (row ∷ rows) others same = not_first row.0 row.1 number rows others.0 (not_named number rows others.1) same
 
 -- no test of a set is of its kind
-others : (kind : Scheduling) (set : ParamFields) (units : UnitSizes) → NamesOthers 15 (invalids_of kind set units)
+others : (kind : Scheduling) (set : ParamFields) (units : UnitSizes) → NamesOthers scheduling_type_subtype (invalids_of kind set units)
 others BestEffort set units = tt
 others NonRealTimePolling set units = (λ e. omega arith, tt)
 others RealTimePolling set units = (λ e. omega arith, tt)
@@ -44,21 +45,21 @@ abbrev subtype_in : Result ParamFields Refusal → Option ℕ
 subtype_in (Ok set) = None
 subtype_in (Err refusal) = Some refusal.subtype
 
-known_is_not_unknown : (set : ParamFields) (missing invalid : Option ℕ) → (invalid ≡ Some 15 → ⊥)
-    → set_unless missing invalid set ≡ Err (record { code = RejectInvalidForContext; subtype = 15 }) → ⊥
+known_is_not_unknown : (set : ParamFields) (missing invalid : Option ℕ) → (invalid ≡ Some scheduling_type_subtype → ⊥)
+    → set_unless missing invalid set ≡ Err (record { code = RejectInvalidForContext; subtype = scheduling_type_subtype }) → ⊥
 known_is_not_unknown set (Some missing) invalid other same = cc (ap code_in same)
 known_is_not_unknown set None (Some invalid) other same = other (ap subtype_in same)
 known_is_not_unknown set None None other same = cc
 
 unknown_of_kind : (kind : Option Scheduling) (flow : FlowFields) (units : UnitSizes)
-    → set_of_kind kind flow units ≡ Err (record { code = RejectInvalidForContext; subtype = 15 }) → kind ≡ None
+    → set_of_kind kind flow units ≡ Err (record { code = RejectInvalidForContext; subtype = scheduling_type_subtype }) → kind ≡ None
 unknown_of_kind None flow units same = refl
 unknown_of_kind (Some kind) flow units same =
     absurd (known_is_not_unknown (kept_of kind flow) (missing_of kind flow) (invalid_of (kept_of kind flow) units)
-    (not_named 15 (invalids_of kind (kept_of kind flow) units) (others kind (kept_of kind flow) units)) same)
+    (not_named scheduling_type_subtype (invalids_of kind (kept_of kind flow) units) (others kind (kept_of kind flow) units)) same)
 
--- an unknown kind is refused, and 15 is named for nothing else
-pub is_unknown : (flow : FlowFields) (units : UnitSizes) → (parameter_set_of flow units ≡ Err (record { code = RejectInvalidForContext; subtype = 15 })) ↔ (scheduling_of flow.scheduling_type ≡ None)
+-- an unknown kind is refused, and the scheduling type is named for nothing else
+pub is_unknown : (flow : FlowFields) (units : UnitSizes) → (parameter_set_of flow units ≡ Err (record { code = RejectInvalidForContext; subtype = scheduling_type_subtype })) ↔ (scheduling_of flow.scheduling_type ≡ None)
 is_unknown flow units = (unknown_of_kind (scheduling_of flow.scheduling_type) flow units, λ none. ap (λ (o : Option Scheduling). set_of_kind o flow units) none)
 
 least_unless : (set : ParamFields) (missing invalid : Option ℕ) (subtype : ℕ)

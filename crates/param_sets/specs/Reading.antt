@@ -1,5 +1,6 @@
 -- The parameter set of a flow encoding (own).
 use Rattle.std.specs.Prelude.{ℕ, ◌==◌, ◌||◌, nat_lt, Bool, List, [], ◌∷◌, Option, Some, None, Result, Ok, Err}
+use Rattle.tlv24.specs.Subtype.{scheduling_type_subtype, polling_interval_subtype, grant_size_subtype, grant_interval_subtype, grants_per_interval_subtype}
 use Rattle.tlv24.specs.declared.fields.FlowFields.{FlowFields}
 use Rattle.dsx_messages.specs.declared.code.Code.TheVariants.{RejectRequiredParameterNotPresent, RejectInvalidForContext}
 use Rattle.param_sets.specs.FirstTrue.{first_true}
@@ -15,12 +16,12 @@ use Rattle.param_sets.specs.declared.refusal.Refusal.{Refusal}
 -- of 0, grants that are not 1 to 127
 abbrev pub invalids_of : Scheduling → ParamFields → UnitSizes → List (Bool × ℕ)
 invalids_of BestEffort set units = []
-invalids_of NonRealTimePolling set units = (frames_of set.polling_interval units == 0, 17) ∷ []
-invalids_of RealTimePolling set units = (frames_of set.polling_interval units == 0, 17) ∷ []
+invalids_of NonRealTimePolling set units = (frames_of set.polling_interval units == 0, polling_interval_subtype) ∷ []
+invalids_of RealTimePolling set units = (frames_of set.polling_interval units == 0, polling_interval_subtype) ∷ []
 invalids_of UnsolicitedGrant set units =
-    (set.grant_size == 0, 19) ∷
-    (frames_of set.grant_interval units == 0, 20) ∷
-    (set.grants_per_interval == 0 || nat_lt 127 set.grants_per_interval, 22) ∷ []
+    (set.grant_size == 0, grant_size_subtype) ∷
+    (frames_of set.grant_interval units == 0, grant_interval_subtype) ∷
+    (set.grants_per_interval == 0 || nat_lt 127 set.grants_per_interval, grants_per_interval_subtype) ∷ []
 
 -- the first subtype of a set that is out of its range
 abbrev pub invalid_of : ParamFields → UnitSizes → Option ℕ
@@ -34,7 +35,7 @@ set_unless None None set = Ok set
 
 -- the set of an encoding with this kind of scheduling
 abbrev pub set_of_kind : Option Scheduling → FlowFields → UnitSizes → Result ParamFields Refusal
-set_of_kind None flow units = Err (record { code = RejectInvalidForContext; subtype = 15 })
+set_of_kind None flow units = Err (record { code = RejectInvalidForContext; subtype = scheduling_type_subtype })
 set_of_kind (Some kind) flow units =
     set_unless (missing_of kind flow) (invalid_of (kept_of kind flow) units) (kept_of kind flow)
 

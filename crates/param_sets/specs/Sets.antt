@@ -1,5 +1,6 @@
 -- The sets of a flow, and what is refused (own).
 use Rattle.std.specs.Prelude.{ℕ, Option, Some, None, Result, Ok, Err}
+use Rattle.tlv24.specs.Subtype.{scheduling_type_subtype}
 use Rattle.dsx_messages.specs.declared.code.Code.{Code}
 use Rattle.dsx_messages.specs.declared.code.Code.TheVariants.{RejectAuthorizationFailure, RejectInvalidForContext}
 use Rattle.param_sets.specs.Within.{IsWithinOrNull, first_failing}
@@ -22,9 +23,9 @@ abbrev pub failing_in_provisioned : ParamFields → Option ParamFields → Optio
 failing_in_provisioned set None = None
 failing_in_provisioned set (Some provisioned) = first_failing set provisioned
 
--- the first subtype in which a set is not within the admitted one: 15 where none is admitted
+-- the first subtype in which a set is not within the admitted one: the scheduling type where none is admitted
 abbrev pub failing_in_admitted : ParamFields → Option ParamFields → Option ℕ
-failing_in_admitted set None = Some 15
+failing_in_admitted set None = Some scheduling_type_subtype
 failing_in_admitted set (Some admitted) = first_failing set admitted
 
 -- these sets, or a refusal with this code where a subtype fails

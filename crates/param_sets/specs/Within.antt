@@ -1,5 +1,6 @@
 -- When one parameter set is within another (own: the standard's subset relation covers all parameters).
 use Rattle.std.specs.Prelude.{◌≡◌, ℕ, ◌<◌, ◌≤◌, ◌==◌, ◌&&◌, ◌||◌, not, nat_lt, Bool, List, [], ◌∷◌, Option, Some, None}
+use Rattle.tlv24.specs.Subtype.{traffic_priority_subtype, max_sustained_rate_subtype, min_reserved_rate_subtype, scheduling_type_subtype, polling_interval_subtype, grant_size_subtype, grant_interval_subtype, grants_per_interval_subtype}
 use Rattle.param_sets.specs.FirstTrue.{first_true}
 use Rattle.param_sets.specs.Scheduling.{number_of}
 use Rattle.param_sets.specs.declared.param_set.ParamFields.{ParamFields}
@@ -31,14 +32,14 @@ is_greater_limit a b = not (b == 0) && (a == 0 || nat_lt b a)
 -- where a is not within b, test by test, each with its subtype
 abbrev pub failings_of : ParamFields → ParamFields → List (Bool × ℕ)
 failings_of a b =
-    (not (number_of a.scheduling == number_of b.scheduling), 15) ∷
-    (nat_lt b.priority a.priority, 7) ∷
-    (is_greater_limit a.max_sustained_rate b.max_sustained_rate, 8) ∷
-    (nat_lt b.min_reserved_rate a.min_reserved_rate, 10) ∷
-    (nat_lt a.polling_interval b.polling_interval, 17) ∷
-    (nat_lt b.grant_size a.grant_size, 19) ∷
-    (nat_lt a.grant_interval b.grant_interval, 20) ∷
-    (nat_lt b.grants_per_interval a.grants_per_interval, 22) ∷ []
+    (not (number_of a.scheduling == number_of b.scheduling), scheduling_type_subtype) ∷
+    (nat_lt b.priority a.priority, traffic_priority_subtype) ∷
+    (is_greater_limit a.max_sustained_rate b.max_sustained_rate, max_sustained_rate_subtype) ∷
+    (nat_lt b.min_reserved_rate a.min_reserved_rate, min_reserved_rate_subtype) ∷
+    (nat_lt a.polling_interval b.polling_interval, polling_interval_subtype) ∷
+    (nat_lt b.grant_size a.grant_size, grant_size_subtype) ∷
+    (nat_lt a.grant_interval b.grant_interval, grant_interval_subtype) ∷
+    (nat_lt b.grants_per_interval a.grants_per_interval, grants_per_interval_subtype) ∷ []
 
 -- the first subtype, in this order, in which a is not within b
 abbrev pub first_failing : ParamFields → ParamFields → Option ℕ

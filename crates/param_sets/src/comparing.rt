@@ -5,6 +5,7 @@ ghost use Rattle.param_sets.specs.Within.{IsWithin, first_failing, is_greater_li
 
 use crate::param_set::{ParamFields, ParamSet};
 use crate::refusal::first_true;
+use tlv24::subtype;
 
 /// Whether `a` asks for no more than `b` (own): of the same kind of scheduling (subtype 15), with no greater priority (7),
 /// maximum rate (8, in which 0 is no limit) and reserved rate (10), polls no closer (17), and unsolicited grants no greater
@@ -28,17 +29,26 @@ fn failing(a: &ParamFields, b: &ParamFields) -> Option<u8>
     ensures { result ≡ first_failing a.now b.now }
 {
     first_true(&[
-        (a.scheduling != b.scheduling, 15),
-        (a.priority > b.priority, 7),
+        (a.scheduling != b.scheduling, subtype::SCHEDULING_TYPE),
+        (a.priority > b.priority, subtype::TRAFFIC_PRIORITY),
         (
             is_greater_limit(a.max_sustained_rate, b.max_sustained_rate),
-            8,
+            subtype::MAX_SUSTAINED_RATE,
         ),
-        (a.min_reserved_rate > b.min_reserved_rate, 10),
-        (a.polling_interval < b.polling_interval, 17),
-        (a.grant_size > b.grant_size, 19),
-        (a.grant_interval < b.grant_interval, 20),
-        (a.grants_per_interval > b.grants_per_interval, 22),
+        (
+            a.min_reserved_rate > b.min_reserved_rate,
+            subtype::MIN_RESERVED_RATE,
+        ),
+        (
+            a.polling_interval < b.polling_interval,
+            subtype::POLLING_INTERVAL,
+        ),
+        (a.grant_size > b.grant_size, subtype::GRANT_SIZE),
+        (a.grant_interval < b.grant_interval, subtype::GRANT_INTERVAL),
+        (
+            a.grants_per_interval > b.grants_per_interval,
+            subtype::GRANTS_PER_INTERVAL,
+        ),
     ])
 }
 

@@ -1,6 +1,7 @@
 //! From the encoding of a flow to its parameter set.
 
 ghost use Rattle.std.specs.Prelude.{◌≡◌, ◌↔◌, ℕ, Ok, Err, None, IfOk};
+ghost use Rattle.tlv24.specs.Subtype.{scheduling_type_subtype};
 ghost use Rattle.dsx_messages.specs.declared.code.Code.TheVariants.{RejectRequiredParameterNotPresent, RejectInvalidForContext};
 ghost use Rattle.param_sets.specs.Scheduling.{scheduling_of};
 ghost use Rattle.param_sets.specs.Kept.{kept_of, missing_of};
@@ -13,7 +14,7 @@ use crate::refusal::{Refusal, first_true};
 use crate::scheduling::Scheduling;
 use crate::units::Units;
 use dsx_messages::Code;
-use tlv24::{FlowFields, FlowTlv};
+use tlv24::{FlowFields, FlowTlv, subtype};
 
 /// How often a flow is polled that is polled, but not in real time, and states no interval: microseconds.
 const POLLED_EACH: u32 = 1_000_000;
@@ -28,7 +29,7 @@ pub fn from_tlv(flow: &FlowTlv, units: &Units) -> Result<ParamSet, Refusal>
     ensures exact { result ≡ parameter_set_of flow.now units.now }
     ensures asked { IfOk result (AsksFor flow.now units.now) }
     ensures only { (set : ParamFields) → AsksFor flow.now units.now set → result ≡ Ok set }
-    ensures unknown { (result ≡ Err (record { code = RejectInvalidForContext; subtype = 15 }))
+    ensures unknown { (result ≡ Err (record { code = RejectInvalidForContext; subtype = scheduling_type_subtype }))
         ↔ (scheduling_of flow.now.scheduling_type ≡ None) }
     ensures missing { (subtype : ℕ)
         → (result ≡ Err (record { code = RejectRequiredParameterNotPresent; subtype = subtype }))
@@ -48,7 +49,7 @@ fn asked(stated: &FlowFields, units: &Units) -> Result<ParamFields, Refusal>
     let Some(scheduling) = Scheduling::stated(stated.scheduling_type) else {
         return Err(Refusal {
             code: Code::RejectInvalidForContext,
-            subtype: 15,
+            subtype: subtype::SCHEDULING_TYPE,
         });
     };
     if let Some(subtype) = missing(scheduling, stated) {
@@ -73,11 +74,17 @@ fn missing(scheduling: Scheduling, stated: &FlowFields) -> Option<u8>
 {
     match scheduling {
         Scheduling::BestEffort | Scheduling::NonRealTimePolling => None,
-        Scheduling::RealTimePolling => first_true(&[(stated.polling_interval.is_none(), 17)]),
+        Scheduling::RealTimePolling => first_true(&[(
+            stated.polling_interval.is_none(),
+            subtype::POLLING_INTERVAL,
+        )]),
         Scheduling::UnsolicitedGrant => first_true(&[
-            (stated.grant_size.is_none(), 19),
-            (stated.grant_interval.is_none(), 20),
-            (stated.grants_per_interval.is_none(), 22),
+            (stated.grant_size.is_none(), subtype::GRANT_SIZE),
+            (stated.grant_interval.is_none(), subtype::GRANT_INTERVAL),
+            (
+                stated.grants_per_interval.is_none(),
+                subtype::GRANTS_PER_INTERVAL,
+            ),
         ]),
     }
 }
@@ -134,14 +141,20 @@ fn invalid(fields: &ParamFields, units: &Units) -> Option<u8>
     match fields.scheduling {
         Scheduling::BestEffort => None,
         Scheduling::NonRealTimePolling | Scheduling::RealTimePolling => {
-            first_true(&[(units.frames(fields.polling_interval) == 0, 17)])
+            first_true(&[(
+                units.frames(fields.polling_interval) == 0,
+                subtype::POLLING_INTERVAL,
+            )])
         }
         Scheduling::UnsolicitedGrant => first_true(&[
-            (fields.grant_size == 0, 19),
-            (units.frames(fields.grant_interval) == 0, 20),
+            (fields.grant_size == 0, subtype::GRANT_SIZE),
+            (
+                units.frames(fields.grant_interval) == 0,
+                subtype::GRANT_INTERVAL,
+            ),
             (
                 fields.grants_per_interval == 0 || fields.grants_per_interval > 127,
-                22,
+                subtype::GRANTS_PER_INTERVAL,
             ),
         ]),
     }

@@ -11,6 +11,7 @@ use crate::param_set::ParamSet;
 use crate::refusal::Refusal;
 use dsx_messages::Code;
 use std::marker::Model;
+use tlv24::subtype;
 
 /// The parameter sets of a service flow (CM-SP-MULPIv3.1, Annex C, subtype 6): None is the null set.
 #[derive(Clone, Copy, Debug, PartialEq, Eq)]
@@ -109,7 +110,7 @@ impl Sets {
             ↔ (failing_in_admitted set self.now.admitted ≡ Some subtype) }
     {
         let tested = match self.fields.admitted {
-            None => Err(15),
+            None => Err(subtype::SCHEDULING_TYPE),
             Some(admitted) => within(&set, &admitted),
         };
         match tested {
