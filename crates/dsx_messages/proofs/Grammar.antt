@@ -21,8 +21,10 @@ use Rattle.dsx_messages.specs.declared.message.Message.{Message}
 use Rattle.dsx_messages.specs.declared.message.Message.TheVariants as messages
 use Rattle.dsx_messages.specs.declared.fault.MessageFault.{MessageFault}
 use Rattle.dsx_messages.specs.declared.fault.MessageFault.TheVariants as faults
-use Rattle.dsx_messages.specs.Reading.{◌>>=◌, Gives, is_left_out, left_out_in, flow_told, flow_in, flows_after, flows_unless, flows_in_front, flows_in, addition_of, change_of, deletion_of, ack_of, message_of}
-use Rattle.dsx_messages.specs.Message.{IsHeaded, AreSaid, SaysFlows, SaysSfid, Says, IsShortBody, IsForeign, IsRequest, IsFirstMessageFault}
+use Rattle.dsx_messages.specs.MessageType.{dsa_req, dsa_ack, dsc_req, dsc_ack, dsd_req}
+use Rattle.dsx_messages.specs.TlvType.{upstream_service_flow}
+use Rattle.dsx_messages.specs.Reading.{◌>>=◌, Gives, is_left_out, left_out_in, flow_told, flow_in, flows_after, flows_unless, flows_in_front, flows_in, with_flows, flows_request_of, deletion_of, ack_of, message_of}
+use Rattle.dsx_messages.specs.Message.{IsHeaded, AreSaid, SaysFlows, SaysSfid, Says, HasType, IsShortBody, IsForeign, IsRequest, IsFirstMessageFault}
 use Rattle.dsx_messages.proofs.Passes.{values-flow, values-other}
 
 -- ---- parts of a list of bytes
@@ -36,15 +38,15 @@ bytes_back : (a b : List ℕ) → AreBytes (a ++ b) → AreBytes b
 bytes_back [] b are place = are place
 bytes_back (x ∷ a) b are place = bytes_back a b (λ k. are (suc k)) place
 
-values_by_kind : (t : Tlv) (tlvs : List Tlv) (b : Bool) → eqb t.kind 24 ≡ b → AreBytes t.value → AllByRecursion AreBytes (values_of 24 tlvs) → AllByRecursion AreBytes (values_of 24 (t ∷ tlvs))
+values_by_kind : (t : Tlv) (tlvs : List Tlv) (b : Bool) → eqb t.kind upstream_service_flow ≡ b → AreBytes t.value → AllByRecursion AreBytes (values_of upstream_service_flow tlvs) → AllByRecursion AreBytes (values_of upstream_service_flow (t ∷ tlvs))
 values_by_kind t tlvs true e here others = subst (AllByRecursion AreBytes) (sym (values-flow t tlvs e)) (here, others)
 values_by_kind t tlvs false e here others = subst (AllByRecursion AreBytes) (sym (values-other t tlvs e)) others
 
-values_are_bytes : (tlvs : List Tlv) (rest : List ℕ) → AreBytes (spelled tlvs ++ rest) → AllByRecursion AreBytes (values_of 24 tlvs)
+values_are_bytes : (tlvs : List Tlv) (rest : List ℕ) → AreBytes (spelled tlvs ++ rest) → AllByRecursion AreBytes (values_of upstream_service_flow tlvs)
 values_are_bytes [] rest are = tt
 values_are_bytes (t ∷ tlvs) rest are =
     let whole : AreBytes (spelled_one t ++ (spelled tlvs ++ rest)) = subst AreBytes (append_assoc (spelled_one t) (spelled tlvs) rest) are in
-    values_by_kind t tlvs (eqb t.kind 24) refl (bytes_front t.value (spelled tlvs ++ rest) (λ k. whole (suc (suc k)))) (values_are_bytes tlvs rest (bytes_back (spelled_one t) (spelled tlvs ++ rest) whole))
+    values_by_kind t tlvs (eqb t.kind upstream_service_flow) refl (bytes_front t.value (spelled tlvs ++ rest) (λ k. whole (suc (suc k)))) (values_are_bytes tlvs rest (bytes_back (spelled_one t) (spelled tlvs ++ rest) whole))
 
 is_nothing : (rest : List ℕ) → length rest ≡ 0 → rest ≡ []
 is_nothing [] e = refl
@@ -70,7 +72,7 @@ IsRightAboutFlows bytes list (Err fault) = IsRightFault bytes fault
 
 module _ (bytes : List ℕ) (tid : ℕ) (kind : Kind) (list : List ℕ) (request : IsRequest bytes tid kind list) where
   after_right : (tlvs : List Tlv) → IsTlvList list tlvs → find is_left_out tlvs ≡ None
-      → (before values : List (List ℕ)) (flows : List FlowFields) → AllByRecursion AreBytes values → values_of 24 tlvs ≡ before ++ values → AreSaid before flows
+      → (before values : List (List ℕ)) (flows : List FlowFields) → AllByRecursion AreBytes values → values_of upstream_service_flow tlvs ≡ before ++ values → AreSaid before flows
       → IsRightAboutFlows bytes list (flows_after tid kind flows values)
   unfolding flow_in
   after_right tlvs spelling none before [] flows are whole said = record {
@@ -84,7 +86,7 @@ module _ (bytes : List ℕ) (tid : ℕ) (kind : Kind) (list : List ℕ) (request
       (λ flow here. after_right tlvs spelling none (before ++ value ∷ []) values (flows ++ flow ∷ []) are.1 (whole ∙ sym (append_assoc before (value ∷ []) values)) (said-append before flows value flow said here))
     where
       first : (tlvs : List Tlv) → IsTlvList list tlvs → find is_left_out tlvs ≡ None
-          → (before : List (List ℕ)) (value : List ℕ) (values : List (List ℕ)) (flows : List FlowFields) → AreBytes value → values_of 24 tlvs ≡ before ++ value ∷ values → AreSaid before flows
+          → (before : List (List ℕ)) (value : List ℕ) (values : List (List ℕ)) (flows : List FlowFields) → AreBytes value → values_of upstream_service_flow tlvs ≡ before ++ value ∷ values → AreSaid before flows
           → (r : Result FlowFields FlowFault) → flow_of value ≡ r → ((flow : FlowFields) → IsFlowEncoding value flow → IsRightAboutFlows bytes list (flows_after tid kind (flows ++ flow ∷ []) values))
           → IsRightAboutFlows bytes list (flow_told tid kind r >>= λ flow. flows_after tid kind (flows ++ flow ∷ []) values)
       first tlvs spelling none before value values flows are whole said (Ok flow) e again = again flow (answers_flow value flow are e)
@@ -111,16 +113,16 @@ module _ (bytes : List ℕ) (tid : ℕ) (kind : Kind) (list : List ℕ) (request
         of_message = λ same. absurd cc;
       }
 
-  unless_right : (tlvs : List Tlv) → IsTlvList list tlvs → AllByRecursion AreBytes (values_of 24 tlvs) → (o : Option Tlv) → find is_left_out tlvs ≡ o
-      → IsRightAboutFlows bytes list (flows_unless tid kind (option_map (λ t. t.kind) o) (values_of 24 tlvs))
-  unless_right tlvs spelling are None none = after_right tlvs spelling none [] (values_of 24 tlvs) [] are refl tt
+  unless_right : (tlvs : List Tlv) → IsTlvList list tlvs → AllByRecursion AreBytes (values_of upstream_service_flow tlvs) → (o : Option Tlv) → find is_left_out tlvs ≡ o
+      → IsRightAboutFlows bytes list (flows_unless tid kind (option_map (λ t. t.kind) o) (values_of upstream_service_flow tlvs))
+  unless_right tlvs spelling are None none = after_right tlvs spelling none [] (values_of upstream_service_flow tlvs) [] are refl tt
   unless_right tlvs spelling are (Some t) found = record {
     first = (list, request, record { tlvs = tlvs; spelling = spelling; t = t; first = found; found_is = refl });
     of_message = λ same. absurd cc;
   }
 
   front_right : (front : Front) (b : Bool) → eqb (length front.rest) 0 ≡ b → IsWholeFront list front → AreBytes list
-      → IsRightAboutFlows bytes list (cond b (flows_unless tid kind (left_out_in front.tlvs) (values_of 24 front.tlvs)) (Err (faults.Tlv tid kind None (Cut (length list - length front.rest)))))
+      → IsRightAboutFlows bytes list (cond b (flows_unless tid kind (left_out_in front.tlvs) (values_of upstream_service_flow front.tlvs)) (Err (faults.Tlv tid kind None (Cut (length list - length front.rest)))))
   front_right front true none whole are =
       let empty = is_nothing front.rest (eqb-true (length front.rest) 0 none) in
       unless_right front.tlvs
@@ -169,12 +171,12 @@ after_said tid kind before (value ∷ values) (flow ∷ flows) are said =
     ap (λ (r : Result FlowFields FlowFault). flow_told tid kind r >>= λ m. flows_after tid kind (before ++ m ∷ []) values) (flow_answered value flow are.0 said.0)
     ∙ after_said tid kind (before ++ flow ∷ []) values flows are.1 said.1 ∙ ap Ok (append_assoc before (flow ∷ []) flows)
 
-front_said : (tid : ℕ) (kind : Kind) (list : List ℕ) (front : Front) (flows : List FlowFields) → front.rest ≡ [] → find is_left_out front.tlvs ≡ None → AllByRecursion AreBytes (values_of 24 front.tlvs) → AreSaid (values_of 24 front.tlvs) flows
+front_said : (tid : ℕ) (kind : Kind) (list : List ℕ) (front : Front) (flows : List FlowFields) → front.rest ≡ [] → find is_left_out front.tlvs ≡ None → AllByRecursion AreBytes (values_of upstream_service_flow front.tlvs) → AreSaid (values_of upstream_service_flow front.tlvs) flows
     → flows_in_front tid kind list front ≡ Ok flows
 front_said tid kind list front flows empty none are said =
     ap (λ (x : List ℕ). flows_in_front tid kind list (record { tlvs = front.tlvs; rest = x })) empty
-    ∙ ap (λ (o : Option Tlv). flows_unless tid kind (option_map (λ t. t.kind) o) (values_of 24 front.tlvs)) none
-    ∙ after_said tid kind [] (values_of 24 front.tlvs) flows are said
+    ∙ ap (λ (o : Option Tlv). flows_unless tid kind (option_map (λ t. t.kind) o) (values_of upstream_service_flow front.tlvs)) none
+    ∙ after_said tid kind [] (values_of upstream_service_flow front.tlvs) flows are said
 
 flows_said : (tid : ℕ) (kind : Kind) (list : List ℕ) (flows : List FlowFields) → AreBytes list → SaysFlows list flows → flows_in tid kind list ≡ Ok flows
 unfolding flows_in
@@ -185,7 +187,7 @@ flows_said tid kind list flows are says =
     front_said tid kind list (front_of list) flows empty
     (subst (λ (ts : List Tlv). find is_left_out ts ≡ None) (sym same) says.none_left_out)
     (values_are_bytes (front_of list).tlvs (front_of list).rest (subst AreBytes whole.front.spelling are))
-    (subst (λ (ts : List Tlv). AreSaid (values_of 24 ts) flows) (sym same) says.said)
+    (subst (λ (ts : List Tlv). AreSaid (values_of upstream_service_flow ts) flows) (sym same) says.said)
   where
     emptied : (rest : List ℕ) → (0 < length rest → ⊥) → rest ≡ []
     emptied [] none = refl
@@ -204,58 +206,56 @@ head_is mtype high low body = record { high = high; low = low; spelling = refl; 
 short_right : (mtype : ℕ) (body : List ℕ) → IsShortBody mtype body → (IsForeign mtype → ⊥) → IsRightFault (mtype ∷ body) faults.Short
 short_right mtype body short ours = record { first = (mtype, body, refl, short, ours); of_message = λ same. absurd cc }
 
-addition_short : (body : List ℕ) → length body < 2 → IsRightFault (15 ∷ body) faults.Short
-addition_short body few = short_right 15 body (record { addition = λ e. few; addition_ack = λ e. absurd (omega arith); change = λ e. absurd (omega arith); change_ack = λ e. absurd (omega arith); deletion = λ e. absurd (omega arith) }) (λ f. f.addition refl)
+addition_short : (body : List ℕ) → length body < 2 → IsRightFault (dsa_req ∷ body) faults.Short
+addition_short body few = short_right dsa_req body (record { addition = λ e. few; addition_ack = λ e. absurd (omega arith); change = λ e. absurd (omega arith); change_ack = λ e. absurd (omega arith); deletion = λ e. absurd (omega arith) }) (λ f. f.addition refl)
 
-change_short : (body : List ℕ) → length body < 2 → IsRightFault (18 ∷ body) faults.Short
-change_short body few = short_right 18 body (record { addition = λ e. absurd (omega arith); addition_ack = λ e. absurd (omega arith); change = λ e. few; change_ack = λ e. absurd (omega arith); deletion = λ e. absurd (omega arith) }) (λ f. f.change refl)
+change_short : (body : List ℕ) → length body < 2 → IsRightFault (dsc_req ∷ body) faults.Short
+change_short body few = short_right dsc_req body (record { addition = λ e. absurd (omega arith); addition_ack = λ e. absurd (omega arith); change = λ e. few; change_ack = λ e. absurd (omega arith); deletion = λ e. absurd (omega arith) }) (λ f. f.change refl)
 
-addition_ack_short : (body : List ℕ) → length body < 3 → IsRightFault (17 ∷ body) faults.Short
-addition_ack_short body few = short_right 17 body (record { addition = λ e. absurd (omega arith); addition_ack = λ e. few; change = λ e. absurd (omega arith); change_ack = λ e. absurd (omega arith); deletion = λ e. absurd (omega arith) }) (λ f. f.addition_ack refl)
+addition_ack_short : (body : List ℕ) → length body < 3 → IsRightFault (dsa_ack ∷ body) faults.Short
+addition_ack_short body few = short_right dsa_ack body (record { addition = λ e. absurd (omega arith); addition_ack = λ e. few; change = λ e. absurd (omega arith); change_ack = λ e. absurd (omega arith); deletion = λ e. absurd (omega arith) }) (λ f. f.addition_ack refl)
 
-change_ack_short : (body : List ℕ) → length body < 3 → IsRightFault (20 ∷ body) faults.Short
-change_ack_short body few = short_right 20 body (record { addition = λ e. absurd (omega arith); addition_ack = λ e. absurd (omega arith); change = λ e. absurd (omega arith); change_ack = λ e. few; deletion = λ e. absurd (omega arith) }) (λ f. f.change_ack refl)
+change_ack_short : (body : List ℕ) → length body < 3 → IsRightFault (dsc_ack ∷ body) faults.Short
+change_ack_short body few = short_right dsc_ack body (record { addition = λ e. absurd (omega arith); addition_ack = λ e. absurd (omega arith); change = λ e. absurd (omega arith); change_ack = λ e. few; deletion = λ e. absurd (omega arith) }) (λ f. f.change_ack refl)
 
-deletion_short : (body : List ℕ) → length body < 8 → IsRightFault (21 ∷ body) faults.Short
-deletion_short body few = short_right 21 body (record { addition = λ e. absurd (omega arith); addition_ack = λ e. absurd (omega arith); change = λ e. absurd (omega arith); change_ack = λ e. absurd (omega arith); deletion = λ e. few }) (λ f. f.deletion refl)
+deletion_short : (body : List ℕ) → length body < 8 → IsRightFault (dsd_req ∷ body) faults.Short
+deletion_short body few = short_right dsd_req body (record { addition = λ e. absurd (omega arith); addition_ack = λ e. absurd (omega arith); change = λ e. absurd (omega arith); change_ack = λ e. absurd (omega arith); deletion = λ e. few }) (λ f. f.deletion refl)
 
-addition_right : (body : List ℕ) → AreBytes (15 ∷ body) → IsRightMessage (15 ∷ body) (addition_of body)
-addition_right [] are = addition_short [] (omega arith)
-addition_right (high ∷ []) are = addition_short (high ∷ []) (omega arith)
-addition_right (high ∷ low ∷ list) are =
-    told high low list (flows_in (word (high ∷ low ∷ [])) Dsa list)
-    (flows_right (15 ∷ high ∷ low ∷ list) (word (high ∷ low ∷ [])) Dsa list (record { mtype = 15; typed = refl; headed = head_is 15 high low list }) (bytes_back (15 ∷ high ∷ low ∷ []) list are))
+flows_short : (kind : Kind) (mtype : ℕ) (body : List ℕ) → HasType kind mtype → length body < 2 → IsRightFault (mtype ∷ body) faults.Short
+flows_short Dsa mtype body typed few = subst (λ (n : ℕ). IsRightFault (n ∷ body) faults.Short) (sym typed) (addition_short body few)
+flows_short Dsc mtype body typed few = subst (λ (n : ℕ). IsRightFault (n ∷ body) faults.Short) (sym typed) (change_short body few)
+flows_short Dsd mtype body typed few = absurd typed
+
+request_right : (kind : Kind) (mtype : ℕ) (body : List ℕ) → HasType kind mtype → AreBytes (mtype ∷ body) → IsRightMessage (mtype ∷ body) (flows_request_of kind body)
+request_right kind mtype [] typed are = flows_short kind mtype [] typed (omega arith)
+request_right kind mtype (high ∷ []) typed are = flows_short kind mtype (high ∷ []) typed (omega arith)
+request_right kind mtype (high ∷ low ∷ list) typed are =
+    told kind mtype high low list typed (flows_in (word (high ∷ low ∷ [])) kind list)
+    (flows_right (mtype ∷ high ∷ low ∷ list) (word (high ∷ low ∷ [])) kind list (record { mtype = mtype; typed = typed; headed = head_is mtype high low list }) (bytes_back (mtype ∷ high ∷ low ∷ []) list are))
   where
-    told : (high low : ℕ) (list : List ℕ) (r : Result (List FlowFields) MessageFault) → IsRightAboutFlows (15 ∷ high ∷ low ∷ list) list r
-        → IsRightMessage (15 ∷ high ∷ low ∷ list) (r >>= λ flows. Ok (messages.Request (requests.Dsa (word (high ∷ low ∷ [])) flows)))
-    told high low list (Ok flows) right = (list, head_is 15 high low list, right)
-    told high low list (Err fault) right = right
+    headed : (n mtype high low : ℕ) (list : List ℕ) → mtype ≡ n → IsHeaded (mtype ∷ high ∷ low ∷ list) n (word (high ∷ low ∷ [])) list
+    headed n mtype high low list same = subst (λ (k : ℕ). IsHeaded (mtype ∷ high ∷ low ∷ list) k (word (high ∷ low ∷ [])) list) same (head_is mtype high low list)
 
-change_right : (body : List ℕ) → AreBytes (18 ∷ body) → IsRightMessage (18 ∷ body) (change_of body)
-change_right [] are = change_short [] (omega arith)
-change_right (high ∷ []) are = change_short (high ∷ []) (omega arith)
-change_right (high ∷ low ∷ list) are =
-    told high low list (flows_in (word (high ∷ low ∷ [])) Dsc list)
-    (flows_right (18 ∷ high ∷ low ∷ list) (word (high ∷ low ∷ [])) Dsc list (record { mtype = 18; typed = refl; headed = head_is 18 high low list }) (bytes_back (18 ∷ high ∷ low ∷ []) list are))
-  where
-    told : (high low : ℕ) (list : List ℕ) (r : Result (List FlowFields) MessageFault) → IsRightAboutFlows (18 ∷ high ∷ low ∷ list) list r
-        → IsRightMessage (18 ∷ high ∷ low ∷ list) (r >>= λ flows. Ok (messages.Request (requests.Dsc (word (high ∷ low ∷ [])) flows)))
-    told high low list (Ok flows) right = (list, head_is 18 high low list, right)
-    told high low list (Err fault) right = right
+    told : (kind : Kind) (mtype high low : ℕ) (list : List ℕ) → HasType kind mtype → (r : Result (List FlowFields) MessageFault) → IsRightAboutFlows (mtype ∷ high ∷ low ∷ list) list r
+        → IsRightMessage (mtype ∷ high ∷ low ∷ list) (r >>= λ flows. Ok (messages.Request (with_flows kind (word (high ∷ low ∷ [])) flows)))
+    told kind mtype high low list typed (Err fault) right = right
+    told Dsa mtype high low list typed (Ok flows) right = (list, headed dsa_req mtype high low list typed, right)
+    told Dsc mtype high low list typed (Ok flows) right = (list, headed dsc_req mtype high low list typed, right)
+    told Dsd mtype high low list typed (Ok flows) right = absurd typed
 
-addition_ack_right : (body : List ℕ) → IsRightMessage (17 ∷ body) (ack_of Dsa body)
+addition_ack_right : (body : List ℕ) → IsRightMessage (dsa_ack ∷ body) (ack_of Dsa body)
 addition_ack_right [] = addition_ack_short [] (omega arith)
 addition_ack_right (high ∷ []) = addition_ack_short (high ∷ []) (omega arith)
 addition_ack_right (high ∷ low ∷ []) = addition_ack_short (high ∷ low ∷ []) (omega arith)
-addition_ack_right (high ∷ low ∷ code ∷ more) = (more, head_is 17 high low (code ∷ more))
+addition_ack_right (high ∷ low ∷ code ∷ more) = (more, head_is dsa_ack high low (code ∷ more))
 
-change_ack_right : (body : List ℕ) → IsRightMessage (20 ∷ body) (ack_of Dsc body)
+change_ack_right : (body : List ℕ) → IsRightMessage (dsc_ack ∷ body) (ack_of Dsc body)
 change_ack_right [] = change_ack_short [] (omega arith)
 change_ack_right (high ∷ []) = change_ack_short (high ∷ []) (omega arith)
 change_ack_right (high ∷ low ∷ []) = change_ack_short (high ∷ low ∷ []) (omega arith)
-change_ack_right (high ∷ low ∷ code ∷ more) = (more, head_is 20 high low (code ∷ more))
+change_ack_right (high ∷ low ∷ code ∷ more) = (more, head_is dsc_ack high low (code ∷ more))
 
-deletion_right : (body : List ℕ) → IsRightMessage (21 ∷ body) (deletion_of body)
+deletion_right : (body : List ℕ) → IsRightMessage (dsd_req ∷ body) (deletion_of body)
 deletion_right [] = deletion_short [] (omega arith)
 deletion_right (high ∷ []) = deletion_short (high ∷ []) (omega arith)
 deletion_right (high ∷ low ∷ []) = deletion_short (high ∷ low ∷ []) (omega arith)
@@ -266,27 +266,27 @@ deletion_right (high ∷ low ∷ x ∷ y ∷ a ∷ b ∷ []) = deletion_short (h
 deletion_right (high ∷ low ∷ x ∷ y ∷ a ∷ b ∷ c ∷ []) = deletion_short (high ∷ low ∷ x ∷ y ∷ a ∷ b ∷ c ∷ []) (omega arith)
 deletion_right (high ∷ low ∷ x ∷ y ∷ a ∷ b ∷ c ∷ d ∷ more) = (
   x ∷ y ∷ a ∷ b ∷ c ∷ d ∷ more,
-  head_is 21 high low (x ∷ y ∷ a ∷ b ∷ c ∷ d ∷ more),
+  head_is dsd_req high low (x ∷ y ∷ a ∷ b ∷ c ∷ d ∷ more),
   record { reserved = x ∷ y ∷ []; two = omega arith; field = a ∷ b ∷ c ∷ d ∷ []; four = omega arith; more = more; spelling = refl; sfid_is = refl },
 )
 
-typed_right : (mtype : ℕ) (body : List ℕ) (p q r s t : Bool) → eqb mtype 15 ≡ p → eqb mtype 17 ≡ q → eqb mtype 18 ≡ r → eqb mtype 20 ≡ s → eqb mtype 21 ≡ t → AreBytes (mtype ∷ body)
-    → IsRightMessage (mtype ∷ body) (cond p (addition_of body) (cond q (ack_of Dsa body) (cond r (change_of body) (cond s (ack_of Dsc body) (cond t (deletion_of body) (Err (faults.NotOurs mtype)))))))
-typed_right mtype body true q r s t is15 is17 is18 is20 is21 are = subst (λ (n : ℕ). AreBytes (n ∷ body) → IsRightMessage (n ∷ body) (addition_of body)) (sym (eqb-true mtype 15 is15)) (addition_right body) are
-typed_right mtype body false true r s t is15 is17 is18 is20 is21 are = subst (λ (n : ℕ). IsRightMessage (n ∷ body) (ack_of Dsa body)) (sym (eqb-true mtype 17 is17)) (addition_ack_right body)
-typed_right mtype body false false true s t is15 is17 is18 is20 is21 are = subst (λ (n : ℕ). AreBytes (n ∷ body) → IsRightMessage (n ∷ body) (change_of body)) (sym (eqb-true mtype 18 is18)) (change_right body) are
-typed_right mtype body false false false true t is15 is17 is18 is20 is21 are = subst (λ (n : ℕ). IsRightMessage (n ∷ body) (ack_of Dsc body)) (sym (eqb-true mtype 20 is20)) (change_ack_right body)
-typed_right mtype body false false false false true is15 is17 is18 is20 is21 are = subst (λ (n : ℕ). IsRightMessage (n ∷ body) (deletion_of body)) (sym (eqb-true mtype 21 is21)) (deletion_right body)
-typed_right mtype body false false false false false is15 is17 is18 is20 is21 are = record {
+typed_right : (mtype : ℕ) (body : List ℕ) (p q r s t : Bool) → eqb mtype dsa_req ≡ p → eqb mtype dsa_ack ≡ q → eqb mtype dsc_req ≡ r → eqb mtype dsc_ack ≡ s → eqb mtype dsd_req ≡ t → AreBytes (mtype ∷ body)
+    → IsRightMessage (mtype ∷ body) (cond p (flows_request_of Dsa body) (cond q (ack_of Dsa body) (cond r (flows_request_of Dsc body) (cond s (ack_of Dsc body) (cond t (deletion_of body) (Err (faults.NotOurs mtype)))))))
+typed_right mtype body true q r s t is_addition is_addition_ack is_change is_change_ack is_deletion are = request_right Dsa mtype body (eqb-true mtype dsa_req is_addition) are
+typed_right mtype body false true r s t is_addition is_addition_ack is_change is_change_ack is_deletion are = subst (λ (n : ℕ). IsRightMessage (n ∷ body) (ack_of Dsa body)) (sym (eqb-true mtype dsa_ack is_addition_ack)) (addition_ack_right body)
+typed_right mtype body false false true s t is_addition is_addition_ack is_change is_change_ack is_deletion are = request_right Dsc mtype body (eqb-true mtype dsc_req is_change) are
+typed_right mtype body false false false true t is_addition is_addition_ack is_change is_change_ack is_deletion are = subst (λ (n : ℕ). IsRightMessage (n ∷ body) (ack_of Dsc body)) (sym (eqb-true mtype dsc_ack is_change_ack)) (change_ack_right body)
+typed_right mtype body false false false false true is_addition is_addition_ack is_change is_change_ack is_deletion are = subst (λ (n : ℕ). IsRightMessage (n ∷ body) (deletion_of body)) (sym (eqb-true mtype dsd_req is_deletion)) (deletion_right body)
+typed_right mtype body false false false false false is_addition is_addition_ack is_change is_change_ack is_deletion are = record {
   first = (
     body,
     refl,
     record {
-      addition = eqb-false mtype 15 is15;
-      addition_ack = eqb-false mtype 17 is17;
-      change = eqb-false mtype 18 is18;
-      change_ack = eqb-false mtype 20 is20;
-      deletion = eqb-false mtype 21 is21;
+      addition = eqb-false mtype dsa_req is_addition;
+      addition_ack = eqb-false mtype dsa_ack is_addition_ack;
+      change = eqb-false mtype dsc_req is_change;
+      change_ack = eqb-false mtype dsc_ack is_change_ack;
+      deletion = eqb-false mtype dsd_req is_deletion;
     },
   );
   of_message = λ same. absurd cc;
@@ -295,7 +295,7 @@ typed_right mtype body false false false false false is15 is17 is18 is20 is21 ar
 pub right_message : (bytes : List ℕ) → AreBytes bytes → IsRightMessage bytes (message_of bytes)
 unfolding message_of
 right_message [] are = record { first = refl; of_message = λ same. absurd cc }
-right_message (mtype ∷ body) are = typed_right mtype body (eqb mtype 15) (eqb mtype 17) (eqb mtype 18) (eqb mtype 20) (eqb mtype 21) refl refl refl refl refl are
+right_message (mtype ∷ body) are = typed_right mtype body (eqb mtype dsa_req) (eqb mtype dsa_ack) (eqb mtype dsc_req) (eqb mtype dsc_ack) (eqb mtype dsd_req) refl refl refl refl refl are
 
 pub message_says : (bytes : List ℕ) (m : Message) → AreBytes bytes → message_of bytes ≡ Ok m → Says bytes m
 message_says bytes m are e = subst (IsRightMessage bytes) e (right_message bytes are)
@@ -311,23 +311,26 @@ message_memory bytes are e = (message_told bytes faults.NoMemory are e).of_messa
 
 -- what is said is read
 
-addition_said : (bytes : List ℕ) (tid : ℕ) (flows : List FlowFields) (list : List ℕ) → AreBytes bytes → IsHeaded bytes 15 tid list → SaysFlows list flows → message_of bytes ≡ Ok (messages.Request (requests.Dsa tid flows))
+request_said : (kind : Kind) (high low tid : ℕ) (list : List ℕ) (flows : List FlowFields) → AreBytes list → tid ≡ word (high ∷ low ∷ []) → SaysFlows list flows
+    → flows_request_of kind (high ∷ low ∷ list) ≡ Ok (messages.Request (with_flows kind tid flows))
+request_said kind high low tid list flows are tid_is says =
+    ap (λ (r : Result (List FlowFields) MessageFault). r >>= λ m. Ok (messages.Request (with_flows kind (word (high ∷ low ∷ [])) m)))
+    (flows_said (word (high ∷ low ∷ [])) kind list flows are says)
+    ∙ ap (λ (n : ℕ). Ok (messages.Request (with_flows kind n flows))) (sym tid_is)
+
+addition_said : (bytes : List ℕ) (tid : ℕ) (flows : List FlowFields) (list : List ℕ) → AreBytes bytes → IsHeaded bytes dsa_req tid list → SaysFlows list flows → message_of bytes ≡ Ok (messages.Request (requests.Dsa tid flows))
 unfolding message_of
 addition_said bytes tid flows list are headed says =
-    let within : AreBytes (15 ∷ headed.high ∷ headed.low ∷ list) = subst AreBytes headed.spelling are in
+    let within : AreBytes (dsa_req ∷ headed.high ∷ headed.low ∷ list) = subst AreBytes headed.spelling are in
     ap message_of headed.spelling
-    ∙ ap (λ (r : Result (List FlowFields) MessageFault). r >>= λ m. Ok (messages.Request (requests.Dsa (word (headed.high ∷ headed.low ∷ [])) m)))
-    (flows_said (word (headed.high ∷ headed.low ∷ [])) Dsa list flows (bytes_back (15 ∷ headed.high ∷ headed.low ∷ []) list within) says)
-    ∙ ap (λ (n : ℕ). Ok (messages.Request (requests.Dsa n flows))) (sym headed.tid_is)
+    ∙ request_said Dsa headed.high headed.low tid list flows (bytes_back (dsa_req ∷ headed.high ∷ headed.low ∷ []) list within) headed.tid_is says
 
-change_said : (bytes : List ℕ) (tid : ℕ) (flows : List FlowFields) (list : List ℕ) → AreBytes bytes → IsHeaded bytes 18 tid list → SaysFlows list flows → message_of bytes ≡ Ok (messages.Request (requests.Dsc tid flows))
+change_said : (bytes : List ℕ) (tid : ℕ) (flows : List FlowFields) (list : List ℕ) → AreBytes bytes → IsHeaded bytes dsc_req tid list → SaysFlows list flows → message_of bytes ≡ Ok (messages.Request (requests.Dsc tid flows))
 unfolding message_of
 change_said bytes tid flows list are headed says =
-    let within : AreBytes (18 ∷ headed.high ∷ headed.low ∷ list) = subst AreBytes headed.spelling are in
+    let within : AreBytes (dsc_req ∷ headed.high ∷ headed.low ∷ list) = subst AreBytes headed.spelling are in
     ap message_of headed.spelling
-    ∙ ap (λ (r : Result (List FlowFields) MessageFault). r >>= λ m. Ok (messages.Request (requests.Dsc (word (headed.high ∷ headed.low ∷ [])) m)))
-    (flows_said (word (headed.high ∷ headed.low ∷ [])) Dsc list flows (bytes_back (18 ∷ headed.high ∷ headed.low ∷ []) list within) says)
-    ∙ ap (λ (n : ℕ). Ok (messages.Request (requests.Dsc n flows))) (sym headed.tid_is)
+    ∙ request_said Dsc headed.high headed.low tid list flows (bytes_back (dsc_req ∷ headed.high ∷ headed.low ∷ []) list within) headed.tid_is says
 
 four_said : (high low x y : ℕ) (field more : List ℕ) → length field ≡ 4 → deletion_of (high ∷ low ∷ x ∷ y ∷ (field ++ more)) ≡ Ok (messages.Request (requests.Dsd (word (high ∷ low ∷ [])) (long field)))
 four_said high low x y [] more four = absurd (omega arith)
@@ -343,7 +346,7 @@ two_said high low (x ∷ []) field more two four = absurd (omega arith)
 two_said high low (x ∷ y ∷ []) field more two four = four_said high low x y field more four
 two_said high low (x ∷ y ∷ z ∷ reserved) field more two four = absurd (omega arith)
 
-deletion_said : (bytes : List ℕ) (tid sfid : ℕ) (body : List ℕ) → IsHeaded bytes 21 tid body → SaysSfid body sfid → message_of bytes ≡ Ok (messages.Request (requests.Dsd tid sfid))
+deletion_said : (bytes : List ℕ) (tid sfid : ℕ) (body : List ℕ) → IsHeaded bytes dsd_req tid body → SaysSfid body sfid → message_of bytes ≡ Ok (messages.Request (requests.Dsd tid sfid))
 unfolding message_of
 deletion_said bytes tid sfid body headed says =
     ap message_of headed.spelling
@@ -352,11 +355,11 @@ deletion_said bytes tid sfid body headed says =
     ∙ ap (λ (n : ℕ). Ok (messages.Request (requests.Dsd n (long says.field)))) (sym headed.tid_is)
     ∙ ap (λ (n : ℕ). Ok (messages.Request (requests.Dsd tid n))) (sym says.sfid_is)
 
-addition_ack_said : (bytes : List ℕ) (tid code : ℕ) (more : List ℕ) → IsHeaded bytes 17 tid (code ∷ more) → message_of bytes ≡ Ok (messages.Ack Dsa tid code)
+addition_ack_said : (bytes : List ℕ) (tid code : ℕ) (more : List ℕ) → IsHeaded bytes dsa_ack tid (code ∷ more) → message_of bytes ≡ Ok (messages.Ack Dsa tid code)
 unfolding message_of
 addition_ack_said bytes tid code more headed = ap message_of headed.spelling ∙ ap (λ (n : ℕ). Ok (messages.Ack Dsa n code)) (sym headed.tid_is)
 
-change_ack_said : (bytes : List ℕ) (tid code : ℕ) (more : List ℕ) → IsHeaded bytes 20 tid (code ∷ more) → message_of bytes ≡ Ok (messages.Ack Dsc tid code)
+change_ack_said : (bytes : List ℕ) (tid code : ℕ) (more : List ℕ) → IsHeaded bytes dsc_ack tid (code ∷ more) → message_of bytes ≡ Ok (messages.Ack Dsc tid code)
 unfolding message_of
 change_ack_said bytes tid code more headed = ap message_of headed.spelling ∙ ap (λ (n : ℕ). Ok (messages.Ack Dsc n code)) (sym headed.tid_is)
 

@@ -5,27 +5,28 @@ use Rattle.tlv24.specs.declared.fields.FlowFields.{FlowFields}
 use Rattle.tlv24.specs.Tlv.{tlv, Front, first_of, front_of}
 use Rattle.tlv24.specs.Flow.{values_of}
 use Rattle.tlv24.proofs.Lists.{front_of-some, front_of-none, shrinks}
+use Rattle.dsx_messages.specs.TlvType.{upstream_service_flow}
 use Rattle.dsx_messages.specs.declared.kind.Kind.{Kind}
 use Rattle.dsx_messages.specs.declared.fault.MessageFault.{MessageFault}
 use Rattle.dsx_messages.specs.declared.fault.MessageFault.TheVariants as faults
 use Rattle.dsx_messages.specs.Reading.{◌>>=◌, Fails, is_left_out, left_out_in, flow_in, flows_after}
 use Rattle.dsx_messages.specs.Survey.{first_some, left_out_kind, flow_count, IsSurveyed, IsCutSurvey, IsSurveyedUpTo}
 
--- ---- values under type 24
+-- ---- values of flow encodings
 
-values_by : (t : Tlv) (tlvs : List Tlv) (b : Bool) → eqb t.kind 24 ≡ b → values_of 24 (t ∷ tlvs) ≡ cond b (t.value ∷ values_of 24 tlvs) (values_of 24 tlvs)
+values_by : (t : Tlv) (tlvs : List Tlv) (b : Bool) → eqb t.kind upstream_service_flow ≡ b → values_of upstream_service_flow (t ∷ tlvs) ≡ cond b (t.value ∷ values_of upstream_service_flow tlvs) (values_of upstream_service_flow tlvs)
 values_by t tlvs true e = rw e refl
 values_by t tlvs false e = rw e refl
 
-pub values-flow : (t : Tlv) (tlvs : List Tlv) → eqb t.kind 24 ≡ true → values_of 24 (t ∷ tlvs) ≡ t.value ∷ values_of 24 tlvs
+pub values-flow : (t : Tlv) (tlvs : List Tlv) → eqb t.kind upstream_service_flow ≡ true → values_of upstream_service_flow (t ∷ tlvs) ≡ t.value ∷ values_of upstream_service_flow tlvs
 values-flow t tlvs e = values_by t tlvs true e
 
-pub values-other : (t : Tlv) (tlvs : List Tlv) → eqb t.kind 24 ≡ false → values_of 24 (t ∷ tlvs) ≡ values_of 24 tlvs
+pub values-other : (t : Tlv) (tlvs : List Tlv) → eqb t.kind upstream_service_flow ≡ false → values_of upstream_service_flow (t ∷ tlvs) ≡ values_of upstream_service_flow tlvs
 values-other t tlvs e = values_by t tlvs false e
 
 -- ---- the survey
 
-count_by_kind : (t : Tlv) (tlvs : List Tlv) (b : Bool) → eqb t.kind 24 ≡ b → length (values_of 24 (t ∷ tlvs)) ≡ flow_count t.kind + length (values_of 24 tlvs)
+count_by_kind : (t : Tlv) (tlvs : List Tlv) (b : Bool) → eqb t.kind upstream_service_flow ≡ b → length (values_of upstream_service_flow (t ∷ tlvs)) ≡ flow_count t.kind + length (values_of upstream_service_flow tlvs)
 count_by_kind t tlvs true e = ap length (values_by t tlvs true e) ∙ rw e (omega arith)
 count_by_kind t tlvs false e = ap length (values_by t tlvs false e) ∙ rw e (omega arith)
 
@@ -42,7 +43,7 @@ pub survey_more : (list rest : List ℕ) (left_out : Option ℕ) (flows kind : �
 survey_more list rest left_out flows kind value after s first =
     let front = front_of-some rest (record { tlv = tlv kind value; rest = after }) (sym first) in
     let less : length after < length rest = shrinks rest (record { tlv = tlv kind value; rest = after }) (sym first) in
-    let few : flow_count kind ≤ 1 = at_most_one (eqb kind 24) in
+    let few : flow_count kind ≤ 1 = at_most_one (eqb kind upstream_service_flow) in
     let others = (front_of after).tlvs in
     record {
       room = let room : flows + length rest ≤ length list = s.room in omega arith;
@@ -51,8 +52,8 @@ survey_more list rest left_out flows kind value after s first =
           ∙ ap (first_some left_out) (left_out_by (tlv kind value) others (is_left_out (tlv kind value)) refl)
           ∙ first_some-assoc left_out (left_out_kind kind) (left_out_in others);
       flows_are =
-          let whole : length (values_of 24 (front_of list).tlvs) ≡ flows + length (values_of 24 (tlv kind value ∷ others)) = s.flows_are ∙ ap (λ (f : Front). flows + length (values_of 24 f.tlvs)) front in
-          let one : length (values_of 24 (tlv kind value ∷ others)) ≡ flow_count kind + length (values_of 24 others) = count_by_kind (tlv kind value) others (eqb kind 24) refl in
+          let whole : length (values_of upstream_service_flow (front_of list).tlvs) ≡ flows + length (values_of upstream_service_flow (tlv kind value ∷ others)) = s.flows_are ∙ ap (λ (f : Front). flows + length (values_of upstream_service_flow f.tlvs)) front in
+          let one : length (values_of upstream_service_flow (tlv kind value ∷ others)) ≡ flow_count kind + length (values_of upstream_service_flow others) = count_by_kind (tlv kind value) others (eqb kind upstream_service_flow) refl in
           omega (arith, whole, one);
     }
   where
@@ -75,7 +76,7 @@ survey_whole list rest left_out flows s none =
     record {
       whole = ap length (s.same_rest ∙ ap (λ (f : Front). f.rest) front);
       left_out_is = sym (s.left_out_is ∙ ap (λ (f : Front). first_some left_out (left_out_in f.tlvs)) front ∙ first_some-none left_out);
-      flows_are = let all : length (values_of 24 (front_of list).tlvs) ≡ flows + 0 = s.flows_are ∙ ap (λ (f : Front). flows + length (values_of 24 f.tlvs)) front in omega (arith, all);
+      flows_are = let all : length (values_of upstream_service_flow (front_of list).tlvs) ≡ flows + 0 = s.flows_are ∙ ap (λ (f : Front). flows + length (values_of upstream_service_flow f.tlvs)) front in omega (arith, all);
     }
 
 pub survey_cut : (list rest : List ℕ) (left_out : Option ℕ) (flows : ℕ) → IsSurveyedUpTo list rest left_out flows → first_of rest ≡ None → length rest ≢ 0 → IsCutSurvey list (length list - length rest)
@@ -102,27 +103,27 @@ fails faults.NoMemory read e = tt
 
 module _ (tid : ℕ) (kind : Kind) where
   flows_first : (rest : List ℕ) (flows : List FlowFields) (type : ℕ) (value after : List ℕ) (total : Result (List FlowFields) MessageFault) → Some (record { tlv = tlv type value; rest = after }) ≡ first_of rest
-      → flows_after tid kind flows (values_of 24 (front_of rest).tlvs) ≡ total → flows_after tid kind flows (values_of 24 (tlv type value ∷ (front_of after).tlvs)) ≡ total
+      → flows_after tid kind flows (values_of upstream_service_flow (front_of rest).tlvs) ≡ total → flows_after tid kind flows (values_of upstream_service_flow (tlv type value ∷ (front_of after).tlvs)) ≡ total
   flows_first rest flows type value after total first so_far =
       let front = front_of-some rest (record { tlv = tlv type value; rest = after }) (sym first) in
-      sym (ap (λ (f : Front). flows_after tid kind flows (values_of 24 f.tlvs)) front) ∙ so_far
+      sym (ap (λ (f : Front). flows_after tid kind flows (values_of upstream_service_flow f.tlvs)) front) ∙ so_far
 
   pub flows_skip : (rest : List ℕ) (flows : List FlowFields) (type : ℕ) (value after : List ℕ) (total : Result (List FlowFields) MessageFault) → Some (record { tlv = tlv type value; rest = after }) ≡ first_of rest
-      → flows_after tid kind flows (values_of 24 (front_of rest).tlvs) ≡ total → eqb type 24 ≡ false → flows_after tid kind flows (values_of 24 (front_of after).tlvs) ≡ total
+      → flows_after tid kind flows (values_of upstream_service_flow (front_of rest).tlvs) ≡ total → eqb type upstream_service_flow ≡ false → flows_after tid kind flows (values_of upstream_service_flow (front_of after).tlvs) ≡ total
   flows_skip rest flows type value after total first so_far other =
       sym (ap (flows_after tid kind flows) (values-other (tlv type value) (front_of after).tlvs other)) ∙ flows_first rest flows type value after total first so_far
 
   pub flows_take : (rest : List ℕ) (flows : List FlowFields) (type : ℕ) (value after : List ℕ) (total : Result (List FlowFields) MessageFault) (flow : FlowFields) → Some (record { tlv = tlv type value; rest = after }) ≡ first_of rest
-      → flows_after tid kind flows (values_of 24 (front_of rest).tlvs) ≡ total → eqb type 24 ≡ true → Ok flow ≡ flow_in tid kind value → flows_after tid kind (flows ++ flow ∷ []) (values_of 24 (front_of after).tlvs) ≡ total
+      → flows_after tid kind flows (values_of upstream_service_flow (front_of rest).tlvs) ≡ total → eqb type upstream_service_flow ≡ true → Ok flow ≡ flow_in tid kind value → flows_after tid kind (flows ++ flow ∷ []) (values_of upstream_service_flow (front_of after).tlvs) ≡ total
   flows_take rest flows type value after total flow first so_far same told =
-      ap (λ (r : Result FlowFields MessageFault). r >>= λ m. flows_after tid kind (flows ++ m ∷ []) (values_of 24 (front_of after).tlvs)) told
+      ap (λ (r : Result FlowFields MessageFault). r >>= λ m. flows_after tid kind (flows ++ m ∷ []) (values_of upstream_service_flow (front_of after).tlvs)) told
       ∙ sym (ap (flows_after tid kind flows) (values-flow (tlv type value) (front_of after).tlvs same)) ∙ flows_first rest flows type value after total first so_far
 
   pub flows_stop : (rest : List ℕ) (flows : List FlowFields) (type : ℕ) (value after : List ℕ) (total : Result (List FlowFields) MessageFault) (fault : MessageFault) → Some (record { tlv = tlv type value; rest = after }) ≡ first_of rest
-      → flows_after tid kind flows (values_of 24 (front_of rest).tlvs) ≡ total → eqb type 24 ≡ true → Err fault ≡ flow_in tid kind value → total ≡ Err fault
+      → flows_after tid kind flows (values_of upstream_service_flow (front_of rest).tlvs) ≡ total → eqb type upstream_service_flow ≡ true → Err fault ≡ flow_in tid kind value → total ≡ Err fault
   flows_stop rest flows type value after total fault first so_far same told =
-      sym (ap (λ (r : Result FlowFields MessageFault). r >>= λ m. flows_after tid kind (flows ++ m ∷ []) (values_of 24 (front_of after).tlvs)) told
+      sym (ap (λ (r : Result FlowFields MessageFault). r >>= λ m. flows_after tid kind (flows ++ m ∷ []) (values_of upstream_service_flow (front_of after).tlvs)) told
       ∙ sym (ap (flows_after tid kind flows) (values-flow (tlv type value) (front_of after).tlvs same)) ∙ flows_first rest flows type value after total first so_far)
 
-  pub flows_end : (rest : List ℕ) (flows : List FlowFields) (total : Result (List FlowFields) MessageFault) → first_of rest ≡ None → flows_after tid kind flows (values_of 24 (front_of rest).tlvs) ≡ total → total ≡ Ok flows
-  flows_end rest flows total none so_far = sym (sym (ap (λ (f : Front). flows_after tid kind flows (values_of 24 f.tlvs)) (front_of-none rest none)) ∙ so_far)
+  pub flows_end : (rest : List ℕ) (flows : List FlowFields) (total : Result (List FlowFields) MessageFault) → first_of rest ≡ None → flows_after tid kind flows (values_of upstream_service_flow (front_of rest).tlvs) ≡ total → total ≡ Ok flows
+  flows_end rest flows total none so_far = sym (sym (ap (λ (f : Front). flows_after tid kind flows (values_of upstream_service_flow f.tlvs)) (front_of-none rest none)) ∙ so_far)

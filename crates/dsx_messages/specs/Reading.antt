@@ -14,6 +14,7 @@ use Rattle.dsx_messages.specs.declared.kind.Kind.{Kind}
 use Rattle.dsx_messages.specs.declared.kind.Kind.TheVariants.{Dsa, Dsc, Dsd}
 use Rattle.dsx_messages.specs.declared.reply.FlowId.{FlowId}
 use Rattle.dsx_messages.specs.declared.reply.FlowId.TheVariants.{Reference, Sfid}
+use Rattle.dsx_messages.specs.declared.message.Request.{Request}
 use Rattle.dsx_messages.specs.declared.message.Request.TheVariants as requests
 use Rattle.dsx_messages.specs.declared.message.Message.{Message}
 use Rattle.dsx_messages.specs.declared.message.Message.TheVariants as messages
@@ -77,13 +78,15 @@ flows_in tid kind list = flows_in_front tid kind list (front_of list)
 
 -- the fixed parts behind the type byte, and what follows them
 
-abbrev pub addition_of : List ℕ → Result Message MessageFault
-addition_of (high ∷ low ∷ list) = flows_in (word (high ∷ low ∷ [])) Dsa list >>= λ flows. Ok (messages.Request (requests.Dsa (word (high ∷ low ∷ [])) flows))
-addition_of body = Err faults.Short
+-- the request that holds flow encodings: an addition, or else a change (a deletion holds none)
+abbrev pub with_flows : Kind → ℕ → List FlowFields → Request
+with_flows Dsa tid flows = requests.Dsa tid flows
+with_flows kind tid flows = requests.Dsc tid flows
 
-abbrev pub change_of : List ℕ → Result Message MessageFault
-change_of (high ∷ low ∷ list) = flows_in (word (high ∷ low ∷ [])) Dsc list >>= λ flows. Ok (messages.Request (requests.Dsc (word (high ∷ low ∷ [])) flows))
-change_of body = Err faults.Short
+abbrev pub flows_request_of : Kind → List ℕ → Result Message MessageFault
+flows_request_of kind (high ∷ low ∷ list) =
+    flows_in (word (high ∷ low ∷ [])) kind list >>= λ flows. Ok (messages.Request (with_flows kind (word (high ∷ low ∷ [])) flows))
+flows_request_of kind body = Err faults.Short
 
 abbrev pub deletion_of : List ℕ → Result Message MessageFault
 deletion_of (high ∷ low ∷ reserved ∷ reserved' ∷ a ∷ b ∷ c ∷ d ∷ more) = Ok (messages.Request (requests.Dsd (word (high ∷ low ∷ [])) (long (a ∷ b ∷ c ∷ d ∷ []))))
@@ -97,9 +100,9 @@ ack_of kind body = Err faults.Short
 unfoldable pub message_of : List ℕ → Result Message MessageFault
 message_of [] = Err faults.Empty
 message_of (mtype ∷ body) =
-    if mtype == dsa_req then addition_of body else
+    if mtype == dsa_req then flows_request_of Dsa body else
     if mtype == dsa_ack then ack_of Dsa body else
-    if mtype == dsc_req then change_of body else
+    if mtype == dsc_req then flows_request_of Dsc body else
     if mtype == dsc_ack then ack_of Dsc body else
     if mtype == dsd_req then deletion_of body else
     Err (faults.NotOurs mtype)

@@ -4,9 +4,10 @@ ghost use Rattle.std.specs.Prelude.{◌≡◌, ◌≢◌, ◌==◌, ◌||◌, �
 ghost use Rattle.tlv24.specs.Tlv.{front_of};
 ghost use Rattle.tlv24.specs.Flow.{word, long, values_of};
 ghost use Rattle.dsx_messages.specs.TlvType.{upstream_service_flow};
-ghost use Rattle.dsx_messages.specs.Reading.{id_of, Gives, Fails, flow_in, flows_after, flows_in, addition_of, change_of, deletion_of, ack_of, message_of, HoldsFlows, HoldsFlowsBehindTid, BringsFlows};
+ghost use Rattle.dsx_messages.specs.Reading.{id_of, Gives, Fails, flow_in, flows_after, flows_in, with_flows, flows_request_of, deletion_of, ack_of, message_of, HoldsFlows, HoldsFlowsBehindTid, BringsFlows};
 ghost use Rattle.dsx_messages.specs.Survey.{left_out_kind, first_some, flow_count, IsSurveyed, IsCutSurvey};
 ghost use Rattle.dsx_messages.specs.Message.{Says, IsFirstMessageFault};
+ghost use Rattle.dsx_messages.specs.declared.kind.Kind.TheVariants.{Dsd};
 ghost use Rattle.dsx_messages.specs.declared.message.Message.{Message};
 ghost use Rattle.dsx_messages.specs.declared.fault.MessageFault.TheVariants.{NoMemory};
 
@@ -165,28 +166,30 @@ fn flows_in(alloc: Global, tid: u16, kind: Kind, list: &[u8]) -> Result<Flows, M
     }
 }
 
-fn addition_of(alloc: Global, body: &[u8]) -> Result<Message, MessageFault>
-    ensures exact { Gives (λ message. message) result (addition_of body.now) }
-    ensures memory { result ≡ Err NoMemory → HoldsFlowsBehindTid body.now }
+/// The request that holds flow encodings: an addition or a change.
+fn with_flows(kind: Kind, tid: u16, flows: Flows) -> Request
+    requires { kind ≢ Dsd }
+    ensures { result ≡ with_flows kind tid flows }
 {
-    let [high, low, list @ ..] = body else {
-        return Err(MessageFault::Short);
-    };
-    let tid = u16::from_be_bytes([*high, *low]);
-    let flows = flows_in(alloc, tid, Kind::Dsa, list)?;
-    Ok(Message::Request(Request::Dsa { tid, flows }))
+    match kind {
+        Kind::Dsa => Request::Dsa { tid, flows },
+        Kind::Dsc => Request::Dsc { tid, flows },
+        Kind::Dsd => unreachable!(),
+    }
 }
 
-fn change_of(alloc: Global, body: &[u8]) -> Result<Message, MessageFault>
-    ensures exact { Gives (λ message. message) result (change_of body.now) }
+/// What the body of a request with flow encodings says: of an addition or a change.
+fn flows_request_of(alloc: Global, kind: Kind, body: &[u8]) -> Result<Message, MessageFault>
+    requires { kind ≢ Dsd }
+    ensures exact { Gives (λ message. message) result (flows_request_of kind body.now) }
     ensures memory { result ≡ Err NoMemory → HoldsFlowsBehindTid body.now }
 {
     let [high, low, list @ ..] = body else {
         return Err(MessageFault::Short);
     };
     let tid = u16::from_be_bytes([*high, *low]);
-    let flows = flows_in(alloc, tid, Kind::Dsc, list)?;
-    Ok(Message::Request(Request::Dsc { tid, flows }))
+    let flows = flows_in(alloc, tid, kind, list)?;
+    Ok(Message::Request(with_flows(kind, tid, flows)))
 }
 
 fn deletion_of(body: &[u8]) -> Result<Message, MessageFault>
@@ -225,9 +228,9 @@ fn message_of(alloc: Global, bytes: &[u8]) -> Result<Message, MessageFault>
         return Err(MessageFault::Empty);
     };
     match *mtype {
-        message_type::DSA_REQ => addition_of(alloc, body),
+        message_type::DSA_REQ => flows_request_of(alloc, Kind::Dsa, body),
         message_type::DSA_ACK => ack_of(Kind::Dsa, body),
-        message_type::DSC_REQ => change_of(alloc, body),
+        message_type::DSC_REQ => flows_request_of(alloc, Kind::Dsc, body),
         message_type::DSC_ACK => ack_of(Kind::Dsc, body),
         message_type::DSD_REQ => deletion_of(body),
         mtype => Err(MessageFault::NotOurs { mtype }),
