@@ -1,6 +1,7 @@
 -- What is asked for is nested, and of a flow that waits for nothing.
 use Rattle.std.proofs.Common.{◌≡◌, ℕ, ◌==◌, ◌&&◌, not, false, List, [], ◌∷◌, Option, Some, None, Result, Ok, Err, IfOk, IfSome, is_some, refl}
 use Rattle.std.proofs.lemmas.Bool.{cond_both}
+use Rattle.tlv24.specs.Subtype.{reference_subtype, sfid_subtype}
 use Rattle.tlv24.specs.declared.fields.FlowFields.{FlowFields}
 use Rattle.dsx_messages.specs.declared.code.Code.TheVariants as codes
 use Rattle.dsx_messages.specs.declared.reply.ReplyFields.{ReplyFields}
@@ -135,7 +136,7 @@ pub addition-IsAddition : (consts : ConstsFields) (t : Transaction) (encodings :
 unfolding addition_of
 addition-IsAddition consts t encodings =
     and_then (λ _. Unit {0}) IsAddition (first_encoding t consts.classes encodings) _ (anything (first_encoding t consts.classes encodings)) (λ first _.
-    and_then (λ _. Unit {0}) IsAddition (stated first.reference (refusal_naming t codes.RejectRequiredParameterNotPresent first 1)) _ (anything (stated first.reference (refusal_naming t codes.RejectRequiredParameterNotPresent first 1))) (λ reference _.
+    and_then (λ _. Unit {0}) IsAddition (stated first.reference (refusal_naming t codes.RejectRequiredParameterNotPresent first reference_subtype)) _ (anything (stated first.reference (refusal_naming t codes.RejectRequiredParameterNotPresent first reference_subtype))) (λ reference _.
     and_then AreKept IsAddition (asked_sets t consts encodings) _ (asked-AreKept t consts encodings) (λ asked kept.
     and_then (AreAsked None) IsAddition (nested_sets t first None asked) _ (nested-AreAsked t first None asked kept) (λ sets h. h))))
 
@@ -147,7 +148,7 @@ pub change-IsChange : (consts : ConstsFields) (flows : List (ℕ × Flow)) (t : 
 unfolding change_of
 change-IsChange consts flows t encodings =
     and_then (λ _. Unit {0}) (IsChange flows) (first_encoding t consts.classes encodings) _ (anything (first_encoding t consts.classes encodings)) (λ first _.
-    and_then (λ _. Unit {0}) (IsChange flows) (stated first.sfid (refusal_naming t codes.RejectRequiredParameterNotPresent first 2)) _ (anything (stated first.sfid (refusal_naming t codes.RejectRequiredParameterNotPresent first 2))) (λ sfid _.
+    and_then (λ _. Unit {0}) (IsChange flows) (stated first.sfid (refusal_naming t codes.RejectRequiredParameterNotPresent first sfid_subtype)) _ (anything (stated first.sfid (refusal_naming t codes.RejectRequiredParameterNotPresent first sfid_subtype))) (λ sfid _.
     and_then (IsFreeFlow (flow_at sfid flows)) (IsChange flows) (free_flow t (flow_at sfid flows)) _ (free-IsFreeFlow t (flow_at sfid flows)) (λ flow free.
     and_then AreKept (IsChange flows) (asked_sets t consts encodings) _ (asked-AreKept t consts encodings) (λ asked kept.
     and_then (AreAsked flow.sets.provisioned) (IsChange flows) (nested_sets t first flow.sets.provisioned asked) _ (nested-AreAsked t first flow.sets.provisioned asked kept) (λ sets h. record { flow = free; sets = h })))))

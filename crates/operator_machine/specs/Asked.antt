@@ -3,6 +3,7 @@
 use Rattle.std.specs.Prelude.{◌==◌, ◌&&◌, ◌||◌, ℕ, Bool, true, false, not, List, [], ◌∷◌, find, Option, Some, None, Result, Ok, Err, is_some, is_none, if◌then◌else◌}
 use Rattle.std.specs.Option.{option_map}
 use Rattle.std.specs.List.{list_all}
+use Rattle.tlv24.specs.Subtype.{reference_subtype, sfid_subtype, class_name_subtype, set_type_subtype, scheduling_type_subtype}
 use Rattle.tlv24.specs.declared.fields.FlowFields.{FlowFields}
 use Rattle.dsx_messages.specs.declared.modem.Modem.{Modem}
 use Rattle.dsx_messages.specs.declared.kind.Kind.{Kind}
@@ -97,7 +98,7 @@ abbrev pub is_unclassed : List Class → FlowFields → Bool
 is_unclassed classes flow = is_none (asked_of classes flow)
 
 abbrev pub first_unless : Option FlowFields → Transaction → List FlowFields → Result FlowFields ReplyFields
-first_unless (Some flow) t encodings = Err (refusal_naming t codes.RejectPermanent flow 4)
+first_unless (Some flow) t encodings = Err (refusal_naming t codes.RejectPermanent flow class_name_subtype)
 first_unless None t encodings = first_of t encodings
 
 -- the first of the encodings, unless one of them is unclassed: the first such in order of bytes
@@ -121,7 +122,7 @@ set_unless t flow (Ok set) = Ok set
 set_unless t flow (Err r) = Err (refusal_naming t r.code flow r.subtype)
 
 abbrev pub set_over_class : Transaction → UnitSizes → FlowFields → Option FlowFields → Result ParamFields ReplyFields
-set_over_class t units flow None = Err (refusal_naming t codes.RejectPermanent flow 4)
+set_over_class t units flow None = Err (refusal_naming t codes.RejectPermanent flow class_name_subtype)
 set_over_class t units flow (Some asked) = set_unless t flow (parameter_set_of asked units)
 
 -- the set of an encoding: it is refused as the set of what it asks for over its class
@@ -139,10 +140,10 @@ asked_by_type t consts flow n =
     if n == 2 then (set_of t consts flow >>= λ set. Ok (record { admitted = Some set; active = None })) else
     if n == 6 then (set_of t consts flow >>= λ set. Ok (record { admitted = Some set; active = Some set })) else
     if n == 0 && is_change t.kind then Ok (record { admitted = None; active = None }) else
-    Err (refusal_naming t codes.RejectInvalidForContext flow 6)
+    Err (refusal_naming t codes.RejectInvalidForContext flow set_type_subtype)
 
 abbrev pub asked_by_one : Transaction → ConstsFields → FlowFields → Option ℕ → Result AskedSets ReplyFields
-asked_by_one t consts flow None = Err (refusal_naming t codes.RejectRequiredParameterNotPresent flow 6)
+asked_by_one t consts flow None = Err (refusal_naming t codes.RejectRequiredParameterNotPresent flow set_type_subtype)
 asked_by_one t consts flow (Some n) = asked_by_type t consts flow n
 
 -- two encodings in order of bytes, of which one admits and the other activates
@@ -165,7 +166,7 @@ asked_sets t consts flows = Err (refusal t.kind t.tid codes.RejectDuplicateRefer
 -- the first subtype in which the active set is not within the admitted one
 abbrev pub failing_active : Option ParamFields → Option ParamFields → Option ℕ
 failing_active None admitted = None
-failing_active (Some active) None = Some 15
+failing_active (Some active) None = Some scheduling_type_subtype
 failing_active (Some active) (Some admitted) = first_failing active admitted
 
 -- the first subtype in which the admitted set is not within the provisioned one
@@ -189,7 +190,7 @@ nested_sets t first provisioned asked =
 unfoldable pub addition_of : ConstsFields → Transaction → List FlowFields → Result Addition ReplyFields
 addition_of consts t encodings = do
   first ← first_encoding t consts.classes encodings
-  reference ← stated first.reference (refusal_naming t codes.RejectRequiredParameterNotPresent first 1)
+  reference ← stated first.reference (refusal_naming t codes.RejectRequiredParameterNotPresent first reference_subtype)
   asked ← asked_sets t consts encodings
   sets ← nested_sets t first None asked
   Ok (record { reference = reference; sets = sets })
@@ -198,7 +199,7 @@ addition_of consts t encodings = do
 unfoldable pub change_of : ConstsFields → List (ℕ × Flow) → Transaction → List FlowFields → Result Change ReplyFields
 change_of consts flows t encodings = do
   first ← first_encoding t consts.classes encodings
-  sfid ← stated first.sfid (refusal_naming t codes.RejectRequiredParameterNotPresent first 2)
+  sfid ← stated first.sfid (refusal_naming t codes.RejectRequiredParameterNotPresent first sfid_subtype)
   flow ← free_flow t (flow_at sfid flows)
   asked ← asked_sets t consts encodings
   sets ← nested_sets t first flow.sets.provisioned asked
