@@ -1,8 +1,10 @@
 -- The one spelling of each reply (own layout).
 use Rattle.std.specs.Prelude.{ℕ, List, [], ◌∷◌, ◌++◌, Option, Some, None}
+use Rattle.std.specs.Option.{option_map}
 use Rattle.std.specs.Int.{w16, w32, to_be_bytes}
 use Rattle.tlv24.specs.Subtype.{reference_subtype, sfid_subtype, sid_subtype, errored_subtype, errored_parameter_subtype, error_code_subtype}
 use Rattle.tlv24.specs.Tlv.{tlv, spelled}
+use Rattle.tlv24.specs.Spelling.{under}
 use Rattle.tlv24.specs.declared.tlv.Tlv.{Tlv}
 use Rattle.dsx_messages.specs.declared.kind.Kind.{Kind}
 use Rattle.dsx_messages.specs.declared.kind.Kind.TheVariants.{Dsa, Dsc, Dsd}
@@ -22,14 +24,6 @@ response_type Dsa = dsa_rsp
 response_type Dsc = dsc_rsp
 response_type Dsd = dsd_rsp
 
-abbrev pub reference_tlv : Option ℕ → List Tlv
-reference_tlv None = []
-reference_tlv (Some reference) = tlv reference_subtype (to_be_bytes w16 reference) ∷ []
-
-abbrev pub sid_tlv : Option ℕ → List Tlv
-sid_tlv None = []
-sid_tlv (Some sid) = tlv sid_subtype (to_be_bytes w16 sid) ∷ []
-
 abbrev pub id_tlv : Option FlowId → List Tlv
 id_tlv None = []
 id_tlv (Some (Reference reference)) = tlv reference_subtype (to_be_bytes w16 reference) ∷ []
@@ -37,7 +31,10 @@ id_tlv (Some (Sfid sfid)) = tlv sfid_subtype (to_be_bytes w32 sfid) ∷ []
 
 -- what stands under type 24: the flow that was added or changed
 abbrev pub given_tlvs : Option ℕ → ℕ → Option ℕ → List Tlv
-given_tlvs reference sfid sid = reference_tlv reference ++ tlv sfid_subtype (to_be_bytes w32 sfid) ∷ sid_tlv sid
+given_tlvs reference sfid sid =
+    under reference_subtype (option_map (to_be_bytes w16) reference) ++
+    tlv sfid_subtype (to_be_bytes w32 sfid) ∷
+    under sid_subtype (option_map (to_be_bytes w16) sid)
 
 -- or the encoding at fault, and its error encodings: the subtype, and the reply's code again
 abbrev pub errored_tlvs : Code → Option FlowId → ℕ → List Tlv

@@ -1,7 +1,8 @@
 //! Reading replies.
 
-ghost use Rattle.std.specs.Prelude.{◌≡◌, ◌≢◌, ℕ, ◌<◌, ◌^◌, [], ◌∷◌, Option, Some, None, IfSome, IfOk};
+ghost use Rattle.std.specs.Prelude.{◌≡◌, ◌≢◌, ◌==◌, ℕ, ◌<◌, ◌^◌, [], ◌∷◌, Option, Some, None, IfSome, IfOk, if◌then◌else◌};
 ghost use Rattle.tlv24.specs.Tlv.{spelled};
+ghost use Rattle.dsx_messages.specs.Code.{number_of};
 ghost use Rattle.dsx_messages.specs.Spelling.{response_type, tlvs_in, tail_of, spell_reply};
 ghost use Rattle.dsx_messages.specs.WellFormed.{IsWellFormed};
 ghost use Rattle.dsx_messages.specs.Told.{IsTold};
@@ -119,97 +120,83 @@ fn changed_with_sid(tail: &[u8]) -> Option<(u32, u16)>
     }
 }
 
-/// A refusal that names no flow: the subtype at fault.
-fn errored(code: Code, tail: &[u8]) -> Option<u8>
-    ensures spelled { IfSome result (λ subtype. tail.now ≡ spelled (tlvs_in code (Errored None subtype))) }
-    ensures every { (subtype : ℕ) → tail.now ≡ spelled (tlvs_in code (Errored None subtype)) → result ≡ Some subtype }
+/// What a refusal says of the encoding at fault, if its error encodings repeat the reply's code.
+fn repeated(code: Code, number: u8, id: Option<FlowId>, subtype: u8) -> Option<(Option<FlowId>, u8)>
+    ensures { result ≡ if number == number_of code then Some (id, subtype) else None }
 {
-    let [
-        tlv_type::UPSTREAM_SERVICE_FLOW,
-        8,
-        subtype::ERRORED,
-        6,
-        subtype::ERRORED_PARAMETER,
-        1,
-        subtype,
-        subtype::ERROR_CODE,
-        1,
-        number,
-    ] = tail
-    else {
-        return None;
-    };
-    if *number == code.number() {
-        Some(*subtype)
+    if number == code.number() {
+        Some((id, subtype))
     } else {
         None
     }
 }
 
-/// A refusal that names a flow by its reference: the reference and the subtype at fault.
-fn errored_reference(code: Code, tail: &[u8]) -> Option<(u16, u8)>
-    ensures spelled { IfSome result (λ n. tail.now ≡ spelled (tlvs_in code (Errored (Some (Reference n.0)) n.1))) }
-    ensures every { (reference subtype : ℕ) → reference < 2 ^ 16
+/// A refusal that names a subtype: the identifier of its flow, where it has one, and the subtype at fault.
+fn errored(code: Code, tail: &[u8]) -> Option<(Option<FlowId>, u8)>
+    ensures spelled { IfSome result (λ n. tail.now ≡ spelled (tlvs_in code (Errored n.0 n.1))) }
+    ensures every { (subtype : ℕ) → tail.now ≡ spelled (tlvs_in code (Errored None subtype))
+        → result ≡ Some (None, subtype) }
+    ensures every_reference { (reference subtype : ℕ) → reference < 2 ^ 16
         → tail.now ≡ spelled (tlvs_in code (Errored (Some (Reference reference)) subtype))
-        → result ≡ Some (reference, subtype) }
+        → result ≡ Some (Some (Reference reference), subtype) }
+    ensures every_sfid { (sfid subtype : ℕ) → sfid < 2 ^ 32
+        → tail.now ≡ spelled (tlvs_in code (Errored (Some (Sfid sfid)) subtype))
+        → result ≡ Some (Some (Sfid sfid), subtype) }
 {
-    let [
-        tlv_type::UPSTREAM_SERVICE_FLOW,
-        12,
-        subtype::REFERENCE,
-        2,
-        high,
-        low,
-        subtype::ERRORED,
-        6,
-        subtype::ERRORED_PARAMETER,
-        1,
-        subtype,
-        subtype::ERROR_CODE,
-        1,
-        number,
-    ] = tail
-    else {
-        return None;
-    };
-    if *number == code.number() {
-        Some((u16::from_be_bytes([*high, *low]), *subtype))
-    } else {
-        None
-    }
-}
-
-/// A refusal that names a flow by its SFID: the SFID and the subtype at fault.
-fn errored_sfid(code: Code, tail: &[u8]) -> Option<(u32, u8)>
-    ensures spelled { IfSome result (λ n. tail.now ≡ spelled (tlvs_in code (Errored (Some (Sfid n.0)) n.1))) }
-    ensures every { (sfid subtype : ℕ) → sfid < 2 ^ 32
-        → tail.now ≡ spelled (tlvs_in code (Errored (Some (Sfid sfid)) subtype)) → result ≡ Some (sfid, subtype) }
-{
-    let [
-        tlv_type::UPSTREAM_SERVICE_FLOW,
-        14,
-        subtype::SFID,
-        4,
-        a,
-        b,
-        c,
-        d,
-        subtype::ERRORED,
-        6,
-        subtype::ERRORED_PARAMETER,
-        1,
-        subtype,
-        subtype::ERROR_CODE,
-        1,
-        number,
-    ] = tail
-    else {
-        return None;
-    };
-    if *number == code.number() {
-        Some((u32::from_be_bytes([*a, *b, *c, *d]), *subtype))
-    } else {
-        None
+    match tail {
+        [
+            tlv_type::UPSTREAM_SERVICE_FLOW,
+            8,
+            subtype::ERRORED,
+            6,
+            subtype::ERRORED_PARAMETER,
+            1,
+            subtype,
+            subtype::ERROR_CODE,
+            1,
+            number,
+        ] => repeated(code, *number, None, *subtype),
+        [
+            tlv_type::UPSTREAM_SERVICE_FLOW,
+            12,
+            subtype::REFERENCE,
+            2,
+            high,
+            low,
+            subtype::ERRORED,
+            6,
+            subtype::ERRORED_PARAMETER,
+            1,
+            subtype,
+            subtype::ERROR_CODE,
+            1,
+            number,
+        ] => {
+            let reference = u16::from_be_bytes([*high, *low]);
+            repeated(code, *number, Some(FlowId::Reference(reference)), *subtype)
+        }
+        [
+            tlv_type::UPSTREAM_SERVICE_FLOW,
+            14,
+            subtype::SFID,
+            4,
+            a,
+            b,
+            c,
+            d,
+            subtype::ERRORED,
+            6,
+            subtype::ERRORED_PARAMETER,
+            1,
+            subtype,
+            subtype::ERROR_CODE,
+            1,
+            number,
+        ] => {
+            let sfid = u32::from_be_bytes([*a, *b, *c, *d]);
+            repeated(code, *number, Some(FlowId::Sfid(sfid)), *subtype)
+        }
+        _ => None,
     }
 }
 
@@ -272,14 +259,10 @@ fn refused_addition(code: Code, tail: &[u8]) -> Option<Detail>
     if tail.is_empty() {
         return Some(Detail::Nothing);
     }
-    if let Some(subtype) = errored(code, tail) {
-        return Some(Detail::Errored { id: None, subtype });
+    match errored(code, tail)? {
+        (Some(FlowId::Sfid(_)), _) => None,
+        (id, subtype) => Some(Detail::Errored { id, subtype }),
     }
-    let (reference, subtype) = errored_reference(code, tail)?;
-    Some(Detail::Errored {
-        id: Some(FlowId::Reference(reference)),
-        subtype,
-    })
 }
 
 /// What a refused change says.
@@ -295,14 +278,10 @@ fn refused_change(code: Code, tail: &[u8]) -> Option<Detail>
     if tail.is_empty() {
         return Some(Detail::Nothing);
     }
-    if let Some(subtype) = errored(code, tail) {
-        return Some(Detail::Errored { id: None, subtype });
+    match errored(code, tail)? {
+        (Some(FlowId::Reference(_)), _) => None,
+        (id, subtype) => Some(Detail::Errored { id, subtype }),
     }
-    let (sfid, subtype) = errored_sfid(code, tail)?;
-    Some(Detail::Errored {
-        id: Some(FlowId::Sfid(sfid)),
-        subtype,
-    })
 }
 
 /// What a deletion says: nothing, in a reserved byte, which is 0.

@@ -1,18 +1,20 @@
 //! The spelling of replies.
 
-ghost use Rattle.std.specs.Prelude.{◌≡◌, ℕ, ◌<◌, ◌+◌, ◌^◌, [], ◌∷◌, ◌++◌, length, OnOk, IfOk};
-ghost use Rattle.std.specs.Int.{w16, w32, to_be_bytes};
-ghost use Rattle.tlv24.specs.Tlv.{tlv, spelled, spelled_one};
+ghost use Rattle.std.specs.Prelude.{◌≡◌, ℕ, ◌≤◌, [], ◌∷◌, ◌++◌, length, OnOk, IfOk};
+ghost use Rattle.std.specs.Option.{option_map};
+ghost use Rattle.std.specs.Int.{w16, to_be_bytes};
+ghost use Rattle.tlv24.specs.Tlv.{tlv, spelled};
+ghost use Rattle.tlv24.specs.Spelling.{under};
 ghost use Rattle.dsx_messages.specs.Code.{number_of};
 ghost use Rattle.dsx_messages.specs.TlvType.{upstream_service_flow};
-ghost use Rattle.dsx_messages.specs.Spelling.{response_type, reference_tlv, sid_tlv, id_tlv, given_tlvs, errored_tlvs, tlvs_in, tail_of, spell_reply};
+ghost use Rattle.dsx_messages.specs.Spelling.{response_type, id_tlv, given_tlvs, errored_tlvs, tlvs_in, tail_of, spell_reply};
 
 use crate::code::Code;
 use crate::kind::Kind;
 use crate::reply::{Detail, FlowId, Reply};
 use crate::{message_type, tlv_type};
 use std::alloc::{AllocError, Global};
-use tlv24::subtype;
+use tlv24::{put_long, put_word, subtype};
 
 /// The most bytes that a reply has.
 const LONGEST: usize = 20;
@@ -27,47 +29,13 @@ fn response_type(kind: Kind) -> u8
     }
 }
 
-/// Writes a TLV of two bytes.
-fn put_word(out: &mut Vec<u8>, subtype: u8, value: u16) -> Result<(), AllocError>
-    ensures { OnOk result (out.new.items ≡ out.old.items ++ spelled_one (tlv subtype (to_be_bytes w16 value))) }
-{
-    out.extend_from_slice(&[subtype, 2])?;
-    out.extend_from_slice(&value.to_be_bytes())
-}
-
-/// Writes a TLV of four bytes.
-fn put_long(out: &mut Vec<u8>, subtype: u8, value: u32) -> Result<(), AllocError>
-    ensures { OnOk result (out.new.items ≡ out.old.items ++ spelled_one (tlv subtype (to_be_bytes w32 value))) }
-{
-    out.extend_from_slice(&[subtype, 4])?;
-    out.extend_from_slice(&value.to_be_bytes())
-}
-
-fn put_reference(out: &mut Vec<u8>, reference: Option<u16>) -> Result<(), AllocError>
-    ensures { OnOk result (out.new.items ≡ out.old.items ++ spelled (reference_tlv reference)) }
-{
-    match reference {
-        None => Ok(()),
-        Some(reference) => put_word(out, subtype::REFERENCE, reference),
-    }
-}
-
-fn put_sid(out: &mut Vec<u8>, sid: Option<u16>) -> Result<(), AllocError>
-    ensures { OnOk result (out.new.items ≡ out.old.items ++ spelled (sid_tlv sid)) }
-{
-    match sid {
-        None => Ok(()),
-        Some(sid) => put_word(out, subtype::SID, sid),
-    }
-}
-
 fn put_id(out: &mut Vec<u8>, id: Option<FlowId>) -> Result<(), AllocError>
     ensures { OnOk result (out.new.items ≡ out.old.items ++ spelled (id_tlv id)) }
 {
     match id {
         None => Ok(()),
-        Some(FlowId::Reference(reference)) => put_word(out, subtype::REFERENCE, reference),
-        Some(FlowId::Sfid(sfid)) => put_long(out, subtype::SFID, sfid),
+        Some(FlowId::Reference(reference)) => put_word(out, subtype::REFERENCE, Some(reference)),
+        Some(FlowId::Sfid(sfid)) => put_long(out, subtype::SFID, Some(sfid)),
     }
 }
 
@@ -84,8 +52,8 @@ fn id_len(id: Option<FlowId>) -> u8
 
 /// How many bytes a reference or a SID takes.
 fn word_len(value: Option<u16>) -> u8
-    ensures reference { result ≡ length (spelled (reference_tlv value)) }
-    ensures sid { result ≡ length (spelled (sid_tlv value)) }
+    ensures exact { (subtype : ℕ) → result ≡ length (spelled (under subtype (option_map (to_be_bytes w16) value))) }
+    ensures few { result ≤ 4 }
 {
     match value {
         None => 0,
@@ -105,9 +73,9 @@ fn put_given(
 {
     let count = word_len(reference) + 6 + word_len(sid);
     out.extend_from_slice(&[tlv_type::UPSTREAM_SERVICE_FLOW, count])?;
-    put_reference(out, reference)?;
-    put_long(out, subtype::SFID, sfid)?;
-    put_sid(out, sid)
+    put_word(out, subtype::REFERENCE, reference)?;
+    put_long(out, subtype::SFID, Some(sfid))?;
+    put_word(out, subtype::SID, sid)
 }
 
 /// Writes the encoding at fault and its subtype.

@@ -20,4 +20,4 @@ pub use flow::FlowTlv;
 pub use laws::{flow_is_read, one_meaning, read_back};
 pub use read::read_flow;
 pub use tlv::{FirstTlv, Tlv, TlvFault, Tlvs, first_tlv};
-pub use write::write_flow;
+pub use write::{put_long, put_word, write_flow};
