@@ -3,6 +3,7 @@ use Rattle.std.proofs.Common.{◌≡◌, ◌≢◌, ℕ, ◌<◌, List, [], ◌�
 use Rattle.std.specs.Prelude.{Any, MatchResult}
 use Rattle.std.specs.List.{AllByRecursion}
 use Rattle.std.proofs.lemmas.Bool.{cond_both, leb-true, leb-false}
+use Rattle.tlv24.specs.Subtype.{reference_subtype}
 use Rattle.tlv24.specs.declared.fields.FlowFields.{FlowFields}
 use Rattle.dsx_messages.specs.declared.modem.Modem.{Modem}
 use Rattle.dsx_messages.specs.declared.kind.Kind.TheVariants.{Dsa, Dsd}
@@ -63,7 +64,7 @@ module _ (op : Operator) (sound : IsSound op) (modem : Modem) (tid : ℕ) (encod
       match_then (IsReady op modem Dsa tid an_addition encodings) IsAsked Decided (first_encoding (transaction modem Dsa tid) op.consts.classes encodings) _
       (encodings-view op modem Dsa tid an_addition encodings) (λ first ready.
       match_then (IsIdentified op modem Dsa tid an_addition encodings first) IsAsked Decided
-      (stated first.reference (refusal_naming (transaction modem Dsa tid) RejectRequiredParameterNotPresent first 1)) _
+      (stated first.reference (refusal_naming (transaction modem Dsa tid) RejectRequiredParameterNotPresent first reference_subtype)) _
       (identifier-view op modem Dsa tid an_addition encodings first ready) (λ reference identified.
       match_then (AreAsked op modem Dsa tid an_addition encodings) IsAsked Decided (asked_sets (transaction modem Dsa tid) op.consts encodings) _
       (asked-view op modem Dsa tid an_addition encodings first ready (no_flow identified.none)) (λ asked are.

@@ -3,6 +3,7 @@ use Rattle.std.proofs.Common.{◌≡◌, ◌≢◌, ℕ, ◌&&◌, Bool, true, f
 use Rattle.std.specs.Prelude.{MatchResult, if◌then◌else◌}
 use Rattle.std.specs.List.{AllByRecursion}
 use Rattle.std.proofs.lemmas.Bool.{cond_both, true≢false, false≢true}
+use Rattle.tlv24.specs.Subtype.{sfid_subtype}
 use Rattle.tlv24.specs.declared.fields.FlowFields.{FlowFields}
 use Rattle.dsx_messages.specs.declared.modem.Modem.{Modem}
 use Rattle.dsx_messages.specs.declared.kind.Kind.TheVariants.{Dsc, Dsd}
@@ -68,7 +69,7 @@ module _ (op : Operator) (sound : IsSound op) (modem : Modem) (tid : ℕ) (encod
       match_then (IsReady op modem Dsc tid a_change encodings) IsAsked Decided (first_encoding (transaction modem Dsc tid) op.consts.classes encodings) _
       (encodings-view op modem Dsc tid a_change encodings) (λ first ready.
       match_then (IsIdentified op modem Dsc tid a_change encodings first) IsAsked Decided
-      (stated first.sfid (refusal_naming (transaction modem Dsc tid) RejectRequiredParameterNotPresent first 2)) _
+      (stated first.sfid (refusal_naming (transaction modem Dsc tid) RejectRequiredParameterNotPresent first sfid_subtype)) _
       (identifier-view op modem Dsc tid a_change encodings first ready) (λ sfid identified.
       let named : Names Dsc encodings None sfid = any_from (λ (e : FlowFields). e.sfid ≡ Some sfid) encodings first ready.has identified.is in
       let one : ((n : ℕ) → Names Dsc encodings None n → n ≡ sfid) = only ready sfid identified in

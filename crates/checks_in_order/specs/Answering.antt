@@ -1,5 +1,6 @@
 -- What each check of the table answers (which case gets which code is own).
 use Rattle.std.specs.Prelude.{◌≡◌, ℕ, Bool, true, false, [], ◌∷◌, Any, Contains, Option, Some, None}
+use Rattle.tlv24.specs.Subtype.{class_name_subtype, set_type_subtype}
 use Rattle.tlv24.specs.declared.fields.FlowFields.{FlowFields}
 use Rattle.dsx_messages.specs.declared.modem.Modem.{Modem}
 use Rattle.dsx_messages.specs.declared.kind.Kind.{Kind}
@@ -117,7 +118,7 @@ IsAccepted Dsd op modem said answer = IsDeleted said answer
 abbrev pub Answers : Check → Operator → Modem → Said → Verdict → Type 0
 Answers UnknownClass op modem said answer =
     (encoding : FlowFields) × IsFirst (NamesUnknownClass op.consts.classes) said.encodings encoding
-    × (answer ≡ refused said RejectPermanent (naming said encoding 4))
+    × (answer ≡ refused said RejectPermanent (naming said encoding class_name_subtype))
 Answers NoEncoding op modem said answer = answer ≡ refused said RejectRequiredParameterNotPresent Nothing
 Answers IdentifiersDiffer op modem said answer = answer ≡ refused said RejectMultipleUpstreamFlows Nothing
 Answers NotTogether op modem said answer = answer ≡ refused said RejectDuplicateReference Nothing
@@ -128,7 +129,7 @@ Answers NotOwner op modem said answer = answer ≡ refused said RejectNotOwner N
 Answers FlowWaits op modem said answer = answer ≡ refused said RejectTemporary Nothing
 Answers WrongSetType op modem said answer =
     (encoding : FlowFields) × (said.encodings ≡ encoding ∷ [])
-    × (answer ≡ refused said (set_type_code encoding.set_type) (naming said encoding 6))
+    × (answer ≡ refused said (set_type_code encoding.set_type) (naming said encoding set_type_subtype))
 Answers NoParameterSet op modem said answer =
     (encoding : FlowFields) × (refusal : Refusal) × IsFirst (GivesNoSet op.consts) said.encodings encoding
     × IsRefused op.consts encoding refusal

@@ -1,6 +1,7 @@
 -- What a request says (CM-SP-MULPIv3.1, 6.4.12, 6.4.15 and 6.4.18, and Annex C, type 24), and what it asks for.
 use Rattle.std.specs.Prelude.{◌≡◌, ℕ, List, [], All, Any, Contains, Option, Some, None, Result, Ok, Err, ◌⊎◌}
 use Rattle.std.specs.Option.{option_map}
+use Rattle.tlv24.specs.Subtype.{reference_subtype, sfid_subtype}
 use Rattle.tlv24.specs.declared.fields.FlowFields.{FlowFields}
 use Rattle.dsx_messages.specs.declared.kind.Kind.{Kind}
 use Rattle.dsx_messages.specs.declared.kind.Kind.TheVariants.{Dsa, Dsc, Dsd}
@@ -44,10 +45,10 @@ told_identifier Dsa encoding = option_map ids.Reference encoding.reference
 told_identifier Dsc encoding = option_map ids.Sfid encoding.sfid
 told_identifier Dsd encoding = None
 
--- the subtype of the identifier
+-- the subtype of the identifier; a deletion has none
 abbrev pub identifier_subtype : Kind → ℕ
-identifier_subtype Dsa = 1
-identifier_subtype Dsc = 2
+identifier_subtype Dsa = reference_subtype
+identifier_subtype Dsc = sfid_subtype
 identifier_subtype Dsd = 0
 
 -- the SFID that a request names: of its encodings in a change, of its fixed part in a deletion; an addition names
