@@ -14,7 +14,7 @@ use flow_table::{Flow, Flows};
 use operator_machine::{Addition, AskedSets, Change, Transaction};
 use param_sets::{ParamSet, Refusal, Sets, from_tlv, within};
 use plant::Consts;
-use tlv24::FlowTlv;
+use tlv24::{FlowTlv, subtype};
 
 /// The identifier of an encoding as a number.
 fn number_in(kind: Kind, flow: &FlowTlv) -> Option<u32>
@@ -118,7 +118,7 @@ fn first_encoding<'a>(
         (λ reply. first_encoding t consts.now.classes encodings.now ≡ Err reply) }
 {
     match first_unclassed(consts, encodings) {
-        Some(flow) => Err(refusal_naming(t, Code::RejectPermanent, flow, 4)),
+        Some(flow) => Err(refusal_naming(t, Code::RejectPermanent, flow, subtype::CLASS_NAME)),
         None => first_of(t, encodings),
     }
 }
@@ -170,7 +170,7 @@ fn set_of(t: Transaction, consts: &Consts, flow: &FlowTlv) -> Result<ParamSet, R
     }
     match consts.asked(flow) {
         Some(asked) => set_from(t, consts, flow, &asked),
-        None => Err(refusal_naming(t, Code::RejectPermanent, flow, 4)),
+        None => Err(refusal_naming(t, Code::RejectPermanent, flow, subtype::CLASS_NAME)),
     }
 }
 
@@ -210,7 +210,7 @@ fn asked_by_type(
             admitted: None,
             active: None,
         }),
-        _ => Err(refusal_naming(t, Code::RejectInvalidForContext, flow, 6)),
+        _ => Err(refusal_naming(t, Code::RejectInvalidForContext, flow, subtype::SET_TYPE)),
     }
 }
 
@@ -221,7 +221,12 @@ fn asked_by_one(t: Transaction, consts: &Consts, flow: &FlowTlv) -> Result<Asked
     ensures { result ≡ asked_by_one t consts.now flow.now flow.now.set_type }
 {
     match flow.get_set_type() {
-        None => Err(refusal_naming(t, Code::RejectRequiredParameterNotPresent, flow, 6)),
+        None => Err(refusal_naming(
+            t,
+            Code::RejectRequiredParameterNotPresent,
+            flow,
+            subtype::SET_TYPE,
+        )),
         Some(set_type) => asked_by_type(t, consts, flow, set_type),
     }
 }
@@ -278,7 +283,7 @@ fn failing_active(asked: &AskedSets) -> Option<u8>
 {
     let active = asked.active?;
     match asked.admitted {
-        None => Some(15),
+        None => Some(subtype::SCHEDULING_TYPE),
         Some(admitted) => within(&active, &admitted).err(),
     }
 }
@@ -338,7 +343,12 @@ pub(crate) fn addition_of(
 {
     let first = first_encoding(t, consts, encodings)?;
     let Some(reference) = first.get_reference() else {
-        return Err(refusal_naming(t, Code::RejectRequiredParameterNotPresent, first, 1));
+        return Err(refusal_naming(
+            t,
+            Code::RejectRequiredParameterNotPresent,
+            first,
+            subtype::REFERENCE,
+        ));
     };
     let asked = asked_sets(t, consts, encodings)?;
     let sets = nested_sets(t, first, Sets::dynamic(), &asked)?;
@@ -359,7 +369,12 @@ pub(crate) fn change_of(
 {
     let first = first_encoding(t, consts, encodings)?;
     let Some(sfid) = first.get_sfid() else {
-        return Err(refusal_naming(t, Code::RejectRequiredParameterNotPresent, first, 2));
+        return Err(refusal_naming(
+            t,
+            Code::RejectRequiredParameterNotPresent,
+            first,
+            subtype::SFID,
+        ));
     };
     let flow = *free_flow(t, flows.get(sfid))?;
     let asked = asked_sets(t, consts, encodings)?;
