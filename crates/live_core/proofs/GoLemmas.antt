@@ -5,12 +5,12 @@ use Rattle.std.proofs.lemmas.List.{map-set, length-map}
 use Rattle.std.proofs.lemmas.Option.{slice_get-map, same_Some}
 use Rattle.std.proofs.Math.Logic.{∥∥₁_map, ∥∥₁_elim}
 use Rattle.std.proofs.Props.{props}
-use Rattle.slice_scheduler.specs.Minislots.{Minislots}
+use Rattle.slice_scheduler.specs.Minislots.{Minislots, slices_overlap}
 use Rattle.slice_scheduler.specs.declared.elements.ElementsFields.{ElementsFields}
 use Rattle.plant.specs.declared.consts.ConstsFields.{ConstsFields}
 use Rattle.plant.specs.declared.operator_row.RowFields.{RowFields}
 use Rattle.plant.specs.declared.plant.PlantFields.{PlantFields}
-use Rattle.plant.specs.Plant.{IsPlant, slices_meet}
+use Rattle.plant.specs.Plant.{IsPlant}
 use Rattle.operator_machine.specs.declared.action.SliceRow.{SliceRow}
 use Rattle.operator_machine.specs.declared.action.Action.{Action}
 use Rattle.operator_machine.specs.declared.action.Action.TheVariants as actions
@@ -226,7 +226,7 @@ went_all from (b ∷ books) (l ∷ lives) (row ∷ rows) one long each =
 -- rows that have no fault at the books without their histories have none at those with them
 pub record AreFreeBehind (from : ℕ) (books : List BookView) (rows : List SliceRow) : Type 0 where
   pub one_each : length rows ≡ length books
-  pub apart : AllPairs (λ a b. slices_meet (slice_of a) (slice_of b) ≡ false) rows
+  pub apart : AllPairs (λ a b. slices_overlap (slice_of a) (slice_of b) ≡ false) rows
   pub fit : NoneRefuses from books rows
 
 free_behind : (from : ℕ) (books lives : List BookView) (rows : List SliceRow) → map forgotten books ≡ lives → reslice_fault from lives rows ≡ None → AreFreeBehind from books rows

@@ -12,7 +12,7 @@ use Rattle.slice_scheduler.specs.declared.span.Iuc.{Iuc}
 use Rattle.slice_scheduler.specs.declared.span.Iuc.TheVariants.{Request, Short, Long}
 use Rattle.slice_scheduler.specs.declared.span.Span.{Span}
 use Rattle.slice_scheduler.specs.declared.elements.ElementsFields.{ElementsFields}
-use Rattle.plant.specs.Plant.{ranges_meet}
+use Rattle.plant.specs.Plant.{ranges_overlap}
 use Rattle.map_assembly.specs.declared.element.MapElement.{MapElement}
 use Rattle.map_assembly.specs.declared.layout.MapLayout.{MapLayout}
 use Rattle.map_assembly.specs.declared.share.Share.{Share}
@@ -267,7 +267,7 @@ frame_alone : (layout : MapLayout) (shares : List Share) (slices : List Minislot
     → slice_get shares k ≡ Some share → slice_get slices k ≡ Some slice → slice_get parts k ≡ Some part → StandsAlone share.sids share slice k part parts
 frame_alone layout shares slices parts k share slice part h e f g =
     stands_alone k share slice part shares slices parts (recursion_from_All IsShare shares h.shares_are.each)
-    (pairs_from_AllPairs (λ (a b : Share). ranges_meet a.sids b.sids ≡ false) shares h.shares_are.apart) h.parts_are e f g
+    (pairs_from_AllPairs (λ (a b : Share). ranges_overlap a.sids b.sids ≡ false) shares h.shares_are.apart) h.parts_are e f g
 
 pub frame_tiled : (layout : MapLayout) (shares : List Share) (slices : List Minislots) (parts : List ElementsFields) → AreFrame layout shares slices parts
     → GivesNoMinislotTwice layout.frame_minislots shares slices (map_spans layout (in_order parts))

@@ -7,13 +7,13 @@ use Rattle.std.proofs.lemmas.List.Sums.{sum_by-cons}
 use Rattle.std.proofs.lemmas.List.Elements.{recursion_from_All, All-from_recursion, All-push}
 use Rattle.std.proofs.lemmas.Option.{same_Some}
 use Rattle.std.proofs.lemmas.Bool.{lt-leb}
-use Rattle.slice_scheduler.specs.Minislots.{Minislots}
+use Rattle.slice_scheduler.specs.Minislots.{Minislots, slices_overlap}
 use Rattle.slice_scheduler.specs.declared.elements.ElementsFields.{ElementsFields}
 use Rattle.plant.specs.declared.consts.ConstsFields.{ConstsFields}
 use Rattle.plant.specs.declared.operator_row.RowFields.{RowFields}
 use Rattle.plant.specs.declared.plant.PlantFields.{PlantFields}
 use Rattle.plant.specs.Row.{IsRowOf}
-use Rattle.plant.specs.Plant.{slices_meet, ranges_meet, IsPlant}
+use Rattle.plant.specs.Plant.{ranges_overlap, IsPlant}
 use Rattle.map_assembly.specs.declared.share.Share.{Share}
 use Rattle.map_assembly.specs.declared.slicing.Reslicing.{Reslicing}
 use Rattle.map_assembly.specs.Map.{layout_of}
@@ -61,7 +61,7 @@ plant_shares : (plant : PlantFields) → IsPlant plant → AreShares (map share_
 plant_shares plant is = record {
   some = omega (arith, is.some, length-map plant.rows share_of);
   each = All-from_recursion IsShare (map share_of plant.rows) (all-over IsShare share_of plant.rows (shares_each plant.consts plant.rows (recursion_from_All (IsRowOf plant.consts) plant.rows is.rows)));
-  apart = AllPairs-map (λ (a b : Share). ranges_meet a.sids b.sids ≡ false) share_of plant.rows is.sids;
+  apart = AllPairs-map (λ (a b : Share). ranges_overlap a.sids b.sids ≡ false) share_of plant.rows is.sids;
   few = omega (arith, quotas plant.rows, length-map plant.rows share_of, is.elements);
 }
 
@@ -71,7 +71,7 @@ plant_slices plant is some = record {
   each = All-from_recursion (IsInFrame (layout_of plant.consts)) (map (λ (row : RowFields). row.slice) plant.rows)
       (all-over (IsInFrame (layout_of plant.consts)) (λ (row : RowFields). row.slice) plant.rows
       (slices_each plant.consts plant.rows (recursion_from_All (IsRowOf plant.consts) plant.rows is.rows) (recursion_from_All (λ (slice : Minislots). 1 ≤ slice.length) (map (λ (row : RowFields). row.slice) plant.rows) some)));
-  apart = AllPairs-map (λ (a b : Minislots). slices_meet a b ≡ false) (λ (row : RowFields). row.slice) plant.rows is.slices;
+  apart = AllPairs-map (λ (a b : Minislots). slices_overlap a b ≡ false) (λ (row : RowFields). row.slice) plant.rows is.slices;
 }
 
 nobody_waits : (n : ℕ) → 1 ≤ n → is_whole (replicate n []) ≡ false

@@ -5,11 +5,11 @@ use Rattle.std.proofs.lemmas.List.Elements.{recursion_from_All}
 use Rattle.std.proofs.lemmas.Option.{same_Some}
 use Rattle.std.proofs.lemmas.Bool.{and_parts, and_from, or_cases, eqb-true, leb-true, le-leb, both_ways, false_from_ne_true}
 use Rattle.admission.specs.Free.{Numbers}
-use Rattle.slice_scheduler.specs.Minislots.{Minislots}
+use Rattle.slice_scheduler.specs.Minislots.{Minislots, slices_overlap}
 use Rattle.slice_scheduler.specs.declared.span.Span.{Span}
 use Rattle.slice_scheduler.specs.declared.elements.ElementsFields.{ElementsFields}
 use Rattle.slice_scheduler.specs.Tiles.{IsTiled}
-use Rattle.plant.specs.Plant.{slices_meet, ranges_meet}
+use Rattle.plant.specs.Plant.{ranges_overlap}
 use Rattle.map_assembly.specs.declared.layout.MapLayout.{MapLayout}
 use Rattle.map_assembly.specs.declared.share.Share.{Share}
 use Rattle.map_assembly.specs.declared.view.MapSpan.{MapSpan}
@@ -81,23 +81,23 @@ parts_in_order layout count shares slices parts is valid h =
     let e : map (λ (p : ElementsFields). p.slice) parts ≡ slices = slices_of_parts shares slices parts h in
     let each : AllByRecursion (IsInFrame layout) (map (λ (p : ElementsFields). p.slice) parts) =
     subst (λ (ms : List Minislots). AllByRecursion (IsInFrame layout) ms) (sym e) (recursion_from_All (IsInFrame layout) slices valid.each) in
-    let pairs : PairsByRecursion (λ (a b : Minislots). slices_meet a b ≡ false) (map (λ (p : ElementsFields). p.slice) parts) =
-    subst (λ (ms : List Minislots). PairsByRecursion (λ (a b : Minislots). slices_meet a b ≡ false) ms) (sym e) (pairs_from_AllPairs (λ (a b : Minislots). slices_meet a b ≡ false) slices valid.apart) in
+    let pairs : PairsByRecursion (λ (a b : Minislots). slices_overlap a b ≡ false) (map (λ (p : ElementsFields). p.slice) parts) =
+    subst (λ (ms : List Minislots). PairsByRecursion (λ (a b : Minislots). slices_overlap a b ≡ false) ms) (sym e) (pairs_from_AllPairs (λ (a b : Minislots). slices_overlap a b ≡ false) slices valid.apart) in
     sorted_in_order layout.head layout.frame_minislots parts is.head
     (placed_parts layout parts (tiled_parts shares slices parts h) (all-map (IsInFrame layout) (λ (p : ElementsFields). p.slice) parts each))
-    (pairs-map (λ (a b : Minislots). slices_meet a b ≡ false) (λ (p : ElementsFields). p.slice) parts pairs)
+    (pairs-map (λ (a b : Minislots). slices_overlap a b ≡ false) (λ (p : ElementsFields). p.slice) parts pairs)
 
 -- ---- their SIDs
 
 -- a SID that is another's or nobody's is not of the range
-pub not_within : (a b : Numbers) (sid : ℕ) → 1 ≤ a.first → ranges_meet a b ≡ false → is_mine b sid ≡ true → is_within a sid ≡ false
+pub not_within : (a b : Numbers) (sid : ℕ) → 1 ≤ a.first → ranges_overlap a b ≡ false → is_mine b sid ≡ true → is_within a sid ≡ false
 not_within a b sid low meet mine = false_from_ne_true (is_within a sid) (λ w. at (and_parts (leb a.first sid) (leb sid a.last) w) (or_cases (eqb sid 0) (is_within b sid) mine))
   where
     at : (leb a.first sid ≡ true) × (leb sid a.last ≡ true) → (eqb sid 0 ≡ true) ⊎ (is_within b sid ≡ true) → ⊥
     at w (inl zero_is) = omega (arith, leb-true a.first sid w.0, eqb-true sid 0 zero_is)
     at w (inr other) =
         let o : (leb b.first sid ≡ true) × (leb sid b.last ≡ true) = and_parts (leb b.first sid) (leb sid b.last) other in
-        both_ways (ranges_meet a b) meet
+        both_ways (ranges_overlap a b) meet
         (and_from (leb a.first b.last) (leb b.first a.last)
         (le-leb a.first b.last (omega (arith, leb-true a.first sid w.0, leb-true sid b.last o.1)))
         (le-leb b.first a.last (omega (arith, leb-true b.first sid o.0, leb-true sid a.last w.1))))
@@ -115,10 +115,10 @@ within_is_some a sid low mine = by (eqb sid 0) (is_within a sid) refl refl (or_c
     by false false p q (inl e) = absurd (both_ways (eqb sid 0) p e)
     by false false p q (inr e) = absurd (both_ways (is_within a sid) q e)
 
-pub ranges_meet-turned : (a b : Numbers) → ranges_meet a b ≡ false → ranges_meet b a ≡ false
-ranges_meet-turned a b h = false_from_ne_true (ranges_meet b a) (λ w.
+pub ranges_overlap-turned : (a b : Numbers) → ranges_overlap a b ≡ false → ranges_overlap b a ≡ false
+ranges_overlap-turned a b h = false_from_ne_true (ranges_overlap b a) (λ w.
     let p : (leb b.first a.last ≡ true) × (leb a.first b.last ≡ true) = and_parts (leb b.first a.last) (leb a.first b.last) w in
-    both_ways (ranges_meet a b) h (and_from (leb a.first b.last) (leb b.first a.last) p.1 p.0))
+    both_ways (ranges_overlap a b) h (and_from (leb a.first b.last) (leb b.first a.last) p.1 p.0))
 
 pub all_at : {X : Type 0} (P : X → Type 0) (xs : List X) (k : ℕ) (x : X) → AllByRecursion P xs → slice_get xs k ≡ Some x → P x
 all_at P [] k x h e = absurd (cc)
@@ -139,21 +139,21 @@ pub record IsStranger (range : Numbers) (part : ElementsFields) : Type 0 where
   pub spans : AllByRecursion (λ s. is_within range s.sid ≡ false) part.spans
   pub pending : AllByRecursion (λ sid. is_within range sid ≡ false) part.pending
 
-spans_not_within : (a b : Numbers) (spans : List Span) → 1 ≤ a.first → ranges_meet a b ≡ false → AllByRecursion (λ s. is_mine b s.sid ≡ true) spans → AllByRecursion (λ s. is_within a s.sid ≡ false) spans
+spans_not_within : (a b : Numbers) (spans : List Span) → 1 ≤ a.first → ranges_overlap a b ≡ false → AllByRecursion (λ s. is_mine b s.sid ≡ true) spans → AllByRecursion (λ s. is_within a s.sid ≡ false) spans
 spans_not_within a b [] low meet h = tt
 spans_not_within a b (s ∷ spans) low meet h = (not_within a b s.sid low meet h.0, spans_not_within a b spans low meet h.1)
 
-sids_not_within : (a b : Numbers) (sids : List ℕ) → 1 ≤ a.first → ranges_meet a b ≡ false → AllByRecursion (λ s. is_mine b s ≡ true) sids → AllByRecursion (λ s. is_within a s ≡ false) sids
+sids_not_within : (a b : Numbers) (sids : List ℕ) → 1 ≤ a.first → ranges_overlap a b ≡ false → AllByRecursion (λ s. is_mine b s ≡ true) sids → AllByRecursion (λ s. is_within a s ≡ false) sids
 sids_not_within a b [] low meet h = tt
 sids_not_within a b (s ∷ sids) low meet h = (not_within a b s low meet h.0, sids_not_within a b sids low meet h.1)
 
-stranger : (a : Numbers) (share : Share) (slice : Minislots) (part : ElementsFields) → 1 ≤ a.first → ranges_meet a share.sids ≡ false → IsPartOf share slice part → IsStranger a part
+stranger : (a : Numbers) (share : Share) (slice : Minislots) (part : ElementsFields) → 1 ≤ a.first → ranges_overlap a share.sids ≡ false → IsPartOf share slice part → IsStranger a part
 stranger a share slice part low meet h = record {
   spans = spans_not_within a share.sids part.spans low meet (fits_in share slice part h.fits).spans;
   pending = sids_not_within a share.sids part.pending low meet (fits_in share slice part h.fits).pending;
 }
 
-strangers : (a : Share) (shares : List Share) (slices : List Minislots) (parts : List ElementsFields) → 1 ≤ a.sids.first → AllByRecursion (λ b. ranges_meet a.sids b.sids ≡ false) shares → ArePartsOf shares slices parts
+strangers : (a : Share) (shares : List Share) (slices : List Minislots) (parts : List ElementsFields) → 1 ≤ a.sids.first → AllByRecursion (λ b. ranges_overlap a.sids b.sids ≡ false) shares → ArePartsOf shares slices parts
     → AllByRecursion (IsStranger a.sids) parts
 strangers a [] [] [] low apart h = tt
 strangers a [] [] (p ∷ parts) low apart h = absurd h
@@ -169,7 +169,7 @@ StandsAlone range share slice zero part (p ∷ parts) = (p ≡ part) × IsPartOf
 StandsAlone range share slice (suc k) part (p ∷ parts) = IsStranger range p × StandsAlone range share slice k part parts
 
 pub stands_alone : (k : ℕ) (share : Share) (slice : Minislots) (part : ElementsFields) (shares : List Share) (slices : List Minislots) (parts : List ElementsFields)
-    → AllByRecursion IsShare shares → PairsByRecursion (λ (a b : Share). ranges_meet a.sids b.sids ≡ false) shares → ArePartsOf shares slices parts
+    → AllByRecursion IsShare shares → PairsByRecursion (λ (a b : Share). ranges_overlap a.sids b.sids ≡ false) shares → ArePartsOf shares slices parts
     → slice_get shares k ≡ Some share → slice_get slices k ≡ Some slice → slice_get parts k ≡ Some part → StandsAlone share.sids share slice k part parts
 stands_alone k share slice part [] [] [] each apart h e f g = absurd (cc)
 stands_alone k share slice part [] [] (p ∷ parts) each apart h e f g = absurd h
@@ -184,6 +184,6 @@ stands_alone zero share slice part (s ∷ shares) (m ∷ slices) (p ∷ parts) e
       subst (λ (x : Share). AllByRecursion (IsStranger x.sids) parts) es (strangers s shares slices parts each.0.low apart.0 h.1),
     )
 stands_alone (suc k) share slice part (s ∷ shares) (m ∷ slices) (p ∷ parts) each apart h e f g = (
-  stranger share.sids s m p (all_at IsShare shares k share each.1 e).low (ranges_meet-turned s.sids share.sids (all_at (λ (b : Share). ranges_meet s.sids b.sids ≡ false) shares k share apart.0 e)) h.0,
+  stranger share.sids s m p (all_at IsShare shares k share each.1 e).low (ranges_overlap-turned s.sids share.sids (all_at (λ (b : Share). ranges_overlap s.sids b.sids ≡ false) shares k share apart.0 e)) h.0,
   stands_alone k share slice part shares slices parts each.1 apart.1 h.1 e f g,
 )

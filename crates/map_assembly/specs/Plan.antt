@@ -1,7 +1,7 @@
 -- What the assembly of MAPs knows of a plant (own).
 use Rattle.std.specs.Prelude.{◌≡◌, ℕ, ◌+◌, ◌*◌, ◌≤◌, false, List, length, All, AllPairs, sum_by}
-use Rattle.slice_scheduler.specs.Minislots.{Minislots}
-use Rattle.plant.specs.Plant.{slices_meet, ranges_meet}
+use Rattle.slice_scheduler.specs.Minislots.{Minislots, slices_overlap}
+use Rattle.plant.specs.Plant.{ranges_overlap}
 use Rattle.map_assembly.specs.declared.layout.MapLayout.{MapLayout}
 use Rattle.map_assembly.specs.declared.share.Share.{Share}
 use Rattle.map_assembly.specs.Wire.{last_unicast_sid, longest_frame, element_limit}
@@ -22,7 +22,7 @@ pub record IsShare (share : Share) : Type 0 where
 pub record AreShares (shares : List Share) : Type 0 where
   pub some : 1 ≤ length shares
   pub each : All IsShare shares
-  pub apart : AllPairs (λ a b. ranges_meet a.sids b.sids ≡ false) shares
+  pub apart : AllPairs (λ a b. ranges_overlap a.sids b.sids ≡ false) shares
   pub few : sum_by (λ share. share.elements) shares + 2 * length shares + 3 ≤ element_limit
 
 -- a slice has a minislot, and lies in the frame, behind the head
@@ -35,4 +35,4 @@ pub record IsInFrame (layout : MapLayout) (slice : Minislots) : Type 0 where
 pub record AreSlices (layout : MapLayout) (count : ℕ) (slices : List Minislots) : Type 0 where
   pub one_each : length slices ≡ count
   pub each : All (IsInFrame layout) slices
-  pub apart : AllPairs (λ a b. slices_meet a b ≡ false) slices
+  pub apart : AllPairs (λ a b. slices_overlap a b ≡ false) slices

@@ -2,28 +2,21 @@
 
 ghost use Rattle.std.specs.Prelude.{◌≡◌, ◌↔◌, not, false, length, All, AllPairs, IsTrue};
 ghost use Rattle.std.specs.List.{list_all};
-ghost use Rattle.plant.specs.Plant.{slices_meet};
+ghost use Rattle.slice_scheduler.specs.Minislots.{slices_overlap};
 ghost use Rattle.map_assembly.specs.Plan.{IsInFrame, AreSlices};
 ghost use Rattle.map_assembly.specs.Apart.{all_apart};
 
 use crate::layout::MapLayout;
 use slice_scheduler::Slice;
 
-/// Whether two slices have a minislot in common.
-fn meet(a: Slice, b: Slice) -> bool
-    ensures { result ≡ slices_meet a b }
-{
-    a.get_start() < b.get_start() + b.get_length() && b.get_start() < a.get_start() + a.get_length()
-}
-
-/// Whether a slice meets none of others.
+/// Whether a slice overlaps none of others.
 fn is_apart(slice: Slice, others: &[Slice]) -> bool
-    ensures { result ≡ list_all (λ other. not (slices_meet slice other)) others.now }
+    ensures { result ≡ list_all (λ other. not (slices_overlap slice other)) others.now }
 {
-    others.iter().all(|other| !meet(slice, *other))
+    others.iter().all(|other| !slice.overlaps(other))
 }
 
-/// Whether no two slices meet: each pair is looked at, of at most 32 operators.
+/// Whether no two slices overlap: each pair is looked at, of at most 32 operators.
 fn all_apart(slices: &[Slice]) -> bool
     ensures { result ≡ all_apart slices.now }
 {
@@ -37,9 +30,9 @@ fn all_apart(slices: &[Slice]) -> bool
     true
 }
 
-/// Whether no two slices meet.
-fn no_two_meet(slices: &[Slice]) -> bool
-    ensures { IsTrue result ↔ AllPairs (λ a b. slices_meet a b ≡ false) slices.now }
+/// Whether no two slices overlap.
+fn no_two_overlap(slices: &[Slice]) -> bool
+    ensures { IsTrue result ↔ AllPairs (λ a b. slices_overlap a b ≡ false) slices.now }
 {
     all_apart(slices)
 }
@@ -63,5 +56,5 @@ fn all_in_frame(layout: MapLayout, slices: &[Slice]) -> bool
 pub(crate) fn are_slices(layout: MapLayout, count: usize, slices: &[Slice]) -> bool
     ensures { IsTrue result ↔ AreSlices layout count slices.now }
 {
-    slices.len() == count && all_in_frame(layout, slices) && no_two_meet(slices)
+    slices.len() == count && all_in_frame(layout, slices) && no_two_overlap(slices)
 }

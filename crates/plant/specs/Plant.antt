@@ -3,19 +3,15 @@ use Rattle.std.specs.Prelude.{◌≡◌, ◌≢◌, ℕ, ◌+◌, ◌*◌, ◌�
 use Rattle.std.specs.List.{flat_map}
 use Rattle.dsx_messages.specs.declared.modem.Modem.{Modem}
 use Rattle.admission.specs.Free.{Numbers}
-use Rattle.slice_scheduler.specs.Minislots.{Minislots}
+use Rattle.slice_scheduler.specs.Minislots.{slices_overlap}
 use Rattle.plant.specs.declared.operator_row.RowFields.{RowFields}
 use Rattle.plant.specs.declared.plant.PlantFields.{PlantFields}
 use Rattle.plant.specs.Consts.{AreConsts}
 use Rattle.plant.specs.Row.{IsRowOf}
 
--- two slices have a minislot in common
-abbrev pub slices_meet : Minislots → Minislots → Bool
-slices_meet a b = nat_lt a.start (b.start + b.length) && nat_lt b.start (a.start + a.length)
-
 -- two ranges have a number in common
-abbrev pub ranges_meet : Numbers → Numbers → Bool
-ranges_meet a b = nat_le a.first b.last && nat_le b.first a.last
+abbrev pub ranges_overlap : Numbers → Numbers → Bool
+ranges_overlap a b = nat_le a.first b.last && nat_le b.first a.last
 
 -- the addresses of all operators, in the file's order
 abbrev pub all_modems : List RowFields → List Modem
@@ -32,9 +28,9 @@ pub record IsPlant (plant : PlantFields) : Type 0 where
   pub few : length plant.rows ≤ 32
   pub rows : All (IsRowOf plant.consts) plant.rows
   pub names : AllPairs (λ a b. a.name ≢ b.name) plant.rows
-  pub slices : AllPairs (λ a b. slices_meet a.slice b.slice ≡ false) plant.rows
-  pub sids : AllPairs (λ a b. ranges_meet a.sids b.sids ≡ false) plant.rows
-  pub sfids : AllPairs (λ a b. ranges_meet a.sfids b.sfids ≡ false) plant.rows
+  pub slices : AllPairs (λ a b. slices_overlap a.slice b.slice ≡ false) plant.rows
+  pub sids : AllPairs (λ a b. ranges_overlap a.sids b.sids ≡ false) plant.rows
+  pub sfids : AllPairs (λ a b. ranges_overlap a.sfids b.sfids ≡ false) plant.rows
   pub modems : AllPairs (λ a b. a ≢ b) (all_modems plant.rows)
   pub elements : most_elements plant.rows ≤ 240
 

@@ -5,7 +5,7 @@ use Rattle.std.specs.Option.{option_or}
 use Rattle.std.specs.List.{AllByRecursion, position_from}
 use Rattle.std.proofs.lemmas.Bool.{eqb-true}
 use Rattle.std.proofs.lemmas.Option.{none-some, same_Some}
-use Rattle.plant.specs.Plant.{slices_meet}
+use Rattle.slice_scheduler.specs.Minislots.{slices_overlap}
 use Rattle.operator_machine.specs.declared.action.SliceRow.{SliceRow}
 use Rattle.operator_machine.specs.declared.action.Unfit.{Unfit}
 use Rattle.operator_machine.specs.declared.action.Unfit.TheVariants as unfits
@@ -60,7 +60,7 @@ none_from t n (row ∷ rows) h = by (t row) refl h (none_from t (n + 1) rows)
     by true e h rest = absurd (cc)
     by false e h rest = (e, rest h)
 
-no_pairs : (n : ℕ) (rows : List SliceRow) → least_meeting n rows ≡ None → PairsByRecursion (λ a b. slices_meet (slice_of a) (slice_of b) ≡ false) rows
+no_pairs : (n : ℕ) (rows : List SliceRow) → least_meeting n rows ≡ None → PairsByRecursion (λ a b. slices_overlap (slice_of a) (slice_of b) ≡ false) rows
 no_pairs n [] h = tt
 no_pairs n (row ∷ rows) h =
     let both = neither (λ (k : ℕ). (n, k)) (position_from (do_meet row) (n + 1) rows) (least_meeting (n + 1) rows) h in
@@ -71,7 +71,7 @@ no_pairs n (row ∷ rows) h =
 pub record AreFree (from : ℕ) (books : List BookView) (rows : List SliceRow) : Type 0 where
   pub one_each : length rows ≡ length books
   pub fit : NoneRefuses from books rows
-  pub apart : AllPairs (λ a b. slices_meet (slice_of a) (slice_of b) ≡ false) rows
+  pub apart : AllPairs (λ a b. slices_overlap (slice_of a) (slice_of b) ≡ false) rows
 
 rows_free : (from : ℕ) (books : List BookView) (rows : List SliceRow) → length rows ≡ length books → row_fault from books rows ≡ None → AreFree from books rows
 rows_free from books rows one h =
@@ -87,7 +87,7 @@ rows_free from books rows one h =
           none_at_all (unfit_from book.consts book.state from row)
           (not_this unfits.NotPast from 0 books rows a.0 i row book p q) (not_this unfits.Unfinished from 0 books rows b.0 i row book p q) (not_this unfits.OffFrame from 0 books rows c.0 i row book p q)
           (not_this unfits.BudgetOverSlice from 0 books rows e.0 i row book p q) (not_this unfits.OverBudget from 0 books rows f i row book p q);
-      apart = AllPairs-from_pairs (λ (a b : SliceRow). slices_meet (slice_of a) (slice_of b) ≡ false) rows (no_pairs 0 rows d.0);
+      apart = AllPairs-from_pairs (λ (a b : SliceRow). slices_overlap (slice_of a) (slice_of b) ≡ false) rows (no_pairs 0 rows d.0);
     }
 
 pub are_free : (from : ℕ) (books : List BookView) (rows : List SliceRow) → reslice_fault from books rows ≡ None → AreFree from books rows

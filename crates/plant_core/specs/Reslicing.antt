@@ -2,7 +2,7 @@
 use Rattle.std.specs.Prelude.{ℕ, ◌+◌, ◌==◌, Bool, true, false, List, [], ◌∷◌, length, option_map, Option, Some, None, if◌then◌else◌}
 use Rattle.std.specs.Option.{option_or}
 use Rattle.std.specs.List.{position_from}
-use Rattle.plant.specs.Plant.{slices_meet}
+use Rattle.slice_scheduler.specs.Minislots.{slices_overlap}
 use Rattle.operator_machine.specs.declared.action.SliceRow.{SliceRow}
 use Rattle.operator_machine.specs.declared.action.Unfit.{Unfit}
 use Rattle.operator_machine.specs.declared.action.Unfit.TheVariants as unfits
@@ -27,7 +27,7 @@ least_unfit unfit from n (book ∷ books) (row ∷ rows) =
 least_unfit unfit from n books rows = None
 
 abbrev pub do_meet : SliceRow → SliceRow → Bool
-do_meet a b = slices_meet (slice_of a) (slice_of b)
+do_meet a b = slices_overlap (slice_of a) (slice_of b)
 
 -- the least pair of operators, counted from n on, whose slices have a minislot in common
 abbrev pub least_meeting : ℕ → List SliceRow → Option (ℕ × ℕ)

@@ -6,12 +6,12 @@ use Rattle.std.proofs.lemmas.Bool.{or_parts, leb-false, ltb-false, eqb-false, eq
 use Rattle.std.proofs.lemmas.List.{length-map}
 use Rattle.std.proofs.lemmas.List.Elements.{All-from_recursion}
 use Rattle.std.proofs.lemmas.Option.{slice_get-get_or, slice_get_within, slice_get-map, get_or_from_slice_get}
-use Rattle.slice_scheduler.specs.Minislots.{Minislots}
+use Rattle.slice_scheduler.specs.Minislots.{Minislots, slices_overlap}
 use Rattle.slice_scheduler.specs.declared.elements.ElementsFields.{ElementsFields}
 use Rattle.plant.specs.declared.consts.ConstsFields.{ConstsFields}
 use Rattle.plant.specs.declared.operator_row.RowFields.{RowFields}
 use Rattle.plant.specs.declared.plant.PlantFields.{PlantFields}
-use Rattle.plant.specs.Plant.{IsPlant, slices_meet}
+use Rattle.plant.specs.Plant.{IsPlant}
 use Rattle.flow_table.specs.Table.{committed_minislots}
 use Rattle.operator_machine.specs.declared.action.SliceRow.{SliceRow}
 use Rattle.operator_machine.specs.declared.action.Action.{Action}
@@ -139,7 +139,7 @@ length_range a (suc n) = omega (arith, length_range (a + 1) n)
 -- ---- a re-slicing that each book takes
 
 module _ (plant : PlantFields) (done : List Step) (outs : List Out) (core : CoreView) (from : ℕ) (rows : List SliceRow) (valid : IsPlant plant) (reached : Reached plant done outs core) (is : IsGathering core.gathering)
-    (one : length rows ≡ length core.books) (apart : AllPairs (λ a b. slices_meet (slice_of a) (slice_of b) ≡ false) rows)
+    (one : length rows ≡ length core.books) (apart : AllPairs (λ a b. slices_overlap (slice_of a) (slice_of b) ≡ false) rows)
     (fit : (i : ℕ) (row : SliceRow) (book : BookView) → slice_get rows i ≡ Some row → slice_get core.books i ≡ Some book → unfit_from book.consts book.state from row ≡ None) where
   abbrev g : Gathering
   g = core.gathering
@@ -174,7 +174,7 @@ module _ (plant : PlantFields) (done : List Step) (outs : List Out) (core : Core
   given = record {
     one_each = let long = length-map rows slice_of in omega (arith, long, one, reached.one_book, shares_long);
     each = each_in_frame;
-    apart = pairs-map (λ (a b : SliceRow). slices_meet (slice_of a) (slice_of b) ≡ false) (λ (a b : Minislots). slices_meet a b ≡ false) slice_of (λ a b h. h) rows apart;
+    apart = pairs-map (λ (a b : SliceRow). slices_overlap (slice_of a) (slice_of b) ≡ false) (λ (a b : Minislots). slices_overlap a b ≡ false) slice_of (λ a b h. h) rows apart;
   }
 
   later : All (λ (r : Reslicing). r.from < from) g.reslicings

@@ -1,7 +1,7 @@
 -- What one step makes of a core (own).
 use Rattle.std.specs.Prelude.{◌≡◌, ℕ, List, [], ◌∷◌, ◌++◌, map, length, AllPairs, slice_get, slice_set, false, Option, Some, None}
 use Rattle.slice_scheduler.specs.declared.elements.ElementsFields.{ElementsFields}
-use Rattle.plant.specs.Plant.{slices_meet}
+use Rattle.slice_scheduler.specs.Minislots.{slices_overlap}
 use Rattle.plant.specs.Roster.{holder}
 use Rattle.operator_machine.specs.declared.action.SliceRow.{SliceRow}
 use Rattle.operator_machine.specs.declared.action.Action.{Action}
@@ -51,7 +51,7 @@ pub record Collects (i : ℕ) (old new : CoreView) (now : List Out) : Type 0 whe
 -- each operator takes its own row, and the assembly the slices, from that frame on
 pub record Reslices (from : ℕ) (rows : List SliceRow) (old new : CoreView) (now : List Out) : Type 0 where
   pub one_each : length rows ≡ length old.books
-  pub apart : AllPairs (λ a b. slices_meet (slice_of a) (slice_of b) ≡ false) rows
+  pub apart : AllPairs (λ a b. slices_overlap (slice_of a) (slice_of b) ≡ false) rows
   pub fit : (i : ℕ) (row : SliceRow) (book : BookView) → slice_get rows i ≡ Some row → slice_get old.books i ≡ Some book → unfit_from book.consts book.state from row ≡ None
   pub books : length new.books ≡ length old.books
   pub acted_is : (i : ℕ) (row : SliceRow) (book : BookView) → slice_get rows i ≡ Some row → slice_get old.books i ≡ Some book → slice_get new.books i ≡ Some (acted book (actions.Reslice from row))

@@ -3,7 +3,8 @@
 ghost use Rattle.std.specs.Prelude.{◌≡◌, ℕ, List, [], ◌∷◌, ◌++◌, map, length, AllPairs, slice_get, false, Some, None};
 ghost use Rattle.std.specs.List.{Contains};
 ghost use Rattle.plant.specs.declared.plant.PlantFields.{PlantFields};
-ghost use Rattle.plant.specs.Plant.{IsPlant, slices_meet};
+ghost use Rattle.plant.specs.Plant.{IsPlant};
+ghost use Rattle.slice_scheduler.specs.Minislots.{slices_overlap};
 ghost use Rattle.map_assembly.specs.declared.map_bytes.MapBytes.{MapBytes};
 ghost use Rattle.map_assembly.specs.declared.view.MapView.{MapView};
 ghost use Rattle.slice_scheduler.specs.declared.elements.ElementsFields.{ElementsFields};
@@ -84,7 +85,7 @@ pub fn waiting_frames_fit()
 pub fn slices_that_books_take_fit()
     ensures { (plant : PlantFields) (steps : List Step) (outs : List Out) (core : CoreView) (from : ℕ)
         (rows : List SliceRow) → IsPlant plant → Reached plant steps outs core → IsGathering core.gathering
-        → length rows ≡ length core.books → AllPairs (λ a b. slices_meet (slice_of a) (slice_of b) ≡ false) rows
+        → length rows ≡ length core.books → AllPairs (λ a b. slices_overlap (slice_of a) (slice_of b) ≡ false) rows
         → ((i : ℕ) (row : SliceRow) (book : BookView) → slice_get rows i ≡ Some row → slice_get core.books i ≡ Some book → unfit_from book.consts book.state from row ≡ None)
         → MayReslice core.gathering from (map slice_of rows) }
 {}

@@ -1,7 +1,7 @@
 //! An operator's slice of a frame.
 
 ghost use Rattle.std.specs.Prelude.{◌≡◌, ◌+◌, ◌≤◌};
-ghost use Rattle.slice_scheduler.specs.Minislots.{Minislots, IsSlice};
+ghost use Rattle.slice_scheduler.specs.Minislots.{Minislots, IsSlice, slices_overlap};
 
 use std::marker::Model;
 
@@ -47,5 +47,12 @@ impl Slice {
         ensures in_range { self.now.start + result ≤ 4096 }
     {
         self.length
+    }
+
+    /// Whether the slices have a minislot in common.
+    pub fn overlaps(&self, other: &Slice) -> bool
+        ensures { result ≡ slices_overlap self.now other.now }
+    {
+        self.start < other.start + other.length && other.start < self.start + self.length
     }
 }

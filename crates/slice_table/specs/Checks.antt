@@ -11,15 +11,16 @@ use Rattle.slice_table.specs.declared.plant_fault.PlantFault.{PlantFault}
 use Rattle.slice_table.specs.declared.plant_fault.PlantFault.TheVariants.{SlicesMeet, SidsMeet, SfidsMeet, ModemTwice, TooManyElements, BudgetOverSlice, ProvisionedOver}
 use Rattle.plant.specs.Provisioned.{sets_of_encoding}
 use Rattle.plant.specs.Row.{is_listed, need_of_provision, admits, count_of}
-use Rattle.plant.specs.Plant.{slices_meet, ranges_meet, all_modems, most_elements}
+use Rattle.plant.specs.Plant.{ranges_overlap, all_modems, most_elements}
+use Rattle.slice_scheduler.specs.Minislots.{slices_overlap}
 use Rattle.slice_table.specs.Tree.{Read}
 
 -- ---- two operators have something in common
 
 abbrev pub meets : Apart → RowFields → RowFields → Bool
-meets Slices a b = slices_meet a.slice b.slice
-meets Sids a b = ranges_meet a.sids b.sids
-meets Sfids a b = ranges_meet a.sfids b.sfids
+meets Slices a b = slices_overlap a.slice b.slice
+meets Sids a b = ranges_overlap a.sids b.sids
+meets Sfids a b = ranges_overlap a.sfids b.sfids
 
 -- the first with the first behind it that the test joins it with
 abbrev pub first_pair : {A : Type 0} → (A → A → Bool) → List A → Option (A × A)

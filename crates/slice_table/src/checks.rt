@@ -1,13 +1,12 @@
 //! What is asked of all keys of a plant file together.
 
 ghost use Rattle.std.specs.Prelude.{◌≡◌, ◌≤◌, length, find, option_map, option_copied};
-ghost use Rattle.plant.specs.Plant.{slices_meet, ranges_meet, most_elements};
+ghost use Rattle.plant.specs.Plant.{ranges_overlap, most_elements};
 ghost use Rattle.slice_table.specs.Checks.{meets, first_meeting, is_over_slice, do_fit, first_named, is_overfull, meeting_fault, elements_fault, budget_fault, provisioned_fault};
 
 use crate::plant_fault::PlantFault;
 use admission::IdRange;
 use plant::{Consts, OperatorName, OperatorRow};
-use slice_scheduler::Slice;
 
 /// What no two operators may have in common.
 #[derive(Clone, Copy)]
@@ -17,16 +16,9 @@ pub enum Apart {
     Sfids,
 }
 
-/// Whether two slices have a minislot in common.
-fn slices_meet(a: &Slice, b: &Slice) -> bool
-    ensures { result ≡ slices_meet a.now b.now }
-{
-    a.get_start() < b.get_start() + b.get_length() && b.get_start() < a.get_start() + a.get_length()
-}
-
 /// Whether two ranges have a number in common.
-fn ranges_meet(a: &IdRange, b: &IdRange) -> bool
-    ensures { result ≡ ranges_meet a.now b.now }
+fn ranges_overlap(a: &IdRange, b: &IdRange) -> bool
+    ensures { result ≡ ranges_overlap a.now b.now }
 {
     a.get_first() <= b.get_last() && b.get_first() <= a.get_last()
 }
@@ -44,9 +36,9 @@ fn meets(apart: Apart, row: &OperatorRow, other: &OperatorRow) -> bool
 {
     let (a, b) = (row.get_fields(), other.get_fields());
     match apart {
-        Apart::Slices => slices_meet(&a.slice, &b.slice),
-        Apart::Sids => ranges_meet(&a.sids, &b.sids),
-        Apart::Sfids => ranges_meet(&a.sfids, &b.sfids),
+        Apart::Slices => a.slice.overlaps(&b.slice),
+        Apart::Sids => ranges_overlap(&a.sids, &b.sids),
+        Apart::Sfids => ranges_overlap(&a.sfids, &b.sfids),
     }
 }
 
