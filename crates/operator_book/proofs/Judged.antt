@@ -1,5 +1,5 @@
 -- A fault that is handed on.
-use Rattle.std.proofs.Common.{◌≡◌, ◌↔◌, Result, Ok, Err, sym, ap, ◌∙◌}
+use Rattle.std.proofs.Common.{◌≡◌, ◌↔◌, Result, Err, sym, ap, ◌∙◌}
 use Rattle.operator_book.specs.declared.book.BookFault.{BookFault}
 
 fault_same : {A : Type 0} (a b : BookFault) → ◌≡◌ {A = Result A BookFault} (Err a) (Err b) → a ≡ b

@@ -85,6 +85,24 @@ fn put_provisions(consts: &Consts, row: &OperatorRow, flows: &mut Flows) -> Resu
     Ok(())
 }
 
+/// The flows of an operator as it is opened: its provisioned ones.
+fn flows_of(alloc: Global, row: &OperatorRow, consts: &Consts) -> Result<Flows, AllocError>
+    requires { IsRowOf consts.now row.now }
+    ensures { IfOk result (λ flows. flows ≡ record {
+      capacity = row.now.flows;
+      units = consts.now.units;
+      flows = put_provisions consts.now row.now [] row.now.provisions;
+    }) }
+{
+    let mut flows = Flows::new(
+        alloc,
+        u32::from(row.get_fields().flows),
+        consts.get_fields().units,
+    )?;
+    put_provisions(consts, row, &mut flows)?;
+    Ok(flows)
+}
+
 impl Machine {
     /// The machine of an operator as it is opened: its provisioned flows, and nothing else.
     #[tactic(auto, using(crate::proofs::Opens::provisions_open))]
@@ -99,13 +117,13 @@ impl Machine {
     {
         let keys = row.get_fields();
         let shared = consts.get_fields();
-        let mut flows = Flows::new(alloc, u32::from(keys.flows), shared.units)?;
-        put_provisions(consts, row, &mut flows)?;
+        let flows = flows_of(alloc, row, consts)?;
+        let kept = Kept::new(alloc, u32::from(keys.transactions), shared.timers)?;
         Ok(Machine {
             consts: consts.copy(alloc)?,
             row: row.copy(alloc)?,
             flows,
-            kept: Kept::new(alloc, u32::from(keys.transactions), shared.timers)?,
+            kept,
             inbox: VecDeque::new(alloc),
             frame: shared.first_frame,
             share: Share {

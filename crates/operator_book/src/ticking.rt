@@ -12,16 +12,37 @@ ghost use Rattle.operator_book.specs.Running.{with_flows, with_change, elements_
 use crate::machine::{Both, Machine};
 use grant_policy::Ranking;
 use operator_machine::{Output, given_up_have_no_grants, schedule_can_serve};
-use slice_scheduler::{At, Elements, Served, schedule};
+use slice_scheduler::{At, Elements, Grants, Served, schedule};
 use std::alloc::{AllocError, Global};
-use transactions::{GivenUp, Resends};
+use transactions::{GivenUp, GivenUps, Resends, Ticked};
 
-/// Room for so many outputs and one more.
-fn room_for(alloc: Global, count: usize) -> Result<Vec<Output>, AllocError>
+/// What a frame gives out.
+#[derive(Drop)]
+struct FramePlan {
+    /// The elements of the operator's part of the MAP.
+    elements: Elements,
+    /// The same once more.
+    copied: Elements,
+    /// The minislots granted to backlogs.
+    granted: Grants,
+}
+
+/// Room for the outputs of a tick, told twice.
+#[derive(Drop)]
+struct Rooms {
+    kept: Vec<Output>,
+    told: Vec<Output>,
+}
+
+/// Room for so many outputs and one more, twice.
+fn rooms_for(alloc: Global, count: usize) -> Result<Rooms, AllocError>
     requires { count ≤ 4294967295 }
-    ensures { IfOk result (λ room. (room.items ≡ []) × (count + 1 ≤ vec_capacity room)) }
+    ensures kept { IfOk result (λ rooms. (rooms.kept.items ≡ []) × (count + 1 ≤ vec_capacity rooms.kept)) }
+    ensures told { IfOk result (λ rooms. (rooms.told.items ≡ []) × (count + 1 ≤ vec_capacity rooms.told)) }
 {
-    Vec::with_capacity(alloc, count + 1)
+    let kept = Vec::with_capacity(alloc, count + 1)?;
+    let told = Vec::with_capacity(alloc, count + 1)?;
+    Ok(Rooms { kept, told })
 }
 
 /// The outputs of a tick, in room that is there: what is sent again, then the frame.
@@ -115,6 +136,40 @@ impl Machine {
         }
     }
 
+    /// What the frame gives out, its elements twice.
+    fn frame_plan(&self, alloc: Global, ranking: &Ranking) -> Result<FramePlan, AllocError>
+        requires sound { IsSound self.now }
+        requires policy { ranking.now.policy ≡ self.now.row.policy }
+        ensures elements { IfOk result (λ plan. plan.elements ≡ elements_in self.now) }
+        ensures copied { IfOk result (λ plan. plan.copied ≡ elements_in self.now) }
+        ensures granted { IfOk result (λ plan. plan.granted ≡ granted_in self.now) }
+    {
+        let Served { elements, granted } = self.served(alloc, ranking)?;
+        let copied = elements.copy(alloc)?;
+        Ok(FramePlan {
+            elements,
+            copied,
+            granted,
+        })
+    }
+
+    /// Undoes what is given up, takes the grants off the backlogs, and goes on to the next frame.
+    fn pass_frame(&mut self, given_up: GivenUps, granted: Grants)
+        requires { self.old.state.frame < 4294967295 }
+        ensures { self.new ≡ record self.old {
+          state = record self.old.state {
+            flows = all_granted self.old.state.frame granted (all_undone given_up self.old.state.flows);
+            frame = self.old.state.frame + 1;
+            share = share_at (self.old.state.frame + 1) self.old.state.share self.old.state.next;
+            next = next_at (self.old.state.frame + 1) self.old.state.next;
+          };
+        } }
+    {
+        self.undo_all(given_up.as_slice());
+        self.grant_all(self.frame, granted.as_slice());
+        self.go_on();
+    }
+
     /// Counts the timers one tick on, gives out the frame, and goes on to the next. What it puts out is told twice in any case.
     pub(crate) fn tick(
         &mut self,
@@ -127,19 +182,15 @@ impl Machine {
         requires not_spent { self.old.state.frame < 4294967295 }
         ensures { Does twice self.old self.new result (ticked self.old) }
     {
-        let Served { elements, granted } = self.served(alloc, ranking)?;
-        let copied = elements.copy(alloc)?;
+        let plan = self.frame_plan(alloc, ranking)?;
         let _row = self.row.get_fields();
-        let kept_room = room_for(alloc, self.kept.resend_count())?;
-        let told_room = room_for(alloc, self.kept.resend_count())?;
+        let rooms = rooms_for(alloc, self.kept.resend_count())?;
         let resends = self.kept.resends(alloc)?;
-        let ticked = self.kept.tick(alloc)?;
+        let Ticked { resend, given_up } = self.kept.tick(alloc)?;
         let number = self.frame;
-        self.undo_all(ticked.given_up.as_slice());
-        self.grant_all(number, granted.as_slice());
-        self.go_on();
-        let kept = frame_outputs(kept_room, resends, number, copied);
-        let told = frame_outputs(told_room, ticked.resend, number, elements);
+        self.pass_frame(given_up, plan.granted);
+        let kept = frame_outputs(rooms.kept, resends, number, plan.copied);
+        let told = frame_outputs(rooms.told, resend, number, plan.elements);
         Ok(Both { kept, told, twice })
     }
 }

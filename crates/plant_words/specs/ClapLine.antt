@@ -21,12 +21,19 @@ operator = record (new_rule (codes "operator")) { required = true; value_names =
 abbrev pub history_app : App
 history_app = with_rule (new_app (codes "history")) operator
 
+-- with `one`, `check`, `run` and `threads`
+abbrev pub with_first_words : App → App
+with_first_words app = with_subcommand (with_subcommand (with_subcommand (with_subcommand app
+    (new_app (codes "one")).top) (new_app (codes "check")).top) (new_app (codes "run")).top) (new_app (codes "threads")).top
+
+-- with `capture`, `serve` and `trace`
+abbrev pub with_later_words : App → App
+with_later_words app = with_subcommand (with_subcommand (with_subcommand app
+    (new_app (codes "capture")).top) (new_app (codes "serve")).top) (new_app (codes "trace")).top
+
 -- `one`, `check`, `run`, `threads`, `capture`, `serve`, `trace` and `history OPERATOR`
 abbrev pub program : App
-program = with_subcommand (with_subcommand (with_subcommand (with_subcommand (with_subcommand (with_subcommand
-    (with_subcommand (with_subcommand top (new_app (codes "one")).top) (new_app (codes "check")).top)
-    (new_app (codes "run")).top) (new_app (codes "threads")).top) (new_app (codes "capture")).top)
-    (new_app (codes "serve")).top) (new_app (codes "trace")).top) history_app.top
+program = with_subcommand (with_later_words (with_first_words top)) history_app.top
 
 -- the kinds of error that clap may answer the words with: none where it takes them
 unfoldable pub faults : List Text → Kinds

@@ -2,7 +2,7 @@
 ghost use Rattle.std.specs.Prelude.{◌≡◌, IfOk, IfErr, []};
 ghost use Rattle.clap.specs.Walk.{texts};
 ghost use Rattle.clap.specs.Words.{HasKind, app_of, new_app, subcommand_rows_of};
-ghost use Rattle.plant_words.specs.ClapLine.{entered, faults, history_app, program, top};
+ghost use Rattle.plant_words.specs.ClapLine.{entered, faults, history_app, program, top, with_first_words, with_later_words};
 
 use clap::{Arg, ArgMatches, Command, Error};
 use std::alloc::{AllocError, Global};
@@ -85,7 +85,17 @@ is refused, 5 want of memory, 6 a read or a write that failed.";
 fn command_line<'a>(alloc: Global) -> Result<Command<'a>, AllocError>
     ensures { IfOk result (λ c. app_of c ≡ program) }
 {
-    top_command(alloc)?
+    let top = top_command(alloc)?;
+    let first = with_first_words(alloc, top)?;
+    let plain = with_later_words(alloc, first)?;
+    plain.subcommand(history_command(alloc)?)
+}
+
+/// With the first of the words: `one`, `check`, `run` and `threads`.
+fn with_first_words<'a>(alloc: Global, command: Command<'a>) -> Result<Command<'a>, AllocError>
+    ensures { IfOk result (λ c. app_of c ≡ with_first_words (app_of command.entry)) }
+{
+    command
         .subcommand(plain_command(
             alloc,
             "one",
@@ -104,7 +114,14 @@ fn command_line<'a>(alloc: Global) -> Result<Command<'a>, AllocError>
             "threads",
             "Run a script over a plant, on a thread for each operator",
             THREADS_INPUT,
-        ))?
+        ))
+}
+
+/// With the words behind those that have no operand: `capture`, `serve` and `trace`.
+fn with_later_words<'a>(alloc: Global, command: Command<'a>) -> Result<Command<'a>, AllocError>
+    ensures { IfOk result (λ c. app_of c ≡ with_later_words (app_of command.entry)) }
+{
+    command
         .subcommand(plain_command(
             alloc,
             "capture",
@@ -122,8 +139,7 @@ fn command_line<'a>(alloc: Global) -> Result<Command<'a>, AllocError>
             "trace",
             "Run a script over a plant, and tell in words what decided each step and what came of it",
             TRACE_INPUT,
-        ))?
-        .subcommand(history_command(alloc)?)
+        ))
 }
 
 fn top_command<'a>(alloc: Global) -> Result<Command<'a>, AllocError>
