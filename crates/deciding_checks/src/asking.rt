@@ -2,13 +2,14 @@
 
 ghost use Rattle.std.specs.Prelude.{◌≡◌, ◌++◌, filter, map, Some, IfOk, OnOk};
 ghost use Rattle.std.specs.List.{list_any};
-ghost use Rattle.operator_machine.specs.Asked.{is_same, has_set_type};
+ghost use Rattle.operator_machine.specs.Asked.{is_same};
 ghost use Rattle.checks_in_order.specs.Said.{said_by, set_asked};
 ghost use Rattle.deciding_checks.specs.Asking.{is_addition, is_deletion, names, subject_of, is_named_in, subjects_of, is_for, set_given, gives_for, sets_of};
 
 use crate::standing::Standing;
 use dsx_messages::{Kind, Request};
 use flow_table::Flow;
+use operator_machine::{has_set_type, is_same};
 use param_sets::{ParamSet, Refusal, from_tlv};
 use plant::Consts;
 use std::alloc::{AllocError, Global};
@@ -50,26 +51,6 @@ pub(crate) fn encodings_of(request: &Request) -> &[FlowTlv]
     match request {
         Request::Dsa { tid: _, flows } | Request::Dsc { tid: _, flows } => flows.as_slice(),
         Request::Dsd { tid: _, sfid: _ } => &[],
-    }
-}
-
-/// Whether two numbers are the same: two absent ones are.
-pub(crate) fn is_same(a: Option<u32>, b: Option<u32>) -> bool
-    ensures { result ≡ is_same a b }
-{
-    match (a, b) {
-        (None, None) => true,
-        (Some(a), Some(b)) => a == b,
-        _ => false,
-    }
-}
-
-pub(crate) fn has_set_type(number: u8, flow: &FlowTlv) -> bool
-    ensures { result ≡ has_set_type number flow.now }
-{
-    match flow.get_set_type() {
-        None => false,
-        Some(set_type) => set_type == number,
     }
 }
 

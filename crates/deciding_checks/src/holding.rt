@@ -2,25 +2,22 @@
 
 ghost use Rattle.std.specs.Prelude.{◌≡◌, ◌==◌, ◌≤◌, is_some};
 ghost use Rattle.std.specs.List.{list_any};
-ghost use Rattle.param_sets.specs.Need.{need_if};
 ghost use Rattle.param_sets.specs.Within.{first_failing};
 ghost use Rattle.flow_table.specs.Table.{sfids_of, committed_minislots, committed_elements};
-ghost use Rattle.operator_machine.specs.Asked.{number_in, is_unclassed, stand_together};
+ghost use Rattle.operator_machine.specs.Asked.{is_unclassed};
 ghost use Rattle.checks_in_order.specs.Said.{said_by};
 ghost use Rattle.checks_in_order.specs.Holding.{would_commit};
 ghost use Rattle.deciding_checks.specs.Asking.{subjects_of, sets_of};
 ghost use Rattle.deciding_checks.specs.Deciding.{do_differ, is_alone, differs_from, has_no_identifier, is_taken, is_wrong_alone, gives_none, is_unknown, names_unknown, is_of_another, does_wait, is_outside, is_outside_one, provisioned_of, one_exceeds, has_no_sid, is_over_budget, elements_over, minislots_over, does_hold};
 ghost use Rattle.deciding_checks.specs.Standing.{AreAsked};
 
-use crate::asking::{
-    encodings_of, has_set_type, is_addition, is_deletion, is_same, kind_of, set_asked,
-};
+use crate::asking::{encodings_of, is_addition, is_deletion, kind_of, set_asked};
 use crate::standing::Standing;
-use admission::Budget;
 use checks_in_order::Check;
 use dsx_messages::{Kind, Modem, Request};
 use flow_table::Flow;
-use param_sets::{ParamSet, Units, need, within};
+use operator_machine::{has_set_type, is_same, number_in, stand_together};
+use param_sets::{ParamSet, Units, need_if, within};
 use plant::Consts;
 use tlv24::FlowTlv;
 
@@ -30,17 +27,6 @@ pub(crate) struct Asked {
     pub subjects: Vec<Option<Flow>>,
     pub admitted: Vec<Option<ParamSet>>,
     pub active: Vec<Option<ParamSet>>,
-}
-
-/// The identifier of an encoding as a number.
-fn number_in(kind: Kind, flow: &FlowTlv) -> Option<u32>
-    ensures { result ≡ number_in kind flow.now }
-{
-    match kind {
-        Kind::Dsa => Some(u32::from(flow.get_reference()?)),
-        Kind::Dsc => flow.get_sfid(),
-        Kind::Dsd => None,
-    }
 }
 
 fn differs_from(kind: Kind, a: &FlowTlv, b: &FlowTlv) -> bool
@@ -60,19 +46,6 @@ fn do_differ(kind: Kind, encodings: &[FlowTlv]) -> bool
     ensures { result ≡ do_differ kind encodings.now }
 {
     encodings.iter().any(|a| is_alone(kind, encodings, a))
-}
-
-/// Whether encodings may stand in one request: one alone, or two of which one admits and the other activates.
-fn stand_together(encodings: &[FlowTlv]) -> bool
-    ensures { result ≡ stand_together encodings.now }
-{
-    match encodings {
-        [_] => true,
-        [a, b] => {
-            has_set_type(2, a) && has_set_type(4, b) || has_set_type(4, a) && has_set_type(2, b)
-        }
-        _ => false,
-    }
 }
 
 /// Whether one encoding alone may have its set type: 0 in a change alone.
@@ -209,19 +182,6 @@ fn has_no_sid(flow: &Option<Flow>) -> bool
     match flow {
         None => true,
         Some(flow) => flow.sid.is_none(),
-    }
-}
-
-/// What a set needs, where there is one.
-fn need_if(units: Units, set: Option<ParamSet>) -> Budget
-    ensures { result ≡ need_if units set }
-{
-    match set {
-        None => Budget {
-            minislots: 0,
-            elements: 0,
-        },
-        Some(set) => need(&set, &units),
     }
 }
 

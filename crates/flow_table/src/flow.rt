@@ -1,12 +1,11 @@
 //! A service flow.
 
 ghost use Rattle.std.specs.Prelude.{◌≡◌, ◌==◌, ◌+◌, ◌<◌, if◌then◌else◌, is_some, IfSome, Some, None};
-ghost use Rattle.param_sets.specs.Need.{need_if};
 ghost use Rattle.flow_table.specs.Flow.{committed_of, asks_for_grants, acknowledged, taken_back, requested, granted};
 
 use admission::Budget;
 use dsx_messages::Modem;
-use param_sets::{ParamSet, Scheduling, Sets, Units, need};
+use param_sets::{ParamSet, Scheduling, Sets, Units, need_if};
 
 /// What a request asked for, from its answer to its acknowledgement.
 #[derive(Clone, Copy, Debug, PartialEq, Eq)]
@@ -45,17 +44,6 @@ pub struct Asker {
     pub modem: Modem,
     /// Whether it may ask for grants.
     pub may_ask: bool,
-}
-
-/// What a set needs, where there is one.
-#[inline(always)]
-fn need_if(units: Units, set: Option<ParamSet>) -> Budget
-    ensures { result ≡ need_if units set }
-{
-    match set {
-        None => Budget::NOTHING,
-        Some(set) => need(&set, &units),
-    }
 }
 
 /// Whether a flow with this active set asks for its grants: it has one, and its grants are not unsolicited.

@@ -6,59 +6,17 @@ ghost use Rattle.std.specs.List.{list_all};
 ghost use Rattle.dsx_messages.specs.declared.kind.Kind.TheVariants.{Dsa, Dsc, Dsd};
 ghost use Rattle.flow_table.specs.Table.{flow_at};
 ghost use Rattle.operator_book.specs.Over.{asked_over};
-ghost use Rattle.operator_machine.specs.Asked.{stand_together, is_unclassed, number_in, is_same, has_set_type, first_of, first_encoding, free_flow, set_over_class, set_of, is_change, asked_by_type, asked_by_one, in_order, asked_by_two, asked_sets, failing_active, failing_admitted, nested_sets, addition_of, change_of};
+ghost use Rattle.operator_machine.specs.Asked.{is_unclassed, number_in, is_same, first_of, first_encoding, free_flow, set_over_class, set_of, is_change, asked_by_type, asked_by_one, in_order, asked_by_two, asked_sets, failing_active, failing_admitted, nested_sets, addition_of, change_of};
 
 use crate::refusal::{refusal, refusal_naming};
 use dsx_messages::{Code, Kind, Reply};
 use flow_table::{Flow, Flows};
-use operator_machine::{Addition, AskedSets, Change, Transaction};
+use operator_machine::{
+    Addition, AskedSets, Change, Transaction, has_set_type, is_same, number_in, stand_together,
+};
 use param_sets::{ParamSet, Refusal, Sets, from_tlv, within};
 use plant::Consts;
 use tlv24::{FlowTlv, subtype};
-
-/// The identifier of an encoding as a number.
-fn number_in(kind: Kind, flow: &FlowTlv) -> Option<u32>
-    ensures { result ≡ number_in kind flow.now }
-{
-    match kind {
-        Kind::Dsa => Some(u32::from(flow.get_reference()?)),
-        Kind::Dsc => flow.get_sfid(),
-        Kind::Dsd => None,
-    }
-}
-
-/// Whether two numbers are the same: two absent ones are.
-fn is_same(a: Option<u32>, b: Option<u32>) -> bool
-    ensures { result ≡ is_same a b }
-{
-    match (a, b) {
-        (None, None) => true,
-        (Some(a), Some(b)) => a == b,
-        _ => false,
-    }
-}
-
-fn has_set_type(number: u8, flow: &FlowTlv) -> bool
-    ensures { result ≡ has_set_type number flow.now }
-{
-    match flow.get_set_type() {
-        None => false,
-        Some(set_type) => set_type == number,
-    }
-}
-
-/// Whether encodings may stand in one request: one alone, or two of which one admits and the other activates.
-fn stand_together(encodings: &[FlowTlv]) -> bool
-    ensures { result ≡ stand_together encodings.now }
-{
-    match encodings {
-        [_] => true,
-        [a, b] => {
-            has_set_type(2, a) && has_set_type(4, b) || has_set_type(4, a) && has_set_type(2, b)
-        }
-        _ => false,
-    }
-}
 
 /// Whether each encoding has the identifier of this one.
 fn all_name(kind: Kind, first: &FlowTlv, others: &[FlowTlv]) -> bool

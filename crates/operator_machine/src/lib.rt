@@ -3,6 +3,7 @@
 #![tactic(auto)]
 
 mod action;
+mod encodings;
 mod heard;
 mod laws;
 mod output;
@@ -11,6 +12,7 @@ mod verdict;
 mod worked;
 
 pub use action::{Action, Entry, SliceRow, Unfit};
+pub use encodings::{has_set_type, is_same, number_in, stand_together};
 pub use heard::{Arrival, Heard};
 pub use laws::{
     frame_is_a_part, frames_are_shares, frames_have_no_gap, given_up_have_no_grants,

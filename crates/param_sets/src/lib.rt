@@ -16,7 +16,7 @@ pub use comparing::within;
 pub use laws::{
     active_is_within_provisioned, null_is_within, within_is_reflexive, within_is_transitive,
 };
-pub use needing::need;
+pub use needing::{need, need_if};
 pub use overriding::overridden;
 pub use param_set::{ParamFields, ParamSet};
 pub use reading::from_tlv;

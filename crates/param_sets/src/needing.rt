@@ -1,7 +1,7 @@
 //! What a parameter set needs.
 
 ghost use Rattle.std.specs.Prelude.{◌≡◌, ◌≤◌};
-ghost use Rattle.param_sets.specs.Need.{need_of};
+ghost use Rattle.param_sets.specs.Need.{need_of, need_if};
 
 use crate::param_set::ParamSet;
 use crate::scheduling::Scheduling;
@@ -34,5 +34,16 @@ pub fn need(set: &ParamSet, units: &Units) -> Budget
                 elements: grants,
             }
         }
+    }
+}
+
+/// What a set needs, where there is one.
+#[inline(always)]
+pub fn need_if(units: Units, set: Option<ParamSet>) -> Budget
+    ensures { result ≡ need_if units set }
+{
+    match set {
+        None => Budget::NOTHING,
+        Some(set) => need(&set, &units),
     }
 }
