@@ -131,6 +131,38 @@ fn repeated(code: Code, number: u8, id: Option<FlowId>, subtype: u8) -> Option<(
     }
 }
 
+/// A refusal that names a flow by its SFID, and the subtype at fault.
+fn errored_sfid(code: Code, tail: &[u8]) -> Option<(Option<FlowId>, u8)>
+    ensures spelled { IfSome result (λ n. tail.now ≡ spelled (tlvs_in code (Errored n.0 n.1))) }
+    ensures every { (sfid subtype : ℕ) → sfid < 2 ^ 32
+        → tail.now ≡ spelled (tlvs_in code (Errored (Some (Sfid sfid)) subtype))
+        → result ≡ Some (Some (Sfid sfid), subtype) }
+{
+    let [
+        tlv_type::UPSTREAM_SERVICE_FLOW,
+        14,
+        subtype::SFID,
+        4,
+        a,
+        b,
+        c,
+        d,
+        subtype::ERRORED,
+        6,
+        subtype::ERRORED_PARAMETER,
+        1,
+        subtype,
+        subtype::ERROR_CODE,
+        1,
+        number,
+    ] = tail
+    else {
+        return None;
+    };
+    let sfid = u32::from_be_bytes([*a, *b, *c, *d]);
+    repeated(code, *number, Some(FlowId::Sfid(sfid)), *subtype)
+}
+
 /// A refusal that names a subtype: the identifier of its flow, where it has one, and the subtype at fault.
 fn errored(code: Code, tail: &[u8]) -> Option<(Option<FlowId>, u8)>
     ensures spelled { IfSome result (λ n. tail.now ≡ spelled (tlvs_in code (Errored n.0 n.1))) }
@@ -175,28 +207,7 @@ fn errored(code: Code, tail: &[u8]) -> Option<(Option<FlowId>, u8)>
             let reference = u16::from_be_bytes([*high, *low]);
             repeated(code, *number, Some(FlowId::Reference(reference)), *subtype)
         }
-        [
-            tlv_type::UPSTREAM_SERVICE_FLOW,
-            14,
-            subtype::SFID,
-            4,
-            a,
-            b,
-            c,
-            d,
-            subtype::ERRORED,
-            6,
-            subtype::ERRORED_PARAMETER,
-            1,
-            subtype,
-            subtype::ERROR_CODE,
-            1,
-            number,
-        ] => {
-            let sfid = u32::from_be_bytes([*a, *b, *c, *d]);
-            repeated(code, *number, Some(FlowId::Sfid(sfid)), *subtype)
-        }
-        _ => None,
+        _ => errored_sfid(code, tail),
     }
 }
 

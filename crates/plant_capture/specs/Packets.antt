@@ -1,5 +1,6 @@
 -- Packets of a capture as management messages (CM-SP-MULPIv3.1, 6.4.1, 6.4.4 and 6.4.12 on; the CMTS's address is own).
 use Rattle.std.specs.Prelude.{ℕ, ◌&&◌, List, [], ◌∷◌, length, nat_le, Option, Some, None, if◌then◌else◌}
+use Rattle.dsx_messages.specs.MessageType.{dsa_req, dsd_rsp}
 use Rattle.plant_capture.specs.declared.packet.Packet.{Packet}
 use Rattle.plant_capture.specs.declared.packet.Packet.TheVariants.{Sent, Reply, Map}
 use Rattle.plant_capture.specs.Management.{Managed}
@@ -14,7 +15,7 @@ all_modems = 1 ∷ 224 ∷ 47 ∷ 0 ∷ 0 ∷ 1 ∷ []
 
 -- the version of a dynamic service message is 2, of any other type 1
 abbrev pub version_of : ℕ → ℕ
-version_of kind = if nat_le 15 kind && nat_le kind 22 then 2 else 1
+version_of kind = if nat_le dsa_req kind && nat_le kind dsd_rsp then 2 else 1
 
 -- the message, where its frame is no longer than a MAC header can say
 abbrev pub if_fits : Managed → Option Managed
@@ -26,9 +27,13 @@ message_of to from [] = None
 message_of to from (kind ∷ payload) =
     if_fits (record { to = to; from = from; version = version_of kind; kind = kind; payload = payload })
 
+-- the message type of a MAP
+abbrev pub map_type : ℕ
+map_type = 3
+
 -- a MAP goes to all modems
 abbrev pub map_of : List ℕ → Option Managed
-map_of body = if_fits (record { to = all_modems; from = cmts; version = 1; kind = 3; payload = body })
+map_of body = if_fits (record { to = all_modems; from = cmts; version = 1; kind = map_type; payload = body })
 
 -- the management message of a packet, if it has one: a modem's goes to the CMTS, a reply to the modem
 abbrev pub managed_of : Packet → Option Managed

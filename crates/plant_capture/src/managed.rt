@@ -5,6 +5,7 @@ ghost use Rattle.plant_capture.specs.Management.{body_of};
 ghost use Rattle.plant_capture.specs.Packets.{version_of, message_of, map_of, managed_of};
 
 use crate::packet::Packet;
+use dsx_messages::message_type;
 use std::alloc::{AllocError, Global};
 use std::marker::Model;
 
@@ -13,6 +14,9 @@ const CMTS: [u8; 6] = [0x02, 0, 0, 0, 0, 0];
 
 /// The address of all modems.
 const ALL_MODEMS: [u8; 6] = [0x01, 0xE0, 0x2F, 0, 0, 0x01];
+
+/// The message type of a MAP (CM-SP-MULPIv3.1, 6.4.4).
+const MAP: u8 = 3;
 
 /// The longest payload of a management message: the MAC header counts in 16 bits what follows it.
 const LONGEST: usize = 65_511;
@@ -42,7 +46,11 @@ impl<'a> Model for Management<'a> {
 fn version_of(kind: u8) -> u8
     ensures { result ≡ version_of kind }
 {
-    if 15 <= kind && kind <= 22 { 2 } else { 1 }
+    if message_type::DSA_REQ <= kind && kind <= message_type::DSD_RSP {
+        2
+    } else {
+        1
+    }
 }
 
 /// The management message of one byte of message type and the payload, if it can have a frame.
@@ -75,7 +83,7 @@ fn map_of(body: &[u8]) -> Option<Management<'_>>
         to: ALL_MODEMS,
         from: CMTS,
         version: 1,
-        kind: 3,
+        kind: MAP,
         payload: body,
     })
 }
