@@ -4,8 +4,8 @@ use std::alloc::{AllocError, Global};
 use std::process::Abort;
 use std::test::Fail;
 use tlv24::{
-    Bytes, ClassName, ErrorEncodings, FlowFault, FlowFields, FlowTlv, TlvFault, Tlvs, first_tlv,
-    flow_is_read, one_meaning, read_back, read_flow, write_flow,
+    ClassName, ErrorEncodings, FlowFault, FlowFields, FlowTlv, flow_is_read, one_meaning, read_back,
+    read_flow, write_flow,
 };
 
 /// An encoding with every known subtype.
@@ -98,111 +98,20 @@ fn encodings_are_read(rt: HostRuntime) {
     }
 }
 
-#[test]
-fn the_first_fault_is_told(rt: HostRuntime) {
-    for (bytes, fault, reference, sfid) in [
-        (
-            b"\x01\x02\0\0".as_slice(),
-            TlvFault::Range { subtype: 1 },
-            None,
-            None,
-        ),
-        (b"\x04\x02\0A", TlvFault::Range { subtype: 4 }, None, None),
-        (
-            b"\x05\x01\0",
-            TlvFault::WrongLength { subtype: 5 },
-            None,
-            None,
-        ),
-        (b"\x06\x01\x06\x06\x01", TlvFault::Cut { at: 3 }, None, None),
-        (b"\x07\x01\x08", TlvFault::Range { subtype: 7 }, None, None),
-        (
-            b"\x01\x02\0\x01\x01\x02\0\0",
-            TlvFault::Twice { subtype: 1 },
-            Some(1),
-            None,
-        ),
-        (
-            b"\x01\x02\0\x01\x01\x01\0",
-            TlvFault::WrongLength { subtype: 1 },
-            Some(1),
-            None,
-        ),
-        // The SFID before a fault is told.
-        (
-            b"\x02\x04\x01\x02\x03\x04\x06",
-            TlvFault::Cut { at: 6 },
-            None,
-            Some(0x01020304),
-        ),
-    ] {
-        let fault = FlowFault {
-            fault,
-            reference,
-            sfid,
-        };
-        assert_eq!(rt; fields_in(bytes), Err(fault), "at {bytes:?}");
-    }
-}
-
-#[test]
-fn bytes_are_split(rt: HostRuntime) -> Result<(), Fail> {
-    let tlvs = Tlvs::split(rt.alloc(), b"\x1B\0\x1F\x01\x07")?;
-    assert_eq!(rt; tlvs.len(), 2);
-    assert_eq!(rt; (tlvs[0].kind, tlvs[1].kind), (27, 31));
-    assert!(rt; tlvs[0].value.is_empty());
-    assert_eq!(rt; tlvs[1].value.as_slice(), [7].as_slice());
-    assert!(rt; Tlvs::split(rt.alloc(), b"")?.is_empty());
-    match Tlvs::split(rt.alloc(), b"\x1B\0\x1F\x02") {
-        Ok(_) => assert!(rt; false, "cut bytes were split"),
-        Err(fault) => assert_eq!(rt; fault, TlvFault::Cut { at: 2 }),
-    }
-    Ok(())
-}
-
-/// The first TLV of some bytes: its type, its value and what stands behind it.
-fn first_of(bytes: &[u8]) -> Option<(u8, &[u8], &[u8])> {
-    let first = first_tlv(bytes)?;
-    Some((first.kind, first.value, first.rest))
-}
-
-#[test]
-fn the_first_tlv_is_found(rt: HostRuntime) {
-    let wanted = (31, [7].as_slice(), [27, 0].as_slice());
-    assert_eq!(rt; first_of(b"\x1F\x01\x07\x1B\0"), Some(wanted));
-    assert_eq!(rt; first_of(b"\x1F\x02\x07"), None);
-}
-
 /// The bytes of an encoding, of which the same encoding is read back.
 fn written(rt: &impl Abort, alloc: Global, flow: &FlowTlv) -> Result<Vec<u8>, AllocError> {
     assert_eq!(rt; read_back(alloc, flow)?, *flow);
     write_flow(alloc, flow)
 }
 
+/// All fields in ascending order, whatever the order of the bytes was; and a SID without its upper bits.
 #[test]
-fn fields_are_written_in_ascending_order(rt: HostRuntime) -> Result<(), Fail> {
-    let flow = FlowTlv::new(FlowFields {
-        set_type: Some(6),
-        reference: Some(1),
-        ..FlowFields::NONE
-    });
-    let bytes = written(&rt, rt.alloc(), &flow)?;
-    assert_eq!(rt; bytes.as_slice(), b"\x01\x02\0\x01\x06\x01\x06".as_slice());
-    Ok(())
-}
-
-#[test]
-fn all_fields_are_written(rt: HostRuntime) -> Result<(), Fail> {
+fn fields_are_written(rt: HostRuntime) -> Result<(), Fail> {
     let bytes = written(&rt, rt.alloc(), &whole()?)?;
     assert_eq!(rt; bytes.as_slice(), WHOLE);
-    Ok(())
-}
-
-#[test]
-fn a_sid_is_written_without_its_upper_bits(rt: HostRuntime) -> Result<(), Fail> {
-    let flow = read_flow(b"\x03\x02\xC1\x01")?;
+    let flow = read_flow(b"\x06\x01\x06\x03\x02\xC1\x01")?;
     let bytes = written(&rt, rt.alloc(), &flow)?;
-    assert_eq!(rt; bytes.as_slice(), b"\x03\x02\x01\x01".as_slice());
+    assert_eq!(rt; bytes.as_slice(), b"\x03\x02\x01\x01\x06\x01\x06".as_slice());
     Ok(())
 }
 
@@ -231,36 +140,5 @@ fn each_field_has_its_getter(rt: HostRuntime) -> Result<(), Fail> {
     assert_eq!(rt; flow.get_grant_interval(), Some(10000));
     assert_eq!(rt; flow.get_grant_jitter(), Some(800));
     assert_eq!(rt; flow.get_grants_per_interval(), Some(2));
-    Ok(())
-}
-
-/// Whether some bytes are a class name.
-fn is_class_name(bytes: &[u8]) -> bool {
-    ClassName::new(bytes).is_some()
-}
-
-#[test]
-fn class_names_have_1_to_15_bytes_and_no_0(rt: HostRuntime) {
-    for (name, fine) in [
-        (b"".as_slice(), false),
-        (b"A", true),
-        (b"fifteen bytes !", true),
-        (b"sixteen bytes !!", false),
-        (b"A\0", false),
-        (b"A\0B", false),
-    ] {
-        assert_eq!(rt; is_class_name(name), fine, "at {name:?}");
-    }
-}
-
-#[test]
-fn bytes_are_owned(rt: HostRuntime) -> Result<(), Fail> {
-    let bytes = Bytes::from_slice(rt.alloc(), &[1, 2, 3])?;
-    let copy = bytes.copy(rt.alloc())?;
-    assert_eq!(rt; copy.as_slice(), [1, 2, 3].as_slice());
-    assert_eq!(rt; bytes.len(), 3);
-    assert!(rt; !bytes.is_empty());
-    let again = Bytes::from_vec(bytes.into_vec());
-    assert_eq!(rt; again.into_vec().as_slice(), [1, 2, 3].as_slice());
     Ok(())
 }

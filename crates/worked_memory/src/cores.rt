@@ -1,9 +1,18 @@
-//! A core where one request for memory is refused: `tools/refuse_library_memory.sh` runs these tests again and again, and refuses
-//! another request in each run. A step that asked answers its want of memory and does nothing, and done once more it answers what
-//! it answers otherwise; a run keeps the steps before it (`check_again`). Want of memory elsewhere ends a test early, and it says so.
+//! A core: a step that asked answers its want of memory and does nothing, and done once more it answers what it answers otherwise; a run
+//! keeps the steps before it.
 
-use crate::checking::check_again;
+use std::alloc::Global;
+use std::process::Abort;
 use std::test::Fail;
+use worked_plants::PLANT;
+use worked_playing::played_on;
+
+/// Asserts that a script over the core of operators A and B has below each line, behind `=`, what is put out.
+fn check_again(rt: &impl Abort, alloc: Global, script: &str) -> Result<(), Fail> {
+    let text = played_on(alloc, PLANT, script)?;
+    assert_eq!(rt; text.as_str(), script);
+    Ok(())
+}
 
 /// Runs: flows of both operators, their grants, the MAP, and the next frame with other slices.
 #[test]

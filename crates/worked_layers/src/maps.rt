@@ -1,4 +1,4 @@
-//! MAPs as bytes.
+//! MAPs, read from their bytes.
 
 use map_assembly::{MapFault, MapHeader, MapSpan, read_map};
 use plant::Backoffs;

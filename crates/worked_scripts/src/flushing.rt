@@ -1,5 +1,6 @@
 //! Each line's answer is flushed before the next line is read.
 
+use grant_policy::{RankInput, Ranking, rank_by};
 use live_core::LiveCore;
 use plant_service::{HeldLine, serve};
 use slice_table::read_plant;
@@ -9,7 +10,6 @@ use std::io;
 use std::io::{Read, Write};
 use std::test::Fail;
 use worked_plants::PLANT;
-use worked_playing::ranking;
 
 /// Gives a byte at a time, and fails at the first byte of a line where something is held back.
 #[derive(Drop)]
@@ -63,7 +63,12 @@ fn bytes_served(alloc: Global, script: &[u8]) -> Result<usize, Fail> {
     let mut rankings = Vec::new(alloc);
     for row in plant.rows() {
         let policy = row.get_fields().policy;
-        rankings.push(ranking!(alloc, policy))?;
+        rankings.push(Ranking::new(
+            policy,
+            Box::new(alloc, move |input: RankInput| -> u8 {
+                rank_by(policy, &input)
+            })?,
+        ))?;
     }
     let mut core = match LiveCore::open(alloc, plant, rankings) {
         Ok(core) => core,

@@ -1,7 +1,6 @@
 //! Scripts, played over the book of one operator.
 
-use deciding_checks::Standing;
-use dsx_messages::{Message, Modem, read};
+use dsx_messages::Modem;
 use grant_policy::{Policy, RankInput, Ranking, rank_by};
 use hex::{decode, encode_upper};
 use operator_book::{Action, Book, BookFault, Heard, OpenFault, Output, SliceRow};
@@ -13,12 +12,6 @@ use std::alloc::{AllocError, Global};
 use std::process::Abort;
 use std::test::Fail;
 use tlv24::Bytes;
-use worked_plants::{PLANT, cases_in, put_difference};
-
-/// The places of the operators.
-pub(crate) const A: usize = 0;
-
-const B: usize = 1;
 
 /// The modem whose address ends with this byte.
 fn modem(word: &str) -> Result<Modem, Fail> {
@@ -138,19 +131,6 @@ fn put_share(alloc: Global, book: &Book, text: &mut String) -> Result<(), AllocE
     }
 }
 
-/// Writes the priority and the reserved rate of each flow's admitted set.
-fn put_flows(alloc: Global, book: &Book, text: &mut String) -> Result<(), AllocError> {
-    let view = book.state_view(alloc)?;
-    for (sfid, flow) in view.flows() {
-        if let Some(set) = flow.sets.get_admitted() {
-            let (priority, rate) = (set.get_priority(), set.get_min_reserved_rate());
-            let line = format!(in alloc; "\n= {sfid} {priority} {rate}")?;
-            text.push_str(line.as_str())?;
-        }
-    }
-    Ok(())
-}
-
 /// Writes the reserved rate of a set; `-` is the null set's.
 fn put_rate(alloc: Global, text: &mut String, set: Option<ParamSet>) -> Result<(), AllocError> {
     match set {
@@ -248,24 +228,9 @@ fn reslice(alloc: Global, book: &mut Book, text: &mut String, words: &[&str]) ->
     Ok(())
 }
 
-/// Writes the number of the check that decides a request of a modem, whose transaction is new.
-fn put_check(alloc: Global, book: &Book, text: &mut String, words: &[&str]) -> Result<(), Fail> {
-    let [from, digits] = words else {
-        return Err(Fail::new("no request"));
-    };
-    let Ok(Message::Request(request)) = read(alloc, bytes(alloc, digits)?.as_slice()) else {
-        return Err(Fail::new("not read"));
-    };
-    let standing = Standing::of_book(alloc, book)?;
-    let check = standing.deciding_check(alloc, modem(from)?, &request)?;
-    let number = check.number();
-    let line = format!(in alloc; "\n= {number}")?;
-    Ok(text.push_str(line.as_str())?)
-}
-
 /// Plays a line. `M` and `Q` say what is heard of a modem, a message or a request, and it is worked at once; `A` has a message
-/// arrive, `W` works, `T` ticks, `Z` takes another share, and `R` does so in room that is made for it; `C` writes counts, `P` flows,
-/// `D` rates, `V` what waits, `S` shares, `H` the number of the check that decides a request.
+/// arrive, `W` works, `T` ticks, `Z` takes another share, and `R` does so in room that is made for it; `C` writes counts, `D` rates,
+/// `V` what waits, `S` shares.
 fn play(alloc: Global, book: &mut Book, text: &mut String, line: &str) -> Result<(), Fail> {
     let words: Vec<&str> = line.split(' ').collect(alloc)?;
     let [word, rest @ ..] = words.as_slice() else {
@@ -289,11 +254,9 @@ fn play(alloc: Global, book: &mut Book, text: &mut String, line: &str) -> Result
         }
         "R" => reslice(alloc, book, text, rest),
         "C" => Ok(put_counts(alloc, book, text)?),
-        "P" => Ok(put_flows(alloc, book, text)?),
         "D" => Ok(put_rates(alloc, book, text)?),
         "V" => Ok(put_waits(alloc, book, text)?),
         "S" => Ok(put_share(alloc, book, text)?),
-        "H" => put_check(alloc, book, text, rest),
         _ => Err(Fail::new("no word")),
     }
 }
@@ -317,16 +280,15 @@ fn plant_of(rt: &impl Abort, alloc: Global, text: &str) -> Result<Plant, Fail> {
     Ok(read.ok().ok_or("no memory")?)
 }
 
-/// A script, played over the book of an operator of a plant: below each line stands, behind `=`, what it puts out.
+/// A script, played over the book of the first operator of a plant: below each line stands, behind `=`, what it puts out.
 fn played_on(
     rt: &impl Abort,
     alloc: Global,
     plant: &str,
-    place: usize,
     script: &str,
 ) -> Result<String, Fail> {
     let plant = plant_of(rt, alloc, plant)?;
-    let row = plant.rows().get(place).ok_or("no operator")?;
+    let row = plant.rows().first().ok_or("no operator")?;
     let policy = row.get_fields().policy;
     let ranking = Ranking::new(
         policy,
@@ -342,46 +304,14 @@ fn played_on(
     Ok(text)
 }
 
-/// Asserts that a script over the book of an operator of a plant has below each line, behind `=`, what it puts out.
+/// Asserts that a script over the book of the first operator of a plant has below each line, behind `=`, what it puts out.
 pub(crate) fn check_on(
     rt: &impl Abort,
     alloc: Global,
     plant: &str,
-    place: usize,
     script: &str,
 ) -> Result<(), Fail> {
-    let text = played_on(rt, alloc, plant, place, script)?;
+    let text = played_on(rt, alloc, plant, script)?;
     assert_eq!(rt; text.as_str(), script);
-    Ok(())
-}
-
-/// The same over the book of operator A.
-pub(crate) fn check(rt: &impl Abort, alloc: Global, script: &str) -> Result<(), Fail> {
-    check_on(rt, alloc, PLANT, A, script)
-}
-
-/// The operator and the script of a case: operator B where its first line says `of B`, else A.
-fn parts_of(script: &str) -> (usize, &str) {
-    match script.strip_prefix("\nof B") {
-        Some(script) => (B, script),
-        None => (A, script),
-    }
-}
-
-/// Asserts that so many cases of a text have below each line of their scripts, behind `=`, what it puts out.
-pub(crate) fn check_cases(
-    rt: &impl Abort,
-    alloc: Global,
-    text: &str,
-    count: usize,
-) -> Result<(), Fail> {
-    let cases = cases_in(alloc, PLANT, text)?;
-    let mut failed = String::new(alloc);
-    for case in cases.as_slice() {
-        let (place, script) = parts_of(case.script.as_str());
-        let told = played_on(rt, alloc, case.plant.as_str(), place, script)?;
-        put_difference(&mut failed, case.name, told.as_str(), script)?;
-    }
-    assert_eq!(rt; (cases.len(), failed.is_empty()), (count, true), "{failed}");
     Ok(())
 }

@@ -1,8 +1,7 @@
-//! A book where one request for memory is refused: `tools/refuse_library_memory.sh` runs these tests again and again, and refuses
-//! another request in each run. An action that asked answers its want of memory and leaves the book as it was, and done once more
-//! it answers what it answers otherwise (`playing`). Want of memory elsewhere ends a test early, and it says so.
+//! A book: an action that asked answers its want of memory and leaves the book as it was, and done once more it answers what it answers
+//! otherwise.
 
-use crate::playing::{A, check_on};
+use crate::book_scripts::check_on;
 use std::alloc::Global;
 use std::process::Abort;
 use std::test::Fail;
@@ -45,7 +44,7 @@ encoding = \"0601070F0102\"
 
 /// Plays a script over the book of that operator.
 fn check(rt: &impl Abort, alloc: Global, script: &str) -> Result<(), Fail> {
-    check_on(rt, alloc, SMALL, A, script)
+    check_on(rt, alloc, SMALL, script)
 }
 
 /// An addition, its repeat, another kind under its ID, refusals that are kept and not kept, frames with a grant and who waits, a
