@@ -4,8 +4,8 @@ use std::alloc::{AllocError, Global};
 use std::process::Abort;
 use std::test::Fail;
 use tlv24::{
-    ClassName, ErrorEncodings, FlowFault, FlowFields, FlowTlv, flow_is_read, one_meaning, read_back,
-    read_flow, write_flow,
+    ClassName, ErrorEncodings, FlowFault, FlowFields, FlowTlv, flow_is_read, one_meaning,
+    read_back, read_flow, write_flow,
 };
 
 /// An encoding with every known subtype.
@@ -111,7 +111,10 @@ fn fields_are_written(rt: HostRuntime) -> Result<(), Fail> {
     assert_eq!(rt; bytes.as_slice(), WHOLE);
     let flow = read_flow(b"\x06\x01\x06\x03\x02\xC1\x01")?;
     let bytes = written(&rt, rt.alloc(), &flow)?;
-    assert_eq!(rt; bytes.as_slice(), b"\x03\x02\x01\x01\x06\x01\x06".as_slice());
+    assert_eq!(rt;
+        bytes.as_slice(),
+        b"\x03\x02\x01\x01\x06\x01\x06".as_slice()
+    );
     Ok(())
 }
 

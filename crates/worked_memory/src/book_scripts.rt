@@ -281,12 +281,7 @@ fn plant_of(rt: &impl Abort, alloc: Global, text: &str) -> Result<Plant, Fail> {
 }
 
 /// A script, played over the book of the first operator of a plant: below each line stands, behind `=`, what it puts out.
-fn played_on(
-    rt: &impl Abort,
-    alloc: Global,
-    plant: &str,
-    script: &str,
-) -> Result<String, Fail> {
+fn played_on(rt: &impl Abort, alloc: Global, plant: &str, script: &str) -> Result<String, Fail> {
     let plant = plant_of(rt, alloc, plant)?;
     let row = plant.rows().first().ok_or("no operator")?;
     let policy = row.get_fields().policy;

@@ -147,12 +147,7 @@ fn play_line(
 }
 
 /// Plays a line: `H` writes the history of an operator, another does its steps.
-fn play(
-    alloc: Global,
-    core: &mut PlantCore,
-    text: &mut String,
-    line: &str,
-) -> Result<(), Fail>
+fn play(alloc: Global, core: &mut PlantCore, text: &mut String, line: &str) -> Result<(), Fail>
     requires { IsTrue true }
 {
     if let Some(name) = line.strip_prefix("H ") {
