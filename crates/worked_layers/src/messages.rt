@@ -1,6 +1,7 @@
-//! Bytes that are no reply, written by hand from the layouts.
+//! Replies, and bytes that are none, written by hand from the layouts.
 
-use dsx_messages::{Reply, read_reply};
+use dsx_messages::{Reply, message_is_read, read_back, read_reply};
+use std::test::Fail;
 
 /// The reply of some bytes, if they are one. A function of its own: what the call promises is then no part of the test's proof.
 fn reply_in(bytes: &[u8]) -> Option<Reply> {
@@ -20,4 +21,14 @@ fn no_second_spelling_is_read(rt: HostRuntime) {
     ] {
         assert_eq!(rt; reply_in(bytes), None, "at {bytes:?}");
     }
+}
+
+/// A reply that is written is read back as it is.
+#[test]
+fn a_reply_is_read_back(rt: HostRuntime) -> Result<(), Fail> {
+    message_is_read();
+    let bytes = b"\x10\x00\x01\x00\x18\x0E\x01\x02\x00\x01\x02\x04\x00\x00\x01\x01\x03\x02\x01\x01";
+    let reply = reply_in(bytes).ok_or("no reply")?;
+    assert_eq!(rt; read_back(rt.alloc(), &reply)?, reply);
+    Ok(())
 }

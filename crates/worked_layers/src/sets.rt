@@ -78,5 +78,11 @@ fn what_each_kind_keeps(rt: HostRuntime) -> Result<(), Fail> {
         ..best_effort
     };
     same!(rt; read(flow)?.get_fields(), granted);
+    let slow = FlowFields {
+        scheduling_type: Some(3),
+        ..FlowFields::NONE
+    };
+    same!(rt; read(slow)?.get_polling_interval(), 1_000_000);
+    same!(rt; units().get_bytes_per_minislot(), 16);
     Ok(())
 }
