@@ -13,15 +13,17 @@ how many cases it has, so that one that is lost is seen. A case begins with `# N
     alone            the input has no plant before it
     > line           the input's next line; in it `\\r`, `\\t` and `\\xFF` are a carriage return, a tab and the byte FF, and a blank at the end is `\\x20`
     . text           the same, and no end of the line
-    * 9 text         a text so many times, in which `|` ends a line, `{8}` is 8, then 9, then 10, and `{0:02x}` is 00, then 01, in hexadecimal
+    * 9 text         a text so many times, in which `|` ends a line, `{8}` is 8, then 9, then 10, `{8+4}` is 8, then 12, then 16, and `{0:02x}` is
+                     00, then 01, in hexadecimal
     = line           the next line that is wanted on standard output; `…` is any text, of one line or of many
+    =* 9 text        the text that is wanted next there, so many times, as behind `*`
     x 0F01           the next bytes that are wanted there, in hexadecimal
     check 6, ..      the next line of a check that is wanted of `trace`: there are these and no others
     - text           what is not to stand on standard output
     ! line           the next line that is wanted on standard error, with `…` as above
     silent           nothing is wanted on standard error
 
-Standard output is to be what the lines `=` and `x` say. With neither of them it may be anything where the case has another of the last six
+Standard output is to be what the lines `=`, `=*` and `x` say. With none of them it may be anything where the case has another of the last seven
 signs, and is to be empty where it has none. Standard error may be anything where the case has neither `!` nor `silent`. Where it has, the
 program is run once more with a standard error that takes nothing: its status and its standard output are to be as wanted.
 """
@@ -44,6 +46,8 @@ PLANT = (ROOT / "examples/plant_p2.toml").read_text()
 # What is wanted, by its sign: where a case keeps it, and what stands before a line's text and behind it.
 WANTED = {"=": ("output", "", "\n"), "x": ("digits", "", ""), "check": ("checks", "  check ", "\n"), "!": ("errors", "", "\n")}
 SPELLED = {b"r": b"\r", b"t": b"\t"}
+# A number that is counted up, by how much where that is not 1, and how it is written.
+COUNTED = re.compile(r"\{([0-9]+)(?:\+([0-9]+))?(?::([0-9a-zA-Z]+))?\}")
 
 
 @dataclass
@@ -97,6 +101,8 @@ def take_line(case, line):
     elif sign in WANTED:
         place, before, behind = WANTED[sign]
         setattr(case, place, (getattr(case, place) or "") + before + text + behind)
+    elif sign == "=*":
+        case.output = (case.output or "") + repeated(text.replace("|", "\n"))
     elif sign == "-":
         case.absent.append(text)
     elif sign == "silent":
@@ -133,7 +139,13 @@ def repeated(text):
     times, _, text = text.partition(" ")
     if "{" not in text:
         return text * int(times)
-    return "".join(text.format(*range(place, place + 10)) for place in range(int(times)))
+    return "".join(COUNTED.sub(lambda found: counted(found, place), text) for place in range(int(times)))
+
+
+def counted(found, place):
+    """A number in braces where the text stands so often before."""
+    first, step, form = found.groups()
+    return format(int(first) + place * int(step or 1), form or "d")
 
 
 def spelled(text):

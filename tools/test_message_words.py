@@ -67,7 +67,7 @@ FIRST_FAULTS = {
 
 def of_repository():
     """What stands as hexadecimal in the repository's documents, examples and tests and begins as a message does."""
-    places = [HERE.parent / "README.md", *HERE.parent.glob("docs/*.md"), *HERE.parent.glob("examples/**/*.*"), *HERE.parent.glob("crates/worked_*/src/**/*.rt")]
+    places = [HERE.parent / "README.md", *HERE.parent.glob("docs/*.md"), *HERE.parent.glob("examples/**/*.*"), *HERE.parent.glob("tests/*.txt"), *HERE.parent.glob("crates/worked_*/src/**/*.rt")]
     for place in places:
         yield from re.findall(r"\b(?:0F|1[0-6])(?:[0-9A-Fa-f]{2}){2,}\b", place.read_text())
 

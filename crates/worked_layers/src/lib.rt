@@ -1,14 +1,19 @@
-//! Worked examples of the layers below a book, as tests alone: identifiers and ledgers, ranks, parameter sets, kept responses, flows.
+//! Worked examples of the layers below a book and of MAPs, as tests alone: what the program calls no function for, or what none of its
+//! lines shows. What it shows is told by the cases of `tests/`.
 #![tactic(auto)]
 
 #[cfg(test)]
+mod encodings;
+#[cfg(test)]
 mod flows;
+#[cfg(test)]
+mod maps;
+#[cfg(test)]
+mod messages;
 #[cfg(test)]
 mod numbers;
 #[cfg(test)]
 mod ranks;
-#[cfg(test)]
-mod responses;
 #[cfg(test)]
 mod same;
 #[cfg(test)]

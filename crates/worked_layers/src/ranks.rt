@@ -1,3 +1,5 @@
+//! Ranks, by each policy.
+
 use crate::same::{check_same, same};
 use grant_policy::{Policy, RankInput, Ranking, rank_by};
 use std::alloc::{AllocError, Global};
@@ -71,35 +73,4 @@ fn ranks_follow_the_policy(rt: HostRuntime) -> Result<(), Fail> {
             (Some(Policy::Short), (0, 0, 4096), 0),
         ],
     )
-}
-
-#[test]
-fn a_closure_may_rank_by_itself(rt: HostRuntime) -> Result<(), Fail> {
-    let ranking = Ranking::new(
-        Policy::Strict,
-        Box::new(rt.alloc(), |input: RankInput| -> u8 {
-            8 * input.get_priority()
-        })?,
-    );
-    same!(rt; ranking.rank(&RankInput::new(7, 0, 0)), 56);
-    same!(rt; ranking.policy(), Policy::Strict);
-    Ok(())
-}
-
-#[test]
-fn a_step_is_not_0(rt: HostRuntime) -> Result<(), Fail> {
-    same!(rt; Policy::aged(0), None);
-    let Policy::Aged { step } = Policy::aged(255).ok_or("a step of 255")? else {
-        return Err(Fail::from("not aged"));
-    };
-    same!(rt; step.get(), 255);
-    Ok(())
-}
-
-#[test]
-fn an_input_tells_its_fields(rt: HostRuntime) {
-    let input = RankInput::new(3, 12, 4096);
-    same!(rt; input.get_priority(), 3);
-    same!(rt; input.get_age(), 12);
-    same!(rt; input.get_backlog(), 4096);
 }

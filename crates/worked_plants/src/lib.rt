@@ -1,12 +1,9 @@
-//! Texts of the plants of the worked examples: two operators, A and B, that share a frame of 72 minislots. And texts of cases
-//! that are played on them.
+//! Texts of the plants of the worked examples: two operators, A and B, that share a frame of 72 minislots.
 #![tactic(auto)]
 
-mod cases;
-mod many;
+mod changes;
 
-pub use cases::{Case, cases_in, changed, put_difference};
-pub use many::many_operators;
+pub use changes::changed;
 
 /// The tables of these names, behind the texts that stand behind the brackets.
 macro_rules! tables {
@@ -64,9 +61,6 @@ pub const OPERATOR_A: &str = tables!([operator_a]);
 
 /// Operator B's table: minislots 40 to 71, the modem 020000000003.
 pub const OPERATOR_B: &str = tables!([operator_b]);
-
-/// The tables of both operators, behind what they share.
-pub const OPERATORS: &str = tables!([operator_a operator_b]);
 
 /// A plant of operator A alone.
 pub const ALONE: &str = tables!([shared operator_a]);

@@ -4,13 +4,10 @@
 
 mod checking;
 mod lines;
-mod plants;
 mod playing;
 mod rankings;
 mod telling;
 
-pub use checking::{played, played_on};
-pub use lines::{modem, steps_in, steps_of};
-pub use plants::{changed, plant_of};
-pub use playing::{Want, play_all};
-pub use telling::{put_history, put_output, put_outs};
+pub use checking::played_on;
+pub use lines::steps_in;
+pub use telling::put_output;

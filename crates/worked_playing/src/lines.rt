@@ -10,7 +10,7 @@ use std::test::Fail;
 use tlv24::Bytes;
 
 /// The modem with this address, of twelve hexadecimal digits.
-pub fn modem(alloc: Global, word: &str) -> Result<Modem, Fail> {
+fn modem(alloc: Global, word: &str) -> Result<Modem, Fail> {
     let bytes = decode(alloc, word).ok().ok_or("no digits")?;
     let [a, b, c, d, e, g] = bytes.as_slice() else {
         return Err(Fail::new("no address"));
@@ -131,7 +131,7 @@ fn step_of(word: &str, name: &str) -> Result<Step, Fail> {
 /// The steps of a line. `M` and `Q` say what is heard of a modem, a message or a request, and it is worked at once; `T` ticks and
 /// collects, all operators or one. One step alone: `A` has a message arrive, `W` works, `K` ticks, `C` collects, `Z` gives other
 /// slices. Another line is an error.
-pub fn steps_of(alloc: Global, plant: &Plant, line: &str) -> Result<Vec<Step>, Fail> {
+pub(crate) fn steps_of(alloc: Global, plant: &Plant, line: &str) -> Result<Vec<Step>, Fail> {
     let words: Vec<&str> = line.split(' ').collect(alloc)?;
     match words.as_slice() {
         ["M", modem, digits] => heard(alloc, plant, modem, message(alloc, digits)?),

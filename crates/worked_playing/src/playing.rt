@@ -1,4 +1,4 @@
-//! The lines of a script, done with a core. A function that is lent a core, whose rankings are boxed closures, bears a condition,
+//! The lines of a script, done with a core; what finds no memory is done once more. A function that is lent a core, whose rankings are boxed closures, bears a condition,
 //! here one that always holds: with none the gate counts it among those whose contracts may say nothing.
 
 ghost use Rattle.std.specs.Prelude.{IsTrue, true};
@@ -9,15 +9,6 @@ use plant_core::{CoreFault, PlantCore, RunStop};
 use plant_runs::{Out, Step};
 use std::alloc::{AllocError, Global};
 use std::test::Fail;
-
-/// What comes of a step that finds no memory.
-#[derive(Clone, Copy, PartialEq, Eq)]
-pub enum Want {
-    /// It is told like another fault.
-    Told,
-    /// Nothing was done, and the step is done once more.
-    Again,
-}
 
 /// How many entries the histories of the first two operators have.
 fn done_by(core: &PlantCore) -> (usize, usize) {
@@ -146,26 +137,17 @@ fn play_line(
     core: &mut PlantCore,
     text: &mut String,
     steps: &[Step],
-    want: Want,
 ) -> Result<(), AllocError>
     requires { IsTrue true }
 {
-    match (steps, want) {
-        ([step], Want::Told) => play_step(alloc, core, text, step),
-        ([step], Want::Again) => play_step_again(alloc, core, text, step),
-        (_, Want::Told) => play_steps(alloc, core, text, steps),
-        (_, Want::Again) => play_steps_again(alloc, core, text, steps),
+    match steps {
+        [step] => play_step_again(alloc, core, text, step),
+        _ => play_steps_again(alloc, core, text, steps),
     }
 }
 
 /// Plays a line: `H` writes the history of an operator, another does its steps.
-fn play(
-    alloc: Global,
-    core: &mut PlantCore,
-    text: &mut String,
-    line: &str,
-    want: Want,
-) -> Result<(), Fail>
+fn play(alloc: Global, core: &mut PlantCore, text: &mut String, line: &str) -> Result<(), Fail>
     requires { IsTrue true }
 {
     if let Some(name) = line.strip_prefix("H ") {
@@ -173,17 +155,16 @@ fn play(
         return Ok(());
     }
     let steps = steps_of(alloc, core.plant(), line)?;
-    play_line(alloc, core, text, steps.as_slice(), want)?;
+    play_line(alloc, core, text, steps.as_slice())?;
     Ok(())
 }
 
 /// Plays the lines of a script but those behind `=`, and writes each with what is put out behind `=` below it.
-pub fn play_all(
+pub(crate) fn play_all(
     alloc: Global,
     core: &mut PlantCore,
     text: &mut String,
     all: &str,
-    want: Want,
 ) -> Result<(), Fail>
     requires { IsTrue true }
 {
@@ -191,7 +172,7 @@ pub fn play_all(
         if !line.is_empty() && !line.starts_with('=') {
             text.push_str("\n")?;
             text.push_str(line)?;
-            play(alloc, core, text, line, want)?;
+            play(alloc, core, text, line)?;
         }
     }
     Ok(())

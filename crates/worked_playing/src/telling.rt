@@ -79,7 +79,7 @@ fn put_out(alloc: Global, text: &mut String, out: &Out) -> Result<(), AllocError
 }
 
 /// Writes each of some outputs: a line of an operator, or `MAP`, its frame and its digits.
-pub fn put_outs(alloc: Global, text: &mut String, outs: &[Out]) -> Result<(), AllocError> {
+pub(crate) fn put_outs(alloc: Global, text: &mut String, outs: &[Out]) -> Result<(), AllocError> {
     for out in outs {
         put_out(alloc, text, out)?;
     }
@@ -117,7 +117,7 @@ fn put_action(alloc: Global, text: &mut String, action: &Action) -> Result<(), A
 }
 
 /// Writes the lines of what an operator did; `none` where there is no operator.
-pub fn put_history(
+pub(crate) fn put_history(
     alloc: Global,
     text: &mut String,
     history: Option<&[Entry]>,

@@ -1,7 +1,10 @@
-//! The program over readers and writers that fail, and its reasons where these do, as tests alone. What it prints of an input, and the
-//! reason of each mistake that a person can make, is told by the cases of `tests/`, which are walked on the built program.
+//! The program over readers and writers that fail, its reasons where these do, and a plant in service whose answers are flushed, as tests
+//! alone. What the program prints of an input, and the reason of each mistake that a person can make, is told by the cases of `tests/`,
+//! which are walked on the built program.
 #![tactic(auto)]
 
+#[cfg(test)]
+mod flushing;
 #[cfg(test)]
 mod reading;
 #[cfg(test)]

@@ -1,0 +1,147 @@
+//! What the clauses do not say: bytes and their meaning, written by hand from the standard.
+
+use std::alloc::{AllocError, Global};
+use std::process::Abort;
+use std::test::Fail;
+use tlv24::{
+    ClassName, ErrorEncodings, FlowFault, FlowFields, FlowTlv, flow_is_read, one_meaning,
+    read_back, read_flow, write_flow,
+};
+
+/// An encoding with every known subtype.
+const WHOLE: &[u8] = &[
+    0x01, 0x02, 0x01, 0x02, // reference
+    0x02, 0x04, 0x01, 0x02, 0x03, 0x04, // SFID
+    0x03, 0x02, 0x23, 0x45, // SID
+    0x04, 0x03, 0x75, 0x70, 0x00, // class name
+    0x05, 0x06, 0x01, 0x01, 0x07, 0x02, 0x01, 0x19, // error encodings
+    0x06, 0x01, 0x07, // set type
+    0x07, 0x01, 0x05, // traffic priority
+    0x08, 0x04, 0x00, 0x0F, 0x42, 0x40, // maximum sustained rate
+    0x09, 0x04, 0x00, 0x00, 0x0B, 0xE4, // maximum burst
+    0x0A, 0x04, 0x00, 0x01, 0xE8, 0x48, // minimum reserved rate
+    0x0F, 0x01, 0x06, // scheduling type
+    0x10, 0x04, 0x00, 0x00, 0x01, 0x7F, // request policy
+    0x11, 0x04, 0x00, 0x00, 0x4E, 0x20, // polling interval
+    0x12, 0x04, 0x00, 0x00, 0x07, 0xD0, // poll jitter
+    0x13, 0x02, 0x00, 0xE8, // grant size
+    0x14, 0x04, 0x00, 0x00, 0x27, 0x10, // grant interval
+    0x15, 0x04, 0x00, 0x00, 0x03, 0x20, // grant jitter
+    0x16, 0x01, 0x02, // grants per interval
+];
+
+/// What it says.
+fn whole_fields() -> FlowFields {
+    FlowFields {
+        reference: Some(258),
+        sfid: Some(0x01020304),
+        sid: Some(9029),
+        class_name: ClassName::new(b"up"),
+        errored: Some(ErrorEncodings {
+            errored_parameter: 7,
+            code: 25,
+        }),
+        set_type: Some(7),
+        traffic_priority: Some(5),
+        max_sustained_rate: Some(1000000),
+        max_burst: Some(3044),
+        min_reserved_rate: Some(125000),
+        scheduling_type: Some(6),
+        request_policy: Some(383),
+        polling_interval: Some(20000),
+        poll_jitter: Some(2000),
+        grant_size: Some(232),
+        grant_interval: Some(10000),
+        grant_jitter: Some(800),
+        grants_per_interval: Some(2),
+    }
+}
+
+/// The fields of an encoding, or its first fault. A function of its own, as those below: what the calls of it promise is then no part
+/// of each test's proof.
+fn fields_in(bytes: &[u8]) -> Result<FlowFields, FlowFault> {
+    Ok(read_flow(bytes)?.get_fields())
+}
+
+/// The encoding with every known subtype.
+fn whole() -> Result<FlowTlv, FlowFault> {
+    read_flow(WHOLE)
+}
+
+#[test]
+fn encodings_are_read(rt: HostRuntime) {
+    let sid = FlowFields {
+        sid: Some(257),
+        ..FlowFields::NONE
+    };
+    let class_name = FlowFields {
+        class_name: ClassName::new(b"A"),
+        ..FlowFields::NONE
+    };
+    let errored = FlowFields {
+        errored: Some(ErrorEncodings {
+            errored_parameter: 2,
+            code: 3,
+        }),
+        ..FlowFields::NONE
+    };
+    for (bytes, fields) in [
+        (b"".as_slice(), FlowFields::NONE),
+        (b"\x03\x02\xC1\x01", sid),
+        (b"\x04\x02A\0", class_name),
+        (b"\x05\x06\x01\x01\x02\x02\x01\x03", errored),
+        // A subtype that is not known is skipped however often it comes.
+        (b"\x63\x01\xFF\x63\x01\xFF", FlowFields::NONE),
+        (WHOLE, whole_fields()),
+    ] {
+        assert_eq!(rt; fields_in(bytes), Ok(fields), "at {bytes:?}");
+    }
+}
+
+/// The bytes of an encoding, of which the same encoding is read back.
+fn written(rt: &impl Abort, alloc: Global, flow: &FlowTlv) -> Result<Vec<u8>, AllocError> {
+    assert_eq!(rt; read_back(alloc, flow)?, *flow);
+    write_flow(alloc, flow)
+}
+
+/// All fields in ascending order, whatever the order of the bytes was; and a SID without its upper bits.
+#[test]
+fn fields_are_written(rt: HostRuntime) -> Result<(), Fail> {
+    let bytes = written(&rt, rt.alloc(), &whole()?)?;
+    assert_eq!(rt; bytes.as_slice(), WHOLE);
+    let flow = read_flow(b"\x06\x01\x06\x03\x02\xC1\x01")?;
+    let bytes = written(&rt, rt.alloc(), &flow)?;
+    assert_eq!(rt;
+        bytes.as_slice(),
+        b"\x03\x02\x01\x01\x06\x01\x06".as_slice()
+    );
+    Ok(())
+}
+
+#[test]
+fn each_field_has_its_getter(rt: HostRuntime) -> Result<(), Fail> {
+    one_meaning();
+    flow_is_read();
+    let flow = whole()?;
+    let name = flow.get_class_name().ok_or("no class name")?;
+    assert_eq!(rt; name.as_slice(), b"up".as_slice());
+    let errored = flow.get_errored().ok_or("no error encodings")?;
+    assert_eq!(rt; (errored.errored_parameter, errored.code), (7, 25));
+    assert_eq!(rt; flow.get_reference(), Some(258));
+    assert_eq!(rt; flow.get_sfid(), Some(0x01020304));
+    assert_eq!(rt; flow.get_sid(), Some(9029));
+    assert_eq!(rt; flow.get_set_type(), Some(7));
+    assert_eq!(rt; flow.get_traffic_priority(), Some(5));
+    assert_eq!(rt; flow.get_max_sustained_rate(), Some(1000000));
+    assert_eq!(rt; flow.get_max_burst(), Some(3044));
+    assert_eq!(rt; flow.get_min_reserved_rate(), Some(125000));
+    assert_eq!(rt; flow.get_scheduling_type(), Some(6));
+    assert_eq!(rt; flow.get_request_policy(), Some(383));
+    assert_eq!(rt; flow.get_polling_interval(), Some(20000));
+    assert_eq!(rt; flow.get_poll_jitter(), Some(2000));
+    assert_eq!(rt; flow.get_grant_size(), Some(232));
+    assert_eq!(rt; flow.get_grant_interval(), Some(10000));
+    assert_eq!(rt; flow.get_grant_jitter(), Some(800));
+    assert_eq!(rt; flow.get_grants_per_interval(), Some(2));
+    Ok(())
+}

@@ -1,0 +1,103 @@
+//! Each line's answer is flushed before the next line is read.
+
+use grant_policy::{RankInput, Ranking, rank_by};
+use live_core::LiveCore;
+use plant_service::{HeldLine, serve};
+use slice_table::read_plant;
+use std::alloc::Global;
+use std::cell::Cell;
+use std::io;
+use std::io::{Read, Write};
+use std::test::Fail;
+use worked_plants::PLANT;
+
+/// Gives a byte at a time, and fails at the first byte of a line where something is held back.
+#[derive(Drop)]
+struct Waiting<'a> {
+    bytes: &'a [u8],
+    is_begun: bool,
+    held_back: &'a Cell<usize>,
+}
+
+impl Read for Waiting<'_> {
+    fn read(&mut self, buf: &mut [u8]) -> io::Result<usize> {
+        if !self.is_begun && self.held_back.get() > 0 {
+            return Err(io::Error::from(io::ErrorKind::Other));
+        }
+        match (self.bytes, buf) {
+            ([first, rest @ ..], [place, ..]) => {
+                *place = *first;
+                self.is_begun = *first != b'\n';
+                self.bytes = rest;
+                Ok(1)
+            }
+            _ => Ok(0),
+        }
+    }
+}
+
+/// Takes all bytes, and counts those that are not flushed.
+#[derive(Drop)]
+struct Buffered<'a> {
+    taken: usize,
+    held_back: &'a Cell<usize>,
+}
+
+impl Write for Buffered<'_> {
+    fn write(&mut self, buf: &[u8]) -> io::Result<usize> {
+        self.taken = self.taken.saturating_add(buf.len());
+        let held = self.held_back.get().saturating_add(buf.len());
+        self.held_back.set(held);
+        Ok(buf.len())
+    }
+
+    fn flush(&mut self) -> io::Result<()> {
+        self.held_back.set(0);
+        Ok(())
+    }
+}
+
+/// How many bytes a plant in service writes to a script's lines, where it never reads on with something held back.
+fn bytes_served(alloc: Global, script: &[u8]) -> Result<usize, Fail> {
+    let plant = read_plant(alloc, PLANT).ok().ok_or("no plant")?;
+    let mut rankings = Vec::new(alloc);
+    for row in plant.rows() {
+        let policy = row.get_fields().policy;
+        rankings.push(Ranking::new(
+            policy,
+            Box::new(alloc, move |input: RankInput| -> u8 {
+                rank_by(policy, &input)
+            })?,
+        ))?;
+    }
+    let mut core = match LiveCore::open(alloc, plant, rankings) {
+        Ok(core) => core,
+        Err(_) => return Err(Fail::new("not opened")),
+    };
+    let held = HeldLine::new(alloc)?;
+    let held_back = Cell::new(0);
+    let mut reader = Waiting {
+        bytes: script,
+        is_begun: false,
+        held_back: &held_back,
+    };
+    let mut writer = Buffered {
+        taken: 0,
+        held_back: &held_back,
+    };
+    match serve(alloc, &mut core, held, &mut reader, &mut writer) {
+        Ok(()) => Ok(writer.taken),
+        Err(_) => Err(Fail::new("read on with something held back")),
+    }
+}
+
+/// Answers with lines, fault lines and the answer to the last line, which no line feed ends, are flushed.
+#[test]
+fn answers_are_flushed(rt: HostRuntime) -> Result<(), Fail> {
+    let alloc = rt.alloc();
+    let faults = bytes_served(alloc, b"X\n\nT Nobody\n")?;
+    assert_eq!(rt; faults, 28);
+    let ticked = bytes_served(alloc, b"T Alpha\nX\nT Beta\nX")?;
+    assert!(rt; ticked > 28);
+    Ok(())
+}
