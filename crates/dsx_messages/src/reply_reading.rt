@@ -18,11 +18,12 @@ ghost use Rattle.dsx_messages.specs.declared.reply.ReplyFields.{ReplyFields};
 
 use crate::code::Code;
 use crate::kind::Kind;
+use crate::message_type;
 use crate::reply::{Detail, FlowId, Reply, ReplyFields};
 use crate::spell::write_reply;
-use crate::{message_type, tlv_type};
+use crate::tlv_type::UPSTREAM_SERVICE_FLOW as FLOW;
 use std::alloc::{AllocError, Global};
-use tlv24::subtype;
+use tlv24::subtype::{ERROR_CODE, ERRORED, ERRORED_PARAMETER, REFERENCE, SFID, SID};
 
 /// What a response answers to, by its message type.
 fn kind_of(mtype: u8) -> Option<Kind>
@@ -46,19 +47,19 @@ fn added(tail: &[u8]) -> Option<(u16, u32, u16)>
 {
     match tail {
         [
-            tlv_type::UPSTREAM_SERVICE_FLOW,
+            FLOW,
             14,
-            subtype::REFERENCE,
+            REFERENCE,
             2,
             rh,
             rl,
-            subtype::SFID,
+            SFID,
             4,
             a,
             b,
             c,
             d,
-            subtype::SID,
+            SID,
             2,
             sh,
             sl,
@@ -78,16 +79,7 @@ fn changed(tail: &[u8]) -> Option<u32>
         → result ≡ Some sfid }
 {
     match tail {
-        [
-            tlv_type::UPSTREAM_SERVICE_FLOW,
-            6,
-            subtype::SFID,
-            4,
-            a,
-            b,
-            c,
-            d,
-        ] => Some(u32::from_be_bytes([*a, *b, *c, *d])),
+        [FLOW, 6, SFID, 4, a, b, c, d] => Some(u32::from_be_bytes([*a, *b, *c, *d])),
         _ => None,
     }
 }
@@ -99,20 +91,7 @@ fn changed_with_sid(tail: &[u8]) -> Option<(u32, u16)>
         → tail.now ≡ tail_of Dsc Okay (Given None sfid (Some sid)) → result ≡ Some (sfid, sid) }
 {
     match tail {
-        [
-            tlv_type::UPSTREAM_SERVICE_FLOW,
-            10,
-            subtype::SFID,
-            4,
-            a,
-            b,
-            c,
-            d,
-            subtype::SID,
-            2,
-            sh,
-            sl,
-        ] => Some((
+        [FLOW, 10, SFID, 4, a, b, c, d, SID, 2, sh, sl] => Some((
             u32::from_be_bytes([*a, *b, *c, *d]),
             u16::from_be_bytes([*sh, *sl]),
         )),
@@ -139,20 +118,20 @@ fn errored_sfid(code: Code, tail: &[u8]) -> Option<(Option<FlowId>, u8)>
         → result ≡ Some (Some (Sfid sfid), subtype) }
 {
     let [
-        tlv_type::UPSTREAM_SERVICE_FLOW,
+        FLOW,
         14,
-        subtype::SFID,
+        SFID,
         4,
         a,
         b,
         c,
         d,
-        subtype::ERRORED,
+        ERRORED,
         6,
-        subtype::ERRORED_PARAMETER,
+        ERRORED_PARAMETER,
         1,
         subtype,
-        subtype::ERROR_CODE,
+        ERROR_CODE,
         1,
         number,
     ] = tail
@@ -177,30 +156,30 @@ fn errored(code: Code, tail: &[u8]) -> Option<(Option<FlowId>, u8)>
 {
     match tail {
         [
-            tlv_type::UPSTREAM_SERVICE_FLOW,
+            FLOW,
             8,
-            subtype::ERRORED,
+            ERRORED,
             6,
-            subtype::ERRORED_PARAMETER,
+            ERRORED_PARAMETER,
             1,
             subtype,
-            subtype::ERROR_CODE,
+            ERROR_CODE,
             1,
             number,
         ] => repeated(code, *number, None, *subtype),
         [
-            tlv_type::UPSTREAM_SERVICE_FLOW,
+            FLOW,
             12,
-            subtype::REFERENCE,
+            REFERENCE,
             2,
             high,
             low,
-            subtype::ERRORED,
+            ERRORED,
             6,
-            subtype::ERRORED_PARAMETER,
+            ERRORED_PARAMETER,
             1,
             subtype,
-            subtype::ERROR_CODE,
+            ERROR_CODE,
             1,
             number,
         ] => {
