@@ -7,3 +7,5 @@ pub mod Splits
 pub mod Unhexed
 pub mod Spaces
 pub mod FirstFields
+pub mod SaidSoFar
+pub mod StepsSoFar

@@ -7,7 +7,7 @@ use Rattle.std.specs.Borrow.{Bor}
 use Rattle.plant_lines.specs.Lines.{parts_from, parts_of}
 use Rattle.plant_lines.specs.Messages.{message_in, messages_after}
 use Rattle.memchr.specs.Find.{Nowhere, NoneBefore, Passes, is_byte}
-use Rattle.plant_lines.specs.SaidSoFar.{IsSaidSoFar}
+use Rattle.plant_lines.proofs.SaidSoFar.{IsSaidSoFar}
 
 -- ---- lines
 

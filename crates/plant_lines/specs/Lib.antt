@@ -6,6 +6,5 @@ pub mod Script
 pub mod Causes
 pub mod Text
 pub mod LineFault
-pub mod SaidSoFar
-pub mod StepsSoFar
+pub mod GivesSteps
 pub mod Senders

@@ -7,7 +7,7 @@ ghost use Rattle.plant_lines.specs.Fields.{Gives, seen, behind};
 ghost use Rattle.plant_lines.specs.Lines.{lines_of, fields_of};
 ghost use Rattle.plant_lines.specs.Script.{sender_in, is_named, operator_in, heard_steps, message_steps, request_steps, tick_steps, all_ticks, ticked_steps, share_in, shares_after, shares_in, resliced_steps, steps_in, line_steps, steps_after, steps_of};
 ghost use Rattle.plant_lines.specs.Senders.{sender_first};
-ghost use Rattle.plant_lines.specs.StepsSoFar.{GivesSteps};
+ghost use Rattle.plant_lines.specs.GivesSteps.{GivesSteps};
 
 use crate::fields::{FieldFault, bytes_in, halves, number_in, short_in, three_of, word_and_rest};
 use crate::lines::{LineFault, part, parts_of, put_parts};

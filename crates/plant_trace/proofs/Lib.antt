@@ -1,3 +1,4 @@
 pub mod DecisionLemmas
 pub mod TextLemmas
 pub mod TraceLemmas
+pub mod TracedSoFar

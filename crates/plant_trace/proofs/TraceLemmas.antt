@@ -18,7 +18,8 @@ use Rattle.plant_service.specs.Steps.{IsStepsEndAt}
 use Rattle.plant_trace.specs.declared.decision.Decision.{Decision}
 use Rattle.plant_trace.specs.Decision.{IsDecision}
 use Rattle.plant_trace.specs.Trace.{AreDecided, IsTraceText, HasTraced}
-use Rattle.plant_trace.specs.SoFar.{HasRemarked, HasToldStep, IsTracedSoFar}
+use Rattle.plant_trace.specs.Told.{HasRemarked, HasToldStep}
+use Rattle.plant_trace.proofs.TracedSoFar.{IsTracedSoFar}
 use Rattle.plant_service.proofs.LeftLemmas.{first_left, none_left, take_next, drop_next}
 use Rattle.plant_service.proofs.StepLemmas.{fault_is_told}
 use Rattle.plant_trace.proofs.TextLemmas.{text_remark, text_more, decided_more}

@@ -1,4 +1,4 @@
 pub mod Decision
 pub mod Names
 pub mod Trace
-pub mod SoFar
+pub mod Told

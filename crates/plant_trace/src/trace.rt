@@ -8,7 +8,7 @@ ghost use Rattle.plant_core.specs.declared.core_fault.CoreFault.TheVariants as f
 ghost use Rattle.plant_core.specs.CoreView.{core_view};
 ghost use Rattle.plant_service.specs.declared.steps_end.StepsEnd.TheVariants as steps_ends;
 ghost use Rattle.plant_trace.specs.Trace.{HasTraced};
-ghost use Rattle.plant_trace.specs.SoFar.{HasRemarked, HasToldDecision, HasToldStep};
+ghost use Rattle.plant_trace.specs.Told.{HasRemarked, HasToldDecision, HasToldStep};
 
 use crate::decision::Decision;
 use crate::names::{check_name, message_check_name};

@@ -1,5 +1,5 @@
 use Rattle.std.proofs.Common.{map}
-use Rattle.plant_lines.specs.SaidSoFar.{IsSaidSoFar}
+use Rattle.plant_lines.proofs.SaidSoFar.{IsSaidSoFar}
 use Rattle.plant_lines.proofs.lines.messages_of.Given as goal
 
 abbrev pub invariant-loop-line : goal.invariant-loop-line

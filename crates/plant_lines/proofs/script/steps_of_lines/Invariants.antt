@@ -1,5 +1,5 @@
 use Rattle.std.proofs.Common.{map}
-use Rattle.plant_lines.specs.StepsSoFar.{AreStepsSoFar}
+use Rattle.plant_lines.proofs.StepsSoFar.{AreStepsSoFar}
 use Rattle.plant_lines.proofs.script.steps_of_lines.Given as goal
 
 abbrev pub invariant-loop-line : goal.invariant-loop-line

@@ -1,5 +1,5 @@
 -- Which messages were read so far.
-use Rattle.std.specs.Prelude.{◌≡◌, ℕ, ◌+◌, List, [], drop}
+use Rattle.std.proofs.Common.{◌≡◌, ℕ, ◌+◌, List, [], drop}
 use Rattle.plant_lines.specs.Messages.{messages_after}
 
 -- the messages of the lines before the place; the others go on after them

@@ -1,5 +1,5 @@
--- How much of a trace is written so far (own; for inner functions).
-use Rattle.std.specs.Prelude.{◌≡◌, ℕ, List, [], ◌++◌, take, drop, Option}
+-- How much of a trace is written so far.
+use Rattle.std.proofs.Common.{◌≡◌, ℕ, List, [], take, drop, Option}
 use Rattle.std.specs.Io.KnownBytes.{Appends}
 use Rattle.plant.specs.declared.plant.PlantFields.{PlantFields}
 use Rattle.plant_runs.specs.declared.step.Out.{Out}
@@ -7,19 +7,7 @@ use Rattle.plant_runs.specs.Reached.{CoreView, Reached}
 use Rattle.plant_lines.specs.declared.script.LineStep.{LineStep}
 use Rattle.plant_lines.specs.Script.{unnumbered}
 use Rattle.plant_trace.specs.declared.decision.Decision.{Decision}
-use Rattle.plant_trace.specs.Trace.{AreDecided, IsDecisionText, IsTraceText}
-
--- a remark is written: any text
-abbrev pub HasRemarked : Option (List ℕ) → Option (List ℕ) → Type 0
-HasRemarked old new = (remark : List ℕ) × Appends old new remark
-
--- a decision's text is written
-abbrev pub HasToldDecision : Option Decision → Option (List ℕ) → Option (List ℕ) → Type 0
-HasToldDecision decision old new = (line : List ℕ) × IsDecisionText decision line × Appends old new line
-
--- a decision's text is written, and a remark behind it
-abbrev pub HasToldStep : Option Decision → Option (List ℕ) → Option (List ℕ) → Type 0
-HasToldStep decision old new = (line remark : List ℕ) × IsDecisionText decision line × Appends old new (line ++ remark)
+use Rattle.plant_trace.specs.Trace.{AreDecided, IsTraceText}
 
 -- some of the steps are done and told, and these are left
 pub record IsTracedSoFar (plant : PlantFields) (steps : List LineStep) (core : CoreView) (old new : Option (List ℕ)) (left : List LineStep) : Type 0 where
