@@ -3,6 +3,7 @@
 use crate::fault::Fault;
 use crate::show::quoted;
 use crate::tree::{named, number, table_at, text};
+use crate::values::no_digit;
 use admission::Budget;
 use dsx_messages::Code;
 use hex::FromHexError;
@@ -17,13 +18,9 @@ pub(crate) fn hex_reason(alloc: Global, digits: &str, fault: FromHexError) -> Fa
     if fault == FromHexError::OutOfMemory {
         return Fault::NoMemory;
     }
-    let wrong = digits
-        .chars()
-        .enumerate()
-        .find(|digit| !digit.1.is_ascii_hexdigit());
-    told(match wrong {
-        Some((place, c)) => {
-            let place = place.saturating_add(1);
+    told(match no_digit(digits) {
+        Some((before, c)) => {
+            let place = before.saturating_add(1);
             format!(in alloc; "{c:?} at digit {place} is no hexadecimal digit")
         }
         None => {

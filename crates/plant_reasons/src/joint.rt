@@ -2,6 +2,7 @@
 
 use crate::tree::{named, number, pair, values};
 use dsx_messages::Modem;
+use hex::FromHex;
 use plant::OperatorName;
 use slice_table::Field;
 use std::alloc::{AllocError, Global};
@@ -51,43 +52,49 @@ pub(crate) fn ranges_meet(
     )
 }
 
-/// Whether a value is this address.
-fn is_address(value: &Value, address: &str) -> bool {
+/// A place of a modem: the operator's number and the modem's.
+type ModemPlace = (usize, usize);
+
+/// Whether a value is the address of a modem.
+fn is_address(value: &Value, modem: Modem) -> bool {
     match value.as_str() {
-        Some(text) => text.eq_ignore_ascii_case(address),
+        Some(text) => match <[u8; 6] as FromHex>::from_hex(text) {
+            Ok(address) => address == modem.0,
+            Err(_fault) => false,
+        },
         None => false,
     }
 }
 
-/// Where the modems of an operator have an address: the operator's number and the modem's.
-fn put_places(
-    operator: &Value,
-    number: usize,
-    address: &str,
-    places: &mut Vec<(usize, usize)>,
-) -> Result<(), AllocError> {
-    let Some(table) = operator.as_table() else {
-        return Ok(());
-    };
-    for (modem, value) in values(table, "modems").iter().enumerate() {
-        if is_address(value, address) {
-            places.push((number, modem))?;
+/// The first of some modems, from a number on, that has an address.
+fn modem_from(modems: &[Value], from: usize, modem: Modem) -> Option<usize> {
+    for (number, value) in modems.iter().enumerate() {
+        if number >= from && is_address(value, modem) {
+            return Some(number);
         }
     }
-    Ok(())
+    None
 }
 
-/// Where an address stands in a plant file, in order.
-fn places_of(
-    alloc: Global,
-    document: &Table,
-    address: &str,
-) -> Result<Vec<(usize, usize)>, AllocError> {
-    let mut places = Vec::new(alloc);
-    for (number, operator) in values(document, "operator").iter().enumerate() {
-        put_places(operator, number, address, &mut places)?;
+/// The modems of an operator.
+fn modems_of(operator: &Value) -> &[Value] {
+    match operator.as_table() {
+        Some(table) => values(table, "modems"),
+        None => &[],
     }
-    Ok(places)
+}
+
+/// The first place, from one on, at which an address stands.
+fn place_from(operators: &[Value], from: ModemPlace, modem: Modem) -> Option<ModemPlace> {
+    for (number, operator) in operators.iter().enumerate() {
+        if number >= from.0 {
+            let first = if number == from.0 { from.1 } else { 0 };
+            if let Some(place) = modem_from(modems_of(operator), first, modem) {
+                return Some((number, place));
+            }
+        }
+    }
+    None
 }
 
 /// An address that stands twice.
@@ -96,13 +103,13 @@ pub(crate) fn modem_twice(
     document: &Table,
     modem: Modem,
 ) -> Result<String, AllocError> {
-    let address = format!(in alloc; "{modem}")?;
-    let places = places_of(alloc, document, address.as_str())?;
-    match places.as_slice() {
-        [(a, i), (b, j), ..] => format!(in alloc;
+    let operators = values(document, "operator");
+    let (a, i) = place_from(operators, (0, 0), modem).unwrap_or((0, 0));
+    match place_from(operators, (a, i.saturating_add(1)), modem) {
+        Some((b, j)) => format!(in alloc;
             "modem {modem} is listed twice: as operator[{a}].modems[{i}] and as operator[{b}].modems[{j}]"
         ),
-        _ => format!(in alloc; "modem {modem} is listed twice"),
+        None => format!(in alloc; "modem {modem} is listed twice"),
     }
 }
 

@@ -29,6 +29,25 @@ pub(crate) struct LineReason {
     pub(crate) reason: String,
 }
 
+/// Why a script has no steps.
+#[derive(Drop)]
+pub(crate) enum NoSteps {
+    /// Its first line at fault.
+    Line(LineReason),
+    /// No memory was left.
+    NoMemory,
+}
+
+impl NoSteps {
+    /// The line at fault.
+    pub(crate) fn told(self) -> Result<Option<LineReason>, AllocError> {
+        match self {
+            NoSteps::Line(wrong) => Ok(Some(wrong)),
+            NoSteps::NoMemory => Err(AllocError),
+        }
+    }
+}
+
 /// A reason that needs no values.
 fn plain(alloc: Global, reason: &str) -> Fault {
     told(String::from_str(alloc, reason))
@@ -98,10 +117,12 @@ fn is_called(row: &OperatorRow, name: &str) -> bool {
 
 /// The operator of a name.
 fn operator_in(alloc: Global, plant: &Plant, field: &str) -> Result<Op, Fault> {
-    match plant.rows().iter().position(|row| is_called(row, field)) {
-        Some(op) => Ok(op),
-        None => Err(told(stranger(alloc, plant.rows(), field))),
+    for (op, row) in plant.rows().iter().enumerate() {
+        if is_called(row, field) {
+            return Ok(op);
+        }
     }
+    Err(told(stranger(alloc, plant.rows(), field)))
 }
 
 /// A decimal number, called so in a reason: at most so many digits, and at most `most`.
@@ -354,7 +375,7 @@ fn put_line(
 }
 
 /// Adds the steps of a script. Answers the first line at fault, if there is one.
-pub(crate) fn put_steps(
+fn put_steps(
     alloc: Global,
     plant: &Plant,
     script: &str,
@@ -369,6 +390,20 @@ pub(crate) fn put_steps(
         }
     }
     Ok(None)
+}
+
+/// The steps of a script.
+pub(crate) fn steps_of(
+    alloc: Global,
+    plant: &Plant,
+    script: &str,
+) -> Result<Vec<LineStep>, NoSteps> {
+    let mut steps = Vec::new(alloc);
+    match put_steps(alloc, plant, script, &mut steps) {
+        Ok(None) => Ok(steps),
+        Ok(Some(wrong)) => Err(NoSteps::Line(wrong)),
+        Err(_full) => Err(NoSteps::NoMemory),
+    }
 }
 
 /// Why a line of the input of `one` is no message; none where it is one.

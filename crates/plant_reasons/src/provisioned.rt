@@ -64,36 +64,30 @@ fn count(table: &Table, field: Field) -> u64 {
     last.saturating_add(1).saturating_sub(first)
 }
 
+/// How much there is under a key that flows need something of.
+fn room(table: &Table, field: Field) -> u64 {
+    match field {
+        Field::Sfids | Field::Sids => count(table, field),
+        _ => number(table, field).unwrap_or(0),
+    }
+}
+
 /// The first key that the flows do not fit: what they need of it, and what there is.
 fn over(table: &Table, demand: Demand) -> Option<(&'static str, u64, Field, u64)> {
-    let tests = [
-        (
-            "flows",
-            demand.flows,
-            Field::Flows,
-            number(table, Field::Flows).unwrap_or(0),
-        ),
-        (
-            "SFIDs",
-            demand.flows,
-            Field::Sfids,
-            count(table, Field::Sfids),
-        ),
-        ("SIDs", demand.sids, Field::Sids, count(table, Field::Sids)),
-        (
-            "minislots of a frame",
-            demand.minislots,
-            Field::Budget,
-            number(table, Field::Budget).unwrap_or(0),
-        ),
-        (
-            "elements of a MAP",
-            demand.elements,
-            Field::Elements,
-            number(table, Field::Elements).unwrap_or(0),
-        ),
+    let needs = [
+        ("flows", demand.flows, Field::Flows),
+        ("SFIDs", demand.flows, Field::Sfids),
+        ("SIDs", demand.sids, Field::Sids),
+        ("minislots of a frame", demand.minislots, Field::Budget),
+        ("elements of a MAP", demand.elements, Field::Elements),
     ];
-    tests.iter().find(|test| test.1 > test.3).copied()
+    for (what, need, field) in needs.iter() {
+        let room = room(table, *field);
+        if *need > room {
+            return Some((*what, *need, *field, room));
+        }
+    }
+    None
 }
 
 /// The operator's provisioned flows, their demand and the first key that they do not fit.
