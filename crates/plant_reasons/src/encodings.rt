@@ -40,16 +40,16 @@ pub(crate) fn told(reason: Result<String, AllocError>) -> Fault {
 
 /// An encoding that cannot be read.
 fn tlv_reason(alloc: Global, fault: TlvFault) -> Fault {
-    let reason = match fault {
-        TlvFault::Cut { at } => { format!(in alloc; "the TLV at byte {at} reaches behind the end") }
+    let (what, number, wrong) = match fault {
+        TlvFault::Cut { at } => ("the TLV at byte", at, "reaches behind the end"),
         TlvFault::WrongLength { subtype } => {
-            format!(in alloc; "subtype {subtype} has a wrong length")
+            ("subtype", usize::from(subtype), "has a wrong length")
         }
-        TlvFault::Twice { subtype } => format!(in alloc; "subtype {subtype} stands twice"),
-        TlvFault::Range { subtype } => format!(in alloc; "subtype {subtype} is out of its range"),
+        TlvFault::Twice { subtype } => ("subtype", usize::from(subtype), "stands twice"),
+        TlvFault::Range { subtype } => ("subtype", usize::from(subtype), "is out of its range"),
         TlvFault::NoMemory => return Fault::NoMemory,
     };
-    told(reason)
+    told(format!(in alloc; "{what} {number} {wrong}"))
 }
 
 /// The flow encoding in hexadecimal.
@@ -117,11 +117,12 @@ fn asked(alloc: Global, document: &Table, stated: FlowTlv) -> Result<FlowTlv, Fa
 /// A parameter set that is refused.
 fn refusal_reason(alloc: Global, refusal: Refusal) -> Fault {
     let Refusal { code, subtype } = refusal;
-    told(if code == Code::RejectRequiredParameterNotPresent {
-        format!(in alloc; "subtype {subtype} is missing")
+    let wrong = if code == Code::RejectRequiredParameterNotPresent {
+        "is missing"
     } else {
-        format!(in alloc; "subtype {subtype} is out of its range")
-    })
+        "is out of its range"
+    };
+    told(format!(in alloc; "subtype {subtype} {wrong}"))
 }
 
 /// The parameter set of a provisioned flow, and its set type.

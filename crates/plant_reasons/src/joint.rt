@@ -19,6 +19,39 @@ pub(crate) fn name_of(name: &OperatorName) -> &str {
     str::from_utf8(name.as_slice()).unwrap_or("")
 }
 
+/// Adds which numbers an operator has, or is to have.
+fn put_range(
+    text: &mut String,
+    name: &str,
+    has: &str,
+    range: (u64, u64),
+) -> Result<(), AllocError> {
+    let (first, last) = range;
+    write!(text, "{name} {has} {first} to {last}")
+}
+
+/// That the numbers which two operators have, or are to have, under a key meet. The words behind a name say which numbers these are.
+pub(crate) fn meeting(
+    alloc: Global,
+    key: &str,
+    has: (&str, &str),
+    names: (&str, &str),
+    ranges: ((u64, u64), (u64, u64)),
+) -> Result<String, AllocError> {
+    let (a, b) = names;
+    let mut text = format!(in alloc; "operators {a} and {b}: their {key} meet: ")?;
+    put_range(&mut text, a, has.0, ranges.0)?;
+    text.push_str(", ")?;
+    put_range(&mut text, b, has.1, ranges.1)?;
+    Ok(text)
+}
+
+/// The first and the last minislot of an operator's slice.
+fn slice_of(document: &Table, name: &str) -> (u64, u64) {
+    let (start, length) = pair_of(document, name, Field::Slice).unwrap_or((0, 0));
+    (start, start.saturating_add(length).saturating_sub(1))
+}
+
 /// Slices of two operators that have a minislot in common.
 pub(crate) fn slices_meet(
     alloc: Global,
@@ -26,13 +59,14 @@ pub(crate) fn slices_meet(
     a: OperatorName,
     b: OperatorName,
 ) -> Result<String, AllocError> {
-    let first = pair_of(document, name_of(&a), Field::Slice).unwrap_or((0, 0));
-    let second = pair_of(document, name_of(&b), Field::Slice).unwrap_or((0, 0));
-    let (start, other) = (first.0, second.0);
-    let end = start.saturating_add(first.1).saturating_sub(1);
-    let other_end = other.saturating_add(second.1).saturating_sub(1);
-    format!(in alloc;
-        "operators {a} and {b}: their slices meet: {a} has the minislots {start} to {end}, {b} has {other} to {other_end}"
+    let (a, b) = (name_of(&a), name_of(&b));
+    let ranges = (slice_of(document, a), slice_of(document, b));
+    meeting(
+        alloc,
+        "slices",
+        ("has the minislots", "has"),
+        (a, b),
+        ranges,
     )
 }
 
@@ -44,12 +78,10 @@ pub(crate) fn ranges_meet(
     a: OperatorName,
     b: OperatorName,
 ) -> Result<String, AllocError> {
-    let (first, last) = pair_of(document, name_of(&a), field).unwrap_or((0, 0));
-    let (other, other_last) = pair_of(document, name_of(&b), field).unwrap_or((0, 0));
-    let key = field.text();
-    format!(in alloc;
-        "operators {a} and {b}: their {key} meet: {a} has {first} to {last}, {b} has {other} to {other_last}"
-    )
+    let (a, b) = (name_of(&a), name_of(&b));
+    let first = pair_of(document, a, field).unwrap_or((0, 0));
+    let other = pair_of(document, b, field).unwrap_or((0, 0));
+    meeting(alloc, field.text(), ("has", "has"), (a, b), (first, other))
 }
 
 /// A place of a modem: the operator's number and the modem's.

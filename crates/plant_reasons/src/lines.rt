@@ -67,16 +67,19 @@ fn message_in(alloc: Global, field: &str) -> Result<Bytes, Fault> {
     }
 }
 
+/// Why a field is no address.
+fn no_address(alloc: Global, field: &str) -> Result<String, AllocError> {
+    let shown = quoted(alloc, field)?;
+    match address_wrong(alloc, field)? {
+        Some(wrong) => format!(in alloc; "the address {shown} {wrong}"),
+        None => format!(in alloc; "the address {shown} is none"),
+    }
+}
+
 /// The modem of an address, and its operator.
 fn sender_in(alloc: Global, plant: &Plant, field: &str) -> Result<(Modem, Op), Fault> {
     let Ok(address) = <[u8; 6] as FromHex>::from_hex(field) else {
-        let shown = quoted(alloc, field)?;
-        let wrong = address_wrong(alloc, field)?;
-        let wrong = match &wrong {
-            Some(wrong) => wrong.as_str(),
-            None => "is none",
-        };
-        return Err(told(format!(in alloc; "the address {shown} {wrong}")));
+        return Err(told(no_address(alloc, field)));
     };
     match plant.operator_of(Modem(address)) {
         Some(op) => Ok((Modem(address), op)),
@@ -125,6 +128,12 @@ fn operator_in(alloc: Global, plant: &Plant, field: &str) -> Result<Op, Fault> {
     Err(told(stranger(alloc, plant.rows(), field)))
 }
 
+/// That a field, called so in a reason, is no number.
+fn no_number(alloc: Global, name: &str, field: &str) -> Result<String, AllocError> {
+    let shown = quoted(alloc, field)?;
+    format!(in alloc; "{name} {shown} is no decimal number")
+}
+
 /// A decimal number, called so in a reason: at most so many digits, and at most `most`.
 fn number_in(
     alloc: Global,
@@ -133,9 +142,8 @@ fn number_in(
     most: u64,
     field: &str,
 ) -> Result<u64, Fault> {
-    let shown = quoted(alloc, field)?;
     if field.is_empty() || !field.chars().all(|c| c.is_ascii_digit()) {
-        return Err(told(format!(in alloc; "{name} {shown} is no decimal number")));
+        return Err(told(no_number(alloc, name, field)));
     }
     let count = field.len();
     let number = field.parse::<u64>().unwrap_or(u64::MAX);
@@ -247,6 +255,12 @@ fn put_ticked(
     }
 }
 
+/// That a field is no slice and budget.
+fn no_share(alloc: Global, field: &str) -> Result<String, AllocError> {
+    let shown = quoted(alloc, field)?;
+    format!(in alloc; "{shown} is no start/length/budget, three numbers")
+}
+
 /// A slice and a budget.
 fn share_in(alloc: Global, field: &str) -> Result<SliceRow, Fault> {
     let mut parts = field.split('/');
@@ -256,8 +270,7 @@ fn share_in(alloc: Global, field: &str) -> Result<SliceRow, Fault> {
         parts.next(),
         parts.next(),
     ) else {
-        let shown = quoted(alloc, field)?;
-        return Err(told(format!(in alloc; "{shown} is no start/length/budget, three numbers")));
+        return Err(told(no_share(alloc, field)));
     };
     Ok(SliceRow {
         start: short_in(alloc, "the start", start)?,

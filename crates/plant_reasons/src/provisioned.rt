@@ -72,8 +72,18 @@ fn room(table: &Table, field: Field) -> u64 {
     }
 }
 
-/// The first key that the flows do not fit: what they need of it, and what there is.
-fn over(table: &Table, demand: Demand) -> Option<(&'static str, u64, Field, u64)> {
+/// A key that provisioned flows do not fit: what they need of it, and what there is.
+#[derive(Clone, Copy)]
+struct Excess {
+    flows: u64,
+    what: &'static str,
+    need: u64,
+    field: Field,
+    room: u64,
+}
+
+/// The first key that the flows do not fit.
+fn over(table: &Table, demand: Demand) -> Option<Excess> {
     let needs = [
         ("flows", demand.flows, Field::Flows),
         ("SFIDs", demand.flows, Field::Sfids),
@@ -82,32 +92,55 @@ fn over(table: &Table, demand: Demand) -> Option<(&'static str, u64, Field, u64)
         ("elements of a MAP", demand.elements, Field::Elements),
     ];
     for (what, need, field) in needs.iter() {
-        let room = room(table, *field);
-        if *need > room {
-            return Some((*what, *need, *field, room));
+        let (what, need, field) = (*what, *need, *field);
+        let room = room(table, field);
+        if need > room {
+            let flows = demand.flows;
+            return Some(Excess {
+                flows,
+                what,
+                need,
+                field,
+                room,
+            });
         }
     }
     None
 }
 
-/// The operator's provisioned flows, their demand and the first key that they do not fit.
+/// The first key that an operator's provisioned flows do not fit.
 fn over_of(
     alloc: Global,
     document: &Table,
     operator: OperatorName,
-) -> Result<Option<(usize, (&'static str, u64, Field, u64))>, Fault> {
+) -> Result<Option<Excess>, Fault> {
     let (Some((_number, table)), Some(units)) = (
         named(document, "operator", name_of(&operator)),
         units_of(document),
     ) else {
         return Ok(None);
     };
-    let flows = values(table, "flow");
-    let demand = demand_of(alloc, document, units, flows)?;
-    match over(table, demand) {
-        Some(over) => Ok(Some((flows.len(), over))),
-        None => Ok(None),
-    }
+    let demand = demand_of(alloc, document, units, values(table, "flow"))?;
+    Ok(over(table, demand))
+}
+
+/// That provisioned flows do not fit a key.
+fn over_told(alloc: Global, operator: OperatorName, over: Excess) -> Result<String, AllocError> {
+    let Excess {
+        flows,
+        what,
+        need,
+        field,
+        room,
+    } = over;
+    let key = field.text();
+    let verb = match field {
+        Field::Sfids | Field::Sids => "has",
+        _ => "is",
+    };
+    format!(in alloc;
+        "operator {operator}: its {flows} provisioned flows need {need} {what}, its {key} {verb} {room}"
+    )
 }
 
 /// Provisioned flows that do not fit.
@@ -117,16 +150,7 @@ pub(crate) fn provisioned_over(
     operator: OperatorName,
 ) -> Result<String, AllocError> {
     match over_of(alloc, document, operator) {
-        Ok(Some((count, (what, need, field, have)))) => {
-            let key = field.text();
-            let verb = match field {
-                Field::Sfids | Field::Sids => "has",
-                _ => "is",
-            };
-            format!(in alloc;
-                "operator {operator}: its {count} provisioned flows need {need} {what}, its {key} {verb} {have}"
-            )
-        }
+        Ok(Some(over)) => over_told(alloc, operator, over),
         Err(Fault::NoMemory) => Err(AllocError),
         _ => format!(in alloc; "operator {operator}: its provisioned flows do not fit"),
     }

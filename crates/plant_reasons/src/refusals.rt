@@ -3,7 +3,7 @@
 ghost use Rattle.plant.specs.Plant.{IsPlant};
 ghost use Rattle.plant_core.specs.CoreView.{core_view};
 
-use crate::joint::name_of;
+use crate::joint::{meeting, name_of};
 use crate::lines::{LineReason, LineStep};
 use grant_policy::{RankInput, Ranking, rank_by};
 use operator_book::{Action, BookFault, Entry, SliceRow};
@@ -112,12 +112,16 @@ fn slices_meet(
     a: Op,
     b: Op,
 ) -> Result<String, AllocError> {
-    let (name, other) = (name_at(plant, a), name_at(plant, b));
-    let (row, other_row) = (row_at(asked, a), row_at(asked, b));
-    let (start, end) = (row.start, last_of(row));
-    let (other_start, other_end) = (other_row.start, last_of(other_row));
-    format!(in alloc;
-        "operators {name} and {other}: their slices meet: {name} gets the minislots {start} to {end}, {other} gets {other_start} to {other_end}"
+    let names = (name_at(plant, a), name_at(plant, b));
+    let (row, other) = (row_at(asked, a), row_at(asked, b));
+    let first = (u64::from(row.start), last_of(row));
+    let ranges = (first, (u64::from(other.start), last_of(other)));
+    meeting(
+        alloc,
+        "slices",
+        ("gets the minislots", "gets"),
+        names,
+        ranges,
     )
 }
 

@@ -133,11 +133,16 @@ pub(crate) fn address_wrong(alloc: Global, address: &str) -> Result<Option<Strin
     }
 }
 
+/// That an item of a list of addresses is no text.
+fn no_text(alloc: Global, number: usize, value: &Value) -> Result<Option<String>, AllocError> {
+    let value = shown(alloc, value)?;
+    Ok(Some(format!(in alloc; "[{number}]: {value} is no text")?))
+}
+
 /// What is wrong with an item of a list of addresses.
 fn item_wrong(alloc: Global, number: usize, value: &Value) -> Result<Option<String>, AllocError> {
     let Some(address) = value.as_str() else {
-        let value = shown(alloc, value)?;
-        return Ok(Some(format!(in alloc; "[{number}]: {value} is no text")?));
+        return no_text(alloc, number, value);
     };
     match address_wrong(alloc, address)? {
         Some(wrong) => {
