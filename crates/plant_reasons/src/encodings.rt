@@ -3,6 +3,7 @@
 use crate::fault::Fault;
 use crate::show::quoted;
 use crate::tree::{named, number, table_at, text};
+use crate::values::no_digit;
 use admission::Budget;
 use dsx_messages::Code;
 use hex::FromHexError;
@@ -17,13 +18,9 @@ pub(crate) fn hex_reason(alloc: Global, digits: &str, fault: FromHexError) -> Fa
     if fault == FromHexError::OutOfMemory {
         return Fault::NoMemory;
     }
-    let wrong = digits
-        .chars()
-        .enumerate()
-        .find(|digit| !digit.1.is_ascii_hexdigit());
-    told(match wrong {
-        Some((place, c)) => {
-            let place = place.saturating_add(1);
+    told(match no_digit(digits) {
+        Some((before, c)) => {
+            let place = before.saturating_add(1);
             format!(in alloc; "{c:?} at digit {place} is no hexadecimal digit")
         }
         None => {
@@ -43,16 +40,16 @@ pub(crate) fn told(reason: Result<String, AllocError>) -> Fault {
 
 /// An encoding that cannot be read.
 fn tlv_reason(alloc: Global, fault: TlvFault) -> Fault {
-    let reason = match fault {
-        TlvFault::Cut { at } => { format!(in alloc; "the TLV at byte {at} reaches behind the end") }
+    let (what, number, wrong) = match fault {
+        TlvFault::Cut { at } => ("the TLV at byte", at, "reaches behind the end"),
         TlvFault::WrongLength { subtype } => {
-            format!(in alloc; "subtype {subtype} has a wrong length")
+            ("subtype", usize::from(subtype), "has a wrong length")
         }
-        TlvFault::Twice { subtype } => format!(in alloc; "subtype {subtype} stands twice"),
-        TlvFault::Range { subtype } => format!(in alloc; "subtype {subtype} is out of its range"),
+        TlvFault::Twice { subtype } => ("subtype", usize::from(subtype), "stands twice"),
+        TlvFault::Range { subtype } => ("subtype", usize::from(subtype), "is out of its range"),
         TlvFault::NoMemory => return Fault::NoMemory,
     };
-    told(reason)
+    told(format!(in alloc; "{what} {number} {wrong}"))
 }
 
 /// The flow encoding in hexadecimal.
@@ -120,11 +117,12 @@ fn asked(alloc: Global, document: &Table, stated: FlowTlv) -> Result<FlowTlv, Fa
 /// A parameter set that is refused.
 fn refusal_reason(alloc: Global, refusal: Refusal) -> Fault {
     let Refusal { code, subtype } = refusal;
-    told(if code == Code::RejectRequiredParameterNotPresent {
-        format!(in alloc; "subtype {subtype} is missing")
+    let wrong = if code == Code::RejectRequiredParameterNotPresent {
+        "is missing"
     } else {
-        format!(in alloc; "subtype {subtype} is out of its range")
-    })
+        "is out of its range"
+    };
+    told(format!(in alloc; "subtype {subtype} {wrong}"))
 }
 
 /// The parameter set of a provisioned flow, and its set type.

@@ -2,6 +2,7 @@
 
 use crate::tree::{named, number, pair, values};
 use dsx_messages::Modem;
+use hex::FromHex;
 use plant::OperatorName;
 use slice_table::Field;
 use std::alloc::{AllocError, Global};
@@ -18,6 +19,39 @@ pub(crate) fn name_of(name: &OperatorName) -> &str {
     str::from_utf8(name.as_slice()).unwrap_or("")
 }
 
+/// Adds which numbers an operator has, or is to have.
+fn put_range(
+    text: &mut String,
+    name: &str,
+    has: &str,
+    range: (u64, u64),
+) -> Result<(), AllocError> {
+    let (first, last) = range;
+    write!(text, "{name} {has} {first} to {last}")
+}
+
+/// That the numbers which two operators have, or are to have, under a key meet. The words behind a name say which numbers these are.
+pub(crate) fn meeting(
+    alloc: Global,
+    key: &str,
+    has: (&str, &str),
+    names: (&str, &str),
+    ranges: ((u64, u64), (u64, u64)),
+) -> Result<String, AllocError> {
+    let (a, b) = names;
+    let mut text = format!(in alloc; "operators {a} and {b}: their {key} meet: ")?;
+    put_range(&mut text, a, has.0, ranges.0)?;
+    text.push_str(", ")?;
+    put_range(&mut text, b, has.1, ranges.1)?;
+    Ok(text)
+}
+
+/// The first and the last minislot of an operator's slice.
+fn slice_of(document: &Table, name: &str) -> (u64, u64) {
+    let (start, length) = pair_of(document, name, Field::Slice).unwrap_or((0, 0));
+    (start, start.saturating_add(length).saturating_sub(1))
+}
+
 /// Slices of two operators that have a minislot in common.
 pub(crate) fn slices_meet(
     alloc: Global,
@@ -25,13 +59,14 @@ pub(crate) fn slices_meet(
     a: OperatorName,
     b: OperatorName,
 ) -> Result<String, AllocError> {
-    let first = pair_of(document, name_of(&a), Field::Slice).unwrap_or((0, 0));
-    let second = pair_of(document, name_of(&b), Field::Slice).unwrap_or((0, 0));
-    let (start, other) = (first.0, second.0);
-    let end = start.saturating_add(first.1).saturating_sub(1);
-    let other_end = other.saturating_add(second.1).saturating_sub(1);
-    format!(in alloc;
-        "operators {a} and {b}: their slices meet: {a} has the minislots {start} to {end}, {b} has {other} to {other_end}"
+    let (a, b) = (name_of(&a), name_of(&b));
+    let ranges = (slice_of(document, a), slice_of(document, b));
+    meeting(
+        alloc,
+        "slices",
+        ("has the minislots", "has"),
+        (a, b),
+        ranges,
     )
 }
 
@@ -43,51 +78,55 @@ pub(crate) fn ranges_meet(
     a: OperatorName,
     b: OperatorName,
 ) -> Result<String, AllocError> {
-    let (first, last) = pair_of(document, name_of(&a), field).unwrap_or((0, 0));
-    let (other, other_last) = pair_of(document, name_of(&b), field).unwrap_or((0, 0));
-    let key = field.text();
-    format!(in alloc;
-        "operators {a} and {b}: their {key} meet: {a} has {first} to {last}, {b} has {other} to {other_last}"
-    )
+    let (a, b) = (name_of(&a), name_of(&b));
+    let first = pair_of(document, a, field).unwrap_or((0, 0));
+    let other = pair_of(document, b, field).unwrap_or((0, 0));
+    meeting(alloc, field.text(), ("has", "has"), (a, b), (first, other))
 }
 
-/// Whether a value is this address.
-fn is_address(value: &Value, address: &str) -> bool {
+/// A place of a modem: the operator's number and the modem's.
+type ModemPlace = (usize, usize);
+
+/// Whether a value is the address of a modem.
+fn is_address(value: &Value, modem: Modem) -> bool {
     match value.as_str() {
-        Some(text) => text.eq_ignore_ascii_case(address),
+        Some(text) => match <[u8; 6] as FromHex>::from_hex(text) {
+            Ok(address) => address == modem.0,
+            Err(_fault) => false,
+        },
         None => false,
     }
 }
 
-/// Where the modems of an operator have an address: the operator's number and the modem's.
-fn put_places(
-    operator: &Value,
-    number: usize,
-    address: &str,
-    places: &mut Vec<(usize, usize)>,
-) -> Result<(), AllocError> {
-    let Some(table) = operator.as_table() else {
-        return Ok(());
-    };
-    for (modem, value) in values(table, "modems").iter().enumerate() {
-        if is_address(value, address) {
-            places.push((number, modem))?;
+/// The first of some modems, from a number on, that has an address.
+fn modem_from(modems: &[Value], from: usize, modem: Modem) -> Option<usize> {
+    for (number, value) in modems.iter().enumerate() {
+        if number >= from && is_address(value, modem) {
+            return Some(number);
         }
     }
-    Ok(())
+    None
 }
 
-/// Where an address stands in a plant file, in order.
-fn places_of(
-    alloc: Global,
-    document: &Table,
-    address: &str,
-) -> Result<Vec<(usize, usize)>, AllocError> {
-    let mut places = Vec::new(alloc);
-    for (number, operator) in values(document, "operator").iter().enumerate() {
-        put_places(operator, number, address, &mut places)?;
+/// The modems of an operator.
+fn modems_of(operator: &Value) -> &[Value] {
+    match operator.as_table() {
+        Some(table) => values(table, "modems"),
+        None => &[],
     }
-    Ok(places)
+}
+
+/// The first place, from one on, at which an address stands.
+fn place_from(operators: &[Value], from: ModemPlace, modem: Modem) -> Option<ModemPlace> {
+    for (number, operator) in operators.iter().enumerate() {
+        if number >= from.0 {
+            let first = if number == from.0 { from.1 } else { 0 };
+            if let Some(place) = modem_from(modems_of(operator), first, modem) {
+                return Some((number, place));
+            }
+        }
+    }
+    None
 }
 
 /// An address that stands twice.
@@ -96,13 +135,13 @@ pub(crate) fn modem_twice(
     document: &Table,
     modem: Modem,
 ) -> Result<String, AllocError> {
-    let address = format!(in alloc; "{modem}")?;
-    let places = places_of(alloc, document, address.as_str())?;
-    match places.as_slice() {
-        [(a, i), (b, j), ..] => format!(in alloc;
+    let operators = values(document, "operator");
+    let (a, i) = place_from(operators, (0, 0), modem).unwrap_or((0, 0));
+    match place_from(operators, (a, i.saturating_add(1)), modem) {
+        Some((b, j)) => format!(in alloc;
             "modem {modem} is listed twice: as operator[{a}].modems[{i}] and as operator[{b}].modems[{j}]"
         ),
-        _ => format!(in alloc; "modem {modem} is listed twice"),
+        None => format!(in alloc; "modem {modem} is listed twice"),
     }
 }
 

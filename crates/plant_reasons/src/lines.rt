@@ -29,6 +29,25 @@ pub(crate) struct LineReason {
     pub(crate) reason: String,
 }
 
+/// Why a script has no steps.
+#[derive(Drop)]
+pub(crate) enum NoSteps {
+    /// Its first line at fault.
+    Line(LineReason),
+    /// No memory was left.
+    NoMemory,
+}
+
+impl NoSteps {
+    /// The line at fault.
+    pub(crate) fn told(self) -> Result<Option<LineReason>, AllocError> {
+        match self {
+            NoSteps::Line(wrong) => Ok(Some(wrong)),
+            NoSteps::NoMemory => Err(AllocError),
+        }
+    }
+}
+
 /// A reason that needs no values.
 fn plain(alloc: Global, reason: &str) -> Fault {
     told(String::from_str(alloc, reason))
@@ -48,16 +67,19 @@ fn message_in(alloc: Global, field: &str) -> Result<Bytes, Fault> {
     }
 }
 
+/// Why a field is no address.
+fn no_address(alloc: Global, field: &str) -> Result<String, AllocError> {
+    let shown = quoted(alloc, field)?;
+    match address_wrong(alloc, field)? {
+        Some(wrong) => format!(in alloc; "the address {shown} {wrong}"),
+        None => format!(in alloc; "the address {shown} is none"),
+    }
+}
+
 /// The modem of an address, and its operator.
 fn sender_in(alloc: Global, plant: &Plant, field: &str) -> Result<(Modem, Op), Fault> {
     let Ok(address) = <[u8; 6] as FromHex>::from_hex(field) else {
-        let shown = quoted(alloc, field)?;
-        let wrong = address_wrong(alloc, field)?;
-        let wrong = match &wrong {
-            Some(wrong) => wrong.as_str(),
-            None => "is none",
-        };
-        return Err(told(format!(in alloc; "the address {shown} {wrong}")));
+        return Err(told(no_address(alloc, field)));
     };
     match plant.operator_of(Modem(address)) {
         Some(op) => Ok((Modem(address), op)),
@@ -98,10 +120,18 @@ fn is_called(row: &OperatorRow, name: &str) -> bool {
 
 /// The operator of a name.
 fn operator_in(alloc: Global, plant: &Plant, field: &str) -> Result<Op, Fault> {
-    match plant.rows().iter().position(|row| is_called(row, field)) {
-        Some(op) => Ok(op),
-        None => Err(told(stranger(alloc, plant.rows(), field))),
+    for (op, row) in plant.rows().iter().enumerate() {
+        if is_called(row, field) {
+            return Ok(op);
+        }
     }
+    Err(told(stranger(alloc, plant.rows(), field)))
+}
+
+/// That a field, called so in a reason, is no number.
+fn no_number(alloc: Global, name: &str, field: &str) -> Result<String, AllocError> {
+    let shown = quoted(alloc, field)?;
+    format!(in alloc; "{name} {shown} is no decimal number")
 }
 
 /// A decimal number, called so in a reason: at most so many digits, and at most `most`.
@@ -112,9 +142,8 @@ fn number_in(
     most: u64,
     field: &str,
 ) -> Result<u64, Fault> {
-    let shown = quoted(alloc, field)?;
     if field.is_empty() || !field.chars().all(|c| c.is_ascii_digit()) {
-        return Err(told(format!(in alloc; "{name} {shown} is no decimal number")));
+        return Err(told(no_number(alloc, name, field)));
     }
     let count = field.len();
     let number = field.parse::<u64>().unwrap_or(u64::MAX);
@@ -226,6 +255,12 @@ fn put_ticked(
     }
 }
 
+/// That a field is no slice and budget.
+fn no_share(alloc: Global, field: &str) -> Result<String, AllocError> {
+    let shown = quoted(alloc, field)?;
+    format!(in alloc; "{shown} is no start/length/budget, three numbers")
+}
+
 /// A slice and a budget.
 fn share_in(alloc: Global, field: &str) -> Result<SliceRow, Fault> {
     let mut parts = field.split('/');
@@ -235,8 +270,7 @@ fn share_in(alloc: Global, field: &str) -> Result<SliceRow, Fault> {
         parts.next(),
         parts.next(),
     ) else {
-        let shown = quoted(alloc, field)?;
-        return Err(told(format!(in alloc; "{shown} is no start/length/budget, three numbers")));
+        return Err(told(no_share(alloc, field)));
     };
     Ok(SliceRow {
         start: short_in(alloc, "the start", start)?,
@@ -354,7 +388,7 @@ fn put_line(
 }
 
 /// Adds the steps of a script. Answers the first line at fault, if there is one.
-pub(crate) fn put_steps(
+fn put_steps(
     alloc: Global,
     plant: &Plant,
     script: &str,
@@ -369,6 +403,20 @@ pub(crate) fn put_steps(
         }
     }
     Ok(None)
+}
+
+/// The steps of a script.
+pub(crate) fn steps_of(
+    alloc: Global,
+    plant: &Plant,
+    script: &str,
+) -> Result<Vec<LineStep>, NoSteps> {
+    let mut steps = Vec::new(alloc);
+    match put_steps(alloc, plant, script, &mut steps) {
+        Ok(None) => Ok(steps),
+        Ok(Some(wrong)) => Err(NoSteps::Line(wrong)),
+        Err(_full) => Err(NoSteps::NoMemory),
+    }
 }
 
 /// Why a line of the input of `one` is no message; none where it is one.

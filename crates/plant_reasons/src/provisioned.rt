@@ -64,56 +64,83 @@ fn count(table: &Table, field: Field) -> u64 {
     last.saturating_add(1).saturating_sub(first)
 }
 
-/// The first key that the flows do not fit: what they need of it, and what there is.
-fn over(table: &Table, demand: Demand) -> Option<(&'static str, u64, Field, u64)> {
-    let tests = [
-        (
-            "flows",
-            demand.flows,
-            Field::Flows,
-            number(table, Field::Flows).unwrap_or(0),
-        ),
-        (
-            "SFIDs",
-            demand.flows,
-            Field::Sfids,
-            count(table, Field::Sfids),
-        ),
-        ("SIDs", demand.sids, Field::Sids, count(table, Field::Sids)),
-        (
-            "minislots of a frame",
-            demand.minislots,
-            Field::Budget,
-            number(table, Field::Budget).unwrap_or(0),
-        ),
-        (
-            "elements of a MAP",
-            demand.elements,
-            Field::Elements,
-            number(table, Field::Elements).unwrap_or(0),
-        ),
-    ];
-    tests.iter().find(|test| test.1 > test.3).copied()
+/// How much there is under a key that flows need something of.
+fn room(table: &Table, field: Field) -> u64 {
+    match field {
+        Field::Sfids | Field::Sids => count(table, field),
+        _ => number(table, field).unwrap_or(0),
+    }
 }
 
-/// The operator's provisioned flows, their demand and the first key that they do not fit.
+/// A key that provisioned flows do not fit: what they need of it, and what there is.
+#[derive(Clone, Copy)]
+struct Excess {
+    flows: u64,
+    what: &'static str,
+    need: u64,
+    field: Field,
+    room: u64,
+}
+
+/// The first key that the flows do not fit.
+fn over(table: &Table, demand: Demand) -> Option<Excess> {
+    let needs = [
+        ("flows", demand.flows, Field::Flows),
+        ("SFIDs", demand.flows, Field::Sfids),
+        ("SIDs", demand.sids, Field::Sids),
+        ("minislots of a frame", demand.minislots, Field::Budget),
+        ("elements of a MAP", demand.elements, Field::Elements),
+    ];
+    for (what, need, field) in needs.iter() {
+        let (what, need, field) = (*what, *need, *field);
+        let room = room(table, field);
+        if need > room {
+            let flows = demand.flows;
+            return Some(Excess {
+                flows,
+                what,
+                need,
+                field,
+                room,
+            });
+        }
+    }
+    None
+}
+
+/// The first key that an operator's provisioned flows do not fit.
 fn over_of(
     alloc: Global,
     document: &Table,
     operator: OperatorName,
-) -> Result<Option<(usize, (&'static str, u64, Field, u64))>, Fault> {
+) -> Result<Option<Excess>, Fault> {
     let (Some((_number, table)), Some(units)) = (
         named(document, "operator", name_of(&operator)),
         units_of(document),
     ) else {
         return Ok(None);
     };
-    let flows = values(table, "flow");
-    let demand = demand_of(alloc, document, units, flows)?;
-    match over(table, demand) {
-        Some(over) => Ok(Some((flows.len(), over))),
-        None => Ok(None),
-    }
+    let demand = demand_of(alloc, document, units, values(table, "flow"))?;
+    Ok(over(table, demand))
+}
+
+/// That provisioned flows do not fit a key.
+fn over_told(alloc: Global, operator: OperatorName, over: Excess) -> Result<String, AllocError> {
+    let Excess {
+        flows,
+        what,
+        need,
+        field,
+        room,
+    } = over;
+    let key = field.text();
+    let verb = match field {
+        Field::Sfids | Field::Sids => "has",
+        _ => "is",
+    };
+    format!(in alloc;
+        "operator {operator}: its {flows} provisioned flows need {need} {what}, its {key} {verb} {room}"
+    )
 }
 
 /// Provisioned flows that do not fit.
@@ -123,16 +150,7 @@ pub(crate) fn provisioned_over(
     operator: OperatorName,
 ) -> Result<String, AllocError> {
     match over_of(alloc, document, operator) {
-        Ok(Some((count, (what, need, field, have)))) => {
-            let key = field.text();
-            let verb = match field {
-                Field::Sfids | Field::Sids => "has",
-                _ => "is",
-            };
-            format!(in alloc;
-                "operator {operator}: its {count} provisioned flows need {need} {what}, its {key} {verb} {have}"
-            )
-        }
+        Ok(Some(over)) => over_told(alloc, operator, over),
         Err(Fault::NoMemory) => Err(AllocError),
         _ => format!(in alloc; "operator {operator}: its provisioned flows do not fit"),
     }

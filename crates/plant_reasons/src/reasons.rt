@@ -1,6 +1,6 @@
 //! The reasons of a status.
 
-use crate::lines::{LineReason, first_no_message, put_steps, stranger};
+use crate::lines::{LineReason, first_no_message, steps_of, stranger};
 use crate::parts::{Parts, parts_of};
 use crate::plain::is_plain;
 use crate::plants::{fault_reason, put_no_bar, toml_reason};
@@ -81,7 +81,15 @@ fn put_line(
     )
 }
 
-/// Adds why a script is at fault: a line of another shape, or else a step that is refused.
+/// The first line of a script at fault: one of another shape, or else one of which a step is refused.
+fn line_wrong(alloc: Global, plant: Plant, script: &str) -> Result<Option<LineReason>, AllocError> {
+    match steps_of(alloc, &plant, script) {
+        Ok(steps) => refused_of(alloc, plant, steps),
+        Err(fault) => fault.told(),
+    }
+}
+
+/// Adds why a script is at fault.
 fn put_script(
     alloc: Global,
     reason: &mut String,
@@ -89,14 +97,37 @@ fn put_script(
     parts: Parts<'_>,
 ) -> Result<(), AllocError> {
     let script = parts.script.unwrap_or("");
-    let mut steps = Vec::new(alloc);
-    let wrong = match put_steps(alloc, &plant, script, &mut steps)? {
-        Some(wrong) => Some(wrong),
-        None => refused_of(alloc, plant, steps)?,
-    };
-    match wrong {
+    match line_wrong(alloc, plant, script)? {
         Some(wrong) => put_line(alloc, reason, script, parts.bar, wrong),
         None => Ok(()),
+    }
+}
+
+/// Whether it is the script that a status of a plant that is well tells of.
+fn is_of_script(word: Word<'_>, status: u8) -> bool {
+    match word {
+        Word::Serve => false,
+        _ => status == 4,
+    }
+}
+
+/// Adds why a plant that is well has no answer, where that is not for its script.
+fn put_beside_script(
+    alloc: Global,
+    reason: &mut String,
+    word: Word<'_>,
+    plant: &Plant,
+    parts: Parts<'_>,
+    status: u8,
+) -> Result<(), AllocError> {
+    match (word, status) {
+        (Word::History { operator }, 2) => {
+            let wrong = stranger(alloc, plant.rows(), operator)?;
+            write!(reason, "{wrong}\n")
+        }
+        (Word::Serve, _) | (Word::Check, _) => Ok(()),
+        (_, 0) => put_no_bar(alloc, reason, &parts),
+        _ => Ok(()),
     }
 }
 
@@ -109,16 +140,10 @@ fn put_behind_plant(
     parts: Parts<'_>,
     status: u8,
 ) -> Result<(), AllocError> {
-    match (word, status) {
-        (Word::History { operator }, 2) => {
-            let wrong = stranger(alloc, plant.rows(), operator)?;
-            write!(reason, "{wrong}\n")
-        }
-        (Word::Serve, _) => Ok(()),
-        (_, 4) => put_script(alloc, reason, plant, parts),
-        (Word::Check, _) => Ok(()),
-        (_, 0) => put_no_bar(alloc, reason, &parts),
-        _ => Ok(()),
+    if is_of_script(word, status) {
+        put_script(alloc, reason, plant, parts)
+    } else {
+        put_beside_script(alloc, reason, word, &plant, parts, status)
     }
 }
 
@@ -155,37 +180,76 @@ fn parts_under<'a>(word: Word<'_>, input: &'a str) -> Parts<'a> {
     }
 }
 
-/// The reason of the status that an input of a plant and a script has.
-fn reason_of_plant(
+/// Adds why a status of a plant file that is TOML is what it is.
+fn put_status(
     alloc: Global,
+    reason: &mut String,
+    word: Word<'_>,
+    document: &Table,
+    parts: Parts<'_>,
+    status: u8,
+) -> Result<(), AllocError> {
+    match read_plant(alloc, parts.plant) {
+        Ok(plant) => put_behind_plant(alloc, reason, word, plant, parts, status),
+        Err(PlantFault::NoMemory) => Err(AllocError),
+        Err(fault) => put_plant(alloc, reason, document, parts, fault),
+    }
+}
+
+/// Adds why a status of a plant file that is TOML is what it is, and what nothing reads of that file.
+fn put_document(
+    alloc: Global,
+    reason: &mut String,
+    word: Word<'_>,
+    document: &Table,
+    parts: Parts<'_>,
+    status: u8,
+) -> Result<(), AllocError> {
+    if status != 0 || parts.script.is_none() {
+        put_status(alloc, reason, word, document, parts, status)?;
+    }
+    put_unread(alloc, reason, document)
+}
+
+/// Adds why a plant file is no TOML.
+fn put_no_toml(
+    alloc: Global,
+    reason: &mut String,
+    parts: Parts<'_>,
+    error: &toml::de::Error,
+) -> Result<(), AllocError> {
+    if error.is_memory() {
+        return Err(AllocError);
+    }
+    let wrong = toml_reason(alloc, parts.plant, error)?;
+    write!(reason, "{wrong}\n")?;
+    put_no_bar(alloc, reason, &parts)
+}
+
+/// Adds the reason of the status that an input of a plant and a script has.
+fn put_of_plant(
+    alloc: Global,
+    reason: &mut String,
     word: Word<'_>,
     input: &str,
     status: u8,
-) -> Result<String, AllocError> {
+) -> Result<(), AllocError> {
     let parts = parts_under(word, input);
-    let mut reason = String::new(alloc);
     if status == 0 && parts.script.is_some() && is_plain(parts.plant) {
-        return Ok(reason);
+        return Ok(());
     }
-    let document = match toml::table_from_str(alloc, parts.plant) {
-        Ok(document) => document,
-        Err(error) if error.is_memory() => return Err(AllocError),
-        Err(error) => {
-            let wrong = toml_reason(alloc, parts.plant, &error)?;
-            write!(reason, "{wrong}\n")?;
-            put_no_bar(alloc, &mut reason, &parts)?;
-            return Ok(reason);
-        }
-    };
-    if status != 0 || parts.script.is_none() {
-        match read_plant(alloc, parts.plant) {
-            Ok(plant) => put_behind_plant(alloc, &mut reason, word, plant, parts, status)?,
-            Err(PlantFault::NoMemory) => return Err(AllocError),
-            Err(fault) => put_plant(alloc, &mut reason, &document, parts, fault)?,
-        }
+    match toml::table_from_str(alloc, parts.plant) {
+        Ok(document) => put_document(alloc, reason, word, &document, parts, status),
+        Err(error) => put_no_toml(alloc, reason, parts, &error),
     }
-    put_unread(alloc, &mut reason, &document)?;
-    Ok(reason)
+}
+
+/// Adds which line of the input of `one` is no message.
+fn put_of_one(alloc: Global, reason: &mut String, input: &str) -> Result<(), AllocError> {
+    match first_no_message(alloc, input)? {
+        Some(wrong) => put_line(alloc, reason, input, 0, wrong),
+        None => Ok(()),
+    }
 }
 
 /// The reason of the status that an input has under a word; of status 0 what nothing reads of its plant file. Empty where there is
@@ -197,15 +261,10 @@ pub fn reason_of(
     status: u8,
 ) -> Result<String, AllocError> {
     let mut reason = String::new(alloc);
-    match word {
-        Word::One => {
-            if status == 4 {
-                if let Some(wrong) = first_no_message(alloc, input)? {
-                    put_line(alloc, &mut reason, input, 0, wrong)?;
-                }
-            }
-            Ok(reason)
-        }
-        _ => reason_of_plant(alloc, word, input, status),
+    match (word, status) {
+        (Word::One, 4) => put_of_one(alloc, &mut reason, input)?,
+        (Word::One, _) => {}
+        _ => put_of_plant(alloc, &mut reason, word, input, status)?,
     }
+    Ok(reason)
 }

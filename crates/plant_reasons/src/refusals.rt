@@ -3,10 +3,10 @@
 ghost use Rattle.plant.specs.Plant.{IsPlant};
 ghost use Rattle.plant_core.specs.CoreView.{core_view};
 
-use crate::joint::name_of;
+use crate::joint::{meeting, name_of};
 use crate::lines::{LineReason, LineStep};
 use grant_policy::{RankInput, Ranking, rank_by};
-use operator_book::{Action, BookFault, SliceRow};
+use operator_book::{Action, BookFault, Entry, SliceRow};
 use plant::{Op, Plant};
 use plant_core::{CoreFault, CoreOpenFault, PlantCore, ResliceFault};
 use plant_runs::Step;
@@ -46,17 +46,25 @@ fn name_at(plant: &Plant, op: Op) -> &str {
     }
 }
 
+/// How many ticks stand in a history.
+fn ticks_in(history: &[Entry]) -> u64 {
+    let mut ticks = 0u64;
+    for entry in history {
+        if let Action::Tick = &entry.action {
+            ticks = ticks.saturating_add(1);
+        }
+    }
+    ticks
+}
+
 /// An operator's frame number: one on from the first for each of its ticks.
 fn frame_of(core: &PlantCore, op: Op) -> u64 {
     let first = u64::from(core.plant().consts().get_fields().first_frame);
     let ticks = match core.history(op) {
-        Some(history) => history
-            .iter()
-            .filter(|entry| matches!(&entry.action, Action::Tick))
-            .count(),
+        Some(history) => ticks_in(history),
         None => 0,
     };
-    first.saturating_add(ticks as u64)
+    first.saturating_add(ticks)
 }
 
 /// The slice that was asked for an operator, and its budget.
@@ -104,12 +112,16 @@ fn slices_meet(
     a: Op,
     b: Op,
 ) -> Result<String, AllocError> {
-    let (name, other) = (name_at(plant, a), name_at(plant, b));
-    let (row, other_row) = (row_at(asked, a), row_at(asked, b));
-    let (start, end) = (row.start, last_of(row));
-    let (other_start, other_end) = (other_row.start, last_of(other_row));
-    format!(in alloc;
-        "operators {name} and {other}: their slices meet: {name} gets the minislots {start} to {end}, {other} gets {other_start} to {other_end}"
+    let names = (name_at(plant, a), name_at(plant, b));
+    let (row, other) = (row_at(asked, a), row_at(asked, b));
+    let first = (u64::from(row.start), last_of(row));
+    let ranges = (first, (u64::from(other.start), last_of(other)));
+    meeting(
+        alloc,
+        "slices",
+        ("gets the minislots", "gets"),
+        names,
+        ranges,
     )
 }
 
@@ -192,23 +204,13 @@ fn first_refused(
     Ok(None)
 }
 
-/// Runs the steps on the plant's core. Answers the first that is refused, and why.
-pub(crate) fn refused_of(
+/// Runs the steps on the core of a plant and its rankings. Answers the first that is refused, and why.
+fn refused_by(
     alloc: Global,
     plant: Plant,
+    rankings: Vec<Ranking>,
     steps: Vec<LineStep>,
 ) -> Result<Option<LineReason>, AllocError> {
-    let mut rankings = Vec::new(alloc);
-    for row in plant.rows() {
-        let policy = row.get_fields().policy;
-        let Ok(rank) = Box::new(alloc, move |input: RankInput| -> u8 {
-            rank_by(policy, &input)
-        }) else {
-            return Err(AllocError);
-        };
-        let ranking = Ranking::new(row.get_fields().policy, rank);
-        rankings.push(ranking)?;
-    }
     match PlantCore::open(alloc, plant, rankings) {
         Ok(mut core) => {
             core.always();
@@ -216,5 +218,32 @@ pub(crate) fn refused_of(
         }
         Err(CoreOpenFault::NoMemory) => Err(AllocError),
         Err(CoreOpenFault::RankingsMismatch) => Ok(None),
+    }
+}
+
+/// Runs the steps on the plant's core. Answers the first that is refused, and why.
+pub(crate) fn refused_of(
+    alloc: Global,
+    plant: Plant,
+    steps: Vec<LineStep>,
+) -> Result<Option<LineReason>, AllocError> {
+    let mut rankings = Vec::new(alloc);
+    let mut is_full = false;
+    for row in plant.rows() {
+        let policy = row.get_fields().policy;
+        match Box::new(alloc, move |input: RankInput| -> u8 {
+            rank_by(policy, &input)
+        }) {
+            Ok(rank) => {
+                let ranking = Ranking::new(row.get_fields().policy, rank);
+                is_full = is_full || rankings.push(ranking).is_err();
+            }
+            Err(_full) => is_full = true,
+        }
+    }
+    if is_full {
+        Err(AllocError)
+    } else {
+        refused_by(alloc, plant, rankings, steps)
     }
 }

@@ -91,6 +91,16 @@ fn is_called(value: &Value, name: &str) -> bool {
     }
 }
 
+/// The place of the first table that has this name.
+pub(crate) fn place_of(values: &[Value], name: &str) -> Option<usize> {
+    for (place, value) in values.iter().enumerate() {
+        if is_called(value, name) {
+            return Some(place);
+        }
+    }
+    None
+}
+
 /// The first table of an array that has this name, and its number.
 pub(crate) fn named<'a>(
     document: &'a Table,
@@ -98,6 +108,6 @@ pub(crate) fn named<'a>(
     name: &str,
 ) -> Option<(usize, &'a Table)> {
     let values = values(document, array);
-    let number = values.iter().position(|value| is_called(value, name))?;
+    let number = place_of(values, name)?;
     Some((number, values.get(number)?.as_table()?))
 }

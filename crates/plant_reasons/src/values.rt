@@ -1,7 +1,7 @@
 //! What is wrong with a value of a plant file: numbers, ranges, slices, names and addresses.
 
 use crate::show::{cut, quoted};
-use crate::tree::{natural, number, pair_in, table_at, text, values};
+use crate::tree::{natural, number, pair_in, place_of, table_at, values};
 use slice_table::{Field, Place};
 use std::alloc::{AllocError, Global};
 use toml::{Table, Value};
@@ -104,22 +104,26 @@ fn earlier(
     array: &str,
     name: &str,
 ) -> Result<Option<String>, AllocError> {
-    let first = values(document, array)
-        .iter()
-        .position(|value| match value.as_table() {
-            Some(table) => text(table, Field::Name) == Some(name),
-            None => false,
-        });
-    match first {
+    match place_of(values(document, array), name) {
         Some(first) => Ok(Some(format!(in alloc; "{array}[{first}] has this name already")?)),
         None => Ok(None),
     }
 }
 
+/// The first character of a text that is no hexadecimal digit, and how many stand before it.
+pub(crate) fn no_digit(text: &str) -> Option<(usize, char)> {
+    for (before, c) in text.chars().enumerate() {
+        if !c.is_ascii_hexdigit() {
+            return Some((before, c));
+        }
+    }
+    None
+}
+
 /// What is wrong with a text that is to be an address.
 pub(crate) fn address_wrong(alloc: Global, address: &str) -> Result<Option<String>, AllocError> {
     let count = address.chars().count();
-    if let Some(c) = address.chars().find(|c| !c.is_ascii_hexdigit()) {
+    if let Some((_before, c)) = no_digit(address) {
         return Ok(Some(format!(in alloc; "has {c:?}, which is no hexadecimal digit")?));
     }
     if count == 12 {
@@ -129,11 +133,16 @@ pub(crate) fn address_wrong(alloc: Global, address: &str) -> Result<Option<Strin
     }
 }
 
+/// That an item of a list of addresses is no text.
+fn no_text(alloc: Global, number: usize, value: &Value) -> Result<Option<String>, AllocError> {
+    let value = shown(alloc, value)?;
+    Ok(Some(format!(in alloc; "[{number}]: {value} is no text")?))
+}
+
 /// What is wrong with an item of a list of addresses.
 fn item_wrong(alloc: Global, number: usize, value: &Value) -> Result<Option<String>, AllocError> {
     let Some(address) = value.as_str() else {
-        let value = shown(alloc, value)?;
-        return Ok(Some(format!(in alloc; "[{number}]: {value} is no text")?));
+        return no_text(alloc, number, value);
     };
     match address_wrong(alloc, address)? {
         Some(wrong) => {

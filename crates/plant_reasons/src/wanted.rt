@@ -4,7 +4,12 @@ use slice_table::{Field, Place};
 
 /// Whether one of the keys has this name.
 pub(crate) fn has(fields: &[Field], word: &str) -> bool {
-    fields.iter().any(|field| field.text() == word)
+    for field in fields {
+        if field.text() == word {
+            return true;
+        }
+    }
+    false
 }
 
 /// What may stand under a key of the table `plant`.
