@@ -27,8 +27,8 @@ invariant_of-self-in-Ok g c =
           core.reached;
     }
 
-pub invariant_of-self-in-Err : goal.invariant_of-self-in-Err
-invariant_of-self-in-Err g c =
+pub invariant_of-self-in-Err-1 : goal.invariant_of-self-in-Err-1
+invariant_of-self-in-Err-1 g c =
     let core = c.args.self.now in
     record {
       let_go = same_begun _ _ c.in-Err.ensures.same_gather core.let_go;
