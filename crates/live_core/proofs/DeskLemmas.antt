@@ -13,6 +13,7 @@ use Rattle.operator_machine.specs.Frames.{is_tick}
 use Rattle.operator_book.specs.declared.book.BookFault.{BookFault}
 use Rattle.operator_book.specs.declared.book.BookFault.TheVariants as faults
 use Rattle.plant_runs.specs.Reached.{frames_of}
+use Rattle.plant_core.specs.Faults.{collect_fault}
 use Rattle.plant_core.proofs.WaitingLemmas.{frames_are, one_frame, first_none, first_alone}
 
 -- the frame waits behind those that waited
@@ -50,6 +51,11 @@ quiet_waits op action waiting h =
 pub some_wait : {X : Type 0} (xs : List X) (n : ℕ) (empty : Bool) → n ≡ length xs → empty ≡ (n == 0) → empty ≡ false → IsSome (slice_get xs 0)
 some_wait [] n empty long is some = absurd (let wrong : ◌≡◌ {A = Bool} true false = sym (is ∙ ap (λ (k : ℕ). k == 0) long) ∙ some in cc)
 some_wait (x ∷ xs) n empty long is some = refl
+
+-- so a frame can be collected
+pub waits_at_all : (op : ℕ) (waiting : List (ℕ × ElementsFields)) → IsSome (slice_get waiting 0) → collect_fault op (Some waiting) ≡ None
+waits_at_all op [] some = cc
+waits_at_all op (frame ∷ waiting) some = refl
 
 -- what is allowed is refused for want of memory alone
 pub only_memory : {A : Type 0} (op : Operator) (action : Action) (result : Result A BookFault) (fault : BookFault) → result ≡ Err fault

@@ -1,7 +1,6 @@
 -- A core refuses the same steps without its histories.
 use Rattle.std.proofs.Common.{◌≡◌, ℕ, ◌+◌, ◌==◌, Bool, true, false, List, [], ◌∷◌, length, map, Option, Some, None, if◌then◌else◌, option_map, refl, sym, ap, ap₂, subst, ◌∙◌}
 use Rattle.std.specs.Prelude.{slice_get}
-use Rattle.std.specs.Option.{option_or}
 use Rattle.std.proofs.lemmas.List.{length-map}
 use Rattle.std.proofs.lemmas.Option.{slice_get-map}
 use Rattle.plant.specs.declared.plant.PlantFields.{PlantFields}
@@ -22,7 +21,7 @@ use Rattle.plant_core.specs.declared.core_fault.CoreFault.TheVariants.{Reslice}
 use Rattle.plant_core.specs.declared.core_fault.ResliceFault.{ResliceFault}
 use Rattle.plant_core.specs.declared.core_fault.ResliceFault.TheVariants as found
 use Rattle.plant_core.specs.Faults.{act_fault, arrive_fault, collect_fault, step_fault}
-use Rattle.plant_core.specs.Reslicing.{is_unfit, least_unfit, least_meeting, row_fault, reslice_fault}
+use Rattle.plant_core.specs.Reslicing.{is_unfit, least_unfit, least_meeting, first_fault, row_fault, reslice_fault}
 use Rattle.live_core.specs.GoingOn.{forgotten, IsOf}
 
 -- ---- other slices
@@ -33,19 +32,14 @@ same_unfit unfit from n (book ∷ books) [] = refl
 same_unfit unfit from n (book ∷ books) (row ∷ rows) =
     ap (λ (o : Option ℕ). if is_unfit unfit (unfit_from book.consts book.state from row) then Some n else o) (same_unfit unfit from (n + 1) books rows)
 
--- the first of these, in the order of the faults
-abbrev first_of : (past unfinished off over unfit : Option ℕ) → Option (ℕ × ℕ) → Option ResliceFault
-first_of past unfinished off over unfit meeting =
-    option_or (option_map (λ op. found.NotPast op) past)
-    (option_or (option_map (λ op. found.Unfinished op) unfinished)
-    (option_or (option_map (λ op. found.OffFrame op) off)
-    (option_or (option_map (λ pair. found.SlicesMeet pair.0 pair.1) meeting)
-    (option_or (option_map (λ op. found.BudgetOverSlice op) over) (option_map (λ op. found.Unfit op) unfit)))))
-
 same_row_fault : (from : ℕ) (books : List BookView) (rows : List SliceRow) → row_fault from (map forgotten books) rows ≡ row_fault from books rows
-same_row_fault from books rows =
-    λ k. first_of (same_unfit unfits.NotPast from 0 books rows k) (same_unfit unfits.Unfinished from 0 books rows k) (same_unfit unfits.OffFrame from 0 books rows k) (same_unfit unfits.BudgetOverSlice from 0 books rows k)
-    (same_unfit unfits.OverBudget from 0 books rows k) (least_meeting 0 rows)
+same_row_fault from books rows = λ k. first_fault (record {
+  not_past = same_unfit unfits.NotPast from 0 books rows k;
+  unfinished = same_unfit unfits.Unfinished from 0 books rows k;
+  off_frame = same_unfit unfits.OffFrame from 0 books rows k;
+  budget_over_slice = same_unfit unfits.BudgetOverSlice from 0 books rows k;
+  over_budget = same_unfit unfits.OverBudget from 0 books rows k;
+}) (least_meeting 0 rows)
 
 same_reslice_fault : (from : ℕ) (books : List BookView) (rows : List SliceRow) → reslice_fault from (map forgotten books) rows ≡ reslice_fault from books rows
 same_reslice_fault from books rows =

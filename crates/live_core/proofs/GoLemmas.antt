@@ -40,7 +40,7 @@ use Rattle.plant_core.specs.Reslicing.{reslice_fault}
 use Rattle.plant_core.proofs.FreeLemmas.{are_free}
 use Rattle.plant_core.proofs.ReachLemmas.{step_acts}
 use Rattle.plant_core.proofs.PlaceLemmas.{seen_at, set_alike, set_seen}
-use Rattle.live_core.specs.Putting.{FitsOldest, PutsOldest}
+use Rattle.plant_core.specs.Putting.{FitsOldest, PutsOldest}
 use Rattle.live_core.specs.GoingOn.{forgotten, went, IsOf, GoesOn}
 use Rattle.live_core.specs.After.{IsAfter, IsReachable}
 use Rattle.live_core.proofs.AlikeLemmas.{same_fault, same_answer, alike_put, held_put, alike_resliced, held_resliced, may_too}

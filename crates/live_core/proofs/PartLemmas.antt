@@ -64,6 +64,16 @@ acted_reaches (Ok x) plant gathering lives lives' queues queues' op action b wai
 acted_reaches (Err y) plant gathering lives lives' queues queues' op action b waiting valid goal there waits allowed new_lives new_queues same_lives same_queues reached =
     subst (λ (core : CoreView). ∥ IsReachable core ∥₁) (sym (same_view plant gathering lives lives' queues queues' same_lives same_queues)) reached
 
+pub acts_on_if : {A E : Type 0} (result : Result A E) (plant : PlantFields) (gathering : Gathering) (lives lives' : List BookView) (queues queues' : List (List (ℕ × ElementsFields)))
+    (op : ℕ) (action : Action) (b : BookView) (waiting : List (ℕ × ElementsFields)) (outs outs' : List Out)
+    → slice_get lives op ≡ Some b → slice_get queues op ≡ Some waiting → OnOk result (IsAllowed (operator b.consts b.row b.state) action)
+    → OnOk result (lives' ≡ slice_set lives op (went b action)) → OnOk result (queues' ≡ slice_set queues op (waiting ++ frames_of (own_step (operator b.consts b.row b.state) action).outputs))
+    → OnOk result (outs' ≡ outs ++ under op (own_step (operator b.consts b.row b.state) action).outputs)
+    → OnOk result ((now : List Out) × (outs' ≡ outs ++ now) × GoesOn (Acts op action) (core_of plant lives queues gathering) (core_of plant lives' queues' gathering) now)
+acts_on_if (Ok x) plant gathering lives lives' queues queues' op action b waiting outs outs' there waits allowed new_lives new_queues told =
+    (under op (own_step (operator b.consts b.row b.state) action).outputs, told, acts_on plant gathering lives lives' queues queues' op action b waiting _ there waits allowed new_lives new_queues refl)
+acts_on_if (Err y) plant gathering lives lives' queues queues' op action b waiting outs outs' there waits allowed new_lives new_queues told = tt
+
 -- what is heard of a modem goes to the operator that lists it
 pub arrive_on : (new old : PlantFields) (lives : List BookView) (queues : List (List (ℕ × ElementsFields))) (gathering : Gathering) (modem : Modem) (heard : Heard) (op : ℕ) (after : CoreView) (now : List Out)
     → new ≡ old → Some op ≡ holder old.rows modem → GoesOn (Acts op (actions.Arrive modem heard)) (core_of new lives queues gathering) after now

@@ -1,15 +1,17 @@
 //! What is done to an operator's live desk.
 
-ghost use Rattle.std.specs.Prelude.{◌≡◌, ◌≢◌, ◌↔◌, ◌<◌, ◌≤◌, false, [], ◌++◌, length, slice_get, Err, IfOk, IfErr, OnOk, OnErr};
+ghost use Rattle.std.specs.Prelude.{◌≡◌, ◌≢◌, ◌↔◌, ◌<◌, ◌≤◌, false, [], ◌++◌, length, slice_get, Some, Err, IfOk, IfErr, OnOk, OnErr};
 ghost use Rattle.plant.specs.Row.{IsRowOf};
 ghost use Rattle.operator_machine.specs.Frames.{is_tick};
 ghost use Rattle.operator_machine.specs.State.{operator};
 ghost use Rattle.operator_machine.specs.Machine.{own_step, is_spent, IsAllowed};
 ghost use Rattle.plant_runs.specs.Opened.{opened_book};
+ghost use Rattle.plant_runs.specs.OwnSteps.{under};
 ghost use Rattle.plant_runs.specs.Reached.{frames_of};
+ghost use Rattle.plant_core.specs.Faults.{act_fault, collect_fault, IsTold};
 ghost use Rattle.live_core.specs.GoingOn.{went};
 ghost use Rattle.live_core.specs.DeskView.{book_at, waiting_at};
-ghost use Rattle.live_core.specs.Putting.{FitsOldest, PutsOldest};
+ghost use Rattle.plant_core.specs.Putting.{FitsOldest, PutsOldest, CollectsOldest};
 
 use crate::desk::LiveDesk;
 use grant_policy::Ranking;
@@ -17,6 +19,8 @@ use map_assembly::{Gather, MapBytes};
 use operator_book::{BookFault, Live, OpenFault};
 use operator_machine::{Action, Output};
 use plant::{Consts, Op, OperatorRow};
+use plant_core::{CoreFault, append, append_map};
+use plant_runs::Out;
 use slice_scheduler::Elements;
 use std::alloc::{AllocError, Global};
 use std::collections::VecDeque;
@@ -87,6 +91,41 @@ impl LiveDesk {
         Ok(told)
     }
 
+    /// Does an action that is the operator's own, and adds what it puts out. Its frame waits.
+    #[inline(always)]
+    pub(crate) fn act_into(
+        &mut self,
+        alloc: Global,
+        op: Op,
+        action: Action,
+        outs: &mut Vec<Out>,
+    ) -> Result<(), CoreFault>
+        ensures book { OnOk result (book_at self.new ≡ went (book_at self.old) action) }
+        ensures waiting { OnOk result (waiting_at self.new ≡ waiting_at self.old
+            ++ frames_of (own_step self.old.live.sound action).outputs) }
+        ensures outputs { OnOk result (outs.new.items ≡ outs.old.items
+            ++ under op (own_step self.old.live.sound action).outputs) }
+        ensures allowed { OnOk result (IsAllowed self.old.live.sound action) }
+        ensures outs { OnErr result (outs.new.items ≡ outs.old.items) }
+        ensures same_book { OnErr result (book_at self.new ≡ book_at self.old) }
+        ensures same_waiting { OnErr result (waiting_at self.new ≡ waiting_at self.old) }
+        ensures fault { IsTold result (act_fault op action (Some (book_at self.old))) }
+    {
+        if self.live.is_spent(&action) {
+            return Err(CoreFault::Book(BookFault::FramesSpent));
+        }
+        if outs.reserve(self.live.most_outputs(&action)).is_err() {
+            return Err(CoreFault::NoMemory);
+        }
+        match self.act(alloc, action) {
+            Ok(told) => {
+                append(outs, op, told);
+                Ok(())
+            }
+            Err(_) => Err(CoreFault::NoMemory),
+        }
+    }
+
     /// The frame that waits longest goes into the assembly, which takes it: only memory can be wanting. Then it waits as before.
     pub fn put_oldest(
         &mut self,
@@ -108,6 +147,39 @@ impl LiveDesk {
                 self.waiting.push_front_reserved((number, refused.elements));
                 Err(AllocError)
             }
+        }
+    }
+
+    /// The frame that waits longest goes into the assembly, which takes it: only memory can be wanting. A MAP that it makes is added.
+    #[inline(always)]
+    pub(crate) fn collect_into(
+        &mut self,
+        alloc: Global,
+        op: Op,
+        gather: &mut Gather,
+        outs: &mut Vec<Out>,
+    ) -> Result<(), CoreFault>
+        requires { FitsOldest op (waiting_at self.old) gather.old }
+        ensures ok { OnOk result (CollectsOldest op (waiting_at self.old) (waiting_at self.new) gather.old gather.new
+            outs.old.items outs.new.items) }
+        ensures book { book_at self.new ≡ book_at self.old }
+        ensures outs { OnErr result (outs.new.items ≡ outs.old.items) }
+        ensures same_waiting { OnErr result (waiting_at self.new ≡ waiting_at self.old) }
+        ensures same_gather { OnErr result (gather.new ≡ gather.old) }
+        ensures fault { IsTold result (collect_fault op (Some (waiting_at self.old))) }
+    {
+        if self.waiting.is_empty() {
+            return Err(CoreFault::NothingToCollect { op });
+        }
+        if outs.reserve(1).is_err() {
+            return Err(CoreFault::NoMemory);
+        }
+        match self.put_oldest(alloc, op, gather) {
+            Ok(made) => {
+                append_map(outs, made);
+                Ok(())
+            }
+            Err(_) => Err(CoreFault::NoMemory),
         }
     }
 }

@@ -14,7 +14,7 @@ use crate::desk::LiveDesk;
 use crate::held::LiveCore;
 use operator_machine::{SliceRow, Unfit};
 use plant::Op;
-use plant_core::{CoreFault, ResliceFault, is_same, least_meeting};
+use plant_core::{CoreFault, ResliceFault, Unfits, first_fault, is_same};
 use std::alloc::Global;
 
 impl LiveDesk {
@@ -49,23 +49,14 @@ impl LiveCore {
         requires { length rows.now ≡ vec_len self.now.desks }
         ensures { result ≡ row_fault from (live_view self.now).books rows.now }
     {
-        if let Some(op) = self.least_unfit(from, rows, Unfit::NotPast) {
-            return Some(ResliceFault::NotPast { op });
-        }
-        if let Some(op) = self.least_unfit(from, rows, Unfit::Unfinished) {
-            return Some(ResliceFault::Unfinished { op });
-        }
-        if let Some(op) = self.least_unfit(from, rows, Unfit::OffFrame) {
-            return Some(ResliceFault::OffFrame { op });
-        }
-        if let Some((a, b)) = least_meeting(rows) {
-            return Some(ResliceFault::SlicesMeet { a, b });
-        }
-        if let Some(op) = self.least_unfit(from, rows, Unfit::BudgetOverSlice) {
-            return Some(ResliceFault::BudgetOverSlice { op });
-        }
-        let op = self.least_unfit(from, rows, Unfit::OverBudget)?;
-        Some(ResliceFault::Unfit { op })
+        let least = Unfits {
+            not_past: self.least_unfit(from, rows, Unfit::NotPast),
+            unfinished: self.least_unfit(from, rows, Unfit::Unfinished),
+            off_frame: self.least_unfit(from, rows, Unfit::OffFrame),
+            budget_over_slice: self.least_unfit(from, rows, Unfit::BudgetOverSlice),
+            over_budget: self.least_unfit(from, rows, Unfit::OverBudget),
+        };
+        first_fault(least, rows)
     }
 
     /// The first fault of other slices.

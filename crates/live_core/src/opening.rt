@@ -2,6 +2,8 @@
 
 ghost use Rattle.std.specs.Prelude.{◌≡◌, ◌≢◌, ◌↔◌, [], map, length, replicate, All, Err, IfOk};
 ghost use Rattle.plant.specs.Row.{IsRowOf};
+ghost use Rattle.plant.specs.Plant.{IsPlant};
+ghost use Rattle.map_assembly.specs.Gathering.{gathering_of, IsGathering};
 ghost use Rattle.plant_runs.specs.Opened.{opened_book, opened_core};
 ghost use Rattle.plant_core.specs.declared.core_fault.CoreOpenFault.{CoreOpenFault};
 ghost use Rattle.plant_core.specs.declared.core_fault.CoreOpenFault.TheVariants.{RankingsMismatch};
@@ -39,6 +41,29 @@ fn opened_desks(
     Ok(desks)
 }
 
+/// What a core has of its operators, with nothing done.
+#[derive(Drop)]
+struct Parts {
+    desks: Vec<LiveDesk>,
+    gather: Gather,
+}
+
+/// The desks of a plant's operators and its assembly, with nothing done.
+fn opened_parts(alloc: Global, plant: &Plant, rankings: Vec<Ranking>) -> Result<Parts, AllocError>
+    requires { length rankings.items ≡ length plant.now.rows }
+    ensures books { IfOk result (λ parts. map book_at parts.desks.items
+        ≡ map (opened_book plant.now.consts) plant.now.rows) }
+    ensures queues { IfOk result (λ parts. map waiting_at parts.desks.items ≡ replicate (length plant.now.rows) []) }
+    ensures gathering { IfOk result (λ parts. parts.gather ≡ gathering_of plant.now) }
+    ensures kept { IfOk result (λ parts. IsGathering parts.gather) }
+    ensures valid { IsPlant plant.now }
+{
+    let desks = opened_desks(alloc, plant.rows(), plant.consts(), rankings)?;
+    let gather = Gather::new(alloc, plant)?;
+    gather.kept();
+    Ok(Parts { desks, gather })
+}
+
 impl LiveCore {
     /// The core of a plant with nothing done. The rankings stand in the plant's order of operators.
     pub fn open(
@@ -51,18 +76,24 @@ impl LiveCore {
         ensures mismatch { (result ≡ Err RankingsMismatch)
             ↔ (map (λ ranking. ranking.policy) rankings.items ≢ map (λ row. row.policy) plant.rows) }
     {
-        let rows = plant.rows();
-        if !follow(rankings.as_slice(), rows) {
+        if !follow(rankings.as_slice(), plant.rows()) {
             return Err(CoreOpenFault::RankingsMismatch);
         }
-        let desks = opened_desks(alloc, rows, plant.consts(), rankings)?;
-        let gather = Gather::new(alloc, &plant)?;
-        gather.kept();
+        Ok(LiveCore::opened(alloc, plant, rankings)?)
+    }
+
+    /// The core of a plant with nothing done, where there is a ranking for each operator.
+    fn opened(alloc: Global, plant: Plant, rankings: Vec<Ranking>) -> Result<LiveCore, AllocError>
+        requires { length rankings.items ≡ length plant.rows }
+        ensures ok { IfOk result (λ core. live_view core ≡ opened_core plant) }
+        ensures reached { IfOk result (λ core. IsAfter plant [] [] (live_view core)) }
+    {
+        let parts = opened_parts(alloc, &plant, rankings)?;
         let routes = Routes::new(alloc, plant)?;
         Ok(LiveCore {
             routes,
-            desks,
-            gather,
+            desks: parts.desks,
+            gather: parts.gather,
         })
     }
 }

@@ -1,63 +1,25 @@
 //! One step of a live core.
 
-ghost use Rattle.std.specs.Prelude.{◌≡◌, ◌<◌, [], ◌∷◌, ◌++◌, List, map, slice_get, vec_len, OnOk, OnErr, IfOk};
+ghost use Rattle.std.specs.Prelude.{◌≡◌, [], ◌∷◌, ◌++◌, List, slice_get, OnOk, OnErr, IfOk};
 ghost use Rattle.plant_runs.specs.declared.step.Out.{Out};
 ghost use Rattle.plant_runs.specs.declared.step.Step.{Step};
 ghost use Rattle.plant_runs.specs.declared.step.Step.TheVariants as steps;
 ghost use Rattle.plant_runs.specs.Steps.{Acts, Collects, Steps};
 ghost use Rattle.plant_core.specs.Faults.{act_fault, collect_fault, step_fault, IsTold};
 ghost use Rattle.plant_core.specs.Reachable.{IsOfAStep};
-ghost use Rattle.live_core.specs.DeskView.{book_at};
 ghost use Rattle.live_core.specs.GoingOn.{GoesOn};
 ghost use Rattle.live_core.specs.After.{IsAfter};
 ghost use Rattle.live_core.specs.LiveView.{live_view};
 
 use crate::held::LiveCore;
 use dsx_messages::Modem;
-use operator_book::BookFault;
 use operator_machine::{Action, Heard};
 use plant::Op;
-use plant_core::{CoreFault, append, append_map};
+use plant_core::CoreFault;
 use plant_runs::{Out, Step};
 use std::alloc::Global;
 
 impl LiveCore {
-    /// An operator takes an action that is its own.
-    #[inline(always)]
-    fn act_at(
-        &mut self,
-        alloc: Global,
-        op: Op,
-        action: Action,
-        outs: &mut Vec<Out>,
-    ) -> Result<(), CoreFault>
-        requires within { op < vec_len self.old.desks }
-        requires of_a_step { IsOfAStep self.old.routes op action }
-        ensures ok { OnOk result ((now : List Out) × (outs.new.items ≡ outs.old.items ++ now)
-            × GoesOn (Acts op action) (live_view self.old) (live_view self.new) now) }
-        ensures outs { OnErr result (outs.new.items ≡ outs.old.items) }
-        ensures err { OnErr result (live_view self.new ≡ live_view self.old) }
-        ensures fault { IsTold result (act_fault op action (slice_get (map book_at self.old.desks.items) op)) }
-    {
-        self.always();
-        if self.desks[op].live.is_spent(&action) {
-            return Err(CoreFault::Book(BookFault::FramesSpent));
-        }
-        if outs
-            .reserve(self.desks[op].live.most_outputs(&action))
-            .is_err()
-        {
-            return Err(CoreFault::NoMemory);
-        }
-        match self.desks[op].act(alloc, action) {
-            Ok(told) => {
-                append(outs, op, told);
-                Ok(())
-            }
-            Err(_) => Err(CoreFault::NoMemory),
-        }
-    }
-
     /// The operator at this place acts, if there is one.
     #[inline(always)]
     fn act_if(
@@ -74,10 +36,11 @@ impl LiveCore {
         ensures err { OnErr result (live_view self.new ≡ live_view self.old) }
         ensures fault { IsTold result (act_fault op action (slice_get (live_view self.old).books op)) }
     {
+        self.always();
         if op >= self.desks.len() {
             return Err(CoreFault::UnknownOperator { op });
         }
-        self.act_at(alloc, op, action, outs)
+        self.desks[op].act_into(alloc, op, action, outs)
     }
 
     /// The operator that has this modem takes what was heard of it into its inbox.
@@ -101,35 +64,6 @@ impl LiveCore {
         }
     }
 
-    /// The oldest frame that waits of the operator at this place goes into the assembly.
-    #[inline(always)]
-    fn collect_at(&mut self, alloc: Global, op: Op, outs: &mut Vec<Out>) -> Result<(), CoreFault>
-        requires { op < vec_len self.old.desks }
-        ensures ok { OnOk result ((now : List Out) × (outs.new.items ≡ outs.old.items ++ now)
-            × GoesOn (Collects op) (live_view self.old) (live_view self.new) now) }
-        ensures outs { OnErr result (outs.new.items ≡ outs.old.items) }
-        ensures err { OnErr result (live_view self.new ≡ live_view self.old) }
-        ensures fault { IsTold result (collect_fault op (slice_get (live_view self.old).queues op)) }
-    {
-        self.always();
-        if self.desks[op].waiting.is_empty() {
-            return Err(CoreFault::NothingToCollect { op });
-        }
-        if outs.reserve(1).is_err() {
-            return Err(CoreFault::NoMemory);
-        }
-        let gather = &mut self.gather;
-        match self.desks[op].put_oldest(alloc, op, gather) {
-            Ok(made) => {
-                gather.let_go();
-                gather.kept();
-                append_map(outs, made);
-                Ok(())
-            }
-            Err(_) => Err(CoreFault::NoMemory),
-        }
-    }
-
     /// The oldest frame that waits of the operator at this place goes into the assembly, if there is one.
     #[inline(always)]
     fn collect(&mut self, alloc: Global, op: Op, outs: &mut Vec<Out>) -> Result<(), CoreFault>
@@ -139,10 +73,19 @@ impl LiveCore {
         ensures err { OnErr result (live_view self.new ≡ live_view self.old) }
         ensures fault { IsTold result (collect_fault op (slice_get (live_view self.old).queues op)) }
     {
+        self.always();
         if op >= self.desks.len() {
             return Err(CoreFault::UnknownOperator { op });
         }
-        self.collect_at(alloc, op, outs)
+        let gather = &mut self.gather;
+        match self.desks[op].collect_into(alloc, op, gather, outs) {
+            Ok(()) => {
+                gather.let_go();
+                gather.kept();
+                Ok(())
+            }
+            Err(fault) => Err(fault),
+        }
     }
 
     /// One step, whose outputs are added. A refused step changes nothing, and adds nothing.

@@ -22,9 +22,10 @@ use Rattle.plant_runs.specs.declared.step.Out.{Out}
 use Rattle.plant_runs.specs.OwnSteps.{under}
 use Rattle.plant_runs.specs.Ordered.{action_at, target}
 use Rattle.plant_runs.specs.Reached.{CoreView, Reached, frames_of}
-use Rattle.plant_runs.specs.Steps.{Acts, Steps}
+use Rattle.plant_runs.specs.Steps.{Acts, Collects, Steps}
 use Rattle.plant_runs.proofs.OneStep.{step_reached}
 use Rattle.plant_runs.proofs.Fits.{waiting_fits}
+use Rattle.plant_core.specs.Putting.{FitsOldest}
 use Rattle.plant_core.specs.Reachable.{core_of, IsReachable, IsOfAStep}
 use Rattle.plant_core.proofs.StepLemmas.{same_view, acts_at}
 
@@ -85,6 +86,22 @@ none_refused plant gathering books queues op frame part rest fault valid is reac
     ∥∥₁_elim reached (λ x y. absurd x) (λ r.
     let fits = waiting_fits plant r.0 r.1 (core_of plant books queues gathering) op frame part rest valid r.2 is there in
     let wrong : None ≡ Some fault = sym fits ∙ refused in cc)
+
+-- so it takes the one that waits longest
+pub oldest_fits : (plant : PlantFields) (gathering : Gathering) (books : List BookView) (queues : List (List (ℕ × ElementsFields))) (op : ℕ) (waiting : List (ℕ × ElementsFields))
+    → IsPlant plant → IsGathering gathering → ∥ IsReachable (core_of plant books queues gathering) ∥₁ → slice_get queues op ≡ Some waiting → FitsOldest op waiting gathering
+oldest_fits plant gathering books queues op waiting valid is reached there = λ frame part rest front.
+    by frame part rest (there ∙ ap (λ (fs : List (ℕ × ElementsFields)). Some fs) front) (put_fault gathering op frame part) refl
+  where
+    by : (frame : ℕ) (part : ElementsFields) (rest : List (ℕ × ElementsFields)) → slice_get queues op ≡ Some ((frame, part) ∷ rest) → (o : Option GatherFault) → put_fault gathering op frame part ≡ o → o ≡ None
+    by frame part rest at None e = refl
+    by frame part rest at (Some fault) e = absurd (none_refused plant gathering books queues op frame part rest fault valid is reached at e)
+
+-- whether it was collected or refused
+pub collected_reaches : {A E : Type 0} (result : Result A E) (op : ℕ) (old new : CoreView) (outs outs' : List Out) → IsPlant old.plant → IsGathering old.gathering → new.plant ≡ old.plant
+    → OnOk result ((now : List Out) × (outs' ≡ outs ++ now) × Collects op old new now) → OnErr result (new ≡ old) → ∥ IsReachable old ∥₁ → ∥ IsReachable new ∥₁
+collected_reaches (Ok x) op old new outs outs' valid is plant done same reached = stepped (steps.Collect op) old new done.0 valid is plant done.2 reached
+collected_reaches (Err y) op old new outs outs' valid is plant done same reached = subst (λ (core : CoreView). ∥ IsReachable core ∥₁) (sym same) reached
 
 -- ---- a plant that is the same
 

@@ -1,5 +1,5 @@
 -- What one step makes of a core.
-use Rattle.std.proofs.Common.{◌≡◌, ◌≢◌, ◌↔◌, ℕ, ◌<◌, ◌≤◌, map, Bool, true, false, List, [], ◌∷◌, ◌++◌, length, slice_set, Result, Ok, Err, Option, Some, None, IsSome, nat_lt, nat_le, refl, sym, ap, ap₂, ◌∙◌, arith}
+use Rattle.std.proofs.Common.{◌≡◌, ◌≢◌, ◌↔◌, ℕ, ◌<◌, ◌≤◌, map, Bool, true, false, List, [], ◌∷◌, ◌++◌, length, slice_set, Result, Ok, Err, Option, Some, None, IsSome, OnOk, OnErr, nat_lt, nat_le, refl, sym, ap, ap₂, subst, ◌∙◌, arith}
 use Rattle.std.specs.Prelude.{slice_get, if◌then◌else◌}
 use Rattle.std.proofs.lemmas.List.{length-map}
 use Rattle.std.proofs.lemmas.Option.{slice_get_past}
@@ -27,6 +27,7 @@ use Rattle.plant_runs.specs.Reached.{CoreView, frames_of}
 use Rattle.plant_runs.specs.Steps.{Acts, Collects, told_map}
 use Rattle.plant_core.specs.declared.core_fault.CoreFault.{CoreFault}
 use Rattle.plant_core.specs.declared.core_fault.CoreFault.TheVariants.{Book, NothingToCollect, UnknownOperator}
+use Rattle.plant_core.specs.Putting.{FitsOldest, CollectsOldest}
 use Rattle.plant_core.specs.Faults.{act_fault, collect_fault, step_fault, IsTold, core_fault_of}
 use Rattle.plant_runs.proofs.Entries.{some_at}
 
@@ -54,9 +55,26 @@ acts_at plant gathering books books' queues queues' op action book waiting now b
   now_is = now_is;
 }
 
-pub not_spent : (op : ℕ) (action : Action) (books : List BookView) (book : BookView) → slice_get books op ≡ Some book → is_spent book.state action ≡ false
-    → act_fault op action (slice_get books op) ≡ None
-not_spent op action books book there fresh = rw there (ap (λ (b : Bool). if b then Some (Book FramesSpent) else None) fresh)
+-- whether the desk did it or refused it
+pub acts_if : {A E : Type 0} (result : Result A E) (plant : PlantFields) (gathering : Gathering) (books books' : List BookView) (queues queues' : List (List (ℕ × ElementsFields)))
+    (op : ℕ) (action : Action) (book : BookView) (waiting : List (ℕ × ElementsFields)) (outs outs' : List Out)
+    → slice_get books op ≡ Some book → slice_get queues op ≡ Some waiting → OnOk result (IsAllowed (operator book.consts book.row book.state) action)
+    → OnOk result (books' ≡ slice_set books op (acted book action))
+    → OnOk result (queues' ≡ slice_set queues op (waiting ++ frames_of (own_step (operator book.consts book.row book.state) action).outputs))
+    → OnOk result (outs' ≡ outs ++ under op (own_step (operator book.consts book.row book.state) action).outputs)
+    → OnOk result ((now : List Out) × (outs' ≡ outs ++ now) × Acts op action (view plant gathering books queues) (view plant gathering books' queues') now)
+acts_if (Ok x) plant gathering books books' queues queues' op action book waiting outs outs' book_is waiting_is allowed b q told =
+    (under op (own_step (operator book.consts book.row book.state) action).outputs, told, acts_at plant gathering books books' queues queues' op action book waiting _ book_is waiting_is allowed b q refl)
+acts_if (Err y) plant gathering books books' queues queues' op action book waiting outs outs' book_is waiting_is allowed b q told = tt
+
+pub same_if : {A E : Type 0} (result : Result A E) (plant : PlantFields) (gathering : Gathering) (books books' : List BookView) (queues queues' : List (List (ℕ × ElementsFields)))
+    → OnErr result (books' ≡ books) → OnErr result (queues' ≡ queues) → OnErr result (view plant gathering books' queues' ≡ view plant gathering books queues)
+same_if (Ok x) plant gathering books books' queues queues' b q = tt
+same_if (Err y) plant gathering books books' queues queues' b q = same_view plant gathering books books' queues queues' b q
+
+pub told_at : {A : Type 0} (result : Result A CoreFault) (op : ℕ) (action : Action) (books : List BookView) (book : BookView) → slice_get books op ≡ Some book
+    → IsTold result (act_fault op action (Some book)) → IsTold result (act_fault op action (slice_get books op))
+told_at result op action books book there told = subst (λ (o : Option BookView). IsTold result (act_fault op action o)) (sym there) told
 
 -- ---- what is heard
 
@@ -87,32 +105,11 @@ pub front_waits : (op : ℕ) (queues : List (List (ℕ × ElementsFields))) (wai
     → slice_get queues op ≡ Some waiting → waiting ≡ frame ∷ rest → collect_fault op (slice_get queues op) ≡ None
 front_waits op queues waiting rest frame there front = rw (there, front) refl
 
--- want of memory is no fault of a part
-no_memory : (g : Gathering) (op frame : ℕ) (part : ElementsFields) → put_fault g op frame part ≡ Some gather_faults.NoMemory → ⊥
-no_memory g op frame part h =
-    by (nat_le (length g.shares) op) (nat_lt frame g.next) (nat_lt frame (next_of g op)) (nat_lt (next_of g op) frame) (is_part g op frame part) h
-  where
-    by : (a b d e f : Bool) → (if a then Some Stranger else if b then Some (Old frame) else if d then Some PutTwice else if e then Some (Early frame) else if f then None else Some WrongSlice)
-        ≡ Some gather_faults.NoMemory → ⊥
-    by true b d e f h = cc
-    by false true d e f h = cc
-    by false false true e f h = cc
-    by false false false true f h = cc
-    by false false false false true h = cc
-    by false false false false false h = cc
+pub waits_in_front : (op : ℕ) (waiting rest : List (ℕ × ElementsFields)) (frame : ℕ × ElementsFields) → waiting ≡ frame ∷ rest → collect_fault op (Some waiting) ≡ None
+waits_in_front op waiting rest frame front = rw front refl
 
--- a part that is put has no fault
-pub put_is_fit : (g : Gathering) (op frame : ℕ) (part : ElementsFields) (result : Result (Option MapBytes) Refused) (made : Option MapBytes)
-    → ((fault : GatherFault) → fault ≢ gather_faults.NoMemory → ((result ≡ Err (record { fault = fault; elements = part })) ↔ (put_fault g op frame part ≡ Some fault)))
-    → result ≡ Ok made → put_fault g op frame part ≡ None
-put_is_fit g op frame part result made clause is = by (put_fault g op frame part) refl
-  where
-    by : (o : Option GatherFault) → put_fault g op frame part ≡ o → o ≡ None
-    by None e = refl
-    by (Some fault) e =
-        let other : fault ≢ gather_faults.NoMemory = λ same. no_memory g op frame part (e ∙ ap (λ (f : GatherFault). Some f) same) in
-        let refused = (clause fault other).1 e in
-        absurd (let apart : Ok made ≡ Err (record { fault = fault; elements = part }) = sym is ∙ refused in cc)
+pub fits_not : (g : Gathering) (op frame : ℕ) (part : ElementsFields) (fault : GatherFault) → put_fault g op frame part ≡ None → put_fault g op frame part ≡ Some fault → ⊥
+fits_not g op frame part fault fits refused = let wrong : None ≡ Some fault = sym fits ∙ refused in cc
 
 pub collects_at : (plant : PlantFields) (gathering gathering' : Gathering) (books books' : List BookView) (queues queues' : List (List (ℕ × ElementsFields)))
     (op frame : ℕ) (part : ElementsFields) (waiting rest : List (ℕ × ElementsFields)) (made : Option MapBytes)
@@ -130,6 +127,20 @@ collects_at plant gathering gathering' books books' queues queues' op frame part
   new_is = ap₂ (λ (w : List BookView × Gathering) (qs : List (List (ℕ × ElementsFields))). view plant w.1 w.0 qs) (ap₂ (λ (bs : List BookView) (gs : Gathering). (bs, gs)) b g) q;
   now_is = refl;
 }
+
+-- whether or not the desk found memory
+pub collects_if : {A E : Type 0} (result : Result A E) (plant : PlantFields) (old new : Gathering) (books books' : List BookView) (queues queues' : List (List (ℕ × ElementsFields)))
+    (op : ℕ) (waiting left : List (ℕ × ElementsFields)) (outs outs' : List Out)
+    → slice_get queues op ≡ Some waiting → FitsOldest op waiting old → OnOk result (CollectsOldest op waiting left old new outs outs') → books' ≡ books → queues' ≡ slice_set queues op left
+    → OnOk result ((now : List Out) × (outs' ≡ outs ++ now) × Collects op (view plant old books queues) (view plant new books' queues') now)
+collects_if (Ok x) plant old new books books' queues queues' op waiting left outs outs' there fits done b q =
+    let put = done.1 in
+    (told_map done.0, done.2, collects_at plant old new books books' queues queues' op put.frame put.part waiting left done.0 there put.waiting_is (fits put.frame put.part left put.waiting_is) put.made_is b q put.new_is)
+collects_if (Err y) plant old new books books' queues queues' op waiting left outs outs' there fits done b q = tt
+
+pub collect_told : {A : Type 0} (result : Result A CoreFault) (op : ℕ) (queues : List (List (ℕ × ElementsFields))) (waiting : List (ℕ × ElementsFields)) → slice_get queues op ≡ Some waiting
+    → IsTold result (collect_fault op (Some waiting)) → IsTold result (collect_fault op (slice_get queues op))
+collect_told result op queues waiting there told = subst (λ (o : Option (List (ℕ × ElementsFields))). IsTold result (collect_fault op o)) (sym there) told
 
 -- what the assembly refused
 pub refused_is : (g : Gathering) (op frame : ℕ) (part : ElementsFields) (result : Result (Option MapBytes) Refused) (refused : Refused)

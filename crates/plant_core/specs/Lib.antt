@@ -1,5 +1,6 @@
 pub mod Cached
 pub mod Waiting
+pub mod Putting
 pub mod DeskView
 pub mod Reachable
 pub mod Reslicing

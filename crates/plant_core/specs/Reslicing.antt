@@ -9,6 +9,7 @@ use Rattle.operator_machine.specs.declared.action.Unfit.TheVariants as unfits
 use Rattle.operator_machine.specs.Machine.{unfit_from}
 use Rattle.operator_machine.specs.Replay.{BookView}
 use Rattle.plant_runs.specs.OwnSteps.{slice_of}
+use Rattle.plant_core.specs.declared.core_fault.Unfits.{Unfits}
 use Rattle.plant_core.specs.declared.core_fault.ResliceFault.{ResliceFault}
 use Rattle.plant_core.specs.declared.core_fault.ResliceFault.TheVariants as faults
 
@@ -34,15 +35,30 @@ abbrev pub least_meeting : ℕ → List SliceRow → Option (ℕ × ℕ)
 least_meeting n [] = None
 least_meeting n (row ∷ rows) = option_or (option_map (λ k. (n, k)) (position_from (do_meet row) (n + 1) rows)) (least_meeting (n + 1) rows)
 
+-- for each reason, the least operator whose book refuses its row so
+abbrev pub least_unfits : ℕ → List BookView → List SliceRow → Unfits
+least_unfits from books rows = record {
+  not_past = least_unfit unfits.NotPast from 0 books rows;
+  unfinished = least_unfit unfits.Unfinished from 0 books rows;
+  off_frame = least_unfit unfits.OffFrame from 0 books rows;
+  budget_over_slice = least_unfit unfits.BudgetOverSlice from 0 books rows;
+  over_budget = least_unfit unfits.OverBudget from 0 books rows;
+}
+
+-- the first of these faults, in the order in which they are told: those that meet stand between those off the frame and a budget
+-- over its slice
+abbrev pub first_fault : Unfits → Option (ℕ × ℕ) → Option ResliceFault
+first_fault least meeting =
+    option_or (option_map (λ op. faults.NotPast op) least.not_past)
+    (option_or (option_map (λ op. faults.Unfinished op) least.unfinished)
+    (option_or (option_map (λ op. faults.OffFrame op) least.off_frame)
+    (option_or (option_map (λ pair. faults.SlicesMeet pair.0 pair.1) meeting)
+    (option_or (option_map (λ op. faults.BudgetOverSlice op) least.budget_over_slice)
+    (option_map (λ op. faults.Unfit op) least.over_budget)))))
+
 -- the first fault, where there is one row for each operator
 abbrev pub row_fault : ℕ → List BookView → List SliceRow → Option ResliceFault
-row_fault from books rows =
-    option_or (option_map (λ op. faults.NotPast op) (least_unfit unfits.NotPast from 0 books rows))
-    (option_or (option_map (λ op. faults.Unfinished op) (least_unfit unfits.Unfinished from 0 books rows))
-    (option_or (option_map (λ op. faults.OffFrame op) (least_unfit unfits.OffFrame from 0 books rows))
-    (option_or (option_map (λ pair. faults.SlicesMeet pair.0 pair.1) (least_meeting 0 rows))
-    (option_or (option_map (λ op. faults.BudgetOverSlice op) (least_unfit unfits.BudgetOverSlice from 0 books rows))
-    (option_map (λ op. faults.Unfit op) (least_unfit unfits.OverBudget from 0 books rows))))))
+row_fault from books rows = first_fault (least_unfits from books rows) (least_meeting 0 rows)
 
 -- the first fault
 abbrev pub reslice_fault : ℕ → List BookView → List SliceRow → Option ResliceFault

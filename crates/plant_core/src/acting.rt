@@ -1,20 +1,27 @@
 //! What is done to an operator's desk.
 
-ghost use Rattle.std.specs.Prelude.{◌≡◌, ◌≢◌, ◌↔◌, ◌≤◌, [], ◌++◌, length, slice_get, IsSome, Err, IfOk, OnOk, OnErr};
+ghost use Rattle.std.specs.Prelude.{◌≡◌, ◌≢◌, ◌↔◌, ◌≤◌, [], ◌++◌, length, slice_get, Some, IsSome, Err, IfOk, OnOk, OnErr};
 ghost use Rattle.plant.specs.Row.{IsRowOf};
 ghost use Rattle.operator_machine.specs.State.{opened, operator};
 ghost use Rattle.operator_machine.specs.Machine.{own_step, IsAllowed};
 ghost use Rattle.operator_machine.specs.Replay.{acted};
+ghost use Rattle.plant_runs.specs.OwnSteps.{under};
 ghost use Rattle.plant_runs.specs.Reached.{frames_of};
+ghost use Rattle.plant_core.specs.Faults.{act_fault, collect_fault, IsTold};
 ghost use Rattle.plant_core.specs.Waiting.{IsOldest};
+ghost use Rattle.plant_core.specs.Putting.{FitsOldest, CollectsOldest};
 ghost use Rattle.plant_core.specs.DeskView.{book_at, waiting_at};
 
 use crate::collecting::{Oldest, oldest_from};
+use crate::core_fault::CoreFault;
 use crate::desk::Desk;
+use crate::stepping::{append, append_map, core_fault_of};
 use grant_policy::Ranking;
+use map_assembly::Gather;
 use operator_book::{Book, BookFault, OpenFault};
 use operator_machine::{Action, Output};
-use plant::{Consts, OperatorRow};
+use plant::{Consts, Op, OperatorRow};
+use plant_runs::Out;
 use std::alloc::{AllocError, Global};
 
 impl Desk {
@@ -53,6 +60,43 @@ impl Desk {
         self.book.act(alloc, action)
     }
 
+    /// Does an action that is the operator's own, and adds what it puts out. Its frames wait.
+    pub(crate) fn act_into(
+        &mut self,
+        alloc: Global,
+        op: Op,
+        action: Action,
+        outs: &mut Vec<Out>,
+    ) -> Result<(), CoreFault>
+        requires within { self.old.collected ≤ length (book_at self.old).history }
+        ensures book { OnOk result (book_at self.new ≡ acted (book_at self.old) action) }
+        ensures waiting { OnOk result (waiting_at self.new ≡ waiting_at self.old
+            ++ frames_of (own_step (operator (book_at self.old).consts (book_at self.old).row
+            (book_at self.old).state) action).outputs) }
+        ensures outputs { OnOk result (outs.new.items ≡ outs.old.items ++ under op
+            (own_step (operator (book_at self.old).consts (book_at self.old).row (book_at self.old).state) action).outputs) }
+        ensures allowed { OnOk result (IsAllowed
+            (operator (book_at self.old).consts (book_at self.old).row (book_at self.old).state) action) }
+        ensures outs { OnErr result (outs.new.items ≡ outs.old.items) }
+        ensures same_book { OnErr result (book_at self.new ≡ book_at self.old) }
+        ensures same_waiting { OnErr result (waiting_at self.new ≡ waiting_at self.old) }
+        ensures fault { IsTold result (act_fault op action (Some (book_at self.old))) }
+    {
+        if self.book.is_spent(&action) {
+            return Err(CoreFault::Book(BookFault::FramesSpent));
+        }
+        if outs.reserve(self.book.most_outputs(&action)).is_err() {
+            return Err(CoreFault::NoMemory);
+        }
+        match self.act(alloc, action) {
+            Ok(told) => {
+                append(outs, op, told);
+                Ok(())
+            }
+            Err(_) => Err(CoreFault::NoMemory),
+        }
+    }
+
     /// The frame that waits longest.
     pub fn oldest(&self, alloc: Global) -> Result<Option<Oldest>, AllocError>
         ensures value { IfOk result (IsOldest (book_at self.now).history self.now.collected) }
@@ -60,5 +104,41 @@ impl Desk {
     {
         self.book.replay();
         oldest_from(alloc, self.book.history(), self.collected)
+    }
+
+    /// The frame that waits longest goes into the assembly, which takes it: only memory can be wanting. Its MAP is added, if it makes one.
+    pub(crate) fn collect_into(
+        &mut self,
+        alloc: Global,
+        op: Op,
+        gather: &mut Gather,
+        outs: &mut Vec<Out>,
+    ) -> Result<(), CoreFault>
+        requires within { self.old.collected ≤ length (book_at self.old).history }
+        requires fits { FitsOldest op (waiting_at self.old) gather.old }
+        ensures ok { OnOk result (CollectsOldest op (waiting_at self.old) (waiting_at self.new) gather.old gather.new
+            outs.old.items outs.new.items) }
+        ensures book { book_at self.new ≡ book_at self.old }
+        ensures outs { OnErr result (outs.new.items ≡ outs.old.items) }
+        ensures same_waiting { OnErr result (waiting_at self.new ≡ waiting_at self.old) }
+        ensures same_gather { OnErr result (gather.new ≡ gather.old) }
+        ensures fault { IsTold result (collect_fault op (Some (waiting_at self.old))) }
+    {
+        let oldest = match self.oldest(alloc) {
+            Err(_) => return Err(CoreFault::NoMemory),
+            Ok(None) => return Err(CoreFault::NothingToCollect { op }),
+            Ok(Some(oldest)) => oldest,
+        };
+        if outs.reserve(1).is_err() {
+            return Err(CoreFault::NoMemory);
+        }
+        match gather.put(alloc, op, oldest.number, oldest.elements) {
+            Ok(made) => {
+                self.collected = oldest.behind;
+                append_map(outs, made);
+                Ok(())
+            }
+            Err(refused) => Err(core_fault_of(refused.fault)),
+        }
     }
 }

@@ -45,6 +45,16 @@ pub enum ResliceFault {
     Unfit { op: Op },
 }
 
+/// For each reason for which a machine refuses a row, the least operator whose machine refuses its row so.
+#[derive(Clone, Copy, Debug)]
+pub struct Unfits {
+    pub not_past: Option<Op>,
+    pub unfinished: Option<Op>,
+    pub off_frame: Option<Op>,
+    pub budget_over_slice: Option<Op>,
+    pub over_budget: Option<Op>,
+}
+
 /// Why a step was refused. A refused step has changed nothing.
 #[derive(Clone, Copy, Debug, PartialEq, Eq)]
 pub enum CoreFault {

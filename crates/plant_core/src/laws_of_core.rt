@@ -31,7 +31,9 @@ impl PlantCore {
         ensures { option_map (λ history. history.now) result
             ≡ option_map (λ book. book.history) (slice_get (core_view self.now).books op) }
     {
-        let desk = self.desks.get(op)?;
-        Some(desk.book.history())
+        if op >= self.desks.len() {
+            return None;
+        }
+        Some(self.desks[op].book.history())
     }
 }

@@ -15,7 +15,7 @@ mod running;
 mod stepping;
 
 pub use collecting::Oldest;
-pub use core_fault::{CoreFault, CoreOpenFault, ResliceFault};
+pub use core_fault::{CoreFault, CoreOpenFault, ResliceFault, Unfits};
 pub use desk::Desk;
 pub use giving::slices_of;
 pub use held::PlantCore;
@@ -24,7 +24,7 @@ pub use plant_runs::{
     equal_books_answer_alike, maps_are_shared_out, opened_is_reached, run_is_reached,
     step_is_reached, two_cores, two_worlds,
 };
-pub use reslicing::{is_refused, is_same, least_meeting};
+pub use reslicing::{first_fault, is_refused, is_same, least_meeting};
 pub use routes::Routes;
 pub use running::RunStop;
 pub use stepping::{append, append_map, core_fault_of};

@@ -2,6 +2,8 @@
 
 ghost use Rattle.std.specs.Prelude.{◌≡◌, ◌≢◌, ◌↔◌, [], map, length, replicate, All, IsTrue, Err, IfOk};
 ghost use Rattle.plant.specs.Row.{IsRowOf};
+ghost use Rattle.plant.specs.Plant.{IsPlant};
+ghost use Rattle.map_assembly.specs.Gathering.{gathering_of};
 ghost use Rattle.plant_runs.specs.Opened.{opened_book, opened_core};
 ghost use Rattle.plant_runs.specs.Reached.{Reached};
 ghost use Rattle.plant_core.specs.DeskView.{book_at, waiting_at};
@@ -60,6 +62,27 @@ fn opened_desks(
     Ok(desks)
 }
 
+/// What a core has of its operators, with nothing done.
+#[derive(Drop)]
+struct Parts {
+    desks: Vec<Desk>,
+    gather: Gather,
+}
+
+/// The desks of a plant's operators and its assembly, with nothing done.
+fn opened_parts(alloc: Global, plant: &Plant, rankings: Vec<Ranking>) -> Result<Parts, AllocError>
+    requires { length rankings.items ≡ length plant.now.rows }
+    ensures books { IfOk result (λ parts. map book_at parts.desks.items
+        ≡ map (opened_book plant.now.consts) plant.now.rows) }
+    ensures queues { IfOk result (λ parts. map waiting_at parts.desks.items ≡ replicate (length plant.now.rows) []) }
+    ensures gathering { IfOk result (λ parts. parts.gather ≡ gathering_of plant.now) }
+    ensures valid { IsPlant plant.now }
+{
+    let desks = opened_desks(alloc, plant.rows(), plant.consts(), rankings)?;
+    let gather = Gather::new(alloc, plant)?;
+    Ok(Parts { desks, gather })
+}
+
 impl PlantCore {
     /// The core of a plant with nothing done. The rankings stand in the plant's order of operators.
     pub fn open(
@@ -72,17 +95,24 @@ impl PlantCore {
         ensures mismatch { (result ≡ Err CoreOpenFault.RankingsMismatch)
             ↔ (map (λ ranking. ranking.policy) rankings.items ≢ map (λ row. row.policy) plant.rows) }
     {
-        let rows = plant.rows();
-        if !follow(rankings.as_slice(), rows) {
+        if !follow(rankings.as_slice(), plant.rows()) {
             return Err(CoreOpenFault::RankingsMismatch);
         }
-        let desks = opened_desks(alloc, rows, plant.consts(), rankings)?;
-        let gather = Gather::new(alloc, &plant)?;
+        Ok(PlantCore::opened(alloc, plant, rankings)?)
+    }
+
+    /// The core of a plant with nothing done, where there is a ranking for each operator.
+    fn opened(alloc: Global, plant: Plant, rankings: Vec<Ranking>) -> Result<PlantCore, AllocError>
+        requires { length rankings.items ≡ length plant.rows }
+        ensures ok { IfOk result (λ core. core_view core ≡ opened_core plant) }
+        ensures reached { IfOk result (λ core. Reached plant [] [] (core_view core)) }
+    {
+        let parts = opened_parts(alloc, &plant, rankings)?;
         let routes = Routes::new(alloc, plant)?;
         Ok(PlantCore {
             routes,
-            desks,
-            gather,
+            desks: parts.desks,
+            gather: parts.gather,
         })
     }
 }

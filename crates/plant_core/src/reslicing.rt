@@ -4,12 +4,12 @@ ghost use Rattle.std.specs.Prelude.{◌≡◌, ℕ, ◌+◌, [], map, length, ve
 ghost use Rattle.std.specs.List.{position_from};
 ghost use Rattle.operator_book.specs.OfBook.{unfit_from};
 ghost use Rattle.operator_book.specs.ViewOf.{view_of};
-ghost use Rattle.plant_core.specs.Reslicing.{is_unfit, least_unfit, do_meet, least_meeting, row_fault, reslice_fault};
+ghost use Rattle.plant_core.specs.Reslicing.{is_unfit, least_unfit, do_meet, least_meeting, first_fault, row_fault, reslice_fault};
 ghost use Rattle.plant_runs.specs.Steps.{Reslices};
 ghost use Rattle.plant_core.specs.Faults.{IsTold};
 ghost use Rattle.plant_core.specs.CoreView.{core_view};
 
-use crate::core_fault::{CoreFault, ResliceFault};
+use crate::core_fault::{CoreFault, ResliceFault, Unfits};
 use crate::held::PlantCore;
 use operator_book::Book;
 use operator_machine::{SliceRow, Unfit};
@@ -66,6 +66,29 @@ pub fn least_meeting(rows: &[SliceRow]) -> Option<(Op, Op)>
     None
 }
 
+/// The first fault of rows, one for each operator, of which the machines refuse these: the order in which faults are told.
+pub fn first_fault(least: Unfits, rows: &[SliceRow]) -> Option<ResliceFault>
+    ensures { result ≡ first_fault least (least_meeting 0 rows.now) }
+{
+    if let Some(op) = least.not_past {
+        return Some(ResliceFault::NotPast { op });
+    }
+    if let Some(op) = least.unfinished {
+        return Some(ResliceFault::Unfinished { op });
+    }
+    if let Some(op) = least.off_frame {
+        return Some(ResliceFault::OffFrame { op });
+    }
+    if let Some((a, b)) = least_meeting(rows) {
+        return Some(ResliceFault::SlicesMeet { a, b });
+    }
+    if let Some(op) = least.budget_over_slice {
+        return Some(ResliceFault::BudgetOverSlice { op });
+    }
+    let op = least.over_budget?;
+    Some(ResliceFault::Unfit { op })
+}
+
 impl PlantCore {
     /// The least operator whose book refuses its row with this fault.
     fn least_unfit(&self, from: u32, rows: &[SliceRow], unfit: Unfit) -> Option<Op>
@@ -85,23 +108,14 @@ impl PlantCore {
         requires { length rows.now ≡ vec_len self.now.desks }
         ensures { result ≡ row_fault from (core_view self.now).books rows.now }
     {
-        if let Some(op) = self.least_unfit(from, rows, Unfit::NotPast) {
-            return Some(ResliceFault::NotPast { op });
-        }
-        if let Some(op) = self.least_unfit(from, rows, Unfit::Unfinished) {
-            return Some(ResliceFault::Unfinished { op });
-        }
-        if let Some(op) = self.least_unfit(from, rows, Unfit::OffFrame) {
-            return Some(ResliceFault::OffFrame { op });
-        }
-        if let Some((a, b)) = least_meeting(rows) {
-            return Some(ResliceFault::SlicesMeet { a, b });
-        }
-        if let Some(op) = self.least_unfit(from, rows, Unfit::BudgetOverSlice) {
-            return Some(ResliceFault::BudgetOverSlice { op });
-        }
-        let op = self.least_unfit(from, rows, Unfit::OverBudget)?;
-        Some(ResliceFault::Unfit { op })
+        let least = Unfits {
+            not_past: self.least_unfit(from, rows, Unfit::NotPast),
+            unfinished: self.least_unfit(from, rows, Unfit::Unfinished),
+            off_frame: self.least_unfit(from, rows, Unfit::OffFrame),
+            budget_over_slice: self.least_unfit(from, rows, Unfit::BudgetOverSlice),
+            over_budget: self.least_unfit(from, rows, Unfit::OverBudget),
+        };
+        first_fault(least, rows)
     }
 
     /// The first fault of other slices.

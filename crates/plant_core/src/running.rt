@@ -1,6 +1,6 @@
 //! Steps one after the other.
 
-ghost use Rattle.std.specs.Prelude.{◌≡◌, ◌<◌, ◌++◌, List, take, length, slice_get, Some, Err, IfOk, IfErr, OnOk, OnErr};
+ghost use Rattle.std.specs.Prelude.{◌≡◌, ◌<◌, [], ◌∷◌, ◌++◌, List, take, length, slice_get, Some, Err, IfOk, IfErr, OnOk, OnErr};
 ghost use Rattle.plant_runs.specs.declared.step.Step.{Step};
 ghost use Rattle.plant_runs.specs.declared.step.Out.{Out};
 ghost use Rattle.plant_runs.specs.declared.step.Step.TheVariants as steps;
@@ -25,6 +25,27 @@ pub struct RunStop {
 }
 
 impl PlantCore {
+    /// One step, whose outputs take the place of those that are there. A refused step changes nothing of the core.
+    pub fn step_over(
+        &mut self,
+        alloc: Global,
+        step: Step,
+        outs: &mut Vec<Out>,
+    ) -> Result<(), CoreFault>
+        ensures ok { OnOk result (Steps step (core_view self.old) (core_view self.new) outs.new.items) }
+        ensures reached { OnOk result ((before : List Step) (told : List Out)
+            → Reached (core_view self.old).plant before told (core_view self.old)
+            → Reached (core_view self.old).plant (before ++ step ∷ []) (told
+            ++ outs.new.items) (core_view self.new)) }
+        ensures err { OnErr result (core_view self.new ≡ core_view self.old) }
+        ensures fault { IsTold result (step_fault (core_view self.old) step) }
+    {
+        self.always();
+        outs.clear();
+        self.step_into(alloc, step, outs)?;
+        Ok(())
+    }
+
     /// The steps one after the other, up to the first that is refused, and all that they put out in order. The core then stands
     /// as after the steps before it.
     pub fn run(&mut self, alloc: Global, steps: &[Step]) -> Result<Vec<Out>, RunStop>

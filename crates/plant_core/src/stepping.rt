@@ -17,7 +17,6 @@ use crate::core_fault::CoreFault;
 use crate::held::PlantCore;
 use dsx_messages::Modem;
 use map_assembly::{GatherFault, MapBytes};
-use operator_book::BookFault;
 use operator_machine::{Action, Heard, Output};
 use plant::Op;
 use plant_runs::{Out, Step};
@@ -58,41 +57,6 @@ pub fn core_fault_of(fault: GatherFault) -> CoreFault
 }
 
 impl PlantCore {
-    /// An operator takes an action that is its own.
-    fn act_at(
-        &mut self,
-        alloc: Global,
-        op: Op,
-        action: Action,
-        outs: &mut Vec<Out>,
-    ) -> Result<(), CoreFault>
-        requires within { op < vec_len self.old.desks }
-        requires of_a_step { IsOfAStep self.old.routes op action }
-        ensures ok { OnOk result ((now : List Out) × (outs.new.items ≡ outs.old.items ++ now)
-            × Acts op action (core_view self.old) (core_view self.new) now) }
-        ensures outs { OnErr result (outs.new.items ≡ outs.old.items) }
-        ensures err { OnErr result (core_view self.new ≡ core_view self.old) }
-        ensures fault { IsTold result (act_fault op action (slice_get (map book_at self.old.desks.items) op)) }
-    {
-        self.always();
-        if self.desks[op].book.is_spent(&action) {
-            return Err(CoreFault::Book(BookFault::FramesSpent));
-        }
-        if outs
-            .reserve(self.desks[op].book.most_outputs(&action))
-            .is_err()
-        {
-            return Err(CoreFault::NoMemory);
-        }
-        match self.desks[op].act(alloc, action) {
-            Ok(told) => {
-                append(outs, op, told);
-                Ok(())
-            }
-            Err(_) => Err(CoreFault::NoMemory),
-        }
-    }
-
     /// The operator at this place acts, if there is one.
     pub(crate) fn act_if(
         &mut self,
@@ -108,10 +72,11 @@ impl PlantCore {
         ensures err { OnErr result (core_view self.new ≡ core_view self.old) }
         ensures fault { IsTold result (act_fault op action (slice_get (core_view self.old).books op)) }
     {
+        self.always();
         if op >= self.desks.len() {
             return Err(CoreFault::UnknownOperator { op });
         }
-        self.act_at(alloc, op, action, outs)
+        self.desks[op].act_into(alloc, op, action, outs)
     }
 
     /// The operator that has this modem takes what was heard of it into its inbox.
@@ -134,34 +99,6 @@ impl PlantCore {
         }
     }
 
-    /// The oldest frame that waits of the operator at this place goes into the assembly.
-    fn collect_at(&mut self, alloc: Global, op: Op, outs: &mut Vec<Out>) -> Result<(), CoreFault>
-        requires { op < vec_len self.old.desks }
-        ensures ok { OnOk result ((now : List Out) × (outs.new.items ≡ outs.old.items ++ now)
-            × Collects op (core_view self.old) (core_view self.new) now) }
-        ensures outs { OnErr result (outs.new.items ≡ outs.old.items) }
-        ensures err { OnErr result (core_view self.new ≡ core_view self.old) }
-        ensures fault { IsTold result (collect_fault op (slice_get (core_view self.old).queues op)) }
-    {
-        self.always();
-        let oldest = match self.desks[op].oldest(alloc) {
-            Err(_) => return Err(CoreFault::NoMemory),
-            Ok(None) => return Err(CoreFault::NothingToCollect { op }),
-            Ok(Some(oldest)) => oldest,
-        };
-        if outs.reserve(1).is_err() {
-            return Err(CoreFault::NoMemory);
-        }
-        match self.gather.put(alloc, op, oldest.number, oldest.elements) {
-            Ok(made) => {
-                self.desks[op].collected = oldest.behind;
-                append_map(outs, made);
-                Ok(())
-            }
-            Err(refused) => Err(core_fault_of(refused.fault)),
-        }
-    }
-
     /// The oldest frame that waits of the operator at this place goes into the assembly, if there is one.
     pub(crate) fn collect(
         &mut self,
@@ -175,14 +112,21 @@ impl PlantCore {
         ensures err { OnErr result (core_view self.new ≡ core_view self.old) }
         ensures fault { IsTold result (collect_fault op (slice_get (core_view self.old).queues op)) }
     {
+        self.always();
         if op >= self.desks.len() {
             return Err(CoreFault::UnknownOperator { op });
         }
-        self.collect_at(alloc, op, outs)
+        let gather = &mut self.gather;
+        self.desks[op].collect_into(alloc, op, gather, outs)
     }
 
     /// One step, whose outputs are added.
-    fn step_into(&mut self, alloc: Global, step: Step, outs: &mut Vec<Out>) -> Result<(), CoreFault>
+    pub(crate) fn step_into(
+        &mut self,
+        alloc: Global,
+        step: Step,
+        outs: &mut Vec<Out>,
+    ) -> Result<(), CoreFault>
         ensures ok { OnOk result ((now : List Out) × (outs.new.items ≡ outs.old.items ++ now)
             × Steps step (core_view self.old) (core_view self.new) now) }
         ensures outs { OnErr result (outs.new.items ≡ outs.old.items) }
@@ -196,27 +140,6 @@ impl PlantCore {
             Step::Collect { op } => self.collect(alloc, op, outs),
             Step::Reslice { from, rows } => self.reslice(alloc, from, rows.as_slice()),
         }
-    }
-
-    /// One step, whose outputs take the place of those that are there. A refused step changes nothing of the core.
-    pub fn step_over(
-        &mut self,
-        alloc: Global,
-        step: Step,
-        outs: &mut Vec<Out>,
-    ) -> Result<(), CoreFault>
-        ensures ok { OnOk result (Steps step (core_view self.old) (core_view self.new) outs.new.items) }
-        ensures reached { OnOk result ((before : List Step) (told : List Out)
-            → Reached (core_view self.old).plant before told (core_view self.old)
-            → Reached (core_view self.old).plant (before ++ step ∷ []) (told
-            ++ outs.new.items) (core_view self.new)) }
-        ensures err { OnErr result (core_view self.new ≡ core_view self.old) }
-        ensures fault { IsTold result (step_fault (core_view self.old) step) }
-    {
-        self.always();
-        outs.clear();
-        self.step_into(alloc, step, outs)?;
-        Ok(())
     }
 
     /// One step, and what it puts out. A refused step changes nothing.

@@ -1,9 +1,11 @@
 -- The frame that waits longest, put into the assembly (own).
-use Rattle.std.specs.Prelude.{◌≡◌, ℕ, List, ◌∷◌, Option, None}
+use Rattle.std.specs.Prelude.{◌≡◌, ℕ, List, ◌∷◌, ◌++◌, Option, None}
 use Rattle.slice_scheduler.specs.declared.elements.ElementsFields.{ElementsFields}
 use Rattle.map_assembly.specs.declared.map_bytes.MapBytes.{MapBytes}
 use Rattle.map_assembly.specs.Gathering.{Gathering, put_fault, after_put}
 use Rattle.map_assembly.specs.Assembled.{IsAnswer}
+use Rattle.plant_runs.specs.declared.step.Out.{Out}
+use Rattle.plant_runs.specs.Steps.{told_map}
 
 -- the assembly takes the operator's first of these frames, if there is one
 abbrev pub FitsOldest : ℕ → List (ℕ × ElementsFields) → Gathering → Type 0
@@ -17,3 +19,7 @@ pub record PutsOldest (op : ℕ) (waiting left : List (ℕ × ElementsFields)) (
   pub waiting_is : waiting ≡ (frame, part) ∷ left
   pub made_is : IsAnswer old op frame part made
   pub new_is : new ≡ after_put old op part
+
+-- the same, with the MAP that is made among the outputs
+abbrev pub CollectsOldest : ℕ → List (ℕ × ElementsFields) → List (ℕ × ElementsFields) → Gathering → Gathering → List Out → List Out → Type 0
+CollectsOldest op waiting left old new outs outs' = (made : Option MapBytes) × PutsOldest op waiting left old new made × (outs' ≡ outs ++ told_map made)
