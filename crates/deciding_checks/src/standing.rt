@@ -56,6 +56,42 @@ fn sids_in(alloc: Global, flows: &[(u32, Flow)]) -> Result<Vec<u32>, AllocError>
     Ok(sids)
 }
 
+/// The identifiers that flows use.
+#[derive(Drop)]
+struct UsedIds {
+    sfids: Vec<u32>,
+    sids: Vec<u32>,
+}
+
+/// The identifiers that are used.
+fn used_in(alloc: Global, flows: &[(u32, Flow)]) -> Result<UsedIds, AllocError>
+    ensures sfids { IfOk result (λ used. used.sfids.items ≡ sfids_of flows.now) }
+    ensures sids { IfOk result (λ used. used.sids.items ≡ sids_of flows.now) }
+{
+    let sfids = sfids_in(alloc, flows)?;
+    let sids = sids_in(alloc, flows)?;
+    Ok(UsedIds { sfids, sids })
+}
+
+/// What a book says of its operator.
+#[derive(Drop)]
+struct Copied {
+    consts: Consts,
+    row: OperatorRow,
+    state: StateView,
+}
+
+/// A copy of what a book says of its operator.
+fn copied_from(alloc: Global, book: &Book) -> Result<Copied, AllocError>
+    ensures { IfOk result (λ copied. operator copied.consts copied.row copied.state
+        ≡ operator book.now.kept.book.consts book.now.kept.book.row book.now.kept.book.state) }
+{
+    let consts = book.consts().copy(alloc)?;
+    let row = book.row().copy(alloc)?;
+    let state = book.state_view(alloc)?;
+    Ok(Copied { consts, row, state })
+}
+
 impl Standing {
     /// The operator of a book, as it stands.
     pub fn of_book(alloc: Global, book: &Book) -> Result<Standing, AllocError>
@@ -63,17 +99,14 @@ impl Standing {
             ≡ operator book.now.kept.book.consts book.now.kept.book.row book.now.kept.book.state) }
     {
         book.sound();
-        let consts = book.consts().copy(alloc)?;
-        let row = book.row().copy(alloc)?;
-        let state = book.state_view(alloc)?;
-        let sfids = sfids_in(alloc, state.flows())?;
-        let sids = sids_in(alloc, state.flows())?;
+        let copied = copied_from(alloc, book)?;
+        let used = used_in(alloc, copied.state.flows())?;
         Ok(Standing {
-            consts,
-            row,
-            state,
-            sfids,
-            sids,
+            consts: copied.consts,
+            row: copied.row,
+            state: copied.state,
+            sfids: used.sfids,
+            sids: used.sids,
         })
     }
 

@@ -12,13 +12,12 @@ ghost use Rattle.plant_passes.specs.Words.{marks};
 ghost use Rattle.plant_passes.specs.Passes.{IsOf, first_passes, Acts, Refuses, HasMet, IsLongest};
 ghost use Rattle.plant_passes.specs.ViewOf.{cell_of, pass_of};
 
-use crate::dealing::{deal_out, gather, put_in};
+use crate::dealing::{deal_out, gather, room_for, table_round};
 use crate::pass::{Pass, PassedCell};
 use crate::plays::{Look, Take, Tell};
 use crate::receipt::{CellFault, Receipt};
 use crate::turns;
-use crate::view::{Held, Key};
-use atomic_table::Table;
+use crate::view::Held;
 use dsx_messages::Modem;
 use operator_book::{Action, Book, BookFault, Heard};
 use std::alloc::{AllocError, Global};
@@ -38,27 +37,13 @@ impl PassedCell {
         ensures passes { IfOk result (λ r. map pass_of r.1.items
             ≡ first_passes (cell_of r.0).cell (cell_of r.0).origin (marks 0 (view_of book).history) passes) }
     {
-        let given = Vec::with_capacity(alloc, passes)?;
-        let modems = book.row().get_fields().modems.copy(alloc)?;
-        let start = book.history().len() as u64;
-        if start == u64::MAX {
-            return Err(AllocError);
-        }
-        book.replay();
-        let (kept, ranking) = book.into_parts();
-        let key = Key { kept, passes };
-        let (table, mut giver) = Table::vacant(alloc, &[start, start], 1, &key)?;
-        let Key { kept, passes: _ } = key;
-        let held = Held {
-            kept,
-            rest: ranking,
-        };
-        put_in(&table.shared, &mut giver, held);
-        let given = deal_out(&table.shared, giver, given, passes);
+        let room = room_for(alloc, &book, passes)?;
+        let (table, giver) = table_round(alloc, book, room.start, passes)?;
+        let given = deal_out(&table.shared, giver, room.given, passes);
         let cell = PassedCell {
             table,
             passes,
-            modems,
+            modems: room.modems,
         };
         Ok((cell, given))
     }

@@ -1,20 +1,55 @@
 //! Passes, dealt out by a cell's first seat and taken in again.
 
-ghost use Rattle.std.specs.Prelude.{◌≡◌, ◌<◌, ◌≤◌, true, false, None, [], ◌∷◌, ◌++◌, All, map, vec_capacity};
+ghost use Rattle.std.specs.Prelude.{◌≡◌, ◌<◌, ◌≤◌, true, false, None, [], ◌∷◌, ◌++◌, All, IfOk, map, length, vec_capacity};
 ghost use Rattle.operator_book.specs.ViewOf.{policy_of};
 ghost use Rattle.plant_passes.specs.Runs.{origin_of, IsRun};
-ghost use Rattle.plant_passes.specs.Words.{marks, starter, grabber};
+ghost use Rattle.plant_passes.specs.Words.{marks, opener, starter, grabber};
 ghost use Rattle.plant_passes.specs.Passes.{told_by, first_passes};
 ghost use Rattle.plant_passes.specs.Turns.{Follows, IsSame, Gathers};
 
 use crate::pass::Pass;
-use crate::plays::{Deal, Grab, Start, Take};
-use crate::turns::{Desk, Place};
-use crate::view::Held;
+use crate::plays::{Deal, Grab, Law, Start, Take};
+use crate::turns::{Desk, Place, Slot};
+use crate::view::{Held, Key, View};
+use atomic_table::Table;
 use grant_policy::Ranking;
+use operator_book::Book;
+use plant::Modems;
+use std::alloc::{AllocError, Global};
+
+/// What a cell is opened with, beside its book.
+#[derive(Drop)]
+pub(crate) struct Room {
+    /// Room for the passes.
+    pub given: Vec<Pass>,
+    /// The modems of the book's row.
+    pub modems: Modems,
+    /// How many entries the book has.
+    pub start: u64,
+}
+
+/// Room for so many passes of a cell round a book.
+pub(crate) fn room_for(alloc: Global, book: &Book, passes: usize) -> Result<Room, AllocError>
+    ensures given { IfOk result (λ room. (room.given.items ≡ []) × (passes ≤ vec_capacity room.given)) }
+    ensures modems { IfOk result (λ room. room.modems ≡ book.now.kept.book.row.modems) }
+    ensures start { IfOk result (λ room. room.start ≡ length book.now.kept.book.history) }
+    ensures below { IfOk result (λ room. room.start < u64.MAX) }
+{
+    let given = Vec::with_capacity(alloc, passes)?;
+    let modems = book.row().get_fields().modems.copy(alloc)?;
+    let start = book.history().len() as u64;
+    if start == u64::MAX {
+        return Err(AllocError);
+    }
+    Ok(Room {
+        given,
+        modems,
+        start,
+    })
+}
 
 /// Puts the book in, with the first seat.
-pub(crate) fn put_in(desk: &Desk, giver: &mut Place, held: Held<Ranking>)
+fn put_in(desk: &Desk, giver: &mut Place, held: Held<Ranking>)
     requires own { (giver.old.table_id ≡ desk.now.table_id) × (desk.now.table_id.words ≡ 2)
         × (desk.now.table_id.slots ≡ 1) }
     requires first { (giver.old.me.0.opens ≡ true) × (giver.old.me.0.rest ≡ None) × (giver.old.me.0.holds ≡ false)
@@ -27,8 +62,36 @@ pub(crate) fn put_in(desk: &Desk, giver: &mut Place, held: Held<Ranking>)
         ≡ (starter (grabber giver.old.me.0) (marks 0 held.kept.book.history) held.rest, []) }
 {
     desk.load::<Grab>(giver, 0);
-    desk.exchange(giver, 0, Some(held));
+    drop(desk.exchange(giver, 0, Some(held)));
     desk.load::<Start>(giver, 0);
+}
+
+/// The table of a cell with the book put in, and its first seat.
+pub(crate) fn table_round(
+    alloc: Global,
+    book: Book,
+    start: u64,
+    passes: usize,
+) -> Result<(Table<Slot, View<Ranking>, Key, Law, Global>, Place), AllocError>
+    requires start { (start ≡ length book.kept.book.history) × (start < u64.MAX) }
+    requires some { 0 < passes }
+    ensures sizes { IfOk result (λ r. (r.0.shared.table_id.words ≡ 2) × (r.0.shared.table_id.slots ≡ 1)) }
+    ensures key { IfOk result (λ r. (r.0.shared.key.kept ≡ book.kept) × (r.0.shared.key.passes ≡ passes)) }
+    ensures own { IfOk result (λ r. r.1.table_id ≡ r.0.shared.table_id) }
+    ensures first { IfOk result (λ r. r.1.me.0 ≡ starter (grabber (opener (origin_of book.kept.book) passes))
+        (marks 0 book.kept.book.history) book.ranking) }
+    ensures follows { IfOk result (λ r. Follows policy_of r.1.me.0) }
+{
+    book.replay();
+    let (kept, rest) = book.into_parts();
+    let key = Key { kept, passes };
+    let (table, mut giver) = Table::vacant(alloc, &[start, start], 1, &key)?;
+    let held = Held {
+        kept: key.kept,
+        rest,
+    };
+    put_in(&table.shared, &mut giver, held);
+    Ok((table, giver))
 }
 
 /// Gives passes, until there are as many as are wanted.

@@ -96,9 +96,7 @@ fn put_back(desk: &Desk, seat: &mut Place, held: Held<Ranking>)
     ensures same { IsSame seat.old seat.new }
     ensures hand { seat.new.me ≡ (seat.old.me.0, (0, Some held) ∷ []) }
 {
-    let None = desk.exchange(seat, 0, Some(held)) else {
-        unreachable!()
-    };
+    drop(desk.exchange(seat, 0, Some(held)));
 }
 
 /// Does an action on the book that is in hand.
