@@ -1,5 +1,5 @@
 -- A core refuses the same steps without its histories.
-use Rattle.std.proofs.Common.{◌≡◌, ℕ, ◌+◌, ◌==◌, Bool, true, false, List, [], ◌∷◌, length, map, Option, Some, None, if◌then◌else◌, option_map, refl, sym, ap, ap₂, subst, ◌∙◌}
+use Rattle.std.proofs.Common.{◌≡◌, ℕ, ◌+◌, ◌==◌, List, [], ◌∷◌, length, map, Option, Some, None, if◌then◌else◌, option_map, refl, sym, ap, ap₂, ◌∙◌}
 use Rattle.std.specs.Prelude.{slice_get}
 use Rattle.std.proofs.lemmas.List.{length-map}
 use Rattle.std.proofs.lemmas.Option.{slice_get-map}
@@ -16,7 +16,6 @@ use Rattle.slice_scheduler.specs.declared.elements.ElementsFields.{ElementsField
 use Rattle.plant_runs.specs.declared.step.Step.{Step}
 use Rattle.plant_runs.specs.declared.step.Step.TheVariants as steps
 use Rattle.plant_runs.specs.Reached.{CoreView}
-use Rattle.plant_core.specs.declared.core_fault.CoreFault.{CoreFault}
 use Rattle.plant_core.specs.declared.core_fault.CoreFault.TheVariants.{Reslice}
 use Rattle.plant_core.specs.declared.core_fault.ResliceFault.{ResliceFault}
 use Rattle.plant_core.specs.declared.core_fault.ResliceFault.TheVariants as found

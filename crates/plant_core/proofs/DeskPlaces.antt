@@ -1,5 +1,5 @@
 -- The desks of a core, of which one acts and one is added, whatever a desk is.
-use Rattle.std.proofs.Common.{◌≡◌, ℕ, ◌+◌, ◌<◌, List, [], ◌∷◌, ◌++◌, map, length, take, get_or, slice_set, Some, Result, Ok, Err, OnOk, OnErr, refl, ap, ◌∙◌, arith}
+use Rattle.std.proofs.Common.{◌≡◌, ℕ, ◌+◌, ◌<◌, List, [], ◌∷◌, ◌++◌, map, length, take, get_or, slice_set, Some, Result, Ok, Err, OnOk, OnErr, refl, ap, arith}
 use Rattle.std.specs.Prelude.{slice_get, replicate}
 use Rattle.std.proofs.lemmas.Result.{on_ok_weaker, on_err_weaker}
 use Rattle.slice_scheduler.specs.declared.elements.ElementsFields.{ElementsFields}

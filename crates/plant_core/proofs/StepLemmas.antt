@@ -1,6 +1,6 @@
 -- What one step makes of a core.
-use Rattle.std.proofs.Common.{◌≡◌, ◌≢◌, ◌↔◌, ℕ, ◌<◌, ◌≤◌, map, Bool, true, false, List, [], ◌∷◌, ◌++◌, length, slice_set, Result, Ok, Err, Option, Some, None, IsSome, OnOk, OnErr, nat_lt, nat_le, refl, sym, ap, ap₂, subst, ◌∙◌, arith}
-use Rattle.std.specs.Prelude.{slice_get, if◌then◌else◌}
+use Rattle.std.proofs.Common.{◌≡◌, ◌≢◌, ◌↔◌, ℕ, ◌<◌, ◌≤◌, map, List, ◌∷◌, ◌++◌, length, slice_set, Result, Ok, Err, Option, Some, None, OnOk, OnErr, refl, sym, ap, ap₂, subst, ◌∙◌, arith}
+use Rattle.std.specs.Prelude.{slice_get}
 use Rattle.std.proofs.lemmas.List.{length-map}
 use Rattle.std.proofs.lemmas.Option.{slice_get_past}
 use Rattle.dsx_messages.specs.declared.modem.Modem.{Modem}
@@ -10,10 +10,9 @@ use Rattle.plant.specs.Roster.{holder}
 use Rattle.operator_machine.specs.declared.heard.Heard.{Heard}
 use Rattle.operator_machine.specs.declared.action.Action.{Action}
 use Rattle.operator_machine.specs.State.{operator}
-use Rattle.operator_machine.specs.Machine.{own_step, is_spent, IsAllowed}
+use Rattle.operator_machine.specs.Machine.{own_step, IsAllowed}
 use Rattle.operator_machine.specs.Replay.{BookView, acted}
-use Rattle.operator_book.specs.declared.book.BookFault.TheVariants.{FramesSpent}
-use Rattle.map_assembly.specs.Gathering.{Gathering, put_fault, next_of, is_part, after_put}
+use Rattle.map_assembly.specs.Gathering.{Gathering, put_fault, after_put}
 use Rattle.map_assembly.specs.Assembled.{IsAnswer}
 use Rattle.map_assembly.specs.declared.map_bytes.MapBytes.{MapBytes}
 use Rattle.map_assembly.specs.declared.refused.Refused.{Refused}
@@ -26,7 +25,7 @@ use Rattle.plant_runs.specs.OwnSteps.{under}
 use Rattle.plant_runs.specs.Reached.{CoreView, frames_of}
 use Rattle.plant_runs.specs.Steps.{Acts, Collects, told_map}
 use Rattle.plant_core.specs.declared.core_fault.CoreFault.{CoreFault}
-use Rattle.plant_core.specs.declared.core_fault.CoreFault.TheVariants.{Book, NothingToCollect, UnknownOperator}
+use Rattle.plant_core.specs.declared.core_fault.CoreFault.TheVariants.{UnknownOperator}
 use Rattle.plant_core.specs.Putting.{FitsOldest, CollectsOldest}
 use Rattle.plant_core.specs.Faults.{act_fault, collect_fault, step_fault, IsTold, core_fault_of}
 use Rattle.plant_runs.proofs.Entries.{some_at}
@@ -91,19 +90,6 @@ one_lists f core modem heard desks n op there long within are =
     rw (← there, book.1) refl
 
 -- ---- collecting
-
-pub none_waits : (op : ℕ) (queues : List (List (ℕ × ElementsFields))) (waiting : List (ℕ × ElementsFields)) → slice_get queues op ≡ Some waiting → waiting ≡ []
-    → collect_fault op (slice_get queues op) ≡ Some (NothingToCollect op)
-none_waits op queues waiting there none = rw (there, none) refl
-
-pub one_waits : (op : ℕ) (queues : List (List (ℕ × ElementsFields))) (waiting : List (ℕ × ElementsFields)) → slice_get queues op ≡ Some waiting → IsSome (slice_get waiting 0)
-    → collect_fault op (slice_get queues op) ≡ None
-one_waits op queues [] there some = cc
-one_waits op queues (frame ∷ waiting) there some = rw there refl
-
-pub front_waits : (op : ℕ) (queues : List (List (ℕ × ElementsFields))) (waiting rest : List (ℕ × ElementsFields)) (frame : ℕ × ElementsFields)
-    → slice_get queues op ≡ Some waiting → waiting ≡ frame ∷ rest → collect_fault op (slice_get queues op) ≡ None
-front_waits op queues waiting rest frame there front = rw (there, front) refl
 
 pub waits_in_front : (op : ℕ) (waiting rest : List (ℕ × ElementsFields)) (frame : ℕ × ElementsFields) → waiting ≡ frame ∷ rest → collect_fault op (Some waiting) ≡ None
 waits_in_front op waiting rest frame front = rw front refl

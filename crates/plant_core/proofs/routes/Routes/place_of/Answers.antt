@@ -2,7 +2,7 @@ use Rattle.std.proofs.Common.{sym, ◌∙◌, ap}
 use Rattle.plant.specs.declared.plant.PlantFields.{PlantFields}
 use Rattle.plant.specs.Row.{same_modem}
 use Rattle.plant.specs.Roster.{holder}
-use Rattle.plant_core.proofs.CachedLemmas.{promoted_right, lookup_right, after_put_right}
+use Rattle.plant_core.proofs.CachedLemmas.{promoted_right, lookup_right}
 use Rattle.plant_core.proofs.routes.Routes.place_of.Goals as goal
 
 pub invariant_of-self : goal.invariant_of-self
