@@ -16,7 +16,7 @@ use Rattle.plant_capture.specs.Capture.{Captured, opened_capture, IsOfRun, IsCap
 use Rattle.plant_capture.proofs.RunLemmas.{opened_run}
 use Rattle.plant_script.specs.declared.answer.Answer.{Answer}
 use Rattle.plant_script.specs.Run.{IsEnd, IsCapturedRunOf}
-use Rattle.plant_script.specs.DoneSoFar.{IsRefused, AreCaptured, HasCaptured, IsStatusOf}
+use Rattle.plant_script.specs.Done.{IsRefused, AreCaptured, HasCaptured, IsStatusOf}
 
 -- nothing is done, and nothing captured
 pub none_captured : (plant : PlantFields) (core : CoreView) (captured : Captured) → Reached plant [] [] core → captured ≡ opened_capture plant.consts

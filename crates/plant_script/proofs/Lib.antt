@@ -1,5 +1,7 @@
 pub mod CaptureRuns
+pub mod HalfDone
 pub mod LiveRuns
+pub mod RunSoFar
 pub mod Services
 pub mod StepRuns
 pub mod Tasks

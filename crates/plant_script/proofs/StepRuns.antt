@@ -17,7 +17,8 @@ use Rattle.plant_service.proofs.LeftLemmas.{first_left, none_left, take_next, dr
 use Rattle.plant_script.specs.declared.answer.Answer.{Answer}
 use Rattle.plant_script.specs.Run.{last_line, IsEnd, IsRunOf}
 use Rattle.plant_script.specs.Task.{history_at, IsEnded}
-use Rattle.plant_script.specs.DoneSoFar.{IsRefused, HasRun, IsHalfDone, book_text}
+use Rattle.plant_script.specs.Done.{IsRefused, HasRun, book_text}
+use Rattle.plant_script.proofs.HalfDone.{IsHalfDone}
 
 -- ---- what stands at a place of a list
 

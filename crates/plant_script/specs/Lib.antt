@@ -1,11 +1,10 @@
 pub mod Check
-pub mod DoneSoFar
+pub mod Done
 pub mod Ends
 pub mod OnThreads
 pub mod One
 pub mod OperatorA
 pub mod Run
-pub mod RunSoFar
 pub mod Serving
 pub mod Task
 pub mod Traced

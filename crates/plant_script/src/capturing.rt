@@ -7,7 +7,7 @@ ghost use Rattle.plant_runs.specs.declared.step.Out.{Out};
 ghost use Rattle.plant_runs.specs.Reached.{Reached};
 ghost use Rattle.plant_core.specs.CoreView.{core_view};
 ghost use Rattle.plant_capture.specs.Capture.{opened_capture, IsOfRun};
-ghost use Rattle.plant_script.specs.DoneSoFar.{HasCaptured, IsStatusOf};
+ghost use Rattle.plant_script.specs.Done.{HasCaptured, IsStatusOf};
 ghost use Rattle.plant_script.specs.Run.{IsCapturedRunOf};
 
 use crate::answer::Answer;

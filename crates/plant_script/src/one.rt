@@ -5,6 +5,8 @@ ghost use Rattle.operator_machine.specs.State.{operator};
 ghost use Rattle.operator_machine.specs.Machine.{own_step, own_run, IsAllowed};
 ghost use Rattle.plant_script.specs.OperatorA.{row_a, consts_a};
 ghost use Rattle.plant_script.specs.One.{actions_of, outputs_of, line_of, text_of};
+ghost use Rattle.grant_policy.specs.declared.policy.Policy.TheVariants.{Strict};
+ghost use Rattle.operator_book.specs.OfBook.{opened_book};
 ghost use Rattle.operator_book.specs.ViewOf.{view_of};
 ghost use Rattle.plant_script.specs.View.{IsOfA};
 
@@ -92,6 +94,19 @@ fn put_message(
     put_action(alloc, book, text, Action::Work)
 }
 
+/// Operator A's book with nothing done.
+fn book_of(alloc: Global, ranking: Ranking) -> Result<Book, AllocError>
+    requires { ranking.policy ≡ Strict }
+    ensures { IfOk result (λ book. view_of book ≡ opened_book row_a consts_a) }
+{
+    let row = row_a(alloc)?;
+    match Book::open(alloc, &row, &consts_a(alloc), ranking) {
+        Ok(book) => Ok(book),
+        Err(OpenFault::NoMemory) => Err(AllocError),
+        Err(OpenFault::PolicyMismatch) => unreachable!(),
+    }
+}
+
 /// The text of all outputs that messages of the first modem get of operator A's book.
 pub fn text_of(alloc: Global, messages: &[Bytes]) -> Result<Vec<u8>, AllocError>
     ensures { IfOk result (λ text. text.items ≡ text_of (outputs_of messages.now)) }
@@ -102,12 +117,7 @@ pub fn text_of(alloc: Global, messages: &[Bytes]) -> Result<Vec<u8>, AllocError>
             rank_by(Policy::Strict, &input)
         })?,
     );
-    let row = row_a(alloc)?;
-    let mut book = match Book::open(alloc, &row, &consts_a(alloc), ranking) {
-        Ok(book) => book,
-        Err(OpenFault::NoMemory) => return Err(AllocError),
-        Err(OpenFault::PolicyMismatch) => unreachable!(),
-    };
+    let mut book = book_of(alloc, ranking)?;
     let mut text = Vec::new(alloc);
     for message in messages {
         put_message(alloc, &mut book, &mut text, message)?;

@@ -16,10 +16,9 @@ use crate::check::check_of;
 use crate::ending::Ending;
 use crate::input::{Stop, read_input};
 use crate::one::text_of;
-use crate::running::write_task;
+use crate::running::write_ranked;
 use crate::serving::serve_words;
 use crate::task::{Served, Wanted, task_of};
-use grant_policy::{RankInput, Ranking, rank_by};
 use plant_lines::{LineFault, before_bar, messages_of, parts_of, script_text};
 use plant_reasons::{Trouble, reason_of, reason_of_trouble, reason_of_words};
 use plant_words::{Word, WordsFault, read_words};
@@ -261,20 +260,7 @@ fn answer_of_words<'a, H: Threads + Wait + Sync, R: Read, W: Write>(
         }
         Err(stop) => return stopped(writer, stop),
     };
-    let mut rankings = Vec::new(alloc);
-    for row in task.plant.rows() {
-        let policy = row.get_fields().policy;
-        let Ok(rank) = Box::new(alloc, move |input: RankInput| -> u8 {
-            rank_by(policy, &input)
-        }) else {
-            return stopped(writer, Stop::Memory);
-        };
-        let ranking = Ranking::new(row.get_fields().policy, rank);
-        if rankings.push(ranking).is_err() {
-            return stopped(writer, Stop::Memory);
-        }
-    }
-    write_task(rt, alloc, task, script_of(seen), rankings, ending, writer)
+    write_ranked(rt, alloc, task, script_of(seen), ending, writer)
 }
 
 /// Runs the program: the words after its name, its input and its output. Answers the exit status:

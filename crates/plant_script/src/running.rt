@@ -8,7 +8,7 @@ ghost use Rattle.plant_runs.specs.Reached.{Reached};
 ghost use Rattle.plant_core.specs.CoreView.{core_view};
 ghost use Rattle.live_core.specs.After.{IsAfter, IsReachable};
 ghost use Rattle.live_core.specs.LiveView.{live_view};
-ghost use Rattle.plant_script.specs.DoneSoFar.{HasRun, book_text};
+ghost use Rattle.plant_script.specs.Done.{HasRun, book_text};
 ghost use Rattle.plant_script.specs.Run.{IsRunOf};
 ghost use Rattle.plant_script.specs.Task.{history_at, RunsTo, IsTold, EndsRun, IsEnded};
 ghost use Rattle.plant_script.specs.declared.task.Told.TheVariants as tellings;
@@ -21,7 +21,7 @@ use crate::on_threads::answer_of_threads;
 use crate::program::{finish, stopped};
 use crate::task::{Task, Told};
 use crate::tracing::write_traced_run;
-use grant_policy::Ranking;
+use grant_policy::{RankInput, Ranking, rank_by};
 use live_core::LiveCore;
 use plant::{Op, Plant};
 use plant_core::{CoreOpenFault, PlantCore};
@@ -110,6 +110,22 @@ pub(crate) fn core_of(
     }
 }
 
+/// A core without histories of the plant, as it is opened. The rankings stand in the plant's order of operators.
+pub(crate) fn live_core_of(
+    alloc: Global,
+    plant: Plant,
+    rankings: Vec<Ranking>,
+) -> Result<LiveCore, AllocError>
+    requires { map (λ ranking. ranking.policy) rankings.items ≡ map (λ row. row.policy) plant.rows }
+    ensures { IfOk result (λ core. IsAfter plant [] [] (live_view core)) }
+{
+    match LiveCore::open(alloc, plant, rankings) {
+        Ok(core) => Ok(core),
+        Err(CoreOpenFault::NoMemory) => Err(AllocError),
+        Err(CoreOpenFault::RankingsMismatch) => unreachable!(),
+    }
+}
+
 /// What the run of a task answers that is not written as it goes. The rankings stand in the plant's order of operators. Only a run on
 /// threads may wait.
 fn answer_of_task<R: Threads + Wait + Sync>(
@@ -180,10 +196,8 @@ fn write_outs_run<W: Write>(
         lines,
         told: _,
     } = task;
-    let mut core = match LiveCore::open(alloc, plant, rankings) {
-        Ok(core) => core,
-        Err(CoreOpenFault::NoMemory) => return stopped(writer, Stop::Memory),
-        Err(CoreOpenFault::RankingsMismatch) => unreachable!(),
+    let Ok(mut core) = live_core_of(alloc, plant, rankings) else {
+        return stopped(writer, Stop::Memory);
     };
     match write_run(alloc, &mut core, lines, writer) {
         Ok(status) => {
@@ -196,7 +210,7 @@ fn write_outs_run<W: Write>(
 
 /// Runs a task, and writes what that comes to. The rankings stand in the plant's order of operators; of the script, whose steps the task
 /// has, `trace` shows the lines. Only a run on threads may wait. Answers the exit status.
-pub fn write_task<R: Threads + Wait + Sync, W: Write>(
+fn write_task<R: Threads + Wait + Sync, W: Write>(
     rt: &R,
     alloc: Global,
     task: Task,
@@ -219,4 +233,33 @@ pub fn write_task<R: Threads + Wait + Sync, W: Write>(
         Ok(answer) => finish(writer, answer.status, answer.text.as_slice()),
         Err(_full) => stopped(writer, Stop::Memory),
     }
+}
+
+/// Runs a task, each operator ranked by the policy of its row, and writes what that comes to; of the script, whose steps the task has,
+/// `trace` shows the lines. Only a run on threads may wait. Answers the exit status.
+pub fn write_ranked<R: Threads + Wait + Sync, W: Write>(
+    rt: &R,
+    alloc: Global,
+    task: Task,
+    script: &[u8],
+    ending: Ending,
+    writer: &mut W,
+) -> u8
+    ensures { result ≢ 6 → IsTold task.plant task.told task.lines.items result
+        (λ text. Appends (W.contents writer.old) (W.contents writer.new) text) }
+{
+    let mut rankings = Vec::new(alloc);
+    for row in task.plant.rows() {
+        let policy = row.get_fields().policy;
+        let Ok(rank) = Box::new(alloc, move |input: RankInput| -> u8 {
+            rank_by(policy, &input)
+        }) else {
+            return stopped(writer, Stop::Memory);
+        };
+        let ranking = Ranking::new(row.get_fields().policy, rank);
+        if rankings.push(ranking).is_err() {
+            return stopped(writer, Stop::Memory);
+        }
+    }
+    write_task(rt, alloc, task, script, rankings, ending, writer)
 }

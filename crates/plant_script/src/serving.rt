@@ -10,10 +10,9 @@ use crate::answer::Answer;
 use crate::check::answer_to_fault;
 use crate::input::Stop;
 use crate::program::{finish, stopped};
+use crate::running::live_core_of;
 use grant_policy::{RankInput, Ranking, rank_by};
-use live_core::LiveCore;
 use plant::Plant;
-use plant_core::CoreOpenFault;
 use plant_service::{HeldLine, read_plant_text, serve};
 use slice_table::{PlantFault, read_plant};
 use std::alloc::Global;
@@ -83,10 +82,8 @@ fn serve_ranked<R: Read, W: Write>(
     let Ok(held) = HeldLine::new(alloc) else {
         return stopped(writer, Stop::Memory);
     };
-    let mut core = match LiveCore::open(alloc, plant, rankings) {
-        Ok(core) => core,
-        Err(CoreOpenFault::NoMemory) => return stopped(writer, Stop::Memory),
-        Err(CoreOpenFault::RankingsMismatch) => unreachable!(),
+    let Ok(mut core) = live_core_of(alloc, plant, rankings) else {
+        return stopped(writer, Stop::Memory);
     };
     match serve(alloc, &mut core, held, reader, writer) {
         Ok(()) => 0,

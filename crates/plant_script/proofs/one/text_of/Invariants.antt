@@ -1,4 +1,4 @@
-use Rattle.plant_script.specs.RunSoFar.{IsRunSoFar}
+use Rattle.plant_script.proofs.RunSoFar.{IsRunSoFar}
 use Rattle.operator_book.specs.ViewOf.{view_of}
 use Rattle.plant_script.proofs.one.text_of.Given as goal
 

@@ -4,7 +4,7 @@ use Rattle.std.specs.String.{string_bytes}
 use Rattle.plant_core.specs.CoreView.{core_view}
 use Rattle.plant_lines.proofs.Outcomes.{if_ok}
 use Rattle.plant_script.specs.Task.{IsEnded}
-use Rattle.plant_script.specs.DoneSoFar.{book_text}
+use Rattle.plant_script.specs.Done.{book_text}
 use Rattle.plant_script.proofs.StepRuns.{history_written}
 use Rattle.plant_script.proofs.running.answer_of_history.Goals as goal
 

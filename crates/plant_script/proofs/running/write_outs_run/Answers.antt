@@ -12,7 +12,7 @@ returns-in-Ok-write_run g c well =
     let new = g.W.Write.contents c.write_run.new.writer in
     let status = c.in-Ok-write_run.status in
     subst (λ (t : Told). IsTold task.plant t task.lines.items status (λ text. Appends old new text)) (sym c.requires.outs)
-    (run_told task.plant task.lines.items status old new (c.in-Ok-write_run.ensures task.plant c.in-Ok.ensures.reached))
+    (run_told task.plant task.lines.items status old new (c.in-Ok-write_run.ensures task.plant c.in-Ok.ensures))
 
-pub returns-in-Err-NoMemory : goal.returns-in-Err-NoMemory
-returns-in-Err-NoMemory g c well = let told = c.stopped.ensures.memory refl well in inr ([], told.0, told.1, inl refl)
+pub returns-in_default : goal.returns-in_default
+returns-in_default g c well = let told = c.stopped.ensures.memory refl well in inr ([], told.0, told.1, inl refl)

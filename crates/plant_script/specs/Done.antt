@@ -1,5 +1,5 @@
 -- What was done of a script.
-use Rattle.std.specs.Prelude.{◌≡◌, ℕ, List, [], take, drop, slice_get, Option, Some, None, IsSome}
+use Rattle.std.specs.Prelude.{◌≡◌, ℕ, List, [], take, slice_get, Option, Some, None, IsSome}
 use Rattle.plant.specs.declared.plant.PlantFields.{PlantFields}
 use Rattle.operator_machine.specs.Replay.{BookView, actions_of}
 use Rattle.plant_runs.specs.declared.step.Out.{Out}
@@ -31,12 +31,6 @@ pub record HasRun (plant : PlantFields) (lines : List LineStep) (say : List Out 
 abbrev pub book_text : Option BookView → List ℕ
 book_text None = []
 book_text (Some book) = actions_text (actions_of book.history)
-
--- some of the lines' steps are done, and these lines are left
-pub record IsHalfDone (plant : PlantFields) (lines : List LineStep) (say : List Out → List ℕ) (core : CoreView) (text : List ℕ) (left : List LineStep) : Type 0 where
-  pub at : ℕ
-  pub done : AreDone plant (take at lines) say core text
-  pub left_are : drop at lines ≡ left
 
 -- ---- a capture
 

@@ -1,5 +1,5 @@
 use Rattle.std.proofs.Common.{◌≡◌, map, take}
-use Rattle.plant_script.proofs.program.answer_of_words.Given as goal
+use Rattle.plant_script.proofs.running.write_ranked.Given as goal
 
 abbrev pub invariant-loop-row : goal.invariant-loop-row
 invariant-loop-row g l = record {
