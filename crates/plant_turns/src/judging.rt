@@ -7,7 +7,7 @@ ghost use Rattle.plant_core.specs.Reslicing.{least_unfit, row_fault, reslice_fau
 use crate::held::Held;
 use operator_machine::{SliceRow, Unfit};
 use plant::Op;
-use plant_core::{ResliceFault, is_refused, least_meeting};
+use plant_core::{ResliceFault, Unfits, first_fault, is_refused};
 
 /// The least operator whose book refuses its row with this fault.
 fn least_unfit(helds: &[Held], from: u32, rows: &[SliceRow], unfit: Unfit) -> Option<Op>
@@ -27,27 +27,18 @@ fn row_fault(helds: &[Held], from: u32, rows: &[SliceRow]) -> Option<ResliceFaul
     requires { length rows.now ≡ length helds.now }
     ensures { result ≡ row_fault from (map book_of helds.now) rows.now }
 {
-    if let Some(op) = least_unfit(helds, from, rows, Unfit::NotPast) {
-        return Some(ResliceFault::NotPast { op });
-    }
-    if let Some(op) = least_unfit(helds, from, rows, Unfit::Unfinished) {
-        return Some(ResliceFault::Unfinished { op });
-    }
-    if let Some(op) = least_unfit(helds, from, rows, Unfit::OffFrame) {
-        return Some(ResliceFault::OffFrame { op });
-    }
-    if let Some((a, b)) = least_meeting(rows) {
-        return Some(ResliceFault::SlicesMeet { a, b });
-    }
-    if let Some(op) = least_unfit(helds, from, rows, Unfit::BudgetOverSlice) {
-        return Some(ResliceFault::BudgetOverSlice { op });
-    }
-    let op = least_unfit(helds, from, rows, Unfit::OverBudget)?;
-    Some(ResliceFault::Unfit { op })
+    let least = Unfits {
+        not_past: least_unfit(helds, from, rows, Unfit::NotPast),
+        unfinished: least_unfit(helds, from, rows, Unfit::Unfinished),
+        off_frame: least_unfit(helds, from, rows, Unfit::OffFrame),
+        budget_over_slice: least_unfit(helds, from, rows, Unfit::BudgetOverSlice),
+        over_budget: least_unfit(helds, from, rows, Unfit::OverBudget),
+    };
+    first_fault(least, rows)
 }
 
-/// The first fault of other slices from a frame on.
-fn first_fault(helds: &[Held], from: u32, rows: &[SliceRow]) -> Option<ResliceFault>
+/// The first fault of other slices from a frame on: there has to be one row for each operator.
+fn counted_fault(helds: &[Held], from: u32, rows: &[SliceRow]) -> Option<ResliceFault>
     ensures { result ≡ reslice_fault from (map book_of helds.now) rows.now }
 {
     if rows.len() != helds.len() {
@@ -61,5 +52,5 @@ fn first_fault(helds: &[Held], from: u32, rows: &[SliceRow]) -> Option<ResliceFa
 pub(crate) fn reslice_fault(helds: &Vec<Held>, from: u32, rows: &[SliceRow]) -> Option<ResliceFault>
     ensures { result ≡ reslice_fault from (map book_of helds.now.items) rows.now }
 {
-    first_fault(helds.as_slice(), from, rows)
+    counted_fault(helds.as_slice(), from, rows)
 }
