@@ -179,6 +179,7 @@ fn with_flows(kind: Kind, tid: u16, flows: Flows) -> Request
 }
 
 /// What the body of a request with flow encodings says: of an addition or a change.
+#[inline(always)]
 fn flows_request_of(alloc: Global, kind: Kind, body: &[u8]) -> Result<Message, MessageFault>
     requires { kind ≢ Dsd }
     ensures exact { Gives (λ message. message) result (flows_request_of kind body.now) }

@@ -15,12 +15,12 @@ use crate::subtype;
 use std::alloc::{AllocError, Global};
 
 /// Appends one TLV.
+#[inline(always)]
 fn put_tlv(out: &mut Vec<u8>, subtype: u8, value: &[u8]) -> Result<(), AllocError>
     requires { length value.now < 256 }
     ensures { OnOk result (out.new.items ≡ out.old.items ++ spelled_one (tlv subtype value.now)) }
 {
-    out.push(subtype)?;
-    out.push(value.len() as u8)?;
+    out.extend_from_slice(&[subtype, value.len() as u8])?;
     out.extend_from_slice(value)
 }
 
@@ -35,6 +35,7 @@ fn put_byte(out: &mut Vec<u8>, subtype: u8, value: Option<u8>) -> Result<(), All
 }
 
 /// Appends a field of two bytes, where it stands.
+#[inline(always)]
 pub fn put_word(out: &mut Vec<u8>, subtype: u8, value: Option<u16>) -> Result<(), AllocError>
     ensures bytes { OnOk result (out.new.items ≡ out.old.items
         ++ spelled (under subtype (option_map (to_be_bytes w16) value))) }
@@ -47,6 +48,7 @@ pub fn put_word(out: &mut Vec<u8>, subtype: u8, value: Option<u16>) -> Result<()
 }
 
 /// Appends a field of four bytes, where it stands.
+#[inline(always)]
 pub fn put_long(out: &mut Vec<u8>, subtype: u8, value: Option<u32>) -> Result<(), AllocError>
     ensures bytes { OnOk result (out.new.items ≡ out.old.items
         ++ spelled (under subtype (option_map (to_be_bytes w32) value))) }
