@@ -238,7 +238,7 @@ none_opened frame (e ∷ entries) q pending = by (none_opened frame entries q) (
 opened_held : (consts : ConstsFields) (row : RowFields) → Held (opened consts row)
 opened_held consts row = record {
   own = λ i j d lt within. absurd (omega arith);
-  waits = λ q pending. absurd (none_opened consts.first_frame (opened_flows consts row) q pending);
+  waits = λ q pending. absurd (none_opened consts.channel.first_frame (opened_flows consts row) q pending);
 }
 
 pub opened_awaited : (consts : ConstsFields) (row : RowFields) → AreAwaited (opened consts row)

@@ -117,7 +117,7 @@ IsName document operator d =
 abbrev pub IsSlice : Members → Data → Type 0
 IsSlice document d =
     (consts : ConstsFields) × (start : ℕ) × (length : ℕ) × SaysConsts document consts × (d ≡ two start length)
-    × (consts.head ≤ start) × (1 ≤ length) × (start + length ≤ consts.frame_minislots)
+    × (consts.channel.head ≤ start) × (1 ≤ length) × (start + length ≤ consts.channel.frame_minislots)
 
 -- the name of a policy
 abbrev pub IsPolicy : Data → Type 0

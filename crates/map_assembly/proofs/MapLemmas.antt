@@ -14,7 +14,7 @@ use Rattle.slice_scheduler.specs.declared.span.Span.{Span}
 use Rattle.slice_scheduler.specs.declared.elements.ElementsFields.{ElementsFields}
 use Rattle.plant.specs.Plant.{ranges_overlap}
 use Rattle.map_assembly.specs.declared.element.MapElement.{MapElement}
-use Rattle.map_assembly.specs.declared.layout.MapLayout.{MapLayout}
+use Rattle.plant.specs.declared.consts.Channel.{Channel}
 use Rattle.map_assembly.specs.declared.share.Share.{Share}
 use Rattle.map_assembly.specs.declared.view.MapHeader.{MapHeader}
 use Rattle.map_assembly.specs.declared.view.MapSpan.{MapSpan}
@@ -127,7 +127,7 @@ small-pending : (parts : List ElementsFields) → AllByRecursion IsSmall parts �
 small-pending [] h = tt
 small-pending (p ∷ parts) h = all-append (λ (n : ℕ). n < 2 ^ 14) p.pending (map_pending parts) h.0.pending (small-pending parts h.1)
 
-spelled_map_spans : (layout : MapLayout) (parts : List ElementsFields) → AllByRecursion IsSmall parts → AllByRecursion IsSpelled (map_spans layout parts)
+spelled_map_spans : (layout : Channel) (parts : List ElementsFields) → AllByRecursion IsSmall parts → AllByRecursion IsSpelled (map_spans layout parts)
 spelled_map_spans layout parts h =
     all-spans IsSpelled layout parts (λ head _. record { sid = omega arith; iuc = omega arith }) (λ from to _. record { sid = omega arith; iuc = omega arith }) (small-spans parts h)
 
@@ -173,7 +173,7 @@ sizes (s ∷ shares) (m ∷ slices) [] h = absurd h
 sizes (s ∷ shares) (m ∷ slices) (p ∷ parts) h =
     omega (arith, sum_by-cons size_of p parts, sum_by-cons (λ (x : Share). x.elements) s shares, (fits_in s m p h.0.fits).few, sizes shares slices parts h.1)
 
-few_elements : (layout : MapLayout) (shares : List Share) (slices : List Minislots) (parts : List ElementsFields) → AreShares shares → ArePartsOf shares slices parts
+few_elements : (layout : Channel) (shares : List Share) (slices : List Minislots) (parts : List ElementsFields) → AreShares shares → ArePartsOf shares slices parts
     → length (map_spans layout (in_order parts)) + 1 + length (map_pending (in_order parts)) ≤ 240
 few_elements layout shares slices parts are h =
     omega (
@@ -193,32 +193,32 @@ length-elements end spans sids =
 -- ---- the whole
 
 -- the parts of a frame of a plant
-pub record AreFrame (layout : MapLayout) (shares : List Share) (slices : List Minislots) (parts : List ElementsFields) : Type 0 where
+pub record AreFrame (layout : Channel) (shares : List Share) (slices : List Minislots) (parts : List ElementsFields) : Type 0 where
   pub layout_is : IsLayout layout
   pub shares_are : AreShares shares
   pub slices_are : AreSlices layout (length shares) slices
   pub parts_are : ArePartsOf shares slices parts
 
-frame_in_order : (layout : MapLayout) (shares : List Share) (slices : List Minislots) (parts : List ElementsFields) → AreFrame layout shares slices parts → InOrder layout.head layout.frame_minislots (in_order parts)
+frame_in_order : (layout : Channel) (shares : List Share) (slices : List Minislots) (parts : List ElementsFields) → AreFrame layout shares slices parts → InOrder layout.head layout.frame_minislots (in_order parts)
 frame_in_order layout shares slices parts h = parts_in_order layout (length shares) shares slices parts h.layout_is h.slices_are h.parts_are
 
-frame_small : (layout : MapLayout) (shares : List Share) (slices : List Minislots) (parts : List ElementsFields) → AreFrame layout shares slices parts → AllByRecursion IsSmall (in_order parts)
+frame_small : (layout : Channel) (shares : List Share) (slices : List Minislots) (parts : List ElementsFields) → AreFrame layout shares slices parts → AllByRecursion IsSmall (in_order parts)
 frame_small layout shares slices parts h =
     sorted-all IsSmall (λ (p : ElementsFields). p.slice.start) parts (small_parts shares slices parts (recursion_from_All IsShare shares h.shares_are.each) h.parts_are)
 
-frame_tiles : (layout : MapLayout) (shares : List Share) (slices : List Minislots) (parts : List ElementsFields) → AreFrame layout shares slices parts → MapTiles 0 layout.frame_minislots (map_spans layout (in_order parts))
+frame_tiles : (layout : Channel) (shares : List Share) (slices : List Minislots) (parts : List ElementsFields) → AreFrame layout shares slices parts → MapTiles 0 layout.frame_minislots (map_spans layout (in_order parts))
 frame_tiles layout shares slices parts h = tiles-map layout.head layout.frame_minislots (in_order parts) (frame_in_order layout shares slices parts h)
 
-pub frame_count : (layout : MapLayout) (shares : List Share) (slices : List Minislots) (parts : List ElementsFields) → AreFrame layout shares slices parts → length (frame_elements layout parts) ≤ 240
+pub frame_count : (layout : Channel) (shares : List Share) (slices : List Minislots) (parts : List ElementsFields) → AreFrame layout shares slices parts → length (frame_elements layout parts) ≤ 240
 frame_count layout shares slices parts h =
     omega (arith, length-elements layout.frame_minislots (map_spans layout (in_order parts)) (map_pending (in_order parts)), few_elements layout shares slices parts h.shares_are h.parts_are)
 
-pub frame_fits : (layout : MapLayout) (shares : List Share) (slices : List Minislots) (parts : List ElementsFields) → AreFrame layout shares slices parts → AllByRecursion FitsElement (frame_elements layout parts)
+pub frame_fits : (layout : Channel) (shares : List Share) (slices : List Minislots) (parts : List ElementsFields) → AreFrame layout shares slices parts → AllByRecursion FitsElement (frame_elements layout parts)
 frame_fits layout shares slices parts h =
     elements_fit 0 layout.frame_minislots (map_spans layout (in_order parts)) (map_pending (in_order parts)) h.layout_is.frame (frame_tiles layout shares slices parts h)
     (spelled_map_spans layout (in_order parts) (frame_small layout shares slices parts h)) (small-pending (in_order parts) (frame_small layout shares slices parts h))
 
-pub frame_reads : (layout : MapLayout) (frame : ℕ) (shares : List Share) (slices : List Minislots) (parts : List ElementsFields) → AreFrame layout shares slices parts
+pub frame_reads : (layout : Channel) (frame : ℕ) (shares : List Share) (slices : List Minislots) (parts : List ElementsFields) → AreFrame layout shares slices parts
     → MapReads (spelled_map (map_header layout frame (length (frame_elements layout parts))) (frame_elements layout parts)) (map_of layout frame parts)
 frame_reads layout frame shares slices parts h =
     let es : List MapElement = frame_elements layout parts in
@@ -263,13 +263,13 @@ part_there (s ∷ shares) (m ∷ slices) [] k share h e = absurd h
 part_there (s ∷ shares) (m ∷ slices) (p ∷ parts) zero share h e = (p, refl)
 part_there (s ∷ shares) (m ∷ slices) (p ∷ parts) (suc k) share h e = part_there shares slices parts k share h.1 e
 
-frame_alone : (layout : MapLayout) (shares : List Share) (slices : List Minislots) (parts : List ElementsFields) (k : ℕ) (share : Share) (slice : Minislots) (part : ElementsFields) → AreFrame layout shares slices parts
+frame_alone : (layout : Channel) (shares : List Share) (slices : List Minislots) (parts : List ElementsFields) (k : ℕ) (share : Share) (slice : Minislots) (part : ElementsFields) → AreFrame layout shares slices parts
     → slice_get shares k ≡ Some share → slice_get slices k ≡ Some slice → slice_get parts k ≡ Some part → StandsAlone share.sids share slice k part parts
 frame_alone layout shares slices parts k share slice part h e f g =
     stands_alone k share slice part shares slices parts (recursion_from_All IsShare shares h.shares_are.each)
     (pairs_from_AllPairs (λ (a b : Share). ranges_overlap a.sids b.sids ≡ false) shares h.shares_are.apart) h.parts_are e f g
 
-pub frame_tiled : (layout : MapLayout) (shares : List Share) (slices : List Minislots) (parts : List ElementsFields) → AreFrame layout shares slices parts
+pub frame_tiled : (layout : Channel) (shares : List Share) (slices : List Minislots) (parts : List ElementsFields) → AreFrame layout shares slices parts
     → GivesNoMinislotTwice layout.frame_minislots shares slices (map_spans layout (in_order parts))
 frame_tiled layout shares slices parts h = record {
   once = λ m lt. tiles-once m 0 layout.frame_minislots (map_spans layout (in_order parts)) (frame_tiles layout shares slices parts h) (omega arith) lt;
@@ -290,7 +290,7 @@ slice_there (s ∷ shares) (m ∷ slices) [] k share h e = absurd h
 slice_there (s ∷ shares) (m ∷ slices) (p ∷ parts) zero share h e = (m, refl)
 slice_there (s ∷ shares) (m ∷ slices) (p ∷ parts) (suc k) share h e = slice_there shares slices parts k share h.1 e
 
-pub frame_part : (layout : MapLayout) (frame : ℕ) (shares : List Share) (slices : List Minislots) (parts : List ElementsFields) (k : ℕ) (share : Share) (part : ElementsFields) → AreFrame layout shares slices parts
+pub frame_part : (layout : Channel) (frame : ℕ) (shares : List Share) (slices : List Minislots) (parts : List ElementsFields) (k : ℕ) (share : Share) (part : ElementsFields) → AreFrame layout shares slices parts
     → slice_get shares k ≡ Some share → slice_get parts k ≡ Some part → part_of share.sids (map_of layout frame parts) ≡ own_part part
 frame_part layout frame shares slices parts k share part h e g =
     let there : (m : Minislots) × (slice_get slices k ≡ Some m) = slice_there shares slices parts k share h.parts_are e in

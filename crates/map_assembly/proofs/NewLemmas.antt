@@ -16,7 +16,6 @@ use Rattle.plant.specs.Row.{IsRowOf}
 use Rattle.plant.specs.Plant.{ranges_overlap, IsPlant}
 use Rattle.map_assembly.specs.declared.share.Share.{Share}
 use Rattle.map_assembly.specs.declared.slicing.Reslicing.{Reslicing}
-use Rattle.map_assembly.specs.Map.{layout_of}
 use Rattle.map_assembly.specs.Part.{share_of}
 use Rattle.map_assembly.specs.Plan.{IsShare, AreShares, IsInFrame, AreSlices}
 use Rattle.map_assembly.specs.Gathering.{Gathering, gathering_of, slices_or, slices_at, is_whole, IsPartAt, AreQueued, IsGathering, IsPast, MayReslice, resliced}
@@ -53,7 +52,7 @@ shares_each consts [] h = tt
 shares_each consts (r ∷ rows) h = (record { low = h.0.keys.sids_low; high = h.0.keys.sids_high }, shares_each consts rows h.1)
 
 slices_each : (consts : ConstsFields) (rows : List RowFields) → AllByRecursion (IsRowOf consts) rows → AllByRecursion (λ slice. 1 ≤ slice.length) (map (λ row. row.slice) rows)
-    → AllByRecursion (λ row. IsInFrame (layout_of consts) row.slice) rows
+    → AllByRecursion (λ row. IsInFrame consts.channel row.slice) rows
 slices_each consts [] h some = tt
 slices_each consts (r ∷ rows) h some = (record { some = some.0; behind_head = h.0.behind_head; within_frame = h.0.within_frame }, slices_each consts rows h.1 some.1)
 
@@ -65,11 +64,11 @@ plant_shares plant is = record {
   few = omega (arith, quotas plant.rows, length-map plant.rows share_of, is.elements);
 }
 
-plant_slices : (plant : PlantFields) → IsPlant plant → All (λ slice. 1 ≤ slice.length) (map (λ row. row.slice) plant.rows) → AreSlices (layout_of plant.consts) (length (map share_of plant.rows)) (map (λ row. row.slice) plant.rows)
+plant_slices : (plant : PlantFields) → IsPlant plant → All (λ slice. 1 ≤ slice.length) (map (λ row. row.slice) plant.rows) → AreSlices plant.consts.channel (length (map share_of plant.rows)) (map (λ row. row.slice) plant.rows)
 plant_slices plant is some = record {
   one_each = length-map plant.rows (λ (row : RowFields). row.slice) ∙ sym (length-map plant.rows share_of);
-  each = All-from_recursion (IsInFrame (layout_of plant.consts)) (map (λ (row : RowFields). row.slice) plant.rows)
-      (all-over (IsInFrame (layout_of plant.consts)) (λ (row : RowFields). row.slice) plant.rows
+  each = All-from_recursion (IsInFrame plant.consts.channel) (map (λ (row : RowFields). row.slice) plant.rows)
+      (all-over (IsInFrame plant.consts.channel) (λ (row : RowFields). row.slice) plant.rows
       (slices_each plant.consts plant.rows (recursion_from_All (IsRowOf plant.consts) plant.rows is.rows) (recursion_from_All (λ (slice : Minislots). 1 ≤ slice.length) (map (λ (row : RowFields). row.slice) plant.rows) some)));
   apart = AllPairs-map (λ (a b : Minislots). slices_overlap a b ≡ false) (λ (row : RowFields). row.slice) plant.rows is.slices;
 }
@@ -87,14 +86,14 @@ none_queued slice_at share next (suc n) (suc k) queue e = none_queued slice_at s
 
 gathering_is : (plant : PlantFields) → IsPlant plant → All (λ slice. 1 ≤ slice.length) (map (λ row. row.slice) plant.rows) → IsGathering (gathering_of plant)
 gathering_is plant is some = record {
-  layout_is = record { frame = is.consts.frame; head = is.consts.head };
+  layout_is = record { frame = is.consts.channel.frame; head = is.consts.channel.head };
   shares_are = plant_shares plant is;
   slices_are = plant_slices plant is some;
-  reslicings_are = All-from_recursion (λ (r : Reslicing). AreSlices (layout_of plant.consts) (length (map share_of plant.rows)) r.slicing) [] tt;
+  reslicings_are = All-from_recursion (λ (r : Reslicing). AreSlices plant.consts.channel (length (map share_of plant.rows)) r.slicing) [] tt;
   one_each = let none : List ElementsFields = [] in length-replicate (length plant.rows) none ∙ sym (length-map plant.rows share_of);
   waiting = nobody_waits (length plant.rows) is.some;
   started = omega arith;
-  queued = λ k share queue e f. none_queued (λ (n : ℕ). slice_get (slices_at (map (λ (row : RowFields). row.slice) plant.rows) [] n) k) share plant.consts.first_frame (length plant.rows) k queue f;
+  queued = λ k share queue e f. none_queued (λ (n : ℕ). slice_get (slices_at (map (λ (row : RowFields). row.slice) plant.rows) [] n) k) share plant.consts.channel.first_frame (length plant.rows) k queue f;
 }
 
 pub gathering_made : (plant : PlantFields) (g : Gathering) → IsPlant plant → (slices : List Minislots) → slices ≡ map (λ row. row.slice) plant.rows → All (λ slice. 1 ≤ slice.length) slices → g ≡ gathering_of plant → IsGathering g

@@ -9,7 +9,7 @@ use Rattle.slice_scheduler.specs.Minislots.{Minislots}
 use Rattle.slice_scheduler.specs.declared.span.Span.{Span}
 use Rattle.slice_scheduler.specs.declared.elements.ElementsFields.{ElementsFields}
 use Rattle.slice_scheduler.specs.Tiles.{Tiles}
-use Rattle.map_assembly.specs.declared.layout.MapLayout.{MapLayout}
+use Rattle.plant.specs.declared.consts.Channel.{Channel}
 use Rattle.map_assembly.specs.declared.share.Share.{Share}
 use Rattle.map_assembly.specs.declared.view.MapSpan.{MapSpan}
 use Rattle.map_assembly.specs.Map.{idle_span, head_span, map_span, filled, map_spans, map_pending, in_order, map_of}
@@ -109,7 +109,7 @@ is_part range share slice (suc k) part (p ∷ parts) h = is_part range share sli
 same_part : (a b : MapPart) → a.spans ≡ b.spans → a.pending ≡ b.pending → a ≡ b
 same_part a b p q = λ i. record { spans = p i; pending = q i }
 
-pub part_alone : (layout : MapLayout) (frame : ℕ) (share : Share) (slice : Minislots) (k : ℕ) (part : ElementsFields) (parts : List ElementsFields) → IsShare share → StandsAlone share.sids share slice k part parts
+pub part_alone : (layout : Channel) (frame : ℕ) (share : Share) (slice : Minislots) (k : ℕ) (part : ElementsFields) (parts : List ElementsFields) → IsShare share → StandsAlone share.sids share slice k part parts
     → part_of share.sids (map_of layout frame parts) ≡ own_part part
 part_alone layout frame share slice k part parts is h =
     let key : ElementsFields → ℕ = λ (p : ElementsFields). p.slice.start in
@@ -151,7 +151,7 @@ all-filled P from end (p ∷ parts) idle h =
     all-append P (idle_span from p.slice.start) (map map_span p.spans ++ filled (p.slice.start + p.slice.length) end parts) (all-idle P from p.slice.start (idle from p.slice.start))
     (all-append P (map map_span p.spans) (filled (p.slice.start + p.slice.length) end parts) h.0 (all-filled P (p.slice.start + p.slice.length) end parts idle h.1))
 
-pub all-spans : (P : MapSpan → Type 0) (layout : MapLayout) (parts : List ElementsFields) → ((head : ℕ) → 0 < head → P (record { sid = 16383; iuc = 1; start = 0; len = head }))
+pub all-spans : (P : MapSpan → Type 0) (layout : Channel) (parts : List ElementsFields) → ((head : ℕ) → 0 < head → P (record { sid = 16383; iuc = 1; start = 0; len = head }))
     → ((from to : ℕ) → from < to → P (record { sid = 0; iuc = 6; start = from; len = to - from })) → AllByRecursion (λ p. AllByRecursion P (map map_span p.spans)) parts → AllByRecursion P (map_spans layout parts)
 all-spans P layout parts head idle h =
     all-append P (head_span layout.head) (filled layout.head layout.frame_minislots parts) (all-head P layout.head (head layout.head)) (all-filled P layout.head layout.frame_minislots parts idle h)
@@ -187,7 +187,7 @@ own_in_parts range share slice zero part (p ∷ parts) h =
     )
 own_in_parts range share slice (suc k) part (p ∷ parts) h = (own_if_stranger range slice p.spans h.0.spans, own_in_parts range share slice k part parts h.1)
 
-pub own_alone : (layout : MapLayout) (share : Share) (slice : Minislots) (k : ℕ) (part : ElementsFields) (parts : List ElementsFields) → IsShare share → StandsAlone share.sids share slice k part parts
+pub own_alone : (layout : Channel) (share : Share) (slice : Minislots) (k : ℕ) (part : ElementsFields) (parts : List ElementsFields) → IsShare share → StandsAlone share.sids share slice k part parts
     → AllByRecursion (IsOwn share.sids slice) (map_spans layout (in_order parts))
 own_alone layout share slice k part parts is h =
     all-spans (IsOwn share.sids slice) layout (in_order parts)
@@ -252,7 +252,7 @@ few_of_apart : (from : ℕ) (parts : List ElementsFields) (spans : List MapSpan)
 few_of_apart from parts [] h = tt
 few_of_apart from parts (s ∷ spans) h = (h.0.few, few_of_apart from parts spans h.1)
 
-pub touches_one_slice : (layout : MapLayout) (parts : List ElementsFields) → InOrder layout.head layout.frame_minislots parts → AllByRecursion (λ s. touched s parts ≤ 1) (map_spans layout parts)
+pub touches_one_slice : (layout : Channel) (parts : List ElementsFields) → InOrder layout.head layout.frame_minislots parts → AllByRecursion (λ s. touched s parts ≤ 1) (map_spans layout parts)
 touches_one_slice layout parts o =
     all-append (λ (s : MapSpan). touched s parts ≤ 1) (head_span layout.head) (filled layout.head layout.frame_minislots parts)
     (all-head (λ (s : MapSpan). touched s parts ≤ 1) layout.head (λ lt. omega (arith, touched_none (record { sid = 16383; iuc = 1; start = 0; len = layout.head }) layout.head layout.frame_minislots parts (omega arith) o)))

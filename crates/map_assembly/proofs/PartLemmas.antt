@@ -10,7 +10,7 @@ use Rattle.slice_scheduler.specs.declared.span.Span.{Span}
 use Rattle.slice_scheduler.specs.declared.elements.ElementsFields.{ElementsFields}
 use Rattle.slice_scheduler.specs.Tiles.{IsTiled}
 use Rattle.plant.specs.Plant.{ranges_overlap}
-use Rattle.map_assembly.specs.declared.layout.MapLayout.{MapLayout}
+use Rattle.plant.specs.declared.consts.Channel.{Channel}
 use Rattle.map_assembly.specs.declared.share.Share.{Share}
 use Rattle.map_assembly.specs.declared.view.MapSpan.{MapSpan}
 use Rattle.map_assembly.specs.Map.{map_span, in_order}
@@ -71,11 +71,11 @@ tiled_parts (s ∷ shares) [] parts h = absurd h
 tiled_parts (s ∷ shares) (m ∷ slices) [] h = absurd h
 tiled_parts (s ∷ shares) (m ∷ slices) (p ∷ parts) h = (h.0.tiled, tiled_parts shares slices parts h.1)
 
-placed_parts : (layout : MapLayout) (parts : List ElementsFields) → AllByRecursion IsTiled parts → AllByRecursion (λ p. IsInFrame layout p.slice) parts → AllByRecursion (IsPlaced layout.head layout.frame_minislots) parts
+placed_parts : (layout : Channel) (parts : List ElementsFields) → AllByRecursion IsTiled parts → AllByRecursion (λ p. IsInFrame layout p.slice) parts → AllByRecursion (IsPlaced layout.head layout.frame_minislots) parts
 placed_parts layout [] t h = tt
 placed_parts layout (p ∷ parts) t h = (record { tiled = t.0; some = h.0.some; behind = h.0.behind_head; before = h.0.within_frame }, placed_parts layout parts t.1 h.1)
 
-pub parts_in_order : (layout : MapLayout) (count : ℕ) (shares : List Share) (slices : List Minislots) (parts : List ElementsFields) → IsLayout layout → AreSlices layout count slices → ArePartsOf shares slices parts
+pub parts_in_order : (layout : Channel) (count : ℕ) (shares : List Share) (slices : List Minislots) (parts : List ElementsFields) → IsLayout layout → AreSlices layout count slices → ArePartsOf shares slices parts
     → InOrder layout.head layout.frame_minislots (in_order parts)
 parts_in_order layout count shares slices parts is valid h =
     let e : map (λ (p : ElementsFields). p.slice) parts ≡ slices = slices_of_parts shares slices parts h in

@@ -9,7 +9,7 @@ use Rattle.std.proofs.lemmas.Bool.{and_parts, cases_eq, leb-false, ltb-false}
 use Rattle.slice_scheduler.specs.Minislots.{Minislots}
 use Rattle.slice_scheduler.specs.Tiles.{IsTiled}
 use Rattle.slice_scheduler.specs.declared.elements.ElementsFields.{ElementsFields}
-use Rattle.map_assembly.specs.declared.layout.MapLayout.{MapLayout}
+use Rattle.plant.specs.declared.consts.Channel.{Channel}
 use Rattle.map_assembly.specs.declared.share.Share.{Share}
 use Rattle.map_assembly.specs.declared.slicing.Reslicing.{Reslicing}
 use Rattle.map_assembly.specs.declared.refused.GatherFault.{GatherFault}
@@ -207,7 +207,7 @@ all-find {X} P t (y ∷ ys) x h e = by (t y) refl (λ f. all-find P t ys x h.1 f
     by true p more = let same : Some y ≡ Some x = rw p at e in subst P (same_Some y x same) h.0
     by false p more = more (rw p at e)
 
-pub slices_valid : (layout : MapLayout) (count : ℕ) (slices : List Minislots) (reslicings : List Reslicing) (frame : ℕ) → AreSlices layout count slices → All (λ r. AreSlices layout count r.slicing) reslicings
+pub slices_valid : (layout : Channel) (count : ℕ) (slices : List Minislots) (reslicings : List Reslicing) (frame : ℕ) → AreSlices layout count slices → All (λ r. AreSlices layout count r.slicing) reslicings
     → AreSlices layout count (slices_at slices reslicings frame)
 slices_valid layout count slices reslicings frame first later = by (find (λ (r : Reslicing). leb r.from frame) (reverse reslicings)) refl
   where
@@ -333,18 +333,18 @@ ordered_is g now op frame part order queues slices e is put tiled whole order_is
     ∙ (ap (λ (h : Gathering). ordered_elements h.layout (order_of (map (λ (slice : Minislots). slice.start) (frame_slices h frame))) h.queues op part) e
     ∙ ap (λ (ps : List ElementsFields). elements_of_map now.layout.frame_minislots (map_spans now.layout ps) (map_pending ps)) parts))
 
-pub few_ordered : (layout : MapLayout) (shares : List Share) (slices : List Minislots) (parts : List ElementsFields) (es : List MapElement) → AreFrame layout shares slices parts → es ≡ frame_elements layout parts → length es ≤ 240
+pub few_ordered : (layout : Channel) (shares : List Share) (slices : List Minislots) (parts : List ElementsFields) (es : List MapElement) → AreFrame layout shares slices parts → es ≡ frame_elements layout parts → length es ≤ 240
 few_ordered layout shares slices parts es h e = subst (λ (xs : List MapElement). length xs ≤ 240) (sym e) (frame_count layout shares slices parts h)
 
-pub fit_ordered : (layout : MapLayout) (shares : List Share) (slices : List Minislots) (parts : List ElementsFields) (es : List MapElement) → AreFrame layout shares slices parts → es ≡ frame_elements layout parts → All FitsElement es
+pub fit_ordered : (layout : Channel) (shares : List Share) (slices : List Minislots) (parts : List ElementsFields) (es : List MapElement) → AreFrame layout shares slices parts → es ≡ frame_elements layout parts → All FitsElement es
 fit_ordered layout shares slices parts es h e = All-from_recursion FitsElement es (subst (λ (xs : List MapElement). AllByRecursion FitsElement xs) (sym e) (frame_fits layout shares slices parts h))
 
-pub is_map_of : (layout seen : MapLayout) (frame : ℕ) (shares : List Share) (slices : List Minislots) (parts : List ElementsFields) (es : List MapElement) (bytes : List ℕ) → AreFrame layout shares slices parts → seen ≡ layout → es ≡ frame_elements layout parts
+pub is_map_of : (layout seen : Channel) (frame : ℕ) (shares : List Share) (slices : List Minislots) (parts : List ElementsFields) (es : List MapElement) (bytes : List ℕ) → AreFrame layout shares slices parts → seen ≡ layout → es ≡ frame_elements layout parts
     → bytes ≡ spelled_map (map_header seen frame (length es)) es → IsMapOf layout frame shares slices parts bytes
 is_map_of layout seen frame shares slices parts es bytes h same e b =
     let spelled : bytes ≡ bytes_of_map layout frame parts =
     b ∙ (ap (λ (xs : List MapElement). spelled_map (map_header seen frame (length xs)) xs) e
-    ∙ ap (λ (l : MapLayout). spelled_map (map_header l frame (length (frame_elements layout parts))) (frame_elements layout parts)) same) in
+    ∙ ap (λ (l : Channel). spelled_map (map_header l frame (length (frame_elements layout parts))) (frame_elements layout parts)) same) in
     record {
       bytes_are = spelled;
       reads = subst (λ (bs : List ℕ). MapReads bs (map_of layout frame parts)) (sym spelled) (frame_reads layout frame shares slices parts h);

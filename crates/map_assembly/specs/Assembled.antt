@@ -3,7 +3,7 @@ use Rattle.std.specs.Prelude.{◌≡◌, ℕ, true, false, List, length, slice_g
 use Rattle.slice_scheduler.specs.Minislots.{Minislots}
 use Rattle.slice_scheduler.specs.declared.elements.ElementsFields.{ElementsFields}
 use Rattle.map_assembly.specs.declared.element.MapElement.{MapElement}
-use Rattle.map_assembly.specs.declared.layout.MapLayout.{MapLayout}
+use Rattle.plant.specs.declared.consts.Channel.{Channel}
 use Rattle.map_assembly.specs.declared.map_bytes.MapBytes.{MapBytes}
 use Rattle.map_assembly.specs.declared.share.Share.{Share}
 use Rattle.map_assembly.specs.Reading.{MapReads}
@@ -13,13 +13,13 @@ use Rattle.map_assembly.specs.Tiled.{GivesNoMinislotTwice, part_of, own_part}
 use Rattle.map_assembly.specs.Gathering.{Gathering, frame_slices, is_last, frame_parts, part_at}
 
 -- the bytes of a frame's MAP: they follow from what MAPs have in common, the frame and the parts alone, to the last bit
-abbrev pub bytes_of_map : MapLayout → ℕ → List ElementsFields → List ℕ
+abbrev pub bytes_of_map : Channel → ℕ → List ElementsFields → List ℕ
 bytes_of_map layout frame parts =
     spelled_map (map_header layout frame (length (frame_elements layout parts))) (frame_elements layout parts)
 
 -- the bytes are the MAP of a frame with these parts: they are spelled so, they say what that MAP says, it gives no minislot
 -- twice, and each operator's part of it is what that operator put
-pub record IsMapOf (layout : MapLayout) (frame : ℕ) (shares : List Share) (slices : List Minislots) (parts : List ElementsFields) (bytes : List ℕ) : Type 0 where
+pub record IsMapOf (layout : Channel) (frame : ℕ) (shares : List Share) (slices : List Minislots) (parts : List ElementsFields) (bytes : List ℕ) : Type 0 where
   pub bytes_are : bytes ≡ bytes_of_map layout frame parts
   pub reads : MapReads bytes (map_of layout frame parts)
   pub tiled : GivesNoMinislotTwice layout.frame_minislots shares slices (map_of layout frame parts).spans
@@ -33,6 +33,6 @@ IsAnswer g op frame part (Some made) =
     × IsMapOf g.layout frame g.shares (frame_slices g frame) (frame_parts g op part) made.bytes
 
 -- the elements of a frame's MAP, whose last part is this one of `op`, the operators going in this order
-abbrev pub ordered_elements : MapLayout → List ℕ → List (List ElementsFields) → ℕ → ElementsFields → List MapElement
+abbrev pub ordered_elements : Channel → List ℕ → List (List ElementsFields) → ℕ → ElementsFields → List MapElement
 ordered_elements layout order queues op part =
     elements_of_map layout.frame_minislots (map_spans layout (map (part_at queues op part) order)) (map_pending (map (part_at queues op part) order))

@@ -4,19 +4,18 @@ use Rattle.std.specs.List.{list_all}
 use Rattle.slice_scheduler.specs.Minislots.{Minislots}
 use Rattle.slice_scheduler.specs.declared.elements.ElementsFields.{ElementsFields}
 use Rattle.plant.specs.declared.plant.PlantFields.{PlantFields}
-use Rattle.map_assembly.specs.declared.layout.MapLayout.{MapLayout}
+use Rattle.plant.specs.declared.consts.Channel.{Channel}
 use Rattle.map_assembly.specs.declared.share.Share.{Share}
 use Rattle.map_assembly.specs.declared.slicing.Reslicing.{Reslicing}
 use Rattle.map_assembly.specs.declared.refused.GatherFault.{GatherFault}
 use Rattle.map_assembly.specs.declared.refused.GatherFault.TheVariants.{Stranger, Old, PutTwice, Early, WrongSlice}
-use Rattle.map_assembly.specs.Map.{layout_of}
 use Rattle.map_assembly.specs.Part.{share_of, is_fitting, IsPartOf}
 use Rattle.map_assembly.specs.Plan.{IsLayout, AreShares, AreSlices}
 
 -- what the MAPs have in common, what each operator may put, the plant's slices and the later ones, for each operator the
 -- parts that it put and that are in no MAP yet, frame by frame, and the frame whose MAP comes next
 pub record Gathering : Type 0 where
-  pub layout : MapLayout
+  pub layout : Channel
   pub shares : List Share
   pub slices : List Minislots
   pub reslicings : List Reslicing
@@ -26,12 +25,12 @@ pub record Gathering : Type 0 where
 -- nothing is put
 abbrev pub gathering_of : PlantFields → Gathering
 gathering_of plant = record {
-  layout = layout_of plant.consts;
+  layout = plant.consts.channel;
   shares = map share_of plant.rows;
   slices = map (λ row. row.slice) plant.rows;
   reslicings = [];
   queues = replicate (length plant.rows) [];
-  next = plant.consts.first_frame;
+  next = plant.consts.channel.first_frame;
 }
 
 -- ---- the slices of a frame

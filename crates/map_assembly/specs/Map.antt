@@ -4,26 +4,14 @@ use Rattle.std.specs.List.{flat_map}
 use Rattle.slice_scheduler.specs.Iuc.{number_of}
 use Rattle.slice_scheduler.specs.declared.span.Span.{Span}
 use Rattle.slice_scheduler.specs.declared.elements.ElementsFields.{ElementsFields}
-use Rattle.plant.specs.declared.consts.ConstsFields.{ConstsFields}
 use Rattle.map_assembly.specs.declared.element.MapElement.{MapElement}
-use Rattle.map_assembly.specs.declared.layout.MapLayout.{MapLayout}
+use Rattle.plant.specs.declared.consts.Channel.{Channel}
 use Rattle.map_assembly.specs.declared.view.MapHeader.{MapHeader}
 use Rattle.map_assembly.specs.declared.view.MapSpan.{MapSpan}
 use Rattle.map_assembly.specs.declared.view.MapView.{MapView}
 use Rattle.map_assembly.specs.Wire.{time_bits, nobodys_sid, broadcast_sid, request_iuc, short_iuc, long_iuc}
 use Rattle.map_assembly.specs.Reading.{element_of_span, null_at}
 use Rattle.map_assembly.specs.Sorted.{sorted_by}
-
--- what the MAPs of a plant have in common
-abbrev pub layout_of : ConstsFields → MapLayout
-layout_of consts = record {
-  frame_minislots = consts.frame_minislots;
-  head = consts.head;
-  channel = consts.channel;
-  ucd_count = consts.ucd_count;
-  backoffs = consts.backoffs;
-  first_frame = consts.first_frame;
-}
 
 -- ---- the spans
 
@@ -48,19 +36,19 @@ filled from end (part ∷ parts) =
     idle_span from part.slice.start ++ (map map_span part.spans ++ filled (part.slice.start + part.slice.length) end parts)
 
 -- the spans of a frame with these parts, in the order of their slices
-abbrev pub map_spans : MapLayout → List ElementsFields → List MapSpan
+abbrev pub map_spans : Channel → List ElementsFields → List MapSpan
 map_spans layout parts = head_span layout.head ++ filled layout.head layout.frame_minislots parts
 
 -- ---- the header
 
 -- when a frame begins: the minislots before it, as the low bits that a time has
-abbrev pub frame_start : MapLayout → ℕ → ℕ
+abbrev pub frame_start : Channel → ℕ → ℕ
 frame_start layout frame = frame * layout.frame_minislots % 2 ^ time_bits
 
 -- the header of a frame's MAP with so many elements: it answers the requests up to its own beginning
-abbrev pub map_header : MapLayout → ℕ → ℕ → MapHeader
+abbrev pub map_header : Channel → ℕ → ℕ → MapHeader
 map_header layout frame count = record {
-  channel = layout.channel;
+  channel = layout.id;
   ucd_count = layout.ucd_count;
   elements = count;
   alloc_start = frame_start layout frame;
@@ -80,7 +68,7 @@ in_order parts = sorted_by (λ part. part.slice.start) parts
 
 -- the view of a frame's MAP with these parts in the order of their slices; its elements are the spans, the Null and the
 -- grants pending
-abbrev pub ordered_map : MapLayout → ℕ → List ElementsFields → MapView
+abbrev pub ordered_map : Channel → ℕ → List ElementsFields → MapView
 ordered_map layout frame parts = record {
   header = map_header layout frame (length (map_spans layout parts) + 1 + length (map_pending parts));
   spans = map_spans layout parts;
@@ -88,7 +76,7 @@ ordered_map layout frame parts = record {
 }
 
 -- what the MAP of a frame says, given the part of each operator
-abbrev pub map_of : MapLayout → ℕ → List ElementsFields → MapView
+abbrev pub map_of : Channel → ℕ → List ElementsFields → MapView
 map_of layout frame parts = ordered_map layout frame (in_order parts)
 
 -- ---- its elements
@@ -102,6 +90,6 @@ abbrev pub elements_of_map : ℕ → List MapSpan → List ℕ → List MapEleme
 elements_of_map end spans sids = map element_of_span spans ++ null_at end ∷ map (pending_at end) sids
 
 -- the elements of a frame's MAP, given the part of each operator
-abbrev pub frame_elements : MapLayout → List ElementsFields → List MapElement
+abbrev pub frame_elements : Channel → List ElementsFields → List MapElement
 frame_elements layout parts =
     elements_of_map layout.frame_minislots (map_spans layout (in_order parts)) (map_pending (in_order parts))

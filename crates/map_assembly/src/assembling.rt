@@ -11,18 +11,18 @@ ghost use Rattle.map_assembly.specs.Gathering.{part_at};
 ghost use Rattle.map_assembly.specs.Assembled.{ordered_elements};
 
 use crate::element::MapElement;
-use crate::layout::MapLayout;
+use crate::layout::header_of;
 use crate::queue::{Queue, part_at};
 use crate::wire::ELEMENT_LIMIT;
 use crate::writing::{push_head, push_idle, push_null, push_pending, push_spans, write_map};
-use plant::Op;
+use plant::{Channel, Op};
 use slice_scheduler::Elements;
 use std::alloc::{AllocError, Global};
 
 /// Adds the spans behind the head: those of each operator in this order, and the minislots that no slice holds.
 fn push_filled(
     list: &mut Vec<MapElement>,
-    layout: MapLayout,
+    layout: Channel,
     order: &[usize],
     queues: &[Queue],
     op: Op,
@@ -64,7 +64,7 @@ fn push_all_pending(
 /// The elements of the MAP whose last part is this one of `op`, the operators going in this order.
 fn ordered_elements(
     alloc: Global,
-    layout: MapLayout,
+    layout: Channel,
     order: &[usize],
     queues: &[Queue],
     op: Op,
@@ -83,7 +83,7 @@ fn ordered_elements(
 /// The bytes of a frame's MAP whose last part is this one of `op`, the operators going in this order.
 pub(crate) fn map_bytes(
     alloc: Global,
-    layout: MapLayout,
+    layout: Channel,
     frame: u32,
     order: &[usize],
     queues: &[Queue],
@@ -97,6 +97,6 @@ pub(crate) fn map_bytes(
         (ordered_elements layout order.now queues.now op part.now)) }
 {
     let list = ordered_elements(alloc, layout, order, queues, op, part)?;
-    let header = layout.header(frame, list.len() as u8);
+    let header = header_of(layout, frame, list.len() as u8);
     write_map(alloc, header, list.as_slice())
 }

@@ -6,7 +6,7 @@ ghost use Rattle.slice_scheduler.specs.Minislots.{slices_overlap};
 ghost use Rattle.map_assembly.specs.Plan.{IsInFrame, AreSlices};
 ghost use Rattle.map_assembly.specs.Apart.{all_apart};
 
-use crate::layout::MapLayout;
+use plant::Channel;
 use slice_scheduler::Slice;
 
 /// Whether a slice overlaps none of others.
@@ -38,7 +38,7 @@ fn no_two_overlap(slices: &[Slice]) -> bool
 }
 
 /// Whether a slice lies in the frame, behind the head.
-fn is_in_frame(layout: MapLayout, slice: Slice) -> bool
+fn is_in_frame(layout: Channel, slice: Slice) -> bool
     ensures { IsTrue result ↔ IsInFrame layout slice }
 {
     let end = slice.get_start() + slice.get_length();
@@ -46,14 +46,14 @@ fn is_in_frame(layout: MapLayout, slice: Slice) -> bool
 }
 
 /// Whether each slice lies in the frame, behind the head.
-fn all_in_frame(layout: MapLayout, slices: &[Slice]) -> bool
+fn all_in_frame(layout: Channel, slices: &[Slice]) -> bool
     ensures { IsTrue result ↔ All (IsInFrame layout) slices.now }
 {
     slices.iter().all(|slice| is_in_frame(layout, *slice))
 }
 
 /// Whether these are valid slices of so many operators.
-pub(crate) fn are_slices(layout: MapLayout, count: usize, slices: &[Slice]) -> bool
+pub(crate) fn are_slices(layout: Channel, count: usize, slices: &[Slice]) -> bool
     ensures { IsTrue result ↔ AreSlices layout count slices.now }
 {
     slices.len() == count && all_in_frame(layout, slices) && no_two_overlap(slices)

@@ -13,13 +13,12 @@ ghost use Rattle.map_assembly.specs.declared.refused.GatherFault.TheVariants.{No
 
 use crate::assembling::map_bytes;
 use crate::checking::are_slices;
-use crate::layout::MapLayout;
 use crate::map_bytes::MapBytes;
 use crate::queue::{Queue, is_whole};
 use crate::refused::{GatherFault, Refused};
 use crate::share::Share;
 use crate::slicing::{Reslicing, Slicing, slices_at};
-use plant::{Op, OperatorRow, Plant};
+use plant::{Channel, Op, OperatorRow, Plant};
 use slice_scheduler::{Elements, Slice};
 use std::alloc::{AllocError, Global};
 use std::marker::Model;
@@ -29,7 +28,7 @@ use tlv24::Bytes;
 /// frame on. Contracts see what is gathered.
 #[derive(Debug, Drop)]
 pub struct Gather {
-    layout: MapLayout,
+    layout: Channel,
     shares: Vec<Share>,
     slices: Slicing,
     reslicings: Vec<Reslicing>,
@@ -159,17 +158,17 @@ impl Gather {
     {
         let rows = plant.rows();
         let consts = plant.consts();
-        let first_frame = consts.get_fields().first_frame;
+        let layout = consts.get_fields().channel;
         let shares = shares_of(alloc, rows)?;
         let slices = Slicing::new(alloc, slices_of(alloc, rows)?)?;
         let queues = no_queues(alloc, rows.len())?;
         Ok(Gather {
-            layout: MapLayout::of(consts),
+            layout,
             shares,
             slices,
             reslicings: Vec::new(alloc),
             queues,
-            next: first_frame as u64,
+            next: layout.first_frame as u64,
         })
     }
 

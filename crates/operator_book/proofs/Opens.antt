@@ -63,11 +63,11 @@ one_opened frame row os modem (Some sets) =
     ∙ under frame row os modem sets (least_free_of row.sfids (opened_sfids os))
 
 all_put : (consts : ConstsFields) (row : RowFields) (os : List (ℕ × Opened)) (provisions : List Provision)
-    → put_provisions consts row (as_flows consts.first_frame os) provisions ≡ as_flows consts.first_frame (all_opened consts row os provisions)
+    → put_provisions consts row (as_flows consts.channel.first_frame os) provisions ≡ as_flows consts.channel.first_frame (all_opened consts row os provisions)
 unfolding put_provision
 all_put consts row os [] = refl
 all_put consts row os (p ∷ provisions) =
-    ap (λ (flows : List (ℕ × Flow)). put_provisions consts row flows provisions) (one_opened consts.first_frame row os p.modem (sets_of_encoding consts p.encoding))
+    ap (λ (flows : List (ℕ × Flow)). put_provisions consts row flows provisions) (one_opened consts.channel.first_frame row os p.modem (sets_of_encoding consts p.encoding))
     ∙ all_put consts row (and_opened row os p.modem (sets_of_encoding consts p.encoding)) provisions
 
 pub provisions_open : (consts : ConstsFields) (row : RowFields) → put_provisions consts row [] row.provisions ≡ (opened consts row).flows

@@ -25,7 +25,7 @@ put_opened frame row flows modem (Some sets) = put_under frame row flows modem s
 
 -- one provisioned flow more
 unfoldable pub put_provision : ConstsFields → RowFields → List (ℕ × Flow) → Provision → List (ℕ × Flow)
-put_provision consts row flows p = put_opened consts.first_frame row flows p.modem (sets_of_encoding consts p.encoding)
+put_provision consts row flows p = put_opened consts.channel.first_frame row flows p.modem (sets_of_encoding consts p.encoding)
 
 abbrev pub put_provisions : ConstsFields → RowFields → List (ℕ × Flow) → List Provision → List (ℕ × Flow)
 put_provisions consts row flows [] = flows

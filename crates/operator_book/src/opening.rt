@@ -67,7 +67,7 @@ fn put_provision(
     };
     let sid = sid_for(row, flows, sets);
     flows.kept();
-    let flow = opened_flow(consts.get_fields().first_frame, provision.modem, sid, sets);
+    let flow = opened_flow(consts.get_fields().channel.first_frame, provision.modem, sid, sets);
     flows.put(sfid, &flow)?;
     Ok(())
 }
@@ -125,7 +125,7 @@ impl Machine {
             flows,
             kept,
             inbox: VecDeque::new(alloc),
-            frame: shared.first_frame,
+            frame: shared.channel.first_frame,
             share: Share {
                 slice: keys.slice,
                 budget: keys.budget,

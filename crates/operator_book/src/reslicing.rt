@@ -13,10 +13,10 @@ impl Machine {
     fn is_off_frame(&self, row: SliceRow) -> bool
         ensures { result ≡ is_off_frame self.now.consts row }
     {
-        let consts = self.consts.get_fields();
+        let channel = self.consts.get_fields().channel;
         row.length == 0
-            || row.start < consts.head
-            || u32::from(row.start) + u32::from(row.length) > u32::from(consts.frame_minislots)
+            || row.start < channel.head
+            || u32::from(row.start) + u32::from(row.length) > u32::from(channel.frame_minislots)
     }
 
     /// Why an offered slice cannot be taken from this frame on.

@@ -29,7 +29,7 @@ use Rattle.operator_machine.proofs.ProvisionedLemmas.{AreFit, by_flow, as_flows,
 
 -- there is room for so many flows more, of which so many have a SID, and for what they commit
 record HasRoom (consts : ConstsFields) (row : RowFields) (flows : List (ℕ × Flow)) (n s m e : ℕ) : Type 0 where
-  are : AreFlows row consts.first_frame flows
+  are : AreFlows row consts.channel.first_frame flows
   few : length flows + n ≤ row.flows
   sids : length (sids_of flows) + s ≤ count_of row.sids
   minislots : committed_minislots consts.units flows + m ≤ row.budget
@@ -50,12 +50,12 @@ given_sid row used some = by (least_free_of row.sids used) refl some
 
 module _ (consts : ConstsFields) (row : RowFields) where
   abbrev flows_of : List (ℕ × Opened) → List (ℕ × Flow)
-  flows_of entries = as_flows consts.first_frame entries
+  flows_of entries = as_flows consts.channel.first_frame entries
 
   module _ (entries : List (ℕ × Opened)) (n s m e : ℕ) where
     sid_of_sets : (b : Bool) → length (sids_of (flows_of entries)) + (cond {A = ℕ} b 1 0 + s) ≤ count_of row.sids → IsOpenedSid row (sids_of (flows_of entries)) b (cond b (least_free_of row.sids (opened_sids entries)) None)
     sid_of_sets true room =
-        subst (λ (used : List ℕ). IsOpenedSid row (sids_of (flows_of entries)) true (least_free_of row.sids used)) (same_sids consts.first_frame entries)
+        subst (λ (used : List ℕ). IsOpenedSid row (sids_of (flows_of entries)) true (least_free_of row.sids used)) (same_sids consts.channel.first_frame entries)
         (given_sid row (sids_of (flows_of entries)) (is_given row.sids (sids_of (flows_of entries)) (omega arith)))
     sid_of_sets false room = record { free = tt; has = λ no. absurd (false≢true no); count = omega arith }
 
@@ -73,12 +73,12 @@ module _ (consts : ConstsFields) (row : RowFields) where
         by : (o : Option ℕ) → least_free_of row.sfids (opened_sfids entries) ≡ o → HasRoom consts row (flows_of (and_under row entries modem sets o)) n s m e
         by None is = record { are = room.are; few = omega (arith, room.few); sids = omega (arith, room.sids); minislots = omega (arith, room.minislots); elements = omega (arith, room.elements) }
         by (Some k) is =
-            let flow : Flow = opened_flow consts.first_frame v in
-            let sound : IsSoundFlow consts.first_frame flow = record { nested = fit.nested; kinds = fit.kinds; has_sid = sid.has; no_backlog = λ _. refl; start = omega arith; since = omega arith; pending = tt } in
-            let free : IsFree row.sfids (sfids_of (flows_of entries)) k = given-free row.sfids (sfids_of (flows_of entries)) k (ap (least_free_of row.sfids) (same_sfids consts.first_frame entries) ∙ is) in
+            let flow : Flow = opened_flow consts.channel.first_frame v in
+            let sound : IsSoundFlow consts.channel.first_frame flow = record { nested = fit.nested; kinds = fit.kinds; has_sid = sid.has; no_backlog = λ _. refl; start = omega arith; since = omega arith; pending = tt } in
+            let free : IsFree row.sfids (sfids_of (flows_of entries)) k = given-free row.sfids (sfids_of (flows_of entries)) k (ap (least_free_of row.sfids) (same_sfids consts.channel.first_frame entries) ∙ is) in
             let longer = length-insert (flows_of entries) k flow in
-            let may = MayPut-fresh row consts.first_frame (flows_of entries) k flow (free.first_at_most, free.at_most_last) sid.free sound (omega (arith, room.few, longer)) in
-            subst (λ (fs : List (ℕ × Flow)). HasRoom consts row fs n s m e) (sym (flows-insert consts.first_frame entries k v)) (record {
+            let may = MayPut-fresh row consts.channel.first_frame (flows_of entries) k flow (free.first_at_most, free.at_most_last) sid.free sound (omega (arith, room.few, longer)) in
+            subst (λ (fs : List (ℕ × Flow)). HasRoom consts row fs n s m e) (sym (flows-insert consts.channel.first_frame entries k v)) (record {
               are = put-AreFlows room.are may;
               few = omega (arith, room.few, longer);
               sids = omega (arith, room.sids, sid.count, length-sids (flows_of entries) k flow);
@@ -114,14 +114,14 @@ module _ (consts : ConstsFields) (row : RowFields) where
         elements = omega (arith, room.elements, sum_by-cons (λ (q : Provision). (need_of_provision consts q).elements) p ps);
       }))
 
-  none : AreFlows row consts.first_frame []
+  none : AreFlows row consts.channel.first_frame []
   unfolding IsStrictlySortedBy
   none = record {
     ascending = tt;
     sfids = All-nil _;
     sids = All-nil _;
     own_sids = λ sid a b at_a. absurd (none-some sid at_a);
-    each = All-nil (IsSoundFlow consts.first_frame);
+    each = All-nil (IsSoundFlow consts.channel.first_frame);
     few = omega arith;
   }
 

@@ -227,8 +227,8 @@ module _ (consts : ConstsFields) (row : RowFields) where
       let puts = (own_run (operator consts row (opened consts row)) actions).outputs in
       let made : ℕ → Minislots = λ n. then_all row.slice (reslicings_in actions) n in
       All-from_recursion (IsOfItsSlice (slice_at row.slice (reslicings_in actions))) puts
-      (recursion-weaker (IsFrom consts.first_frame made) (IsOfItsSlice (slice_at row.slice (reslicings_in actions)))
-      (of_its_slice consts.first_frame (slice_at row.slice (reslicings_in actions)) made (λ n. sym (slice_at-is row.slice (reslicings_in actions) n)))
+      (recursion-weaker (IsFrom consts.channel.first_frame made) (IsOfItsSlice (slice_at row.slice (reslicings_in actions)))
+      (of_its_slice consts.channel.first_frame (slice_at row.slice (reslicings_in actions)) made (λ n. sym (slice_at-is row.slice (reslicings_in actions) n)))
       puts (run_frames (opened consts row) actions tt may))
 
   pub run-in_force : (actions : List Action) → MayRun (operator consts row (opened consts row)) actions

@@ -41,13 +41,13 @@ module _ (op : Operator) (sound : IsSound op) where
       let c = passed (is_off_frame op.consts offered) OffFrame _ b.1 in
       let d = passed (nat_lt offered.length offered.budget) BudgetOverSlice _ c.1 in
       let e = passed (nat_lt offered.budget (committed_minislots op.consts.units op.state.flows)) OverBudget _ d.1 in
-      let within = or_parts (offered.length == 0 || nat_lt offered.start op.consts.head) (nat_lt op.consts.frame_minislots (offered.start + offered.length)) c.0 in
-      let on = or_parts (offered.length == 0) (nat_lt offered.start op.consts.head) within.0 in
+      let within = or_parts (offered.length == 0 || nat_lt offered.start op.consts.channel.head) (nat_lt op.consts.channel.frame_minislots (offered.start + offered.length)) c.0 in
+      let on = or_parts (offered.length == 0) (nat_lt offered.start op.consts.channel.head) within.0 in
       record {
         share = record {
           some = omega (arith, eqb-false offered.length 0 on.0);
-          behind_head = ltb-false offered.start op.consts.head on.1;
-          within_frame = ltb-false op.consts.frame_minislots (offered.start + offered.length) within.1;
+          behind_head = ltb-false offered.start op.consts.channel.head on.1;
+          within_frame = ltb-false op.consts.channel.frame_minislots (offered.start + offered.length) within.1;
           budget = ltb-false offered.length offered.budget d.0;
         };
         to_come = leb-false from op.state.frame a.0;

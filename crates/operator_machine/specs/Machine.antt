@@ -68,7 +68,7 @@ is_spent state (Reslice from slice_row) = false
 
 -- a slice has no minislot, begins within the head, or ends behind the frame
 abbrev pub is_off_frame : ConstsFields → SliceRow → Bool
-is_off_frame consts row = (row.length == 0) || nat_lt row.start consts.head || nat_lt consts.frame_minislots (row.start + row.length)
+is_off_frame consts row = (row.length == 0) || nat_lt row.start consts.channel.head || nat_lt consts.channel.frame_minislots (row.start + row.length)
 
 -- why a slice cannot be taken from this frame on
 abbrev pub unfit_from : ConstsFields → OperatorState → ℕ → SliceRow → Option Unfit

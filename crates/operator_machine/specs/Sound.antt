@@ -75,8 +75,8 @@ HaveOwnFlows kept = AllPairs (λ a b. is_waiting a ≡ true → is_waiting b ≡
 -- a share lies behind the head and within the frame, and its budget is at most its slice
 pub record IsShare (consts : ConstsFields) (share : Share) : Type 0 where
   pub some : 1 ≤ share.slice.length
-  pub behind_head : consts.head ≤ share.slice.start
-  pub within_frame : share.slice.start + share.slice.length ≤ consts.frame_minislots
+  pub behind_head : consts.channel.head ≤ share.slice.start
+  pub within_frame : share.slice.start + share.slice.length ≤ consts.channel.frame_minislots
   pub budget : share.budget ≤ share.slice.length
 
 -- a share that waits is one, its frame is to come, and what is committed fits it too

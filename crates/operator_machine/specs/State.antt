@@ -38,10 +38,10 @@ opened_flow frame opened = record {
 -- a machine as it is opened: the provisioned flows, and nothing else
 abbrev pub opened : ConstsFields → RowFields → OperatorState
 opened consts row = record {
-  flows = map (λ entry. (entry.0, opened_flow consts.first_frame entry.1)) (opened_flows consts row);
+  flows = map (λ entry. (entry.0, opened_flow consts.channel.first_frame entry.1)) (opened_flows consts row);
   kept = [];
   inbox = [];
-  frame = consts.first_frame;
+  frame = consts.channel.first_frame;
   share = record { slice = row.slice; budget = row.budget };
   next = None;
 }

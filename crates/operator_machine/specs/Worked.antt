@@ -20,15 +20,17 @@ use Rattle.operator_machine.specs.Machine.{own_run}
 -- frames of 72 minislots of 16 bytes in 2 ms, the first 8 of them for all modems
 abbrev pub worked_consts : ConstsFields
 worked_consts = record {
-  frame_minislots = 72;
-  head = 8;
+  channel = record {
+    frame_minislots = 72;
+    head = 8;
+    id = 1;
+    ucd_count = 1;
+    backoffs = record { ranging_start = 0; ranging_end = 0; data_start = 0; data_end = 0 };
+    first_frame = 0;
+  };
   units = record { frame_us = 2000; bytes_per_minislot = 16 };
   short_max = 4;
-  channel = 1;
-  ucd_count = 1;
-  backoffs = record { ranging_start = 0; ranging_end = 0; data_start = 0; data_end = 0 };
   timers = record { ack_wait = 150; resends = 3; hold = 1500 };
-  first_frame = 0;
   classes = [];
 }
 

@@ -1,6 +1,7 @@
 -- What all operators of a plant share (own; the backoffs: CM-SP-MULPIv3.1, 6.4.4).
 use Rattle.std.specs.Prelude.{◌≤◌}
 use Rattle.plant.specs.declared.consts.Backoffs.{Backoffs}
+use Rattle.plant.specs.declared.consts.Channel.{Channel}
 use Rattle.plant.specs.declared.consts.ConstsFields.{ConstsFields}
 use Rattle.plant.specs.Classes.{AreClasses}
 
@@ -12,10 +13,14 @@ pub record AreBackoffs (backoffs : Backoffs) : Type 0 where
   pub data_end : backoffs.data_end ≤ 15
 
 -- a frame has 1 to 4,096 minislots, and its head is of these
+pub record IsChannel (channel : Channel) : Type 0 where
+  pub some_frame : 1 ≤ channel.frame_minislots
+  pub frame : channel.frame_minislots ≤ 4096
+  pub head : channel.head ≤ channel.frame_minislots
+  pub backoffs : AreBackoffs channel.backoffs
+
+-- a short grant is not longer than the longest frame
 pub record AreConsts (consts : ConstsFields) : Type 0 where
-  pub some_frame : 1 ≤ consts.frame_minislots
-  pub frame : consts.frame_minislots ≤ 4096
-  pub head : consts.head ≤ consts.frame_minislots
+  pub channel : IsChannel consts.channel
   pub short_max : consts.short_max ≤ 4096
-  pub backoffs : AreBackoffs consts.backoffs
   pub classes : AreClasses consts.classes

@@ -75,8 +75,8 @@ pub record DoesFit (consts : ConstsFields) (row : RowFields) : Type 0 where
 -- slice, and its provisioned flows fit
 pub record IsRowOf (consts : ConstsFields) (row : RowFields) : Type 0 where
   pub keys : IsRow row
-  pub behind_head : consts.head ≤ row.slice.start
-  pub within_frame : row.slice.start + row.slice.length ≤ consts.frame_minislots
+  pub behind_head : consts.channel.head ≤ row.slice.start
+  pub within_frame : row.slice.start + row.slice.length ≤ consts.channel.frame_minislots
   pub provisions : All (IsProvision consts row) row.provisions
   pub budget : row.budget ≤ row.slice.length
   pub fits : DoesFit consts row

@@ -22,27 +22,34 @@ pub struct Backoffs {
     pub data_end: u8,
 }
 
-/// What all operators of a plant share.
-#[derive(Debug, Drop)]
-pub struct ConstsFields {
+/// The upstream channel that all operators share: its frames, and what its MAPs have in common.
+#[derive(Clone, Copy, Debug, PartialEq, Eq)]
+pub struct Channel {
     /// Minislots of a frame: 1 to 4,096.
     pub frame_minislots: u16,
     /// Minislots at the head of each frame in which any modem may ask: 0 to the frame's length.
     pub head: u16,
+    /// The upstream channel ID.
+    pub id: u8,
+    /// The UCD count.
+    pub ucd_count: u8,
+    /// The backoff windows.
+    pub backoffs: Backoffs,
+    /// The number of the first frame.
+    pub first_frame: u32,
+}
+
+/// What all operators of a plant share.
+#[derive(Debug, Drop)]
+pub struct ConstsFields {
+    /// The channel.
+    pub channel: Channel,
     /// How long a frame is and how much a minislot carries.
     pub units: Units,
     /// The most minislots of a grant that is sent as short: 0 to 4,096.
     pub short_max: u16,
-    /// The upstream channel ID of the MAPs.
-    pub channel: u8,
-    /// The UCD count of the MAPs.
-    pub ucd_count: u8,
-    /// The backoff windows of the MAPs.
-    pub backoffs: Backoffs,
     /// How long responses are kept, in ticks.
     pub timers: Timers,
-    /// The number of the first frame.
-    pub first_frame: u32,
     /// The service classes.
     pub classes: Classes,
 }
@@ -105,15 +112,10 @@ impl Consts {
     {
         Ok(Consts {
             fields: ConstsFields {
-                frame_minislots: self.fields.frame_minislots,
-                head: self.fields.head,
+                channel: self.fields.channel,
                 units: self.fields.units,
                 short_max: self.fields.short_max,
-                channel: self.fields.channel,
-                ucd_count: self.fields.ucd_count,
-                backoffs: self.fields.backoffs,
                 timers: self.fields.timers,
-                first_frame: self.fields.first_frame,
                 classes: self.fields.classes.copy(alloc)?,
             },
         })

@@ -10,7 +10,7 @@ mod plant;
 mod provision;
 
 pub use class_table::{Class, Classes};
-pub use consts::{Backoffs, Consts, ConstsFields};
+pub use consts::{Backoffs, Channel, Consts, ConstsFields};
 pub use laws::{holder_is_first, one_operator_lists};
 pub use name::{OperatorName, is_alphanumeric};
 pub use operator_row::{Modems, OperatorRow, RowFields};

@@ -85,9 +85,9 @@ frames_of_turns (turn ∷ turns) =
 pub times_counted : (plant : PlantFields) (steps : List Step) (outs : List Out) (captured : Captured) → Shown plant steps outs
     → IsOfRun plant.consts steps outs captured
     → file_of captured.clock captured.packets
-    ≡ file_header ++ counted_from plant.consts.units.frame_us plant.consts.first_frame 0 captured.packets
+    ≡ file_header ++ counted_from plant.consts.units.frame_us plant.consts.channel.first_frame 0 captured.packets
 times_counted plant steps outs captured shown run =
-    let first : ℕ = plant.consts.first_frame in
+    let first : ℕ = plant.consts.channel.first_frame in
     let us : ℕ = plant.consts.units.frame_us in
     let z : first + 0 ≡ first = omega arith in
     let frames : flat_map frame_told captured.packets ≡ range_with_len (first + 0) (length (maps_in outs)) =

@@ -35,7 +35,7 @@ pub record Captured : Type 0 where
 
 -- the first frame and a frame's length
 abbrev pub clock_of : ConstsFields → Clock
-clock_of consts = record { first_frame = consts.first_frame; frame_us = consts.units.frame_us }
+clock_of consts = record { first_frame = consts.channel.first_frame; frame_us = consts.units.frame_us }
 
 -- no packet yet
 abbrev pub opened_capture : ConstsFields → Captured

@@ -79,7 +79,7 @@ impl Capture {
         let fields = consts.get_fields();
         Capture {
             clock: Clock {
-                first_frame: fields.first_frame,
+                first_frame: fields.channel.first_frame,
                 frame_us: fields.units.get_frame_us(),
             },
             packets: Vec::new(alloc),

@@ -36,5 +36,5 @@ pub fn times_are_counted()
     ensures { (plant : PlantFields) (steps : List Step) (outs : List Out) (captured : Captured)
         → Shown plant steps outs → IsOfRun plant.consts steps outs captured
         → file_of captured.clock captured.packets
-        ≡ file_header ++ counted_from plant.consts.units.frame_us plant.consts.first_frame 0 captured.packets }
+        ≡ file_header ++ counted_from plant.consts.units.frame_us plant.consts.channel.first_frame 0 captured.packets }
 {}

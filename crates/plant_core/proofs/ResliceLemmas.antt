@@ -10,7 +10,7 @@ use Rattle.plant.specs.declared.plant.PlantFields.{PlantFields}
 use Rattle.plant.specs.Plant.{IsPlant}
 use Rattle.operator_machine.specs.declared.action.SliceRow.{SliceRow}
 use Rattle.operator_machine.specs.Replay.{BookView}
-use Rattle.map_assembly.specs.declared.layout.MapLayout.{MapLayout}
+use Rattle.plant.specs.declared.consts.Channel.{Channel}
 use Rattle.map_assembly.specs.Plan.{IsInFrame}
 use Rattle.map_assembly.specs.Gathering.{Gathering, IsGathering, MayReslice, resliced}
 use Rattle.map_assembly.proofs.OrderLemmas.{all-map}
@@ -32,7 +32,7 @@ may_take plant gathering books queues from rows valid is reached none =
     let free = are_free from books rows none in
     ∥∥₁_elim reached (may_prop gathering from (map slice_of rows)) (λ r. slices_anew plant r.0 r.1 (core_of plant books queues gathering) from rows valid r.2 is free.one_each free.apart free.fit)
 
-in_range : (layout : MapLayout) (rows : List SliceRow) → layout.frame_minislots ≤ 4096 → All (IsInFrame layout) (map slice_of rows) → All IsOfASlice rows
+in_range : (layout : Channel) (rows : List SliceRow) → layout.frame_minislots ≤ 4096 → All (IsInFrame layout) (map slice_of rows) → All IsOfASlice rows
 in_range layout rows most h =
     All-from_recursion IsOfASlice rows (each rows (all-map (IsInFrame layout) slice_of rows (recursion_from_All (IsInFrame layout) (map slice_of rows) h)))
   where

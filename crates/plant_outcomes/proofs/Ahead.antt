@@ -7,7 +7,7 @@ use Rattle.std.proofs.lemmas.List.{length-set, length-map}
 use Rattle.std.proofs.lemmas.Option.{none-some, same_Some, slice_get_within}
 use Rattle.slice_scheduler.specs.Minislots.{Minislots}
 use Rattle.slice_scheduler.specs.declared.elements.ElementsFields.{ElementsFields}
-use Rattle.map_assembly.specs.declared.layout.MapLayout.{MapLayout}
+use Rattle.plant.specs.declared.consts.Channel.{Channel}
 use Rattle.map_assembly.specs.declared.share.Share.{Share}
 use Rattle.map_assembly.specs.declared.map_bytes.MapBytes.{MapBytes}
 use Rattle.map_assembly.specs.Gathering.{Gathering, queue_of, is_last, with_part, is_whole, fronts, frame_slices, frame_parts, put_fault, after_put, resliced, IsGathering}
@@ -145,7 +145,7 @@ given_on g h later further maps after next layout shares long same given = recor
         one_each = m.one_each ∙ long;
         own = λ i part f. ap (λ (ps : List ElementsFields). slice_get ps k) (sym (same i)) ∙ m.own i part f;
         map_is =
-            subst (λ (l : MapLayout). IsMapOf l made.frame g.shares (map (λ (p : ElementsFields). p.slice) m.parts) m.parts made.bytes) layout
+            subst (λ (l : Channel). IsMapOf l made.frame g.shares (map (λ (p : ElementsFields). p.slice) m.parts) m.parts made.bytes) layout
             (subst (λ (ss : List Share). IsMapOf h.layout made.frame ss (map (λ (p : ElementsFields). p.slice) m.parts) m.parts made.bytes) shares m.map_is);
       };
   enough = λ i lt. subst (λ (ps : List ElementsFields). length maps ≤ length ps) (same i) (given.enough i (omega (arith, lt, long)));

@@ -91,7 +91,7 @@ module _ (plant : PlantFields) (steps : List Step) where
       one_map_stray a b (inl p) (inl q) = p.1 ∙ sym q.1
       one_map_stray a b (inl p) (inr q) = absurd (p.0 q.0)
       one_map_stray a b (inr p) (inl q) = absurd (q.0 p.0)
-      one_map_stray a b (inr p) (inr q) = one_frame plant.consts.first_frame assembly.placings a b p.1 q.1
+      one_map_stray a b (inr p) (inr q) = one_frame plant.consts.channel.first_frame assembly.placings a b p.1 q.1
 
       pub none_map_stray : (frame : ℕ) → assembly.plant ≡ plant → ArePut steps books assembly.placings → IsMapStray plant steps books assembly frame → ⊥
       none_map_stray frame same put (inl p) = p.0 same

@@ -78,11 +78,11 @@ as_numbered n (frame ∷ frames) h = (h.0, as_numbered (n + 1) frames h.1)
 book_frames : (plant : PlantFields) (steps : List Step) (i : ℕ) (row : RowFields) (book : BookView) → IsBookAfter plant steps i row book → frames_of (outputs_of book.history) ≡ frames_of (alone plant.consts row i steps).outputs
 book_frames plant steps i row book is = ap frames_of (book_outputs plant steps i row book is)
 
-due_numbered : (plant : PlantFields) (steps : List Step) (i : ℕ) (row : RowFields) (book : BookView) → IsBookAfter plant steps i row book → AreNumbered plant.consts.first_frame (due_of steps i book)
+due_numbered : (plant : PlantFields) (steps : List Step) (i : ℕ) (row : RowFields) (book : BookView) → IsBookAfter plant steps i row book → AreNumbered plant.consts.channel.first_frame (due_of steps i book)
 due_numbered plant steps i row book is =
-    take_numbered plant.consts.first_frame (collects_of i steps) (frames_of (outputs_of book.history))
-    (subst (AreNumbered plant.consts.first_frame) (sym (book_frames plant steps i row book is))
-    (as_numbered plant.consts.first_frame (frames_of (alone plant.consts row i steps).outputs) (are_numbered plant.consts row i steps)))
+    take_numbered plant.consts.channel.first_frame (collects_of i steps) (frames_of (outputs_of book.history))
+    (subst (AreNumbered plant.consts.channel.first_frame) (sym (book_frames plant steps i row book is))
+    (as_numbered plant.consts.channel.first_frame (frames_of (alone plant.consts row i steps).outputs) (are_numbered plant.consts row i steps)))
 
 -- of each operator the parts are put in the order of their frames
 put_next : (g : Gathering) (op frame : ℕ) (part : ElementsFields) (later : List Placing) (made : Option MapBytes) → IsGathering g → put_fault g op frame part ≡ None → IsAnswer g op frame part made
@@ -130,14 +130,14 @@ puts_numbered g (Put op frame part ∷ later) maps after h i lt =
 puts_numbered g (Reslice from rows ∷ later) maps after h i lt = puts_numbered (resliced g from (map slice_of rows)) later maps after h.2 i lt
 
 pub all_numbered : (plant : PlantFields) (steps : List Step) (books : List BookView) (assembly : AssemblyView) → length books ≡ length plant.rows → AreOwn plant steps books → assembly.plant ≡ plant
-    → HaveMade (gathering_of assembly.plant) assembly.placings assembly.maps assembly.gathering → AllAreNumbered plant.consts.first_frame steps books assembly.placings
+    → HaveMade (gathering_of assembly.plant) assembly.placings assembly.maps assembly.gathering → AllAreNumbered plant.consts.channel.first_frame steps books assembly.placings
 all_numbered plant steps books assembly one_each own same made i book e =
     let within : i < length plant.rows = omega (arith, slice_get_within books i book e, one_each) in
     let row = some_at plant.rows i within in
     let have = subst (λ (p : PlantFields). HaveMade (gathering_of p) assembly.placings assembly.maps assembly.gathering) same made in
     let none : List ElementsFields = [] in
     let queues = length-replicate (length plant.rows) none in
-    let start : next_of (gathering_of plant) i ≡ plant.consts.first_frame = omega (arith, ap length (nothing_queued (length plant.rows) i)) in (
+    let start : next_of (gathering_of plant) i ≡ plant.consts.channel.first_frame = omega (arith, ap length (nothing_queued (length plant.rows) i)) in (
       subst (λ (n : ℕ). AreNumbered n (puts_of i assembly.placings)) start
           (puts_numbered (gathering_of plant) assembly.placings assembly.maps assembly.gathering have i (omega (arith, within, queues))),
       due_numbered plant steps i row.0 book (own i row.0 book row.1 e),
@@ -150,7 +150,7 @@ ok_weaker P Q (Ok x) f h = f x h
 ok_weaker P Q (Err e) f h = tt
 
 pub map_told : (plant : PlantFields) (steps : List Step) (books : List BookView) (assembly : AssemblyView) → assembly.plant ≡ plant → (o : Option ℕ)
-    → MatchOption o (ArePut steps books assembly.placings) (IsPutStray plant.consts.first_frame steps books assembly.placings)
+    → MatchOption o (ArePut steps books assembly.placings) (IsPutStray plant.consts.channel.first_frame steps books assembly.placings)
     → MatchOption o ((assembly.plant ≡ plant) × ArePut steps books assembly.placings) (IsMapStray plant steps books assembly)
 map_told plant steps books assembly same None put = (same, put)
 map_told plant steps books assembly same (Some frame) stray = inr (same, stray)
@@ -215,7 +215,7 @@ frames_ticked plant steps i row =
     let frames : List Numbered = frames_of (alone plant.consts row i steps).outputs in
     let long = length-map frames (λ (f : Numbered). f.0) in
     let numbers = ap length (numbers_are (alone plant.consts row i steps).outputs ∙ (run_puts plant.consts row (opened plant.consts row) (own_steps row i steps)).numbers) in
-    let range = length-range_with_len plant.consts.first_frame (count_by is_tick (own_steps row i steps)) in
+    let range = length-range_with_len plant.consts.channel.first_frame (count_by is_tick (own_steps row i steps)) in
     omega (arith, long, numbers, range, ticks_own row i steps)
 
 module _ (plant : PlantFields) (steps : List Step) (books : List BookView) (assembly : AssemblyView) (one_each : length books ≡ length plant.rows) (own : AreOwn plant steps books) (same : assembly.plant ≡ plant)

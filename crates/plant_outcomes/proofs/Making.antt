@@ -88,7 +88,7 @@ module _ (plant : PlantFields) (steps : List Step) (placings : List Placing) (ma
         (ap (λ (ps : List ElementsFields). slice_get ps k) (sym (ahead_is i ∙ parts_due i row e)) ∙ at.own i part f) in
         elements_are made.frame (alone plant.consts row i steps).outputs
         ∙ (ap (λ (n : ℕ). of_number n (frames_of (alone plant.consts row i steps).outputs)) at.frame_is
-        ∙ (found_at plant.consts.first_frame k (frames_of (alone plant.consts row i steps).outputs) there.0 (are_numbered plant.consts row i steps) there.1
+        ∙ (found_at plant.consts.channel.first_frame k (frames_of (alone plant.consts row i steps).outputs) there.0 (are_numbered plant.consts row i steps) there.1
         ∙ ap (λ (p : ElementsFields). p ∷ []) there.2));
   }
 

@@ -1,7 +1,6 @@
 -- What two rows, two plants or two encodings have in common (own).
 use Rattle.std.specs.Prelude.{◌≡◌}
 use Rattle.tlv24.specs.declared.fields.FlowFields.{FlowFields}
-use Rattle.plant.specs.declared.consts.ConstsFields.{ConstsFields}
 use Rattle.plant.specs.declared.operator_row.RowFields.{RowFields}
 
 -- their limits, and by what they order their flows
@@ -19,14 +18,6 @@ pub record HaveSameRanges (a b : RowFields) : Type 0 where
   pub slice : a.slice ≡ b.slice
   pub sfids : a.sfids ≡ b.sfids
   pub sids : a.sids ≡ b.sids
-
--- their frames
-pub record HaveSameFrames (a b : ConstsFields) : Type 0 where
-  pub frame_minislots : a.frame_minislots ≡ b.frame_minislots
-  pub head : a.head ≡ b.head
-  pub units : a.units ≡ b.units
-  pub short_max : a.short_max ≡ b.short_max
-  pub first_frame : a.first_frame ≡ b.first_frame
 
 -- the flow that they are of, and the kind of set that they ask for
 pub record AreOfSameFlow (a b : FlowFields) : Type 0 where

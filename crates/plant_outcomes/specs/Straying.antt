@@ -71,8 +71,8 @@ pub record IsPutStray (first_frame : ℕ) (steps : List Step) (books : List Book
 -- was due
 abbrev pub IsMapStray : PlantFields → List Step → List BookView → AssemblyView → ℕ → Type 0
 IsMapStray plant steps books assembly frame =
-    ((assembly.plant ≢ plant) × (frame ≡ plant.consts.first_frame))
-    ⊎ ((assembly.plant ≡ plant) × IsPutStray plant.consts.first_frame steps books assembly.placings frame)
+    ((assembly.plant ≢ plant) × (frame ≡ plant.consts.channel.first_frame))
+    ⊎ ((assembly.plant ≡ plant) × IsPutStray plant.consts.channel.first_frame steps books assembly.placings frame)
 
 -- ---- both
 

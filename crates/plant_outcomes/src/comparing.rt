@@ -63,7 +63,7 @@ fn first_map_stray(
         (IsMapStray plant.now steps.now (map view_of books.now) assembly.now)) }
 {
     if !is_same_plant(assembly.plant(), plant) {
-        return Ok(Some(plant.consts().get_fields().first_frame));
+        return Ok(Some(plant.consts().get_fields().channel.first_frame));
     }
     assembly.kept();
     first_put_stray(alloc, books, assembly.placings(), steps)

@@ -1,11 +1,11 @@
 //! Whether two values are the same.
 
 ghost use Rattle.std.specs.Prelude.{◌≡◌, ◌↔◌, IsTrue};
-ghost use Rattle.plant_outcomes.specs.Same.{HaveSameLimits, HaveSameRanges, HaveSameFrames, AreOfSameFlow, HaveSameRates, HaveSameIntervals};
+ghost use Rattle.plant_outcomes.specs.Same.{HaveSameLimits, HaveSameRanges, AreOfSameFlow, HaveSameRates, HaveSameIntervals};
 
 use admission::IdRange;
 use dsx_messages::Modem;
-use plant::{Class, Consts, ConstsFields, OperatorName, OperatorRow, Plant, Provision, RowFields};
+use plant::{Channel, Class, Consts, OperatorName, OperatorRow, Plant, Provision, RowFields};
 use slice_scheduler::Slice;
 use tlv24::{ClassName, ErrorEncodings, FlowFields, FlowTlv};
 
@@ -122,15 +122,11 @@ fn are_same_rows(a: &[OperatorRow], b: &[OperatorRow]) -> bool
     true
 }
 
-/// Whether what MAPs have in common is the same.
-fn have_same_frames(a: &ConstsFields, b: &ConstsFields) -> bool
-    ensures { IsTrue result ↔ HaveSameFrames a.now b.now }
+/// Whether two channels are the same.
+fn is_same_channel(a: Channel, b: Channel) -> bool
+    ensures { IsTrue result ↔ (a ≡ b) }
 {
-    a.frame_minislots == b.frame_minislots
-        && a.head == b.head
-        && a.units == b.units
-        && a.short_max == b.short_max
-        && a.first_frame == b.first_frame
+    a == b
 }
 
 /// Whether two classes have one name.
@@ -225,10 +221,9 @@ pub(crate) fn are_same_consts(a: &Consts, b: &Consts) -> bool
     ensures { IsTrue result ↔ (a.now ≡ b.now) }
 {
     let (a, b) = (a.get_fields(), b.get_fields());
-    have_same_frames(a, b)
-        && a.channel == b.channel
-        && a.ucd_count == b.ucd_count
-        && a.backoffs == b.backoffs
+    is_same_channel(a.channel, b.channel)
+        && a.units == b.units
+        && a.short_max == b.short_max
         && a.timers == b.timers
         && are_same_classes(a.classes.as_slice(), b.classes.as_slice())
 }

@@ -59,7 +59,7 @@ fn ticks_in(history: &[Entry]) -> u64 {
 
 /// An operator's frame number: one on from the first for each of its ticks.
 fn frame_of(core: &PlantCore, op: Op) -> u64 {
-    let first = u64::from(core.plant().consts().get_fields().first_frame);
+    let first = u64::from(core.plant().consts().get_fields().channel.first_frame);
     let ticks = match core.history(op) {
         Some(history) => ticks_in(history),
         None => 0,
@@ -88,7 +88,7 @@ fn last_of(row: SliceRow) -> u64 {
 fn off_frame(alloc: Global, core: &PlantCore, asked: &Asked, op: Op) -> Result<String, AllocError> {
     let name = name_at(core.plant(), op);
     let consts = core.plant().consts().get_fields();
-    let (head, frame) = (consts.head, consts.frame_minislots);
+    let (head, frame) = (consts.channel.head, consts.channel.frame_minislots);
     let row = row_at(asked, op);
     let (start, end) = (row.start, u64::from(row.start) + u64::from(row.length));
     if row.length == 0 {

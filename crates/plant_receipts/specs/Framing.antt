@@ -20,4 +20,4 @@ AreInOrder first (frame ∷ frames) = (frame.0 ≡ first) × AreInOrder (first +
 pub record AreFramesOf (own : OwnFrames) (book : BookView) : Type 0 where
   pub sids_are : own.sids ≡ book.row.sids
   pub frames_are : numbered own.frames.items ≡ frames_of (outputs_of book.history)
-  pub in_order : AreInOrder book.consts.first_frame (numbered own.frames.items)
+  pub in_order : AreInOrder book.consts.channel.first_frame (numbered own.frames.items)

@@ -26,9 +26,8 @@ use Rattle.operator_machine.specs.Replay.{BookView}
 use Rattle.operator_machine.specs.Slices.{SliceFrom, reslicings_in, MayRun}
 use Rattle.operator_machine.proofs.FrameLemmas.{arrived_none, worked_none, run_puts}
 use Rattle.operator_machine.proofs.KeptLemmas.{pairs-map}
-use Rattle.map_assembly.specs.declared.layout.MapLayout.{MapLayout}
+use Rattle.plant.specs.declared.consts.Channel.{Channel}
 use Rattle.map_assembly.specs.declared.slicing.Reslicing.{Reslicing}
-use Rattle.map_assembly.specs.Map.{layout_of}
 use Rattle.map_assembly.specs.Part.{share_of}
 use Rattle.map_assembly.specs.Plan.{IsInFrame, AreSlices}
 use Rattle.map_assembly.specs.Gathering.{Gathering, next_of, IsGathering, IsPast, MayReslice}
@@ -62,15 +61,15 @@ takes consts state from row h = by (nat_le from state.frame) (is_some state.next
     by false false true p q r h = cc
     by false false false p q r h = record { past = leb-false from state.frame p; free = q; on = r }
 
-in_frame : (consts : ConstsFields) (row : SliceRow) → is_off_frame consts row ≡ false → IsInFrame (layout_of consts) (slice_of row)
+in_frame : (consts : ConstsFields) (row : SliceRow) → is_off_frame consts row ≡ false → IsInFrame consts.channel (slice_of row)
 in_frame consts row h =
-    let a = or_parts ((row.length == 0) || nat_lt row.start consts.head) (nat_lt consts.frame_minislots (row.start + row.length)) h in
-    let b = or_parts (row.length == 0) (nat_lt row.start consts.head) a.0 in
+    let a = or_parts ((row.length == 0) || nat_lt row.start consts.channel.head) (nat_lt consts.channel.frame_minislots (row.start + row.length)) h in
+    let b = or_parts (row.length == 0) (nat_lt row.start consts.channel.head) a.0 in
     let some = eqb-false row.length 0 b.0 in
     record {
       some = omega (arith, some);
-      behind_head = ltb-false row.start consts.head b.1;
-      within_frame = ltb-false consts.frame_minislots (row.start + row.length) a.1;
+      behind_head = ltb-false row.start consts.channel.head b.1;
+      within_frame = ltb-false consts.channel.frame_minislots (row.start + row.length) a.1;
     }
 
 -- ---- how far the slices are given out
@@ -168,7 +167,7 @@ module _ (plant : PlantFields) (done : List Step) (outs : List Out) (core : Core
       let slice : slice_of offered.0 ≡ get_or (map slice_of rows) k d =
       sym (get_or_from_slice_get (map slice_of rows) k (slice_of offered.0) d (slice_get-map slice_of rows k ∙ ap (option_map slice_of) offered.1)) in
       subst (λ (m : Minislots). IsInFrame g.layout m) slice
-      (subst (λ (l : MapLayout). IsInFrame l (slice_of offered.0)) (sym reached.gathered.layout_is) (in_frame plant.consts offered.0 offered.2.on))
+      (subst (λ (l : Channel). IsInFrame l (slice_of offered.0)) (sym reached.gathered.layout_is) (in_frame plant.consts offered.0 offered.2.on))
 
   given : AreSlices g.layout (length g.shares) (map slice_of rows)
   given = record {
@@ -197,7 +196,7 @@ module _ (plant : PlantFields) (done : List Step) (outs : List Out) (core : Core
       let count = count_by is_tick (own_steps row i done) in
       let frames = frames_of (alone plant.consts row i done).outputs in
       let long : length frames ≡ count =
-      sym (length-map frames (λ (frame : Numbered). frame.0)) ∙ (ap (λ (ns : List ℕ). length ns) (numbers_are (alone plant.consts row i done).outputs ∙ puts.numbers) ∙ length_range plant.consts.first_frame count) in
+      sym (length-map frames (λ (frame : Numbered). frame.0)) ∙ (ap (λ (ns : List ℕ). length ns) (numbers_are (alone plant.consts row i done).outputs ∙ puts.numbers) ∙ length_range plant.consts.channel.first_frame count) in
       omega (arith, put_so_far plant done outs core valid reached is i row here, reached.gathered.collected i row here, long, puts.next)
 
   past : All (IsPast g from) g.queues

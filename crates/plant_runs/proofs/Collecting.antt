@@ -58,7 +58,7 @@ module _ (plant : PlantFields) (before : List Step) (outs : List Out) (k : ℕ) 
   -- what is the same whether a MAP is made
   gathered_reached : (new_maps : List MapBytes) → maps_in (outs ++ now) ≡ new_maps → AreMaps plant after new_maps
       → ((i : ℕ) (row : RowFields) (waiting : List Numbered) (put : List ElementsFields) → slice_get plant.rows i ≡ Some row → slice_get new.queues i ≡ Some waiting → slice_get new.gathering.queues i ≡ Some put → AreFramesAfter plant after (length new_maps) i row waiting put)
-      → IsCollected plant before after now → new.gathering.layout ≡ old.gathering.layout → new.gathering.shares ≡ old.gathering.shares → new.gathering.slices ≡ old.gathering.slices → new.gathering.reslicings ≡ old.gathering.reslicings → length new.gathering.queues ≡ length queues → new.gathering.next ≡ plant.consts.first_frame + length new_maps
+      → IsCollected plant before after now → new.gathering.layout ≡ old.gathering.layout → new.gathering.shares ≡ old.gathering.shares → new.gathering.slices ≡ old.gathering.slices → new.gathering.reslicings ≡ old.gathering.reslicings → length new.gathering.queues ≡ length queues → new.gathering.next ≡ plant.consts.channel.first_frame + length new_maps
       → Reached plant after (outs ++ now) new
   gathered_reached new_maps maps_are maps frames told layout shares slices reslicings puts next = record {
     plant_is = ap (λ (c : CoreView). c.plant) collects.new_is ∙ reached.plant_is;
@@ -81,7 +81,7 @@ module _ (plant : PlantFields) (before : List Step) (outs : List Out) (k : ℕ) 
           ∙ (reached.gathered.reslicings_are
           ∙ (sym (append-nil (reslicings_of before)) ∙ sym (filter_map-append reslicing_in before (steps.Collect k ∷ []))));
       one_each = puts ∙ (length-set old.gathering.queues k (queue_of old.gathering.queues k ++ collects.part ∷ []) ∙ reached.gathered.one_each);
-      next_is = next ∙ ap (λ (ms : List MapBytes). plant.consts.first_frame + length ms) (sym maps_are);
+      next_is = next ∙ ap (λ (ms : List MapBytes). plant.consts.channel.first_frame + length ms) (sym maps_are);
       collected = still_within plant before outs k now old new reached collects;
     };
   }

@@ -132,7 +132,7 @@ module _ (plant : PlantFields) (done : List Step) (outs : List Out) (core : Core
       rw (share, slice_there frame.0) (fitting row (slice_at row.slice (reslicings_in own) frame.0) frame.1 same mine)
 
   -- how far an operator's parts are put
-  pub put_so_far : next_of core.gathering i ≡ plant.consts.first_frame + collects_of i done
+  pub put_so_far : next_of core.gathering i ≡ plant.consts.channel.first_frame + collects_of i done
   put_so_far =
       let queue = some_at core.queues i (omega (arith, within, reached.one_queue)) in
       let put = some_at core.gathering.queues i (omega (arith, within, reached.gathered.one_each)) in
@@ -148,7 +148,7 @@ module _ (plant : PlantFields) (done : List Step) (outs : List Out) (core : Core
       let put = some_at core.gathering.queues i (omega (arith, within, reached.gathered.one_each)) in
       let after = reached.frames i row ((frame, part) ∷ waiting) put.0 here e put.1 in
       let there : slice_get frames (collects_of i done) ≡ Some (frame, part) = first_behind frames waiting (collects_of i done) (frame, part) (sym after.waiting_are) in
-      let number = number_at plant.consts.first_frame (collects_of i done) frames (frame, part) (are_numbered plant.consts row i done) there in
+      let number = number_at plant.consts.channel.first_frame (collects_of i done) frames (frame, part) (are_numbered plant.consts row i done) there in
       let least = reached.shown.maps.count.at_most i within in
       rw (
         lt-leb (length core.gathering.shares) i (omega (arith, within, shares_long)),

@@ -28,8 +28,8 @@ part_kept plant before step now tells i row e frame part is =
     let all = frames_more plant before step now tells i row e in
     elements_are frame (alone plant.consts row i (before ++ step ∷ [])).outputs
     ∙ (ap (of_number frame) all
-    ∙ number_kept frame plant.consts.first_frame (frames_of (alone plant.consts row i before).outputs) (frames_of (answers_of i now)) part
-    (subst (AreNumbered plant.consts.first_frame) all (are_numbered plant.consts row i (before ++ step ∷ [])))
+    ∙ number_kept frame plant.consts.channel.first_frame (frames_of (alone plant.consts row i before).outputs) (frames_of (answers_of i now)) part
+    (subst (AreNumbered plant.consts.channel.first_frame) all (are_numbered plant.consts row i (before ++ step ∷ [])))
     (sym (elements_are frame (alone plant.consts row i before).outputs) ∙ is))
 
 pub map_kept : (plant : PlantFields) (before : List Step) (step : Step) (now : List Out) → EachTells plant before step now → (made : MapBytes) → IsMapIn plant before made → IsMapIn plant (before ++ step ∷ []) made

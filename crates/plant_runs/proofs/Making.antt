@@ -7,7 +7,7 @@ use Rattle.std.proofs.lemmas.Option.{slice_get_within}
 use Rattle.slice_scheduler.specs.Minislots.{Minislots}
 use Rattle.slice_scheduler.specs.declared.elements.ElementsFields.{ElementsFields}
 use Rattle.plant.specs.declared.plant.PlantFields.{PlantFields}
-use Rattle.map_assembly.specs.declared.layout.MapLayout.{MapLayout}
+use Rattle.plant.specs.declared.consts.Channel.{Channel}
 use Rattle.map_assembly.specs.declared.map_bytes.MapBytes.{MapBytes}
 use Rattle.map_assembly.specs.declared.share.Share.{Share}
 use Rattle.map_assembly.specs.Part.{share_of}
@@ -97,7 +97,7 @@ module _ (plant : PlantFields) (before : List Step) (outs : List Out) (k : ℕ) 
 
   module _ (is : IsGathering old.gathering) (made : MapBytes) (whole : is_last old.gathering k collects.part ≡ true) (next : collects.frame ≡ old.gathering.next) (frame_is : made.frame ≡ collects.frame)
       (map_is : IsMapOf old.gathering.layout collects.frame old.gathering.shares (frame_slices old.gathering collects.frame) (frame_parts old.gathering k collects.part) made.bytes) where
-    number_is : made.frame ≡ plant.consts.first_frame + count_made
+    number_is : made.frame ≡ plant.consts.channel.first_frame + count_made
     number_is = frame_is ∙ (next ∙ reached.gathered.next_is)
 
     parts_at : ArePartsAt plant (then_collected plant before k) made.frame (frame_parts old.gathering k collects.part)
@@ -111,7 +111,7 @@ module _ (plant : PlantFields) (before : List Step) (outs : List Out) (k : ℕ) 
           let first = first_put count_made (collects_of i (then_collected plant before k)) all part (ap (λ (ps : List ElementsFields). slice_get ps 0) (sym are.put_are) ∙ front.first) in
           elements_are made.frame (alone plant.consts row i (then_collected plant before k)).outputs
           ∙ (ap (λ (n : ℕ). of_number n all) number_is
-          ∙ (found_at plant.consts.first_frame count_made all first.0 (are_numbered plant.consts row i (then_collected plant before k)) first.1 ∙ ap (λ (p : ElementsFields). p ∷ []) first.2));
+          ∙ (found_at plant.consts.channel.first_frame count_made all first.0 (are_numbered plant.consts row i (then_collected plant before k)) first.1 ∙ ap (λ (p : ElementsFields). p ∷ []) first.2));
     }
 
     pub made_in : IsMapIn plant (then_collected plant before k) made
@@ -121,16 +121,16 @@ module _ (plant : PlantFields) (before : List Step) (outs : List Out) (k : ℕ) 
           parts = parts;
           parts_are = parts_at;
           map_is =
-              subst (λ (l : MapLayout). IsMapOf l made.frame (map share_of plant.rows) (map (λ (p : ElementsFields). p.slice) parts) parts made.bytes) reached.gathered.layout_is
+              subst (λ (l : Channel). IsMapOf l made.frame (map share_of plant.rows) (map (λ (p : ElementsFields). p.slice) parts) parts made.bytes) reached.gathered.layout_is
               (subst (λ (n : ℕ). IsMapOf old.gathering.layout n (map share_of plant.rows) (map (λ (p : ElementsFields). p.slice) parts) parts made.bytes) (sym frame_is)
               (subst (λ (ss : List Share). IsMapOf old.gathering.layout collects.frame ss (map (λ (p : ElementsFields). p.slice) parts) parts made.bytes) reached.gathered.shares_are
               (subst (λ (ms : List Minislots). IsMapOf old.gathering.layout collects.frame old.gathering.shares ms parts made.bytes)
               (sym (parts_slices old.gathering k collects.frame collects.part is collects.fits whole)) map_is)));
         }
 
-    pub frames_pushed : map (λ m. m.frame) (maps_in outs ++ made ∷ []) ≡ range_with_len plant.consts.first_frame (length (maps_in outs ++ made ∷ []))
+    pub frames_pushed : map (λ m. m.frame) (maps_in outs ++ made ∷ []) ≡ range_with_len plant.consts.channel.first_frame (length (maps_in outs ++ made ∷ []))
     frames_pushed =
         map_push (λ (m : MapBytes). m.frame) (maps_in outs) made
         ∙ (ap (λ (ns : List ℕ). ns ++ made.frame ∷ []) reached.shown.maps.frames
-        ∙ (ap (λ (n : ℕ). range_with_len plant.consts.first_frame count_made ++ n ∷ []) number_is
-        ∙ (range_push plant.consts.first_frame count_made ∙ ap (range_with_len plant.consts.first_frame) (sym (length_push (maps_in outs) made)))))
+        ∙ (ap (λ (n : ℕ). range_with_len plant.consts.channel.first_frame count_made ++ n ∷ []) number_is
+        ∙ (range_push plant.consts.channel.first_frame count_made ∙ ap (range_with_len plant.consts.channel.first_frame) (sym (length_push (maps_in outs) made)))))

@@ -42,9 +42,9 @@ numbers_are (Silent modem cause ∷ outputs) = numbers_are outputs
 numbers_are (Frame number elements ∷ outputs) = ap (λ (ns : List ℕ). number ∷ ns) (numbers_are outputs)
 
 -- the frames of an operator's own machine are numbered from the first frame on
-pub are_numbered : (consts : ConstsFields) (row : RowFields) (i : ℕ) (steps : List Step) → AreNumbered consts.first_frame (frames_of (alone consts row i steps).outputs)
+pub are_numbered : (consts : ConstsFields) (row : RowFields) (i : ℕ) (steps : List Step) → AreNumbered consts.channel.first_frame (frames_of (alone consts row i steps).outputs)
 are_numbered consts row i steps =
-    by_range consts.first_frame (count_by is_tick (own_steps row i steps)) (frames_of (alone consts row i steps).outputs)
+    by_range consts.channel.first_frame (count_by is_tick (own_steps row i steps)) (frames_of (alone consts row i steps).outputs)
     (numbers_are (alone consts row i steps).outputs ∙ (run_puts consts row (opened consts row) (own_steps row i steps)).numbers)
 
 -- ---- the frame of a number

@@ -7,7 +7,7 @@ use Rattle.plant.specs.declared.operator_row.RowFields.{RowFields}
 use Rattle.plant.specs.declared.plant.PlantFields.{PlantFields}
 use Rattle.map_assembly.specs.declared.map_bytes.MapBytes.{MapBytes}
 use Rattle.map_assembly.specs.declared.view.MapView.{MapView}
-use Rattle.map_assembly.specs.Map.{layout_of, map_of}
+use Rattle.map_assembly.specs.Map.{map_of}
 use Rattle.map_assembly.specs.Part.{share_of}
 use Rattle.map_assembly.specs.Reading.{MapReads}
 use Rattle.map_assembly.specs.Tiled.{holds, part_of}
@@ -27,7 +27,7 @@ own_part_is plant steps i row made view e m reads =
       part = there.0;
       put = m.parts_are.own i row there.0 e there.1;
       part_is =
-          ap (part_of row.sids) (reads_once made.bytes view (map_of (layout_of plant.consts) made.frame m.parts) reads m.map_is.reads)
+          ap (part_of row.sids) (reads_once made.bytes view (map_of plant.consts.channel made.frame m.parts) reads m.map_is.reads)
           ∙ m.map_is.own i (share_of row) there.0 (slice_get-map share_of plant.rows i ∙ ap (option_map share_of) e) there.1;
     }
 
@@ -35,7 +35,7 @@ own_part_is plant steps i row made view e m reads =
 pub shared_out : (plant : PlantFields) (steps : List Step) (outs : List Out) (made : MapBytes) (view : MapView) → Shown plant steps outs → Contains (maps_in outs) made → MapReads made.bytes view → IsSharedOut plant steps made view
 shared_out plant steps outs made view shown within reads =
     let m : IsMapIn plant steps made = All-contains (IsMapIn plant steps) (maps_in outs) made shown.maps.each within in
-    let same : view ≡ map_of (layout_of plant.consts) made.frame m.parts = reads_once made.bytes view (map_of (layout_of plant.consts) made.frame m.parts) reads m.map_is.reads in
+    let same : view ≡ map_of plant.consts.channel made.frame m.parts = reads_once made.bytes view (map_of plant.consts.channel made.frame m.parts) reads m.map_is.reads in
     record {
       once = λ n lt. ap (λ (v : MapView). count_by (holds n) v.spans) same ∙ m.map_is.tiled.once n lt;
       own = λ i row e. own_part_is plant steps i row made view e m reads;

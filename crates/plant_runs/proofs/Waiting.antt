@@ -93,7 +93,7 @@ module _ (plant : PlantFields) (before : List Step) (outs : List Out) (step : St
         reslicings
         ∙ (ap (λ (rs : List Reslicing). rs ++ reslicings_of (step ∷ [])) is.reslicings_are ∙ sym (filter_map-append reslicing_in before (step ∷ [])));
     one_each = ap length queues ∙ is.one_each;
-    next_is = next ∙ (is.next_is ∙ ap (λ ms. plant.consts.first_frame + length ms) (sym (maps_same plant before outs step now tells others none)));
+    next_is = next ∙ (is.next_is ∙ ap (λ ms. plant.consts.channel.first_frame + length ms) (sym (maps_same plant before outs step now tells others none)));
     collected = λ i row e.
         let count = collects_same i before step (others i) in
         let all = ap length (frames_more plant before step now tells i row e) in

@@ -6,7 +6,6 @@ use Rattle.plant.specs.declared.plant.PlantFields.{PlantFields}
 use Rattle.operator_machine.specs.declared.output.Output.{Output}
 use Rattle.operator_machine.specs.declared.output.Output.TheVariants.{Reply, Silent, Frame}
 use Rattle.operator_machine.specs.Replay.{BookView, IsReplay, actions_of}
-use Rattle.map_assembly.specs.Map.{layout_of}
 use Rattle.map_assembly.specs.Part.{share_of}
 use Rattle.map_assembly.specs.Gathering.{Gathering}
 use Rattle.plant_runs.specs.declared.step.Step.{Step}
@@ -48,12 +47,12 @@ pub record AreFramesAfter (plant : PlantFields) (steps : List Step) (made : ℕ)
 -- what is gathered after the run: it is gathered for the plant and its re-slicings, the next MAP is the one behind those that were made, and no
 -- more frames of an operator were collected than it put out
 pub record IsGatheredAfter (plant : PlantFields) (steps : List Step) (outs : List Out) (gathering : Gathering) : Type 0 where
-  pub layout_is : gathering.layout ≡ layout_of plant.consts
+  pub layout_is : gathering.layout ≡ plant.consts.channel
   pub shares_are : gathering.shares ≡ map share_of plant.rows
   pub slices_are : gathering.slices ≡ map (λ row. row.slice) plant.rows
   pub reslicings_are : gathering.reslicings ≡ reslicings_of steps
   pub one_each : length gathering.queues ≡ length plant.rows
-  pub next_is : gathering.next ≡ plant.consts.first_frame + length (maps_in outs)
+  pub next_is : gathering.next ≡ plant.consts.channel.first_frame + length (maps_in outs)
   pub collected : (i : ℕ) (row : RowFields) → slice_get plant.rows i ≡ Some row → collects_of i steps ≤ length (frames_of (alone plant.consts row i steps).outputs)
 
 pub record Reached (plant : PlantFields) (steps : List Step) (outs : List Out) (core : CoreView) : Type 0 where

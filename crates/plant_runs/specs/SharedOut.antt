@@ -17,5 +17,5 @@ pub record IsOwnPart (plant : PlantFields) (steps : List Step) (i : ℕ) (row : 
 
 -- each minislot of the frame is given once, and each operator's part is its own
 pub record IsSharedOut (plant : PlantFields) (steps : List Step) (made : MapBytes) (view : MapView) : Type 0 where
-  pub once : (m : ℕ) → m < plant.consts.frame_minislots → count_by (holds m) view.spans ≡ 1
+  pub once : (m : ℕ) → m < plant.consts.channel.frame_minislots → count_by (holds m) view.spans ≡ 1
   pub own : (i : ℕ) (row : RowFields) → slice_get plant.rows i ≡ Some row → IsOwnPart plant steps i row made view

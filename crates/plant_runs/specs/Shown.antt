@@ -11,7 +11,6 @@ use Rattle.operator_machine.specs.State.{opened, operator}
 use Rattle.operator_machine.specs.Handle.{Ran}
 use Rattle.operator_machine.specs.Machine.{own_run}
 use Rattle.map_assembly.specs.declared.map_bytes.MapBytes.{MapBytes}
-use Rattle.map_assembly.specs.Map.{layout_of}
 use Rattle.map_assembly.specs.Part.{share_of}
 use Rattle.map_assembly.specs.Assembled.{IsMapOf}
 use Rattle.plant_runs.specs.declared.step.Step.{Step}
@@ -47,7 +46,7 @@ pub record ArePartsAt (plant : PlantFields) (steps : List Step) (frame : ℕ) (p
 pub record IsMapIn (plant : PlantFields) (steps : List Step) (made : MapBytes) : Type 0 where
   pub parts : List ElementsFields
   pub parts_are : ArePartsAt plant steps made.frame parts
-  pub map_is : IsMapOf (layout_of plant.consts) made.frame (map share_of plant.rows) (map (λ part. part.slice) parts) parts made.bytes
+  pub map_is : IsMapOf plant.consts.channel made.frame (map share_of plant.rows) (map (λ part. part.slice) parts) parts made.bytes
 
 -- as many MAPs as each operator's frames were collected at least
 pub record IsLeast (plant : PlantFields) (steps : List Step) (count : ℕ) : Type 0 where
@@ -56,7 +55,7 @@ pub record IsLeast (plant : PlantFields) (steps : List Step) (count : ℕ) : Typ
 
 -- the MAPs are those of the frames from the first one on, each once and in order, as many as were collected of each operator
 pub record AreMaps (plant : PlantFields) (steps : List Step) (made : List MapBytes) : Type 0 where
-  pub frames : map (λ m. m.frame) made ≡ range_with_len plant.consts.first_frame (length made)
+  pub frames : map (λ m. m.frame) made ≡ range_with_len plant.consts.channel.first_frame (length made)
   pub count : IsLeast plant steps (length made)
   pub each : All (IsMapIn plant steps) made
 

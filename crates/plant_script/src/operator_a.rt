@@ -9,7 +9,7 @@ use dsx_messages::Modem;
 use grant_policy::Policy;
 use param_sets::Units;
 use plant::{
-    Backoffs, Classes, Consts, ConstsFields, Modems, OperatorName, OperatorRow, Provisions,
+    Backoffs, Channel, Classes, Consts, ConstsFields, Modems, OperatorName, OperatorRow, Provisions,
     RowFields,
 };
 use slice_scheduler::Slice;
@@ -61,20 +61,22 @@ pub fn consts_a(alloc: Global) -> Consts
     ensures { result ≡ consts_a }
 {
     Consts::new(ConstsFields {
-        frame_minislots: 72,
-        head: 8,
+        channel: Channel {
+            frame_minislots: 72,
+            head: 8,
+            id: 1,
+            ucd_count: 1,
+            backoffs: Backoffs {
+                ranging_start: 0,
+                ranging_end: 0,
+                data_start: 0,
+                data_end: 0,
+            },
+            first_frame: 0,
+        },
         units: Units::new(2000, 16),
         short_max: 4,
-        channel: 1,
-        ucd_count: 1,
-        backoffs: Backoffs {
-            ranging_start: 0,
-            ranging_end: 0,
-            data_start: 0,
-            data_end: 0,
-        },
         timers: Timers::new(150, 3, 1500),
-        first_frame: 0,
         classes: Classes::from_vec(Vec::new(alloc)),
     })
 }

@@ -71,7 +71,7 @@ module _ (first_frame : ℕ) (all : List Step) (count : ℕ) where
   least_more (Some a) (Some b) least own = the_lesser a b least own (which a b)
 
 -- the least of all operators
-pub least_of_all : (plant : PlantFields) (all : List Step) (count : ℕ) → length plant.rows ≡ count → (place : Option ℕ) → IsLeastOf plant.consts.first_frame all count place
+pub least_of_all : (plant : PlantFields) (all : List Step) (count : ℕ) → length plant.rows ≡ count → (place : Option ℕ) → IsLeastOf plant.consts.channel.first_frame all count place
     → MatchOption place (NoneSpentBefore plant all (length all)) (IsFirstSpent plant all)
 least_of_all plant all count is None least = λ i op lt below. least i op (omega (arith, below, is))
 least_of_all plant all count is (Some place) least = record {

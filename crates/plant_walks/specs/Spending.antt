@@ -19,11 +19,11 @@ IsOwnSpent first_frame op all (Some place) =
 -- no operator of the plant has its frame numbers spent at an earlier place
 abbrev pub NoneSpentBefore : PlantFields → List Step → ℕ → Type 0
 NoneSpentBefore plant all place =
-    (i op : ℕ) → i < place → op < length plant.rows → IsSpentAt plant.consts.first_frame op all i → ⊥
+    (i op : ℕ) → i < place → op < length plant.rows → IsSpentAt plant.consts.channel.first_frame op all i → ⊥
 
 -- at this place, and at none before it, an operator of the plant has its frame numbers spent
 pub record IsFirstSpent (plant : PlantFields) (all : List Step) (place : ℕ) : Type 0 where
   pub op : ℕ
   pub known : op < length plant.rows
-  pub spent : IsSpentAt plant.consts.first_frame op all place
+  pub spent : IsSpentAt plant.consts.channel.first_frame op all place
   pub before : NoneSpentBefore plant all place

@@ -55,7 +55,7 @@ pub fn first_spent(plant: &Plant, steps: &[Step]) -> Option<usize>
     ensures { MatchOption result (NoneSpentBefore plant.now steps.now (length steps.now))
         (IsFirstSpent plant.now steps.now) }
 {
-    let first_frame = plant.consts().get_fields().first_frame;
+    let first_frame = plant.consts().get_fields().channel.first_frame;
     let mut least = None;
     for op in 0..plant.rows().len() {
         least = lesser(least, spent_of(first_frame, op, steps));

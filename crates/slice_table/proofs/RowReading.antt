@@ -46,8 +46,8 @@ name_read rows place ms name h =
 
 -- minislots of a frame, behind its head
 record IsSliceOf (consts : ConstsFields) (slice : Minislots) : Type 0 where
-  pub behind_head : consts.head ≤ slice.start
-  pub within_frame : slice.start + slice.length ≤ consts.frame_minislots
+  pub behind_head : consts.channel.head ≤ slice.start
+  pub within_frame : slice.start + slice.length ≤ consts.channel.frame_minislots
 
 slice_read : (consts : ConstsFields) (place : Place) (ms : Members) (slice : Minislots) → slice_at consts place ms ≡ Ok slice → IsSliceOf consts slice
 unfolding slice_at is_within
@@ -55,11 +55,11 @@ slice_read consts place ms slice h =
     let pair = bind_ok (pair_at place field.Slice ms) _ slice h in
     let made : Minislots = record { start = pair.0.0; length = pair.0.1 } in
     let test = checked_ok (Entry place field.Slice) (is_within consts pair.0.0 pair.0.1) made slice pair.2 in
-    let parts = and_parts (nat_le consts.head pair.0.0 && nat_le 1 pair.0.1) (nat_le (pair.0.0 + pair.0.1) consts.frame_minislots) test.0 in
-    let low = and_parts (nat_le consts.head pair.0.0) (nat_le 1 pair.0.1) parts.0 in
+    let parts = and_parts (nat_le consts.channel.head pair.0.0 && nat_le 1 pair.0.1) (nat_le (pair.0.0 + pair.0.1) consts.channel.frame_minislots) test.0 in
+    let low = and_parts (nat_le consts.channel.head pair.0.0) (nat_le 1 pair.0.1) parts.0 in
     subst (IsSliceOf consts) test.1 (record {
-      behind_head = at_most consts.head pair.0.0 low.0;
-      within_frame = at_most (pair.0.0 + pair.0.1) consts.frame_minislots parts.1;
+      behind_head = at_most consts.channel.head pair.0.0 low.0;
+      within_frame = at_most (pair.0.0 + pair.0.1) consts.channel.frame_minislots parts.1;
     })
 
 range_read : (place : Place) (f : Field) (high : ℕ) (ms : Members) (range : Numbers) → range_at place f high ms ≡ Ok range → (1 ≤ range.first) × (range.last ≤ high)
@@ -135,8 +135,8 @@ provisions_read consts operator modems (Some d) ps h = provisions_there consts o
 -- a row beside what all operators share, but for its budget and what its flows need
 pub record IsReadRow (consts : ConstsFields) (row : RowFields) : Type 0 where
   pub keys : IsRow row
-  pub behind_head : consts.head ≤ row.slice.start
-  pub within_frame : row.slice.start + row.slice.length ≤ consts.frame_minislots
+  pub behind_head : consts.channel.head ≤ row.slice.start
+  pub within_frame : row.slice.start + row.slice.length ≤ consts.channel.frame_minislots
   pub provisions : All (IsProvision consts row) row.provisions
 
 one_at : (consts : ConstsFields) (rows : List RowFields) (operator : ℕ) (ms : Members) (row : RowFields) → row_at consts rows operator ms ≡ Ok row

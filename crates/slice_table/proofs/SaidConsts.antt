@@ -96,28 +96,23 @@ keys_said ms keys classes h =
     let head = bind_ok (number_at place.Plant field.Head 0 frame.0 ms) _ keys frame.2 in
     let units = bind_ok (units_at ms) _ keys head.2 in
     let short_max = bind_ok (number_at place.Plant field.ShortMax 0 4096 ms) _ keys units.2 in
-    let channel = bind_ok (number_at place.Plant field.Channel 0 255 ms) _ keys short_max.2 in
-    let ucd_count = bind_ok (number_at place.Plant field.UcdCount 0 255 ms) _ keys channel.2 in
+    let id = bind_ok (number_at place.Plant field.Channel 0 255 ms) _ keys short_max.2 in
+    let ucd_count = bind_ok (number_at place.Plant field.UcdCount 0 255 ms) _ keys id.2 in
     let backoffs = bind_ok (backoffs_at ms) _ keys ucd_count.2 in
     let timers = bind_ok (timers_at ms) _ keys backoffs.2 in
     let first_frame = bind_ok (number_or place.Plant field.FirstFrame 0 4294967295 0 ms) _ keys timers.2 in
     let made : PlantKeys = record {
-      frame_minislots = frame.0;
-      head = head.0;
+      channel = record { frame_minislots = frame.0; head = head.0; id = id.0; ucd_count = ucd_count.0; backoffs = backoffs.0; first_frame = first_frame.0 };
       units = units.0;
       short_max = short_max.0;
-      channel = channel.0;
-      ucd_count = ucd_count.0;
-      backoffs = backoffs.0;
       timers = timers.0;
-      first_frame = first_frame.0;
     } in
     subst (λ (k : PlantKeys). SaysKeys ms (with_classes k classes)) (ok_same made keys first_frame.2) (record {
       frame_minislots = (number_is place.Plant field.FrameMinislots 1 4096 ms frame.0).0 frame.1;
       head = (number_is place.Plant field.Head 0 frame.0 ms head.0).0 head.1;
       units = (units_are ms units.0).0 units.1;
       short_max = (number_is place.Plant field.ShortMax 0 4096 ms short_max.0).0 short_max.1;
-      channel = (number_is place.Plant field.Channel 0 255 ms channel.0).0 channel.1;
+      id = (number_is place.Plant field.Channel 0 255 ms id.0).0 id.1;
       ucd_count = (number_is place.Plant field.UcdCount 0 255 ms ucd_count.0).0 ucd_count.1;
       backoffs = (backoffs_are ms backoffs.0).0 backoffs.1;
       timers = (timers_are ms timers.0).0 timers.1;
@@ -127,15 +122,15 @@ keys_said ms keys classes h =
 keys_again : (ms : Members) (consts : ConstsFields) (keys : PlantKeys) → with_classes keys consts.classes ≡ consts → SaysKeys ms (with_classes keys consts.classes) → plant_keys_at ms ≡ Ok keys
 unfolding plant_keys_at
 keys_again ms consts keys is s =
-    bind_both (number_at place.Plant field.FrameMinislots 1 4096 ms) _ keys.frame_minislots keys ((number_is place.Plant field.FrameMinislots 1 4096 ms keys.frame_minislots).1 s.frame_minislots)
-    (bind_both (number_at place.Plant field.Head 0 keys.frame_minislots ms) _ keys.head keys ((number_is place.Plant field.Head 0 keys.frame_minislots ms keys.head).1 s.head)
+    bind_both (number_at place.Plant field.FrameMinislots 1 4096 ms) _ keys.channel.frame_minislots keys ((number_is place.Plant field.FrameMinislots 1 4096 ms keys.channel.frame_minislots).1 s.frame_minislots)
+    (bind_both (number_at place.Plant field.Head 0 keys.channel.frame_minislots ms) _ keys.channel.head keys ((number_is place.Plant field.Head 0 keys.channel.frame_minislots ms keys.channel.head).1 s.head)
     (bind_both (units_at ms) _ keys.units keys ((units_are ms keys.units).1 s.units)
     (bind_both (number_at place.Plant field.ShortMax 0 4096 ms) _ keys.short_max keys ((number_is place.Plant field.ShortMax 0 4096 ms keys.short_max).1 s.short_max)
-    (bind_both (number_at place.Plant field.Channel 0 255 ms) _ keys.channel keys ((number_is place.Plant field.Channel 0 255 ms keys.channel).1 s.channel)
-    (bind_both (number_at place.Plant field.UcdCount 0 255 ms) _ keys.ucd_count keys ((number_is place.Plant field.UcdCount 0 255 ms keys.ucd_count).1 s.ucd_count)
-    (bind_both (backoffs_at ms) _ keys.backoffs keys ((backoffs_are ms keys.backoffs).1 s.backoffs)
+    (bind_both (number_at place.Plant field.Channel 0 255 ms) _ keys.channel.id keys ((number_is place.Plant field.Channel 0 255 ms keys.channel.id).1 s.id)
+    (bind_both (number_at place.Plant field.UcdCount 0 255 ms) _ keys.channel.ucd_count keys ((number_is place.Plant field.UcdCount 0 255 ms keys.channel.ucd_count).1 s.ucd_count)
+    (bind_both (backoffs_at ms) _ keys.channel.backoffs keys ((backoffs_are ms keys.channel.backoffs).1 s.backoffs)
     (bind_both (timers_at ms) _ keys.timers keys ((timers_are ms keys.timers).1 s.timers)
-    (bind_both (number_or place.Plant field.FirstFrame 0 4294967295 0 ms) _ keys.first_frame keys ((number_or_is place.Plant field.FirstFrame 0 4294967295 0 ms keys.first_frame).1 s.first_frame) refl))))))))
+    (bind_both (number_or place.Plant field.FirstFrame 0 4294967295 0 ms) _ keys.channel.first_frame keys ((number_or_is place.Plant field.FirstFrame 0 4294967295 0 ms keys.channel.first_frame).1 s.first_frame) refl))))))))
 
 keys_of_said : (document : Members) (keys : PlantKeys) (classes : List Class) → plant_keys_of document ≡ Ok keys
     → (ms : Members) × (get_member (codes "plant") document ≡ Some (table ms)) × SaysKeys ms (with_classes keys classes)
@@ -265,15 +260,10 @@ classes_are document classes = (
 -- the keys of the table `plant` among all of them
 keys_among : ConstsFields → PlantKeys
 keys_among consts = record {
-  frame_minislots = consts.frame_minislots;
-  head = consts.head;
+  channel = consts.channel;
   units = consts.units;
   short_max = consts.short_max;
-  channel = consts.channel;
-  ucd_count = consts.ucd_count;
-  backoffs = consts.backoffs;
   timers = consts.timers;
-  first_frame = consts.first_frame;
 }
 
 pub consts_are : (document : Members) (consts : ConstsFields) → (consts_of document ≡ Ok consts) ↔ SaysConsts document consts

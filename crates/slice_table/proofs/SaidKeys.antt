@@ -168,20 +168,20 @@ slice_is consts place ms slice = (
       let pair = bind_ok (pair_at place field.Slice ms) _ slice h in
       let made : Minislots = record { start = pair.0.0; length = pair.0.1 } in
       let test = checked_ok (Entry place field.Slice) (is_within consts pair.0.0 pair.0.1) made slice pair.2 in
-      let parts = and_parts (nat_le consts.head pair.0.0 && nat_le 1 pair.0.1) (nat_le (pair.0.0 + pair.0.1) consts.frame_minislots) test.0 in
-      let low = and_parts (nat_le consts.head pair.0.0) (nat_le 1 pair.0.1) parts.0 in
+      let parts = and_parts (nat_le consts.channel.head pair.0.0 && nat_le 1 pair.0.1) (nat_le (pair.0.0 + pair.0.1) consts.channel.frame_minislots) test.0 in
+      let low = and_parts (nat_le consts.channel.head pair.0.0) (nat_le 1 pair.0.1) parts.0 in
       subst (SaysSlice consts ms) test.1 (record {
         held = pair_said place field.Slice ms pair.0.0 pair.0.1 pair.1;
-        behind_head = at_most consts.head pair.0.0 low.0;
+        behind_head = at_most consts.channel.head pair.0.0 low.0;
         some = at_most 1 pair.0.1 low.1;
-        within_frame = at_most (pair.0.0 + pair.0.1) consts.frame_minislots parts.1;
+        within_frame = at_most (pair.0.0 + pair.0.1) consts.channel.frame_minislots parts.1;
       }),
   λ s.
-      let low = both_true (nat_le consts.head slice.start) (nat_le 1 slice.length) (le_true consts.head slice.start s.behind_head) (le_true 1 slice.length s.some) in
+      let low = both_true (nat_le consts.channel.head slice.start) (nat_le 1 slice.length) (le_true consts.channel.head slice.start s.behind_head) (le_true 1 slice.length s.some) in
       bind_both (pair_at place field.Slice ms) _ (slice.start, slice.length) slice (pair_again place field.Slice ms slice.start slice.length s.held)
       (checked_said (Entry place field.Slice) (is_within consts slice.start slice.length) slice
-      (both_true (nat_le consts.head slice.start && nat_le 1 slice.length) (nat_le (slice.start + slice.length) consts.frame_minislots) low
-      (le_true (slice.start + slice.length) consts.frame_minislots s.within_frame))),
+      (both_true (nat_le consts.channel.head slice.start && nat_le 1 slice.length) (nat_le (slice.start + slice.length) consts.channel.frame_minislots) low
+      (le_true (slice.start + slice.length) consts.channel.frame_minislots s.within_frame))),
 )
 
 pub range_is : (place : Place) (f : Field) (high : ℕ) (ms : Members) (range : Numbers) → (range_at place f high ms ≡ Ok range) ↔ SaysRange ms f high range

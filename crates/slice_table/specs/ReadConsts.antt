@@ -19,7 +19,7 @@ use Rattle.slice_table.specs.declared.plant_key.Place.{Place}
 use Rattle.slice_table.specs.declared.plant_key.Place.TheVariants as place
 use Rattle.slice_table.specs.declared.plant_key.Field.TheVariants as field
 use Rattle.plant.specs.Classes.{is_named}
-use Rattle.plant.specs.Consts.{AreBackoffs}
+use Rattle.plant.specs.Consts.{IsChannel}
 use Rattle.slice_table.specs.Tree.{Read, ◌>>=◌, each, items_len, required, expected, checked, number_at, number_or, text_at, bytes_at, table_of}
 
 -- ---- the table `plant`
@@ -51,21 +51,16 @@ plant_keys_at ms = do
   head ← number_at place.Plant field.Head 0 frame_minislots ms
   units ← units_at ms
   short_max ← number_at place.Plant field.ShortMax 0 4096 ms
-  channel ← number_at place.Plant field.Channel 0 255 ms
+  id ← number_at place.Plant field.Channel 0 255 ms
   ucd_count ← number_at place.Plant field.UcdCount 0 255 ms
   backoffs ← backoffs_at ms
   timers ← timers_at ms
   first_frame ← number_or place.Plant field.FirstFrame 0 4294967295 0 ms
   Ok (record {
-    frame_minislots = frame_minislots;
-    head = head;
+    channel = record { frame_minislots = frame_minislots; head = head; id = id; ucd_count = ucd_count; backoffs = backoffs; first_frame = first_frame };
     units = units;
     short_max = short_max;
-    channel = channel;
-    ucd_count = ucd_count;
-    backoffs = backoffs;
     timers = timers;
-    first_frame = first_frame;
   })
 
 -- where there is no table `plant`, its first key is missing
@@ -126,15 +121,10 @@ classes_if (Some d) = classes_in d
 
 abbrev pub with_classes : PlantKeys → List Class → ConstsFields
 with_classes keys classes = record {
-  frame_minislots = keys.frame_minislots;
-  head = keys.head;
+  channel = keys.channel;
   units = keys.units;
   short_max = keys.short_max;
-  channel = keys.channel;
-  ucd_count = keys.ucd_count;
-  backoffs = keys.backoffs;
   timers = keys.timers;
-  first_frame = keys.first_frame;
   classes = classes;
 }
 
@@ -146,8 +136,5 @@ consts_of ms = do
 
 -- the keys of the table `plant`, each in its range
 pub record AreKeys (keys : PlantKeys) : Type 0 where
-  pub some_frame : 1 ≤ keys.frame_minislots
-  pub frame : keys.frame_minislots ≤ 4096
-  pub head : keys.head ≤ keys.frame_minislots
+  pub channel : IsChannel keys.channel
   pub short_max : keys.short_max ≤ 4096
-  pub backoffs : AreBackoffs keys.backoffs

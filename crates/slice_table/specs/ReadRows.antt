@@ -40,7 +40,7 @@ name_at rows place ms = do
 
 -- minislots behind the head and within the frame
 unfoldable pub is_within : ConstsFields → ℕ → ℕ → Bool
-is_within consts start length = (nat_le consts.head start && nat_le 1 length) && nat_le (start + length) consts.frame_minislots
+is_within consts start length = (nat_le consts.channel.head start && nat_le 1 length) && nat_le (start + length) consts.channel.frame_minislots
 
 unfoldable pub slice_at : ConstsFields → Place → Members → Read Minislots
 slice_at consts place ms = do

@@ -76,15 +76,15 @@ pub record SaysTimers (ms : Members) (timers : Waits) : Type 0 where
 
 -- the keys of the table `plant`
 pub record SaysKeys (ms : Members) (consts : ConstsFields) : Type 0 where
-  pub frame_minislots : SaysNumber ms field.FrameMinislots 1 4096 consts.frame_minislots
-  pub head : SaysNumber ms field.Head 0 consts.frame_minislots consts.head
+  pub frame_minislots : SaysNumber ms field.FrameMinislots 1 4096 consts.channel.frame_minislots
+  pub head : SaysNumber ms field.Head 0 consts.channel.frame_minislots consts.channel.head
   pub units : SaysUnits ms consts.units
   pub short_max : SaysNumber ms field.ShortMax 0 4096 consts.short_max
-  pub channel : SaysNumber ms field.Channel 0 255 consts.channel
-  pub ucd_count : SaysNumber ms field.UcdCount 0 255 consts.ucd_count
-  pub backoffs : SaysBackoffs ms consts.backoffs
+  pub id : SaysNumber ms field.Channel 0 255 consts.channel.id
+  pub ucd_count : SaysNumber ms field.UcdCount 0 255 consts.channel.ucd_count
+  pub backoffs : SaysBackoffs ms consts.channel.backoffs
   pub timers : SaysTimers ms consts.timers
-  pub first_frame : SaysNumberOr ms field.FirstFrame 0 4294967295 0 consts.first_frame
+  pub first_frame : SaysNumberOr ms field.FirstFrame 0 4294967295 0 consts.channel.first_frame
 
 -- ---- the array `class`
 
@@ -132,9 +132,9 @@ pub record SaysName (before : List RowFields) (ms : Members) (name : List ℕ) :
 -- its minislots: at least one, behind the head and within the frame
 pub record SaysSlice (consts : ConstsFields) (ms : Members) (slice : Minislots) : Type 0 where
   pub held : at_field field.Slice ms ≡ Some (two slice.start slice.length)
-  pub behind_head : consts.head ≤ slice.start
+  pub behind_head : consts.channel.head ≤ slice.start
   pub some : 1 ≤ slice.length
-  pub within_frame : slice.start + slice.length ≤ consts.frame_minislots
+  pub within_frame : slice.start + slice.length ≤ consts.channel.frame_minislots
 
 -- a range of identifiers from 1 to high
 pub record SaysRange (ms : Members) (f : Field) (high : ℕ) (range : Numbers) : Type 0 where

@@ -15,7 +15,7 @@ use crate::plant_fault::PlantFault;
 use crate::plant_key::{Field, Key, Place};
 use crate::tree::{array_of, bytes_at, entry, number_at, number_or, table_of, text_at};
 use param_sets::Units;
-use plant::{Backoffs, Class, Classes, Consts, ConstsFields, is_alphanumeric};
+use plant::{Backoffs, Channel, Class, Classes, Consts, ConstsFields, is_alphanumeric};
 use std::alloc::Global;
 use tlv24::{ClassName, FlowTlv, read_flow};
 use toml::{Table, Value};
@@ -24,15 +24,10 @@ use transactions::Timers;
 /// The keys of the table `plant`.
 #[derive(Clone, Copy)]
 pub struct PlantKeys {
-    pub frame_minislots: u16,
-    pub head: u16,
+    pub channel: Channel,
     pub units: Units,
     pub short_max: u16,
-    pub channel: u8,
-    pub ucd_count: u8,
-    pub backoffs: Backoffs,
     pub timers: Timers,
-    pub first_frame: u32,
 }
 
 /// How long a frame is and how much a minislot carries.
@@ -84,21 +79,23 @@ fn plant_keys_at(table: &Table) -> Result<PlantKeys, PlantFault>
     let head = number_at(table, Place::Plant, Field::Head, 0, frame_minislots)?;
     let units = units_at(table)?;
     let short_max = number_at(table, Place::Plant, Field::ShortMax, 0, 4_096)?;
-    let channel = number_at(table, Place::Plant, Field::Channel, 0, 255)?;
+    let id = number_at(table, Place::Plant, Field::Channel, 0, 255)?;
     let ucd_count = number_at(table, Place::Plant, Field::UcdCount, 0, 255)?;
     let backoffs = backoffs_at(table)?;
     let timers = timers_at(table)?;
     let first_frame = number_or(table, Place::Plant, Field::FirstFrame, 0, u32::MAX, 0)?;
     Ok(PlantKeys {
-        frame_minislots: frame_minislots as u16,
-        head: head as u16,
+        channel: Channel {
+            frame_minislots: frame_minislots as u16,
+            head: head as u16,
+            id: id as u8,
+            ucd_count: ucd_count as u8,
+            backoffs,
+            first_frame,
+        },
         units,
         short_max: short_max as u16,
-        channel: channel as u8,
-        ucd_count: ucd_count as u8,
-        backoffs,
         timers,
-        first_frame,
     })
 }
 
@@ -225,15 +222,10 @@ pub(crate) fn consts_of(alloc: Global, document: &Table) -> Result<Consts, Plant
     let keys = plant_keys_of(document)?;
     let classes = classes_of(alloc, document)?;
     Ok(Consts::new(ConstsFields {
-        frame_minislots: keys.frame_minislots,
-        head: keys.head,
+        channel: keys.channel,
         units: keys.units,
         short_max: keys.short_max,
-        channel: keys.channel,
-        ucd_count: keys.ucd_count,
-        backoffs: keys.backoffs,
         timers: keys.timers,
-        first_frame: keys.first_frame,
         classes,
     }))
 }

@@ -63,7 +63,7 @@ fn slice_of(consts: &Consts, start: u64, length: u64) -> Option<Slice>
         else None) }
 {
     let fields = consts.get_fields();
-    let (head, frame) = (u64::from(fields.head), u64::from(fields.frame_minislots));
+    let (head, frame) = (u64::from(fields.channel.head), u64::from(fields.channel.frame_minislots));
     if head <= start && 1 <= length && length <= frame && start <= frame - length {
         Some(Slice::new(start as u16, length as u16))
     } else {

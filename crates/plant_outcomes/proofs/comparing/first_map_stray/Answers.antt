@@ -15,7 +15,7 @@ returns g c =
     let are = all_numbered c.args.plant.now c.args.steps.now (map view_of c.args.books.now) c.args.assembly.now (omega (arith, long, c.requires.one_each)) c.requires.own same c.kept.ensures.made in
     ok_weaker _ _ c.first_put_stray.result
     (λ o told. map_told c.args.plant.now c.args.steps.now (map view_of c.args.books.now) c.args.assembly.now same o
-    (subst (λ (ps : List Placing). AllAreNumbered c.args.plant.now.consts.first_frame c.args.steps.now (map view_of c.args.books.now) ps
-    → MatchOption o (ArePut c.args.steps.now (map view_of c.args.books.now) ps) (IsPutStray c.args.plant.now.consts.first_frame c.args.steps.now (map view_of c.args.books.now) ps))
-    c.placings.ensures (told c.args.plant.now.consts.first_frame) are))
+    (subst (λ (ps : List Placing). AllAreNumbered c.args.plant.now.consts.channel.first_frame c.args.steps.now (map view_of c.args.books.now) ps
+    → MatchOption o (ArePut c.args.steps.now (map view_of c.args.books.now) ps) (IsPutStray c.args.plant.now.consts.channel.first_frame c.args.steps.now (map view_of c.args.books.now) ps))
+    c.placings.ensures (told c.args.plant.now.consts.channel.first_frame) are))
     c.first_put_stray.ensures

@@ -7,7 +7,7 @@ use Rattle.plant_receipts.proofs.mapping.has_own_part.Goals as goal
 
 pub part_of_number-requires : goal.part_of_number-requires
 part_of_number-requires c =
-    (c.requires.0.consts.first_frame, subst (λ (fs : List Frame). AreInOrder c.requires.0.consts.first_frame (numbered fs)) (sym c.as_slice.ensures.value) c.requires.1.in_order)
+    (c.requires.0.consts.channel.first_frame, subst (λ (fs : List Frame). AreInOrder c.requires.0.consts.channel.first_frame (numbered fs)) (sym c.as_slice.ensures.value) c.requires.1.in_order)
 
 pub returns-in-Some : goal.returns-in-Some
 returns-in-Some c = λ book its.

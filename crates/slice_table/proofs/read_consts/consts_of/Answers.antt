@@ -8,10 +8,7 @@ pub new-requires : goal.new-requires
 new-requires c =
     let keys = c.in_ok-keys.ensures.in_range in
     record {
-      some_frame = keys.some_frame;
-      frame = keys.frame;
-      head = keys.head;
+      channel = keys.channel;
       short_max = keys.short_max;
-      backoffs = keys.backoffs;
       classes = classes_read (get_member (codes "class") (table_view c.args.document.now)) c.in_ok-classes.classes c.in_ok-classes.ensures;
     }
