@@ -8,7 +8,7 @@ ghost use Rattle.plant_runs.specs.Steps.{Acts, Collects, Steps};
 ghost use Rattle.plant_core.specs.Faults.{act_fault, collect_fault, step_fault, IsTold};
 ghost use Rattle.plant_core.specs.Reachable.{IsOfAStep};
 ghost use Rattle.live_core.specs.GoingOn.{GoesOn};
-ghost use Rattle.live_core.specs.After.{IsAfter};
+ghost use Rattle.live_core.specs.After.{LeadsOn};
 ghost use Rattle.live_core.specs.LiveView.{live_view};
 
 use crate::held::LiveCore;
@@ -120,9 +120,7 @@ impl LiveCore {
         outs: &mut Vec<Out>,
     ) -> Result<(), CoreFault>
         ensures ok { OnOk result (GoesOn (Steps step) (live_view self.old) (live_view self.new) outs.new.items) }
-        ensures reached { OnOk result ((before : List Step) (told : List Out)
-            → IsAfter (live_view self.old).plant before told (live_view self.old)
-            → IsAfter (live_view self.old).plant (before ++ step ∷ []) (told ++ outs.new.items) (live_view self.new)) }
+        ensures reached { OnOk result (LeadsOn (live_view self.old) (step ∷ []) outs.new.items (live_view self.new)) }
         ensures err { OnErr result (live_view self.new ≡ live_view self.old) }
         ensures fault { IsTold result (step_fault (live_view self.old) step) }
     {
@@ -135,9 +133,7 @@ impl LiveCore {
     /// One step, and what it puts out. A refused step changes nothing.
     pub fn step(&mut self, alloc: Global, step: Step) -> Result<Vec<Out>, CoreFault>
         ensures ok { IfOk result (λ outs. GoesOn (Steps step) (live_view self.old) (live_view self.new) outs.items) }
-        ensures reached { IfOk result (λ outs. (before : List Step) (told : List Out)
-            → IsAfter (live_view self.old).plant before told (live_view self.old)
-            → IsAfter (live_view self.old).plant (before ++ step ∷ []) (told ++ outs.items) (live_view self.new)) }
+        ensures reached { IfOk result (λ outs. LeadsOn (live_view self.old) (step ∷ []) outs.items (live_view self.new)) }
         ensures err { OnErr result (live_view self.new ≡ live_view self.old) }
         ensures fault { IsTold result (step_fault (live_view self.old) step) }
     {

@@ -1,5 +1,5 @@
 -- A core that some run of its plant leads to (own).
-use Rattle.std.specs.Prelude.{◌≡◌, ℕ, List, Some}
+use Rattle.std.specs.Prelude.{◌≡◌, ℕ, List, ◌++◌, Some}
 use Rattle.slice_scheduler.specs.declared.elements.ElementsFields.{ElementsFields}
 use Rattle.plant.specs.declared.plant.PlantFields.{PlantFields}
 use Rattle.operator_machine.specs.declared.action.Action.{Action}
@@ -17,6 +17,11 @@ core_of plant books queues gathering = record { plant = plant; books = books; qu
 -- it is what some steps make of the plant's core as it is opened
 abbrev pub IsReachable : CoreView → Type 0
 IsReachable core = (steps : List Step) × (outs : List Out) × Reached core.plant steps outs core
+
+-- behind whatever steps and outputs led to the one core, these more lead to the other
+abbrev pub LeadsOn : CoreView → List Step → List Out → CoreView → Type 0
+LeadsOn old steps outs new =
+    (before : List Step) (told : List Out) → Reached old.plant before told old → Reached old.plant (before ++ steps) (told ++ outs) new
 
 -- some step goes to this operator as this action
 abbrev pub IsOfAStep : PlantFields → ℕ → Action → Type 0

@@ -4,9 +4,9 @@ ghost use Rattle.std.specs.Prelude.{◌≡◌, ◌<◌, [], ◌∷◌, ◌++◌,
 ghost use Rattle.plant_runs.specs.declared.step.Step.{Step};
 ghost use Rattle.plant_runs.specs.declared.step.Out.{Out};
 ghost use Rattle.plant_runs.specs.declared.step.Step.TheVariants as steps;
-ghost use Rattle.plant_runs.specs.Reached.{Reached};
 ghost use Rattle.plant_runs.specs.Steps.{Steps};
 ghost use Rattle.plant_core.specs.Faults.{step_fault, IsTold};
+ghost use Rattle.plant_core.specs.Reachable.{LeadsOn};
 ghost use Rattle.plant_core.specs.CoreView.{core_view};
 
 use crate::core_fault::CoreFault;
@@ -33,10 +33,7 @@ impl PlantCore {
         outs: &mut Vec<Out>,
     ) -> Result<(), CoreFault>
         ensures ok { OnOk result (Steps step (core_view self.old) (core_view self.new) outs.new.items) }
-        ensures reached { OnOk result ((before : List Step) (told : List Out)
-            → Reached (core_view self.old).plant before told (core_view self.old)
-            → Reached (core_view self.old).plant (before ++ step ∷ []) (told
-            ++ outs.new.items) (core_view self.new)) }
+        ensures reached { OnOk result (LeadsOn (core_view self.old) (step ∷ []) outs.new.items (core_view self.new)) }
         ensures err { OnErr result (core_view self.new ≡ core_view self.old) }
         ensures fault { IsTold result (step_fault (core_view self.old) step) }
     {
@@ -49,13 +46,9 @@ impl PlantCore {
     /// The steps one after the other, up to the first that is refused, and all that they put out in order. The core then stands
     /// as after the steps before it.
     pub fn run(&mut self, alloc: Global, steps: &[Step]) -> Result<Vec<Out>, RunStop>
-        ensures reached { IfOk result (λ outs. (before : List Step) (told : List Out)
-            → Reached (core_view self.old).plant before told (core_view self.old)
-            → Reached (core_view self.old).plant (before ++ steps.now) (told ++ outs.items) (core_view self.new)) }
-        ensures stopped { IfErr result (λ stop. (before : List Step) (told : List Out)
-            → Reached (core_view self.old).plant before told (core_view self.old)
-            → Reached (core_view self.old).plant (before ++ take stop.at steps.now) (told
-            ++ stop.outs.items) (core_view self.new)) }
+        ensures reached { IfOk result (λ outs. LeadsOn (core_view self.old) steps.now outs.items (core_view self.new)) }
+        ensures stopped { IfErr result (λ stop. LeadsOn (core_view self.old) (take stop.at steps.now) stop.outs.items
+            (core_view self.new)) }
         ensures within { IfErr result (λ stop. stop.at < length steps.now) }
         ensures fault { IfErr result (λ stop. (step : Step) → slice_get steps.now stop.at ≡ Some step
             → IsTold {A = Unit {0}} (Err stop.fault) (step_fault (core_view self.new) step)) }

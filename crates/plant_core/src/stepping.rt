@@ -1,16 +1,14 @@
 //! One step of a plant.
 
-ghost use Rattle.std.specs.Prelude.{◌≡◌, ◌≢◌, ◌↔◌, ℕ, ◌+◌, ◌<◌, ◌≤◌, [], ◌∷◌, ◌++◌, List, map, length, slice_get, vec_len, vec_capacity, Option, Some, None, Err, IfOk, IfErr, OnOk, OnErr};
+ghost use Rattle.std.specs.Prelude.{◌≡◌, ◌+◌, ◌<◌, ◌≤◌, [], ◌∷◌, ◌++◌, List, slice_get, vec_len, vec_capacity, Option, Some, None, Err, IfOk, OnOk, OnErr};
 ghost use Rattle.map_assembly.specs.declared.refused.GatherFault.{GatherFault};
 ghost use Rattle.plant_runs.specs.declared.step.Out.{Out};
 ghost use Rattle.plant_runs.specs.declared.step.Step.{Step};
 ghost use Rattle.plant_runs.specs.declared.step.Step.TheVariants as steps;
-ghost use Rattle.plant_runs.specs.Reached.{Reached};
 ghost use Rattle.plant_runs.specs.OwnSteps.{under};
 ghost use Rattle.plant_runs.specs.Steps.{Acts, Collects, Steps, told_map};
 ghost use Rattle.plant_core.specs.Faults.{act_fault, collect_fault, step_fault, IsTold, core_fault_of};
-ghost use Rattle.plant_core.specs.Reachable.{IsOfAStep};
-ghost use Rattle.plant_core.specs.DeskView.{book_at, waiting_at};
+ghost use Rattle.plant_core.specs.Reachable.{IsOfAStep, LeadsOn};
 ghost use Rattle.plant_core.specs.CoreView.{core_view};
 
 use crate::core_fault::CoreFault;
@@ -145,9 +143,7 @@ impl PlantCore {
     /// One step, and what it puts out. A refused step changes nothing.
     pub fn step(&mut self, alloc: Global, step: Step) -> Result<Vec<Out>, CoreFault>
         ensures ok { IfOk result (λ outs. Steps step (core_view self.old) (core_view self.new) outs.items) }
-        ensures reached { IfOk result (λ outs. (before : List Step) (told : List Out)
-            → Reached (core_view self.old).plant before told (core_view self.old)
-            → Reached (core_view self.old).plant (before ++ step ∷ []) (told ++ outs.items) (core_view self.new)) }
+        ensures reached { IfOk result (λ outs. LeadsOn (core_view self.old) (step ∷ []) outs.items (core_view self.new)) }
         ensures err { OnErr result (core_view self.new ≡ core_view self.old) }
         ensures fault { IsTold result (step_fault (core_view self.old) step) }
     {

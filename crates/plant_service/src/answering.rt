@@ -1,11 +1,8 @@
 //! Steps that are done one after the other, and the answer to one line.
 
-ghost use Rattle.std.specs.Prelude.{◌≡◌, List, IfOk, OnOk};
+ghost use Rattle.std.specs.Prelude.{◌≡◌, IfOk, OnOk};
 ghost use Rattle.std.specs.Io.KnownBytes.{Appends};
-ghost use Rattle.plant.specs.declared.plant.PlantFields.{PlantFields};
-ghost use Rattle.plant_runs.specs.declared.step.Out.{Out};
-ghost use Rattle.plant_runs.specs.declared.step.Step.{Step};
-ghost use Rattle.live_core.specs.After.{IsAfter, IsReachable};
+ghost use Rattle.live_core.specs.After.{BehindEachRun, IsReachable};
 ghost use Rattle.live_core.specs.LiveView.{live_view};
 ghost use Rattle.plant_lines.specs.Fields.{Gives};
 ghost use Rattle.plant_service.specs.Service.{steps_said, end_text};
@@ -54,9 +51,8 @@ pub fn run_steps<W: Write>(
 ) -> io::Result<StepsEnd>
     requires reached { IsReachable (live_view core.old) }
     // Behind whatever run led to the core, so many steps are done, and what they put out is written.
-    ensures { IfOk result (λ end. (plant : PlantFields) (before : List Step) (shown : List Out)
-        → IsAfter plant before shown (live_view core.old) → HasDone plant before shown steps.items (live_view core.new) end
-        (W.contents writer.old) (W.contents writer.new)) }
+    ensures { IfOk result (λ end. BehindEachRun (live_view core.old) (λ plant before shown. HasDone plant before shown
+        steps.items (live_view core.new) end (W.contents writer.old) (W.contents writer.new))) }
 {
     let mut outs = Vec::new(alloc);
     for LineStep { number, step } in steps {
@@ -89,9 +85,8 @@ fn do_line<W: Write>(
     writer: &mut W,
 ) -> io::Result<LineEnd>
     requires reached { IsReachable (live_view core.old) }
-    ensures { IfOk result (λ end. (plant : PlantFields) (before : List Step) (shown : List Out)
-        → IsAfter plant before shown (live_view core.old) → HasAnswered plant before shown number line.now (live_view core.new) end
-        (W.contents writer.old) (W.contents writer.new)) }
+    ensures { IfOk result (λ end. BehindEachRun (live_view core.old) (λ plant before shown. HasAnswered plant before shown
+        number line.now (live_view core.new) end (W.contents writer.old) (W.contents writer.new))) }
 {
     match steps_said(alloc, core.plant(), number, line) {
         Ok(steps) => {
@@ -127,9 +122,8 @@ pub fn answer_line<W: Write>(
 ) -> io::Result<()>
     requires reached { IsReachable (live_view core.old) }
     // Behind whatever run led to the core, the line has such an answer, and it is written.
-    ensures { OnOk result ((plant : PlantFields) (before : List Step) (shown : List Out)
-        → IsAfter plant before shown (live_view core.old) → IsAnswered plant before shown number line.now (live_view core.new)
-        (W.contents writer.old) (W.contents writer.new)) }
+    ensures { OnOk result (BehindEachRun (live_view core.old) (λ plant before shown. IsAnswered plant before shown number
+        line.now (live_view core.new) (W.contents writer.old) (W.contents writer.new))) }
 {
     let end = do_line(alloc, core, number, line, writer)?;
     write_end(writer, number, end)?;

@@ -4,7 +4,7 @@ ghost use Rattle.std.specs.Prelude.{◌≡◌, ◌+◌, [], ◌∷◌, List, ℕ
 ghost use Rattle.plant.specs.declared.plant.PlantFields.{PlantFields};
 ghost use Rattle.plant_runs.specs.declared.step.Out.{Out};
 ghost use Rattle.plant_runs.specs.declared.step.Step.{Step};
-ghost use Rattle.live_core.specs.After.{IsAfter, IsReachable};
+ghost use Rattle.live_core.specs.After.{BehindEachRun, IsAfter, IsReachable};
 ghost use Rattle.live_core.specs.LiveView.{live_view};
 ghost use Rattle.plant_service.specs.Service.{IsServiceOf};
 ghost use Rattle.plant_service.specs.SoFar.{IsHeld, IsAnswered, IsServedSoFar};
@@ -89,9 +89,9 @@ pub fn serve<R: Read, W: Write>(
     requires reached { IsReachable (live_view core.old) }
     requires empty { IsHeld held.bytes.items held.is_long [] }
     // Behind whatever run led to the core, all lines of the input are answered, and their answers written.
-    ensures { OnOk result (IfSome (R.remaining reader.old) (λ input. (plant : PlantFields) (before : List Step)
-        (shown : List Out) → IsAfter plant before shown (live_view core.old)
-        → IsServiceOf plant before shown input (live_view core.new) (W.contents writer.old) (W.contents writer.new))) }
+    ensures { OnOk result (IfSome (R.remaining reader.old) (λ input. BehindEachRun (live_view core.old)
+        (λ plant before shown. IsServiceOf plant before shown input (live_view core.new) (W.contents writer.old)
+        (W.contents writer.new)))) }
 {
     let mut number = 1u64;
     for _ in 0..u64::MAX {
