@@ -67,7 +67,12 @@ fn put_provision(
     };
     let sid = sid_for(row, flows, sets);
     flows.kept();
-    let flow = opened_flow(consts.get_fields().channel.first_frame, provision.modem, sid, sets);
+    let flow = opened_flow(
+        consts.get_fields().channel.first_frame,
+        provision.modem,
+        sid,
+        sets,
+    );
     flows.put(sfid, &flow)?;
     Ok(())
 }

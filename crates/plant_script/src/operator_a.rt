@@ -9,8 +9,8 @@ use dsx_messages::Modem;
 use grant_policy::Policy;
 use param_sets::Units;
 use plant::{
-    Backoffs, Channel, Classes, Consts, ConstsFields, Modems, OperatorName, OperatorRow, Provisions,
-    RowFields,
+    Backoffs, Channel, Classes, Consts, ConstsFields, Modems, OperatorName, OperatorRow,
+    Provisions, RowFields,
 };
 use slice_scheduler::Slice;
 use std::alloc::{AllocError, Global};

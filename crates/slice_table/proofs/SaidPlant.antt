@@ -114,10 +114,10 @@ consts_valid document consts s =
         frame = keys.frame_minislots.high_enough;
         head = keys.head.high_enough;
         backoffs = record {
-        ranging_start = from_default s.ms field.RangingStart 0 15 0 consts.channel.backoffs.ranging_start (omega arith) backoffs.ranging_start;
-        ranging_end = from_default s.ms field.RangingEnd 0 15 0 consts.channel.backoffs.ranging_end (omega arith) backoffs.ranging_end;
-        data_start = from_default s.ms field.DataStart 0 15 0 consts.channel.backoffs.data_start (omega arith) backoffs.data_start;
-        data_end = from_default s.ms field.DataEnd 0 15 0 consts.channel.backoffs.data_end (omega arith) backoffs.data_end;
+          ranging_start = from_default s.ms field.RangingStart 0 15 0 consts.channel.backoffs.ranging_start (omega arith) backoffs.ranging_start;
+          ranging_end = from_default s.ms field.RangingEnd 0 15 0 consts.channel.backoffs.ranging_end (omega arith) backoffs.ranging_end;
+          data_start = from_default s.ms field.DataStart 0 15 0 consts.channel.backoffs.data_start (omega arith) backoffs.data_start;
+          data_end = from_default s.ms field.DataEnd 0 15 0 consts.channel.backoffs.data_end (omega arith) backoffs.data_end;
         };
       };
       short_max = keys.short_max.high_enough;

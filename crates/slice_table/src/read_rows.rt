@@ -62,8 +62,8 @@ fn slice_of(consts: &Consts, start: u64, length: u64) -> Option<Slice>
     ensures { result ≡ (if is_within consts.now start length then Some (record { start = start; length = length })
         else None) }
 {
-    let fields = consts.get_fields();
-    let (head, frame) = (u64::from(fields.channel.head), u64::from(fields.channel.frame_minislots));
+    let channel = consts.get_fields().channel;
+    let (head, frame) = (u64::from(channel.head), u64::from(channel.frame_minislots));
     if head <= start && 1 <= length && length <= frame && start <= frame - length {
         Some(Slice::new(start as u16, length as u16))
     } else {
