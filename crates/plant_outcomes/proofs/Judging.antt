@@ -27,9 +27,8 @@ use Rattle.plant_runs.specs.declared.step.Step.{Step}
 use Rattle.plant_runs.specs.declared.step.Step.TheVariants as steps
 use Rattle.plant_runs.specs.OwnSteps.{action_of, resliced_by, own_steps, collects_of, slice_of}
 use Rattle.plant_runs.specs.Shown.{alone, AreMaps, IsUnder, Shown}
-use Rattle.plant_runs.specs.Reached.{frames_of, IsBookAfter}
+use Rattle.plant_runs.specs.Reached.{frames_of, IsBookAfter, AreNumbered}
 use Rattle.plant_runs.proofs.Entries.{some_at}
-use Rattle.plant_runs.proofs.Numbers as numbers
 use Rattle.plant_runs.proofs.Numbers.{Numbered, are_numbered, numbers_are}
 use Rattle.plant_receipts.specs.declared.run_fault.RunFault.{RunFault}
 use Rattle.plant_receipts.specs.declared.receipt.Receipt.{Receipt}
@@ -39,7 +38,7 @@ use Rattle.plant_outcomes.specs.declared.placing.Placing.TheVariants.{Put, Resli
 use Rattle.plant_outcomes.specs.Placings.{AssemblyView, puts_of, HaveMade}
 use Rattle.plant_outcomes.specs.Outs.{due_of, outs_of}
 use Rattle.plant_outcomes.specs.Due.{AreDue}
-use Rattle.plant_outcomes.specs.Numbering.{AreNumbered, AllAreNumbered}
+use Rattle.plant_outcomes.specs.Numbering.{AllAreNumbered}
 use Rattle.plant_outcomes.specs.Straying.{DifferFirst, AreOwn, StraysAt, ArePut, IsPutStray, IsMapStray, IsFound}
 use Rattle.plant_outcomes.specs.Outcome.{AreMerged, is_tick_of, ticks_of, AreTicked, IsOutcome}
 use Rattle.plant_outcomes.proofs.Ahead.{split_at, queue_here, queue_elsewhere, with_length}
@@ -71,10 +70,6 @@ module _ (plant : PlantFields) (steps : List Step) (i : ℕ) (row : RowFields) (
 
 -- ---- numbers
 
-as_numbered : (n : ℕ) (frames : List Numbered) → numbers.AreNumbered n frames → AreNumbered n frames
-as_numbered n [] h = tt
-as_numbered n (frame ∷ frames) h = (h.0, as_numbered (n + 1) frames h.1)
-
 book_frames : (plant : PlantFields) (steps : List Step) (i : ℕ) (row : RowFields) (book : BookView) → IsBookAfter plant steps i row book → frames_of (outputs_of book.history) ≡ frames_of (alone plant.consts row i steps).outputs
 book_frames plant steps i row book is = ap frames_of (book_outputs plant steps i row book is)
 
@@ -82,7 +77,7 @@ due_numbered : (plant : PlantFields) (steps : List Step) (i : ℕ) (row : RowFie
 due_numbered plant steps i row book is =
     take_numbered plant.consts.channel.first_frame (collects_of i steps) (frames_of (outputs_of book.history))
     (subst (AreNumbered plant.consts.channel.first_frame) (sym (book_frames plant steps i row book is))
-    (as_numbered plant.consts.channel.first_frame (frames_of (alone plant.consts row i steps).outputs) (are_numbered plant.consts row i steps)))
+    (are_numbered plant.consts row i steps))
 
 -- of each operator the parts are put in the order of their frames
 put_next : (g : Gathering) (op frame : ℕ) (part : ElementsFields) (later : List Placing) (made : Option MapBytes) → IsGathering g → put_fault g op frame part ≡ None → IsAnswer g op frame part made

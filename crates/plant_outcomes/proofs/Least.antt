@@ -5,13 +5,14 @@ use Rattle.std.proofs.lemmas.Bool.{cases_eq}
 use Rattle.std.proofs.lemmas.Option.{slice_get_within}
 use Rattle.operator_machine.specs.Replay.{BookView}
 use Rattle.plant_runs.specs.declared.step.Step.{Step}
+use Rattle.plant_runs.specs.Reached.{AreNumbered}
 use Rattle.plant_runs.proofs.Numbers.{Numbered}
 use Rattle.plant_runs.proofs.Entries.{same_at}
 use Rattle.plant_outcomes.specs.declared.placing.Placing.{Placing}
 use Rattle.plant_outcomes.specs.Placings.{puts_of}
 use Rattle.plant_outcomes.specs.Outs.{due_of}
 use Rattle.plant_outcomes.specs.Straying.{ArePut, IsPutStray}
-use Rattle.plant_outcomes.specs.Numbering.{lesser, AreNumbered, AllAreNumbered, IsMissed}
+use Rattle.plant_outcomes.specs.Numbering.{lesser, AllAreNumbered, IsMissed}
 
 -- each of the first operators put what was due
 abbrev pub ArePutBelow : List Step → List BookView → List Placing → ℕ → Type 0

@@ -3,14 +3,11 @@ use Rattle.std.proofs.Common.{◌≡◌, ℕ, zero, suc, ◌+◌, ◌≤◌, Lis
 use Rattle.std.specs.Prelude.{slice_get}
 use Rattle.std.proofs.lemmas.List.{length-take-le}
 use Rattle.std.proofs.lemmas.Option.{none-some, same_Some, slice_get_within}
+use Rattle.plant_runs.specs.Reached.{AreNumbered}
 use Rattle.plant_runs.proofs.Numbers.{Numbered}
-use Rattle.plant_outcomes.specs.Numbering.{AreNumbered, IsMissed}
+use Rattle.plant_runs.proofs.Fits.{number_at}
+use Rattle.plant_outcomes.specs.Numbering.{IsMissed}
 use Rattle.plant_outcomes.proofs.Differing.{get_append, differ_here, differ_end, flipped}
-
-pub number_at : (n m : ℕ) (frames : List Numbered) (frame : Numbered) → AreNumbered n frames → slice_get frames m ≡ Some frame → frame.0 ≡ n + m
-number_at n m [] frame h e = let f : ◌≡◌ {A = Option Numbered} None (Some frame) = e in absurd (none-some frame f)
-number_at n zero (x ∷ frames) frame h e = let is : x ≡ frame = same_Some x frame e in omega (arith, h.0, ap (λ (f : Numbered). f.0) is)
-number_at n (suc m) (x ∷ frames) frame h e = omega (arith, number_at (n + 1) m frames frame h.1 e)
 
 pub take_numbered : (n count : ℕ) (frames : List Numbered) → AreNumbered n frames → AreNumbered n (take count frames)
 take_numbered n zero frames h = tt

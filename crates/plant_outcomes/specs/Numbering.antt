@@ -1,26 +1,13 @@
 -- Frames by their numbers (own).
-use Rattle.std.specs.Prelude.{◌≡◌, ℕ, ◌+◌, min, List, [], ◌∷◌, map, slice_get, Option, Some, None}
+use Rattle.std.specs.Prelude.{◌≡◌, ℕ, ◌+◌, min, List, slice_get, Option, Some, None}
 use Rattle.slice_scheduler.specs.declared.elements.ElementsFields.{ElementsFields}
 use Rattle.operator_machine.specs.Replay.{BookView}
 use Rattle.plant_runs.specs.declared.step.Step.{Step}
+use Rattle.plant_runs.specs.Reached.{AreNumbered}
 use Rattle.plant_outcomes.specs.declared.placing.Placing.{Placing}
-use Rattle.plant_receipts.specs.declared.own_frames.Frame.{Frame}
 use Rattle.plant_outcomes.specs.Placings.{puts_of}
 use Rattle.plant_outcomes.specs.Outs.{due_of}
 use Rattle.plant_outcomes.specs.Straying.{DifferFirst}
-
--- a frame with its number
-abbrev pub frame_of : Frame → ℕ × ElementsFields
-frame_of frame = (frame.number, frame.elements.now)
-
--- frames with their numbers
-abbrev pub numbered : List Frame → List (ℕ × ElementsFields)
-numbered frames = map frame_of frames
-
--- they are numbered one after the other, from n on
-abbrev pub AreNumbered : ℕ → List (ℕ × ElementsFields) → Type 0
-AreNumbered n [] = Unit {0}
-AreNumbered n (frame ∷ frames) = (frame.0 ≡ n) × AreNumbered (n + 1) frames
 
 -- what each operator put, and what was due of it, is numbered from the first frame on
 abbrev pub AllAreNumbered : ℕ → List Step → List BookView → List Placing → Type 0

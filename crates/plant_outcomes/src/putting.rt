@@ -3,10 +3,12 @@
 ghost use Rattle.std.specs.Prelude.{◌≡◌, ◌<◌, ℕ, length, map, option_map, slice_get, MatchOption, IfOk, IsTrue, ◌↔◌, Option, Some, None};
 ghost use Rattle.operator_book.specs.ViewOf.{view_of};
 ghost use Rattle.plant_runs.specs.OwnSteps.{is_collect, collects_of};
+ghost use Rattle.plant_runs.specs.Reached.{AreNumbered};
+ghost use Rattle.plant_receipts.specs.Framing.{frame_of, numbered};
 ghost use Rattle.plant_outcomes.specs.Placings.{put_by, puts_of};
 ghost use Rattle.plant_outcomes.specs.Outs.{due_of};
 ghost use Rattle.plant_outcomes.specs.Straying.{ArePut, IsPutStray};
-ghost use Rattle.plant_outcomes.specs.Numbering.{frame_of, numbered, AreNumbered, AllAreNumbered, IsMissed, lesser};
+ghost use Rattle.plant_outcomes.specs.Numbering.{AllAreNumbered, IsMissed, lesser};
 
 use crate::placing::Placing;
 use operator_book::Book;

@@ -14,17 +14,13 @@ use Rattle.operator_machine.specs.Machine.{own_step, after_step, own_run}
 use Rattle.operator_machine.specs.Frames.{frames_in}
 use Rattle.operator_machine.specs.Replay.{actions_of, AreTold}
 use Rattle.plant_runs.specs.Shown.{elements_in}
-use Rattle.plant_runs.specs.Reached.{frames_of, numbered as numbered_output}
-use Rattle.plant_runs.proofs.Numbers.{Numbered, AreNumbered, of_number, elements_are, numbers_are, found_at}
+use Rattle.plant_runs.specs.Reached.{frames_of, AreNumbered, numbered as numbered_output}
+use Rattle.plant_runs.proofs.Numbers.{Numbered, of_number, elements_are, numbers_are, found_at}
 use Rattle.plant_receipts.specs.OwnParts.{outputs_of}
 use Rattle.plant_receipts.specs.declared.own_frames.Frame.{Frame}
-use Rattle.plant_receipts.specs.Framing.{numbered, AreInOrder}
+use Rattle.plant_receipts.specs.Framing.{numbered}
 
-same_order : (first : ℕ) (frames : List Numbered) → AreInOrder first frames → AreNumbered first frames
-same_order first [] h = tt
-same_order first (frame ∷ frames) h = (h.0, same_order (first + 1) frames h.1)
-
-none_within : (first k : ℕ) (frames : List Numbered) → AreInOrder first frames → (k < first) ⊎ (first + length frames ≤ k) → of_number k frames ≡ []
+none_within : (first k : ℕ) (frames : List Numbered) → AreNumbered first frames → (k < first) ⊎ (first + length frames ≤ k) → of_number k frames ≡ []
 none_within first k [] h out = refl
 none_within first k (frame ∷ frames) h out = skip (cases_eq frame.0 k) (none_within (first + 1) k frames h.1 (later out))
   where
@@ -43,15 +39,15 @@ none_within first k (frame ∷ frames) h out = skip (cases_eq frame.0 k) (none_w
 -- ---- the frame of a number
 
 -- none has a number before the first, or past the last
-pub none_of : (first k : ℕ) (frames : List Numbered) (outputs : List Output) → AreInOrder first frames → frames ≡ frames_of outputs
+pub none_of : (first k : ℕ) (frames : List Numbered) (outputs : List Output) → AreNumbered first frames → frames ≡ frames_of outputs
     → (k < first) ⊎ (first + length frames ≤ k) → elements_in k outputs ≡ []
 none_of first k frames outputs order same out = elements_are k outputs ∙ (ap (of_number k) (sym same) ∙ none_within first k frames order out)
 
 -- the one at a place has the number of that place
-pub one_of : (first k m : ℕ) (frame : Numbered) (frames : List Numbered) (outputs : List Output) → AreInOrder first frames → frames ≡ frames_of outputs
+pub one_of : (first k m : ℕ) (frame : Numbered) (frames : List Numbered) (outputs : List Output) → AreNumbered first frames → frames ≡ frames_of outputs
     → slice_get frames m ≡ Some frame → first + m ≡ k → elements_in k outputs ≡ frame.1 ∷ []
 one_of first k m frame frames outputs order same at number =
-    elements_are k outputs ∙ (ap (of_number k) (sym same) ∙ (ap (λ (j : ℕ). of_number j frames) (sym number) ∙ found_at first m frames frame (same_order first frames order) at))
+    elements_are k outputs ∙ (ap (of_number k) (sym same) ∙ (ap (λ (j : ℕ). of_number j frames) (sym number) ∙ found_at first m frames frame order at))
 
 -- ---- the frames of a history
 
@@ -62,7 +58,7 @@ told_outputs o (entry ∷ history) h =
     ap (λ (os : List Output). os ++ outputs_of history) h.1
     ∙ ap (λ (os : List Output). (own_step o entry.action).outputs ++ os) (told_outputs (after_step o entry.action) history h.2)
 
-in_order : (first count : ℕ) (frames : List Numbered) → map (λ frame. frame.0) frames ≡ range_with_len first count → AreInOrder first frames
+in_order : (first count : ℕ) (frames : List Numbered) → map (λ frame. frame.0) frames ≡ range_with_len first count → AreNumbered first frames
 in_order first count [] h = tt
 in_order first zero (frame ∷ frames) h = let e : ◌≡◌ {A = List ℕ} (frame.0 ∷ map (λ (f : Numbered). f.0) frames) [] = h in cc
 in_order first (suc count) (frame ∷ frames) h =
@@ -72,13 +68,13 @@ in_order first (suc count) (frame ∷ frames) h =
     (here, in_order (first + 1) count frames rest)
 
 -- the frames of a run, whose numbers have no gap
-pub run_in_order : (first count : ℕ) (outputs : List Output) (frames : List Numbered) → frames ≡ frames_of outputs → frames_in outputs ≡ range_with_len first count → AreInOrder first frames
+pub run_in_order : (first count : ℕ) (outputs : List Output) (frames : List Numbered) → frames ≡ frames_of outputs → frames_in outputs ≡ range_with_len first count → AreNumbered first frames
 run_in_order first count outputs frames same numbers =
     in_order first count frames (ap (λ (fs : List Numbered). map (λ (f : Numbered). f.0) fs) same ∙ (numbers_are outputs ∙ numbers))
 
 -- ---- frames with their numbers
 
-first_number : (n : ℕ) (frames : List Numbered) (x : Numbered) → AreInOrder n frames → slice_get frames 0 ≡ Some x → x.0 ≡ n
+first_number : (n : ℕ) (frames : List Numbered) (x : Numbered) → AreNumbered n frames → slice_get frames 0 ≡ Some x → x.0 ≡ n
 first_number n [] x order at = cc
 first_number n (y ∷ frames) x order at = ap (λ (f : Numbered). f.0) (sym (same_Some y x at)) ∙ order.0
 
@@ -90,7 +86,7 @@ numbered_long : (frames : List Frame) → length (numbered frames) ≡ length fr
 numbered_long [] = refl
 numbered_long (frame ∷ frames) = ap suc (numbered_long frames)
 
-module _ (frames : List Frame) (first : ℕ) (order : AreInOrder first (numbered frames)) (outputs : List Output) (same : numbered frames ≡ frames_of outputs) (k : ℕ) where
+module _ (frames : List Frame) (first : ℕ) (order : AreNumbered first (numbered frames)) (outputs : List Output) (same : numbered frames ≡ frames_of outputs) (k : ℕ) where
   frame_at : (m : ℕ) (x : Frame) → Some x ≡ slice_get frames m → slice_get (numbered frames) m ≡ Some (x.number, x.elements.now)
   frame_at m x at = slice_get-map (λ (f : Frame). (f.number, f.elements.now)) frames m ∙ ap (option_map (λ (f : Frame). (f.number, f.elements.now))) (sym at)
 

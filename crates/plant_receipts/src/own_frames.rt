@@ -4,10 +4,10 @@ ghost use Rattle.std.specs.Prelude.{◌≡◌, ◌++◌, ℕ, List, [], ◌∷�
 ghost use Rattle.std.specs.List.{AllZip};
 ghost use Rattle.operator_machine.specs.declared.output.Output.{Output};
 ghost use Rattle.plant_runs.specs.Shown.{elements_in};
-ghost use Rattle.plant_runs.specs.Reached.{frames_of};
+ghost use Rattle.plant_runs.specs.Reached.{frames_of, AreNumbered};
 ghost use Rattle.operator_book.specs.ViewOf.{view_of};
 ghost use Rattle.plant_receipts.specs.OwnParts.{outputs_of};
-ghost use Rattle.plant_receipts.specs.Framing.{numbered, AreInOrder, AreFramesOf};
+ghost use Rattle.plant_receipts.specs.Framing.{numbered, AreFramesOf};
 
 use admission::IdRange;
 use operator_book::{Book, Entry, Output};
@@ -85,7 +85,7 @@ pub(crate) fn frames_of_books<'a>(
 
 /// The elements of the frame of a number. Takes the same time wherever it stands.
 pub(crate) fn part_of_number<'a>(frames: &[Frame<'a>], number: u32) -> Option<&'a Elements>
-    requires { (first : ℕ) × AreInOrder first (numbered frames.now) }
+    requires { (first : ℕ) × AreNumbered first (numbered frames.now) }
     ensures { (outputs : List Output) → numbered frames.now ≡ frames_of outputs
         → MatchOption result (elements_in number outputs ≡ [])
         (λ part. elements_in number outputs ≡ part.now ∷ []) }

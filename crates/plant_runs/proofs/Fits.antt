@@ -27,16 +27,16 @@ use Rattle.plant_runs.specs.declared.step.Step.{Step}
 use Rattle.plant_runs.specs.declared.step.Out.{Out}
 use Rattle.plant_runs.specs.OwnSteps.{own_steps, maps_in, collects_of, reslicings_of}
 use Rattle.plant_runs.specs.Shown.{alone}
-use Rattle.plant_runs.specs.Reached.{CoreView, frames_of, Reached}
+use Rattle.plant_runs.specs.Reached.{CoreView, frames_of, Reached, AreNumbered}
 use Rattle.plant_runs.proofs.Entries.{some_at}
-use Rattle.plant_runs.proofs.Numbers.{Numbered, AreNumbered, are_numbered}
+use Rattle.plant_runs.proofs.Numbers.{Numbered, are_numbered}
 use Rattle.plant_runs.proofs.Collected.{put_length}
 use Rattle.plant_runs.proofs.OwnFrames.{at_place, IsOwn, run_own, told_may, of_slices}
 use Rattle.plant_runs.proofs.OwnSlices.{HaveOne, own_reslicings, own_slice}
 
 -- ---- what stands where
 
-number_at : (n m : ℕ) (frames : List Numbered) (frame : Numbered) → AreNumbered n frames → slice_get frames m ≡ Some frame → frame.0 ≡ n + m
+pub number_at : (n m : ℕ) (frames : List Numbered) (frame : Numbered) → AreNumbered n frames → slice_get frames m ≡ Some frame → frame.0 ≡ n + m
 number_at n m [] frame h e = let f : ◌≡◌ {A = Option Numbered} None (Some frame) = e in absurd (none-some frame f)
 number_at n zero (x ∷ frames) frame h e = let is : x ≡ frame = same_Some x frame e in omega (arith, h.0, ap (λ (f : Numbered). f.0) is)
 number_at n (suc m) (x ∷ frames) frame h e = omega (arith, number_at (n + 1) m frames frame h.1 e)

@@ -11,9 +11,9 @@ use Rattle.plant_runs.specs.declared.step.Step.{Step}
 use Rattle.plant_runs.specs.declared.step.Out.{Out}
 use Rattle.plant_runs.specs.OwnSteps.{answers_of, maps_in, map_in, is_collect, collects_of}
 use Rattle.plant_runs.specs.Shown.{alone, elements_in, IsMapIn, IsLeast, AreMaps}
-use Rattle.plant_runs.specs.Reached.{frames_of, numbered}
+use Rattle.plant_runs.specs.Reached.{frames_of, numbered, AreNumbered}
 use Rattle.plant_runs.proofs.Following.{EachTells}
-use Rattle.plant_runs.proofs.Numbers.{are_numbered, AreNumbered, of_number, elements_are, number_kept}
+use Rattle.plant_runs.proofs.Numbers.{are_numbered, of_number, elements_are, number_kept}
 
 -- ---- frames
 

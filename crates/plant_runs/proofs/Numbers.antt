@@ -16,15 +16,10 @@ use Rattle.map_assembly.specs.Gathering.{front_or}
 use Rattle.plant_runs.specs.declared.step.Step.{Step}
 use Rattle.plant_runs.specs.OwnSteps.{own_steps}
 use Rattle.plant_runs.specs.Shown.{alone, elements_in}
-use Rattle.plant_runs.specs.Reached.{frames_of}
+use Rattle.plant_runs.specs.Reached.{frames_of, AreNumbered}
 
 abbrev pub Numbered : Type 0
 Numbered = ℕ × ElementsFields
-
--- numbered one after the other, from n on
-abbrev pub AreNumbered : ℕ → List Numbered → Type 0
-AreNumbered n [] = Unit {0}
-AreNumbered n (frame ∷ frames) = (frame.0 ≡ n) × AreNumbered (n + 1) frames
 
 by_range : (n count : ℕ) (frames : List Numbered) → map (λ frame. frame.0) frames ≡ range_with_len n count → AreNumbered n frames
 by_range n count [] h = tt

@@ -1,5 +1,5 @@
 -- What a core is after a run (own).
-use Rattle.std.specs.Prelude.{◌≡◌, ℕ, ◌+◌, ◌≤◌, List, map, length, take, drop, filter_map, slice_get, Option, Some, None}
+use Rattle.std.specs.Prelude.{◌≡◌, ℕ, ◌+◌, ◌≤◌, List, [], ◌∷◌, map, length, take, drop, filter_map, slice_get, Option, Some, None}
 use Rattle.slice_scheduler.specs.declared.elements.ElementsFields.{ElementsFields}
 use Rattle.plant.specs.declared.operator_row.RowFields.{RowFields}
 use Rattle.plant.specs.declared.plant.PlantFields.{PlantFields}
@@ -30,6 +30,11 @@ numbered (Frame number elements) = Some (number, elements)
 
 abbrev pub frames_of : List Output → List (ℕ × ElementsFields)
 frames_of outputs = filter_map numbered outputs
+
+-- frames are numbered one after the other, from n on
+abbrev pub AreNumbered : ℕ → List (ℕ × ElementsFields) → Type 0
+AreNumbered n [] = Unit {0}
+AreNumbered n (frame ∷ frames) = (frame.0 ≡ n) × AreNumbered (n + 1) frames
 
 -- an operator's book after the steps: the state and the entries are those of its own machine run alone
 pub record IsBookAfter (plant : PlantFields) (steps : List Step) (i : ℕ) (row : RowFields) (book : BookView) : Type 0 where

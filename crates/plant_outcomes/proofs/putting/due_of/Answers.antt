@@ -3,7 +3,7 @@ use Rattle.std.proofs.lemmas.List.{take-map}
 use Rattle.operator_machine.specs.declared.action.Entry.{Entry}
 use Rattle.plant_core.specs.Waiting.{frames_in}
 use Rattle.plant_runs.proofs.Numbers.{Numbered}
-use Rattle.plant_outcomes.specs.Numbering.{frame_of, numbered}
+use Rattle.plant_receipts.specs.Framing.{frame_of, numbered}
 use Rattle.plant_outcomes.proofs.putting.due_of.Goals as goal
 
 pub returns : goal.returns

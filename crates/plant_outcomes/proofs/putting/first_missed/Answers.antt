@@ -2,7 +2,7 @@ use Rattle.std.proofs.Common.{◌≡◌, ℕ, ◌+◌, ◌∙◌, length, take, 
 use Rattle.std.proofs.lemmas.Bool.{false≢true, ltb-true}
 use Rattle.std.proofs.lemmas.List.{length-map}
 use Rattle.plant_outcomes.specs.Placings.{put_by, puts_of}
-use Rattle.plant_outcomes.specs.Numbering.{frame_of, numbered}
+use Rattle.plant_receipts.specs.Framing.{frame_of, numbered}
 use Rattle.plant_outcomes.proofs.Differing.{walk_none, walk_here, walk_some, walk_end}
 use Rattle.plant_outcomes.proofs.Least.{map_there}
 use Rattle.plant_outcomes.proofs.Numbered.{missed_here, missed_end}

@@ -1,6 +1,6 @@
 use Rattle.std.proofs.Common.{◌≡◌, ◌≤◌, ◌++◌, take, drop, length}
 use Rattle.plant_outcomes.specs.Placings.{puts_of}
-use Rattle.plant_outcomes.specs.Numbering.{numbered}
+use Rattle.plant_receipts.specs.Framing.{numbered}
 use Rattle.plant_outcomes.proofs.putting.first_missed.Given as goal
 
 abbrev pub invariant-loop-placing : goal.invariant-loop-placing

@@ -1,7 +1,7 @@
 use Rattle.std.proofs.Common.{List, ◌∙◌, ap, arith}
 use Rattle.operator_book.specs.ViewOf.{view_of}
 use Rattle.plant_receipts.specs.declared.own_frames.Frame.{Frame}
-use Rattle.plant_outcomes.specs.Numbering.{numbered}
+use Rattle.plant_receipts.specs.Framing.{numbered}
 use Rattle.plant_outcomes.proofs.Least.{first_more, first_of_all, map_there}
 use Rattle.plant_outcomes.proofs.putting.first_put_stray.Goals as goal
 use Rattle.std.proofs.lemmas.List.{length-map}

@@ -1,13 +1,14 @@
 use Rattle.std.proofs.Common.{Bool, ap, sym, ◌∙◌, subst, List}
 use Rattle.plant_receipts.specs.declared.own_frames.Frame.{Frame}
-use Rattle.plant_receipts.specs.Framing.{numbered, AreInOrder}
+use Rattle.plant_receipts.specs.Framing.{numbered}
+use Rattle.plant_runs.specs.Reached.{AreNumbered}
 use Rattle.plant_receipts.specs.OwnParts.{outputs_of}
 use Rattle.plant_receipts.proofs.MappingLemmas.{if_ok, own_is, own_not}
 use Rattle.plant_receipts.proofs.mapping.has_own_part.Goals as goal
 
 pub part_of_number-requires : goal.part_of_number-requires
 part_of_number-requires c =
-    (c.requires.0.consts.channel.first_frame, subst (λ (fs : List Frame). AreInOrder c.requires.0.consts.channel.first_frame (numbered fs)) (sym c.as_slice.ensures.value) c.requires.1.in_order)
+    (c.requires.0.consts.channel.first_frame, subst (λ (fs : List Frame). AreNumbered c.requires.0.consts.channel.first_frame (numbered fs)) (sym c.as_slice.ensures.value) c.requires.1.in_order)
 
 pub returns-in-Some : goal.returns-in-Some
 returns-in-Some c = λ book its.
