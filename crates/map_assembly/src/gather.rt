@@ -157,18 +157,18 @@ impl Gather {
         ensures { IfOk result (λ gather. gather ≡ gathering_of plant.now) }
     {
         let rows = plant.rows();
-        let consts = plant.consts();
-        let layout = consts.get_fields().channel;
+        let fields = plant.consts().get_fields();
+        let first_frame = fields.channel.first_frame;
         let shares = shares_of(alloc, rows)?;
         let slices = Slicing::new(alloc, slices_of(alloc, rows)?)?;
         let queues = no_queues(alloc, rows.len())?;
         Ok(Gather {
-            layout,
+            layout: fields.channel,
             shares,
             slices,
             reslicings: Vec::new(alloc),
             queues,
-            next: layout.first_frame as u64,
+            next: first_frame as u64,
         })
     }
 
