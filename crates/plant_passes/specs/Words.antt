@@ -58,15 +58,17 @@ parts_of (v ∷ vs) = v.parts + parts_of vs
 pub no_origin : Origin
 no_origin = record {
   consts = record {
-    frame_minislots = 0;
-    head = 0;
+    channel = record {
+      frame_minislots = 0;
+      head = 0;
+      id = 0;
+      ucd_count = 0;
+      backoffs = record { ranging_start = 0; ranging_end = 0; data_start = 0; data_end = 0 };
+      first_frame = 0;
+    };
     units = record { frame_us = 0; bytes_per_minislot = 0 };
     short_max = 0;
-    channel = 0;
-    ucd_count = 0;
-    backoffs = record { ranging_start = 0; ranging_end = 0; data_start = 0; data_end = 0 };
     timers = record { ack_wait = 0; resends = 0; hold = 0 };
-    first_frame = 0;
     classes = [];
   };
   row = record {
