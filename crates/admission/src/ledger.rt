@@ -232,7 +232,7 @@ impl Ledger {
 
     /// What every ledger keeps, for a caller's proof: the rows ascend by SFID, there is room for
     /// each, and their numbers are those of a `u32`. Does nothing.
-    pub fn kept(&self)
+    pub fn always(&self)
         ensures ascending { IsAscending self.now.rows }
         ensures within { length self.now.rows ≤ self.now.room }
         ensures numbers { All FitsU32 (values_of self.now.rows) }

@@ -77,7 +77,7 @@ impl Standing {
         ensures decides { IfOk result (λ check. IsDecidedBy self.now modem (said_by request.now) check
             (verdict self.now modem request.now)) }
     {
-        self.sound();
+        self.always_sound();
         let subjects = self.subjects(alloc, request)?;
         let admitted = self.sets(alloc, Use::Admit, request)?;
         let active = self.sets(alloc, Use::Activate, request)?;

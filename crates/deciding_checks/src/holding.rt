@@ -2,12 +2,10 @@
 
 ghost use Rattle.std.specs.Prelude.{◌≡◌, ◌==◌, ◌≤◌, is_some};
 ghost use Rattle.std.specs.List.{list_any};
-ghost use Rattle.param_sets.specs.Within.{first_failing};
-ghost use Rattle.flow_table.specs.Table.{sfids_of, committed_minislots, committed_elements};
+ghost use Rattle.flow_table.specs.Table.{committed_minislots, committed_elements};
 ghost use Rattle.operator_machine.specs.Asked.{is_unclassed};
 ghost use Rattle.checks_in_order.specs.Said.{said_by};
 ghost use Rattle.checks_in_order.specs.Holding.{would_commit};
-ghost use Rattle.deciding_checks.specs.Asking.{subjects_of, sets_of};
 ghost use Rattle.deciding_checks.specs.Deciding.{do_differ, is_alone, differs_from, has_no_identifier, is_taken, is_wrong_alone, gives_none, is_unknown, names_unknown, is_of_another, does_wait, is_outside, is_outside_one, provisioned_of, one_exceeds, has_no_sid, is_over_budget, elements_over, minislots_over, does_hold};
 ghost use Rattle.deciding_checks.specs.Standing.{AreAsked};
 

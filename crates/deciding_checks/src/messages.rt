@@ -195,7 +195,7 @@ impl Standing {
         ensures decides { IfSome result (λ check. (bytes : List ℕ) → AreBytes bytes → reading.now ≡ message_of bytes
             → IsHandledBy self.now modem reading.now check (handle self.now modem (heards.Message bytes))) }
     {
-        self.sound();
+        self.always_sound();
         self.first_message_check(&MESSAGE_CHECKS, modem, reading)
             .copied()
     }

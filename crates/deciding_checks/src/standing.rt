@@ -98,7 +98,7 @@ impl Standing {
         ensures { IfOk result (λ standing. standing
             ≡ operator book.now.kept.book.consts book.now.kept.book.row book.now.kept.book.state) }
     {
-        book.sound();
+        book.always_sound();
         let copied = copied_from(alloc, book)?;
         let used = used_in(alloc, copied.state.flows())?;
         Ok(Standing {
@@ -132,7 +132,7 @@ impl Standing {
     }
 
     /// A law: the state is one that a machine can have.
-    pub fn sound(&self)
+    pub fn always_sound(&self)
         ensures { IsSound self.now }
     {
         let _ = &self.state;

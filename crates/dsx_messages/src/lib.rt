@@ -11,6 +11,7 @@ pub mod message_type;
 mod modem;
 mod reading;
 mod reply;
+mod reply_details;
 mod reply_reading;
 mod spell;
 pub mod tlv_type;

@@ -1,41 +1,11 @@
 //! Messages as what they say.
 
-ghost use Rattle.std.specs.Prelude.{◌≡◌};
-
 use crate::kind::Kind;
-use std::marker::Model;
+use lists::Listed;
 use tlv24::FlowTlv;
 
-/// The flow encodings of a request in the order of its bytes, seen by contracts as the list of their fields.
-#[derive(Debug, Drop)]
-pub struct Flows {
-    flows: Vec<FlowTlv>,
-}
-
-impl Model for Flows {
-    ghost use Rattle.std.specs.Prelude.{List};
-    ghost use Rattle.tlv24.specs.declared.fields.FlowFields.{FlowFields};
-
-    ghost Value = { List FlowFields };
-
-    ghost view = { λ f. f.flows.items };
-}
-
-impl Flows {
-    /// These encodings, without a copy.
-    pub fn from_vec(flows: Vec<FlowTlv>) -> Flows
-        ensures { result ≡ flows.items }
-    {
-        Flows { flows }
-    }
-
-    /// The encodings in place.
-    pub fn as_slice(&self) -> &[FlowTlv]
-        ensures { result.now ≡ self.now }
-    {
-        self.flows.as_slice()
-    }
-}
+/// The flow encodings of a request in the order of its bytes.
+pub type Flows = Listed<FlowTlv>;
 
 /// What a modem asks for.
 #[derive(Debug, Drop)]

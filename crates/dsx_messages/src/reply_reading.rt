@@ -1,9 +1,7 @@
 //! Reading replies.
 
-ghost use Rattle.std.specs.Prelude.{◌≡◌, ◌≢◌, ◌==◌, ℕ, ◌<◌, ◌^◌, [], ◌∷◌, Option, Some, None, IfSome, IfOk, if◌then◌else◌};
-ghost use Rattle.tlv24.specs.Tlv.{spelled};
-ghost use Rattle.dsx_messages.specs.Code.{number_of};
-ghost use Rattle.dsx_messages.specs.Spelling.{response_type, tlvs_in, tail_of, spell_reply};
+ghost use Rattle.std.specs.Prelude.{◌≡◌, ◌<◌, [], ◌∷◌, Option, Some, None, IfSome, IfOk};
+ghost use Rattle.dsx_messages.specs.Spelling.{response_type, spell_reply};
 ghost use Rattle.dsx_messages.specs.WellFormed.{IsWellFormed};
 ghost use Rattle.dsx_messages.specs.Told.{IsTold};
 ghost use Rattle.dsx_messages.specs.Widths.{FitsDetail, FitsReply};
@@ -11,19 +9,17 @@ ghost use Rattle.dsx_messages.specs.declared.kind.Kind.{Kind};
 ghost use Rattle.dsx_messages.specs.declared.kind.Kind.TheVariants.{Dsa, Dsc, Dsd};
 ghost use Rattle.dsx_messages.specs.declared.code.Code.{Code};
 ghost use Rattle.dsx_messages.specs.declared.code.Code.TheVariants.{Okay};
-ghost use Rattle.dsx_messages.specs.declared.reply.FlowId.TheVariants.{Reference, Sfid};
 ghost use Rattle.dsx_messages.specs.declared.reply.Detail.{Detail};
-ghost use Rattle.dsx_messages.specs.declared.reply.Detail.TheVariants.{Nothing, Given, Errored};
+ghost use Rattle.dsx_messages.specs.declared.reply.Detail.TheVariants.{Nothing};
 ghost use Rattle.dsx_messages.specs.declared.reply.ReplyFields.{ReplyFields};
 
 use crate::code::Code;
 use crate::kind::Kind;
 use crate::message_type;
-use crate::reply::{Detail, FlowId, Reply, ReplyFields};
+use crate::reply::{Detail, Reply, ReplyFields};
+use crate::reply_details::{accepted_addition, accepted_change, refused_addition, refused_change};
 use crate::spell::write_reply;
-use crate::tlv_type::UPSTREAM_SERVICE_FLOW as FLOW;
 use std::alloc::{AllocError, Global};
-use tlv24::subtype::{ERROR_CODE, ERRORED, ERRORED_PARAMETER, REFERENCE, SFID, SID};
 
 /// What a response answers to, by its message type.
 fn kind_of(mtype: u8) -> Option<Kind>
@@ -35,242 +31,6 @@ fn kind_of(mtype: u8) -> Option<Kind>
         message_type::DSC_RSP => Some(Kind::Dsc),
         message_type::DSD_RSP => Some(Kind::Dsd),
         _ => None,
-    }
-}
-
-/// An accepted addition: the reference, the SFID and the SID of its flow, in this order.
-fn added(tail: &[u8]) -> Option<(u16, u32, u16)>
-    ensures spelled { IfSome result (λ n. tail.now ≡ tail_of Dsa Okay (Given (Some n.0) n.1 (Some n.2))) }
-    ensures every { (reference sfid sid : ℕ) → reference < 2 ^ 16 → sfid < 2 ^ 32 → sid < 2 ^ 16
-        → tail.now ≡ tail_of Dsa Okay (Given (Some reference) sfid (Some sid))
-        → result ≡ Some (reference, sfid, sid) }
-{
-    match tail {
-        [
-            FLOW,
-            14,
-            REFERENCE,
-            2,
-            rh,
-            rl,
-            SFID,
-            4,
-            a,
-            b,
-            c,
-            d,
-            SID,
-            2,
-            sh,
-            sl,
-        ] => Some((
-            u16::from_be_bytes([*rh, *rl]),
-            u32::from_be_bytes([*a, *b, *c, *d]),
-            u16::from_be_bytes([*sh, *sl]),
-        )),
-        _ => None,
-    }
-}
-
-/// An accepted change of a flow that has no SID: its SFID.
-fn changed(tail: &[u8]) -> Option<u32>
-    ensures spelled { IfSome result (λ sfid. tail.now ≡ tail_of Dsc Okay (Given None sfid None)) }
-    ensures every { (sfid : ℕ) → sfid < 2 ^ 32 → tail.now ≡ tail_of Dsc Okay (Given None sfid None)
-        → result ≡ Some sfid }
-{
-    match tail {
-        [FLOW, 6, SFID, 4, a, b, c, d] => Some(u32::from_be_bytes([*a, *b, *c, *d])),
-        _ => None,
-    }
-}
-
-/// An accepted change of a flow that has a SID: its SFID and its SID, in this order.
-fn changed_with_sid(tail: &[u8]) -> Option<(u32, u16)>
-    ensures spelled { IfSome result (λ n. tail.now ≡ tail_of Dsc Okay (Given None n.0 (Some n.1))) }
-    ensures every { (sfid sid : ℕ) → sfid < 2 ^ 32 → sid < 2 ^ 16
-        → tail.now ≡ tail_of Dsc Okay (Given None sfid (Some sid)) → result ≡ Some (sfid, sid) }
-{
-    match tail {
-        [FLOW, 10, SFID, 4, a, b, c, d, SID, 2, sh, sl] => Some((
-            u32::from_be_bytes([*a, *b, *c, *d]),
-            u16::from_be_bytes([*sh, *sl]),
-        )),
-        _ => None,
-    }
-}
-
-/// What a refusal says of the encoding at fault, if its error encodings repeat the reply's code.
-fn repeated(code: Code, number: u8, id: Option<FlowId>, subtype: u8) -> Option<(Option<FlowId>, u8)>
-    ensures { result ≡ if number == number_of code then Some (id, subtype) else None }
-{
-    if number == code.number() {
-        Some((id, subtype))
-    } else {
-        None
-    }
-}
-
-/// A refusal that names a flow by its SFID, and the subtype at fault.
-fn errored_sfid(code: Code, tail: &[u8]) -> Option<(Option<FlowId>, u8)>
-    ensures spelled { IfSome result (λ n. tail.now ≡ spelled (tlvs_in code (Errored n.0 n.1))) }
-    ensures every { (sfid subtype : ℕ) → sfid < 2 ^ 32
-        → tail.now ≡ spelled (tlvs_in code (Errored (Some (Sfid sfid)) subtype))
-        → result ≡ Some (Some (Sfid sfid), subtype) }
-{
-    let [
-        FLOW,
-        14,
-        SFID,
-        4,
-        a,
-        b,
-        c,
-        d,
-        ERRORED,
-        6,
-        ERRORED_PARAMETER,
-        1,
-        subtype,
-        ERROR_CODE,
-        1,
-        number,
-    ] = tail
-    else {
-        return None;
-    };
-    let sfid = u32::from_be_bytes([*a, *b, *c, *d]);
-    repeated(code, *number, Some(FlowId::Sfid(sfid)), *subtype)
-}
-
-/// A refusal that names a subtype: the identifier of its flow, where it has one, and the subtype at fault.
-fn errored(code: Code, tail: &[u8]) -> Option<(Option<FlowId>, u8)>
-    ensures spelled { IfSome result (λ n. tail.now ≡ spelled (tlvs_in code (Errored n.0 n.1))) }
-    ensures every { (subtype : ℕ) → tail.now ≡ spelled (tlvs_in code (Errored None subtype))
-        → result ≡ Some (None, subtype) }
-    ensures every_reference { (reference subtype : ℕ) → reference < 2 ^ 16
-        → tail.now ≡ spelled (tlvs_in code (Errored (Some (Reference reference)) subtype))
-        → result ≡ Some (Some (Reference reference), subtype) }
-    ensures every_sfid { (sfid subtype : ℕ) → sfid < 2 ^ 32
-        → tail.now ≡ spelled (tlvs_in code (Errored (Some (Sfid sfid)) subtype))
-        → result ≡ Some (Some (Sfid sfid), subtype) }
-{
-    match tail {
-        [
-            FLOW,
-            8,
-            ERRORED,
-            6,
-            ERRORED_PARAMETER,
-            1,
-            subtype,
-            ERROR_CODE,
-            1,
-            number,
-        ] => repeated(code, *number, None, *subtype),
-        [
-            FLOW,
-            12,
-            REFERENCE,
-            2,
-            high,
-            low,
-            ERRORED,
-            6,
-            ERRORED_PARAMETER,
-            1,
-            subtype,
-            ERROR_CODE,
-            1,
-            number,
-        ] => {
-            let reference = u16::from_be_bytes([*high, *low]);
-            repeated(code, *number, Some(FlowId::Reference(reference)), *subtype)
-        }
-        _ => errored_sfid(code, tail),
-    }
-}
-
-/// What an accepted addition says.
-fn accepted_addition(tail: &[u8]) -> Option<Detail>
-    ensures spelled { IfSome result (IsTold Dsa Okay tail.now) }
-    ensures every { (reference sfid sid : ℕ) → reference < 2 ^ 16 → sfid < 2 ^ 32 → sid < 16384
-        → tail.now ≡ tail_of Dsa Okay (Given (Some reference) sfid (Some sid))
-        → result ≡ Some (Given (Some reference) sfid (Some sid)) }
-{
-    let (reference, sfid, sid) = added(tail)?;
-    if sid < 16384 {
-        Some(Detail::Given {
-            reference: Some(reference),
-            sfid,
-            sid: Some(sid),
-        })
-    } else {
-        None
-    }
-}
-
-/// What an accepted change says.
-fn accepted_change(tail: &[u8]) -> Option<Detail>
-    ensures spelled { IfSome result (IsTold Dsc Okay tail.now) }
-    ensures every { (sfid : ℕ) → sfid < 2 ^ 32 → tail.now ≡ tail_of Dsc Okay (Given None sfid None)
-        → result ≡ Some (Given None sfid None) }
-    ensures every_with_sid { (sfid sid : ℕ) → sfid < 2 ^ 32 → sid < 16384
-        → tail.now ≡ tail_of Dsc Okay (Given None sfid (Some sid)) → result ≡ Some (Given None sfid (Some sid)) }
-{
-    if let Some(sfid) = changed(tail) {
-        return Some(Detail::Given {
-            reference: None,
-            sfid,
-            sid: None,
-        });
-    }
-    let (sfid, sid) = changed_with_sid(tail)?;
-    if sid < 16384 {
-        Some(Detail::Given {
-            reference: None,
-            sfid,
-            sid: Some(sid),
-        })
-    } else {
-        None
-    }
-}
-
-/// What a refused addition says.
-fn refused_addition(code: Code, tail: &[u8]) -> Option<Detail>
-    ensures spelled { code ≢ Okay → IfSome result (IsTold Dsa code tail.now) }
-    ensures every { tail.now ≡ tail_of Dsa code Nothing → result ≡ Some Nothing }
-    ensures every_errored { (subtype : ℕ) → tail.now ≡ tail_of Dsa code (Errored None subtype)
-        → result ≡ Some (Errored None subtype) }
-    ensures every_reference { (reference subtype : ℕ) → reference < 2 ^ 16
-        → tail.now ≡ tail_of Dsa code (Errored (Some (Reference reference)) subtype)
-        → result ≡ Some (Errored (Some (Reference reference)) subtype) }
-{
-    if tail.is_empty() {
-        return Some(Detail::Nothing);
-    }
-    match errored(code, tail)? {
-        (Some(FlowId::Sfid(_)), _) => None,
-        (id, subtype) => Some(Detail::Errored { id, subtype }),
-    }
-}
-
-/// What a refused change says.
-fn refused_change(code: Code, tail: &[u8]) -> Option<Detail>
-    ensures spelled { code ≢ Okay → IfSome result (IsTold Dsc code tail.now) }
-    ensures every { tail.now ≡ tail_of Dsc code Nothing → result ≡ Some Nothing }
-    ensures every_errored { (subtype : ℕ) → tail.now ≡ tail_of Dsc code (Errored None subtype)
-        → result ≡ Some (Errored None subtype) }
-    ensures every_sfid { (sfid subtype : ℕ) → sfid < 2 ^ 32
-        → tail.now ≡ tail_of Dsc code (Errored (Some (Sfid sfid)) subtype)
-        → result ≡ Some (Errored (Some (Sfid sfid)) subtype) }
-{
-    if tail.is_empty() {
-        return Some(Detail::Nothing);
-    }
-    match errored(code, tail)? {
-        (Some(FlowId::Reference(_)), _) => None,
-        (id, subtype) => Some(Detail::Errored { id, subtype }),
     }
 }
 

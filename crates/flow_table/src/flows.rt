@@ -219,7 +219,7 @@ impl Flows {
     }
 
     /// What every table keeps, for a caller's proof. Does nothing.
-    pub fn kept(&self)
+    pub fn always(&self)
         ensures ascending { IsStrictlySortedBy nat_cmp (keys_of self.now.flows) }
         ensures within { length self.now.flows ≤ self.now.capacity }
         ensures own_sids { HaveOwnSids self.now.flows }

@@ -8,7 +8,7 @@ use Rattle.std.proofs.lemmas.Bool.{ltb-false}
 use Rattle.slice_scheduler.specs.Minislots.{Minislots}
 use Rattle.slice_scheduler.specs.declared.elements.ElementsFields.{ElementsFields}
 use Rattle.map_assembly.specs.declared.map_bytes.MapBytes.{MapBytes}
-use Rattle.map_assembly.specs.declared.share.Share.{Share}
+use Rattle.map_assembly.specs.declared.quota.Quota.{Quota}
 use Rattle.map_assembly.specs.declared.slicing.Reslicing.{Reslicing}
 use Rattle.map_assembly.specs.declared.refused.GatherFault.{GatherFault}
 use Rattle.map_assembly.specs.declared.refused.GatherFault.TheVariants.{Stranger, Old, PutTwice, Early, WrongSlice}
@@ -20,9 +20,9 @@ use Rattle.map_assembly.proofs.NewLemmas.{queued-agree}
 
 -- ---- a part is refused alike
 
-abbrev refused_by : List Share → ℕ → List (List ElementsFields) → Bool → ℕ → ℕ → Option GatherFault
-refused_by shares next queues part op frame =
-    if leb (length shares) op then Some Stranger else
+abbrev refused_by : List Quota → ℕ → List (List ElementsFields) → Bool → ℕ → ℕ → Option GatherFault
+refused_by quotas next queues part op frame =
+    if leb (length quotas) op then Some Stranger else
     if ltb frame next then Some (Old frame) else
     if ltb frame (next + length (queue_of queues op)) then Some PutTwice else
     if ltb (next + length (queue_of queues op)) frame then Some (Early frame) else
@@ -30,9 +30,9 @@ refused_by shares next queues part op frame =
     Some WrongSlice
 
 -- of a frame whose MAP is made it does not matter what the part is
-before_next : (shares : List Share) (next : ℕ) (queues : List (List ElementsFields)) (a b : Bool) (op frame : ℕ) → ltb frame next ≡ true
-    → refused_by shares next queues a op frame ≡ refused_by shares next queues b op frame
-before_next shares next queues a b op frame old = by (leb (length shares) op)
+before_next : (quotas : List Quota) (next : ℕ) (queues : List (List ElementsFields)) (a b : Bool) (op frame : ℕ) → ltb frame next ≡ true
+    → refused_by quotas next queues a op frame ≡ refused_by quotas next queues b op frame
+before_next quotas next queues a b op frame old = by (leb (length quotas) op)
   where
     by : (s : Bool) → (if s then Some Stranger else if ltb frame next then Some (Old frame) else if ltb frame (next + length (queue_of queues op)) then Some PutTwice else if ltb (next + length (queue_of queues op)) frame then Some (Early frame) else if a then None else Some WrongSlice)
         ≡ (if s then Some Stranger else if ltb frame next then Some (Old frame) else if ltb frame (next + length (queue_of queues op)) then Some PutTwice else if ltb (next + length (queue_of queues op)) frame then Some (Early frame) else if b then None else Some WrongSlice)
@@ -42,13 +42,13 @@ before_next shares next queues a b op frame old = by (leb (length shares) op)
 pub same_fault : (g h : Gathering) (op frame : ℕ) (part : ElementsFields) → GoesOnAlike g h → put_fault g op frame part ≡ put_fault h op frame part
 same_fault g h op frame part alike =
     parts (ltb frame g.next) refl
-    ∙ (λ k. refused_by (sym alike.shares_are k) (sym alike.next_is k) (sym alike.queues_are k) (is_part h op frame part) op frame)
+    ∙ (λ k. refused_by (sym alike.quotas_are k) (sym alike.next_is k) (sym alike.queues_are k) (is_part h op frame part) op frame)
   where
-    parts : (b : Bool) → ltb frame g.next ≡ b → put_fault g op frame part ≡ refused_by g.shares g.next g.queues (is_part h op frame part) op frame
-    parts true old = before_next g.shares g.next g.queues (is_part g op frame part) (is_part h op frame part) op frame old
+    parts : (b : Bool) → ltb frame g.next ≡ b → put_fault g op frame part ≡ refused_by g.quotas g.next g.queues (is_part h op frame part) op frame
+    parts true old = before_next g.quotas g.next g.queues (is_part g op frame part) (is_part h op frame part) op frame old
     parts false fresh =
-        ap (λ (b : Bool). refused_by g.shares g.next g.queues b op frame)
-        (λ k. fits_at (slice_get (sym alike.shares_are k) op) (slice_get (sym (alike.slices_are frame (ltb-false frame g.next fresh)) k) op) part)
+        ap (λ (b : Bool). refused_by g.quotas g.next g.queues b op frame)
+        (λ k. fits_at (slice_get (sym alike.quotas_are k) op) (slice_get (sym (alike.slices_are frame (ltb-false frame g.next fresh)) k) op) part)
 
 -- ---- a part is put alike
 
@@ -62,8 +62,8 @@ same_answer g h op frame part (Some made) alike is =
       sym (same_last g h op part alike) ∙ is.0,
       now,
       is.2,
-      subst (λ (x : Gathering). IsMapOf x.layout frame x.shares (frame_slices g frame) (fronts (with_part x.queues op part)) made.bytes) (λ k. record g { layout = alike.layout_is k; shares = alike.shares_are k; queues = alike.queues_are k })
-          (subst (λ (ms : List Minislots). IsMapOf h.layout frame h.shares ms (fronts (with_part h.queues op part)) made.bytes) (alike.slices_are frame (omega (arith, now))) is.3),
+      subst (λ (x : Gathering). IsMapOf x.channel frame x.quotas (frame_slices g frame) (fronts (with_part x.queues op part)) made.bytes) (λ k. record g { channel = alike.channel_is k; quotas = alike.quotas_are k; queues = alike.queues_are k })
+          (subst (λ (ms : List Minislots). IsMapOf h.channel frame h.quotas ms (fronts (with_part h.queues op part)) made.bytes) (alike.slices_are frame (omega (arith, now))) is.3),
     )
 
 abbrev put_branch : Gathering → ℕ → ElementsFields → Bool → Gathering
@@ -72,16 +72,16 @@ put_branch g op part false = record g { queues = with_part g.queues op part }
 
 alike_branch : (g h : Gathering) (op : ℕ) (part : ElementsFields) (b : Bool) → GoesOnAlike g h → GoesOnAlike (put_branch g op part b) (put_branch h op part b)
 alike_branch g h op part true alike = record {
-  layout_is = alike.layout_is;
-  shares_are = alike.shares_are;
+  channel_is = alike.channel_is;
+  quotas_are = alike.quotas_are;
   queues_are = ap (λ (qs : List (List ElementsFields)). map (λ queue. drop 1 queue) (with_part qs op part)) alike.queues_are;
   next_is = ap (λ (n : ℕ). n + 1) alike.next_is;
   left = alike.left;
   slices_are = λ frame le. alike.slices_are frame (omega (arith, le));
 }
 alike_branch g h op part false alike = record {
-  layout_is = alike.layout_is;
-  shares_are = alike.shares_are;
+  channel_is = alike.channel_is;
+  quotas_are = alike.quotas_are;
   queues_are = ap (λ (qs : List (List ElementsFields)). with_part qs op part) alike.queues_are;
   next_is = alike.next_is;
   left = alike.left;
@@ -107,8 +107,8 @@ pub alike_resliced : (g h : Gathering) (from : ℕ) (slices : List Minislots) �
 alike_resliced g h from slices alike =
     let r : Reslicing = record { from = from; slicing = slices } in
     record {
-      layout_is = alike.layout_is;
-      shares_are = alike.shares_are;
+      channel_is = alike.channel_is;
+      quotas_are = alike.quotas_are;
       queues_are = alike.queues_are;
       next_is = alike.next_is;
       left = (alike.left.0, ap (λ (rs : List Reslicing). rs ++ r ∷ []) alike.left.1 ∙ append_assoc alike.left.0 h.reslicings (r ∷ []));
@@ -131,31 +131,31 @@ behind P (x ∷ xs) ys h = behind P xs ys (All-from_recursion P (xs ++ ys) (recu
 -- what may be given to the one may be given to the other
 pub may_too : (g h : Gathering) (from : ℕ) (slices : List Minislots) → GoesOnAlike g h → MayReslice g from slices → MayReslice h from slices
 may_too g h from slices alike may = record {
-  slices_are = subst (λ (x : Gathering). AreSlices x.layout (length x.shares) slices) (λ k. record g { layout = sym alike.layout_is k; shares = sym alike.shares_are k }) may.slices_are;
+  slices_are = subst (λ (x : Gathering). AreSlices x.channel (length x.quotas) slices) (λ k. record g { channel = sym alike.channel_is k; quotas = sym alike.quotas_are k }) may.slices_are;
   later = behind (λ (r : Reslicing). r.from < from) alike.left.0 h.reslicings (subst (λ (rs : List Reslicing). All (λ r. r.from < from) rs) alike.left.1 may.later);
-  past = subst (λ (x : Gathering). All (λ queue. x.layout.first_frame < x.next + length queue → x.next + length queue ≤ from) x.queues)
-      (λ k. record g { layout = sym alike.layout_is k; next = sym alike.next_is k; queues = sym alike.queues_are k }) may.past;
+  past = subst (λ (x : Gathering). All (λ queue. x.channel.first_frame < x.next + length queue → x.next + length queue ≤ from) x.queues)
+      (λ k. record g { channel = sym alike.channel_is k; next = sym alike.next_is k; queues = sym alike.queues_are k }) may.past;
 }
 
 -- ---- what always holds of what is gathered
 
 -- with valid slices, it holds where it holds of what goes on alike
-pub held_on : (g h : Gathering) → GoesOnAlike g h → AreSlices g.layout (length g.shares) g.slices → All (λ r. AreSlices g.layout (length g.shares) r.slicing) g.reslicings → IsGathering h → IsGathering g
+pub held_on : (g h : Gathering) → GoesOnAlike g h → AreSlices g.channel (length g.quotas) g.slices → All (λ r. AreSlices g.channel (length g.quotas) r.slicing) g.reslicings → IsGathering h → IsGathering g
 held_on g h alike first others is = record {
-  layout_is = moved.layout_is;
-  shares_are = moved.shares_are;
+  channel_is = moved.channel_is;
+  quotas_are = moved.quotas_are;
   slices_are = first;
   reslicings_are = others;
   one_each = moved.one_each;
   waiting = moved.waiting;
   started = moved.started;
-  queued = λ k share queue s q.
-      queued-agree (λ (n : ℕ). slice_get (slices_at h.slices h.reslicings n) k) (λ (n : ℕ). slice_get (slices_at g.slices g.reslicings n) k) share g.next queue
-      (λ m le lt. ap (λ (ms : List Minislots). slice_get ms k) (alike.slices_are m le)) (moved.queued k share queue s q);
+  queued = λ k quota queue s q.
+      queued-agree (λ (n : ℕ). slice_get (slices_at h.slices h.reslicings n) k) (λ (n : ℕ). slice_get (slices_at g.slices g.reslicings n) k) quota g.next queue
+      (λ m le lt. ap (λ (ms : List Minislots). slice_get ms k) (alike.slices_are m le)) (moved.queued k quota queue s q);
 }
   where
-    moved : IsGathering (record h { layout = g.layout; shares = g.shares; queues = g.queues; next = g.next })
-    moved = subst IsGathering (λ k. record h { layout = alike.layout_is k; shares = alike.shares_are k; queues = alike.queues_are k; next = alike.next_is k }) is
+    moved : IsGathering (record h { channel = g.channel; quotas = g.quotas; queues = g.queues; next = g.next })
+    moved = subst IsGathering (λ k. record h { channel = alike.channel_is k; quotas = alike.quotas_are k; queues = alike.queues_are k; next = alike.next_is k }) is
 
 pub held_put : (g x : Gathering) (op : ℕ) (part : ElementsFields) → GoesOnAlike (after_put g op part) x → IsGathering g → IsGathering x → IsGathering (after_put g op part)
 held_put g x op part alike is held =
@@ -166,7 +166,7 @@ held_put g x op part alike is held =
     by true on = held_on (put_branch g op part true) x on is.slices_are is.reslicings_are held
     by false on = held_on (put_branch g op part false) x on is.slices_are is.reslicings_are held
 
-pub held_resliced : (g h x : Gathering) (from : ℕ) (slices : List Minislots) → GoesOnAlike (resliced g from slices) x → IsGathering g → AreSlices g.layout (length g.shares) slices → IsGathering x → IsGathering (resliced g from slices)
+pub held_resliced : (g h x : Gathering) (from : ℕ) (slices : List Minislots) → GoesOnAlike (resliced g from slices) x → IsGathering g → AreSlices g.channel (length g.quotas) slices → IsGathering x → IsGathering (resliced g from slices)
 held_resliced g h x from slices on is valid held =
     let r : Reslicing = record { from = from; slicing = slices } in
-    held_on (resliced g from slices) x on is.slices_are (All-push (λ (y : Reslicing). AreSlices g.layout (length g.shares) y.slicing) g.reslicings r is.reslicings_are valid) held
+    held_on (resliced g from slices) x on is.slices_are (All-push (λ (y : Reslicing). AreSlices g.channel (length g.quotas) y.slicing) g.reslicings r is.reslicings_are valid) held

@@ -29,13 +29,13 @@ use Rattle.plant_runs.specs.OwnSteps.{under, slice_of}
 use Rattle.plant_runs.specs.Opened.{opened_book, opened_core}
 use Rattle.plant_runs.specs.Ordered.{target}
 use Rattle.plant_runs.specs.Reached.{CoreView, frames_of}
-use Rattle.plant_runs.specs.Steps.{Acts, Collects, Reslices, Steps, told_map}
+use Rattle.plant_runs.specs.Steps.{Acts, Collects, Reslices, Steps, told_map, NoneRefuses}
 use Rattle.plant_runs.proofs.OneStep.{step_reached}
 use Rattle.plant_runs.proofs.Opening.{opened_reached}
 use Rattle.plant_runs.proofs.Fits.{waiting_fits}
 use Rattle.plant_runs.proofs.Anew.{slices_anew}
 use Rattle.plant_core.specs.Reachable.{core_of}
-use Rattle.plant_core.specs.Giving.{NoneRefuses, HaveTakenAs}
+use Rattle.plant_core.specs.Giving.{HaveTakenAs}
 use Rattle.plant_core.specs.Reslicing.{reslice_fault}
 use Rattle.plant_core.proofs.FreeLemmas.{are_free}
 use Rattle.plant_core.proofs.ReachLemmas.{step_acts}
@@ -246,9 +246,9 @@ pub reslices_on : (plant : PlantFields) (gathering gathering' : Gathering) (live
     → GoesOn (Reslices from rows) (core_of plant lives queues gathering) (core_of plant lives' queues' gathering') []
 reslices_on plant gathering gathering' lives lives' queues queues' from rows none have qs may on held = λ core is.
     let free = free_behind from core.books lives rows is.books_are none in
-    let valid : AreSlices core.gathering.layout (length core.gathering.shares) (map slice_of rows) =
-    subst (λ (x : Gathering). AreSlices x.layout (length x.shares) (map slice_of rows))
-    (λ k. record gathering { layout = is.gathering_is.layout_is k; shares = is.gathering_is.shares_are k }) may.slices_are in
+    let valid : AreSlices core.gathering.channel (length core.gathering.quotas) (map slice_of rows) =
+    subst (λ (x : Gathering). AreSlices x.channel (length x.quotas) (map slice_of rows))
+    (λ k. record gathering { channel = is.gathering_is.channel_is k; quotas = is.gathering_is.quotas_are k }) may.slices_are in
     let all : GoesOnAlike (resliced core.gathering from (map slice_of rows)) gathering' =
     alike_again (resliced core.gathering from (map slice_of rows)) (resliced gathering from (map slice_of rows)) gathering'
     (alike_resliced core.gathering gathering from (map slice_of rows) is.gathering_is) on in (

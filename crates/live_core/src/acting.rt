@@ -1,9 +1,8 @@
 //! What is done to an operator's live desk.
 
-ghost use Rattle.std.specs.Prelude.{◌≡◌, ◌≢◌, ◌↔◌, ◌<◌, ◌≤◌, false, [], ◌++◌, length, slice_get, Some, Err, IfOk, IfErr, OnOk, OnErr};
+ghost use Rattle.std.specs.Prelude.{◌≡◌, ◌≢◌, ◌↔◌, ◌<◌, false, [], ◌++◌, length, slice_get, Some, Err, IfOk, IfErr, OnOk, OnErr};
 ghost use Rattle.plant.specs.Row.{IsRowOf};
 ghost use Rattle.operator_machine.specs.Frames.{is_tick};
-ghost use Rattle.operator_machine.specs.State.{operator};
 ghost use Rattle.operator_machine.specs.Machine.{own_step, is_spent, IsAllowed};
 ghost use Rattle.plant_runs.specs.Opened.{opened_book};
 ghost use Rattle.plant_runs.specs.OwnSteps.{under};

@@ -3,9 +3,9 @@
 ghost use Rattle.std.specs.Prelude.{◌≡◌, [], map, length, vec_len, None, OnOk, OnErr};
 ghost use Rattle.operator_machine.specs.declared.action.Action.TheVariants as actions;
 ghost use Rattle.operator_machine.specs.Machine.{unfit_from};
-ghost use Rattle.plant_runs.specs.Steps.{Reslices};
+ghost use Rattle.plant_runs.specs.Steps.{Reslices, NoneRefuses};
 ghost use Rattle.plant_core.specs.Reslicing.{reslice_fault};
-ghost use Rattle.plant_core.specs.Giving.{NoneRefuses, HaveTakenAs};
+ghost use Rattle.plant_core.specs.Giving.{HaveTakenAs};
 ghost use Rattle.live_core.specs.DeskView.{book_at, waiting_at};
 ghost use Rattle.live_core.specs.GoingOn.{went, GoesOn};
 ghost use Rattle.live_core.specs.LiveView.{live_view};
@@ -57,7 +57,7 @@ impl LiveCore {
         let slices = slices_of(alloc, rows)?;
         self.gather.reslice(alloc, from, slices)?;
         self.gather.let_go();
-        self.gather.kept();
+        self.gather.always();
         give(&mut self.desks, from, rows);
         Ok(())
     }

@@ -18,7 +18,7 @@ impl LiveCore {
         ensures let_go { has_begun (live_view self.now).gathering ≡ false }
     {
         let _rows = self.routes.plant().rows();
-        self.gather.kept();
+        self.gather.always();
     }
 
     /// The plant.

@@ -60,7 +60,7 @@ fn opened_parts(alloc: Global, plant: &Plant, rankings: Vec<Ranking>) -> Result<
 {
     let desks = opened_desks(alloc, plant.rows(), plant.consts(), rankings)?;
     let gather = Gather::new(alloc, plant)?;
-    gather.kept();
+    gather.always();
     Ok(Parts { desks, gather })
 }
 

@@ -81,7 +81,7 @@ impl LiveCore {
         match self.desks[op].collect_into(alloc, op, gather, outs) {
             Ok(()) => {
                 gather.let_go();
-                gather.kept();
+                gather.always();
                 Ok(())
             }
             Err(fault) => Err(fault),

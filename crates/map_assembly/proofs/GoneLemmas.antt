@@ -37,8 +37,8 @@ gone g r rs = record g { slices = r.slicing; reslicings = rs }
 
 pub alike_gone : (g : Gathering) (r : Reslicing) (rs : List Reslicing) → g.reslicings ≡ r ∷ rs → leb r.from g.next ≡ true → GoesOnAlike g (gone g r rs)
 alike_gone g r rs e begun = record {
-  layout_is = refl;
-  shares_are = refl;
+  channel_is = refl;
+  quotas_are = refl;
   queues_are = refl;
   next_is = refl;
   left = (r ∷ [], e);
@@ -47,19 +47,19 @@ alike_gone g r rs e begun = record {
 
 pub gathering_gone : (g : Gathering) (r : Reslicing) (rs : List Reslicing) → g.reslicings ≡ r ∷ rs → leb r.from g.next ≡ true → IsGathering g → IsGathering (gone g r rs)
 gathering_gone g r rs e begun is =
-    let all : All (λ x. AreSlices g.layout (length g.shares) x.slicing) (r ∷ rs) = subst (λ (xs : List Reslicing). All (λ x. AreSlices g.layout (length g.shares) x.slicing) xs) e is.reslicings_are in
+    let all : All (λ x. AreSlices g.channel (length g.quotas) x.slicing) (r ∷ rs) = subst (λ (xs : List Reslicing). All (λ x. AreSlices g.channel (length g.quotas) x.slicing) xs) e is.reslicings_are in
     record {
-      layout_is = is.layout_is;
-      shares_are = is.shares_are;
-      slices_are = All-head (λ (x : Reslicing). AreSlices g.layout (length g.shares) x.slicing) r rs all;
-      reslicings_are = All-tail (λ (x : Reslicing). AreSlices g.layout (length g.shares) x.slicing) r rs all;
+      channel_is = is.channel_is;
+      quotas_are = is.quotas_are;
+      slices_are = All-head (λ (x : Reslicing). AreSlices g.channel (length g.quotas) x.slicing) r rs all;
+      reslicings_are = All-tail (λ (x : Reslicing). AreSlices g.channel (length g.quotas) x.slicing) r rs all;
       one_each = is.one_each;
       waiting = is.waiting;
       started = is.started;
-      queued = λ k share queue s q.
-          queued-agree (λ (n : ℕ). slice_get (slices_at g.slices g.reslicings n) k) (λ (n : ℕ). slice_get (slices_at r.slicing rs n) k) share g.next queue
+      queued = λ k quota queue s q.
+          queued-agree (λ (n : ℕ). slice_get (slices_at g.slices g.reslicings n) k) (λ (n : ℕ). slice_get (slices_at r.slicing rs n) k) quota g.next queue
           (λ m le lt. ap (λ (ms : List Minislots). slice_get ms k) (sym ((alike_gone g r rs e begun).slices_are m le)))
-          (is.queued k share queue s q);
+          (is.queued k quota queue s q);
     }
 
 -- what has begun stands first
@@ -72,8 +72,8 @@ first_begun g h = by g.reslicings h
 
 pub alike_again : (a b c : Gathering) → GoesOnAlike a b → GoesOnAlike b c → GoesOnAlike a c
 alike_again a b c h k = record {
-  layout_is = k.layout_is ∙ h.layout_is;
-  shares_are = k.shares_are ∙ h.shares_are;
+  channel_is = k.channel_is ∙ h.channel_is;
+  quotas_are = k.quotas_are ∙ h.quotas_are;
   queues_are = k.queues_are ∙ h.queues_are;
   next_is = k.next_is ∙ h.next_is;
   left = (h.left.0 ++ k.left.0, h.left.1 ∙ (ap (λ (rs : List Reslicing). h.left.0 ++ rs) k.left.1 ∙ sym (append_assoc h.left.0 k.left.0 c.reslicings)));
@@ -81,7 +81,7 @@ alike_again a b c h k = record {
 }
 
 pub alike_self : (g : Gathering) → GoesOnAlike g g
-alike_self g = record { layout_is = refl; shares_are = refl; queues_are = refl; next_is = refl; left = ([], refl); slices_are = λ frame le. refl }
+alike_self g = record { channel_is = refl; quotas_are = refl; queues_are = refl; next_is = refl; left = ([], refl); slices_are = λ frame le. refl }
 
 -- the first of them is taken out
 module _ (g now : Gathering) (r : Reslicing) (rs : List Reslicing) (view : g ≡ now) (begun : has_begun now ≡ true) (first : r ≡ slice_index_or g.reslicings 0 r) (rest : rs ≡ drop 1 g.reslicings) where

@@ -15,7 +15,7 @@ use Rattle.slice_scheduler.specs.declared.elements.ElementsFields.{ElementsField
 use Rattle.plant.specs.Plant.{ranges_overlap}
 use Rattle.map_assembly.specs.declared.element.MapElement.{MapElement}
 use Rattle.plant.specs.declared.consts.Channel.{Channel}
-use Rattle.map_assembly.specs.declared.share.Share.{Share}
+use Rattle.map_assembly.specs.declared.quota.Quota.{Quota}
 use Rattle.map_assembly.specs.declared.view.MapHeader.{MapHeader}
 use Rattle.map_assembly.specs.declared.view.MapSpan.{MapSpan}
 use Rattle.map_assembly.specs.Element.{is_null, FitsElement, spelled_elements, elements_in}
@@ -24,7 +24,8 @@ use Rattle.map_assembly.specs.Map.{idle_span, head_span, map_span, filled, map_s
 use Rattle.map_assembly.specs.Writing.{spelled_map}
 use Rattle.map_assembly.specs.Part.{is_within, is_mine, ArePartsOf}
 use Rattle.map_assembly.specs.Tiled.{touches, IsOwn, GivesNoMinislotTwice, part_of, own_part}
-use Rattle.map_assembly.specs.Plan.{IsLayout, IsShare, AreShares, AreSlices}
+use Rattle.map_assembly.specs.Plan.{IsQuota, AreQuotas, AreSlices}
+use Rattle.plant.specs.Consts.{IsChannel}
 use Rattle.map_assembly.proofs.OrderLemmas.{pairs_from_AllPairs, sorted-all, sum_by-sorted}
 use Rattle.map_assembly.proofs.TilingLemmas.{InOrder, MapTiles, tiles-map, tiles-joined, tiles-once, tiles-le}
 use Rattle.map_assembly.proofs.PartLemmas.{fits_in, slices_of_parts, parts_in_order, StandsAlone, stands_alone, all_at}
@@ -85,39 +86,39 @@ elements_fit a end spans sids le tiles spelled small =
 
 -- ---- what the parts give
 
-small_sid : (share : Share) (sid : ℕ) → IsShare share → is_mine share.sids sid ≡ true → sid < 2 ^ 14
-small_sid share sid is mine = by (or_cases (eqb sid 0) (is_within share.sids sid) mine)
+small_sid : (quota : Quota) (sid : ℕ) → IsQuota quota → is_mine quota.sids sid ≡ true → sid < 2 ^ 14
+small_sid quota sid is mine = by (or_cases (eqb sid 0) (is_within quota.sids sid) mine)
   where
-    by : (eqb sid 0 ≡ true) ⊎ (is_within share.sids sid ≡ true) → sid < 2 ^ 14
+    by : (eqb sid 0 ≡ true) ⊎ (is_within quota.sids sid ≡ true) → sid < 2 ^ 14
     by (inl e) = omega (arith, eqb-true sid 0 e)
-    by (inr w) = omega (arith, leb-true sid share.sids.last (and_parts (leb share.sids.first sid) (leb sid share.sids.last) w).1, is.high)
+    by (inr w) = omega (arith, leb-true sid quota.sids.last (and_parts (leb quota.sids.first sid) (leb sid quota.sids.last) w).1, is.high)
 
 small_iuc : (iuc : Iuc) → number_of iuc < 7
 small_iuc Request = omega arith
 small_iuc Short = omega arith
 small_iuc Long = omega arith
 
-spelled_spans : (share : Share) (spans : List Span) → IsShare share → AllByRecursion (λ s. is_mine share.sids s.sid ≡ true) spans → AllByRecursion IsSpelled (map map_span spans)
-spelled_spans share [] is h = tt
-spelled_spans share (s ∷ spans) is h = (record { sid = small_sid share s.sid is h.0; iuc = small_iuc s.iuc }, spelled_spans share spans is h.1)
+spelled_spans : (quota : Quota) (spans : List Span) → IsQuota quota → AllByRecursion (λ s. is_mine quota.sids s.sid ≡ true) spans → AllByRecursion IsSpelled (map map_span spans)
+spelled_spans quota [] is h = tt
+spelled_spans quota (s ∷ spans) is h = (record { sid = small_sid quota s.sid is h.0; iuc = small_iuc s.iuc }, spelled_spans quota spans is h.1)
 
-small_sids : (share : Share) (sids : List ℕ) → IsShare share → AllByRecursion (λ s. is_mine share.sids s ≡ true) sids → AllByRecursion (λ n. n < 2 ^ 14) sids
-small_sids share [] is h = tt
-small_sids share (s ∷ sids) is h = (small_sid share s is h.0, small_sids share sids is h.1)
+small_sids : (quota : Quota) (sids : List ℕ) → IsQuota quota → AllByRecursion (λ s. is_mine quota.sids s ≡ true) sids → AllByRecursion (λ n. n < 2 ^ 14) sids
+small_sids quota [] is h = tt
+small_sids quota (s ∷ sids) is h = (small_sid quota s is h.0, small_sids quota sids is h.1)
 
 -- a part whose SIDs have 14 bits
 record IsSmall (p : ElementsFields) : Type 0 where
   pub spans : AllByRecursion IsSpelled (map map_span p.spans)
   pub pending : AllByRecursion (λ n. n < 2 ^ 14) p.pending
 
-small_parts : (shares : List Share) (slices : List Minislots) (parts : List ElementsFields) → AllByRecursion IsShare shares → ArePartsOf shares slices parts → AllByRecursion IsSmall parts
+small_parts : (quotas : List Quota) (slices : List Minislots) (parts : List ElementsFields) → AllByRecursion IsQuota quotas → ArePartsOf quotas slices parts → AllByRecursion IsSmall parts
 small_parts [] [] [] each h = tt
 small_parts [] [] (p ∷ parts) each h = absurd h
 small_parts [] (m ∷ slices) parts each h = absurd h
-small_parts (s ∷ shares) [] parts each h = absurd h
-small_parts (s ∷ shares) (m ∷ slices) [] each h = absurd h
-small_parts (s ∷ shares) (m ∷ slices) (p ∷ parts) each h =
-    (record { spans = spelled_spans s p.spans each.0 (fits_in s m p h.0.fits).spans; pending = small_sids s p.pending each.0 (fits_in s m p h.0.fits).pending }, small_parts shares slices parts each.1 h.1)
+small_parts (s ∷ quotas) [] parts each h = absurd h
+small_parts (s ∷ quotas) (m ∷ slices) [] each h = absurd h
+small_parts (s ∷ quotas) (m ∷ slices) (p ∷ parts) each h =
+    (record { spans = spelled_spans s p.spans each.0 (fits_in s m p h.0.fits).spans; pending = small_sids s p.pending each.0 (fits_in s m p h.0.fits).pending }, small_parts quotas slices parts each.1 h.1)
 
 small-spans : (parts : List ElementsFields) → AllByRecursion IsSmall parts → AllByRecursion (λ p. AllByRecursion IsSpelled (map map_span p.spans)) parts
 small-spans [] h = tt
@@ -127,9 +128,9 @@ small-pending : (parts : List ElementsFields) → AllByRecursion IsSmall parts �
 small-pending [] h = tt
 small-pending (p ∷ parts) h = all-append (λ (n : ℕ). n < 2 ^ 14) p.pending (map_pending parts) h.0.pending (small-pending parts h.1)
 
-spelled_map_spans : (layout : Channel) (parts : List ElementsFields) → AllByRecursion IsSmall parts → AllByRecursion IsSpelled (map_spans layout parts)
-spelled_map_spans layout parts h =
-    all-spans IsSpelled layout parts (λ head _. record { sid = omega arith; iuc = omega arith }) (λ from to _. record { sid = omega arith; iuc = omega arith }) (small-spans parts h)
+spelled_map_spans : (channel : Channel) (parts : List ElementsFields) → AllByRecursion IsSmall parts → AllByRecursion IsSpelled (map_spans channel parts)
+spelled_map_spans channel parts h =
+    all-spans IsSpelled channel parts (λ head _. record { sid = omega arith; iuc = omega arith }) (λ from to _. record { sid = omega arith; iuc = omega arith }) (small-spans parts h)
 
 -- ---- how many elements there are
 
@@ -164,25 +165,25 @@ length-filled from end (p ∷ parts) =
       length-filled (p.slice.start + p.slice.length) end parts,
     )
 
-sizes : (shares : List Share) (slices : List Minislots) (parts : List ElementsFields) → ArePartsOf shares slices parts → sum_by size_of parts ≤ sum_by (λ (s : Share). s.elements) shares + 2 * length shares
+sizes : (quotas : List Quota) (slices : List Minislots) (parts : List ElementsFields) → ArePartsOf quotas slices parts → sum_by size_of parts ≤ sum_by (λ (s : Quota). s.elements) quotas + 2 * length quotas
 sizes [] [] [] h = omega arith
 sizes [] [] (p ∷ parts) h = absurd h
 sizes [] (m ∷ slices) parts h = absurd h
-sizes (s ∷ shares) [] parts h = absurd h
-sizes (s ∷ shares) (m ∷ slices) [] h = absurd h
-sizes (s ∷ shares) (m ∷ slices) (p ∷ parts) h =
-    omega (arith, sum_by-cons size_of p parts, sum_by-cons (λ (x : Share). x.elements) s shares, (fits_in s m p h.0.fits).few, sizes shares slices parts h.1)
+sizes (s ∷ quotas) [] parts h = absurd h
+sizes (s ∷ quotas) (m ∷ slices) [] h = absurd h
+sizes (s ∷ quotas) (m ∷ slices) (p ∷ parts) h =
+    omega (arith, sum_by-cons size_of p parts, sum_by-cons (λ (x : Quota). x.elements) s quotas, (fits_in s m p h.0.fits).few, sizes quotas slices parts h.1)
 
-few_elements : (layout : Channel) (shares : List Share) (slices : List Minislots) (parts : List ElementsFields) → AreShares shares → ArePartsOf shares slices parts
-    → length (map_spans layout (in_order parts)) + 1 + length (map_pending (in_order parts)) ≤ 240
-few_elements layout shares slices parts are h =
+few_elements : (channel : Channel) (quotas : List Quota) (slices : List Minislots) (parts : List ElementsFields) → AreQuotas quotas → ArePartsOf quotas slices parts
+    → length (map_spans channel (in_order parts)) + 1 + length (map_pending (in_order parts)) ≤ 240
+few_elements channel quotas slices parts are h =
     omega (
       arith,
-      length-append (head_span layout.head) (filled layout.head layout.frame_minislots (in_order parts)),
-      length-head layout.head,
-      length-filled layout.head layout.frame_minislots (in_order parts),
+      length-append (head_span channel.head) (filled channel.head channel.frame_minislots (in_order parts)),
+      length-head channel.head,
+      length-filled channel.head channel.frame_minislots (in_order parts),
       sum_by-sorted size_of (λ (p : ElementsFields). p.slice.start) parts,
-      sizes shares slices parts h,
+      sizes quotas slices parts h,
       are.few,
     )
 
@@ -193,47 +194,47 @@ length-elements end spans sids =
 -- ---- the whole
 
 -- the parts of a frame of a plant
-pub record AreFrame (layout : Channel) (shares : List Share) (slices : List Minislots) (parts : List ElementsFields) : Type 0 where
-  pub layout_is : IsLayout layout
-  pub shares_are : AreShares shares
-  pub slices_are : AreSlices layout (length shares) slices
-  pub parts_are : ArePartsOf shares slices parts
+pub record AreFrame (channel : Channel) (quotas : List Quota) (slices : List Minislots) (parts : List ElementsFields) : Type 0 where
+  pub channel_is : IsChannel channel
+  pub quotas_are : AreQuotas quotas
+  pub slices_are : AreSlices channel (length quotas) slices
+  pub parts_are : ArePartsOf quotas slices parts
 
-frame_in_order : (layout : Channel) (shares : List Share) (slices : List Minislots) (parts : List ElementsFields) → AreFrame layout shares slices parts → InOrder layout.head layout.frame_minislots (in_order parts)
-frame_in_order layout shares slices parts h = parts_in_order layout (length shares) shares slices parts h.layout_is h.slices_are h.parts_are
+frame_in_order : (channel : Channel) (quotas : List Quota) (slices : List Minislots) (parts : List ElementsFields) → AreFrame channel quotas slices parts → InOrder channel.head channel.frame_minislots (in_order parts)
+frame_in_order channel quotas slices parts h = parts_in_order channel (length quotas) quotas slices parts h.channel_is h.slices_are h.parts_are
 
-frame_small : (layout : Channel) (shares : List Share) (slices : List Minislots) (parts : List ElementsFields) → AreFrame layout shares slices parts → AllByRecursion IsSmall (in_order parts)
-frame_small layout shares slices parts h =
-    sorted-all IsSmall (λ (p : ElementsFields). p.slice.start) parts (small_parts shares slices parts (recursion_from_All IsShare shares h.shares_are.each) h.parts_are)
+frame_small : (channel : Channel) (quotas : List Quota) (slices : List Minislots) (parts : List ElementsFields) → AreFrame channel quotas slices parts → AllByRecursion IsSmall (in_order parts)
+frame_small channel quotas slices parts h =
+    sorted-all IsSmall (λ (p : ElementsFields). p.slice.start) parts (small_parts quotas slices parts (recursion_from_All IsQuota quotas h.quotas_are.each) h.parts_are)
 
-frame_tiles : (layout : Channel) (shares : List Share) (slices : List Minislots) (parts : List ElementsFields) → AreFrame layout shares slices parts → MapTiles 0 layout.frame_minislots (map_spans layout (in_order parts))
-frame_tiles layout shares slices parts h = tiles-map layout.head layout.frame_minislots (in_order parts) (frame_in_order layout shares slices parts h)
+frame_tiles : (channel : Channel) (quotas : List Quota) (slices : List Minislots) (parts : List ElementsFields) → AreFrame channel quotas slices parts → MapTiles 0 channel.frame_minislots (map_spans channel (in_order parts))
+frame_tiles channel quotas slices parts h = tiles-map channel.head channel.frame_minislots (in_order parts) (frame_in_order channel quotas slices parts h)
 
-pub frame_count : (layout : Channel) (shares : List Share) (slices : List Minislots) (parts : List ElementsFields) → AreFrame layout shares slices parts → length (frame_elements layout parts) ≤ 240
-frame_count layout shares slices parts h =
-    omega (arith, length-elements layout.frame_minislots (map_spans layout (in_order parts)) (map_pending (in_order parts)), few_elements layout shares slices parts h.shares_are h.parts_are)
+pub frame_count : (channel : Channel) (quotas : List Quota) (slices : List Minislots) (parts : List ElementsFields) → AreFrame channel quotas slices parts → length (frame_elements channel parts) ≤ 240
+frame_count channel quotas slices parts h =
+    omega (arith, length-elements channel.frame_minislots (map_spans channel (in_order parts)) (map_pending (in_order parts)), few_elements channel quotas slices parts h.quotas_are h.parts_are)
 
-pub frame_fits : (layout : Channel) (shares : List Share) (slices : List Minislots) (parts : List ElementsFields) → AreFrame layout shares slices parts → AllByRecursion FitsElement (frame_elements layout parts)
-frame_fits layout shares slices parts h =
-    elements_fit 0 layout.frame_minislots (map_spans layout (in_order parts)) (map_pending (in_order parts)) h.layout_is.frame (frame_tiles layout shares slices parts h)
-    (spelled_map_spans layout (in_order parts) (frame_small layout shares slices parts h)) (small-pending (in_order parts) (frame_small layout shares slices parts h))
+pub frame_fits : (channel : Channel) (quotas : List Quota) (slices : List Minislots) (parts : List ElementsFields) → AreFrame channel quotas slices parts → AllByRecursion FitsElement (frame_elements channel parts)
+frame_fits channel quotas slices parts h =
+    elements_fit 0 channel.frame_minislots (map_spans channel (in_order parts)) (map_pending (in_order parts)) h.channel_is.frame (frame_tiles channel quotas slices parts h)
+    (spelled_map_spans channel (in_order parts) (frame_small channel quotas slices parts h)) (small-pending (in_order parts) (frame_small channel quotas slices parts h))
 
-pub frame_reads : (layout : Channel) (frame : ℕ) (shares : List Share) (slices : List Minislots) (parts : List ElementsFields) → AreFrame layout shares slices parts
-    → MapReads (spelled_map (map_header layout frame (length (frame_elements layout parts))) (frame_elements layout parts)) (map_of layout frame parts)
-frame_reads layout frame shares slices parts h =
-    let es : List MapElement = frame_elements layout parts in
-    let header : MapHeader = map_header layout frame (length es) in
-    let start : frame_start layout frame < 2 ^ 32 = mod_below (frame * layout.frame_minislots) (2 ^ 32) (omega arith) in
+pub frame_reads : (channel : Channel) (frame : ℕ) (quotas : List Quota) (slices : List Minislots) (parts : List ElementsFields) → AreFrame channel quotas slices parts
+    → MapReads (spelled_map (map_header channel frame (length (frame_elements channel parts))) (frame_elements channel parts)) (map_of channel frame parts)
+frame_reads channel frame quotas slices parts h =
+    let es : List MapElement = frame_elements channel parts in
+    let header : MapHeader = map_header channel frame (length es) in
+    let start : frame_start channel frame < 2 ^ 32 = mod_below (frame * channel.frame_minislots) (2 ^ 32) (omega arith) in
     record {
       counted = counted-back header es refl;
       header =
-          ap (map_header layout frame) (sym (length-elements layout.frame_minislots (map_spans layout (in_order parts)) (map_pending (in_order parts))))
+          ap (map_header channel frame) (sym (length-elements channel.frame_minislots (map_spans channel (in_order parts)) (map_pending (in_order parts))))
           ∙ sym (header-back header (spelled_elements es) start start);
       elements =
-          subst (λ (xs : List MapElement). ElementsSay xs (map_spans layout (in_order parts)) (map_pending (in_order parts)))
-          (sym (ap elements_in (body-back header es) ∙ elements-back es (frame_fits layout shares slices parts h)))
-          (elements_say 0 layout.frame_minislots (map_spans layout (in_order parts)) (map_pending (in_order parts)) (frame_tiles layout shares slices parts h)
-          (spelled_map_spans layout (in_order parts) (frame_small layout shares slices parts h)));
+          subst (λ (xs : List MapElement). ElementsSay xs (map_spans channel (in_order parts)) (map_pending (in_order parts)))
+          (sym (ap elements_in (body-back header es) ∙ elements-back es (frame_fits channel quotas slices parts h)))
+          (elements_say 0 channel.frame_minislots (map_spans channel (in_order parts)) (map_pending (in_order parts)) (frame_tiles channel quotas slices parts h)
+          (spelled_map_spans channel (in_order parts) (frame_small channel quotas slices parts h)));
     }
 
 -- ---- no minislot twice
@@ -242,57 +243,57 @@ sum_by-map : {X Y : Type 0} (f : Y → ℕ) (g : X → Y) (xs : List X) → sum_
 sum_by-map f g [] = refl
 sum_by-map {X} f g (x ∷ xs) = omega (arith, sum_by-cons f (g x) (map g xs), sum_by-cons (λ (z : X). f (g z)) x xs, sum_by-map f g xs)
 
-touches-slices : (shares : List Share) (slices : List Minislots) (parts : List ElementsFields) (s : MapSpan) → ArePartsOf shares slices parts
+touches-slices : (quotas : List Quota) (slices : List Minislots) (parts : List ElementsFields) (s : MapSpan) → ArePartsOf quotas slices parts
     → count_by (λ slice. touches slice s) slices ≡ sum_by (λ p. cond (touches p.slice s) 1 0) (in_order parts)
-touches-slices shares slices parts s h =
-    ap (λ (ms : List Minislots). count_by (λ (slice : Minislots). touches slice s) ms) (sym (slices_of_parts shares slices parts h))
+touches-slices quotas slices parts s h =
+    ap (λ (ms : List Minislots). count_by (λ (slice : Minislots). touches slice s) ms) (sym (slices_of_parts quotas slices parts h))
     ∙ (sum_by-map (λ (slice : Minislots). cond (touches slice s) 1 0) (λ (p : ElementsFields). p.slice) parts
     ∙ sym (sum_by-sorted (λ (p : ElementsFields). cond (touches p.slice s) 1 0) (λ (p : ElementsFields). p.slice.start) parts))
 
-few_slices : (shares : List Share) (slices : List Minislots) (parts : List ElementsFields) (spans : List MapSpan) → ArePartsOf shares slices parts
+few_slices : (quotas : List Quota) (slices : List Minislots) (parts : List ElementsFields) (spans : List MapSpan) → ArePartsOf quotas slices parts
     → AllByRecursion (λ s. sum_by (λ p. cond (touches p.slice s) 1 0) (in_order parts) ≤ 1) spans → AllByRecursion (λ s. count_by (λ slice. touches slice s) slices ≤ 1) spans
-few_slices shares slices parts [] h few = tt
-few_slices shares slices parts (s ∷ spans) h few = (subst (λ (n : ℕ). n ≤ 1) (sym (touches-slices shares slices parts s h)) few.0, few_slices shares slices parts spans h few.1)
+few_slices quotas slices parts [] h few = tt
+few_slices quotas slices parts (s ∷ spans) h few = (subst (λ (n : ℕ). n ≤ 1) (sym (touches-slices quotas slices parts s h)) few.0, few_slices quotas slices parts spans h few.1)
 
-part_there : (shares : List Share) (slices : List Minislots) (parts : List ElementsFields) (k : ℕ) (share : Share) → ArePartsOf shares slices parts → slice_get shares k ≡ Some share → (p : ElementsFields) × (slice_get parts k ≡ Some p)
-part_there [] [] [] k share h e = absurd (cc)
-part_there [] [] (p ∷ parts) k share h e = absurd h
-part_there [] (m ∷ slices) parts k share h e = absurd h
-part_there (s ∷ shares) [] parts k share h e = absurd h
-part_there (s ∷ shares) (m ∷ slices) [] k share h e = absurd h
-part_there (s ∷ shares) (m ∷ slices) (p ∷ parts) zero share h e = (p, refl)
-part_there (s ∷ shares) (m ∷ slices) (p ∷ parts) (suc k) share h e = part_there shares slices parts k share h.1 e
+part_there : (quotas : List Quota) (slices : List Minislots) (parts : List ElementsFields) (k : ℕ) (quota : Quota) → ArePartsOf quotas slices parts → slice_get quotas k ≡ Some quota → (p : ElementsFields) × (slice_get parts k ≡ Some p)
+part_there [] [] [] k quota h e = absurd (cc)
+part_there [] [] (p ∷ parts) k quota h e = absurd h
+part_there [] (m ∷ slices) parts k quota h e = absurd h
+part_there (s ∷ quotas) [] parts k quota h e = absurd h
+part_there (s ∷ quotas) (m ∷ slices) [] k quota h e = absurd h
+part_there (s ∷ quotas) (m ∷ slices) (p ∷ parts) zero quota h e = (p, refl)
+part_there (s ∷ quotas) (m ∷ slices) (p ∷ parts) (suc k) quota h e = part_there quotas slices parts k quota h.1 e
 
-frame_alone : (layout : Channel) (shares : List Share) (slices : List Minislots) (parts : List ElementsFields) (k : ℕ) (share : Share) (slice : Minislots) (part : ElementsFields) → AreFrame layout shares slices parts
-    → slice_get shares k ≡ Some share → slice_get slices k ≡ Some slice → slice_get parts k ≡ Some part → StandsAlone share.sids share slice k part parts
-frame_alone layout shares slices parts k share slice part h e f g =
-    stands_alone k share slice part shares slices parts (recursion_from_All IsShare shares h.shares_are.each)
-    (pairs_from_AllPairs (λ (a b : Share). ranges_overlap a.sids b.sids ≡ false) shares h.shares_are.apart) h.parts_are e f g
+frame_alone : (channel : Channel) (quotas : List Quota) (slices : List Minislots) (parts : List ElementsFields) (k : ℕ) (quota : Quota) (slice : Minislots) (part : ElementsFields) → AreFrame channel quotas slices parts
+    → slice_get quotas k ≡ Some quota → slice_get slices k ≡ Some slice → slice_get parts k ≡ Some part → StandsAlone quota.sids quota slice k part parts
+frame_alone channel quotas slices parts k quota slice part h e f g =
+    stands_alone k quota slice part quotas slices parts (recursion_from_All IsQuota quotas h.quotas_are.each)
+    (pairs_from_AllPairs (λ (a b : Quota). ranges_overlap a.sids b.sids ≡ false) quotas h.quotas_are.apart) h.parts_are e f g
 
-pub frame_tiled : (layout : Channel) (shares : List Share) (slices : List Minislots) (parts : List ElementsFields) → AreFrame layout shares slices parts
-    → GivesNoMinislotTwice layout.frame_minislots shares slices (map_spans layout (in_order parts))
-frame_tiled layout shares slices parts h = record {
-  once = λ m lt. tiles-once m 0 layout.frame_minislots (map_spans layout (in_order parts)) (frame_tiles layout shares slices parts h) (omega arith) lt;
-  own = λ k share slice e f.
-      let there : (p : ElementsFields) × (slice_get parts k ≡ Some p) = part_there shares slices parts k share h.parts_are e in
-      All-from_recursion (IsOwn share.sids slice) (map_spans layout (in_order parts))
-      (own_alone layout share slice k there.0 parts (all_at IsShare shares k share (recursion_from_All IsShare shares h.shares_are.each) e) (frame_alone layout shares slices parts k share slice there.0 h e f there.1));
-  apart = All-from_recursion (λ (s : MapSpan). count_by (λ (slice : Minislots). touches slice s) slices ≤ 1) (map_spans layout (in_order parts))
-      (few_slices shares slices parts (map_spans layout (in_order parts)) h.parts_are (touches_one_slice layout (in_order parts) (frame_in_order layout shares slices parts h)));
+pub frame_tiled : (channel : Channel) (quotas : List Quota) (slices : List Minislots) (parts : List ElementsFields) → AreFrame channel quotas slices parts
+    → GivesNoMinislotTwice channel.frame_minislots quotas slices (map_spans channel (in_order parts))
+frame_tiled channel quotas slices parts h = record {
+  once = λ m lt. tiles-once m 0 channel.frame_minislots (map_spans channel (in_order parts)) (frame_tiles channel quotas slices parts h) (omega arith) lt;
+  own = λ k quota slice e f.
+      let there : (p : ElementsFields) × (slice_get parts k ≡ Some p) = part_there quotas slices parts k quota h.parts_are e in
+      All-from_recursion (IsOwn quota.sids slice) (map_spans channel (in_order parts))
+      (own_alone channel quota slice k there.0 parts (all_at IsQuota quotas k quota (recursion_from_All IsQuota quotas h.quotas_are.each) e) (frame_alone channel quotas slices parts k quota slice there.0 h e f there.1));
+  apart = All-from_recursion (λ (s : MapSpan). count_by (λ (slice : Minislots). touches slice s) slices ≤ 1) (map_spans channel (in_order parts))
+      (few_slices quotas slices parts (map_spans channel (in_order parts)) h.parts_are (touches_one_slice channel (in_order parts) (frame_in_order channel quotas slices parts h)));
 }
 
-slice_there : (shares : List Share) (slices : List Minislots) (parts : List ElementsFields) (k : ℕ) (share : Share) → ArePartsOf shares slices parts → slice_get shares k ≡ Some share → (m : Minislots) × (slice_get slices k ≡ Some m)
-slice_there [] [] [] k share h e = absurd (cc)
-slice_there [] [] (p ∷ parts) k share h e = absurd h
-slice_there [] (m ∷ slices) parts k share h e = absurd h
-slice_there (s ∷ shares) [] parts k share h e = absurd h
-slice_there (s ∷ shares) (m ∷ slices) [] k share h e = absurd h
-slice_there (s ∷ shares) (m ∷ slices) (p ∷ parts) zero share h e = (m, refl)
-slice_there (s ∷ shares) (m ∷ slices) (p ∷ parts) (suc k) share h e = slice_there shares slices parts k share h.1 e
+slice_there : (quotas : List Quota) (slices : List Minislots) (parts : List ElementsFields) (k : ℕ) (quota : Quota) → ArePartsOf quotas slices parts → slice_get quotas k ≡ Some quota → (m : Minislots) × (slice_get slices k ≡ Some m)
+slice_there [] [] [] k quota h e = absurd (cc)
+slice_there [] [] (p ∷ parts) k quota h e = absurd h
+slice_there [] (m ∷ slices) parts k quota h e = absurd h
+slice_there (s ∷ quotas) [] parts k quota h e = absurd h
+slice_there (s ∷ quotas) (m ∷ slices) [] k quota h e = absurd h
+slice_there (s ∷ quotas) (m ∷ slices) (p ∷ parts) zero quota h e = (m, refl)
+slice_there (s ∷ quotas) (m ∷ slices) (p ∷ parts) (suc k) quota h e = slice_there quotas slices parts k quota h.1 e
 
-pub frame_part : (layout : Channel) (frame : ℕ) (shares : List Share) (slices : List Minislots) (parts : List ElementsFields) (k : ℕ) (share : Share) (part : ElementsFields) → AreFrame layout shares slices parts
-    → slice_get shares k ≡ Some share → slice_get parts k ≡ Some part → part_of share.sids (map_of layout frame parts) ≡ own_part part
-frame_part layout frame shares slices parts k share part h e g =
-    let there : (m : Minislots) × (slice_get slices k ≡ Some m) = slice_there shares slices parts k share h.parts_are e in
-    part_alone layout frame share there.0 k part parts (all_at IsShare shares k share (recursion_from_All IsShare shares h.shares_are.each) e)
-    (frame_alone layout shares slices parts k share there.0 part h e there.1 g)
+pub frame_part : (channel : Channel) (frame : ℕ) (quotas : List Quota) (slices : List Minislots) (parts : List ElementsFields) (k : ℕ) (quota : Quota) (part : ElementsFields) → AreFrame channel quotas slices parts
+    → slice_get quotas k ≡ Some quota → slice_get parts k ≡ Some part → part_of quota.sids (map_of channel frame parts) ≡ own_part part
+frame_part channel frame quotas slices parts k quota part h e g =
+    let there : (m : Minislots) × (slice_get slices k ≡ Some m) = slice_there quotas slices parts k quota h.parts_are e in
+    part_alone channel frame quota there.0 k part parts (all_at IsQuota quotas k quota (recursion_from_All IsQuota quotas h.quotas_are.each) e)
+    (frame_alone channel quotas slices parts k quota there.0 part h e there.1 g)

@@ -14,10 +14,10 @@ use Rattle.plant.specs.declared.operator_row.RowFields.{RowFields}
 use Rattle.plant.specs.declared.plant.PlantFields.{PlantFields}
 use Rattle.plant.specs.Row.{IsRowOf}
 use Rattle.plant.specs.Plant.{ranges_overlap, IsPlant}
-use Rattle.map_assembly.specs.declared.share.Share.{Share}
+use Rattle.map_assembly.specs.declared.quota.Quota.{Quota}
 use Rattle.map_assembly.specs.declared.slicing.Reslicing.{Reslicing}
-use Rattle.map_assembly.specs.Part.{share_of}
-use Rattle.map_assembly.specs.Plan.{IsShare, AreShares, IsInFrame, AreSlices}
+use Rattle.map_assembly.specs.Part.{quota_of}
+use Rattle.map_assembly.specs.Plan.{IsQuota, AreQuotas, IsInFrame, AreSlices}
 use Rattle.map_assembly.specs.Gathering.{Gathering, gathering_of, slices_or, slices_at, is_whole, IsPartAt, AreQueued, IsGathering, IsPast, MayReslice, resliced}
 use Rattle.map_assembly.proofs.OrderLemmas.{PairsByRecursion, pairs_from_AllPairs}
 
@@ -41,32 +41,32 @@ pairs-over {X} {Y} R f (x ∷ xs) h = (all-over (R (f x)) f xs h.0, pairs-over R
 AllPairs-map : {X Y : Type 0} (R : Y → Y → Type 0) (f : X → Y) (xs : List X) → AllPairs (λ a b. R (f a) (f b)) xs → AllPairs R (map f xs)
 AllPairs-map {X} {Y} R f xs h = AllPairs-from_pairs R (map f xs) (pairs-over R f xs (pairs_from_AllPairs (λ (a b : X). R (f a) (f b)) xs h))
 
-quotas : (rows : List RowFields) → sum_by (λ (s : Share). s.elements) (map share_of rows) ≡ sum_by (λ (r : RowFields). r.elements) rows
-quotas [] = refl
-quotas (r ∷ rows) = omega (arith, sum_by-cons (λ (s : Share). s.elements) (share_of r) (map share_of rows), sum_by-cons (λ (x : RowFields). x.elements) r rows, quotas rows)
+elements_of_quotas : (rows : List RowFields) → sum_by (λ (s : Quota). s.elements) (map quota_of rows) ≡ sum_by (λ (r : RowFields). r.elements) rows
+elements_of_quotas [] = refl
+elements_of_quotas (r ∷ rows) = omega (arith, sum_by-cons (λ (s : Quota). s.elements) (quota_of r) (map quota_of rows), sum_by-cons (λ (x : RowFields). x.elements) r rows, elements_of_quotas rows)
 
 -- ---- the rows of a plant
 
-shares_each : (consts : ConstsFields) (rows : List RowFields) → AllByRecursion (IsRowOf consts) rows → AllByRecursion (λ row. IsShare (share_of row)) rows
-shares_each consts [] h = tt
-shares_each consts (r ∷ rows) h = (record { low = h.0.keys.sids_low; high = h.0.keys.sids_high }, shares_each consts rows h.1)
+quotas_each : (consts : ConstsFields) (rows : List RowFields) → AllByRecursion (IsRowOf consts) rows → AllByRecursion (λ row. IsQuota (quota_of row)) rows
+quotas_each consts [] h = tt
+quotas_each consts (r ∷ rows) h = (record { low = h.0.keys.sids_low; high = h.0.keys.sids_high }, quotas_each consts rows h.1)
 
 slices_each : (consts : ConstsFields) (rows : List RowFields) → AllByRecursion (IsRowOf consts) rows → AllByRecursion (λ slice. 1 ≤ slice.length) (map (λ row. row.slice) rows)
     → AllByRecursion (λ row. IsInFrame consts.channel row.slice) rows
 slices_each consts [] h some = tt
 slices_each consts (r ∷ rows) h some = (record { some = some.0; behind_head = h.0.behind_head; within_frame = h.0.within_frame }, slices_each consts rows h.1 some.1)
 
-plant_shares : (plant : PlantFields) → IsPlant plant → AreShares (map share_of plant.rows)
-plant_shares plant is = record {
-  some = omega (arith, is.some, length-map plant.rows share_of);
-  each = All-from_recursion IsShare (map share_of plant.rows) (all-over IsShare share_of plant.rows (shares_each plant.consts plant.rows (recursion_from_All (IsRowOf plant.consts) plant.rows is.rows)));
-  apart = AllPairs-map (λ (a b : Share). ranges_overlap a.sids b.sids ≡ false) share_of plant.rows is.sids;
-  few = omega (arith, quotas plant.rows, length-map plant.rows share_of, is.elements);
+plant_quotas : (plant : PlantFields) → IsPlant plant → AreQuotas (map quota_of plant.rows)
+plant_quotas plant is = record {
+  some = omega (arith, is.some, length-map plant.rows quota_of);
+  each = All-from_recursion IsQuota (map quota_of plant.rows) (all-over IsQuota quota_of plant.rows (quotas_each plant.consts plant.rows (recursion_from_All (IsRowOf plant.consts) plant.rows is.rows)));
+  apart = AllPairs-map (λ (a b : Quota). ranges_overlap a.sids b.sids ≡ false) quota_of plant.rows is.sids;
+  few = omega (arith, elements_of_quotas plant.rows, length-map plant.rows quota_of, is.elements);
 }
 
-plant_slices : (plant : PlantFields) → IsPlant plant → All (λ slice. 1 ≤ slice.length) (map (λ row. row.slice) plant.rows) → AreSlices plant.consts.channel (length (map share_of plant.rows)) (map (λ row. row.slice) plant.rows)
+plant_slices : (plant : PlantFields) → IsPlant plant → All (λ slice. 1 ≤ slice.length) (map (λ row. row.slice) plant.rows) → AreSlices plant.consts.channel (length (map quota_of plant.rows)) (map (λ row. row.slice) plant.rows)
 plant_slices plant is some = record {
-  one_each = length-map plant.rows (λ (row : RowFields). row.slice) ∙ sym (length-map plant.rows share_of);
+  one_each = length-map plant.rows (λ (row : RowFields). row.slice) ∙ sym (length-map plant.rows quota_of);
   each = All-from_recursion (IsInFrame plant.consts.channel) (map (λ (row : RowFields). row.slice) plant.rows)
       (all-over (IsInFrame plant.consts.channel) (λ (row : RowFields). row.slice) plant.rows
       (slices_each plant.consts plant.rows (recursion_from_All (IsRowOf plant.consts) plant.rows is.rows) (recursion_from_All (λ (slice : Minislots). 1 ≤ slice.length) (map (λ (row : RowFields). row.slice) plant.rows) some)));
@@ -77,31 +77,31 @@ nobody_waits : (n : ℕ) → 1 ≤ n → is_whole (replicate n []) ≡ false
 nobody_waits zero h = absurd (omega arith)
 nobody_waits (suc n) h = refl
 
-none_queued : (slice_at : ℕ → Option Minislots) (share : Share) (next n k : ℕ) (queue : List ElementsFields) → slice_get (replicate n []) k ≡ Some queue → AreQueued slice_at share next queue
-none_queued slice_at share next zero k queue e = absurd (cc)
-none_queued slice_at share next (suc n) zero queue e =
+none_queued : (slice_at : ℕ → Option Minislots) (quota : Quota) (next n k : ℕ) (queue : List ElementsFields) → slice_get (replicate n []) k ≡ Some queue → AreQueued slice_at quota next queue
+none_queued slice_at quota next zero k queue e = absurd (cc)
+none_queued slice_at quota next (suc n) zero queue e =
     let none : List ElementsFields = [] in
-    subst (λ (q : List ElementsFields). AreQueued slice_at share next q) (same_Some none queue e) tt
-none_queued slice_at share next (suc n) (suc k) queue e = none_queued slice_at share next n k queue e
+    subst (λ (q : List ElementsFields). AreQueued slice_at quota next q) (same_Some none queue e) tt
+none_queued slice_at quota next (suc n) (suc k) queue e = none_queued slice_at quota next n k queue e
 
 gathering_is : (plant : PlantFields) → IsPlant plant → All (λ slice. 1 ≤ slice.length) (map (λ row. row.slice) plant.rows) → IsGathering (gathering_of plant)
 gathering_is plant is some = record {
-  layout_is = record { frame = is.consts.channel.frame; head = is.consts.channel.head };
-  shares_are = plant_shares plant is;
+  channel_is = is.consts.channel;
+  quotas_are = plant_quotas plant is;
   slices_are = plant_slices plant is some;
-  reslicings_are = All-from_recursion (λ (r : Reslicing). AreSlices plant.consts.channel (length (map share_of plant.rows)) r.slicing) [] tt;
-  one_each = let none : List ElementsFields = [] in length-replicate (length plant.rows) none ∙ sym (length-map plant.rows share_of);
+  reslicings_are = All-from_recursion (λ (r : Reslicing). AreSlices plant.consts.channel (length (map quota_of plant.rows)) r.slicing) [] tt;
+  one_each = let none : List ElementsFields = [] in length-replicate (length plant.rows) none ∙ sym (length-map plant.rows quota_of);
   waiting = nobody_waits (length plant.rows) is.some;
   started = omega arith;
-  queued = λ k share queue e f. none_queued (λ (n : ℕ). slice_get (slices_at (map (λ (row : RowFields). row.slice) plant.rows) [] n) k) share plant.consts.channel.first_frame (length plant.rows) k queue f;
+  queued = λ k quota queue e f. none_queued (λ (n : ℕ). slice_get (slices_at (map (λ (row : RowFields). row.slice) plant.rows) [] n) k) quota plant.consts.channel.first_frame (length plant.rows) k queue f;
 }
 
 pub gathering_made : (plant : PlantFields) (g : Gathering) → IsPlant plant → (slices : List Minislots) → slices ≡ map (λ row. row.slice) plant.rows → All (λ slice. 1 ≤ slice.length) slices → g ≡ gathering_of plant → IsGathering g
 gathering_made plant g is slices e some same =
     subst IsGathering (sym same) (gathering_is plant is (subst (λ (ms : List Minislots). All (λ (slice : Minislots). 1 ≤ slice.length) ms) e some))
 
-pub same_new : (g h : Gathering) → g.layout ≡ h.layout → g.shares ≡ h.shares → g.slices ≡ h.slices → g.reslicings ≡ h.reslicings → g.queues ≡ h.queues → g.next ≡ h.next → g ≡ h
-same_new g h a b c d e f = λ i. record { layout = a i; shares = b i; slices = c i; reslicings = d i; queues = e i; next = f i }
+pub same_new : (g h : Gathering) → g.channel ≡ h.channel → g.quotas ≡ h.quotas → g.slices ≡ h.slices → g.reslicings ≡ h.reslicings → g.queues ≡ h.queues → g.next ≡ h.next → g ≡ h
+same_new g h a b c d e f = λ i. record { channel = a i; quotas = b i; slices = c i; reslicings = d i; queues = e i; next = f i }
 
 -- ---- other slices from a frame on
 
@@ -113,14 +113,14 @@ slices_before slices reslicings r frame lt =
     ap (λ (rs : List Reslicing). slices_or slices (find (λ (x : Reslicing). leb x.from frame) rs)) (newest-first reslicings r)
     ∙ ap (λ (b : Bool). slices_or slices (cond b (Some r) (find (λ (x : Reslicing). leb x.from frame) (reverse reslicings)))) (lt-leb r.from frame lt)
 
-pub queued-agree : (f g : ℕ → Option Minislots) (share : Share) (n : ℕ) (queue : List ElementsFields) → ((m : ℕ) → n ≤ m → m < n + length queue → f m ≡ g m) → AreQueued f share n queue → AreQueued g share n queue
-queued-agree f g share n [] agree h = tt
-queued-agree f g share n (q ∷ queue) agree h = (
-  subst (λ (o : Option Minislots). IsPartAt o share q) (agree n (omega arith) (omega arith)) h.0,
-  queued-agree f g share (n + 1) queue (λ m le lt. agree m (omega arith) (omega arith)) h.1,
+pub queued-agree : (f g : ℕ → Option Minislots) (quota : Quota) (n : ℕ) (queue : List ElementsFields) → ((m : ℕ) → n ≤ m → m < n + length queue → f m ≡ g m) → AreQueued f quota n queue → AreQueued g quota n queue
+queued-agree f g quota n [] agree h = tt
+queued-agree f g quota n (q ∷ queue) agree h = (
+  subst (λ (o : Option Minislots). IsPartAt o quota q) (agree n (omega arith) (omega arith)) h.0,
+  queued-agree f g quota (n + 1) queue (λ m le lt. agree m (omega arith) (omega arith)) h.1,
 )
 
-queue_past : (g : Gathering) (from : ℕ) (queue : List ElementsFields) (m : ℕ) → g.layout.first_frame ≤ g.next → IsPast g from queue → g.next ≤ m → m < g.next + length queue → m < from
+queue_past : (g : Gathering) (from : ℕ) (queue : List ElementsFields) (m : ℕ) → g.channel.first_frame ≤ g.next → IsPast g from queue → g.next ≤ m → m < g.next + length queue → m < from
 queue_past g from queue m started past le lt = let p : g.next + length queue ≤ from = past (omega arith) in omega arith
 
 all_at_queue : (P : List ElementsFields → Type 0) (queues : List (List ElementsFields)) (k : ℕ) (queue : List ElementsFields) → AllByRecursion P queues → slice_get queues k ≡ Some queue → P queue
@@ -132,18 +132,18 @@ resliced_is : (g : Gathering) (from : ℕ) (slices : List Minislots) → IsGathe
 resliced_is g from slices is may =
     let r : Reslicing = record { from = from; slicing = slices } in
     record {
-      layout_is = is.layout_is;
-      shares_are = is.shares_are;
+      channel_is = is.channel_is;
+      quotas_are = is.quotas_are;
       slices_are = is.slices_are;
-      reslicings_are = All-push (λ (x : Reslicing). AreSlices g.layout (length g.shares) x.slicing) g.reslicings r is.reslicings_are may.slices_are;
+      reslicings_are = All-push (λ (x : Reslicing). AreSlices g.channel (length g.quotas) x.slicing) g.reslicings r is.reslicings_are may.slices_are;
       one_each = is.one_each;
       waiting = is.waiting;
       started = is.started;
-      queued = λ k share queue e f.
+      queued = λ k quota queue e f.
           let past : IsPast g from queue = all_at_queue (IsPast g from) g.queues k queue (recursion_from_All (IsPast g from) g.queues may.past) f in
-          queued-agree (λ (n : ℕ). slice_get (slices_at g.slices g.reslicings n) k) (λ (n : ℕ). slice_get (slices_at g.slices (g.reslicings ++ r ∷ []) n) k) share g.next queue
+          queued-agree (λ (n : ℕ). slice_get (slices_at g.slices g.reslicings n) k) (λ (n : ℕ). slice_get (slices_at g.slices (g.reslicings ++ r ∷ []) n) k) quota g.next queue
           (λ m le lt. ap (λ (ms : List Minislots). slice_get ms k) (sym (slices_before g.slices g.reslicings r m (queue_past g from queue m is.started past le lt))))
-          (is.queued k share queue e f);
+          (is.queued k quota queue e f);
     }
 
 pub resliced_seen : (g now : Gathering) (from : ℕ) (slices : List Minislots) (reslicings : List Reslicing) → g ≡ now → IsGathering g → MayReslice now from slices → reslicings ≡ g.reslicings ++ record { from = from; slicing = slices } ∷ []

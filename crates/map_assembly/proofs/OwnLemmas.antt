@@ -10,12 +10,12 @@ use Rattle.slice_scheduler.specs.declared.span.Span.{Span}
 use Rattle.slice_scheduler.specs.declared.elements.ElementsFields.{ElementsFields}
 use Rattle.slice_scheduler.specs.Tiles.{Tiles}
 use Rattle.plant.specs.declared.consts.Channel.{Channel}
-use Rattle.map_assembly.specs.declared.share.Share.{Share}
+use Rattle.map_assembly.specs.declared.quota.Quota.{Quota}
 use Rattle.map_assembly.specs.declared.view.MapSpan.{MapSpan}
 use Rattle.map_assembly.specs.Map.{idle_span, head_span, map_span, filled, map_spans, map_pending, in_order, map_of}
 use Rattle.map_assembly.specs.Part.{is_within, is_mine, IsPartOf}
 use Rattle.map_assembly.specs.Tiled.{LiesIn, IsOwn, touches, MapPart, part_of, own_part}
-use Rattle.map_assembly.specs.Plan.{IsShare}
+use Rattle.map_assembly.specs.Plan.{IsQuota}
 use Rattle.map_assembly.proofs.OrderLemmas.{AloneAt, flat_map_alone, sorted-all}
 use Rattle.map_assembly.proofs.TilingLemmas.{InOrder}
 use Rattle.map_assembly.proofs.PartLemmas.{FitsIn, fits_in, within_is_some, own_spans, own_pending, IsStranger, StandsAlone}
@@ -90,39 +90,39 @@ none_pending : (range : Numbers) (parts : List ElementsFields) → AllByRecursio
 none_pending range [] h = tt
 none_pending range (p ∷ parts) h = (no_sids range p.pending h.0.pending, none_pending range parts h.1)
 
-alone_spans : (range : Numbers) (share : Share) (slice : Minislots) (k : ℕ) (part : ElementsFields) (parts : List ElementsFields) → StandsAlone range share slice k part parts → AloneAt (own_spans range) k part parts
-alone_spans range share slice k part [] h = absurd h
-alone_spans range share slice zero part (p ∷ parts) h = (h.0, none_spans range parts h.2)
-alone_spans range share slice (suc k) part (p ∷ parts) h = (no_spans range p.spans h.0.spans, alone_spans range share slice k part parts h.1)
+alone_spans : (range : Numbers) (quota : Quota) (slice : Minislots) (k : ℕ) (part : ElementsFields) (parts : List ElementsFields) → StandsAlone range quota slice k part parts → AloneAt (own_spans range) k part parts
+alone_spans range quota slice k part [] h = absurd h
+alone_spans range quota slice zero part (p ∷ parts) h = (h.0, none_spans range parts h.2)
+alone_spans range quota slice (suc k) part (p ∷ parts) h = (no_spans range p.spans h.0.spans, alone_spans range quota slice k part parts h.1)
 
-alone_pending : (range : Numbers) (share : Share) (slice : Minislots) (k : ℕ) (part : ElementsFields) (parts : List ElementsFields) → StandsAlone range share slice k part parts → AloneAt (own_pending range) k part parts
-alone_pending range share slice k part [] h = absurd h
-alone_pending range share slice zero part (p ∷ parts) h = (h.0, none_pending range parts h.2)
-alone_pending range share slice (suc k) part (p ∷ parts) h = (no_sids range p.pending h.0.pending, alone_pending range share slice k part parts h.1)
+alone_pending : (range : Numbers) (quota : Quota) (slice : Minislots) (k : ℕ) (part : ElementsFields) (parts : List ElementsFields) → StandsAlone range quota slice k part parts → AloneAt (own_pending range) k part parts
+alone_pending range quota slice k part [] h = absurd h
+alone_pending range quota slice zero part (p ∷ parts) h = (h.0, none_pending range parts h.2)
+alone_pending range quota slice (suc k) part (p ∷ parts) h = (no_sids range p.pending h.0.pending, alone_pending range quota slice k part parts h.1)
 
 -- the part at the operator's place is its own
-is_part : (range : Numbers) (share : Share) (slice : Minislots) (k : ℕ) (part : ElementsFields) (parts : List ElementsFields) → StandsAlone range share slice k part parts → IsPartOf share slice part
-is_part range share slice k part [] h = absurd h
-is_part range share slice zero part (p ∷ parts) h = subst (λ (q : ElementsFields). IsPartOf share slice q) h.0 h.1
-is_part range share slice (suc k) part (p ∷ parts) h = is_part range share slice k part parts h.1
+is_part : (range : Numbers) (quota : Quota) (slice : Minislots) (k : ℕ) (part : ElementsFields) (parts : List ElementsFields) → StandsAlone range quota slice k part parts → IsPartOf quota slice part
+is_part range quota slice k part [] h = absurd h
+is_part range quota slice zero part (p ∷ parts) h = subst (λ (q : ElementsFields). IsPartOf quota slice q) h.0 h.1
+is_part range quota slice (suc k) part (p ∷ parts) h = is_part range quota slice k part parts h.1
 
 same_part : (a b : MapPart) → a.spans ≡ b.spans → a.pending ≡ b.pending → a ≡ b
 same_part a b p q = λ i. record { spans = p i; pending = q i }
 
-pub part_alone : (layout : Channel) (frame : ℕ) (share : Share) (slice : Minislots) (k : ℕ) (part : ElementsFields) (parts : List ElementsFields) → IsShare share → StandsAlone share.sids share slice k part parts
-    → part_of share.sids (map_of layout frame parts) ≡ own_part part
-part_alone layout frame share slice k part parts is h =
+pub part_alone : (channel : Channel) (frame : ℕ) (quota : Quota) (slice : Minislots) (k : ℕ) (part : ElementsFields) (parts : List ElementsFields) → IsQuota quota → StandsAlone quota.sids quota slice k part parts
+    → part_of quota.sids (map_of channel frame parts) ≡ own_part part
+part_alone channel frame quota slice k part parts is h =
     let key : ElementsFields → ℕ = λ (p : ElementsFields). p.slice.start in
-    let fits : FitsIn share slice part = fits_in share slice part (is_part share.sids share slice k part parts h).fits in
-    same_part (part_of share.sids (map_of layout frame parts)) (own_part part)
-    (filter-append (λ (s : MapSpan). is_within share.sids s.sid) (head_span layout.head) (filled layout.head layout.frame_minislots (in_order parts))
-    ∙ (ap (λ (xs : List MapSpan). xs ++ filter (λ (s : MapSpan). is_within share.sids s.sid) (filled layout.head layout.frame_minislots (in_order parts))) (filter-head share.sids layout.head is.high)
-    ∙ (filter-filled share.sids layout.head layout.frame_minislots (in_order parts) is.low
-    ∙ (flat_map_alone (own_spans share.sids) key k part parts (alone_spans share.sids share slice k part parts h)
-    ∙ kept_spans share.sids part.spans is.low fits.spans))))
-    (filter-pending share.sids (in_order parts)
-    ∙ (flat_map_alone (own_pending share.sids) key k part parts (alone_pending share.sids share slice k part parts h)
-    ∙ kept_sids share.sids part.pending is.low fits.pending))
+    let fits : FitsIn quota slice part = fits_in quota slice part (is_part quota.sids quota slice k part parts h).fits in
+    same_part (part_of quota.sids (map_of channel frame parts)) (own_part part)
+    (filter-append (λ (s : MapSpan). is_within quota.sids s.sid) (head_span channel.head) (filled channel.head channel.frame_minislots (in_order parts))
+    ∙ (ap (λ (xs : List MapSpan). xs ++ filter (λ (s : MapSpan). is_within quota.sids s.sid) (filled channel.head channel.frame_minislots (in_order parts))) (filter-head quota.sids channel.head is.high)
+    ∙ (filter-filled quota.sids channel.head channel.frame_minislots (in_order parts) is.low
+    ∙ (flat_map_alone (own_spans quota.sids) key k part parts (alone_spans quota.sids quota slice k part parts h)
+    ∙ kept_spans quota.sids part.spans is.low fits.spans))))
+    (filter-pending quota.sids (in_order parts)
+    ∙ (flat_map_alone (own_pending quota.sids) key k part parts (alone_pending quota.sids quota slice k part parts h)
+    ∙ kept_sids quota.sids part.pending is.low fits.pending))
 
 -- ---- each span of an operator lies in its slice
 
@@ -151,10 +151,10 @@ all-filled P from end (p ∷ parts) idle h =
     all-append P (idle_span from p.slice.start) (map map_span p.spans ++ filled (p.slice.start + p.slice.length) end parts) (all-idle P from p.slice.start (idle from p.slice.start))
     (all-append P (map map_span p.spans) (filled (p.slice.start + p.slice.length) end parts) h.0 (all-filled P (p.slice.start + p.slice.length) end parts idle h.1))
 
-pub all-spans : (P : MapSpan → Type 0) (layout : Channel) (parts : List ElementsFields) → ((head : ℕ) → 0 < head → P (record { sid = 16383; iuc = 1; start = 0; len = head }))
-    → ((from to : ℕ) → from < to → P (record { sid = 0; iuc = 6; start = from; len = to - from })) → AllByRecursion (λ p. AllByRecursion P (map map_span p.spans)) parts → AllByRecursion P (map_spans layout parts)
-all-spans P layout parts head idle h =
-    all-append P (head_span layout.head) (filled layout.head layout.frame_minislots parts) (all-head P layout.head (head layout.head)) (all-filled P layout.head layout.frame_minislots parts idle h)
+pub all-spans : (P : MapSpan → Type 0) (channel : Channel) (parts : List ElementsFields) → ((head : ℕ) → 0 < head → P (record { sid = 16383; iuc = 1; start = 0; len = head }))
+    → ((from to : ℕ) → from < to → P (record { sid = 0; iuc = 6; start = from; len = to - from })) → AllByRecursion (λ p. AllByRecursion P (map map_span p.spans)) parts → AllByRecursion P (map_spans channel parts)
+all-spans P channel parts head idle h =
+    all-append P (head_span channel.head) (filled channel.head channel.frame_minislots parts) (all-head P channel.head (head channel.head)) (all-filled P channel.head channel.frame_minislots parts idle h)
 
 tiled-le : (a b : ℕ) (spans : List Span) → Tiles a b spans → a ≤ b
 tiled-le a b [] t = omega (arith, t)
@@ -177,23 +177,23 @@ own_in_strangers : (range : Numbers) (slice : Minislots) (parts : List ElementsF
 own_in_strangers range slice [] h = tt
 own_in_strangers range slice (p ∷ parts) h = (own_if_stranger range slice p.spans h.0.spans, own_in_strangers range slice parts h.1)
 
-own_in_parts : (range : Numbers) (share : Share) (slice : Minislots) (k : ℕ) (part : ElementsFields) (parts : List ElementsFields) → StandsAlone range share slice k part parts
+own_in_parts : (range : Numbers) (quota : Quota) (slice : Minislots) (k : ℕ) (part : ElementsFields) (parts : List ElementsFields) → StandsAlone range quota slice k part parts
     → AllByRecursion (λ p. AllByRecursion (IsOwn range slice) (map map_span p.spans)) parts
-own_in_parts range share slice k part [] h = absurd h
-own_in_parts range share slice zero part (p ∷ parts) h =
-    let e : p.slice ≡ slice = (fits_in share slice p h.1.fits).slice_is in (
+own_in_parts range quota slice k part [] h = absurd h
+own_in_parts range quota slice zero part (p ∷ parts) h =
+    let e : p.slice ≡ slice = (fits_in quota slice p h.1.fits).slice_is in (
       own_if_in range slice (map map_span p.spans) (subst (λ (m : Minislots). AllByRecursion (LiesIn m) (map map_span p.spans)) e (lies_in_slice p.slice p.slice.start (p.slice.start + p.slice.length) p.spans (omega arith) (omega arith) h.1.tiled.tiles)),
       own_in_strangers range slice parts h.2,
     )
-own_in_parts range share slice (suc k) part (p ∷ parts) h = (own_if_stranger range slice p.spans h.0.spans, own_in_parts range share slice k part parts h.1)
+own_in_parts range quota slice (suc k) part (p ∷ parts) h = (own_if_stranger range slice p.spans h.0.spans, own_in_parts range quota slice k part parts h.1)
 
-pub own_alone : (layout : Channel) (share : Share) (slice : Minislots) (k : ℕ) (part : ElementsFields) (parts : List ElementsFields) → IsShare share → StandsAlone share.sids share slice k part parts
-    → AllByRecursion (IsOwn share.sids slice) (map_spans layout (in_order parts))
-own_alone layout share slice k part parts is h =
-    all-spans (IsOwn share.sids slice) layout (in_order parts)
-    (λ head _. λ e. absurd (both_ways (is_within share.sids 16383) (head_is_nobodys share.sids is.high) e))
-    (λ from to _. λ e. absurd (both_ways (is_within share.sids 0) (idle_is_nobodys share.sids is.low) e))
-    (sorted-all (λ (p : ElementsFields). AllByRecursion (IsOwn share.sids slice) (map map_span p.spans)) (λ (p : ElementsFields). p.slice.start) parts (own_in_parts share.sids share slice k part parts h))
+pub own_alone : (channel : Channel) (quota : Quota) (slice : Minislots) (k : ℕ) (part : ElementsFields) (parts : List ElementsFields) → IsQuota quota → StandsAlone quota.sids quota slice k part parts
+    → AllByRecursion (IsOwn quota.sids slice) (map_spans channel (in_order parts))
+own_alone channel quota slice k part parts is h =
+    all-spans (IsOwn quota.sids slice) channel (in_order parts)
+    (λ head _. λ e. absurd (both_ways (is_within quota.sids 16383) (head_is_nobodys quota.sids is.high) e))
+    (λ from to _. λ e. absurd (both_ways (is_within quota.sids 0) (idle_is_nobodys quota.sids is.low) e))
+    (sorted-all (λ (p : ElementsFields). AllByRecursion (IsOwn quota.sids slice) (map map_span p.spans)) (λ (p : ElementsFields). p.slice.start) parts (own_in_parts quota.sids quota slice k part parts h))
 
 -- ---- no span touches two slices
 
@@ -252,8 +252,8 @@ few_of_apart : (from : ℕ) (parts : List ElementsFields) (spans : List MapSpan)
 few_of_apart from parts [] h = tt
 few_of_apart from parts (s ∷ spans) h = (h.0.few, few_of_apart from parts spans h.1)
 
-pub touches_one_slice : (layout : Channel) (parts : List ElementsFields) → InOrder layout.head layout.frame_minislots parts → AllByRecursion (λ s. touched s parts ≤ 1) (map_spans layout parts)
-touches_one_slice layout parts o =
-    all-append (λ (s : MapSpan). touched s parts ≤ 1) (head_span layout.head) (filled layout.head layout.frame_minislots parts)
-    (all-head (λ (s : MapSpan). touched s parts ≤ 1) layout.head (λ lt. omega (arith, touched_none (record { sid = 16383; iuc = 1; start = 0; len = layout.head }) layout.head layout.frame_minislots parts (omega arith) o)))
-    (few_of_apart layout.head parts (filled layout.head layout.frame_minislots parts) (apart_filled layout.head layout.frame_minislots parts o))
+pub touches_one_slice : (channel : Channel) (parts : List ElementsFields) → InOrder channel.head channel.frame_minislots parts → AllByRecursion (λ s. touched s parts ≤ 1) (map_spans channel parts)
+touches_one_slice channel parts o =
+    all-append (λ (s : MapSpan). touched s parts ≤ 1) (head_span channel.head) (filled channel.head channel.frame_minislots parts)
+    (all-head (λ (s : MapSpan). touched s parts ≤ 1) channel.head (λ lt. omega (arith, touched_none (record { sid = 16383; iuc = 1; start = 0; len = channel.head }) channel.head channel.frame_minislots parts (omega arith) o)))
+    (few_of_apart channel.head parts (filled channel.head channel.frame_minislots parts) (apart_filled channel.head channel.frame_minislots parts o))

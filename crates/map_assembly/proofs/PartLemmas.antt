@@ -11,21 +11,22 @@ use Rattle.slice_scheduler.specs.declared.elements.ElementsFields.{ElementsField
 use Rattle.slice_scheduler.specs.Tiles.{IsTiled}
 use Rattle.plant.specs.Plant.{ranges_overlap}
 use Rattle.plant.specs.declared.consts.Channel.{Channel}
-use Rattle.map_assembly.specs.declared.share.Share.{Share}
+use Rattle.map_assembly.specs.declared.quota.Quota.{Quota}
 use Rattle.map_assembly.specs.declared.view.MapSpan.{MapSpan}
 use Rattle.map_assembly.specs.Map.{map_span, in_order}
 use Rattle.map_assembly.specs.Part.{is_within, is_mine, is_slice, is_fitting, IsPartOf, ArePartsOf}
-use Rattle.map_assembly.specs.Plan.{IsShare, IsInFrame, AreSlices, IsLayout}
+use Rattle.map_assembly.specs.Plan.{IsQuota, IsInFrame, AreSlices}
+use Rattle.plant.specs.Consts.{IsChannel}
 use Rattle.map_assembly.proofs.OrderLemmas.{PairsByRecursion, pairs_from_AllPairs, pairs-map, all-map, IsPlaced, sorted_in_order}
 use Rattle.map_assembly.proofs.TilingLemmas.{InOrder}
 
 -- ---- what fitting says
 
-pub record FitsIn (share : Share) (slice : Minislots) (part : ElementsFields) : Type 0 where
+pub record FitsIn (quota : Quota) (slice : Minislots) (part : ElementsFields) : Type 0 where
   pub slice_is : part.slice ≡ slice
-  pub spans : AllByRecursion (λ span. is_mine share.sids span.sid ≡ true) part.spans
-  pub pending : AllByRecursion (λ sid. is_mine share.sids sid ≡ true) part.pending
-  pub few : length part.spans + length part.pending ≤ share.elements + 1
+  pub spans : AllByRecursion (λ span. is_mine quota.sids span.sid ≡ true) part.spans
+  pub pending : AllByRecursion (λ sid. is_mine quota.sids sid ≡ true) part.pending
+  pub few : length part.spans + length part.pending ≤ quota.elements + 1
 
 same_slice : (a b : Minislots) → is_slice a b ≡ true → a ≡ b
 same_slice a b h =
@@ -36,55 +37,55 @@ all-list_all : {X : Type 0} (t : X → Bool) (xs : List X) → list_all t xs ≡
 all-list_all t [] h = tt
 all-list_all t (x ∷ xs) h = let p : (t x ≡ true) × (list_all t xs ≡ true) = and_parts (t x) (list_all t xs) h in (p.0, all-list_all t xs p.1)
 
-pub fits_in : (share : Share) (slice : Minislots) (part : ElementsFields) → is_fitting share slice part ≡ true → FitsIn share slice part
-fits_in share slice part h =
+pub fits_in : (quota : Quota) (slice : Minislots) (part : ElementsFields) → is_fitting quota slice part ≡ true → FitsIn quota slice part
+fits_in quota slice part h =
     let a : Bool = is_slice part.slice slice in
-    let b : Bool = list_all (λ (span : Span). is_mine share.sids span.sid) part.spans in
-    let c : Bool = list_all (λ (sid : ℕ). is_mine share.sids sid) part.pending in
-    let d : Bool = leb (length part.spans + length part.pending) (share.elements + 1) in
+    let b : Bool = list_all (λ (span : Span). is_mine quota.sids span.sid) part.spans in
+    let c : Bool = list_all (λ (sid : ℕ). is_mine quota.sids sid) part.pending in
+    let d : Bool = leb (length part.spans + length part.pending) (quota.elements + 1) in
     let p : (a && b && c ≡ true) × (d ≡ true) = and_parts (a && b && c) d h in
     let q : (a && b ≡ true) × (c ≡ true) = and_parts (a && b) c p.0 in
     let r : (a ≡ true) × (b ≡ true) = and_parts a b q.0 in
     record {
       slice_is = same_slice part.slice slice r.0;
-      spans = all-list_all (λ (span : Span). is_mine share.sids span.sid) part.spans r.1;
-      pending = all-list_all (λ (sid : ℕ). is_mine share.sids sid) part.pending q.1;
-      few = leb-true (length part.spans + length part.pending) (share.elements + 1) p.1;
+      spans = all-list_all (λ (span : Span). is_mine quota.sids span.sid) part.spans r.1;
+      pending = all-list_all (λ (sid : ℕ). is_mine quota.sids sid) part.pending q.1;
+      few = leb-true (length part.spans + length part.pending) (quota.elements + 1) p.1;
     }
 
 -- ---- their slices
 
-pub slices_of_parts : (shares : List Share) (slices : List Minislots) (parts : List ElementsFields) → ArePartsOf shares slices parts → map (λ p. p.slice) parts ≡ slices
+pub slices_of_parts : (quotas : List Quota) (slices : List Minislots) (parts : List ElementsFields) → ArePartsOf quotas slices parts → map (λ p. p.slice) parts ≡ slices
 slices_of_parts [] [] [] h = refl
 slices_of_parts [] [] (p ∷ parts) h = absurd h
 slices_of_parts [] (m ∷ slices) parts h = absurd h
-slices_of_parts (s ∷ shares) [] parts h = absurd h
-slices_of_parts (s ∷ shares) (m ∷ slices) [] h = absurd h
-slices_of_parts (s ∷ shares) (m ∷ slices) (p ∷ parts) h =
-    λ i. (fits_in s m p h.0.fits).slice_is i ∷ slices_of_parts shares slices parts h.1 i
+slices_of_parts (s ∷ quotas) [] parts h = absurd h
+slices_of_parts (s ∷ quotas) (m ∷ slices) [] h = absurd h
+slices_of_parts (s ∷ quotas) (m ∷ slices) (p ∷ parts) h =
+    λ i. (fits_in s m p h.0.fits).slice_is i ∷ slices_of_parts quotas slices parts h.1 i
 
-pub tiled_parts : (shares : List Share) (slices : List Minislots) (parts : List ElementsFields) → ArePartsOf shares slices parts → AllByRecursion IsTiled parts
+pub tiled_parts : (quotas : List Quota) (slices : List Minislots) (parts : List ElementsFields) → ArePartsOf quotas slices parts → AllByRecursion IsTiled parts
 tiled_parts [] [] [] h = tt
 tiled_parts [] [] (p ∷ parts) h = absurd h
 tiled_parts [] (m ∷ slices) parts h = absurd h
-tiled_parts (s ∷ shares) [] parts h = absurd h
-tiled_parts (s ∷ shares) (m ∷ slices) [] h = absurd h
-tiled_parts (s ∷ shares) (m ∷ slices) (p ∷ parts) h = (h.0.tiled, tiled_parts shares slices parts h.1)
+tiled_parts (s ∷ quotas) [] parts h = absurd h
+tiled_parts (s ∷ quotas) (m ∷ slices) [] h = absurd h
+tiled_parts (s ∷ quotas) (m ∷ slices) (p ∷ parts) h = (h.0.tiled, tiled_parts quotas slices parts h.1)
 
-placed_parts : (layout : Channel) (parts : List ElementsFields) → AllByRecursion IsTiled parts → AllByRecursion (λ p. IsInFrame layout p.slice) parts → AllByRecursion (IsPlaced layout.head layout.frame_minislots) parts
-placed_parts layout [] t h = tt
-placed_parts layout (p ∷ parts) t h = (record { tiled = t.0; some = h.0.some; behind = h.0.behind_head; before = h.0.within_frame }, placed_parts layout parts t.1 h.1)
+placed_parts : (channel : Channel) (parts : List ElementsFields) → AllByRecursion IsTiled parts → AllByRecursion (λ p. IsInFrame channel p.slice) parts → AllByRecursion (IsPlaced channel.head channel.frame_minislots) parts
+placed_parts channel [] t h = tt
+placed_parts channel (p ∷ parts) t h = (record { tiled = t.0; some = h.0.some; behind = h.0.behind_head; before = h.0.within_frame }, placed_parts channel parts t.1 h.1)
 
-pub parts_in_order : (layout : Channel) (count : ℕ) (shares : List Share) (slices : List Minislots) (parts : List ElementsFields) → IsLayout layout → AreSlices layout count slices → ArePartsOf shares slices parts
-    → InOrder layout.head layout.frame_minislots (in_order parts)
-parts_in_order layout count shares slices parts is valid h =
-    let e : map (λ (p : ElementsFields). p.slice) parts ≡ slices = slices_of_parts shares slices parts h in
-    let each : AllByRecursion (IsInFrame layout) (map (λ (p : ElementsFields). p.slice) parts) =
-    subst (λ (ms : List Minislots). AllByRecursion (IsInFrame layout) ms) (sym e) (recursion_from_All (IsInFrame layout) slices valid.each) in
+pub parts_in_order : (channel : Channel) (count : ℕ) (quotas : List Quota) (slices : List Minislots) (parts : List ElementsFields) → IsChannel channel → AreSlices channel count slices → ArePartsOf quotas slices parts
+    → InOrder channel.head channel.frame_minislots (in_order parts)
+parts_in_order channel count quotas slices parts is valid h =
+    let e : map (λ (p : ElementsFields). p.slice) parts ≡ slices = slices_of_parts quotas slices parts h in
+    let each : AllByRecursion (IsInFrame channel) (map (λ (p : ElementsFields). p.slice) parts) =
+    subst (λ (ms : List Minislots). AllByRecursion (IsInFrame channel) ms) (sym e) (recursion_from_All (IsInFrame channel) slices valid.each) in
     let pairs : PairsByRecursion (λ (a b : Minislots). slices_overlap a b ≡ false) (map (λ (p : ElementsFields). p.slice) parts) =
     subst (λ (ms : List Minislots). PairsByRecursion (λ (a b : Minislots). slices_overlap a b ≡ false) ms) (sym e) (pairs_from_AllPairs (λ (a b : Minislots). slices_overlap a b ≡ false) slices valid.apart) in
-    sorted_in_order layout.head layout.frame_minislots parts is.head
-    (placed_parts layout parts (tiled_parts shares slices parts h) (all-map (IsInFrame layout) (λ (p : ElementsFields). p.slice) parts each))
+    sorted_in_order channel.head channel.frame_minislots parts is.head
+    (placed_parts channel parts (tiled_parts quotas slices parts h) (all-map (IsInFrame channel) (λ (p : ElementsFields). p.slice) parts each))
     (pairs-map (λ (a b : Minislots). slices_overlap a b ≡ false) (λ (p : ElementsFields). p.slice) parts pairs)
 
 -- ---- their SIDs
@@ -147,43 +148,43 @@ sids_not_within : (a b : Numbers) (sids : List ℕ) → 1 ≤ a.first → ranges
 sids_not_within a b [] low meet h = tt
 sids_not_within a b (s ∷ sids) low meet h = (not_within a b s low meet h.0, sids_not_within a b sids low meet h.1)
 
-stranger : (a : Numbers) (share : Share) (slice : Minislots) (part : ElementsFields) → 1 ≤ a.first → ranges_overlap a share.sids ≡ false → IsPartOf share slice part → IsStranger a part
-stranger a share slice part low meet h = record {
-  spans = spans_not_within a share.sids part.spans low meet (fits_in share slice part h.fits).spans;
-  pending = sids_not_within a share.sids part.pending low meet (fits_in share slice part h.fits).pending;
+stranger : (a : Numbers) (quota : Quota) (slice : Minislots) (part : ElementsFields) → 1 ≤ a.first → ranges_overlap a quota.sids ≡ false → IsPartOf quota slice part → IsStranger a part
+stranger a quota slice part low meet h = record {
+  spans = spans_not_within a quota.sids part.spans low meet (fits_in quota slice part h.fits).spans;
+  pending = sids_not_within a quota.sids part.pending low meet (fits_in quota slice part h.fits).pending;
 }
 
-strangers : (a : Share) (shares : List Share) (slices : List Minislots) (parts : List ElementsFields) → 1 ≤ a.sids.first → AllByRecursion (λ b. ranges_overlap a.sids b.sids ≡ false) shares → ArePartsOf shares slices parts
+strangers : (a : Quota) (quotas : List Quota) (slices : List Minislots) (parts : List ElementsFields) → 1 ≤ a.sids.first → AllByRecursion (λ b. ranges_overlap a.sids b.sids ≡ false) quotas → ArePartsOf quotas slices parts
     → AllByRecursion (IsStranger a.sids) parts
 strangers a [] [] [] low apart h = tt
 strangers a [] [] (p ∷ parts) low apart h = absurd h
 strangers a [] (m ∷ slices) parts low apart h = absurd h
-strangers a (s ∷ shares) [] parts low apart h = absurd h
-strangers a (s ∷ shares) (m ∷ slices) [] low apart h = absurd h
-strangers a (s ∷ shares) (m ∷ slices) (p ∷ parts) low apart h = (stranger a.sids s m p low apart.0 h.0, strangers a shares slices parts low apart.1 h.1)
+strangers a (s ∷ quotas) [] parts low apart h = absurd h
+strangers a (s ∷ quotas) (m ∷ slices) [] low apart h = absurd h
+strangers a (s ∷ quotas) (m ∷ slices) (p ∷ parts) low apart h = (stranger a.sids s m p low apart.0 h.0, strangers a quotas slices parts low apart.1 h.1)
 
 -- the part at this place is the operator's, and all others are strangers'
-abbrev pub StandsAlone : Numbers → Share → Minislots → ℕ → ElementsFields → List ElementsFields → Type 0
-StandsAlone range share slice k part [] = ⊥
-StandsAlone range share slice zero part (p ∷ parts) = (p ≡ part) × IsPartOf share slice p × AllByRecursion (IsStranger range) parts
-StandsAlone range share slice (suc k) part (p ∷ parts) = IsStranger range p × StandsAlone range share slice k part parts
+abbrev pub StandsAlone : Numbers → Quota → Minislots → ℕ → ElementsFields → List ElementsFields → Type 0
+StandsAlone range quota slice k part [] = ⊥
+StandsAlone range quota slice zero part (p ∷ parts) = (p ≡ part) × IsPartOf quota slice p × AllByRecursion (IsStranger range) parts
+StandsAlone range quota slice (suc k) part (p ∷ parts) = IsStranger range p × StandsAlone range quota slice k part parts
 
-pub stands_alone : (k : ℕ) (share : Share) (slice : Minislots) (part : ElementsFields) (shares : List Share) (slices : List Minislots) (parts : List ElementsFields)
-    → AllByRecursion IsShare shares → PairsByRecursion (λ (a b : Share). ranges_overlap a.sids b.sids ≡ false) shares → ArePartsOf shares slices parts
-    → slice_get shares k ≡ Some share → slice_get slices k ≡ Some slice → slice_get parts k ≡ Some part → StandsAlone share.sids share slice k part parts
-stands_alone k share slice part [] [] [] each apart h e f g = absurd (cc)
-stands_alone k share slice part [] [] (p ∷ parts) each apart h e f g = absurd h
-stands_alone k share slice part [] (m ∷ slices) parts each apart h e f g = absurd h
-stands_alone k share slice part (s ∷ shares) [] parts each apart h e f g = absurd h
-stands_alone k share slice part (s ∷ shares) (m ∷ slices) [] each apart h e f g = absurd h
-stands_alone zero share slice part (s ∷ shares) (m ∷ slices) (p ∷ parts) each apart h e f g =
-    let es : s ≡ share = same_Some s share e in
+pub stands_alone : (k : ℕ) (quota : Quota) (slice : Minislots) (part : ElementsFields) (quotas : List Quota) (slices : List Minislots) (parts : List ElementsFields)
+    → AllByRecursion IsQuota quotas → PairsByRecursion (λ (a b : Quota). ranges_overlap a.sids b.sids ≡ false) quotas → ArePartsOf quotas slices parts
+    → slice_get quotas k ≡ Some quota → slice_get slices k ≡ Some slice → slice_get parts k ≡ Some part → StandsAlone quota.sids quota slice k part parts
+stands_alone k quota slice part [] [] [] each apart h e f g = absurd (cc)
+stands_alone k quota slice part [] [] (p ∷ parts) each apart h e f g = absurd h
+stands_alone k quota slice part [] (m ∷ slices) parts each apart h e f g = absurd h
+stands_alone k quota slice part (s ∷ quotas) [] parts each apart h e f g = absurd h
+stands_alone k quota slice part (s ∷ quotas) (m ∷ slices) [] each apart h e f g = absurd h
+stands_alone zero quota slice part (s ∷ quotas) (m ∷ slices) (p ∷ parts) each apart h e f g =
+    let es : s ≡ quota = same_Some s quota e in
     let em : m ≡ slice = same_Some m slice f in (
       same_Some p part g,
-      subst (λ (x : Share). IsPartOf x slice p) es (subst (λ (x : Minislots). IsPartOf s x p) em h.0),
-      subst (λ (x : Share). AllByRecursion (IsStranger x.sids) parts) es (strangers s shares slices parts each.0.low apart.0 h.1),
+      subst (λ (x : Quota). IsPartOf x slice p) es (subst (λ (x : Minislots). IsPartOf s x p) em h.0),
+      subst (λ (x : Quota). AllByRecursion (IsStranger x.sids) parts) es (strangers s quotas slices parts each.0.low apart.0 h.1),
     )
-stands_alone (suc k) share slice part (s ∷ shares) (m ∷ slices) (p ∷ parts) each apart h e f g = (
-  stranger share.sids s m p (all_at IsShare shares k share each.1 e).low (ranges_overlap-turned s.sids share.sids (all_at (λ (b : Share). ranges_overlap s.sids b.sids ≡ false) shares k share apart.0 e)) h.0,
-  stands_alone k share slice part shares slices parts each.1 apart.1 h.1 e f g,
+stands_alone (suc k) quota slice part (s ∷ quotas) (m ∷ slices) (p ∷ parts) each apart h e f g = (
+  stranger quota.sids s m p (all_at IsQuota quotas k quota each.1 e).low (ranges_overlap-turned s.sids quota.sids (all_at (λ (b : Quota). ranges_overlap s.sids b.sids ≡ false) quotas k quota apart.0 e)) h.0,
+  stands_alone k quota slice part quotas slices parts each.1 apart.1 h.1 e f g,
 )

@@ -10,7 +10,7 @@ use Rattle.slice_scheduler.specs.Minislots.{Minislots}
 use Rattle.slice_scheduler.specs.Tiles.{IsTiled}
 use Rattle.slice_scheduler.specs.declared.elements.ElementsFields.{ElementsFields}
 use Rattle.plant.specs.declared.consts.Channel.{Channel}
-use Rattle.map_assembly.specs.declared.share.Share.{Share}
+use Rattle.map_assembly.specs.declared.quota.Quota.{Quota}
 use Rattle.map_assembly.specs.declared.slicing.Reslicing.{Reslicing}
 use Rattle.map_assembly.specs.declared.refused.GatherFault.{GatherFault}
 use Rattle.map_assembly.specs.declared.refused.GatherFault.TheVariants.{Stranger, Old, PutTwice, Early, WrongSlice}
@@ -33,7 +33,7 @@ use Rattle.map_assembly.proofs.MapLemmas.{AreFrame, frame_count, frame_fits, fra
 -- ---- a part that is not refused
 
 pub record IsPut (g : Gathering) (op frame : ℕ) (part : ElementsFields) : Type 0 where
-  pub op_is : op < length g.shares
+  pub op_is : op < length g.quotas
   pub frame_is : frame ≡ next_of g op
   pub part_is : is_part g op frame part ≡ true
 
@@ -41,27 +41,27 @@ no_fault : (f : GatherFault) (o : Option GatherFault) → o ≡ Some f → o ≡
 no_fault f o p q = cc
 
 pub is_put : (g : Gathering) (op frame : ℕ) (part : ElementsFields) → put_fault g op frame part ≡ None → IsPut g op frame part
-is_put g op frame part h = by (leb (length g.shares) op) (ltb frame g.next) (ltb frame (next_of g op)) (ltb (next_of g op) frame) (is_part g op frame part) refl refl refl refl refl
+is_put g op frame part h = by (leb (length g.quotas) op) (ltb frame g.next) (ltb frame (next_of g op)) (ltb (next_of g op) frame) (is_part g op frame part) refl refl refl refl refl
   where
-    by : (a b c d e : Bool) → leb (length g.shares) op ≡ a → ltb frame g.next ≡ b → ltb frame (next_of g op) ≡ c → ltb (next_of g op) frame ≡ d → is_part g op frame part ≡ e → IsPut g op frame part
+    by : (a b c d e : Bool) → leb (length g.quotas) op ≡ a → ltb frame g.next ≡ b → ltb frame (next_of g op) ≡ c → ltb (next_of g op) frame ≡ d → is_part g op frame part ≡ e → IsPut g op frame part
     by true b c d e p q r s t = absurd (no_fault Stranger (put_fault g op frame part) (rw p) h)
     by false true c d e p q r s t = absurd (no_fault (Old frame) (put_fault g op frame part) (rw (p, q)) h)
     by false false true d e p q r s t = absurd (no_fault PutTwice (put_fault g op frame part) (rw (p, q, r)) h)
     by false false false true e p q r s t = absurd (no_fault (Early frame) (put_fault g op frame part) (rw (p, q, r, s)) h)
     by false false false false false p q r s t = absurd (no_fault WrongSlice (put_fault g op frame part) (rw (p, q, r, s, t)) h)
     by false false false false true p q r s t = record {
-      op_is = leb-false (length g.shares) op p;
+      op_is = leb-false (length g.quotas) op p;
       frame_is = omega (arith, ltb-false frame (next_of g op) r, ltb-false (next_of g op) frame s);
       part_is = t;
     }
 
-part_at_fits : (share : Share) (o : Option Share) (m : Option Minislots) (part : ElementsFields) → o ≡ Some share → fits_at o m part ≡ true → IsTiled part → IsPartAt m share part
-part_at_fits share None m part e h t = absurd (cc)
-part_at_fits share (Some s) None part e h t = let wrong : false ≡ true = h in absurd (cc)
-part_at_fits share (Some s) (Some m) part e h t = record {
+part_at_fits : (quota : Quota) (o : Option Quota) (m : Option Minislots) (part : ElementsFields) → o ≡ Some quota → fits_at o m part ≡ true → IsTiled part → IsPartAt m quota part
+part_at_fits quota None m part e h t = absurd (cc)
+part_at_fits quota (Some s) None part e h t = let wrong : false ≡ true = h in absurd (cc)
+part_at_fits quota (Some s) (Some m) part e h t = record {
   minislots = m;
   slice_is = refl;
-  part_is = record { fits = subst (λ (x : Share). is_fitting x m part ≡ true) (same_Some s share e) h; tiled = t };
+  part_is = record { fits = subst (λ (x : Quota). is_fitting x m part ≡ true) (same_Some s quota e) h; tiled = t };
 }
 
 -- ---- lists of queues
@@ -78,59 +78,59 @@ get-set_same [] i x lt = absurd (omega arith)
 get-set_same (y ∷ ys) zero x lt = refl
 get-set_same (y ∷ ys) (suc i) x lt = get-set_same ys i x (omega arith)
 
-queued-push : (slice_at : ℕ → Option Minislots) (share : Share) (n : ℕ) (queue : List ElementsFields) (part : ElementsFields) → AreQueued slice_at share n queue → IsPartAt (slice_at (n + length queue)) share part
-    → AreQueued slice_at share n (queue ++ part ∷ [])
-queued-push slice_at share n [] part h p = let e : n + 0 ≡ n = omega arith in (subst (λ (m : ℕ). IsPartAt (slice_at m) share part) e p, tt)
-queued-push slice_at share n (q ∷ queue) part h p =
+queued-push : (slice_at : ℕ → Option Minislots) (quota : Quota) (n : ℕ) (queue : List ElementsFields) (part : ElementsFields) → AreQueued slice_at quota n queue → IsPartAt (slice_at (n + length queue)) quota part
+    → AreQueued slice_at quota n (queue ++ part ∷ [])
+queued-push slice_at quota n [] part h p = let e : n + 0 ≡ n = omega arith in (subst (λ (m : ℕ). IsPartAt (slice_at m) quota part) e p, tt)
+queued-push slice_at quota n (q ∷ queue) part h p =
     let e : n + suc (length queue) ≡ n + 1 + length queue = omega arith in
-    (h.0, queued-push slice_at share (n + 1) queue part h.1 (subst (λ (m : ℕ). IsPartAt (slice_at m) share part) e p))
+    (h.0, queued-push slice_at quota (n + 1) queue part h.1 (subst (λ (m : ℕ). IsPartAt (slice_at m) quota part) e p))
 
-queued-drop : (slice_at : ℕ → Option Minislots) (share : Share) (n : ℕ) (queue : List ElementsFields) → AreQueued slice_at share n queue → AreQueued slice_at share (n + 1) (drop 1 queue)
-queued-drop slice_at share n [] h = tt
-queued-drop slice_at share n (q ∷ queue) h = h.1
+queued-drop : (slice_at : ℕ → Option Minislots) (quota : Quota) (n : ℕ) (queue : List ElementsFields) → AreQueued slice_at quota n queue → AreQueued slice_at quota (n + 1) (drop 1 queue)
+queued-drop slice_at quota n [] h = tt
+queued-drop slice_at quota n (q ∷ queue) h = h.1
 
 abbrev slice_for : Gathering → ℕ → ℕ → Option Minislots
 slice_for g k n = slice_get (frame_slices g n) k
 
 -- one part more
-with_part_queued : (g : Gathering) (op frame : ℕ) (part : ElementsFields) → IsGathering g → IsPut g op frame part → IsTiled part → AreAllQueued g.slices g.reslicings g.shares (with_part g.queues op part) g.next
-with_part_queued g op frame part is put tiled k share queue e f = by (cases_eq k op)
+with_part_queued : (g : Gathering) (op frame : ℕ) (part : ElementsFields) → IsGathering g → IsPut g op frame part → IsTiled part → AreAllQueued g.slices g.reslicings g.quotas (with_part g.queues op part) g.next
+with_part_queued g op frame part is put tiled k quota queue e f = by (cases_eq k op)
   where
-    by : (k ≡ op) ⊎ (k ≡ op → ⊥) → AreQueued (slice_for g k) share g.next queue
+    by : (k ≡ op) ⊎ (k ≡ op → ⊥) → AreQueued (slice_for g k) quota g.next queue
     by (inl same) =
         let within : op < length g.queues = omega (arith, is.one_each, put.op_is) in
         let there : slice_get g.queues k ≡ Some (queue_of g.queues op) =
         ap (λ (i : ℕ). slice_get g.queues i) same ∙ slice_get-get_or g.queues op [] within in
         let new : queue_of g.queues op ++ part ∷ [] ≡ queue =
         same_Some (queue_of g.queues op ++ part ∷ []) queue (sym (get-set_same g.queues op (queue_of g.queues op ++ part ∷ []) within) ∙ (ap (λ (i : ℕ). slice_get (with_part g.queues op part) i) (sym same) ∙ f)) in
-        let share_is : slice_get g.shares op ≡ Some share = ap (λ (i : ℕ). slice_get g.shares i) (sym same) ∙ e in
-        let here : IsPartAt (slice_for g op frame) share part = part_at_fits share (slice_get g.shares op) (slice_for g op frame) part share_is put.part_is tiled in
-        let moved : IsPartAt (slice_for g k (g.next + length (queue_of g.queues op))) share part =
-        subst (λ (i : ℕ). IsPartAt (slice_for g i (g.next + length (queue_of g.queues op))) share part) (sym same)
-        (subst (λ (n : ℕ). IsPartAt (slice_for g op n) share part) put.frame_is here) in
-        subst (λ (q : List ElementsFields). AreQueued (slice_for g k) share g.next q) new
-        (queued-push (slice_for g k) share g.next (queue_of g.queues op) part (is.queued k share (queue_of g.queues op) e there) moved)
-    by (inr other) = is.queued k share queue e (sym (get-set_other g.queues op k (queue_of g.queues op ++ part ∷ []) other) ∙ f)
+        let quota_is : slice_get g.quotas op ≡ Some quota = ap (λ (i : ℕ). slice_get g.quotas i) (sym same) ∙ e in
+        let here : IsPartAt (slice_for g op frame) quota part = part_at_fits quota (slice_get g.quotas op) (slice_for g op frame) part quota_is put.part_is tiled in
+        let moved : IsPartAt (slice_for g k (g.next + length (queue_of g.queues op))) quota part =
+        subst (λ (i : ℕ). IsPartAt (slice_for g i (g.next + length (queue_of g.queues op))) quota part) (sym same)
+        (subst (λ (n : ℕ). IsPartAt (slice_for g op n) quota part) put.frame_is here) in
+        subst (λ (q : List ElementsFields). AreQueued (slice_for g k) quota g.next q) new
+        (queued-push (slice_for g k) quota g.next (queue_of g.queues op) part (is.queued k quota (queue_of g.queues op) e there) moved)
+    by (inr other) = is.queued k quota queue e (sym (get-set_other g.queues op k (queue_of g.queues op ++ part ∷ []) other) ∙ f)
 
-dropped_queued : (slices : List Minislots) (reslicings : List Reslicing) (shares : List Share) (queues : List (List ElementsFields)) (next : ℕ) → AreAllQueued slices reslicings shares queues next
-    → AreAllQueued slices reslicings shares (map (λ (queue : List ElementsFields). drop 1 queue) queues) (next + 1)
-dropped_queued slices reslicings shares queues next h k share queue e f = by (slice_get queues k) refl
+dropped_queued : (slices : List Minislots) (reslicings : List Reslicing) (quotas : List Quota) (queues : List (List ElementsFields)) (next : ℕ) → AreAllQueued slices reslicings quotas queues next
+    → AreAllQueued slices reslicings quotas (map (λ (queue : List ElementsFields). drop 1 queue) queues) (next + 1)
+dropped_queued slices reslicings quotas queues next h k quota queue e f = by (slice_get queues k) refl
   where
-    by : (o : Option (List ElementsFields)) → slice_get queues k ≡ o → AreQueued (λ n. slice_get (slices_at slices reslicings n) k) share (next + 1) queue
+    by : (o : Option (List ElementsFields)) → slice_get queues k ≡ o → AreQueued (λ n. slice_get (slices_at slices reslicings n) k) quota (next + 1) queue
     by None g =
         let wrong : None ≡ Some queue = sym (slice_get-map (λ (q : List ElementsFields). drop 1 q) queues k ∙ ap (λ (o : Option (List ElementsFields)). option_map (λ (q : List ElementsFields). drop 1 q) o) g) ∙ f in
         absurd (cc)
     by (Some q) g =
         let same : Some (drop 1 q) ≡ Some queue = sym (slice_get-map (λ (x : List ElementsFields). drop 1 x) queues k ∙ ap (λ (o : Option (List ElementsFields)). option_map (λ (x : List ElementsFields). drop 1 x) o) g) ∙ f in
-        subst (λ (x : List ElementsFields). AreQueued (λ n. slice_get (slices_at slices reslicings n) k) share (next + 1) x) (same_Some (drop 1 q) queue same)
-        (queued-drop (λ n. slice_get (slices_at slices reslicings n) k) share next q (h k share q e g))
+        subst (λ (x : List ElementsFields). AreQueued (λ n. slice_get (slices_at slices reslicings n) k) quota (next + 1) x) (same_Some (drop 1 q) queue same)
+        (queued-drop (λ n. slice_get (slices_at slices reslicings n) k) quota next q (h k quota q e g))
 
 -- ---- a part is kept
 
 pub kept : (g : Gathering) (op frame : ℕ) (part : ElementsFields) → IsGathering g → put_fault g op frame part ≡ None → IsTiled part → is_last g op part ≡ false → IsGathering (record g { queues = with_part g.queues op part })
 kept g op frame part is put tiled waits = record {
-  layout_is = is.layout_is;
-  shares_are = is.shares_are;
+  channel_is = is.channel_is;
+  quotas_are = is.quotas_are;
   slices_are = is.slices_are;
   reslicings_are = is.reslicings_are;
   one_each = length-set g.queues op (queue_of g.queues op ++ part ∷ []) ∙ is.one_each;
@@ -151,7 +151,7 @@ empty_waits (q ∷ queues) (suc op) lt e =
     and_false true = refl
     and_false false = refl
 
-pub last_is_first : (g : Gathering) (op : ℕ) (part : ElementsFields) → IsGathering g → op < length g.shares → is_last g op part ≡ true → queue_of g.queues op ≡ []
+pub last_is_first : (g : Gathering) (op : ℕ) (part : ElementsFields) → IsGathering g → op < length g.quotas → is_last g op part ≡ true → queue_of g.queues op ≡ []
 last_is_first g op part is lt whole = empty_before_last g.queues op part (omega (arith, is.one_each)) is.waiting whole
 
 dropped_with : (queues : List (List ElementsFields)) (op : ℕ) (part : ElementsFields) → op < length queues → queue_of queues op ≡ [] → map (λ (queue : List ElementsFields). drop 1 queue) (with_part queues op part) ≡ map (λ (queue : List ElementsFields). drop 1 queue) queues
@@ -164,22 +164,22 @@ dropped_with (q ∷ queues) (suc op) part lt e = ap (λ (xs : List (List Element
 pub made : (g : Gathering) (op frame : ℕ) (part : ElementsFields) → IsGathering g → put_fault g op frame part ≡ None → is_last g op part ≡ true
     → IsGathering (record g { queues = map (λ (queue : List ElementsFields). drop 1 queue) g.queues; next = g.next + 1 })
 made g op frame part is put whole =
-    let at : op < length g.shares = (is_put g op frame part put).op_is in
+    let at : op < length g.quotas = (is_put g op frame part put).op_is in
     record {
-      layout_is = is.layout_is;
-      shares_are = is.shares_are;
+      channel_is = is.channel_is;
+      quotas_are = is.quotas_are;
       slices_are = is.slices_are;
       reslicings_are = is.reslicings_are;
       one_each = length-map g.queues (λ (queue : List ElementsFields). drop 1 queue) ∙ is.one_each;
       waiting = empty_waits g.queues op (omega (arith, is.one_each)) (last_is_first g op part is at whole);
       started = omega (arith, is.started);
-      queued = dropped_queued g.slices g.reslicings g.shares g.queues g.next is.queued;
+      queued = dropped_queued g.slices g.reslicings g.quotas g.queues g.next is.queued;
     }
 
 pub after_last : (g : Gathering) (op frame : ℕ) (part : ElementsFields) → IsGathering g → put_fault g op frame part ≡ None → is_last g op part ≡ true
     → record g { queues = map (λ (queue : List ElementsFields). drop 1 queue) g.queues; next = g.next + 1 } ≡ after_put g op part
 after_last g op frame part is put whole =
-    let at : op < length g.shares = (is_put g op frame part put).op_is in
+    let at : op < length g.quotas = (is_put g op frame part put).op_is in
     sym (ap (λ (b : Bool). cond b (record g { queues = map (λ (queue : List ElementsFields). drop 1 queue) (with_part g.queues op part); next = g.next + 1 }) (record g { queues = with_part g.queues op part })) whole
     ∙ ap (λ (qs : List (List ElementsFields)). let h : Gathering = record g { queues = qs; next = g.next + 1 } in h) (dropped_with g.queues op part (omega (arith, is.one_each)) (last_is_first g op part is at whole)))
 
@@ -207,54 +207,54 @@ all-find {X} P t (y ∷ ys) x h e = by (t y) refl (λ f. all-find P t ys x h.1 f
     by true p more = let same : Some y ≡ Some x = rw p at e in subst P (same_Some y x same) h.0
     by false p more = more (rw p at e)
 
-pub slices_valid : (layout : Channel) (count : ℕ) (slices : List Minislots) (reslicings : List Reslicing) (frame : ℕ) → AreSlices layout count slices → All (λ r. AreSlices layout count r.slicing) reslicings
-    → AreSlices layout count (slices_at slices reslicings frame)
-slices_valid layout count slices reslicings frame first later = by (find (λ (r : Reslicing). leb r.from frame) (reverse reslicings)) refl
+pub slices_valid : (channel : Channel) (count : ℕ) (slices : List Minislots) (reslicings : List Reslicing) (frame : ℕ) → AreSlices channel count slices → All (λ r. AreSlices channel count r.slicing) reslicings
+    → AreSlices channel count (slices_at slices reslicings frame)
+slices_valid channel count slices reslicings frame first later = by (find (λ (r : Reslicing). leb r.from frame) (reverse reslicings)) refl
   where
-    by : (o : Option Reslicing) → find (λ (r : Reslicing). leb r.from frame) (reverse reslicings) ≡ o → AreSlices layout count (slices_or slices o)
+    by : (o : Option Reslicing) → find (λ (r : Reslicing). leb r.from frame) (reverse reslicings) ≡ o → AreSlices channel count (slices_or slices o)
     by None e = first
     by (Some r) e =
-        all-find (λ (x : Reslicing). AreSlices layout count x.slicing) (λ (x : Reslicing). leb x.from frame) (reverse reslicings) r
-        (all-reverse (λ (x : Reslicing). AreSlices layout count x.slicing) reslicings (recursion_from_All (λ (x : Reslicing). AreSlices layout count x.slicing) reslicings later)) e
+        all-find (λ (x : Reslicing). AreSlices channel count x.slicing) (λ (x : Reslicing). leb x.from frame) (reverse reslicings) r
+        (all-reverse (λ (x : Reslicing). AreSlices channel count x.slicing) reslicings (recursion_from_All (λ (x : Reslicing). AreSlices channel count x.slicing) reslicings later)) e
 
 -- ---- the parts of the next frame
 
-abbrev IsFrontOf : Option Minislots → Share → List ElementsFields → Type 0
-IsFrontOf m share [] = Unit {0}
-IsFrontOf m share (part ∷ parts) = IsPartAt m share part
+abbrev IsFrontOf : Option Minislots → Quota → List ElementsFields → Type 0
+IsFrontOf m quota [] = Unit {0}
+IsFrontOf m quota (part ∷ parts) = IsPartAt m quota part
 
-front_queued : (slice_at : ℕ → Option Minislots) (share : Share) (n : ℕ) (queue : List ElementsFields) → AreQueued slice_at share n queue → IsFrontOf (slice_at n) share queue
-front_queued slice_at share n [] h = tt
-front_queued slice_at share n (q ∷ queue) h = h.0
+front_queued : (slice_at : ℕ → Option Minislots) (quota : Quota) (n : ℕ) (queue : List ElementsFields) → AreQueued slice_at quota n queue → IsFrontOf (slice_at n) quota queue
+front_queued slice_at quota n [] h = tt
+front_queued slice_at quota n (q ∷ queue) h = h.0
 
-part_of_front : (m : Minislots) (share : Share) (part : ElementsFields) → IsPartAt (Some m) share part → IsPartOf share m part
-part_of_front m share part h = subst (λ (x : Minislots). IsPartOf share x part) (sym (same_Some m h.minislots h.slice_is)) h.part_is
+part_of_front : (m : Minislots) (quota : Quota) (part : ElementsFields) → IsPartAt (Some m) quota part → IsPartOf quota m part
+part_of_front m quota part h = subst (λ (x : Minislots). IsPartOf quota x part) (sym (same_Some m h.minislots h.slice_is)) h.part_is
 
-fronts_are : (shares : List Share) (slices : List Minislots) (queues : List (List ElementsFields)) → length slices ≡ length shares → length queues ≡ length shares → is_whole queues ≡ true
-    → ((k : ℕ) (share : Share) (queue : List ElementsFields) → slice_get shares k ≡ Some share → slice_get queues k ≡ Some queue → IsFrontOf (slice_get slices k) share queue)
-    → ArePartsOf shares slices (fronts queues)
+fronts_are : (quotas : List Quota) (slices : List Minislots) (queues : List (List ElementsFields)) → length slices ≡ length quotas → length queues ≡ length quotas → is_whole queues ≡ true
+    → ((k : ℕ) (quota : Quota) (queue : List ElementsFields) → slice_get quotas k ≡ Some quota → slice_get queues k ≡ Some queue → IsFrontOf (slice_get slices k) quota queue)
+    → ArePartsOf quotas slices (fronts queues)
 fronts_are [] [] [] a b whole h = tt
 fronts_are [] [] (q ∷ queues) a b whole h = absurd (omega arith)
 fronts_are [] (m ∷ slices) queues a b whole h = absurd (omega arith)
-fronts_are (s ∷ shares) [] queues a b whole h = absurd (omega arith)
-fronts_are (s ∷ shares) (m ∷ slices) [] a b whole h = absurd (omega arith)
-fronts_are (s ∷ shares) (m ∷ slices) ([] ∷ queues) a b whole h = let wrong : false ≡ true = whole in absurd (cc)
-fronts_are (s ∷ shares) (m ∷ slices) ((p ∷ ps) ∷ queues) a b whole h = (
+fronts_are (s ∷ quotas) [] queues a b whole h = absurd (omega arith)
+fronts_are (s ∷ quotas) (m ∷ slices) [] a b whole h = absurd (omega arith)
+fronts_are (s ∷ quotas) (m ∷ slices) ([] ∷ queues) a b whole h = let wrong : false ≡ true = whole in absurd (cc)
+fronts_are (s ∷ quotas) (m ∷ slices) ((p ∷ ps) ∷ queues) a b whole h = (
   part_of_front m s p (h 0 s (p ∷ ps) refl refl),
-  fronts_are shares slices queues (omega arith) (omega arith) (and_parts (ltb 0 (length (p ∷ ps))) (is_whole queues) whole).1 (λ k share queue e f. h (suc k) share queue e f),
+  fronts_are quotas slices queues (omega arith) (omega arith) (and_parts (ltb 0 (length (p ∷ ps))) (is_whole queues) whole).1 (λ k quota queue e f. h (suc k) quota queue e f),
 )
 
 pub frame_is_whole : (g : Gathering) (op frame : ℕ) (part : ElementsFields) → IsGathering g → put_fault g op frame part ≡ None → IsTiled part → is_last g op part ≡ true
-    → AreFrame g.layout g.shares (frame_slices g g.next) (frame_parts g op part)
+    → AreFrame g.channel g.quotas (frame_slices g g.next) (frame_parts g op part)
 frame_is_whole g op frame part is put tiled whole =
-    let valid : AreSlices g.layout (length g.shares) (frame_slices g g.next) = slices_valid g.layout (length g.shares) g.slices g.reslicings g.next is.slices_are is.reslicings_are in
+    let valid : AreSlices g.channel (length g.quotas) (frame_slices g g.next) = slices_valid g.channel (length g.quotas) g.slices g.reslicings g.next is.slices_are is.reslicings_are in
     record {
-      layout_is = is.layout_is;
-      shares_are = is.shares_are;
+      channel_is = is.channel_is;
+      quotas_are = is.quotas_are;
       slices_are = valid;
-      parts_are = fronts_are g.shares (frame_slices g g.next) (with_part g.queues op part) valid.one_each
+      parts_are = fronts_are g.quotas (frame_slices g g.next) (with_part g.queues op part) valid.one_each
           (length-set g.queues op (queue_of g.queues op ++ part ∷ []) ∙ is.one_each) whole
-          (λ k share queue e f. front_queued (slice_for g k) share g.next queue (with_part_queued g op frame part is (is_put g op frame part put) tiled k share queue e f));
+          (λ k quota queue e f. front_queued (slice_for g k) quota g.next queue (with_part_queued g op frame part is (is_put g op frame part put) tiled k quota queue e f));
     }
 
 pub last_frame : (g : Gathering) (op frame : ℕ) (part : ElementsFields) → IsGathering g → put_fault g op frame part ≡ None → is_last g op part ≡ true → frame ≡ g.next
@@ -313,47 +313,47 @@ op_within g now op frame part e is put =
 -- ---- the elements of the frame's MAP
 
 pub frame_of : (g now : Gathering) (op frame : ℕ) (part : ElementsFields) → g ≡ now → IsGathering g → put_fault now op frame part ≡ None → IsTiled part → is_last now op part ≡ true
-    → AreFrame now.layout now.shares (frame_slices now frame) (frame_parts now op part)
+    → AreFrame now.channel now.quotas (frame_slices now frame) (frame_parts now op part)
 frame_of g now op frame part e is put tiled whole =
     let is' : IsGathering now = subst IsGathering e is in
-    subst (λ (n : ℕ). AreFrame now.layout now.shares (frame_slices now n) (frame_parts now op part)) (sym (last_frame now op frame part is' put whole)) (frame_is_whole now op frame part is' put tiled whole)
+    subst (λ (n : ℕ). AreFrame now.channel now.quotas (frame_slices now n) (frame_parts now op part)) (sym (last_frame now op frame part is' put whole)) (frame_is_whole now op frame part is' put tiled whole)
 
 pub ordered_is : (g now : Gathering) (op frame : ℕ) (part : ElementsFields) (order : List ℕ) (queues : List (List ElementsFields)) (slices : List Minislots) → g ≡ now → IsGathering g → put_fault now op frame part ≡ None → IsTiled part → is_last now op part ≡ true
-    → order ≡ order_of (map (λ slice. slice.start) slices) → slices ≡ slices_at g.slices g.reslicings frame → queues ≡ g.queues → ordered_elements g.layout order queues op part ≡ frame_elements now.layout (frame_parts now op part)
+    → order ≡ order_of (map (λ slice. slice.start) slices) → slices ≡ slices_at g.slices g.reslicings frame → queues ≡ g.queues → ordered_elements g.channel order queues op part ≡ frame_elements now.channel (frame_parts now op part)
 ordered_is g now op frame part order queues slices e is put tiled whole order_is slices_is queues_are =
     let is' : IsGathering now = subst IsGathering e is in
-    let at : op < length now.shares = (is_put now op frame part put).op_is in
+    let at : op < length now.quotas = (is_put now op frame part put).op_is in
     let none : queue_of now.queues op ≡ [] = last_is_first now op part is' at whole in
-    let frame' : AreFrame now.layout now.shares (frame_slices now frame) (frame_parts now op part) = frame_of g now op frame part e is put tiled whole in
+    let frame' : AreFrame now.channel now.quotas (frame_slices now frame) (frame_parts now op part) = frame_of g now op frame part e is put tiled whole in
     let parts : map (part_at now.queues op part) (order_of (map (λ (slice : Minislots). slice.start) (frame_slices now frame))) ≡ in_order (frame_parts now op part) =
-    ordered_parts (frame_parts now op part) (frame_slices now frame) (part_at now.queues op part) part (slices_of_parts now.shares (frame_slices now frame) (frame_parts now op part) frame'.parts_are)
+    ordered_parts (frame_parts now op part) (frame_slices now frame) (part_at now.queues op part) part (slices_of_parts now.quotas (frame_slices now frame) (frame_parts now op part) frame'.parts_are)
     (part_at_is now.queues op part (omega (arith, is'.one_each)) none whole) in
-    ap (λ (ks : List ℕ). ordered_elements g.layout ks queues op part) (order_is ∙ ap (λ (ms : List Minislots). order_of (map (λ (slice : Minislots). slice.start) ms)) slices_is)
-    ∙ (ap (λ (qs : List (List ElementsFields)). ordered_elements g.layout (order_of (map (λ (slice : Minislots). slice.start) (slices_at g.slices g.reslicings frame))) qs op part) queues_are
-    ∙ (ap (λ (h : Gathering). ordered_elements h.layout (order_of (map (λ (slice : Minislots). slice.start) (frame_slices h frame))) h.queues op part) e
-    ∙ ap (λ (ps : List ElementsFields). elements_of_map now.layout.frame_minislots (map_spans now.layout ps) (map_pending ps)) parts))
+    ap (λ (ks : List ℕ). ordered_elements g.channel ks queues op part) (order_is ∙ ap (λ (ms : List Minislots). order_of (map (λ (slice : Minislots). slice.start) ms)) slices_is)
+    ∙ (ap (λ (qs : List (List ElementsFields)). ordered_elements g.channel (order_of (map (λ (slice : Minislots). slice.start) (slices_at g.slices g.reslicings frame))) qs op part) queues_are
+    ∙ (ap (λ (h : Gathering). ordered_elements h.channel (order_of (map (λ (slice : Minislots). slice.start) (frame_slices h frame))) h.queues op part) e
+    ∙ ap (λ (ps : List ElementsFields). elements_of_map now.channel.frame_minislots (map_spans now.channel ps) (map_pending ps)) parts))
 
-pub few_ordered : (layout : Channel) (shares : List Share) (slices : List Minislots) (parts : List ElementsFields) (es : List MapElement) → AreFrame layout shares slices parts → es ≡ frame_elements layout parts → length es ≤ 240
-few_ordered layout shares slices parts es h e = subst (λ (xs : List MapElement). length xs ≤ 240) (sym e) (frame_count layout shares slices parts h)
+pub few_ordered : (channel : Channel) (quotas : List Quota) (slices : List Minislots) (parts : List ElementsFields) (es : List MapElement) → AreFrame channel quotas slices parts → es ≡ frame_elements channel parts → length es ≤ 240
+few_ordered channel quotas slices parts es h e = subst (λ (xs : List MapElement). length xs ≤ 240) (sym e) (frame_count channel quotas slices parts h)
 
-pub fit_ordered : (layout : Channel) (shares : List Share) (slices : List Minislots) (parts : List ElementsFields) (es : List MapElement) → AreFrame layout shares slices parts → es ≡ frame_elements layout parts → All FitsElement es
-fit_ordered layout shares slices parts es h e = All-from_recursion FitsElement es (subst (λ (xs : List MapElement). AllByRecursion FitsElement xs) (sym e) (frame_fits layout shares slices parts h))
+pub fit_ordered : (channel : Channel) (quotas : List Quota) (slices : List Minislots) (parts : List ElementsFields) (es : List MapElement) → AreFrame channel quotas slices parts → es ≡ frame_elements channel parts → All FitsElement es
+fit_ordered channel quotas slices parts es h e = All-from_recursion FitsElement es (subst (λ (xs : List MapElement). AllByRecursion FitsElement xs) (sym e) (frame_fits channel quotas slices parts h))
 
-pub is_map_of : (layout seen : Channel) (frame : ℕ) (shares : List Share) (slices : List Minislots) (parts : List ElementsFields) (es : List MapElement) (bytes : List ℕ) → AreFrame layout shares slices parts → seen ≡ layout → es ≡ frame_elements layout parts
-    → bytes ≡ spelled_map (map_header seen frame (length es)) es → IsMapOf layout frame shares slices parts bytes
-is_map_of layout seen frame shares slices parts es bytes h same e b =
-    let spelled : bytes ≡ bytes_of_map layout frame parts =
+pub is_map_of : (channel seen : Channel) (frame : ℕ) (quotas : List Quota) (slices : List Minislots) (parts : List ElementsFields) (es : List MapElement) (bytes : List ℕ) → AreFrame channel quotas slices parts → seen ≡ channel → es ≡ frame_elements channel parts
+    → bytes ≡ spelled_map (map_header seen frame (length es)) es → IsMapOf channel frame quotas slices parts bytes
+is_map_of channel seen frame quotas slices parts es bytes h same e b =
+    let spelled : bytes ≡ bytes_of_map channel frame parts =
     b ∙ (ap (λ (xs : List MapElement). spelled_map (map_header seen frame (length xs)) xs) e
-    ∙ ap (λ (l : Channel). spelled_map (map_header l frame (length (frame_elements layout parts))) (frame_elements layout parts)) same) in
+    ∙ ap (λ (l : Channel). spelled_map (map_header l frame (length (frame_elements channel parts))) (frame_elements channel parts)) same) in
     record {
       bytes_are = spelled;
-      reads = subst (λ (bs : List ℕ). MapReads bs (map_of layout frame parts)) (sym spelled) (frame_reads layout frame shares slices parts h);
-      tiled = frame_tiled layout shares slices parts h;
-      own = λ k share part e f. frame_part layout frame shares slices parts k share part h e f;
+      reads = subst (λ (bs : List ℕ). MapReads bs (map_of channel frame parts)) (sym spelled) (frame_reads channel frame quotas slices parts h);
+      tiled = frame_tiled channel quotas slices parts h;
+      own = λ k quota part e f. frame_part channel frame quotas slices parts k quota part h e f;
     }
 
-pub layout_seen : (g now : Gathering) → g ≡ now → g.layout ≡ now.layout
-layout_seen g now e = ap (λ (h : Gathering). h.layout) e
+pub layout_seen : (g now : Gathering) → g ≡ now → g.channel ≡ now.channel
+layout_seen g now e = ap (λ (h : Gathering). h.channel) e
 
 pub next_of_last : (g now : Gathering) (op frame : ℕ) (part : ElementsFields) → g ≡ now → IsGathering g → put_fault now op frame part ≡ None → is_last now op part ≡ true → frame ≡ now.next
 next_of_last g now op frame part e is put whole = last_frame now op frame part (subst IsGathering e is) put whole

@@ -5,7 +5,7 @@ use Rattle.slice_scheduler.specs.declared.elements.ElementsFields.{ElementsField
 use Rattle.map_assembly.specs.declared.element.MapElement.{MapElement}
 use Rattle.plant.specs.declared.consts.Channel.{Channel}
 use Rattle.map_assembly.specs.declared.map_bytes.MapBytes.{MapBytes}
-use Rattle.map_assembly.specs.declared.share.Share.{Share}
+use Rattle.map_assembly.specs.declared.quota.Quota.{Quota}
 use Rattle.map_assembly.specs.Reading.{MapReads}
 use Rattle.map_assembly.specs.Writing.{spelled_map}
 use Rattle.map_assembly.specs.Map.{map_of, map_header, map_spans, map_pending, elements_of_map, frame_elements}
@@ -14,25 +14,25 @@ use Rattle.map_assembly.specs.Gathering.{Gathering, frame_slices, is_last, frame
 
 -- the bytes of a frame's MAP: they follow from what MAPs have in common, the frame and the parts alone, to the last bit
 abbrev pub bytes_of_map : Channel → ℕ → List ElementsFields → List ℕ
-bytes_of_map layout frame parts =
-    spelled_map (map_header layout frame (length (frame_elements layout parts))) (frame_elements layout parts)
+bytes_of_map channel frame parts =
+    spelled_map (map_header channel frame (length (frame_elements channel parts))) (frame_elements channel parts)
 
 -- the bytes are the MAP of a frame with these parts: they are spelled so, they say what that MAP says, it gives no minislot
 -- twice, and each operator's part of it is what that operator put
-pub record IsMapOf (layout : Channel) (frame : ℕ) (shares : List Share) (slices : List Minislots) (parts : List ElementsFields) (bytes : List ℕ) : Type 0 where
-  pub bytes_are : bytes ≡ bytes_of_map layout frame parts
-  pub reads : MapReads bytes (map_of layout frame parts)
-  pub tiled : GivesNoMinislotTwice layout.frame_minislots shares slices (map_of layout frame parts).spans
-  pub own : (k : ℕ) (share : Share) (part : ElementsFields) → slice_get shares k ≡ Some share → slice_get parts k ≡ Some part → part_of share.sids (map_of layout frame parts) ≡ own_part part
+pub record IsMapOf (channel : Channel) (frame : ℕ) (quotas : List Quota) (slices : List Minislots) (parts : List ElementsFields) (bytes : List ℕ) : Type 0 where
+  pub bytes_are : bytes ≡ bytes_of_map channel frame parts
+  pub reads : MapReads bytes (map_of channel frame parts)
+  pub tiled : GivesNoMinislotTwice channel.frame_minislots quotas slices (map_of channel frame parts).spans
+  pub own : (k : ℕ) (quota : Quota) (part : ElementsFields) → slice_get quotas k ≡ Some quota → slice_get parts k ≡ Some part → part_of quota.sids (map_of channel frame parts) ≡ own_part part
 
 -- what putting a part answers: nothing where it is not the last one of its frame, else that frame's MAP
 abbrev pub IsAnswer : Gathering → ℕ → ℕ → ElementsFields → Option MapBytes → Type 0
 IsAnswer g op frame part None = is_last g op part ≡ false
 IsAnswer g op frame part (Some made) =
     (is_last g op part ≡ true) × (frame ≡ g.next) × (made.frame ≡ frame)
-    × IsMapOf g.layout frame g.shares (frame_slices g frame) (frame_parts g op part) made.bytes
+    × IsMapOf g.channel frame g.quotas (frame_slices g frame) (frame_parts g op part) made.bytes
 
 -- the elements of a frame's MAP, whose last part is this one of `op`, the operators going in this order
 abbrev pub ordered_elements : Channel → List ℕ → List (List ElementsFields) → ℕ → ElementsFields → List MapElement
-ordered_elements layout order queues op part =
-    elements_of_map layout.frame_minislots (map_spans layout (map (part_at queues op part) order)) (map_pending (map (part_at queues op part) order))
+ordered_elements channel order queues op part =
+    elements_of_map channel.frame_minislots (map_spans channel (map (part_at queues op part) order)) (map_pending (map (part_at queues op part) order))

@@ -5,18 +5,19 @@ use Rattle.slice_scheduler.specs.Minislots.{Minislots}
 use Rattle.slice_scheduler.specs.declared.elements.ElementsFields.{ElementsFields}
 use Rattle.plant.specs.declared.plant.PlantFields.{PlantFields}
 use Rattle.plant.specs.declared.consts.Channel.{Channel}
-use Rattle.map_assembly.specs.declared.share.Share.{Share}
+use Rattle.map_assembly.specs.declared.quota.Quota.{Quota}
 use Rattle.map_assembly.specs.declared.slicing.Reslicing.{Reslicing}
 use Rattle.map_assembly.specs.declared.refused.GatherFault.{GatherFault}
 use Rattle.map_assembly.specs.declared.refused.GatherFault.TheVariants.{Stranger, Old, PutTwice, Early, WrongSlice}
-use Rattle.map_assembly.specs.Part.{share_of, is_fitting, IsPartOf}
-use Rattle.map_assembly.specs.Plan.{IsLayout, AreShares, AreSlices}
+use Rattle.map_assembly.specs.Part.{quota_of, is_fitting, IsPartOf}
+use Rattle.map_assembly.specs.Plan.{AreQuotas, AreSlices}
+use Rattle.plant.specs.Consts.{IsChannel}
 
 -- what the MAPs have in common, what each operator may put, the plant's slices and the later ones, for each operator the
 -- parts that it put and that are in no MAP yet, frame by frame, and the frame whose MAP comes next
 pub record Gathering : Type 0 where
-  pub layout : Channel
-  pub shares : List Share
+  pub channel : Channel
+  pub quotas : List Quota
   pub slices : List Minislots
   pub reslicings : List Reslicing
   pub queues : List (List ElementsFields)
@@ -25,8 +26,8 @@ pub record Gathering : Type 0 where
 -- nothing is put
 abbrev pub gathering_of : PlantFields → Gathering
 gathering_of plant = record {
-  layout = plant.consts.channel;
-  shares = map share_of plant.rows;
+  channel = plant.consts.channel;
+  quotas = map quota_of plant.rows;
   slices = map (λ row. row.slice) plant.rows;
   reslicings = [];
   queues = replicate (length plant.rows) [];
@@ -58,20 +59,20 @@ queue_of queues op = slice_index_or queues op []
 abbrev pub next_of : Gathering → ℕ → ℕ
 next_of g op = g.next + length (queue_of g.queues op)
 
--- whether an operator with this share may put this part for this slice, where there is such an operator
-abbrev pub fits_at : Option Share → Option Minislots → ElementsFields → Bool
-fits_at (Some share) (Some slice) part = is_fitting share slice part
-fits_at share slice part = false
+-- whether an operator with this quota may put this part for this slice, where there is such an operator
+abbrev pub fits_at : Option Quota → Option Minislots → ElementsFields → Bool
+fits_at (Some quota) (Some slice) part = is_fitting quota slice part
+fits_at quota slice part = false
 
 -- whether an operator may put this part for a frame
 abbrev pub is_part : Gathering → ℕ → ℕ → ElementsFields → Bool
-is_part g op frame part = fits_at (slice_get g.shares op) (slice_get (frame_slices g frame) op) part
+is_part g op frame part = fits_at (slice_get g.quotas op) (slice_get (frame_slices g frame) op) part
 
 -- why a part is refused, in the order in which this is tried: there is no such operator; the frame has its MAP, or is before
 -- the first one; the operator has put it; parts of it for earlier frames are missing; it is no part for that frame
 abbrev pub put_fault : Gathering → ℕ → ℕ → ElementsFields → Option GatherFault
 put_fault g op frame part =
-    if nat_le (length g.shares) op then Some Stranger else
+    if nat_le (length g.quotas) op then Some Stranger else
     if nat_lt frame g.next then Some (Old frame) else
     if nat_lt frame (next_of g op) then Some PutTwice else
     if nat_lt (next_of g op) frame then Some (Early frame) else
@@ -112,44 +113,44 @@ frame_out g frame = record g { queues = map (λ queue. drop 1 queue) g.queues; n
 -- ---- what always holds
 
 -- the part is one of the operator for this frame
-pub record IsPartAt (slice : Option Minislots) (share : Share) (part : ElementsFields) : Type 0 where
+pub record IsPartAt (slice : Option Minislots) (quota : Quota) (part : ElementsFields) : Type 0 where
   pub minislots : Minislots
   pub slice_is : slice ≡ Some minislots
-  pub part_is : IsPartOf share minislots part
+  pub part_is : IsPartOf quota minislots part
 
 -- these are parts of an operator for the frames from n on
-abbrev pub AreQueued : (ℕ → Option Minislots) → Share → ℕ → List ElementsFields → Type 0
-AreQueued slice_at share n [] = Unit {0}
-AreQueued slice_at share n (part ∷ parts) = IsPartAt (slice_at n) share part × AreQueued slice_at share (n + 1) parts
+abbrev pub AreQueued : (ℕ → Option Minislots) → Quota → ℕ → List ElementsFields → Type 0
+AreQueued slice_at quota n [] = Unit {0}
+AreQueued slice_at quota n (part ∷ parts) = IsPartAt (slice_at n) quota part × AreQueued slice_at quota (n + 1) parts
 
 -- each operator's parts are for the frames from the next one on
-abbrev pub AreAllQueued : List Minislots → List Reslicing → List Share → List (List ElementsFields) → ℕ → Type 0
-AreAllQueued slices reslicings shares queues next =
-    (k : ℕ) (share : Share) (queue : List ElementsFields) → slice_get shares k ≡ Some share → slice_get queues k ≡ Some queue
-    → AreQueued (λ n. slice_get (slices_at slices reslicings n) k) share next queue
+abbrev pub AreAllQueued : List Minislots → List Reslicing → List Quota → List (List ElementsFields) → ℕ → Type 0
+AreAllQueued slices reslicings quotas queues next =
+    (k : ℕ) (quota : Quota) (queue : List ElementsFields) → slice_get quotas k ≡ Some quota → slice_get queues k ≡ Some queue
+    → AreQueued (λ n. slice_get (slices_at slices reslicings n) k) quota next queue
 
--- what is gathered is valid: its shares and slices are, somebody's part of the next frame is missing, and each operator's parts
+-- what is gathered is valid: its quotas and slices are, somebody's part of the next frame is missing, and each operator's parts
 -- are for the frames from that one on
 pub record IsGathering (g : Gathering) : Type 0 where
-  pub layout_is : IsLayout g.layout
-  pub shares_are : AreShares g.shares
-  pub slices_are : AreSlices g.layout (length g.shares) g.slices
-  pub reslicings_are : All (λ r. AreSlices g.layout (length g.shares) r.slicing) g.reslicings
-  pub one_each : length g.queues ≡ length g.shares
+  pub channel_is : IsChannel g.channel
+  pub quotas_are : AreQuotas g.quotas
+  pub slices_are : AreSlices g.channel (length g.quotas) g.slices
+  pub reslicings_are : All (λ r. AreSlices g.channel (length g.quotas) r.slicing) g.reslicings
+  pub one_each : length g.queues ≡ length g.quotas
   pub waiting : is_whole g.queues ≡ false
-  pub started : g.layout.first_frame ≤ g.next
-  pub queued : AreAllQueued g.slices g.reslicings g.shares g.queues g.next
+  pub started : g.channel.first_frame ≤ g.next
+  pub queued : AreAllQueued g.slices g.reslicings g.quotas g.queues g.next
 
 -- ---- other slices from a frame on
 
 -- an operator with these parts has put none yet, or none of this frame or a later one
 abbrev pub IsPast : Gathering → ℕ → List ElementsFields → Type 0
-IsPast g from queue = g.layout.first_frame < g.next + length queue → g.next + length queue ≤ from
+IsPast g from queue = g.channel.first_frame < g.next + length queue → g.next + length queue ≤ from
 
 -- other slices may be given from a frame on: they are valid, each earlier re-slicing is from an earlier frame on, and each
 -- part put is of an earlier frame
 pub record MayReslice (g : Gathering) (from : ℕ) (slices : List Minislots) : Type 0 where
-  pub slices_are : AreSlices g.layout (length g.shares) slices
+  pub slices_are : AreSlices g.channel (length g.quotas) slices
   pub later : All (λ r. r.from < from) g.reslicings
   pub past : All (IsPast g from) g.queues
 

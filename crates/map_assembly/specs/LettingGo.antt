@@ -6,8 +6,8 @@ use Rattle.map_assembly.specs.Gathering.{Gathering, frame_slices}
 -- all goes on alike: the same parts wait for the same MAPs, some earlier re-slicings may be gone, and each frame to come has
 -- the same slices
 pub record GoesOnAlike (old new : Gathering) : Type 0 where
-  pub layout_is : new.layout ≡ old.layout
-  pub shares_are : new.shares ≡ old.shares
+  pub channel_is : new.channel ≡ old.channel
+  pub quotas_are : new.quotas ≡ old.quotas
   pub queues_are : new.queues ≡ old.queues
   pub next_is : new.next ≡ old.next
   pub left : (gone : List Reslicing) × (old.reslicings ≡ gone ++ new.reslicings)

@@ -37,23 +37,23 @@ filled from end (part ∷ parts) =
 
 -- the spans of a frame with these parts, in the order of their slices
 abbrev pub map_spans : Channel → List ElementsFields → List MapSpan
-map_spans layout parts = head_span layout.head ++ filled layout.head layout.frame_minislots parts
+map_spans channel parts = head_span channel.head ++ filled channel.head channel.frame_minislots parts
 
 -- ---- the header
 
 -- when a frame begins: the minislots before it, as the low bits that a time has
 abbrev pub frame_start : Channel → ℕ → ℕ
-frame_start layout frame = frame * layout.frame_minislots % 2 ^ time_bits
+frame_start channel frame = frame * channel.frame_minislots % 2 ^ time_bits
 
 -- the header of a frame's MAP with so many elements: it answers the requests up to its own beginning
 abbrev pub map_header : Channel → ℕ → ℕ → MapHeader
-map_header layout frame count = record {
-  channel = layout.id;
-  ucd_count = layout.ucd_count;
+map_header channel frame count = record {
+  channel = channel.id;
+  ucd_count = channel.ucd_count;
   elements = count;
-  alloc_start = frame_start layout frame;
-  ack_time = frame_start layout frame;
-  backoffs = layout.backoffs;
+  alloc_start = frame_start channel frame;
+  ack_time = frame_start channel frame;
+  backoffs = channel.backoffs;
 }
 
 -- ---- the whole
@@ -69,15 +69,15 @@ in_order parts = sorted_by (λ part. part.slice.start) parts
 -- the view of a frame's MAP with these parts in the order of their slices; its elements are the spans, the Null and the
 -- grants pending
 abbrev pub ordered_map : Channel → ℕ → List ElementsFields → MapView
-ordered_map layout frame parts = record {
-  header = map_header layout frame (length (map_spans layout parts) + 1 + length (map_pending parts));
-  spans = map_spans layout parts;
+ordered_map channel frame parts = record {
+  header = map_header channel frame (length (map_spans channel parts) + 1 + length (map_pending parts));
+  spans = map_spans channel parts;
   pending = map_pending parts;
 }
 
 -- what the MAP of a frame says, given the part of each operator
 abbrev pub map_of : Channel → ℕ → List ElementsFields → MapView
-map_of layout frame parts = ordered_map layout frame (in_order parts)
+map_of channel frame parts = ordered_map channel frame (in_order parts)
 
 -- ---- its elements
 
@@ -91,5 +91,5 @@ elements_of_map end spans sids = map element_of_span spans ++ null_at end ∷ ma
 
 -- the elements of a frame's MAP, given the part of each operator
 abbrev pub frame_elements : Channel → List ElementsFields → List MapElement
-frame_elements layout parts =
-    elements_of_map layout.frame_minislots (map_spans layout (in_order parts)) (map_pending (in_order parts))
+frame_elements channel parts =
+    elements_of_map channel.frame_minislots (map_spans channel (in_order parts)) (map_pending (in_order parts))

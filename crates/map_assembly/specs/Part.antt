@@ -6,12 +6,12 @@ use Rattle.slice_scheduler.specs.Minislots.{Minislots}
 use Rattle.slice_scheduler.specs.Tiles.{IsTiled}
 use Rattle.slice_scheduler.specs.declared.elements.ElementsFields.{ElementsFields}
 use Rattle.plant.specs.declared.operator_row.RowFields.{RowFields}
-use Rattle.map_assembly.specs.declared.share.Share.{Share}
+use Rattle.map_assembly.specs.declared.quota.Quota.{Quota}
 use Rattle.map_assembly.specs.Wire.{nobodys_sid}
 
--- the share of a row's operator
-abbrev pub share_of : RowFields → Share
-share_of row = record { sids = row.sids; elements = row.elements }
+-- the quota of a row's operator
+abbrev pub quota_of : RowFields → Quota
+quota_of row = record { sids = row.sids; elements = row.elements }
 
 -- a number of the range
 abbrev pub is_within : Numbers → ℕ → Bool
@@ -27,20 +27,20 @@ is_slice slice other = slice.start == other.start && slice.length == other.lengt
 
 -- elements that an operator may put where this slice is its own: of that slice, with its own SIDs or nobody's, and no more
 -- than its quota and one, idle spans and grants pending included
-abbrev pub is_fitting : Share → Minislots → ElementsFields → Bool
-is_fitting share slice part =
+abbrev pub is_fitting : Quota → Minislots → ElementsFields → Bool
+is_fitting quota slice part =
     is_slice part.slice slice
-    && list_all (λ span. is_mine share.sids span.sid) part.spans
-    && list_all (λ sid. is_mine share.sids sid) part.pending
-    && nat_le (length part.spans + length part.pending) (share.elements + 1)
+    && list_all (λ span. is_mine quota.sids span.sid) part.spans
+    && list_all (λ sid. is_mine quota.sids sid) part.pending
+    && nat_le (length part.spans + length part.pending) (quota.elements + 1)
 
 -- the part of a frame's MAP of an operator
-pub record IsPartOf (share : Share) (slice : Minislots) (part : ElementsFields) : Type 0 where
-  pub fits : is_fitting share slice part ≡ true
+pub record IsPartOf (quota : Quota) (slice : Minislots) (part : ElementsFields) : Type 0 where
+  pub fits : is_fitting quota slice part ≡ true
   pub tiled : IsTiled part
 
 -- the parts of all operators, in the plant's order
-abbrev pub ArePartsOf : List Share → List Minislots → List ElementsFields → Type 0
+abbrev pub ArePartsOf : List Quota → List Minislots → List ElementsFields → Type 0
 ArePartsOf [] [] [] = Unit {0}
-ArePartsOf (share ∷ shares) (slice ∷ slices) (part ∷ parts) = IsPartOf share slice part × ArePartsOf shares slices parts
-ArePartsOf shares slices parts = ⊥
+ArePartsOf (quota ∷ quotas) (slice ∷ slices) (part ∷ parts) = IsPartOf quota slice part × ArePartsOf quotas slices parts
+ArePartsOf quotas slices parts = ⊥

@@ -2,7 +2,7 @@
 use Rattle.std.specs.Prelude.{◌≡◌, ℕ, ◌+◌, ◌<◌, ◌≤◌, nat_lt, nat_le, ◌&&◌, Bool, true, not, ◌==◌, List, map, All, count_by, filter, slice_get, Some}
 use Rattle.admission.specs.Free.{Numbers}
 use Rattle.slice_scheduler.specs.Minislots.{Minislots}
-use Rattle.map_assembly.specs.declared.share.Share.{Share}
+use Rattle.map_assembly.specs.declared.quota.Quota.{Quota}
 use Rattle.map_assembly.specs.declared.view.MapSpan.{MapSpan}
 use Rattle.map_assembly.specs.declared.view.MapView.{MapView}
 use Rattle.slice_scheduler.specs.declared.elements.ElementsFields.{ElementsFields}
@@ -29,9 +29,9 @@ IsOwn range slice span = is_within range span.sid ≡ true → LiesIn slice span
 
 -- each minislot of a frame is one of exactly one span, a span with a SID of an operator lies in that operator's slice, and
 -- no span touches two slices
-pub record GivesNoMinislotTwice (frame_minislots : ℕ) (shares : List Share) (slices : List Minislots) (spans : List MapSpan) : Type 0 where
+pub record GivesNoMinislotTwice (frame_minislots : ℕ) (quotas : List Quota) (slices : List Minislots) (spans : List MapSpan) : Type 0 where
   pub once : (m : ℕ) → m < frame_minislots → count_by (holds m) spans ≡ 1
-  pub own : (k : ℕ) (share : Share) (slice : Minislots) → slice_get shares k ≡ Some share → slice_get slices k ≡ Some slice → All (IsOwn share.sids slice) spans
+  pub own : (k : ℕ) (quota : Quota) (slice : Minislots) → slice_get quotas k ≡ Some quota → slice_get slices k ≡ Some slice → All (IsOwn quota.sids slice) spans
   pub apart : All (λ span. count_by (λ slice. touches slice span) slices ≤ 1) spans
 
 -- ---- an operator's part of a MAP

@@ -11,7 +11,7 @@ ghost use Rattle.map_assembly.specs.Gathering.{part_at};
 ghost use Rattle.map_assembly.specs.Assembled.{ordered_elements};
 
 use crate::element::MapElement;
-use crate::layout::header_of;
+use crate::header::header_of;
 use crate::queue::{Queue, part_at};
 use crate::wire::ELEMENT_LIMIT;
 use crate::writing::{push_head, push_idle, push_null, push_pending, push_spans, write_map};
@@ -22,17 +22,17 @@ use std::alloc::{AllocError, Global};
 /// Adds the spans behind the head: those of each operator in this order, and the minislots that no slice holds.
 fn push_filled(
     list: &mut Vec<MapElement>,
-    layout: Channel,
+    channel: Channel,
     order: &[usize],
     queues: &[Queue],
     op: Op,
     part: &Elements,
 ) -> Result<(), AllocError>
     ensures { OnOk result (list.new.items ≡ list.old.items
-        ++ map element_of_span (filled layout.head layout.frame_minislots
+        ++ map element_of_span (filled channel.head channel.frame_minislots
         (map (part_at queues.now op part.now) order.now))) }
 {
-    let mut from = layout.head;
+    let mut from = channel.head;
     for k in order {
         let elements = part_at(queues, op, part, *k);
         let slice = elements.get_slice();
@@ -40,7 +40,7 @@ fn push_filled(
         push_spans(list, elements)?;
         from = slice.get_start() + slice.get_length();
     }
-    push_idle(list, from, layout.frame_minislots)
+    push_idle(list, from, channel.frame_minislots)
 }
 
 /// Adds the grants pending of each operator in this order.
@@ -64,39 +64,39 @@ fn push_all_pending(
 /// The elements of the MAP whose last part is this one of `op`, the operators going in this order.
 fn ordered_elements(
     alloc: Global,
-    layout: Channel,
+    channel: Channel,
     order: &[usize],
     queues: &[Queue],
     op: Op,
     part: &Elements,
 ) -> Result<Vec<MapElement>, AllocError>
-    ensures { IfOk result (λ list. list.items ≡ ordered_elements layout order.now queues.now op part.now) }
+    ensures { IfOk result (λ list. list.items ≡ ordered_elements channel order.now queues.now op part.now) }
 {
     let mut list = Vec::with_capacity(alloc, ELEMENT_LIMIT)?;
-    push_head(&mut list, layout.head)?;
-    push_filled(&mut list, layout, order, queues, op, part)?;
-    push_null(&mut list, layout.frame_minislots)?;
-    push_all_pending(&mut list, layout.frame_minislots, order, queues, op, part)?;
+    push_head(&mut list, channel.head)?;
+    push_filled(&mut list, channel, order, queues, op, part)?;
+    push_null(&mut list, channel.frame_minislots)?;
+    push_all_pending(&mut list, channel.frame_minislots, order, queues, op, part)?;
     Ok(list)
 }
 
 /// The bytes of a frame's MAP whose last part is this one of `op`, the operators going in this order.
 pub(crate) fn map_bytes(
     alloc: Global,
-    layout: Channel,
+    channel: Channel,
     frame: u32,
     order: &[usize],
     queues: &[Queue],
     op: Op,
     part: &Elements,
 ) -> Result<Vec<u8>, AllocError>
-    requires few { length (ordered_elements layout order.now queues.now op part.now) ≤ element_limit }
-    requires fit { All FitsElement (ordered_elements layout order.now queues.now op part.now) }
+    requires few { length (ordered_elements channel order.now queues.now op part.now) ≤ element_limit }
+    requires fit { All FitsElement (ordered_elements channel order.now queues.now op part.now) }
     ensures { IfOk result (λ bytes. bytes.items
-        ≡ spelled_map (map_header layout frame (length (ordered_elements layout order.now queues.now op part.now)))
-        (ordered_elements layout order.now queues.now op part.now)) }
+        ≡ spelled_map (map_header channel frame (length (ordered_elements channel order.now queues.now op part.now)))
+        (ordered_elements channel order.now queues.now op part.now)) }
 {
-    let list = ordered_elements(alloc, layout, order, queues, op, part)?;
-    let header = header_of(layout, frame, list.len() as u8);
+    let list = ordered_elements(alloc, channel, order, queues, op, part)?;
+    let header = header_of(channel, frame, list.len() as u8);
     write_map(alloc, header, list.as_slice())
 }

@@ -38,23 +38,23 @@ fn no_two_overlap(slices: &[Slice]) -> bool
 }
 
 /// Whether a slice lies in the frame, behind the head.
-fn is_in_frame(layout: Channel, slice: Slice) -> bool
-    ensures { IsTrue result ↔ IsInFrame layout slice }
+fn is_in_frame(channel: Channel, slice: Slice) -> bool
+    ensures { IsTrue result ↔ IsInFrame channel slice }
 {
     let end = slice.get_start() + slice.get_length();
-    layout.head <= slice.get_start() && end <= layout.frame_minislots
+    channel.head <= slice.get_start() && end <= channel.frame_minislots
 }
 
 /// Whether each slice lies in the frame, behind the head.
-fn all_in_frame(layout: Channel, slices: &[Slice]) -> bool
-    ensures { IsTrue result ↔ All (IsInFrame layout) slices.now }
+fn all_in_frame(channel: Channel, slices: &[Slice]) -> bool
+    ensures { IsTrue result ↔ All (IsInFrame channel) slices.now }
 {
-    slices.iter().all(|slice| is_in_frame(layout, *slice))
+    slices.iter().all(|slice| is_in_frame(channel, *slice))
 }
 
 /// Whether these are valid slices of so many operators.
-pub(crate) fn are_slices(layout: Channel, count: usize, slices: &[Slice]) -> bool
-    ensures { IsTrue result ↔ AreSlices layout count slices.now }
+pub(crate) fn are_slices(channel: Channel, count: usize, slices: &[Slice]) -> bool
+    ensures { IsTrue result ↔ AreSlices channel count slices.now }
 {
-    slices.len() == count && all_in_frame(layout, slices) && no_two_overlap(slices)
+    slices.len() == count && all_in_frame(channel, slices) && no_two_overlap(slices)
 }

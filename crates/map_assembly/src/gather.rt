@@ -4,7 +4,7 @@ ghost use Rattle.std.specs.Prelude.{◌≡◌, ◌≢◌, ◌↔◌, ℕ, ◌+�
 ghost use Rattle.slice_scheduler.specs.Minislots.{Minislots};
 ghost use Rattle.slice_scheduler.specs.Tiles.{IsTiled};
 ghost use Rattle.slice_scheduler.specs.declared.elements.ElementsFields.{ElementsFields};
-ghost use Rattle.map_assembly.specs.Part.{share_of};
+ghost use Rattle.map_assembly.specs.Part.{quota_of};
 ghost use Rattle.map_assembly.specs.Gathering.{gathering_of, fits_at, queue_of, put_fault, with_part, is_whole, is_last, after_put, frame_out, next_of, frame_slices, frame_parts, MayReslice, resliced, IsGathering};
 ghost use Rattle.map_assembly.specs.Assembled.{IsMapOf, IsAnswer};
 ghost use Rattle.map_assembly.specs.LettingGo.{has_begun, GoesOnAlike};
@@ -15,8 +15,8 @@ use crate::assembling::map_bytes;
 use crate::checking::are_slices;
 use crate::map_bytes::MapBytes;
 use crate::queue::{Queue, is_whole};
+use crate::quota::Quota;
 use crate::refused::{GatherFault, Refused};
-use crate::share::Share;
 use crate::slicing::{Reslicing, Slicing, slices_at};
 use plant::{Channel, Op, OperatorRow, Plant};
 use slice_scheduler::{Elements, Slice};
@@ -28,8 +28,8 @@ use tlv24::Bytes;
 /// frame on. Contracts see what is gathered.
 #[derive(Debug, Drop)]
 pub struct Gather {
-    layout: Channel,
-    shares: Vec<Share>,
+    channel: Channel,
+    quotas: Vec<Quota>,
     slices: Slicing,
     reslicings: Vec<Reslicing>,
     queues: Vec<Queue>,
@@ -41,17 +41,31 @@ impl Model for Gather {
 
     ghost Value = { Gathering };
 
-    ghost view = { λ g. record { layout = g.layout; shares = g.shares.items; slices = g.slices; reslicings = g.reslicings.items; queues = g.queues.items; next = g.next } };
+    ghost view = { λ g. record {
+      channel = g.channel;
+      quotas = g.quotas.items;
+      slices = g.slices;
+      reslicings = g.reslicings.items;
+      queues = g.queues.items;
+      next = g.next;
+    } };
 
-    ghost invariant = { λ g. IsGathering (record { layout = g.layout; shares = g.shares.items; slices = g.slices; reslicings = g.reslicings.items; queues = g.queues.items; next = g.next }) };
+    ghost invariant = { λ g. IsGathering (record {
+      channel = g.channel;
+      quotas = g.quotas.items;
+      slices = g.slices;
+      reslicings = g.reslicings.items;
+      queues = g.queues.items;
+      next = g.next;
+    }) };
 }
 
-/// Whether an operator with these shares may put a part where these are the slices.
-fn fits_at(shares: &[Share], slices: &[Slice], op: Op, part: &Elements) -> bool
-    ensures { result ≡ fits_at (slice_get shares.now op) (slice_get slices.now op) part.now }
+/// Whether an operator with these quotas may put a part where these are the slices.
+fn fits_at(quotas: &[Quota], slices: &[Slice], op: Op, part: &Elements) -> bool
+    ensures { result ≡ fits_at (slice_get quotas.now op) (slice_get slices.now op) part.now }
 {
-    match (shares.get(op), slices.get(op)) {
-        (Some(share), Some(slice)) => share.fits(*slice, part),
+    match (quotas.get(op), slices.get(op)) {
+        (Some(quota), Some(slice)) => quota.fits(*slice, part),
         _ => false,
     }
 }
@@ -84,10 +98,10 @@ fn drop_fronts(queues: &mut [Queue])
 }
 
 /// What each operator may put.
-fn shares_of(alloc: Global, rows: &[OperatorRow]) -> Result<Vec<Share>, AllocError>
-    ensures { IfOk result (λ shares. shares.items ≡ map share_of rows.now) }
+fn quotas_of(alloc: Global, rows: &[OperatorRow]) -> Result<Vec<Quota>, AllocError>
+    ensures { IfOk result (λ quotas. quotas.items ≡ map quota_of rows.now) }
 {
-    rows.iter().map(Share::of).collect(alloc)
+    rows.iter().map(Quota::of).collect(alloc)
 }
 
 /// The slice of an operator.
@@ -159,12 +173,12 @@ impl Gather {
         let rows = plant.rows();
         let fields = plant.consts().get_fields();
         let first_frame = fields.channel.first_frame;
-        let shares = shares_of(alloc, rows)?;
+        let quotas = quotas_of(alloc, rows)?;
         let slices = Slicing::new(alloc, slices_of(alloc, rows)?)?;
         let queues = no_queues(alloc, rows.len())?;
         Ok(Gather {
-            layout: fields.channel,
-            shares,
+            channel: fields.channel,
+            quotas,
             slices,
             reslicings: Vec::new(alloc),
             queues,
@@ -176,7 +190,7 @@ impl Gather {
     fn fault_of(&self, op: Op, frame: u32, part: &Elements) -> Option<GatherFault>
         ensures { result ≡ put_fault self.now op frame part.now }
     {
-        if op >= self.shares.len() {
+        if op >= self.quotas.len() {
             return Some(GatherFault::Stranger);
         }
         if (frame as u64) < self.next {
@@ -191,7 +205,7 @@ impl Gather {
             return Some(GatherFault::Early { frame });
         }
         let slicing = slices_at(&self.slices, self.reslicings.as_slice(), frame);
-        if fits_at(self.shares.as_slice(), slicing.as_slice(), op, part) {
+        if fits_at(self.quotas.as_slice(), slicing.as_slice(), op, part) {
             None
         } else {
             Some(GatherFault::WrongSlice)
@@ -205,7 +219,7 @@ impl Gather {
         ensures ok { OnOk result (self.new ≡ after_put self.old op elements) }
         ensures err { IfErr result (λ back. (back ≡ elements) × (self.new ≡ self.old)) }
     {
-        elements.kept();
+        elements.always();
         let queue = &mut self.queues[op];
         match queue.push(elements) {
             Ok(()) => Ok(()),
@@ -226,13 +240,21 @@ impl Gather {
         ensures next { frame ≡ self.now.next }
         ensures valid { IsGathering (frame_out self.now frame) }
         ensures after { frame_out self.now frame ≡ after_put self.now op part.now }
-        ensures bytes { IfOk result (λ bytes. IsMapOf self.now.layout frame self.now.shares
+        ensures bytes { IfOk result (λ bytes. IsMapOf self.now.channel frame self.now.quotas
             (frame_slices self.now frame) (frame_parts self.now op part.now) bytes.items) }
     {
-        part.kept();
+        part.always();
         let slicing = slices_at(&self.slices, self.reslicings.as_slice(), frame);
         let queues = self.queues.as_slice();
-        map_bytes(alloc, self.layout, frame, slicing.order(), queues, op, part)
+        map_bytes(
+            alloc,
+            self.channel,
+            frame,
+            slicing.order(),
+            queues,
+            op,
+            part,
+        )
     }
 
     /// Takes the parts of a frame out once its MAP is made.
@@ -246,7 +268,7 @@ impl Gather {
 
     /// Whether a part of this operator is the last one of its frame.
     fn is_last(&self, op: Op) -> bool
-        requires { op < length self.now.shares }
+        requires { op < length self.now.quotas }
         ensures { (part : ElementsFields) → result ≡ is_last self.now op part }
     {
         is_last(self.queues.as_slice(), op)
@@ -303,10 +325,10 @@ impl Gather {
     }
 
     /// What always holds of what is gathered, for a caller's proof. Does nothing.
-    pub fn kept(&self)
+    pub fn always(&self)
         ensures { IsGathering self.now }
     {
-        let _ = &self.layout;
+        let _ = &self.channel;
     }
 
     /// Whether other slices may be given from a frame on: they are valid slices, one for each operator in the plant's order,
@@ -314,10 +336,10 @@ impl Gather {
     pub fn may_reslice(&self, from: u32, slices: &[Slice]) -> bool
         ensures { IsTrue result ↔ MayReslice self.now from slices.now }
     {
-        are_slices(self.layout, self.shares.len(), slices)
+        are_slices(self.channel, self.quotas.len(), slices)
             && all_earlier(self.reslicings.as_slice(), from)
             && all_past(
-                self.layout.first_frame,
+                self.channel.first_frame,
                 self.next,
                 self.queues.as_slice(),
                 from,

@@ -3,10 +3,10 @@
 ghost use Rattle.std.specs.Prelude.{◌≡◌};
 ghost use Rattle.map_assembly.specs.declared.view.MapFault.TheVariants.{NoMemory};
 
+use lists::Listed;
 use plant::Backoffs;
 use slice_scheduler::Sids;
 use std::alloc::{AllocError, AllocFailed};
-use std::marker::Model;
 
 /// The header of a MAP.
 #[derive(Clone, Copy, Debug, PartialEq, Eq)]
@@ -38,36 +38,8 @@ pub struct MapSpan {
     pub len: u16,
 }
 
-/// Spans of a MAP, seen by contracts as their list.
-#[derive(Debug, Drop)]
-pub struct MapSpans {
-    spans: Vec<MapSpan>,
-}
-
-impl Model for MapSpans {
-    ghost use Rattle.std.specs.Prelude.{List};
-    ghost use Rattle.map_assembly.specs.declared.view.MapSpan.{MapSpan};
-
-    ghost Value = { List MapSpan };
-
-    ghost view = { λ s. s.spans.items };
-}
-
-impl MapSpans {
-    /// These spans, without a copy.
-    pub fn from_vec(spans: Vec<MapSpan>) -> MapSpans
-        ensures { result ≡ spans.items }
-    {
-        MapSpans { spans }
-    }
-
-    /// The spans in place.
-    pub fn as_slice(&self) -> &[MapSpan]
-        ensures { result.now ≡ self.now }
-    {
-        self.spans.as_slice()
-    }
-}
+/// Spans of a MAP.
+pub type MapSpans = Listed<MapSpan>;
 
 /// What a MAP says.
 #[derive(Debug, Drop)]

@@ -1,10 +1,11 @@
 -- What a book's machine holds beside its state (own).
-use Rattle.std.specs.Prelude.{◌≡◌, ◌≢◌, IfSome}
+use Rattle.std.specs.Prelude.{◌≡◌, ◌≢◌, All, IfSome}
+use Rattle.admission.specs.Free.{IsIn}
 use Rattle.dsx_messages.specs.declared.kind.Kind.TheVariants.{Dsd}
 use Rattle.dsx_messages.specs.declared.fault.MessageFault.{MessageFault}
 use Rattle.dsx_messages.specs.declared.fault.MessageFault.TheVariants as faults
 use Rattle.dsx_messages.specs.WellFormed.{Names}
-use Rattle.flow_table.specs.Table.{FlowTable, MayStand}
+use Rattle.flow_table.specs.Table.{FlowTable, MayStand, sids_of}
 use Rattle.plant.specs.declared.consts.ConstsFields.{ConstsFields}
 use Rattle.plant.specs.declared.operator_row.RowFields.{RowFields}
 use Rattle.transactions.specs.Keeping.{Keeping}
@@ -23,6 +24,10 @@ pub record IsMachine (consts : ConstsFields) (row : RowFields) (flows : FlowTabl
 -- the machine's flows as a table
 abbrev pub table_of : Operator → FlowTable
 table_of m = record { capacity = m.row.flows; units = m.consts.units; flows = m.state.flows }
+
+-- the SIDs of the flows are of the row's range
+abbrev pub HasOwnSids : Operator → Type 0
+HasOwnSids m = All (IsIn m.row.sids) (sids_of m.state.flows)
 
 -- a flow that is to be put may stand
 abbrev pub MayPut : FlowTable → Verdict → Type 0

@@ -3,10 +3,10 @@
 ghost use Rattle.std.specs.Prelude.{◌≡◌, ◌≢◌, find, Some, None, Ok, Err, IfOk, MatchResult};
 ghost use Rattle.std.specs.Option.{option_copied};
 ghost use Rattle.std.specs.List.{list_all};
-ghost use Rattle.dsx_messages.specs.declared.kind.Kind.TheVariants.{Dsa, Dsc, Dsd};
+ghost use Rattle.dsx_messages.specs.declared.kind.Kind.TheVariants.{Dsc, Dsd};
 ghost use Rattle.flow_table.specs.Table.{flow_at};
 ghost use Rattle.operator_book.specs.Over.{asked_over};
-ghost use Rattle.operator_machine.specs.Asked.{is_unclassed, number_in, is_same, first_of, first_encoding, free_flow, set_over_class, set_of, is_change, asked_by_type, asked_by_one, in_order, asked_by_two, asked_sets, failing_active, failing_admitted, nested_sets, addition_of, change_of};
+ghost use Rattle.operator_machine.specs.Asked.{is_unclassed, number_in, is_same, first_of, first_encoding, free_flow, set_over_class, set_of, is_change, asked_by_type, asked_by_one, in_order, asked_by_two, asked_sets, failing_active, nested_sets, addition_of, change_of};
 
 use crate::refusal::{refusal, refusal_naming};
 use dsx_messages::{Code, Kind, Reply};

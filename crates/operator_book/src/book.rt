@@ -1,6 +1,6 @@
 //! The book: one operator's machine, its history, and the ranking of its flows.
 
-ghost use Rattle.std.specs.Prelude.{◌≡◌, ◌≢◌, ◌↔◌, ◌+◌, ◌<◌, ◌≤◌, true, [], length, Err, Some, None, IfOk, OnOk, OnErr};
+ghost use Rattle.std.specs.Prelude.{◌≡◌, ◌≢◌, ◌↔◌, ◌<◌, ◌≤◌, true, length, Err, Some, None, IfOk, OnOk, OnErr};
 ghost use Rattle.dsx_messages.specs.declared.modem.Modem.{Modem};
 ghost use Rattle.plant.specs.Row.{IsRowOf};
 ghost use Rattle.operator_machine.specs.declared.action.Unfit.{Unfit};
@@ -203,18 +203,18 @@ impl Book {
     }
 
     /// A law: the state is the replay of the history, and each entry's outputs are the run's.
-    pub fn replay(&self)
+    pub fn always_replayed(&self)
         ensures { IsReplayed self.now.kept.book }
     {
-        self.kept.kept();
+        self.kept.always();
     }
 
     /// A law: the state is sound. A flow's SFID and SID lie in the row's ranges and are its own; flows, kept responses and
     /// inbox never pass the row's limits; what is committed never passes the quota, nor the budget in force, nor one that
     /// waits for its frame.
-    pub fn sound(&self)
+    pub fn always_sound(&self)
         ensures { IsSound self.now.kept.book }
     {
-        self.kept.kept();
+        self.kept.always();
     }
 }

@@ -9,6 +9,7 @@ ghost use Rattle.operator_book.specs.MostOutputs.{most_outputs_of};
 use crate::book::BookFault;
 use crate::machine::Machine;
 use operator_machine::Action;
+use plant::is_listed;
 
 impl Machine {
     /// Whether this is a tick past the last frame.
@@ -37,7 +38,7 @@ impl Machine {
     {
         match action {
             Action::Arrive { modem, heard: _ } => {
-                if self.row.get_fields().modems.contains(*modem) {
+                if is_listed(*modem, self.row.get_fields().modems.as_slice()) {
                     Ok(())
                 } else {
                     Err(BookFault::NotMine { modem: *modem })

@@ -2,6 +2,7 @@
 //! machine alone, at work with no history.
 #![tactic(auto)]
 
+mod answering;
 mod asked;
 mod book;
 mod handling;

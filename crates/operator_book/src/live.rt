@@ -12,7 +12,6 @@ ghost use Rattle.operator_book.specs.MostOutputs.{most_outputs_of};
 
 use crate::book::{BookFault, OpenFault};
 use crate::machine::{Both, Machine};
-use crate::state_view::StateView;
 use grant_policy::Ranking;
 use operator_machine::{Action, Output, SliceRow, Unfit, opened_is_sound, step_keeps_sound};
 use plant::{Consts, OperatorRow};
@@ -86,13 +85,6 @@ impl SoundMachine {
     {
         step_keeps_sound();
         self.machine.reslice(from, row);
-    }
-
-    /// What always holds, for a caller's proof. Does nothing.
-    fn always(&self)
-        ensures { IsSound self.now }
-    {
-        let _ = &self.machine;
     }
 }
 
@@ -180,21 +172,5 @@ impl Live {
         ensures { result ≡ is_spent self.now.sound.state action.now }
     {
         self.sound.machine.is_spent(action)
-    }
-
-    /// A copy of the state.
-    pub fn state_view(&self, alloc: Global) -> Result<StateView, AllocError>
-        ensures { IfOk result (λ view. view ≡ self.now.sound.state) }
-    {
-        self.sound.machine.state_view(alloc)
-    }
-
-    /// A law: the state is sound. A flow's SFID and SID lie in the row's ranges and are its own; flows, kept responses and
-    /// inbox never pass the row's limits; what is committed never passes the quota, nor the budget in force, nor one that
-    /// waits for its frame.
-    pub fn sound(&self)
-        ensures { IsSound self.now.sound }
-    {
-        self.sound.always();
     }
 }

@@ -78,7 +78,7 @@ impl Logged {
         ensures outputs { IfOk result (λ outputs. outputs.items ≡ outputs_of self.old.book action) }
         ensures err { OnErr result (self.new.book ≡ self.old.book) }
     {
-        self.kept();
+        self.always();
         room_for_one(&mut self.history)?;
         let both = self.machine.step(alloc, true, ranking, &action)?;
         self.history.push_reserved(Entry {
@@ -111,7 +111,7 @@ impl Logged {
     }
 
     /// What always holds, for a caller's proof. Does nothing.
-    pub(crate) fn kept(&self)
+    pub(crate) fn always(&self)
         ensures replay { IsReplayed self.now.book }
         ensures sound { IsSound self.now.book }
     {

@@ -66,7 +66,7 @@ fn put_provision(
         return Ok(());
     };
     let sid = sid_for(row, flows, sets);
-    flows.kept();
+    flows.always();
     let flow = opened_flow(
         consts.get_fields().channel.first_frame,
         provision.modem,

@@ -1,6 +1,6 @@
 //! One step of a machine.
 
-ghost use Rattle.std.specs.Prelude.{◌≡◌, false, None, IfOk, OnOk, OnErr};
+ghost use Rattle.std.specs.Prelude.{◌≡◌, false, None};
 ghost use Rattle.operator_machine.specs.Machine.{is_spent, unfit_of, own_step};
 ghost use Rattle.operator_machine.specs.Sound.{IsSound};
 ghost use Rattle.operator_book.specs.Does.{Does};

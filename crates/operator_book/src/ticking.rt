@@ -1,7 +1,6 @@
 //! A tick: the timers, the frame, and the next frame's share.
 
-ghost use Rattle.std.specs.Prelude.{◌≡◌, ◌<◌, ◌≤◌, ◌+◌, [], ◌∷◌, ◌++◌, map, length, IfOk, OnOk, OnErr, vec_len, vec_capacity};
-ghost use Rattle.transactions.specs.Timers.{resent_in, given_up_in};
+ghost use Rattle.std.specs.Prelude.{◌≡◌, ◌<◌, ◌≤◌, ◌+◌, [], ◌∷◌, ◌++◌, map, length, IfOk, vec_capacity};
 ghost use Rattle.operator_machine.specs.declared.output.Output.TheVariants as outputs;
 ghost use Rattle.flow_table.specs.Flow.{granted};
 ghost use Rattle.operator_machine.specs.Frame.{ticked, resent, all_undone, all_granted, share_at, next_at};

@@ -1,12 +1,12 @@
 //! What becomes of a request: the checks that ask for room.
 
-ghost use Rattle.std.specs.Prelude.{◌≡◌, ◌<◌, ◌≤◌, IfOk, IfSome, Some, All, length};
-ghost use Rattle.admission.specs.Free.{IsIn, IsLeastFree};
+ghost use Rattle.std.specs.Prelude.{◌≡◌, ◌<◌, ◌≤◌, IfSome, Some, length};
+ghost use Rattle.admission.specs.Free.{IsLeastFree};
 ghost use Rattle.dsx_messages.specs.declared.kind.Kind.TheVariants.{Dsd};
 ghost use Rattle.flow_table.specs.Table.{flow_at, sids_of, MayStand};
 ghost use Rattle.operator_machine.specs.Asked.{transaction, free_flow};
 ghost use Rattle.operator_machine.specs.Verdict.{added, added_under, changed_with, changed, verdict, limit_of, no_room, new_flow, added_reply, changed_flow, changed_reply, wants_sid, deletion_verdict};
-ghost use Rattle.operator_book.specs.Held.{table_of, MayPut};
+ghost use Rattle.operator_book.specs.Held.{table_of, HasOwnSids, MayPut};
 ghost use Rattle.operator_book.specs.Running.{put_within_limit, addition_verdict, change_verdict};
 
 use crate::asked::{addition_of, change_of, free_flow};
@@ -190,7 +190,7 @@ impl Machine {
         let (Some(sfid), Some(sid)) = (sfid, sid) else {
             return no_room(Kind::Dsa, tid);
         };
-        self.flows.kept();
+        self.flows.always();
         let sid = self.sid_of(sid);
         let flow = new_flow(modem, self.frame, addition.sets, sid);
         let reply = added_reply(tid, addition.reference, sfid, sid);
@@ -217,7 +217,7 @@ impl Machine {
         ensures value { result ≡ changed self.now tid change.now }
         ensures puts { MayPut (table_of self.now) result }
     {
-        self.flows.kept();
+        self.flows.always();
         if !wants_sid(change) {
             return self.changed_with(tid, change, change.flow.sid, false);
         }
@@ -246,7 +246,7 @@ impl Machine {
 
     /// What becomes of a change.
     fn change_verdict(&self, modem: Modem, tid: u16, encodings: &[FlowTlv]) -> Verdict
-        requires { All (IsIn self.now.row.sids) (sids_of self.now.state.flows) }
+        requires { HasOwnSids self.now }
         ensures value { result ≡ change_verdict self.now modem tid encodings.now }
         ensures puts { MayPut (table_of self.now) result }
     {
@@ -292,7 +292,7 @@ impl Machine {
     #[tactic(auto, unfolding(operator_machine::specs::Verdict::verdict))]
     #[inline(always)]
     pub(crate) fn verdict(&self, modem: Modem, request: &Request) -> Verdict
-        requires { All (IsIn self.now.row.sids) (sids_of self.now.state.flows) }
+        requires { HasOwnSids self.now }
         ensures value { result ≡ verdict self.now modem request.now }
         ensures puts { MayPut (table_of self.now) result }
     {

@@ -9,4 +9,5 @@ pub mod Sound
 pub mod Part
 pub mod Frames
 pub mod Slices
+pub mod Repeats
 pub mod Worked

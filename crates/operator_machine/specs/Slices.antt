@@ -1,12 +1,16 @@
 -- Which slice each frame of a run has (own).
-use Rattle.std.specs.Prelude.{◌≡◌, ℕ, nat_le, List, [], ◌∷◌, filter_map, find, reverse, Option, Some, None}
+use Rattle.std.specs.Prelude.{◌≡◌, ℕ, nat_le, List, [], ◌∷◌, All, filter_map, find, reverse, Option, Some, None}
 use Rattle.slice_scheduler.specs.Minislots.{Minislots}
 use Rattle.operator_machine.specs.declared.action.Action.{Action}
 use Rattle.operator_machine.specs.declared.action.Action.TheVariants.{Arrive, Work, Tick, Reslice}
 use Rattle.operator_machine.specs.declared.output.Output.{Output}
 use Rattle.operator_machine.specs.declared.output.Output.TheVariants as outputs
-use Rattle.operator_machine.specs.State.{Operator}
-use Rattle.operator_machine.specs.Machine.{after_step, IsAllowed}
+use Rattle.plant.specs.declared.consts.ConstsFields.{ConstsFields}
+use Rattle.plant.specs.declared.operator_row.RowFields.{RowFields}
+use Rattle.operator_machine.specs.declared.action.Entry.{Entry}
+use Rattle.operator_machine.specs.State.{OperatorState, Operator, operator, opened}
+use Rattle.operator_machine.specs.Machine.{after_step, own_run, IsAllowed}
+use Rattle.operator_machine.specs.Replay.{actions_of, IsReplay}
 
 -- a slice, and the first frame of which it is the slice
 pub record SliceFrom : Type 0 where
@@ -42,3 +46,23 @@ IsOfItsSlice slice (outputs.Frame number elements) = elements.slice ≡ slice nu
 abbrev pub MayRun : Operator → List Action → Type 0
 MayRun o [] = Unit {0}
 MayRun o (action ∷ actions) = IsAllowed o action × MayRun (after_step o action) actions
+
+-- an operator before its first action
+abbrev pub started : ConstsFields → RowFields → Operator
+started consts row = operator consts row (opened consts row)
+
+-- each frame that a run puts out is of the slice of its number
+abbrev pub FramesHaveTheirSlices : Type 0
+FramesHaveTheirSlices = (consts : ConstsFields) (row : RowFields) (actions : List Action) → MayRun (started consts row) actions
+    → All (IsOfItsSlice (slice_at row.slice (reslicings_in actions))) (own_run (started consts row) actions).outputs
+
+-- after a run the slice of the frame that comes next is in force
+abbrev pub NextSliceIsInForce : Type 0
+NextSliceIsInForce = (consts : ConstsFields) (row : RowFields) (actions : List Action) → MayRun (started consts row) actions
+    → (own_run (started consts row) actions).state.share.slice
+    ≡ slice_at row.slice (reslicings_in actions) (own_run (started consts row) actions).state.frame
+
+-- so it is in the replay of a history
+abbrev pub ReplayedSliceIsInForce : Type 0
+ReplayedSliceIsInForce = (consts : ConstsFields) (row : RowFields) (history : List Entry) (state : OperatorState)
+    → IsReplay consts row history state → state.share.slice ≡ slice_at row.slice (reslicings_in (actions_of history)) state.frame

@@ -4,6 +4,7 @@
 
 mod action;
 mod encodings;
+mod frame_laws;
 mod heard;
 mod laws;
 mod output;
@@ -13,11 +14,12 @@ mod worked;
 
 pub use action::{Action, Entry, SliceRow, Unfit};
 pub use encodings::{has_set_type, is_same, number_in, stand_together};
-pub use heard::{Arrival, Heard};
-pub use laws::{
+pub use frame_laws::{
     frame_is_a_part, frames_are_shares, frames_have_no_gap, given_up_have_no_grants,
-    opened_is_sound, repeat_changes_nothing, replay_is_sound, schedule_can_serve, step_keeps_sound,
+    schedule_can_serve,
 };
+pub use heard::{Arrival, Heard};
+pub use laws::{opened_is_sound, repeat_changes_nothing, replay_is_sound, step_keeps_sound};
 pub use output::{Cause, Output, Outputs};
 pub use share::{NextShare, Share};
 pub use verdict::{Addition, AskedSets, Change, Transaction, Verdict};

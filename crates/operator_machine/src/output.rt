@@ -3,9 +3,9 @@
 ghost use Rattle.std.specs.Prelude.{◌≡◌, IfOk};
 
 use dsx_messages::Modem;
+use lists::Listed;
 use slice_scheduler::Elements;
 use std::alloc::{AllocError, Global};
-use std::marker::Model;
 use tlv24::Bytes;
 
 /// Why nothing is answered.
@@ -64,33 +64,5 @@ impl Output {
     }
 }
 
-/// The outputs of one action in order, seen by contracts as their list.
-#[derive(Debug, Drop)]
-pub struct Outputs {
-    items: Vec<Output>,
-}
-
-impl Model for Outputs {
-    ghost use Rattle.std.specs.Prelude.{List};
-    ghost use Rattle.operator_machine.specs.declared.output.Output.{Output};
-
-    ghost Value = { List Output };
-
-    ghost view = { λ o. o.items.items };
-}
-
-impl Outputs {
-    /// These outputs, without a copy.
-    pub fn from_vec(items: Vec<Output>) -> Outputs
-        ensures { result ≡ items.items }
-    {
-        Outputs { items }
-    }
-
-    /// The outputs in place.
-    pub fn as_slice(&self) -> &[Output]
-        ensures { result.now ≡ self.now }
-    {
-        self.items.as_slice()
-    }
-}
+/// The outputs of one action in order.
+pub type Outputs = Listed<Output>;

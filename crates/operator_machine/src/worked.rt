@@ -16,7 +16,8 @@ pub fn worked_additions_compute()
     ensures repeated { answers worked_consts worked_row (sent first_modem addition ++ sent first_modem addition
         ++ sent first_modem addition_ack ++ sent first_modem addition)
         ≡ told first_modem addition_reply ∷ told first_modem addition_reply ∷ told first_modem addition_reply ∷ [] }
-    ensures one_flow { length (after worked_consts worked_row (sent first_modem addition ++ sent first_modem addition
+    ensures one_flow { length (after worked_consts worked_row (sent first_modem addition
+        ++ sent first_modem addition
         ++ sent first_modem addition_ack ++ sent first_modem addition)).flows
         ≡ 1 }
     ensures other_kind { answers worked_consts worked_row (sent first_modem addition
@@ -42,7 +43,8 @@ pub fn worked_additions_compute()
         ≡ told first_modem (codes "10000208") ∷ [] }
     ensures second { answers worked_consts worked_row (sent first_modem addition ++ sent first_modem addition_ack
         ++ sent first_modem (codes "0F0002180A010200020601060F0102"))
-        ≡ told first_modem addition_reply ∷ told first_modem (codes "10000200180E0102000202040000010203020102") ∷ [] }
+        ≡ told first_modem addition_reply ∷ told first_modem (codes "10000200180E0102000202040000010203020102")
+        ∷ [] }
     ensures few_flows { answers worked_consts (record worked_row { flows = 1 }) (sent first_modem addition
         ++ sent first_modem addition_ack ++ sent first_modem (codes "0F0002180A010200020601060F0102"))
         ≡ told first_modem addition_reply ∷ told first_modem (codes "10000203") ∷ [] }
@@ -62,20 +64,29 @@ pub fn worked_additions_compute()
 /// A change is answered and committed, and room is taken and given back by changes and deletions.
 pub fn worked_changes_compute()
     ensures changed { answers worked_consts worked_row (sent first_modem addition ++ sent first_modem addition_ack
-        ++ sent first_modem (codes "12000518120204000001010601020F01020A040000006418120204000001010601040F01020A0400000064") ++ sent first_modem (codes "14000500") ++ sent first_modem (codes "12000618120204000001010601020F01020A040000006418120204000001010601040F01020A0400000065"))
-        ≡ told first_modem addition_reply ∷ told first_modem (codes "13000500180A02040000010103020101") ∷ told first_modem (codes "13000617180E020400000101050601010A020117") ∷ [] }
+        ++ sent first_modem
+        (codes "12000518120204000001010601020F01020A040000006418120204000001010601040F01020A0400000064")
+        ++ sent first_modem (codes "14000500")
+        ++ sent first_modem
+        (codes "12000618120204000001010601020F01020A040000006418120204000001010601040F01020A0400000065"))
+        ≡ told first_modem addition_reply ∷ told first_modem (codes "13000500180A02040000010103020101")
+        ∷ told first_modem (codes "13000617180E020400000101050601010A020117") ∷ [] }
     ensures no_room { answers worked_consts worked_row (sent first_modem full_addition
         ++ sent first_modem addition_ack ++ sent first_modem (codes "0F00021810010200020601060F01020A0400000001")
         ++ sent first_modem (codes "150003000000000101")
         ++ sent first_modem (codes "0F00041810010200020601060F01020A0400000001"))
-        ≡ told first_modem addition_reply ∷ told first_modem (codes "10000203") ∷ told first_modem (codes "1600030000") ∷ told first_modem (codes "10000400180E0102000202040000010103020101") ∷ [] }
+        ≡ told first_modem addition_reply ∷ told first_modem (codes "10000203")
+        ∷ told first_modem (codes "1600030000")
+        ∷ told first_modem (codes "10000400180E0102000202040000010103020101") ∷ [] }
     ensures room_made { answers worked_consts worked_row (sent first_modem full_addition
         ++ sent first_modem addition_ack
         ++ sent first_modem (codes "12000218190204000001010601060F0106130201001404000007D0160101")
         ++ sent first_modem (codes "0F00031810010200020601060F01020A0400000001")
         ++ sent first_modem (codes "14000200")
         ++ sent first_modem (codes "0F00041810010200020601060F01020A0400000001"))
-        ≡ told first_modem addition_reply ∷ told first_modem (codes "13000200180A02040000010103020101") ∷ told first_modem (codes "10000303") ∷ told first_modem (codes "10000400180E0102000202040000010203020102") ∷ [] }
+        ≡ told first_modem addition_reply ∷ told first_modem (codes "13000200180A02040000010103020101")
+        ∷ told first_modem (codes "10000303") ∷ told first_modem (codes "10000400180E0102000202040000010203020102")
+        ∷ [] }
     ensures not_owner { answers worked_consts worked_row (sent first_modem addition ++ sent first_modem addition_ack
         ++ sent second_modem (codes "150001000000000101"))
         ≡ told first_modem addition_reply ∷ told second_modem (codes "1600010500") ∷ [] }
@@ -83,7 +94,9 @@ pub fn worked_changes_compute()
         (record worked_row { transactions = 1 }) (sent first_modem (codes "150001000000000009")
         ++ sent first_modem (codes "150002000000000009") ++ Tick ∷ Tick ∷ []
         ++ sent first_modem (codes "150002000000000009"))
-        ≡ told first_modem (codes "1600010600") ∷ told first_modem (codes "1600020300") ∷ frame 0 (span 0 Long 8 32 ∷ []) [] ∷ frame 1 (span 0 Long 8 32 ∷ []) [] ∷ told first_modem (codes "1600020600") ∷ [] }
+        ≡ told first_modem (codes "1600010600") ∷ told first_modem (codes "1600020300")
+        ∷ frame 0 (span 0 Long 8 32 ∷ []) [] ∷ frame 1 (span 0 Long 8 32 ∷ []) []
+        ∷ told first_modem (codes "1600020600") ∷ [] }
 {}
 
 /// Frames are given out, idle and granted; what is not acknowledged is told again and given up; and what is not answered is told why.
@@ -97,7 +110,8 @@ pub fn worked_frames_compute()
     ensures not_told { answers worked_consts worked_row (sent first_modem (codes "")
         ++ sent first_modem (codes "0F00") ++ sent first_modem (codes "10000100")
         ++ sent first_modem (codes "14000100") ++ asked first_modem 999 1)
-        ≡ silent first_modem Empty ∷ silent first_modem Short ∷ silent first_modem NotOurs ∷ silent first_modem UnknownAck ∷ silent first_modem NoSuchSid ∷ [] }
+        ≡ silent first_modem Empty ∷ silent first_modem Short ∷ silent first_modem NotOurs
+        ∷ silent first_modem UnknownAck ∷ silent first_modem NoSuchSid ∷ [] }
     ensures unsolicited { answers worked_consts worked_row (sent first_modem full_addition
         ++ sent first_modem addition_ack ++ asked first_modem 257 1 ++ asked second_modem 257 1)
         ≡ told first_modem addition_reply ∷ silent first_modem NotRequesting ∷ silent second_modem NoSuchSid ∷ [] }
@@ -107,21 +121,30 @@ pub fn worked_frames_compute()
     ensures shared { answers worked_consts worked_row (sent first_modem addition ++ sent first_modem addition_ack
         ++ sent first_modem (codes "0F0002180A010200020601060F0102") ++ sent first_modem (codes "11000200")
         ++ asked first_modem 257 20 ++ asked first_modem 258 20 ++ Tick ∷ Tick ∷ [])
-        ≡ told first_modem addition_reply ∷ told first_modem (codes "10000200180E0102000202040000010203020102") ∷ frame 0 (span 257 Long 8 20 ∷ span 258 Long 28 12 ∷ []) (258 ∷ []) ∷ frame 1 (span 258 Long 8 8 ∷ span 0 Long 16 24 ∷ []) [] ∷ [] }
+        ≡ told first_modem addition_reply ∷ told first_modem (codes "10000200180E0102000202040000010203020102")
+        ∷ frame 0 (span 257 Long 8 20 ∷ span 258 Long 28 12 ∷ []) (258 ∷ [])
+        ∷ frame 1 (span 258 Long 8 8 ∷ span 0 Long 16 24 ∷ []) [] ∷ [] }
     ensures resent { answers (record worked_consts {
       timers =
           record { ack_wait = 2; resends = 2; hold = 1500 };
     }) worked_row (sent first_modem addition
-        ++ sent first_modem addition_ack ++ sent first_modem (codes "12000218120204000001010601060F01020A0400000064")
+        ++ sent first_modem addition_ack
+        ++ sent first_modem (codes "12000218120204000001010601060F01020A0400000064")
         ++ Tick ∷ Tick ∷ Tick ∷ Tick ∷ Tick ∷ Tick ∷ [] ++ sent first_modem (codes "14000200"))
-        ≡ told first_modem addition_reply ∷ told first_modem (codes "13000200180A02040000010103020101") ∷ frame 0 (span 0 Long 8 32 ∷ []) [] ∷ told first_modem (codes "13000200180A02040000010103020101") ∷ frame 1 (span 0 Long 8 32 ∷ []) [] ∷ frame 2 (span 0 Long 8 32 ∷ []) [] ∷ told first_modem (codes "13000200180A02040000010103020101") ∷ frame 3 (span 0 Long 8 32 ∷ []) [] ∷ frame 4 (span 0 Long 8 32 ∷ []) [] ∷ frame 5 (span 0 Long 8 32 ∷ []) [] ∷ silent first_modem UnknownAck ∷ [] }
+        ≡ told first_modem addition_reply ∷ told first_modem (codes "13000200180A02040000010103020101")
+        ∷ frame 0 (span 0 Long 8 32 ∷ []) [] ∷ told first_modem (codes "13000200180A02040000010103020101")
+        ∷ frame 1 (span 0 Long 8 32 ∷ []) [] ∷ frame 2 (span 0 Long 8 32 ∷ []) []
+        ∷ told first_modem (codes "13000200180A02040000010103020101") ∷ frame 3 (span 0 Long 8 32 ∷ []) []
+        ∷ frame 4 (span 0 Long 8 32 ∷ []) [] ∷ frame 5 (span 0 Long 8 32 ∷ []) [] ∷ silent first_modem UnknownAck
+        ∷ [] }
     ensures given_up { option_map (λ flow. option_map
         (λ set. set.min_reserved_rate) flow.sets.admitted) (flow_at 257 (after
         (record worked_consts {
           timers =
               record { ack_wait = 2; resends = 2; hold = 1500 };
         }) worked_row (sent first_modem addition
-        ++ sent first_modem addition_ack ++ sent first_modem (codes "12000218120204000001010601060F01020A0400000064")
+        ++ sent first_modem addition_ack
+        ++ sent first_modem (codes "12000218120204000001010601060F01020A0400000064")
         ++ Tick ∷ Tick ∷ Tick ∷ Tick ∷ Tick ∷ Tick ∷ [] ++ sent first_modem (codes "14000200"))).flows)
         ≡ Some (Some 0) }
 {}
@@ -147,7 +170,8 @@ pub fn worked_shares_compute()
     ensures resliced { answers worked_consts worked_row (sent first_modem addition ++ sent first_modem addition_ack
         ++ asked first_modem 257 20 ++ Reslice 1 (record { start = 8; length = 16; budget = 16 }) ∷ Tick ∷ []
         ++ asked first_modem 257 20 ++ Tick ∷ [])
-        ≡ told first_modem addition_reply ∷ frame 0 (span 257 Long 8 20 ∷ span 0 Long 28 12 ∷ []) [] ∷ frame_within (record { start = 8; length = 16 }) 1 (span 257 Long 8 16 ∷ []) (257 ∷ []) ∷ [] }
+        ≡ told first_modem addition_reply ∷ frame 0 (span 257 Long 8 20 ∷ span 0 Long 28 12 ∷ []) []
+        ∷ frame_within (record { start = 8; length = 16 }) 1 (span 257 Long 8 16 ∷ []) (257 ∷ []) ∷ [] }
     ensures fits { unfit_of worked_consts (after worked_consts worked_row ([])) (Reslice 1
         (record { start = 8; length = 16; budget = 16 })) ≡ None }
     ensures not_past { unfit_of worked_consts (after worked_consts worked_row ([])) (Reslice 0

@@ -6,7 +6,7 @@ ghost use Rattle.plant.specs.Consts.{AreConsts};
 ghost use Rattle.plant.specs.Classes.{class_of, asked_of};
 ghost use Rattle.plant.specs.declared.consts.ConstsFields.{ConstsFields};
 
-use crate::class_table::Classes;
+use crate::class_table::{Classes, find_encoding};
 use param_sets::{Units, overridden};
 use std::alloc::{AllocError, Global};
 use std::marker::Model;
@@ -89,7 +89,7 @@ impl Consts {
     pub fn class(&self, name: &ClassName) -> Option<&FlowTlv>
         ensures { option_copied result ≡ class_of name.now self.now.classes }
     {
-        self.fields.classes.find(name)
+        find_encoding(self.fields.classes.as_slice(), name)
     }
 
     /// What an encoding asks for: what it states, over its service class where it names one (CM-SP-MULPIv3.1, Annex C,

@@ -13,6 +13,6 @@ pub use class_table::{Class, Classes};
 pub use consts::{Backoffs, Channel, Consts, ConstsFields};
 pub use laws::{holder_is_first, one_operator_lists};
 pub use name::{OperatorName, is_alphanumeric};
-pub use operator_row::{Modems, OperatorRow, RowFields};
+pub use operator_row::{Modems, OperatorRow, RowFields, is_listed};
 pub use plant::{Op, Plant, PlantFields, Rows};
 pub use provision::{Provision, Provisions};

@@ -5,59 +5,23 @@ ghost use Rattle.plant.specs.Row.{IsRow, is_listed};
 ghost use Rattle.plant.specs.declared.operator_row.RowFields.{RowFields};
 
 use crate::name::OperatorName;
-use crate::provision::Provisions;
+use crate::provision::{Provisions, copy_provisions};
 use admission::IdRange;
 use dsx_messages::Modem;
 use grant_policy::Policy;
+use lists::Listed;
 use slice_scheduler::Slice;
 use std::alloc::{AllocError, Global};
 use std::marker::Model;
 
-/// The modems of an operator, seen by contracts as their list.
-#[derive(Debug, Drop)]
-pub struct Modems {
-    modems: Vec<Modem>,
-}
+/// The modems of an operator.
+pub type Modems = Listed<Modem>;
 
-impl Model for Modems {
-    ghost use Rattle.std.specs.Prelude.{List};
-    ghost use Rattle.dsx_messages.specs.declared.modem.Modem.{Modem};
-
-    ghost Value = { List Modem };
-
-    ghost view = { λ m. m.modems.items };
-}
-
-impl Modems {
-    /// These modems, without a copy.
-    pub fn from_vec(modems: Vec<Modem>) -> Modems
-        ensures { result ≡ modems.items }
-    {
-        Modems { modems }
-    }
-
-    /// The modems in place.
-    pub fn as_slice(&self) -> &[Modem]
-        ensures { result.now ≡ self.now }
-    {
-        self.modems.as_slice()
-    }
-
-    /// Whether a modem is among them.
-    pub fn contains(&self, modem: Modem) -> bool
-        ensures { result ≡ is_listed modem self.now }
-    {
-        self.modems.contains(&modem)
-    }
-
-    /// An equal value with memory of its own.
-    pub fn copy(&self, alloc: Global) -> Result<Modems, AllocError>
-        ensures { IfOk result (λ modems. modems ≡ self.now) }
-    {
-        Ok(Modems {
-            modems: Vec::from_slice(alloc, self.modems.as_slice())?,
-        })
-    }
+/// Whether a modem is among an operator's.
+pub fn is_listed(modem: Modem, modems: &[Modem]) -> bool
+    ensures { result ≡ is_listed modem modems.now }
+{
+    modems.contains(&modem)
 }
 
 /// What an operator is provisioned with.
@@ -136,7 +100,7 @@ impl OperatorRow {
                 elements: self.fields.elements,
                 policy: self.fields.policy,
                 modems: self.fields.modems.copy(alloc)?,
-                provisions: self.fields.provisions.copy(alloc)?,
+                provisions: copy_provisions(alloc, self.fields.provisions.as_slice())?,
             },
         })
     }

@@ -10,53 +10,15 @@ use crate::consts::Consts;
 use crate::operator_row::OperatorRow;
 use dsx_messages::Modem;
 use indexmap::IndexMap;
+use lists::Listed;
 use std::alloc::{AllocError, Global};
 use std::marker::Model;
 
 /// An operator, by its place in the plant, from 0.
 pub type Op = usize;
 
-/// The rows of a plant's operators, in the file's order. Contracts see their list.
-#[derive(Debug, Drop)]
-pub struct Rows {
-    rows: Vec<OperatorRow>,
-}
-
-impl Model for Rows {
-    ghost use Rattle.std.specs.Prelude.{List};
-    ghost use Rattle.plant.specs.declared.operator_row.RowFields.{RowFields};
-
-    ghost Value = { List RowFields };
-
-    ghost view = { λ r. r.rows.items };
-}
-
-impl Rows {
-    /// These rows, without a copy.
-    pub fn from_vec(rows: Vec<OperatorRow>) -> Rows
-        ensures { result ≡ rows.items }
-    {
-        Rows { rows }
-    }
-
-    /// The rows in place.
-    pub fn as_slice(&self) -> &[OperatorRow]
-        ensures { result.now ≡ self.now }
-    {
-        self.rows.as_slice()
-    }
-
-    /// An equal list with memory of its own.
-    pub fn copy(&self, alloc: Global) -> Result<Rows, AllocError>
-        ensures { IfOk result (λ rows. rows ≡ self.now) }
-    {
-        let mut rows = Vec::with_capacity(alloc, self.rows.len())?;
-        for row in &self.rows {
-            rows.push(row.copy(alloc)?)?;
-        }
-        Ok(Rows { rows })
-    }
-}
+/// The rows of a plant's operators, in the file's order.
+pub type Rows = Listed<OperatorRow>;
 
 /// What a plant is made of.
 #[derive(Debug, Drop)]
@@ -65,6 +27,17 @@ pub struct PlantFields {
     pub consts: Consts,
     /// Each operator's row, in the file's order.
     pub rows: Rows,
+}
+
+/// An equal list with memory of its own.
+fn copy_rows(alloc: Global, rows: &[OperatorRow]) -> Result<Rows, AllocError>
+    ensures { IfOk result (λ copies. copies ≡ rows.now) }
+{
+    let mut copies = Vec::with_capacity(alloc, rows.len())?;
+    for row in rows {
+        copies.push(row.copy(alloc)?)?;
+    }
+    Ok(Listed::from_vec(copies))
 }
 
 /// An equal map with memory of its own.
@@ -129,7 +102,7 @@ impl Plant {
         Ok(Plant {
             fields: PlantFields {
                 consts: self.fields.consts.copy(alloc)?,
-                rows: self.fields.rows.copy(alloc)?,
+                rows: copy_rows(alloc, self.fields.rows.as_slice())?,
             },
             places: copy_places(&self.places)?,
         })

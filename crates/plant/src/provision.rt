@@ -6,9 +6,9 @@ ghost use Rattle.plant.specs.declared.provision.Provision.{Provision};
 
 use crate::consts::Consts;
 use dsx_messages::Modem;
+use lists::Listed;
 use param_sets::{ParamSet, Sets, Units, from_tlv};
 use std::alloc::{AllocError, Global};
-use std::marker::Model;
 use tlv24::{Bytes, FlowTlv, read_flow};
 
 /// A flow that an operator is provisioned with.
@@ -64,44 +64,19 @@ fn sets_of_type(set_type: u8, set: ParamSet) -> Option<Sets>
     }
 }
 
-/// The flows that an operator is provisioned with, in the file's order. Contracts see their list.
-#[derive(Debug, Drop)]
-pub struct Provisions {
-    provisions: Vec<Provision>,
-}
+/// The flows that an operator is provisioned with, in the file's order.
+pub type Provisions = Listed<Provision>;
 
-impl Model for Provisions {
-    ghost use Rattle.std.specs.Prelude.{List};
-    ghost use Rattle.plant.specs.declared.provision.Provision.{Provision};
-
-    ghost Value = { List Provision };
-
-    ghost view = { λ p. p.provisions.items };
-}
-
-impl Provisions {
-    /// These flows, without a copy.
-    pub fn from_vec(provisions: Vec<Provision>) -> Provisions
-        ensures { result ≡ provisions.items }
-    {
-        Provisions { provisions }
+/// An equal list with memory of its own.
+pub(crate) fn copy_provisions(
+    alloc: Global,
+    provisions: &[Provision],
+) -> Result<Provisions, AllocError>
+    ensures { IfOk result (λ copies. copies ≡ provisions.now) }
+{
+    let mut copies = Vec::with_capacity(alloc, provisions.len())?;
+    for provision in provisions {
+        copies.push(provision.copy(alloc)?)?;
     }
-
-    /// The flows in place.
-    pub fn as_slice(&self) -> &[Provision]
-        ensures { result.now ≡ self.now }
-    {
-        self.provisions.as_slice()
-    }
-
-    /// An equal list with memory of its own.
-    pub fn copy(&self, alloc: Global) -> Result<Provisions, AllocError>
-        ensures { IfOk result (λ provisions. provisions ≡ self.now) }
-    {
-        let mut provisions = Vec::with_capacity(alloc, self.provisions.len())?;
-        for provision in &self.provisions {
-            provisions.push(provision.copy(alloc)?)?;
-        }
-        Ok(Provisions { provisions })
-    }
+    Ok(Listed::from_vec(copies))
 }

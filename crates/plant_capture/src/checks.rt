@@ -1,6 +1,6 @@
 //! Check sequences.
 
-ghost use Rattle.std.specs.Prelude.{◌≡◌, ◌<◌, ◌^◌};
+ghost use Rattle.std.specs.Prelude.{◌≡◌, ◌^◌};
 ghost use Rattle.plant_capture.specs.Checks.{with_bit, with_byte, rest_of, header_check, frame_check};
 
 /// A bit more is divided.

@@ -16,7 +16,7 @@ use Rattle.map_assembly.proofs.NewLemmas.{AllPairs-from_pairs}
 use Rattle.plant_runs.specs.OwnSteps.{slice_of}
 use Rattle.plant_core.specs.declared.core_fault.ResliceFault.TheVariants as faults
 use Rattle.plant_core.specs.Reslicing.{is_unfit, least_unfit, do_meet, least_meeting, row_fault, reslice_fault}
-use Rattle.plant_core.specs.Giving.{NoneRefuses}
+use Rattle.plant_runs.specs.Steps.{NoneRefuses}
 
 neither : {X Y : Type 0} (f : X → Y) (o : Option X) (p : Option Y) → option_or (option_map f o) p ≡ None → (o ≡ None) × (p ≡ None)
 neither f None p h = (refl, h)

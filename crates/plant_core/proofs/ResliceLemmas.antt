@@ -32,16 +32,16 @@ may_take plant gathering books queues from rows valid is reached none =
     let free = are_free from books rows none in
     ∥∥₁_elim reached (may_prop gathering from (map slice_of rows)) (λ r. slices_anew plant r.0 r.1 (core_of plant books queues gathering) from rows valid r.2 is free.one_each free.apart free.fit)
 
-in_range : (layout : Channel) (rows : List SliceRow) → layout.frame_minislots ≤ 4096 → All (IsInFrame layout) (map slice_of rows) → All IsOfASlice rows
-in_range layout rows most h =
-    All-from_recursion IsOfASlice rows (each rows (all-map (IsInFrame layout) slice_of rows (recursion_from_All (IsInFrame layout) (map slice_of rows) h)))
+in_range : (channel : Channel) (rows : List SliceRow) → channel.frame_minislots ≤ 4096 → All (IsInFrame channel) (map slice_of rows) → All IsOfASlice rows
+in_range channel rows most h =
+    All-from_recursion IsOfASlice rows (each rows (all-map (IsInFrame channel) slice_of rows (recursion_from_All (IsInFrame channel) (map slice_of rows) h)))
   where
-    each : (rows : List SliceRow) → AllByRecursion (λ row. IsInFrame layout (slice_of row)) rows → AllByRecursion IsOfASlice rows
+    each : (rows : List SliceRow) → AllByRecursion (λ row. IsInFrame channel (slice_of row)) rows → AllByRecursion IsOfASlice rows
     each [] h = tt
     each (row ∷ rows) h = (record { some = h.0.some; in_range = omega (arith, most, h.0.within_frame) }, each rows h.1)
 
 pub are_slices : (gathering : Gathering) (from : ℕ) (rows : List SliceRow) → IsGathering gathering → MayReslice gathering from (map slice_of rows) → All IsOfASlice rows
-are_slices gathering from rows is may = in_range gathering.layout rows is.layout_is.frame may.slices_are.each
+are_slices gathering from rows is may = in_range gathering.channel rows is.channel_is.frame may.slices_are.each
 
 -- ---- what it comes to
 

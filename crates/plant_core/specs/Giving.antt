@@ -1,19 +1,14 @@
 -- Other slices, given to all operators (own).
-use Rattle.std.specs.Prelude.{◌≡◌, ℕ, List, length, slice_get, Some, None}
+use Rattle.std.specs.Prelude.{◌≡◌, ℕ, List, length, slice_get, Some}
 use Rattle.slice_scheduler.specs.Minislots.{IsSlice}
 use Rattle.operator_machine.specs.declared.action.SliceRow.{SliceRow}
 use Rattle.operator_machine.specs.declared.action.Action.TheVariants as actions
-use Rattle.operator_machine.specs.Machine.{unfit_from}
 use Rattle.operator_machine.specs.Replay.{BookView, acted}
 use Rattle.plant_runs.specs.OwnSteps.{slice_of}
 
 -- a row's slice is one
 abbrev pub IsOfASlice : SliceRow → Type 0
 IsOfASlice row = IsSlice (slice_of row)
-
--- no book refuses its row
-abbrev pub NoneRefuses : ℕ → List BookView → List SliceRow → Type 0
-NoneRefuses from books rows = (i : ℕ) (row : SliceRow) (book : BookView) → slice_get rows i ≡ Some row → slice_get books i ≡ Some book → unfit_from book.consts book.state from row ≡ None
 
 -- each book has become what its row makes of it
 pub record HaveTakenAs (after : BookView → SliceRow → BookView) (rows : List SliceRow) (old new : List BookView) : Type 0 where

@@ -1,13 +1,13 @@
 //! Giving other slices to all operators.
 
-ghost use Rattle.std.specs.Prelude.{◌≡◌, ℕ, ◌<◌, ◌≤◌, ◌^◌, List, [], map, length, vec_len, All, None, IfOk, OnOk, OnErr};
+ghost use Rattle.std.specs.Prelude.{◌≡◌, ◌<◌, ◌≤◌, ◌^◌, [], map, length, vec_len, All, None, IfOk, OnOk, OnErr};
 ghost use Rattle.operator_machine.specs.declared.action.Action.TheVariants as actions;
 ghost use Rattle.operator_machine.specs.Machine.{unfit_from};
 ghost use Rattle.operator_machine.specs.Replay.{acted};
 ghost use Rattle.plant_runs.specs.OwnSteps.{slice_of};
-ghost use Rattle.plant_runs.specs.Steps.{Reslices};
+ghost use Rattle.plant_runs.specs.Steps.{Reslices, NoneRefuses};
 ghost use Rattle.plant_core.specs.Reslicing.{reslice_fault};
-ghost use Rattle.plant_core.specs.Giving.{IsOfASlice, NoneRefuses, HaveTaken};
+ghost use Rattle.plant_core.specs.Giving.{IsOfASlice, HaveTaken};
 ghost use Rattle.plant_core.specs.DeskView.{book_at, waiting_at, room_at};
 ghost use Rattle.plant_core.specs.CoreView.{core_view};
 

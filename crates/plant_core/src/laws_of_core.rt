@@ -15,8 +15,8 @@ impl PlantCore {
         ensures plant { IsPlant (core_view self.now).plant }
         ensures gathering { IsGathering (core_view self.now).gathering }
     {
-        self.routes.valid();
-        self.gather.kept();
+        self.routes.always();
+        self.gather.always();
     }
 
     /// The plant.

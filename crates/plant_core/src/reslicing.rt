@@ -1,6 +1,6 @@
 //! Judging other slices for all operators.
 
-ghost use Rattle.std.specs.Prelude.{◌≡◌, ℕ, ◌+◌, [], map, length, vec_len, drop, option_map, ◌≤◌, Some, OnOk, OnErr};
+ghost use Rattle.std.specs.Prelude.{◌≡◌, ◌+◌, [], length, vec_len, drop, option_map, ◌≤◌, Some, OnOk, OnErr};
 ghost use Rattle.std.specs.List.{position_from};
 ghost use Rattle.operator_book.specs.OfBook.{unfit_from};
 ghost use Rattle.operator_book.specs.ViewOf.{view_of};

@@ -87,7 +87,7 @@ impl Routes {
     }
 
     /// A law: the plant is valid. Does nothing.
-    pub(crate) fn valid(&self)
+    pub(crate) fn always(&self)
         ensures { IsPlant self.now }
     {
         let _rows = self.plant.rows();

@@ -4,7 +4,7 @@ ghost use Rattle.std.specs.Prelude.{◌≡◌, [], ◌∷◌, map, Err, IfErr};
 ghost use Rattle.std.specs.List.{position_from};
 ghost use Rattle.plant_lines.specs.declared.fields.FieldFault.TheVariants.{Shape, NoMemory};
 ghost use Rattle.plant_lines.specs.Fields.{Gives, seen, behind};
-ghost use Rattle.plant_lines.specs.Lines.{lines_of, fields_of};
+ghost use Rattle.plant_lines.specs.Lines.{fields_of};
 ghost use Rattle.plant_lines.specs.Script.{sender_in, is_named, operator_in, heard_steps, message_steps, request_steps, tick_steps, all_ticks, ticked_steps, share_in, shares_after, shares_in, resliced_steps, steps_in, line_steps, steps_after, steps_of};
 ghost use Rattle.plant_lines.specs.Senders.{sender_first};
 ghost use Rattle.plant_lines.specs.GivesSteps.{GivesSteps};

@@ -8,7 +8,7 @@ use Rattle.std.proofs.lemmas.Option.{none-some, same_Some, slice_get_within}
 use Rattle.slice_scheduler.specs.Minislots.{Minislots}
 use Rattle.slice_scheduler.specs.declared.elements.ElementsFields.{ElementsFields}
 use Rattle.plant.specs.declared.consts.Channel.{Channel}
-use Rattle.map_assembly.specs.declared.share.Share.{Share}
+use Rattle.map_assembly.specs.declared.quota.Quota.{Quota}
 use Rattle.map_assembly.specs.declared.map_bytes.MapBytes.{MapBytes}
 use Rattle.map_assembly.specs.Gathering.{Gathering, queue_of, is_last, with_part, is_whole, fronts, frame_slices, frame_parts, put_fault, after_put, resliced, IsGathering}
 use Rattle.map_assembly.specs.Assembled.{IsMapOf, IsAnswer}
@@ -36,7 +36,7 @@ pub record IsMapAt (g : Gathering) (later : List Placing) (k : ℕ) (made : MapB
   pub frame_is : made.frame ≡ g.next + k
   pub one_each : length parts ≡ length g.queues
   pub own : (i : ℕ) (part : ElementsFields) → slice_get parts i ≡ Some part → slice_get (ahead g i later) k ≡ Some part
-  pub map_is : IsMapOf g.layout made.frame g.shares (map (λ part. part.slice) parts) parts made.bytes
+  pub map_is : IsMapOf g.channel made.frame g.quotas (map (λ part. part.slice) parts) parts made.bytes
 
 -- what the placings give: MAPs of the next frames in order, and of each operator so many parts less are ahead
 pub record IsGiven (g : Gathering) (later : List Placing) (maps : List MapBytes) (after : Gathering) : Type 0 where
@@ -133,9 +133,9 @@ module _ (g : Gathering) (op frame : ℕ) (part : ElementsFields) (later : List 
 -- ---- one placing, and what comes after it
 
 -- what comes stays what it is where the same is ahead
-given_on : (g h : Gathering) (later further : List Placing) (maps : List MapBytes) (after : Gathering) → h.next ≡ g.next → h.layout ≡ g.layout → h.shares ≡ g.shares → length h.queues ≡ length g.queues
+given_on : (g h : Gathering) (later further : List Placing) (maps : List MapBytes) (after : Gathering) → h.next ≡ g.next → h.channel ≡ g.channel → h.quotas ≡ g.quotas → length h.queues ≡ length g.queues
     → ((i : ℕ) → ahead h i later ≡ ahead g i further) → IsGiven h later maps after → IsGiven g further maps after
-given_on g h later further maps after next layout shares long same given = record {
+given_on g h later further maps after next channel quotas long same given = record {
   frames = given.frames ∙ ap (λ (n : ℕ). range_with_len n (length maps)) next;
   each = λ k made e.
       let m = given.each k made e in
@@ -145,8 +145,8 @@ given_on g h later further maps after next layout shares long same given = recor
         one_each = m.one_each ∙ long;
         own = λ i part f. ap (λ (ps : List ElementsFields). slice_get ps k) (sym (same i)) ∙ m.own i part f;
         map_is =
-            subst (λ (l : Channel). IsMapOf l made.frame g.shares (map (λ (p : ElementsFields). p.slice) m.parts) m.parts made.bytes) layout
-            (subst (λ (ss : List Share). IsMapOf h.layout made.frame ss (map (λ (p : ElementsFields). p.slice) m.parts) m.parts made.bytes) shares m.map_is);
+            subst (λ (l : Channel). IsMapOf l made.frame g.quotas (map (λ (p : ElementsFields). p.slice) m.parts) m.parts made.bytes) channel
+            (subst (λ (ss : List Quota). IsMapOf h.channel made.frame ss (map (λ (p : ElementsFields). p.slice) m.parts) m.parts made.bytes) quotas m.map_is);
       };
   enough = λ i lt. subst (λ (ps : List ElementsFields). length maps ≤ length ps) (same i) (given.enough i (omega (arith, lt, long)));
   left = λ i lt. given.left i (omega (arith, lt, long)) ∙ ap (λ (ps : List ElementsFields). drop (length maps) ps) (same i);
@@ -156,7 +156,7 @@ given_on g h later further maps after next layout shares long same given = recor
 -- the part gives a MAP
 module _ (g : Gathering) (op frame : ℕ) (part : ElementsFields) (later : List Placing) (rest : List MapBytes) (after : Gathering) (is : IsGathering g) (fits : put_fault g op frame part ≡ None)
     (made : MapBytes) (whole : is_last g op part ≡ true) (next : frame ≡ g.next) (frame_is : made.frame ≡ frame)
-    (map_is : IsMapOf g.layout frame g.shares (frame_slices g frame) (frame_parts g op part) made.bytes)
+    (map_is : IsMapOf g.channel frame g.quotas (frame_slices g frame) (frame_parts g op part) made.bytes)
     (given : IsGiven (record g { queues = map (λ queue. drop 1 queue) (with_part g.queues op part); next = g.next + 1 }) later rest after) where
   abbrev further : List Placing
   further = Put op frame part ∷ later
@@ -183,8 +183,8 @@ module _ (g : Gathering) (op frame : ℕ) (part : ElementsFields) (later : List 
         let first = take_first i (front_within i p e) in
         ap (λ (ps : List ElementsFields). slice_get ps 0) first.ahead_is ∙ (sym first.front_is ∙ e);
     map_is =
-        subst (λ (n : ℕ). IsMapOf g.layout n g.shares (map (λ (p : ElementsFields). p.slice) (frame_parts g op part)) (frame_parts g op part) made.bytes) (sym frame_is)
-        (subst (λ (ms : List Minislots). IsMapOf g.layout frame g.shares ms (frame_parts g op part) made.bytes) (sym (parts_slices g op frame part is fits whole)) map_is);
+        subst (λ (n : ℕ). IsMapOf g.channel n g.quotas (map (λ (p : ElementsFields). p.slice) (frame_parts g op part)) (frame_parts g op part) made.bytes) (sym frame_is)
+        (subst (λ (ms : List Minislots). IsMapOf g.channel frame g.quotas ms (frame_parts g op part) made.bytes) (sym (parts_slices g op frame part is fits whole)) map_is);
   }
 
   map_behind : (k : ℕ) (m : MapBytes) → slice_get rest k ≡ Some m → IsMapAt g further (suc k) m

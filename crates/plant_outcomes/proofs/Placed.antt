@@ -71,8 +71,8 @@ reslice_more g after (Reslice n others ∷ later) maps from rows h is may = (
 -- what may be given are slices
 pub are_slices : (g : Gathering) (from : ℕ) (rows : List SliceRow) → IsGathering g → MayReslice g from (map slice_of rows) → All (λ row. IsSlice (slice_of row)) rows
 are_slices g from rows is may =
-    All-from_recursion (λ row. IsSlice (slice_of row)) rows (each rows (recursion_from_All (IsInFrame g.layout) (map slice_of rows) may.slices_are.each))
+    All-from_recursion (λ row. IsSlice (slice_of row)) rows (each rows (recursion_from_All (IsInFrame g.channel) (map slice_of rows) may.slices_are.each))
   where
-    each : (rs : List SliceRow) → AllByRecursion (IsInFrame g.layout) (map slice_of rs) → AllByRecursion (λ row. IsSlice (slice_of row)) rs
+    each : (rs : List SliceRow) → AllByRecursion (IsInFrame g.channel) (map slice_of rs) → AllByRecursion (λ row. IsSlice (slice_of row)) rs
     each [] h = tt
-    each (r ∷ rs) h = (record { some = h.0.some; in_range = let e = h.0.within_frame in let f = is.layout_is.frame in omega (arith, e, f) }, each rs h.1)
+    each (r ∷ rs) h = (record { some = h.0.some; in_range = let e = h.0.within_frame in let f = is.channel_is.frame in omega (arith, e, f) }, each rs h.1)

@@ -1,6 +1,6 @@
 //! The assembly that the workers of a plant share.
 
-ghost use Rattle.std.specs.Prelude.{◌≡◌, ◌≢◌, ◌↔◌, ℕ, [], ◌∷◌, ◌++◌, List, map, All, IsTrue, Option, Some, None, Result, Ok, Err, IfOk, OnOk, OnErr, ◌<◌, vec_len, vec_capacity, true, false};
+ghost use Rattle.std.specs.Prelude.{◌≡◌, ◌≢◌, ◌↔◌, [], ◌∷◌, ◌++◌, map, All, IsTrue, Option, Some, Result, Ok, Err, IfOk, OnOk, OnErr, ◌<◌, vec_len, vec_capacity, true, false};
 ghost use Rattle.slice_scheduler.specs.Minislots.{IsSlice};
 ghost use Rattle.plant.specs.Plant.{IsPlant};
 ghost use Rattle.operator_machine.specs.declared.action.SliceRow.{SliceRow};
@@ -136,7 +136,7 @@ impl Assembly {
         let Ok(kept) = elements.copy(alloc) else {
             return Err(GatherFault::NoMemory);
         };
-        self.gather.kept();
+        self.gather.always();
         if make_room(&mut self.placings, &mut self.maps).is_err() {
             return Err(GatherFault::NoMemory);
         }
@@ -171,7 +171,7 @@ impl Assembly {
         ensures same { result ≡ Ok false → self.new ≡ self.old }
         ensures err { OnErr result (self.new ≡ self.old) }
     {
-        self.gather.kept();
+        self.gather.always();
         if !are_slices(rows) {
             return Ok(false);
         }
@@ -221,12 +221,12 @@ impl Assembly {
     }
 
     /// What always holds, for a caller's proof. Does nothing.
-    pub fn kept(&self)
+    pub fn always(&self)
         ensures plant { IsPlant self.now.plant }
         ensures gathering { IsGathering self.now.gathering }
         ensures made { HaveMade (gathering_of self.now.plant) self.now.placings self.now.maps self.now.gathering }
     {
         let _ = self.plant.rows();
-        self.gather.kept();
+        self.gather.always();
     }
 }

@@ -2,7 +2,6 @@
 
 ghost use Rattle.std.specs.Prelude.{◌≡◌, ◌↔◌, length, map, vec_len, IsTrue, MatchOption, ℕ, ◌⊎◌, Err, IfOk, OnOk, IfErr};
 ghost use Rattle.operator_book.specs.ViewOf.{view_of};
-ghost use Rattle.plant_outcomes.specs.Placings.{AssemblyView};
 ghost use Rattle.plant_outcomes.specs.Straying.{AreOwn, ArePut, IsStray, IsMapStray, IsFound};
 ghost use Rattle.plant_outcomes.specs.Outcome.{AreMerged, AreTicked, ticks_of, is_tick_of, IsOutcome};
 
@@ -65,7 +64,7 @@ fn first_map_stray(
     if !is_same_plant(assembly.plant(), plant) {
         return Ok(Some(plant.consts().get_fields().channel.first_frame));
     }
-    assembly.kept();
+    assembly.always();
     first_put_stray(alloc, books, assembly.placings(), steps)
 }
 
@@ -130,7 +129,7 @@ pub fn compare(
     if let Err(fault) = first_fault(alloc, plant, books, &assembly, steps) {
         return Err(fault);
     }
-    assembly.kept();
+    assembly.always();
     let Settled {
         books,
         receipts,

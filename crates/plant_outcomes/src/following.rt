@@ -1,6 +1,6 @@
 //! Whether operators' histories follow the steps of a run.
 
-ghost use Rattle.std.specs.Prelude.{◌≡◌, ◌↔◌, ◌<◌, List, length, map, IsTrue, is_some, Some, slice_get, MatchOption};
+ghost use Rattle.std.specs.Prelude.{◌≡◌, ◌↔◌, ◌<◌, length, map, IsTrue, is_some, Some, slice_get, MatchOption};
 ghost use Rattle.plant.specs.Row.{is_listed};
 ghost use Rattle.operator_machine.specs.declared.action.Action.{Action};
 ghost use Rattle.plant.specs.declared.operator_row.RowFields.{RowFields};
@@ -108,7 +108,7 @@ fn stray_at(plant: &Plant, op: Op, book: &Book, steps: &[Step]) -> Option<usize>
         → MatchOption result (IsBookAfter plant.now steps.now op row (view_of book.now))
         (StraysAt plant.now steps.now op row (view_of book.now)) }
 {
-    book.replay();
+    book.always_replayed();
     if !is_same_row(book.row(), &plant.rows()[op])
         || !are_same_consts(book.consts(), plant.consts())
     {

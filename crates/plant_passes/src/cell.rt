@@ -20,6 +20,7 @@ use crate::turns;
 use crate::view::Held;
 use dsx_messages::Modem;
 use operator_book::{Action, Book, BookFault, Heard};
+use plant::is_listed;
 use std::alloc::{AllocError, Global};
 use std::sync::Wait;
 
@@ -71,7 +72,7 @@ impl PassedCell {
             → stranger_of (cell_of self.now).origin.row (actions.Arrive modem heard) ≡ None
             → result ≡ Err refusals.Closed }
     {
-        if !self.modems.contains(modem) {
+        if !is_listed(modem, self.modems.as_slice()) {
             return Err(CellFault::Book(BookFault::NotMine { modem }));
         }
         if turns::is_closed(&self.table.shared, &mut pass.seat) {

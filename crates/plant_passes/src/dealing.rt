@@ -82,7 +82,7 @@ pub(crate) fn table_round(
         (marks 0 book.kept.book.history) book.ranking) }
     ensures follows { IfOk result (λ r. Follows policy_of r.1.me.0) }
 {
-    book.replay();
+    book.always_replayed();
     let (kept, rest) = book.into_parts();
     let key = Key { kept, passes };
     let (table, mut giver) = Table::vacant(alloc, &[start, start], 1, &key)?;

@@ -126,7 +126,7 @@ fn act_in_turn(
     let Held { kept, rest } = held;
     let mut book = Book::of_parts(kept, rest);
     let acted = book.act(alloc, action);
-    book.replay();
+    book.always_replayed();
     let (kept, rest) = book.into_parts();
     put_back(desk, seat, Held { kept, rest });
     acted

@@ -61,7 +61,7 @@ pub fn frames_in<'a>(alloc: Global, history: &'a [Entry]) -> Result<Vec<Frame<'a
 fn frames_of_book<'a>(alloc: Global, book: &'a Book) -> Result<OwnFrames<'a>, AllocError>
     ensures { IfOk result (λ own. AreFramesOf own (view_of book.now)) }
 {
-    book.replay();
+    book.always_replayed();
     frames_have_no_gap();
     Ok(OwnFrames {
         sids: book.row().get_fields().sids,

@@ -1,6 +1,6 @@
 //! Settling books, receipts and MAPs with one another.
 
-ghost use Rattle.std.specs.Prelude.{◌≡◌, ◌≢◌, ◌↔◌, ℕ, map, vec_len, Err, IfOk, OnOk, IfErr, OnErr};
+ghost use Rattle.std.specs.Prelude.{◌≡◌, ◌≢◌, ◌↔◌, ℕ, map, vec_len, Err, IfOk, OnOk, IfErr};
 ghost use Rattle.operator_book.specs.ViewOf.{view_of};
 ghost use Rattle.plant_receipts.specs.declared.run_fault.RunFault.TheVariants.{NoMemory, Strayed};
 ghost use Rattle.plant_receipts.specs.Settling.{IsSettled, IsFirstStrayed, IsFirstFault};

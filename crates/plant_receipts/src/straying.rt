@@ -1,6 +1,6 @@
 //! Receipts that stray.
 
-ghost use Rattle.std.specs.Prelude.{◌≡◌, ◌↔◌, ℕ, map, length, None, MatchOption, IsTrue};
+ghost use Rattle.std.specs.Prelude.{◌≡◌, ◌↔◌, map, length, None, MatchOption, IsTrue};
 ghost use Rattle.operator_book.specs.ViewOf.{view_of};
 ghost use Rattle.plant_receipts.specs.Merge.{Stands};
 ghost use Rattle.plant_receipts.specs.Straying.{lesser, IsLeastOr, IsGreater, IsStray};

@@ -28,7 +28,7 @@ use Rattle.operator_machine.proofs.FrameLemmas.{arrived_none, worked_none, run_p
 use Rattle.operator_machine.proofs.KeptLemmas.{pairs-map}
 use Rattle.plant.specs.declared.consts.Channel.{Channel}
 use Rattle.map_assembly.specs.declared.slicing.Reslicing.{Reslicing}
-use Rattle.map_assembly.specs.Part.{share_of}
+use Rattle.map_assembly.specs.Part.{quota_of}
 use Rattle.map_assembly.specs.Plan.{IsInFrame, AreSlices}
 use Rattle.map_assembly.specs.Gathering.{Gathering, next_of, IsGathering, IsPast, MayReslice}
 use Rattle.plant_runs.specs.declared.step.Step.{Step}
@@ -143,8 +143,8 @@ module _ (plant : PlantFields) (done : List Step) (outs : List Out) (core : Core
   abbrev g : Gathering
   g = core.gathering
 
-  shares_long : length g.shares ≡ length plant.rows
-  shares_long = ap length reached.gathered.shares_are ∙ length-map plant.rows share_of
+  quotas_long : length g.quotas ≡ length plant.rows
+  quotas_long = ap length reached.gathered.quotas_are ∙ length-map plant.rows quota_of
 
   -- the operator's own machine takes its row
   own_takes : (i : ℕ) (row : RowFields) → slice_get plant.rows i ≡ Some row → (offered : SliceRow) × (slice_get rows i ≡ Some offered) × Takes plant.consts (alone plant.consts row i done).state from offered
@@ -159,19 +159,19 @@ module _ (plant : PlantFields) (done : List Step) (outs : List Out) (core : Core
             ((λ n. unfit_from (sym after.consts_are n) (sym after.state_is n) from offered.0) ∙ fit i offered.0 book.0 offered.1 book.1),
       )
 
-  each_in_frame : All (IsInFrame g.layout) (map slice_of rows)
+  each_in_frame : All (IsInFrame g.channel) (map slice_of rows)
   each_in_frame k d lt =
       let long = length-map rows slice_of in
       let row = some_at plant.rows k (omega (arith, lt, long, one, reached.one_book)) in
       let offered = own_takes k row.0 row.1 in
       let slice : slice_of offered.0 ≡ get_or (map slice_of rows) k d =
       sym (get_or_from_slice_get (map slice_of rows) k (slice_of offered.0) d (slice_get-map slice_of rows k ∙ ap (option_map slice_of) offered.1)) in
-      subst (λ (m : Minislots). IsInFrame g.layout m) slice
-      (subst (λ (l : Channel). IsInFrame l (slice_of offered.0)) (sym reached.gathered.layout_is) (in_frame plant.consts offered.0 offered.2.on))
+      subst (λ (m : Minislots). IsInFrame g.channel m) slice
+      (subst (λ (l : Channel). IsInFrame l (slice_of offered.0)) (sym reached.gathered.channel_is) (in_frame plant.consts offered.0 offered.2.on))
 
-  given : AreSlices g.layout (length g.shares) (map slice_of rows)
+  given : AreSlices g.channel (length g.quotas) (map slice_of rows)
   given = record {
-    one_each = let long = length-map rows slice_of in omega (arith, long, one, reached.one_book, shares_long);
+    one_each = let long = length-map rows slice_of in omega (arith, long, one, reached.one_book, quotas_long);
     each = each_in_frame;
     apart = pairs-map (λ (a b : SliceRow). slices_overlap (slice_of a) (slice_of b) ≡ false) (λ (a b : Minislots). slices_overlap a b ≡ false) slice_of (λ a b h. h) rows apart;
   }

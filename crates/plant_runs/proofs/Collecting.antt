@@ -58,9 +58,9 @@ module _ (plant : PlantFields) (before : List Step) (outs : List Out) (k : ℕ) 
   -- what is the same whether a MAP is made
   gathered_reached : (new_maps : List MapBytes) → maps_in (outs ++ now) ≡ new_maps → AreMaps plant after new_maps
       → ((i : ℕ) (row : RowFields) (waiting : List Numbered) (put : List ElementsFields) → slice_get plant.rows i ≡ Some row → slice_get new.queues i ≡ Some waiting → slice_get new.gathering.queues i ≡ Some put → AreFramesAfter plant after (length new_maps) i row waiting put)
-      → IsCollected plant before after now → new.gathering.layout ≡ old.gathering.layout → new.gathering.shares ≡ old.gathering.shares → new.gathering.slices ≡ old.gathering.slices → new.gathering.reslicings ≡ old.gathering.reslicings → length new.gathering.queues ≡ length queues → new.gathering.next ≡ plant.consts.channel.first_frame + length new_maps
+      → IsCollected plant before after now → new.gathering.channel ≡ old.gathering.channel → new.gathering.quotas ≡ old.gathering.quotas → new.gathering.slices ≡ old.gathering.slices → new.gathering.reslicings ≡ old.gathering.reslicings → length new.gathering.queues ≡ length queues → new.gathering.next ≡ plant.consts.channel.first_frame + length new_maps
       → Reached plant after (outs ++ now) new
-  gathered_reached new_maps maps_are maps frames told layout shares slices reslicings puts next = record {
+  gathered_reached new_maps maps_are maps frames told channel quotas slices reslicings puts next = record {
     plant_is = ap (λ (c : CoreView). c.plant) collects.new_is ∙ reached.plant_is;
     shown = record {
       answers = answers_follow plant before outs (steps.Collect k) now old new reached moves books;
@@ -73,8 +73,8 @@ module _ (plant : PlantFields) (before : List Step) (outs : List Out) (k : ℕ) 
     books = books_follow plant before outs (steps.Collect k) now old new reached moves books;
     frames = λ i row waiting put e f g. subst (λ (ms : List MapBytes). AreFramesAfter plant after (length ms) i row waiting put) (sym maps_are) (frames i row waiting put e f g);
     gathered = record {
-      layout_is = layout ∙ reached.gathered.layout_is;
-      shares_are = shares ∙ reached.gathered.shares_are;
+      channel_is = channel ∙ reached.gathered.channel_is;
+      quotas_are = quotas ∙ reached.gathered.quotas_are;
       slices_are = slices ∙ reached.gathered.slices_are;
       reslicings_are =
           reslicings
@@ -98,7 +98,7 @@ module _ (plant : PlantFields) (before : List Step) (outs : List Out) (k : ℕ) 
       (record { frames = reached.shown.maps.frames; count = least; each = maps_on })
       (λ i row waiting put e f g. frames_put plant before outs k now old new reached collects i row waiting put e f (ap (λ (h : Gathering). slice_get h.queues i) (sym gathering) ∙ g))
       (subst (IsCollected plant before after) (sym none) (λ n is_least. subst (IsLeast plant after) (one_least plant before (length (maps_in outs)) n reached.shown.maps.count is_least) least))
-      (ap (λ (h : Gathering). h.layout) gathering) (ap (λ (h : Gathering). h.shares) gathering)
+      (ap (λ (h : Gathering). h.channel) gathering) (ap (λ (h : Gathering). h.quotas) gathering)
       (ap (λ (h : Gathering). h.slices) gathering) (ap (λ (h : Gathering). h.reslicings) gathering) (ap (λ (h : Gathering). length h.queues) gathering)
       (ap (λ (h : Gathering). h.next) gathering ∙ reached.gathered.next_is)
 
@@ -122,7 +122,7 @@ module _ (plant : PlantFields) (before : List Step) (outs : List Out) (k : ℕ) 
       (subst (λ (p : List ElementsFields). AreFramesAfter plant after (length (maps_in outs) + 1) i row waiting p) queue.2
       (frames_made plant before k (length (maps_in outs)) i row waiting queue.0 (frames_put plant before outs k now old new reached collects i row waiting queue.0 e f queue.1))))
       (subst (IsCollected plant before after) (sym one) (λ n is_least. subst (λ (m : ℕ). IsLeast plant after (m + 1)) (one_least plant before (length (maps_in outs)) n reached.shown.maps.count is_least) least))
-      (ap (λ (h : Gathering). h.layout) gathering) (ap (λ (h : Gathering). h.shares) gathering)
+      (ap (λ (h : Gathering). h.channel) gathering) (ap (λ (h : Gathering). h.quotas) gathering)
       (ap (λ (h : Gathering). h.slices) gathering) (ap (λ (h : Gathering). h.reslicings) gathering) (ap (λ (h : Gathering). length h.queues) gathering ∙ length-map queues (λ (queue : List ElementsFields). drop 1 queue))
       (ap (λ (h : Gathering). h.next) gathering ∙ omega (arith, reached.gathered.next_is, long))
 

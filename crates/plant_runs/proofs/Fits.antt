@@ -18,9 +18,9 @@ use Rattle.operator_machine.specs.Slices.{reslicings_in, slice_at, MayRun}
 use Rattle.operator_machine.specs.Sound.{IsSound}
 use Rattle.operator_machine.proofs.OpenedLemmas.{opened_sound}
 use Rattle.operator_machine.proofs.SliceLemmas.{run-frames}
-use Rattle.map_assembly.specs.declared.share.Share.{Share}
+use Rattle.map_assembly.specs.declared.quota.Quota.{Quota}
 use Rattle.map_assembly.specs.declared.slicing.Reslicing.{Reslicing}
-use Rattle.map_assembly.specs.Part.{share_of, is_fitting, is_slice}
+use Rattle.map_assembly.specs.Part.{quota_of, is_fitting, is_slice}
 use Rattle.map_assembly.specs.Plan.{IsInFrame, AreSlices}
 use Rattle.map_assembly.specs.Gathering.{frame_slices, slices_at, queue_of, next_of, is_part, put_fault, IsGathering}
 use Rattle.plant_runs.specs.declared.step.Step.{Step}
@@ -57,7 +57,7 @@ not_lt a b le = false_from_ne_true (nat_lt a b) (λ h. omega (arith, le, ltb-tru
 
 -- ---- fit
 
-fitting : (row : RowFields) (slice : Minislots) (part : ElementsFields) → part.slice ≡ slice → IsOwn row part → is_fitting (share_of row) slice part ≡ true
+fitting : (row : RowFields) (slice : Minislots) (part : ElementsFields) → part.slice ≡ slice → IsOwn row part → is_fitting (quota_of row) slice part ≡ true
 fitting row slice part same own =
     and_from _ _
     (and_from _ _
@@ -89,8 +89,8 @@ module _ (plant : PlantFields) (done : List Step) (outs : List Out) (core : Core
   within : i < length plant.rows
   within = slice_get_within plant.rows i row here
 
-  shares_long : length core.gathering.shares ≡ length plant.rows
-  shares_long = ap length reached.gathered.shares_are ∙ length-map plant.rows share_of
+  quotas_long : length core.gathering.quotas ≡ length plant.rows
+  quotas_long = ap length reached.gathered.quotas_are ∙ length-map plant.rows quota_of
 
   pub may : MayRun (operator plant.consts row (opened plant.consts row)) own
   may =
@@ -102,17 +102,17 @@ module _ (plant : PlantFields) (done : List Step) (outs : List Out) (core : Core
   slice_some =
       let first : slice_get core.gathering.slices i ≡ Some row.slice =
       ap (λ (ms : List Minislots). slice_get ms i) reached.gathered.slices_are ∙ (slice_get-map (λ (r : RowFields). r.slice) plant.rows i ∙ ap (option_map (λ (r : RowFields). r.slice)) here) in
-      (at_place (IsInFrame core.gathering.layout) core.gathering.slices i row.slice (recursion_from_All (IsInFrame core.gathering.layout) core.gathering.slices is.slices_are.each) first).some
+      (at_place (IsInFrame core.gathering.channel) core.gathering.slices i row.slice (recursion_from_All (IsInFrame core.gathering.channel) core.gathering.slices is.slices_are.each) first).some
 
   pub sound : IsSound (operator plant.consts row (opened plant.consts row))
   sound = opened_sound plant.consts row (at_place (IsRowOf plant.consts) plant.rows i row (recursion_from_All (IsRowOf plant.consts) plant.rows valid.rows) here) slice_some
 
   pub one_each : HaveOne i (reslicings_of done)
   one_each =
-      have_one (length core.gathering.shares) i (reslicings_of done) (omega (arith, within, shares_long))
-      (subst (λ (rs : List Reslicing). AllByRecursion (λ (r : Reslicing). length r.slicing ≡ length core.gathering.shares) rs) reached.gathered.reslicings_are
-      (lengths_of (length core.gathering.shares) (λ r valid. valid.one_each) core.gathering.reslicings
-      (recursion_from_All (λ (r : Reslicing). AreSlices core.gathering.layout (length core.gathering.shares) r.slicing) core.gathering.reslicings is.reslicings_are)))
+      have_one (length core.gathering.quotas) i (reslicings_of done) (omega (arith, within, quotas_long))
+      (subst (λ (rs : List Reslicing). AllByRecursion (λ (r : Reslicing). length r.slicing ≡ length core.gathering.quotas) rs) reached.gathered.reslicings_are
+      (lengths_of (length core.gathering.quotas) (λ r valid. valid.one_each) core.gathering.reslicings
+      (recursion_from_All (λ (r : Reslicing). AreSlices core.gathering.channel (length core.gathering.quotas) r.slicing) core.gathering.reslicings is.reslicings_are)))
 
   -- the operator's slice of a frame, where the assembly looks it up
   slice_there : (frame : ℕ) → slice_get (frame_slices core.gathering frame) i ≡ Some (slice_at row.slice (reslicings_in own) frame)
@@ -124,12 +124,12 @@ module _ (plant : PlantFields) (done : List Step) (outs : List Out) (core : Core
 
   pub part_fits : (n : ℕ) (frame : Numbered) → slice_get frames n ≡ Some frame → is_part core.gathering i frame.0 frame.1 ≡ true
   part_fits n frame e =
-      let share : slice_get core.gathering.shares i ≡ Some (share_of row) =
-      ap (λ (ss : List Share). slice_get ss i) reached.gathered.shares_are ∙ (slice_get-map share_of plant.rows i ∙ ap (option_map share_of) here) in
+      let quota : slice_get core.gathering.quotas i ≡ Some (quota_of row) =
+      ap (λ (ss : List Quota). slice_get ss i) reached.gathered.quotas_are ∙ (slice_get-map quota_of plant.rows i ∙ ap (option_map quota_of) here) in
       let same = at_place (λ (f : Numbered). f.1.slice ≡ slice_at row.slice (reslicings_in own) f.0) frames n frame
       (of_slices (slice_at row.slice (reslicings_in own)) (alone plant.consts row i done).outputs (run-frames plant.consts row own may)) e in
       let mine = at_place (λ (f : Numbered). IsOwn row f.1) frames n frame (run_own plant.consts row (opened plant.consts row) own sound may) e in
-      rw (share, slice_there frame.0) (fitting row (slice_at row.slice (reslicings_in own) frame.0) frame.1 same mine)
+      rw (quota, slice_there frame.0) (fitting row (slice_at row.slice (reslicings_in own) frame.0) frame.1 same mine)
 
   -- how far an operator's parts are put
   pub put_so_far : next_of core.gathering i ≡ plant.consts.channel.first_frame + collects_of i done
@@ -151,7 +151,7 @@ module _ (plant : PlantFields) (done : List Step) (outs : List Out) (core : Core
       let number = number_at plant.consts.channel.first_frame (collects_of i done) frames (frame, part) (are_numbered plant.consts row i done) there in
       let least = reached.shown.maps.count.at_most i within in
       rw (
-        lt-leb (length core.gathering.shares) i (omega (arith, within, shares_long)),
+        lt-leb (length core.gathering.quotas) i (omega (arith, within, quotas_long)),
         not_lt frame core.gathering.next (omega (arith, number, least, reached.gathered.next_is)),
         not_lt frame (next_of core.gathering i) (omega (arith, number, put_so_far)),
         not_lt (next_of core.gathering i) frame (omega (arith, number, put_so_far)),

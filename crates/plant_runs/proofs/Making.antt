@@ -9,8 +9,8 @@ use Rattle.slice_scheduler.specs.declared.elements.ElementsFields.{ElementsField
 use Rattle.plant.specs.declared.plant.PlantFields.{PlantFields}
 use Rattle.plant.specs.declared.consts.Channel.{Channel}
 use Rattle.map_assembly.specs.declared.map_bytes.MapBytes.{MapBytes}
-use Rattle.map_assembly.specs.declared.share.Share.{Share}
-use Rattle.map_assembly.specs.Part.{share_of}
+use Rattle.map_assembly.specs.declared.quota.Quota.{Quota}
+use Rattle.map_assembly.specs.Part.{quota_of}
 use Rattle.map_assembly.specs.Gathering.{queue_of, is_last, frame_slices, frame_parts, IsGathering}
 use Rattle.map_assembly.specs.Assembled.{IsMapOf}
 use Rattle.map_assembly.proofs.LastLemmas.{length-fronts}
@@ -96,7 +96,7 @@ module _ (plant : PlantFields) (before : List Step) (outs : List Out) (k : ℕ) 
   -- ---- the MAP that is made
 
   module _ (is : IsGathering old.gathering) (made : MapBytes) (whole : is_last old.gathering k collects.part ≡ true) (next : collects.frame ≡ old.gathering.next) (frame_is : made.frame ≡ collects.frame)
-      (map_is : IsMapOf old.gathering.layout collects.frame old.gathering.shares (frame_slices old.gathering collects.frame) (frame_parts old.gathering k collects.part) made.bytes) where
+      (map_is : IsMapOf old.gathering.channel collects.frame old.gathering.quotas (frame_slices old.gathering collects.frame) (frame_parts old.gathering k collects.part) made.bytes) where
     number_is : made.frame ≡ plant.consts.channel.first_frame + count_made
     number_is = frame_is ∙ (next ∙ reached.gathered.next_is)
 
@@ -121,10 +121,10 @@ module _ (plant : PlantFields) (before : List Step) (outs : List Out) (k : ℕ) 
           parts = parts;
           parts_are = parts_at;
           map_is =
-              subst (λ (l : Channel). IsMapOf l made.frame (map share_of plant.rows) (map (λ (p : ElementsFields). p.slice) parts) parts made.bytes) reached.gathered.layout_is
-              (subst (λ (n : ℕ). IsMapOf old.gathering.layout n (map share_of plant.rows) (map (λ (p : ElementsFields). p.slice) parts) parts made.bytes) (sym frame_is)
-              (subst (λ (ss : List Share). IsMapOf old.gathering.layout collects.frame ss (map (λ (p : ElementsFields). p.slice) parts) parts made.bytes) reached.gathered.shares_are
-              (subst (λ (ms : List Minislots). IsMapOf old.gathering.layout collects.frame old.gathering.shares ms parts made.bytes)
+              subst (λ (l : Channel). IsMapOf l made.frame (map quota_of plant.rows) (map (λ (p : ElementsFields). p.slice) parts) parts made.bytes) reached.gathered.channel_is
+              (subst (λ (n : ℕ). IsMapOf old.gathering.channel n (map quota_of plant.rows) (map (λ (p : ElementsFields). p.slice) parts) parts made.bytes) (sym frame_is)
+              (subst (λ (ss : List Quota). IsMapOf old.gathering.channel collects.frame ss (map (λ (p : ElementsFields). p.slice) parts) parts made.bytes) reached.gathered.quotas_are
+              (subst (λ (ms : List Minislots). IsMapOf old.gathering.channel collects.frame old.gathering.quotas ms parts made.bytes)
               (sym (parts_slices old.gathering k collects.frame collects.part is collects.fits whole)) map_is)));
         }
 

@@ -41,8 +41,8 @@ opened_reached plant is = record {
   frames = λ i row waiting put e f g.
       record { waiting_are = none_there (length plant.rows) i waiting f; put_are = none_there (length plant.rows) i put g };
   gathered = record {
-    layout_is = refl;
-    shares_are = refl;
+    channel_is = refl;
+    quotas_are = refl;
     slices_are = refl;
     reslicings_are = refl;
     one_each = length-replicate (length plant.rows) [];

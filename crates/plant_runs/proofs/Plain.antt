@@ -35,8 +35,8 @@ record IsBeside (step : Step) (old new : CoreView) : Type 0 where
   pub plant_is : new.plant ≡ old.plant
   pub books : length new.books ≡ length old.books
   pub queues : length new.queues ≡ length old.queues
-  pub layout_is : new.gathering.layout ≡ old.gathering.layout
-  pub shares_are : new.gathering.shares ≡ old.gathering.shares
+  pub channel_is : new.gathering.channel ≡ old.gathering.channel
+  pub quotas_are : new.gathering.quotas ≡ old.gathering.quotas
   pub slices_are : new.gathering.slices ≡ old.gathering.slices
   pub reslicings_are : new.gathering.reslicings ≡ old.gathering.reslicings ++ reslicings_of (step ∷ [])
   pub puts_are : new.gathering.queues ≡ old.gathering.queues
@@ -65,7 +65,7 @@ module _ (plant : PlantFields) (before : List Step) (outs : List Out) (step : St
             subst (λ (n : ℕ). AreFramesAfter plant (before ++ step ∷ []) n i row waiting put) (ap length (sym same))
             (frames_follow plant before outs step now tells others none (length (maps_in outs)) i row was.0 waiting put e (reached.gathered.collected i row e)
             (reached.frames i row was.0 put e was.1 there) (waits i was.0 waiting was.1 f));
-        gathered = gathered_follows plant before outs step now tells others none old.gathering new.gathering reached.gathered beside.layout_is beside.shares_are beside.slices_are beside.reslicings_are beside.puts_are beside.next_is;
+        gathered = gathered_follows plant before outs step now tells others none old.gathering new.gathering reached.gathered beside.channel_is beside.quotas_are beside.slices_are beside.reslicings_are beside.puts_are beside.next_is;
       }
 
   -- ---- an action of one operator
@@ -92,8 +92,8 @@ module _ (plant : PlantFields) (before : List Step) (outs : List Out) (step : St
         plant_is = ap (λ (c : CoreView). c.plant) acts.new_is;
         books = acts_length plant step k action old new now at acts;
         queues = acts_queues k action old new now acts;
-        layout_is = ap (λ (c : CoreView). c.gathering.layout) acts.new_is;
-        shares_are = ap (λ (c : CoreView). c.gathering.shares) acts.new_is;
+        channel_is = ap (λ (c : CoreView). c.gathering.channel) acts.new_is;
+        quotas_are = ap (λ (c : CoreView). c.gathering.quotas) acts.new_is;
         slices_are = ap (λ (c : CoreView). c.gathering.slices) acts.new_is;
         reslicings_are =
             ap (λ (c : CoreView). c.gathering.reslicings) acts.new_is
@@ -114,8 +114,8 @@ reslices_reached plant before outs from rows now old new reached reslices =
       plant_is = reslices.plant_is;
       books = reslices.books;
       queues = ap (λ (qs : List (List Numbered)). length qs) reslices.queues_are;
-      layout_is = ap (λ (g : Gathering). g.layout) reslices.gathering_is;
-      shares_are = ap (λ (g : Gathering). g.shares) reslices.gathering_is;
+      channel_is = ap (λ (g : Gathering). g.channel) reslices.gathering_is;
+      quotas_are = ap (λ (g : Gathering). g.quotas) reslices.gathering_is;
       slices_are = ap (λ (g : Gathering). g.slices) reslices.gathering_is;
       reslicings_are = ap (λ (g : Gathering). g.reslicings) reslices.gathering_is;
       puts_are = ap (λ (g : Gathering). g.queues) reslices.gathering_is;

@@ -8,7 +8,7 @@ use Rattle.plant.specs.declared.plant.PlantFields.{PlantFields}
 use Rattle.map_assembly.specs.declared.map_bytes.MapBytes.{MapBytes}
 use Rattle.map_assembly.specs.declared.view.MapView.{MapView}
 use Rattle.map_assembly.specs.Map.{map_of}
-use Rattle.map_assembly.specs.Part.{share_of}
+use Rattle.map_assembly.specs.Part.{quota_of}
 use Rattle.map_assembly.specs.Reading.{MapReads}
 use Rattle.map_assembly.specs.Tiled.{holds, part_of}
 use Rattle.map_assembly.proofs.ReadLemmas.{reads_once}
@@ -28,7 +28,7 @@ own_part_is plant steps i row made view e m reads =
       put = m.parts_are.own i row there.0 e there.1;
       part_is =
           ap (part_of row.sids) (reads_once made.bytes view (map_of plant.consts.channel made.frame m.parts) reads m.map_is.reads)
-          ∙ m.map_is.own i (share_of row) there.0 (slice_get-map share_of plant.rows i ∙ ap (option_map share_of) e) there.1;
+          ∙ m.map_is.own i (quota_of row) there.0 (slice_get-map quota_of plant.rows i ∙ ap (option_map quota_of) e) there.1;
     }
 
 -- each MAP of the run

@@ -6,7 +6,7 @@ use Rattle.std.proofs.lemmas.List.{length-set}
 use Rattle.std.proofs.lemmas.Option.{none-some, same_Some, slice_get_within}
 use Rattle.slice_scheduler.specs.Minislots.{Minislots}
 use Rattle.slice_scheduler.specs.declared.elements.ElementsFields.{ElementsFields}
-use Rattle.map_assembly.specs.declared.share.Share.{Share}
+use Rattle.map_assembly.specs.declared.quota.Quota.{Quota}
 use Rattle.map_assembly.specs.Gathering.{Gathering, slices_at, frame_slices, queue_of, fits_at, put_fault, with_part, is_whole, fronts, is_last, frame_parts, IsPartAt, AreQueued, IsGathering}
 use Rattle.map_assembly.proofs.PartLemmas.{fits_in}
 use Rattle.map_assembly.proofs.LastLemmas.{length-fronts}
@@ -52,16 +52,16 @@ map_is f [] (y ∷ ys) e h = absurd (omega (arith, e))
 map_is f (x ∷ xs) [] e h = absurd (omega (arith, e))
 map_is f (x ∷ xs) (y ∷ ys) e h = λ n. sym (same_Some y (f x) (h 0 x refl)) n ∷ map_is f xs ys (omega (arith, e)) (λ i z g. h (suc i) z g) n
 
-fits_slice : (share : Option Share) (slice : Option Minislots) (part : ElementsFields) → fits_at share slice part ≡ true → slice ≡ Some part.slice
+fits_slice : (quota : Option Quota) (slice : Option Minislots) (part : ElementsFields) → fits_at quota slice part ≡ true → slice ≡ Some part.slice
 fits_slice None slice part h = let wrong : false ≡ true = h in absurd (cc)
-fits_slice (Some share) None part h = let wrong : false ≡ true = h in absurd (cc)
-fits_slice (Some share) (Some slice) part h = ap (λ (m : Minislots). let o : Option Minislots = Some m in o) (sym (fits_in share slice part h).slice_is)
+fits_slice (Some quota) None part h = let wrong : false ≡ true = h in absurd (cc)
+fits_slice (Some quota) (Some slice) part h = ap (λ (m : Minislots). let o : Option Minislots = Some m in o) (sym (fits_in quota slice part h).slice_is)
 
-queued_slice : (at : ℕ → Option Minislots) (share : Share) (n : ℕ) (queue : List ElementsFields) (part : ElementsFields) → AreQueued at share n queue → slice_get queue 0 ≡ Some part → at n ≡ Some part.slice
-queued_slice at share n [] part h e = let f : ◌≡◌ {A = Option ElementsFields} None (Some part) = e in absurd (none-some part f)
-queued_slice at share n (p ∷ queue) part h e =
-    let here : IsPartAt (at n) share p = h.0 in
-    here.slice_is ∙ ap (λ (m : Minislots). let o : Option Minislots = Some m in o) (sym (fits_in share here.minislots p here.part_is.fits).slice_is ∙ ap (λ (q : ElementsFields). q.slice) (same_Some p part e))
+queued_slice : (at : ℕ → Option Minislots) (quota : Quota) (n : ℕ) (queue : List ElementsFields) (part : ElementsFields) → AreQueued at quota n queue → slice_get queue 0 ≡ Some part → at n ≡ Some part.slice
+queued_slice at quota n [] part h e = let f : ◌≡◌ {A = Option ElementsFields} None (Some part) = e in absurd (none-some part f)
+queued_slice at quota n (p ∷ queue) part h e =
+    let here : IsPartAt (at n) quota p = h.0 in
+    here.slice_is ∙ ap (λ (m : Minislots). let o : Option Minislots = Some m in o) (sym (fits_in quota here.minislots p here.part_is.fits).slice_is ∙ ap (λ (q : ElementsFields). q.slice) (same_Some p part e))
 
 module _ (g : Gathering) (op frame : ℕ) (part : ElementsFields) (is : IsGathering g) (put : put_fault g op frame part ≡ None) (whole : is_last g op part ≡ true) where
   front_slice : (i : ℕ) (p : ElementsFields) → slice_get (frame_parts g op part) i ≡ Some p → slice_get (frame_slices g frame) i ≡ Some p.slice
@@ -79,17 +79,17 @@ module _ (g : Gathering) (op frame : ℕ) (part : ElementsFields) (is : IsGather
           let queue : front.queue ≡ part ∷ [] = same_at (with_part g.queues op part) i front.queue (part ∷ []) front.queue_is there in
           let first : part ≡ p = same_Some part p (ap (λ (q : List ElementsFields). slice_get q 0) (sym queue) ∙ front.first) in
           ap (slice_get (frame_slices g frame)) same
-          ∙ (fits_slice (slice_get g.shares op) (slice_get (frame_slices g frame) op) part (is_put g op frame part put).part_is
+          ∙ (fits_slice (slice_get g.quotas op) (slice_get (frame_slices g frame) op) part (is_put g op frame part put).part_is
           ∙ ap (λ (q : ElementsFields). let o : Option Minislots = Some q.slice in o) first)
       by (inr other) =
           let there : slice_get g.queues i ≡ Some front.queue = sym (get_other g.queues op i (queue_of g.queues op ++ part ∷ []) other) ∙ front.queue_is in
-          let share = some_at g.shares i (omega (arith, is.one_each, slice_get_within g.queues i front.queue there)) in
+          let quota = some_at g.quotas i (omega (arith, is.one_each, slice_get_within g.queues i front.queue there)) in
           ap (λ (n : ℕ). slice_get (frame_slices g n) i) (last_frame g op frame part is put whole)
-          ∙ queued_slice (λ n. slice_get (slices_at g.slices g.reslicings n) i) share.0 g.next front.queue p (is.queued i share.0 front.queue share.1 there) front.first
+          ∙ queued_slice (λ n. slice_get (slices_at g.slices g.reslicings n) i) quota.0 g.next front.queue p (is.queued i quota.0 front.queue quota.1 there) front.first
 
   pub parts_slices : map (λ p. p.slice) (frame_parts g op part) ≡ frame_slices g frame
   parts_slices =
-      let valid = slices_valid g.layout (length g.shares) g.slices g.reslicings frame is.slices_are is.reslicings_are in
+      let valid = slices_valid g.channel (length g.quotas) g.slices g.reslicings frame is.slices_are is.reslicings_are in
       let long = length-fronts (with_part g.queues op part) whole in
       let same = length-set g.queues op (queue_of g.queues op ++ part ∷ []) in
       map_is (λ (p : ElementsFields). p.slice) (frame_parts g op part) (frame_slices g frame) (omega (arith, long, same, is.one_each, valid.one_each)) front_slice

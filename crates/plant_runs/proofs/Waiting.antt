@@ -82,12 +82,12 @@ module _ (plant : PlantFields) (before : List Step) (outs : List Out) (step : St
         put_are = are.put_are ∙ ap (λ (frames : List Numbered). map (λ (frame : Numbered). frame.1) (drop made frames)) (sym front);
       }
 
-  pub gathered_follows : (g after : Gathering) → IsGatheredAfter plant before outs g → after.layout ≡ g.layout → after.shares ≡ g.shares → after.slices ≡ g.slices
+  pub gathered_follows : (g after : Gathering) → IsGatheredAfter plant before outs g → after.channel ≡ g.channel → after.quotas ≡ g.quotas → after.slices ≡ g.slices
       → after.reslicings ≡ g.reslicings ++ reslicings_of (step ∷ []) → after.queues ≡ g.queues → after.next ≡ g.next
       → IsGatheredAfter plant (before ++ step ∷ []) (outs ++ now) after
-  gathered_follows g after is layout shares slices reslicings queues next = record {
-    layout_is = layout ∙ is.layout_is;
-    shares_are = shares ∙ is.shares_are;
+  gathered_follows g after is channel quotas slices reslicings queues next = record {
+    channel_is = channel ∙ is.channel_is;
+    quotas_are = quotas ∙ is.quotas_are;
     slices_are = slices ∙ is.slices_are;
     reslicings_are =
         reslicings

@@ -6,7 +6,7 @@ use Rattle.plant.specs.declared.plant.PlantFields.{PlantFields}
 use Rattle.operator_machine.specs.declared.output.Output.{Output}
 use Rattle.operator_machine.specs.declared.output.Output.TheVariants.{Reply, Silent, Frame}
 use Rattle.operator_machine.specs.Replay.{BookView, IsReplay, actions_of}
-use Rattle.map_assembly.specs.Part.{share_of}
+use Rattle.map_assembly.specs.Part.{quota_of}
 use Rattle.map_assembly.specs.Gathering.{Gathering}
 use Rattle.plant_runs.specs.declared.step.Step.{Step}
 use Rattle.plant_runs.specs.declared.step.Out.{Out}
@@ -52,8 +52,8 @@ pub record AreFramesAfter (plant : PlantFields) (steps : List Step) (made : ℕ)
 -- what is gathered after the run: it is gathered for the plant and its re-slicings, the next MAP is the one behind those that were made, and no
 -- more frames of an operator were collected than it put out
 pub record IsGatheredAfter (plant : PlantFields) (steps : List Step) (outs : List Out) (gathering : Gathering) : Type 0 where
-  pub layout_is : gathering.layout ≡ plant.consts.channel
-  pub shares_are : gathering.shares ≡ map share_of plant.rows
+  pub channel_is : gathering.channel ≡ plant.consts.channel
+  pub quotas_are : gathering.quotas ≡ map quota_of plant.rows
   pub slices_are : gathering.slices ≡ map (λ row. row.slice) plant.rows
   pub reslicings_are : gathering.reslicings ≡ reslicings_of steps
   pub one_each : length gathering.queues ≡ length plant.rows

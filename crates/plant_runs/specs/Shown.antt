@@ -11,7 +11,7 @@ use Rattle.operator_machine.specs.State.{opened, operator}
 use Rattle.operator_machine.specs.Handle.{Ran}
 use Rattle.operator_machine.specs.Machine.{own_run}
 use Rattle.map_assembly.specs.declared.map_bytes.MapBytes.{MapBytes}
-use Rattle.map_assembly.specs.Part.{share_of}
+use Rattle.map_assembly.specs.Part.{quota_of}
 use Rattle.map_assembly.specs.Assembled.{IsMapOf}
 use Rattle.plant_runs.specs.declared.step.Step.{Step}
 use Rattle.plant_runs.specs.declared.step.Out.{Out}
@@ -46,7 +46,7 @@ pub record ArePartsAt (plant : PlantFields) (steps : List Step) (frame : ℕ) (p
 pub record IsMapIn (plant : PlantFields) (steps : List Step) (made : MapBytes) : Type 0 where
   pub parts : List ElementsFields
   pub parts_are : ArePartsAt plant steps made.frame parts
-  pub map_is : IsMapOf plant.consts.channel made.frame (map share_of plant.rows) (map (λ part. part.slice) parts) parts made.bytes
+  pub map_is : IsMapOf plant.consts.channel made.frame (map quota_of plant.rows) (map (λ part. part.slice) parts) parts made.bytes
 
 -- as many MAPs as each operator's frames were collected at least
 pub record IsLeast (plant : PlantFields) (steps : List Step) (count : ℕ) : Type 0 where

@@ -48,11 +48,20 @@ pub record Collects (i : ℕ) (old new : CoreView) (now : List Out) : Type 0 whe
   pub new_is : new ≡ record old { queues = slice_set old.queues i waiting; gathering = after_put old.gathering i part }
   pub now_is : now ≡ told_map made
 
+-- no two rows have a minislot in common
+abbrev pub HaveSlicesApart : List SliceRow → Type 0
+HaveSlicesApart rows = AllPairs (λ a b. slices_overlap (slice_of a) (slice_of b) ≡ false) rows
+
+-- no book refuses its row
+abbrev pub NoneRefuses : ℕ → List BookView → List SliceRow → Type 0
+NoneRefuses from books rows = (i : ℕ) (row : SliceRow) (book : BookView)
+    → slice_get rows i ≡ Some row → slice_get books i ≡ Some book → unfit_from book.consts book.state from row ≡ None
+
 -- each operator takes its own row, and the assembly the slices, from that frame on
 pub record Reslices (from : ℕ) (rows : List SliceRow) (old new : CoreView) (now : List Out) : Type 0 where
   pub one_each : length rows ≡ length old.books
-  pub apart : AllPairs (λ a b. slices_overlap (slice_of a) (slice_of b) ≡ false) rows
-  pub fit : (i : ℕ) (row : SliceRow) (book : BookView) → slice_get rows i ≡ Some row → slice_get old.books i ≡ Some book → unfit_from book.consts book.state from row ≡ None
+  pub apart : HaveSlicesApart rows
+  pub fit : NoneRefuses from old.books rows
   pub books : length new.books ≡ length old.books
   pub acted_is : (i : ℕ) (row : SliceRow) (book : BookView) → slice_get rows i ≡ Some row → slice_get old.books i ≡ Some book → slice_get new.books i ≡ Some (acted book (actions.Reslice from row))
   pub plant_is : new.plant ≡ old.plant

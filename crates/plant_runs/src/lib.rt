@@ -2,11 +2,12 @@
 //! `plant_core` carries them out.
 #![tactic(auto)]
 
+mod fitting;
 mod laws;
+mod reaching;
 mod step;
 
-pub use laws::{
-    equal_books_answer_alike, maps_are_shared_out, opened_is_reached, run_is_reached,
-    slices_that_books_take_fit, step_is_reached, two_cores, two_worlds, waiting_frames_fit,
-};
+pub use fitting::{slices_that_books_take_fit, waiting_frames_fit};
+pub use laws::{equal_books_answer_alike, maps_are_shared_out, two_cores, two_worlds};
+pub use reaching::{opened_is_reached, run_is_reached, step_is_reached};
 pub use step::{Out, SliceRows, Step};

@@ -3,51 +3,14 @@
 ghost use Rattle.std.specs.Prelude.{◌≡◌, IfOk};
 
 use dsx_messages::Modem;
+use lists::Listed;
 use map_assembly::MapBytes;
 use operator_machine::{Heard, Output, SliceRow};
 use plant::Op;
 use std::alloc::{AllocError, Global};
-use std::marker::Model;
 
-/// A slice and a budget for each operator, in the plant's order. Contracts see their list.
-#[derive(Debug, Drop)]
-pub struct SliceRows {
-    rows: Vec<SliceRow>,
-}
-
-impl Model for SliceRows {
-    ghost use Rattle.std.specs.Prelude.{List};
-    ghost use Rattle.operator_machine.specs.declared.action.SliceRow.{SliceRow};
-
-    ghost Value = { List SliceRow };
-
-    ghost view = { λ r. r.rows.items };
-}
-
-impl SliceRows {
-    /// These rows, without a copy.
-    pub fn from_vec(rows: Vec<SliceRow>) -> SliceRows
-        ensures { result ≡ rows.items }
-    {
-        SliceRows { rows }
-    }
-
-    /// The rows in place.
-    pub fn as_slice(&self) -> &[SliceRow]
-        ensures { result.now ≡ self.now }
-    {
-        self.rows.as_slice()
-    }
-
-    /// An equal list with memory of its own.
-    pub fn copy(&self, alloc: Global) -> Result<SliceRows, AllocError>
-        ensures { IfOk result (λ rows. rows ≡ self.now) }
-    {
-        Ok(SliceRows {
-            rows: Vec::from_slice(alloc, self.rows.as_slice())?,
-        })
-    }
-}
+/// A slice and a budget for each operator, in the plant's order.
+pub type SliceRows = Listed<SliceRow>;
 
 /// One step of a plant.
 #[derive(Debug, Drop)]

@@ -4,7 +4,7 @@ ghost use Rattle.std.specs.Prelude.{◌≡◌, ◌+◌, [], ◌∷◌, List, ℕ
 ghost use Rattle.plant.specs.declared.plant.PlantFields.{PlantFields};
 ghost use Rattle.plant_runs.specs.declared.step.Out.{Out};
 ghost use Rattle.plant_runs.specs.declared.step.Step.{Step};
-ghost use Rattle.live_core.specs.After.{BehindEachRun, IsAfter, IsReachable};
+ghost use Rattle.live_core.specs.After.{BehindEachRun, IsReachable};
 ghost use Rattle.live_core.specs.LiveView.{live_view};
 ghost use Rattle.plant_service.specs.Service.{IsServiceOf};
 ghost use Rattle.plant_service.specs.SoFar.{IsHeld, IsAnswered, IsServedSoFar};
@@ -38,9 +38,10 @@ fn answer_held<W: Write>(
 ) -> io::Result<()>
     requires reached { IsReachable (live_view core.old) }
     ensures reached { OnOk result (IsReachable (live_view core.new)) }
-    ensures answered { OnOk result ((plant : PlantFields) (before : List Step) (shown : List Out) (line : List ℕ)
-        → IsAfter plant before shown (live_view core.old) → IsHeld held.now.bytes.items held.now.is_long line
-        → IsAnswered plant before shown number line (live_view core.new) (W.contents writer.old) (W.contents writer.new)) }
+    ensures answered { OnOk result (BehindEachRun (live_view core.old) (λ plant before shown. (line : List ℕ)
+        → IsHeld held.now.bytes.items held.now.is_long line
+        → IsAnswered plant before shown number line (live_view core.new)
+        (W.contents writer.old) (W.contents writer.new))) }
 {
     if held.is_long {
         write_end(writer, number, LineEnd::AtFault)?;

@@ -3,7 +3,6 @@
 ghost use Rattle.std.specs.Prelude.{◌≡◌, ◌≢◌, Err, IfOk};
 ghost use Rattle.dsx_messages.specs.declared.fault.MessageFault.TheVariants.{NoMemory};
 ghost use Rattle.dsx_messages.specs.Reading.{message_of};
-ghost use Rattle.operator_machine.specs.State.{operator};
 ghost use Rattle.checks_in_order.specs.declared.check.MessageCheck.TheVariants.{Judged};
 ghost use Rattle.checks_in_order.specs.First.{IsFirst};
 ghost use Rattle.checks_in_order.specs.Messages.{HoldsOf, message_table};

@@ -6,6 +6,7 @@ ghost use Rattle.plant_turns.specs.Refusing.{refusal_of};
 
 use operator_book::{Book, BookFault};
 use operator_machine::Action;
+use plant::is_listed;
 
 /// Why a book refuses an action, want of memory apart. Takes no memory.
 pub(crate) fn refusal_of(book: &Book, action: &Action) -> Option<BookFault>
@@ -13,7 +14,7 @@ pub(crate) fn refusal_of(book: &Book, action: &Action) -> Option<BookFault>
 {
     match action {
         Action::Arrive { modem, heard: _ } => {
-            if book.row().get_fields().modems.contains(*modem) {
+            if is_listed(*modem, book.row().get_fields().modems.as_slice()) {
                 None
             } else {
                 Some(BookFault::NotMine { modem: *modem })

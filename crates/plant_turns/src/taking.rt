@@ -84,7 +84,7 @@ impl Held {
         ensures waiting { waiting_of result ≡ drop taken (frames_at (view_of book)) }
         ensures stopped { result.stopped ≡ false }
     {
-        book.replay();
+        book.always_replayed();
         let collected = behind(book.history(), taken);
         Held {
             desk: Desk { book, collected },
@@ -101,7 +101,7 @@ impl Held {
     {
         let Held { desk, stopped: _ } = self;
         let Desk { book, collected } = desk;
-        book.replay();
+        book.always_replayed();
         let taken = entries_with_frame(&book.history()[..collected]);
         (book, taken)
     }

@@ -1,6 +1,6 @@
 //! A run between its pieces: no thread is there.
 
-ghost use Rattle.std.specs.Prelude.{◌≡◌, List, IfErr};
+ghost use Rattle.std.specs.Prelude.{List, IfErr};
 ghost use Rattle.plant_runs.specs.declared.step.Step.{Step};
 ghost use Rattle.plant_workers.specs.Faulting.{IsReslice, IsOfRun};
 

@@ -1,6 +1,6 @@
 //! What a thread of a run tells when it has ended.
 
-ghost use Rattle.std.specs.Prelude.{◌≡◌, List, IfSome};
+ghost use Rattle.std.specs.Prelude.{List, IfSome};
 ghost use Rattle.plant_runs.specs.declared.step.Step.{Step};
 ghost use Rattle.plant_workers.specs.Faulting.{IsOfRun};
 

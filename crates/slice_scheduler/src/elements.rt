@@ -4,11 +4,14 @@ ghost use Rattle.std.specs.Prelude.{◌≡◌, IfOk};
 ghost use Rattle.slice_scheduler.specs.Tiles.{IsTiled};
 ghost use Rattle.slice_scheduler.specs.declared.elements.ElementsFields.{ElementsFields};
 
-use crate::lists::{Sids, Spans};
 use crate::slice::Slice;
-use crate::span::Span;
+use crate::span::{Span, Spans};
+use lists::Listed;
 use std::alloc::{AllocError, Global};
 use std::marker::Model;
+
+/// SIDs one after the other.
+pub type Sids = Listed<u16>;
 
 /// The elements of an operator's part of a MAP: who is granted which minislots of its slice, and who waits for more.
 #[derive(Debug, Drop)]
@@ -67,7 +70,7 @@ impl Elements {
     }
 
     /// What all elements keep, for a caller's proof: the spans tile the slice. Does nothing.
-    pub fn kept(&self)
+    pub fn always(&self)
         ensures { IsTiled self.now }
     {
         let _ = &self.fields;

@@ -9,7 +9,6 @@ mod due;
 mod elements;
 mod flowing;
 mod laws;
-mod lists;
 mod ordering;
 mod packing;
 mod piece;
@@ -18,14 +17,13 @@ mod served;
 mod slice;
 mod span;
 
-pub use elements::{Elements, ElementsFields};
+pub use elements::{Elements, ElementsFields, Sids};
 pub use flowing::{At, Flowing};
 pub use laws::{
     base_is_granted, elements_are_few, elements_are_tiled, elements_name_flows,
     grant_is_within_backlog, granted_by_flow,
 };
-pub use lists::{Grants, Sids, Spans};
 pub use planning::schedule;
-pub use served::Served;
+pub use served::{Grants, Served};
 pub use slice::Slice;
-pub use span::{Iuc, Span};
+pub use span::{Iuc, Span, Spans};

@@ -11,11 +11,11 @@ use crate::claiming::{claims, room};
 use crate::due::all_due;
 use crate::elements::{Elements, ElementsFields};
 use crate::flowing::{At, Flowing};
-use crate::lists::{Grants, Sids, Spans};
 use crate::ordering::ordered;
 use crate::packing::{pack, push_awards};
 use crate::served::Served;
 use grant_policy::Ranking;
+use lists::Listed;
 use std::alloc::{AllocError, Global};
 
 /// The SIDs of those that asked for more than they are granted.
@@ -76,9 +76,9 @@ pub fn schedule(
     Ok(Served {
         elements: Elements::new(ElementsFields {
             slice: at.slice,
-            spans: Spans::from_vec(spans),
-            pending: Sids::from_vec(pending),
+            spans: Listed::from_vec(spans),
+            pending: Listed::from_vec(pending),
         }),
-        granted: Grants::from_vec(granted),
+        granted: Listed::from_vec(granted),
     })
 }

@@ -1,7 +1,10 @@
 //! What a schedule answers.
 
 use crate::elements::Elements;
-use crate::lists::Grants;
+use lists::Listed;
+
+/// Minislots granted to the backlogs of flows: SFIDs and minislots.
+pub type Grants = Listed<(u32, u16)>;
 
 /// What a schedule answers.
 #[derive(Debug, Drop)]

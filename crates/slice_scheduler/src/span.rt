@@ -3,6 +3,8 @@
 ghost use Rattle.std.specs.Prelude.{◌≡◌};
 ghost use Rattle.slice_scheduler.specs.Iuc.{number_of};
 
+use lists::Listed;
+
 /// Interval Usage Codes (CM-SP-MULPIv3.1, 6.4.4): those that this scheduler uses.
 #[derive(Clone, Copy, Debug, PartialEq, Eq)]
 pub enum Iuc {
@@ -39,3 +41,6 @@ pub struct Span {
     /// How many minislots.
     pub len: u16,
 }
+
+/// Spans one after the other.
+pub type Spans = Listed<Span>;

@@ -17,7 +17,9 @@ use crate::tree::{
 use admission::IdRange;
 use dsx_messages::Modem;
 use grant_policy::Policy;
-use plant::{Consts, Modems, OperatorName, OperatorRow, Provision, Provisions, RowFields};
+use plant::{
+    Consts, Modems, OperatorName, OperatorRow, Provision, Provisions, RowFields, is_listed,
+};
 use slice_scheduler::Slice;
 use std::alloc::Global;
 use tlv24::Bytes;
@@ -157,7 +159,7 @@ fn own_modem_at(modems: &Modems, table: &Table, place: Place) -> Result<Modem, P
     ensures { result ≡ own_modem_at modems.now place (table_view table.now) }
 {
     let modem = modem_at(table, place, Field::Modem)?;
-    if modems.contains(modem) {
+    if is_listed(modem, modems.as_slice()) {
         Ok(modem)
     } else {
         Err(place.wrong(Field::Modem))

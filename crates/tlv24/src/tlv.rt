@@ -6,8 +6,11 @@ ghost use Rattle.tlv24.specs.Tlv.{tlv, first_of, Begins, NoTlvBegins, IsTlvList}
 ghost use Rattle.tlv24.specs.Split.{IsSplitFault, IsOkUnlessMemory};
 ghost use Rattle.tlv24.specs.declared.tlv.TlvFault.TheVariants.{NoMemory};
 
-use crate::bytes::Bytes;
+use lists::Listed;
 use std::alloc::{AllocError, AllocFailed, Global};
+
+/// Bytes that a value owns.
+pub type Bytes = Listed<u8>;
 
 /// One TLV: its type byte and its value. The length byte is the value's length.
 #[derive(Debug, Drop)]

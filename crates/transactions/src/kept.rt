@@ -48,7 +48,7 @@ impl Kept {
     pub fn new(alloc: Global, capacity: u32, timers: Timers) -> Result<Kept, AllocError>
         ensures { IfOk result (λ kept. kept ≡ record { capacity = capacity; waits = timers; entries = [] }) }
     {
-        timers.kept();
+        timers.always();
         Ok(Kept {
             capacity,
             timers,

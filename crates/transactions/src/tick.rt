@@ -7,8 +7,8 @@ ghost use Rattle.transactions.specs.Timers.{resent_in, given_up_in, kept_after};
 use crate::entry::KeptEntry;
 use crate::timers::Timers;
 use dsx_messages::{Kind, Modem};
+use lists::Listed;
 use std::alloc::{AllocError, Global};
-use std::marker::Model;
 use tlv24::Bytes;
 
 /// A response that is sent again.
@@ -30,68 +30,10 @@ pub struct GivenUp {
 }
 
 /// The responses that a tick sends again, in the order in which their transactions began.
-#[derive(Debug, Drop)]
-pub struct Resends {
-    resends: Vec<Resend>,
-}
-
-impl Model for Resends {
-    ghost use Rattle.std.specs.Prelude.{List};
-    ghost use Rattle.transactions.specs.declared.tick.Resend.{Resend};
-
-    ghost Value = { List Resend };
-
-    ghost view = { λ r. r.resends.items };
-}
-
-impl Resends {
-    /// The responses in place.
-    pub fn as_slice(&self) -> &[Resend]
-        ensures { result.now ≡ self.now }
-    {
-        self.resends.as_slice()
-    }
-
-    /// The responses, given back without a copy.
-    pub fn into_vec(self) -> Vec<Resend>
-        ensures { result.items ≡ self }
-    {
-        let Resends { resends } = self;
-        resends
-    }
-}
+pub type Resends = Listed<Resend>;
 
 /// The transactions that a tick gives up, in the order in which they began.
-#[derive(Debug, Drop)]
-pub struct GivenUps {
-    given_ups: Vec<GivenUp>,
-}
-
-impl Model for GivenUps {
-    ghost use Rattle.std.specs.Prelude.{List};
-    ghost use Rattle.transactions.specs.declared.tick.GivenUp.{GivenUp};
-
-    ghost Value = { List GivenUp };
-
-    ghost view = { λ g. g.given_ups.items };
-}
-
-impl GivenUps {
-    /// The transactions in place.
-    pub fn as_slice(&self) -> &[GivenUp]
-        ensures { result.now ≡ self.now }
-    {
-        self.given_ups.as_slice()
-    }
-
-    /// The transactions, given back without a copy.
-    pub fn into_vec(self) -> Vec<GivenUp>
-        ensures { result.items ≡ self }
-    {
-        let GivenUps { given_ups } = self;
-        given_ups
-    }
-}
+pub type GivenUps = Listed<GivenUp>;
 
 /// What a tick tells.
 #[derive(Debug, Drop)]
@@ -118,7 +60,7 @@ pub(crate) fn resends_in(alloc: Global, entries: &[KeptEntry]) -> Result<Resends
             })?;
         }
     }
-    Ok(Resends { resends })
+    Ok(Listed::from_vec(resends))
 }
 
 /// The transactions that the next tick gives up. Takes no memory where there are none.
@@ -136,7 +78,7 @@ pub(crate) fn given_ups_in(alloc: Global, entries: &[KeptEntry]) -> Result<Given
             })?;
         }
     }
-    Ok(GivenUps { given_ups })
+    Ok(Listed::from_vec(given_ups))
 }
 
 /// Forgets entries whose time ends, and counts the others one tick down.

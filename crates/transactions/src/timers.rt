@@ -42,7 +42,7 @@ impl Timers {
     }
 
     /// Both waits are at least one tick: for a caller's proof. Does nothing.
-    pub fn kept(&self)
+    pub fn always(&self)
         ensures { IsLasting self.now }
     {
         let _ = &self.ack_wait;

@@ -1,6 +1,6 @@
 //! Calls of a cell by one thread, with values that others worked out.
 
-ghost use Rattle.std.specs.Prelude.{All, IfSome};
+ghost use Rattle.std.specs.Prelude.{IfSome};
 ghost use Rattle.plant_passes.specs.Passes.{IsOf};
 ghost use Rattle.plant_passes.specs.ViewOf.{cell_of, pass_of};
 

@@ -5,4 +5,4 @@ use Rattle.map_assembly.specs.Gathering.{part_at}
 use Rattle.map_assembly.proofs.assembling.push_filled.Given as goal
 
 abbrev pub invariant-loop-k : goal.invariant-loop-k
-invariant-loop-k l = l.list.items ++ map element_of_span (filled l.from l.layout.frame_minislots (map (part_at l.queues l.op l.part) (drop l.k-index l.order))) ≡ l.fn.list.items ++ map element_of_span (filled l.layout.head l.layout.frame_minislots (map (part_at l.queues l.op l.part) l.order))
+invariant-loop-k l = l.list.items ++ map element_of_span (filled l.from l.channel.frame_minislots (map (part_at l.queues l.op l.part) (drop l.k-index l.order))) ≡ l.fn.list.items ++ map element_of_span (filled l.channel.head l.channel.frame_minislots (map (part_at l.queues l.op l.part) l.order))

@@ -12,7 +12,7 @@ pub returns : goal.returns
 returns g c =
     let same : c.args.assembly.now.plant ≡ c.args.plant.now = sym c.plant.ensures ∙ c.if-not-is_same_plant.ensures.0 refl in
     let long = length-map c.args.books.now view_of in
-    let are = all_numbered c.args.plant.now c.args.steps.now (map view_of c.args.books.now) c.args.assembly.now (omega (arith, long, c.requires.one_each)) c.requires.own same c.kept.ensures.made in
+    let are = all_numbered c.args.plant.now c.args.steps.now (map view_of c.args.books.now) c.args.assembly.now (omega (arith, long, c.requires.one_each)) c.requires.own same c.always.ensures.made in
     ok_weaker _ _ c.first_put_stray.result
     (λ o told. map_told c.args.plant.now c.args.steps.now (map view_of c.args.books.now) c.args.assembly.now same o
     (subst (λ (ps : List Placing). AllAreNumbered c.args.plant.now.consts.channel.first_frame c.args.steps.now (map view_of c.args.books.now) ps

@@ -18,7 +18,7 @@ returns g c row here =
     book_told c.args.plant.now c.args.steps.now c.args.op row (view_of c.args.book.now)
     (sym c.row.ensures ∙ (c.if-not-is_same_row.ensures.0 refl ∙ row_is))
     (sym c.consts.ensures ∙ (c.if-not-are_same_consts.ensures.0 refl ∙ c.consts-else-not-is_same_row.ensures.value))
-    c.replay.ensures
+    c.always_replayed.ensures
     c.first_difference.result
     (subst (λ (h : List Entry). MatchOption c.first_difference.result (actions_of h ≡ own_steps row c.args.op c.args.steps.now) (DifferFirst (actions_of h) (own_steps row c.args.op c.args.steps.now)))
     c.history.ensures (c.first_difference.ensures row here))

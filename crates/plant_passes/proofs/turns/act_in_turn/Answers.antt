@@ -14,7 +14,7 @@ returns-clause-ok g c =
     let out = c.into_parts-kept.ensures in
     let into = c.of_parts-book.ensures in
     let put = c.put_back.ensures.hand ∙ ap (λ m. (m.0, (0, Some record { kept = c.into_parts-kept.result.0; rest = c.into_parts-kept.result.1 }) ∷ [])) c.exchange.ensures.3 in
-    let run = subst (λ (k : BookView). IsRun (origin_of k) k.history) (ap (λ k. k.book) (sym out.0)) c.replay.ensures.told in
+    let run = subst (λ (k : BookView). IsRun (origin_of k) k.history) (ap (λ k. k.book) (sym out.0)) c.always_replayed.ensures.told in
     if_ok _ _ _ c.act-acted.result c.act-acted.ensures.state c.act-acted.ensures.outputs
     (λ outputs is said. acted_in_hand c.args.seat.now.me.0 c.in-Some.held record { kept = c.into_parts-kept.result.0; rest = c.into_parts-kept.result.1 } c.put_back.new.seat.me c.args.action outputs.items ours put
     (ap (λ k. k.book) out.0 ∙ (is ∙ ap (λ k. acted k.book c.args.action) into.0))
@@ -27,7 +27,7 @@ returns-clause-err g c =
     let out = c.into_parts-kept.ensures in
     let into = c.of_parts-book.ensures in
     let put = c.put_back.ensures.hand ∙ ap (λ m. (m.0, (0, Some record { kept = c.into_parts-kept.result.0; rest = c.into_parts-kept.result.1 }) ∷ [])) c.exchange.ensures.3 in
-    let run = subst (λ (k : BookView). IsRun (origin_of k) k.history) (ap (λ k. k.book) (sym out.0)) c.replay.ensures.told in
+    let run = subst (λ (k : BookView). IsRun (origin_of k) k.history) (ap (λ k. k.book) (sym out.0)) c.always_replayed.ensures.told in
     on_err _ _ c.act-acted.result c.act-acted.ensures.err
     (λ is. unchanged_in_hand c.args.seat.now.me.0 c.in-Some.held record { kept = c.into_parts-kept.result.0; rest = c.into_parts-kept.result.1 } c.put_back.new.seat.me ours put
     (ap (λ k. k.book) out.0 ∙ (is ∙ ap (λ k. k.book) into.0))

@@ -19,5 +19,5 @@ returns g c =
       sids_are = ap (λ r. r.sids) (c.get_fields.ensures.value ∙ c.row.ensures);
       frames_are = frames;
       in_order = run_in_order book.consts.channel.first_frame (count_by is_tick (actions_of book.history)) (outputs_of book.history) (numbered c.in_ok-frames_in.field-0.items) frames
-          (ap frames_in (told_outputs o book.history c.replay.ensures.told) ∙ c.frames_have_no_gap.ensures.numbers o (actions_of book.history));
+          (ap frames_in (told_outputs o book.history c.always_replayed.ensures.told) ∙ c.frames_have_no_gap.ensures.numbers o (actions_of book.history));
     }

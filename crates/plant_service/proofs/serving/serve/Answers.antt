@@ -37,7 +37,7 @@ returns-in-None g c =
     (subst (λ (o : Option ℕ). Takes rest left o) c.in-None.is c.in_ok-next_byte.ensures)
     (λ plant before shown input after so_far.
     input_ended plant before shown input [] held.bytes.items held.is_long c.loop.number (live_view c.loop.core) (live_view c.answer_held.new.core) old mid new so_far
-    (answers plant _ _ so_far.part so_far.after so_far.is_held) refl))
+    (answers plant _ _ so_far.after so_far.part so_far.is_held) refl))
     c.answer_held.ensures.answered
 
 pub loop-preserved : goal.loop-preserved

@@ -10,5 +10,5 @@ returns-then-byte-ne10-clause-on g c plant before shown input rest written so_fa
 
 pub returns-clause-on : goal.returns-clause-on
 returns-clause-on g c plant before shown input rest written so_far =
-    line_ended plant before shown input (c.args.byte ∷ rest) _ _ _ _ _ written _ _ so_far (c.in_ok-answer_held.ensures.answered plant _ _ so_far.part so_far.after so_far.is_held)
+    line_ended plant before shown input (c.args.byte ∷ rest) _ _ _ _ _ written _ _ so_far (c.in_ok-answer_held.ensures.answered plant _ _ so_far.after so_far.part so_far.is_held)
     _ _ _ rest (ap (λ (b : ℕ). b ∷ rest) c.if-byte-ne10.false) c.in_ok-number.ensures c.clear.ensures

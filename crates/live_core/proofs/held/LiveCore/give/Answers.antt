@@ -36,7 +36,7 @@ invariant_of-self-2 g c =
           (reslices_on core.routes core.gather _ _ _ _ _ c.args.from c.args.rows.now c.requires c.give.ensures.books c.give.ensures.waiting
           (may_take core.routes core.gather _ _ c.args.from c.args.rows.now c.always.ensures.plant core.reached c.requires)
           (subst (λ (slices : List Minislots). GoesOnAlike (resliced core.gather c.args.from slices) c.let_go.new.self) c.in_ok-slices.ensures
-          (subst (λ (x : Gathering). GoesOnAlike x c.let_go.new.self) c.in_ok-reslice.ensures.state c.let_go.ensures.alike)) c.kept.ensures)
+          (subst (λ (x : Gathering). GoesOnAlike x c.let_go.new.self) c.in_ok-reslice.ensures.state c.let_go.ensures.alike)) c.always-2.ensures)
           core.reached;
     }
 
@@ -46,4 +46,4 @@ returns-clause-ok g c =
     reslices_on core.routes core.gather _ _ _ _ _ c.args.from c.args.rows.now c.requires c.give.ensures.books c.give.ensures.waiting
     (may_take core.routes core.gather _ _ c.args.from c.args.rows.now c.always.ensures.plant core.reached c.requires)
     (subst (λ (slices : List Minislots). GoesOnAlike (resliced core.gather c.args.from slices) c.let_go.new.self) c.in_ok-slices.ensures
-    (subst (λ (x : Gathering). GoesOnAlike x c.let_go.new.self) c.in_ok-reslice.ensures.state c.let_go.ensures.alike)) c.kept.ensures
+    (subst (λ (x : Gathering). GoesOnAlike x c.let_go.new.self) c.in_ok-reslice.ensures.state c.let_go.ensures.alike)) c.always-2.ensures

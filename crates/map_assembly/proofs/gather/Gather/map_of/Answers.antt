@@ -6,16 +6,16 @@ use Rattle.map_assembly.proofs.gather.Gather.map_of.Goals as goal
 
 pub map_bytes-requires-clause-few : goal.map_bytes-requires-clause-few
 map_bytes-requires-clause-few c =
-    few_ordered c.args.self.now.layout c.args.self.now.shares (frame_slices c.args.self.now c.args.frame) (frame_parts c.args.self.now c.args.op c.args.part.now) _
-    (frame_of _ c.args.self.now c.args.op c.args.frame c.args.part.now c.self.view_is c.self.invariant c.requires.put c.kept.ensures c.requires.last)
-    (ordered_is _ c.args.self.now c.args.op c.args.frame c.args.part.now c.order.result.now c.as_slice-queues.result.now c.slices_at-slicing.result.now c.self.view_is c.self.invariant c.requires.put c.kept.ensures c.requires.last
+    few_ordered c.args.self.now.channel c.args.self.now.quotas (frame_slices c.args.self.now c.args.frame) (frame_parts c.args.self.now c.args.op c.args.part.now) _
+    (frame_of _ c.args.self.now c.args.op c.args.frame c.args.part.now c.self.view_is c.self.invariant c.requires.put c.always.ensures c.requires.last)
+    (ordered_is _ c.args.self.now c.args.op c.args.frame c.args.part.now c.order.result.now c.as_slice-queues.result.now c.slices_at-slicing.result.now c.self.view_is c.self.invariant c.requires.put c.always.ensures c.requires.last
     c.order.ensures (search rules) c.as_slice-queues.ensures.value)
 
 pub map_bytes-requires-clause-fit : goal.map_bytes-requires-clause-fit
 map_bytes-requires-clause-fit c =
-    fit_ordered c.args.self.now.layout c.args.self.now.shares (frame_slices c.args.self.now c.args.frame) (frame_parts c.args.self.now c.args.op c.args.part.now) _
-    (frame_of _ c.args.self.now c.args.op c.args.frame c.args.part.now c.self.view_is c.self.invariant c.requires.put c.kept.ensures c.requires.last)
-    (ordered_is _ c.args.self.now c.args.op c.args.frame c.args.part.now c.order.result.now c.as_slice-queues.result.now c.slices_at-slicing.result.now c.self.view_is c.self.invariant c.requires.put c.kept.ensures c.requires.last
+    fit_ordered c.args.self.now.channel c.args.self.now.quotas (frame_slices c.args.self.now c.args.frame) (frame_parts c.args.self.now c.args.op c.args.part.now) _
+    (frame_of _ c.args.self.now c.args.op c.args.frame c.args.part.now c.self.view_is c.self.invariant c.requires.put c.always.ensures c.requires.last)
+    (ordered_is _ c.args.self.now c.args.op c.args.frame c.args.part.now c.order.result.now c.as_slice-queues.result.now c.slices_at-slicing.result.now c.self.view_is c.self.invariant c.requires.put c.always.ensures c.requires.last
     c.order.ensures (search rules) c.as_slice-queues.ensures.value)
 
 pub returns-clause-next : goal.returns-clause-next
@@ -30,9 +30,9 @@ returns-clause-after c = out_after _ c.args.self.now c.args.op c.args.frame c.ar
 pub returns-clause-bytes : goal.returns-clause-bytes
 returns-clause-bytes c =
     IfOk-weaker c.map_bytes.result _ _
-    (λ bytes made. is_map_of c.args.self.now.layout c.self.inside.layout c.args.frame c.args.self.now.shares (frame_slices c.args.self.now c.args.frame) (frame_parts c.args.self.now c.args.op c.args.part.now) _ bytes.items
-    (frame_of _ c.args.self.now c.args.op c.args.frame c.args.part.now c.self.view_is c.self.invariant c.requires.put c.kept.ensures c.requires.last)
+    (λ bytes made. is_map_of c.args.self.now.channel c.self.inside.channel c.args.frame c.args.self.now.quotas (frame_slices c.args.self.now c.args.frame) (frame_parts c.args.self.now c.args.op c.args.part.now) _ bytes.items
+    (frame_of _ c.args.self.now c.args.op c.args.frame c.args.part.now c.self.view_is c.self.invariant c.requires.put c.always.ensures c.requires.last)
     (layout_seen _ c.args.self.now c.self.view_is)
-    (ordered_is _ c.args.self.now c.args.op c.args.frame c.args.part.now c.order.result.now c.as_slice-queues.result.now c.slices_at-slicing.result.now c.self.view_is c.self.invariant c.requires.put c.kept.ensures c.requires.last
+    (ordered_is _ c.args.self.now c.args.op c.args.frame c.args.part.now c.order.result.now c.as_slice-queues.result.now c.slices_at-slicing.result.now c.self.view_is c.self.invariant c.requires.put c.always.ensures c.requires.last
     c.order.ensures (search rules) c.as_slice-queues.ensures.value) made)
     c.map_bytes.ensures

@@ -9,7 +9,7 @@ pub invariant_of-self-in-Ok-put : goal.invariant_of-self-in-Ok-put
 invariant_of-self-in-Ok-put c =
     rw (c.note.ensures, c.make_room.ensures.placings, c.note_map.ensures, c.make_room.ensures.maps, c.in-Ok.ensures, c.in-Ok-put.ensures.state)
     (put_more (gathering_of c.self.inside.plant) c.self.inside.gather c.self.inside.placings.items c.self.inside.maps.items c.args.op c.args.frame c.args.elements c.in-Ok-put.made
-    c.self.invariant c.kept.ensures c.in-Ok-put.ensures.goes c.in-Ok-put.ensures.map)
+    c.self.invariant c.always.ensures c.in-Ok-put.ensures.goes c.in-Ok-put.ensures.map)
 
 pub returns-in-Err-clause-fault : goal.returns-in-Err-clause-fault
 returns-in-Err-clause-fault c fault ne e =

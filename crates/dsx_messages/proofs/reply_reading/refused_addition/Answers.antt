@@ -1,6 +1,0 @@
-use Rattle.dsx_messages.proofs.reply_reading.refused_addition.Goals as goal
-
-pub returns-in_err-errored-clause-every_reference :
-    goal.returns-in_err-errored-clause-every_reference
-returns-in_err-errored-clause-every_reference c reference subtype fits told =
-    absurd (cc (c.in_err-errored.ensures.every_reference reference subtype fits told))

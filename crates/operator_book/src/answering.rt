@@ -1,0 +1,227 @@
+//! How a request is answered: its verdict is carried out, and its reply kept and put out.
+
+ghost use Rattle.std.specs.Prelude.{◌≡◌, ◌≢◌, ◌<◌, None, IsNone, Result, Ok, IfOk, IfSome, IfNone, length, find};
+ghost use Rattle.dsx_messages.specs.declared.code.Code.TheVariants.{Okay};
+ghost use Rattle.dsx_messages.specs.declared.message.Message.TheVariants as messages;
+ghost use Rattle.transactions.specs.Entry.{is_of};
+ghost use Rattle.flow_table.specs.Table.{MayStand};
+ghost use Rattle.operator_machine.specs.declared.verdict.Verdict.{Verdict};
+ghost use Rattle.operator_machine.specs.declared.verdict.Verdict.TheVariants.{Refused, Put, Deleted};
+ghost use Rattle.operator_machine.specs.Asked.{refusal};
+ghost use Rattle.operator_machine.specs.Handle.{message_handled, tid_of, kind_of};
+ghost use Rattle.operator_book.specs.Held.{table_of, HasOwnSids, MayPut};
+ghost use Rattle.operator_book.specs.Does.{Does};
+ghost use Rattle.operator_book.specs.Running.{keeping, told, carried_out, IsAnswered, IsNew};
+
+use crate::machine::{Both, Machine, answer, silent};
+use crate::refusal::refusal;
+use dsx_messages::{Code, Kind, Modem, Reply, Request, write_reply};
+use flow_table::Flow;
+use operator_machine::{Cause, Verdict};
+use std::alloc::{AllocError, Global};
+use tlv24::Bytes;
+
+fn kind_of(request: &Request) -> Kind
+    ensures { result ≡ kind_of request.now }
+{
+    match request {
+        Request::Dsa { tid: _, flows: _ } => Kind::Dsa,
+        Request::Dsc { tid: _, flows: _ } => Kind::Dsc,
+        Request::Dsd { tid: _, sfid: _ } => Kind::Dsd,
+    }
+}
+
+fn tid_of(request: &Request) -> u16
+    ensures { result ≡ tid_of request.now }
+{
+    match request {
+        Request::Dsa { tid, flows: _ }
+        | Request::Dsc { tid, flows: _ }
+        | Request::Dsd { tid, sfid: _ } => *tid,
+    }
+}
+
+/// A refusal that is not kept.
+fn unkept(
+    alloc: Global,
+    twice: bool,
+    modem: Modem,
+    kind: Kind,
+    tid: u16,
+    code: Code,
+) -> Result<Both, AllocError>
+    requires { code ≢ Okay }
+    ensures told { IfOk result (λ both. both.told.items ≡ told modem (refusal kind tid code)) }
+    ensures twice { IfOk result (λ both. both.twice ≡ twice) }
+{
+    let reply = Bytes::from_vec(write_reply(alloc, &refusal(kind, tid, code))?);
+    answer(alloc, twice, modem, &reply)
+}
+
+impl Machine {
+    /// Keeps a reply.
+    fn keep(&mut self, modem: Modem, kind: Kind, tid: u16, reply: Bytes, sfid: u32, waits: bool)
+        requires free { IsNone (find (is_of modem tid) self.old.state.kept) }
+        requires room { length self.old.state.kept < self.old.row.transactions }
+        ensures { self.new ≡ keeping self.old modem tid kind reply sfid waits }
+    {
+        self.kept.begin_new(modem, tid, kind, reply, sfid, waits);
+    }
+
+    /// Tells a refusal, and keeps it.
+    pub(crate) fn refused_out(
+        &mut self,
+        alloc: Global,
+        twice: bool,
+        modem: Modem,
+        kind: Kind,
+        tid: u16,
+        reply: Reply,
+    ) -> Result<Both, AllocError>
+        requires free { IsNone (find (is_of modem tid) self.old.state.kept) }
+        requires room { length self.old.state.kept < self.old.row.transactions }
+        ensures { Does twice self.old self.new result (carried_out self.old modem kind tid (Refused reply)) }
+    {
+        let bytes = Bytes::from_vec(write_reply(alloc, &reply)?);
+        let both = answer(alloc, twice, modem, &bytes)?;
+        self.keep(modem, kind, tid, bytes, 0, false);
+        Ok(both)
+    }
+
+    /// Puts a flow under its SFID; tells the reply, and keeps it.
+    #[inline(always)]
+    fn put_out(
+        &mut self,
+        alloc: Global,
+        twice: bool,
+        modem: Modem,
+        kind: Kind,
+        tid: u16,
+        sfid: u32,
+        flow: &Flow,
+        reply: Reply,
+    ) -> Result<Both, AllocError>
+        requires stands { MayStand (table_of self.old) sfid flow.now }
+        requires free { IsNone (find (is_of modem tid) self.old.state.kept) }
+        requires room { length self.old.state.kept < self.old.row.transactions }
+        ensures { Does twice self.old self.new result (carried_out self.old modem kind tid (Put sfid flow.now reply)) }
+    {
+        let bytes = Bytes::from_vec(write_reply(alloc, &reply)?);
+        let both = answer(alloc, twice, modem, &bytes)?;
+        self.flows.put(sfid, flow)?;
+        self.keep(modem, kind, tid, bytes, sfid, true);
+        Ok(both)
+    }
+
+    /// Removes a flow; tells the reply, and keeps it.
+    #[inline(always)]
+    fn deleted_out(
+        &mut self,
+        alloc: Global,
+        twice: bool,
+        modem: Modem,
+        kind: Kind,
+        tid: u16,
+        sfid: u32,
+        reply: Reply,
+    ) -> Result<Both, AllocError>
+        requires free { IsNone (find (is_of modem tid) self.old.state.kept) }
+        requires room { length self.old.state.kept < self.old.row.transactions }
+        ensures { Does twice self.old self.new result (carried_out self.old modem kind tid (Deleted sfid reply)) }
+    {
+        let bytes = Bytes::from_vec(write_reply(alloc, &reply)?);
+        let both = answer(alloc, twice, modem, &bytes)?;
+        self.flows.remove(sfid);
+        self.keep(modem, kind, tid, bytes, sfid, false);
+        Ok(both)
+    }
+
+    /// Carries out a verdict; tells its reply, and keeps it.
+    #[inline(always)]
+    fn carried_out(
+        &mut self,
+        alloc: Global,
+        twice: bool,
+        modem: Modem,
+        kind: Kind,
+        tid: u16,
+        verdict: Verdict,
+    ) -> Result<Both, AllocError>
+        requires puts { MayPut (table_of self.old) verdict }
+        requires free { IsNone (find (is_of modem tid) self.old.state.kept) }
+        requires room { length self.old.state.kept < self.old.row.transactions }
+        ensures { Does twice self.old self.new result (carried_out self.old modem kind tid verdict) }
+    {
+        match verdict {
+            Verdict::Refused { reply } => self.refused_out(alloc, twice, modem, kind, tid, reply),
+            Verdict::Put { sfid, flow, reply } => {
+                self.put_out(alloc, twice, modem, kind, tid, sfid, &flow, reply)
+            }
+            Verdict::Deleted { sfid, reply } => {
+                self.deleted_out(alloc, twice, modem, kind, tid, sfid, reply)
+            }
+        }
+    }
+
+    /// The answer to a request that is not judged: its transaction ID is of the CMTS's half, it is kept already, or as many
+    /// are kept as the row allows. None where its transaction is new.
+    #[inline(always)]
+    pub(crate) fn early_answer(
+        &self,
+        alloc: Global,
+        twice: bool,
+        modem: Modem,
+        kind: Kind,
+        tid: u16,
+    ) -> Result<Option<Both>, AllocError>
+        ensures told { IfOk result (λ early. IfSome early
+            (λ both. IsAnswered self.now modem kind tid both.told.items)) }
+        ensures twice { IfOk result (λ early. IfSome early (λ both. both.twice ≡ twice)) }
+        ensures new { IfOk result (λ early. IfNone early (IsNew self.now modem kind tid)) }
+    {
+        if tid >= 0x8000 {
+            let both = unkept(
+                alloc,
+                twice,
+                modem,
+                kind,
+                tid,
+                Code::RejectUnknownTransaction,
+            )?;
+            return Ok(Some(both));
+        }
+        if let Some(entry) = self.kept.find(modem, tid) {
+            let both = if entry.kind == kind {
+                answer(alloc, twice, modem, &entry.reply)?
+            } else {
+                silent(alloc, twice, Some(modem), Cause::TidInUse)?
+            };
+            return Ok(Some(both));
+        }
+        if self.kept.len() >= usize::from(self.row.get_fields().transactions) {
+            let both = unkept(alloc, twice, modem, kind, tid, Code::RejectTemporary)?;
+            return Ok(Some(both));
+        }
+        Ok(None)
+    }
+
+    /// Handles a request that was read.
+    pub(crate) fn request_handled(
+        &mut self,
+        alloc: Global,
+        twice: bool,
+        modem: Modem,
+        request: &Request,
+    ) -> Result<Both, AllocError>
+        requires { HasOwnSids self.old }
+        ensures { Does twice self.old self.new result (message_handled self.old modem (Ok (messages.Request request.now))) }
+    {
+        let kind = kind_of(request);
+        let tid = tid_of(request);
+        if let Some(both) = self.early_answer(alloc, twice, modem, kind, tid)? {
+            return Ok(both);
+        }
+        let verdict = self.verdict(modem, request);
+        self.carried_out(alloc, twice, modem, kind, tid, verdict)
+    }
+}

@@ -1,0 +1,34 @@
+//! Laws of what is reached: a core that is opened, stepped and run is as its steps and outputs say.
+
+ghost use Rattle.std.specs.Prelude.{List, [], ◌∷◌, ◌++◌};
+ghost use Rattle.plant.specs.declared.plant.PlantFields.{PlantFields};
+ghost use Rattle.plant.specs.Plant.{IsPlant};
+ghost use Rattle.map_assembly.specs.Gathering.{IsGathering};
+ghost use Rattle.plant_runs.specs.declared.step.Step.{Step};
+ghost use Rattle.plant_runs.specs.declared.step.Out.{Out};
+ghost use Rattle.plant_runs.specs.Reached.{CoreView, Reached};
+ghost use Rattle.plant_runs.specs.Opened.{opened_core};
+ghost use Rattle.plant_runs.specs.Run.{IsRun};
+ghost use Rattle.plant_runs.specs.Steps.{Steps};
+
+/// A core is opened as it is after no step.
+pub fn opened_is_reached()
+    ensures { (plant : PlantFields) → IsPlant plant → Reached plant [] [] (opened_core plant) }
+{}
+
+/// A step leaves the core as it is after that step more: to each operator its own machine run alone, the MAPs of these
+/// machines' frames, and all outputs in order. What the assembly always keeps of what it gathered is asked for, as it is what
+/// its type keeps.
+pub fn step_is_reached()
+    ensures { (plant : PlantFields) (before : List Step) (outs : List Out) (step : Step) (old new : CoreView)
+        (now : List Out) → IsPlant plant → Reached plant before outs old → IsGathering old.gathering
+        → Steps step old new now
+        → Reached plant (before ++ step ∷ []) (outs ++ now) new }
+{}
+
+/// Whatever steps are done to an opened core, one after the other, the core is as it is after them, and the run shows to each
+/// operator its own machine run alone.
+pub fn run_is_reached()
+    ensures { (plant : PlantFields) (steps : List Step) (outs : List Out) (core : CoreView) → IsPlant plant
+        → IsRun steps (opened_core plant) core outs → Reached plant steps outs core }
+{}
