@@ -1,11 +1,9 @@
 -- The reading of the classes.
-use Rattle.std.proofs.Common.{◌≡◌, ℕ, suc, ◌+◌, ◌<◌, ◌≤◌, ◌↔◌, nat_le, ◌&&◌, Bool, true, false, not, codes, List, [], ◌∷◌, ◌++◌, length, length-append, get_or, Option, Some, None, Result, Ok, Err, refl, sym, ap, ◌∙◌, subst, arith}
+use Rattle.std.proofs.Common.{◌≡◌, ℕ, suc, ◌+◌, ◌<◌, ◌≤◌, nat_le, ◌&&◌, Bool, true, false, not, codes, List, [], ◌∷◌, ◌++◌, length, length-append, get_or, Option, Some, None, Result, Ok, Err, refl, sym, ap, ◌∙◌, subst, arith}
 use borrow.Author.Count.{below_more}
-use Rattle.std.specs.Char.{is_ascii_alphanumeric}
-use Rattle.std.specs.List.{list_all, list_any}
-use Rattle.std.proofs.lemmas.Bool.{and_parts, not-true, true≢false}
+use Rattle.std.specs.List.{list_any}
+use Rattle.std.proofs.lemmas.Bool.{true≢false}
 use Rattle.std.proofs.lemmas.List.{get_or_append_left, get_or_push}
-use Rattle.std.proofs.lemmas.List.Folds.{list_any_none}
 use Rattle.toml.specs.Data.{Data, string, array, table, Items, Members, get_member, get_item, as_array}
 use Rattle.tlv24.specs.Flow.{flow_of}
 use Rattle.tlv24.specs.declared.fields.FlowFields.{FlowFields}
@@ -17,16 +15,13 @@ use Rattle.slice_table.specs.declared.plant_key.Key.TheVariants.{Classes, Table,
 use Rattle.slice_table.specs.declared.plant_key.Field.TheVariants as field
 use Rattle.slice_table.specs.declared.plant_key.Place.{Place}
 use Rattle.slice_table.specs.declared.plant_key.Place.TheVariants as place
-use Rattle.plant.specs.Classes.{is_named, StatesParameters}
+use Rattle.plant.specs.Classes.{is_named}
 use Rattle.slice_table.specs.Tree.{◌>>=◌, each, items_len, expected, checked, at_field, text_at, bytes_at, table_of}
 use Rattle.slice_table.specs.ReadConsts.{is_class_name, class_name_at, states_parameters, parameters_in, class_encoding_at, class_read, classes_in, classes_if}
-use Rattle.slice_table.specs.Says.{SaysClassName, SaysParameters}
-use Rattle.slice_table.proofs.Parsed.{ok_same, bind_ok, checked_ok}
-use Rattle.slice_table.proofs.Values.{at_most, none_passes, told_apart}
-use Rattle.slice_table.proofs.ClassReading.{parameters}
-use Rattle.slice_table.proofs.SaidKeys.{bind_both, checked_said, both_true, le_true, array_is, text_said, text_again, bytes_is, table_said, under}
-use Rattle.slice_table.proofs.SaidConsts.{class_name_is, parameters_again, stated_said, encoding_is}
-use Rattle.slice_table.proofs.SaidRows.{differ, not_again}
+use Rattle.slice_table.proofs.Parsed.{ok_same, bind_ok}
+use Rattle.slice_table.proofs.Values.{at_most}
+use Rattle.slice_table.proofs.SaidKeys.{le_true, array_is, text_said, bytes_is, table_said, under}
+use Rattle.slice_table.proofs.SaidConsts.{class_name_is, encoding_is}
 use Rattle.keys_in_order.specs.Held.{item_in, items_or_none, items_in, standing_at, held}
 use Rattle.keys_in_order.specs.Keys.{in_turn, class_keys}
 use Rattle.keys_in_order.specs.Stands.{MayStand}

@@ -1,5 +1,5 @@
 -- The reading of one key finds whether what stands under it may stand there.
-use Rattle.std.proofs.Common.{◌≡◌, ℕ, pos, ◌≤◌, ◌↔◌, nat_le, ◌&&◌, Bool, true, false, [], ◌∷◌, Option, Some, None, Ok, Err, refl, sym, ap, ◌∙◌, subst}
+use Rattle.std.proofs.Common.{◌≡◌, ℕ, pos, ◌≤◌, ◌↔◌, nat_le, ◌&&◌, Bool, true, false, [], ◌∷◌, Option, Some, None, IsNone, Ok, Err, refl, sym, ap, ◌∙◌, subst}
 use Rattle.std.proofs.lemmas.Bool.{and_parts, true≢false}
 use Rattle.toml.specs.Data.{Data, string, integer, array, table, Members, as_array, as_table, as_str}
 use Rattle.hex.specs.Hex.{decode_of}
@@ -13,7 +13,9 @@ use Rattle.slice_table.specs.declared.plant_key.Place.{Place}
 use Rattle.slice_table.specs.declared.plant_key.Place.TheVariants as place
 use Rattle.slice_table.specs.declared.plant_key.Key.{Key}
 use Rattle.slice_table.specs.declared.plant_key.Key.TheVariants.{Table, Entry}
-use Rattle.slice_table.specs.Tree.{Read, ◌>>=◌, required, expected, checked, at_field, natural, number_of, number_if, number_at, number_or, pair_in, array_at, pair_at, text_at, decoded, bytes_at, table_of}
+use Rattle.slice_table.specs.declared.ranges.Bounds.{Bounds}
+use Rattle.slice_table.specs.Ranges.{range_of, default_of}
+use Rattle.slice_table.specs.Tree.{Read, ◌>>=◌, required, expected, checked, at_field, natural, number_of, number_if, number_at, number_in, pair_in, array_at, pair_at, text_at, decoded, bytes_at, table_of}
 use Rattle.slice_table.specs.ReadRows.{is_range, range_at, is_within, slice_at}
 use Rattle.slice_table.specs.Says.{SaysConsts, SaysSlice, two}
 use Rattle.slice_table.proofs.Parsed.{ok_same, bind_ok, required_ok}
@@ -21,7 +23,7 @@ use Rattle.slice_table.proofs.Values.{at_most}
 use Rattle.slice_table.proofs.SaidKeys.{both_true, le_true, natural_is, table_is, array_said, range_is, slice_is, text_said}
 use Rattle.slice_table.proofs.SaidConsts.{consts_are}
 use Rattle.keys_in_order.specs.Held.{table_in, field_in, standing_at, held}
-use Rattle.keys_in_order.specs.Stands.{MayStand, MustStand, IsNumber, IsRange}
+use Rattle.keys_in_order.specs.Stands.{MayStand, MustStand, IsNumber, IsNumberIn, IsRange}
 use Rattle.keys_in_order.proofs.ListLemmas.{some_same}
 use Rattle.keys_in_order.proofs.FoundLemmas.{Blames, blames_required, blames_bind, blames_expected, blames_checked, Found, Judged, found_key, judged_required}
 
@@ -113,10 +115,13 @@ module _ (document : Members) where
   judged_number_at key low high None must has = (must, refl)
   judged_number_at key low high (Some d) must has = by_number key low high d (number_of key low high d) has (judged_number key low high d)
 
-  judged_number_if : (key : Key) (low high default : ℕ) (o : Option Data) → (¬ MustStand document key) → HasNumber key low high
-      → Judged document key o (number_if key low high default o)
-  judged_number_if key low high default None need has = need
-  judged_number_if key low high default (Some d) need has = by_number key low high d (number_of key low high d) has (judged_number key low high d)
+  -- the key has to be there where it has no default
+  judged_number_if : (key : Key) (range : Bounds) (default : Option ℕ) (o : Option Data) → (MustStand document key ↔ IsNone default)
+      → HasNumber key range.low range.high → Judged document key o (number_if key range default o)
+  judged_number_if key range None None must has = (must.1 refl, refl)
+  judged_number_if key range (Some n) None must has = (λ h. true≢false (must.0 h))
+  judged_number_if key range default (Some d) must has =
+      by_number key range.low range.high d (number_of key range.low range.high d) has (judged_number key range.low range.high d)
 
   pub found_number : (place : Place) (f : Field) (low high : ℕ) (ms : Members) → standing_at document place ≡ Some (table ms)
       → MustStand document (Entry place f) → HasNumber (Entry place f) low high → Found document (Entry place f ∷ []) (number_at place f low high ms)
@@ -124,38 +129,39 @@ module _ (document : Members) where
   found_number place f low high ms at must has =
       found_key document (Entry place f) (at_field f ms) _ (held_in place f ms at) (judged_number_at (Entry place f) low high (at_field f ms) must has)
 
-  pub found_number_or : (place : Place) (f : Field) (low high default : ℕ) (ms : Members) → standing_at document place ≡ Some (table ms)
-      → (¬ MustStand document (Entry place f)) → HasNumber (Entry place f) low high
-      → Found document (Entry place f ∷ []) (number_or place f low high default ms)
-  unfolding number_or
-  found_number_or place f low high default ms at need has =
-      found_key document (Entry place f) (at_field f ms) _ (held_in place f ms at) (judged_number_if (Entry place f) low high default (at_field f ms) need has)
+  pub found_number_in : (place : Place) (f : Field) (ms : Members) → standing_at document place ≡ Some (table ms)
+      → (MustStand document (Entry place f) ↔ IsNone (default_of f)) → ((d : Data) → MayStand document (Entry place f) d ↔ IsNumberIn f d)
+      → Found document (Entry place f ∷ []) (number_in place f ms)
+  unfolding number_in
+  found_number_in place f ms at must has =
+      found_key document (Entry place f) (at_field f ms) _ (held_in place f ms at)
+      (judged_number_if (Entry place f) (range_of f) (default_of f) (at_field f ms) must has)
 
   -- ---- ranges and slices
 
-  pub found_range : (place : Place) (f : Field) (high : ℕ) (ms : Members) → standing_at document place ≡ Some (table ms)
-      → MustStand document (Entry place f) → ((d : Data) → MayStand document (Entry place f) d ↔ IsRange high d)
-      → Found document (Entry place f ∷ []) (range_at place f high ms)
+  pub found_range : (place : Place) (f : Field) (ms : Members) → standing_at document place ≡ Some (table ms)
+      → MustStand document (Entry place f) → ((d : Data) → MayStand document (Entry place f) d ↔ IsRange f d)
+      → Found document (Entry place f ∷ []) (range_at place f ms)
   unfolding range_at
-  found_range place f high ms at must has =
-      found_key document (Entry place f) (at_field f ms) (range_at place f high ms) (held_in place f ms at)
-      (judged_required document (Entry place f) (at_field f ms) (range_at place f high ms) must blames said again)
+  found_range place f ms at must has =
+      found_key document (Entry place f) (at_field f ms) (range_at place f ms) (held_in place f ms at)
+      (judged_required document (Entry place f) (at_field f ms) (range_at place f ms) must blames said again)
     where
-      blames : Blames (Entry place f) (at_field f ms) (range_at place f high ms)
+      blames : Blames (Entry place f) (at_field f ms) (range_at place f ms)
       blames =
           blames_bind (Entry place f) (at_field f ms) (pair_at place f ms) _ (blames_pair place f ms)
-          (λ pair is. let d = pair_held place f ms pair is in blames_checked (Entry place f) (at_field f ms) d.0 (is_range high pair.0 pair.1) _ d.1)
+          (λ pair is. let d = pair_held place f ms pair is in blames_checked (Entry place f) (at_field f ms) d.0 (is_range (range_of f) pair.0 pair.1) _ d.1)
 
-      said : (range : Numbers) → range_at place f high ms ≡ Ok range → (d : Data) × (at_field f ms ≡ Some d) × MayStand document (Entry place f) d
+      said : (range : Numbers) → range_at place f ms ≡ Ok range → (d : Data) × (at_field f ms ≡ Some d) × MayStand document (Entry place f) d
       said range is =
-          let says = (range_is place f high ms range).0 is in
+          let says = (range_is place f ms range).0 is in
           (two range.first range.last, says.held, (has (two range.first range.last)).1 (range.first, range.last, refl, says.low, says.ordered, says.most))
 
-      again : (d : Data) → at_field f ms ≡ Some d → MayStand document (Entry place f) d → (range : Numbers) × (range_at place f high ms ≡ Ok range)
+      again : (d : Data) → at_field f ms ≡ Some d → MayStand document (Entry place f) d → (range : Numbers) × (range_at place f ms ≡ Ok range)
       again d holds may =
           let is = (has d).0 may in
           let range : Numbers = record { first = is.0; last = is.1 } in
-          (range, (range_is place f high ms range).1 (record { held = holds ∙ ap (λ (e : Data). Some e) is.2; low = is.3; ordered = is.4; most = is.5 }))
+          (range, (range_is place f ms range).1 (record { held = holds ∙ ap (λ (e : Data). Some e) is.2; low = is.3; ordered = is.4; most = is.5 }))
 
   -- a document says one thing of what all operators share
   pub consts_one : (a b : ConstsFields) → SaysConsts document a → SaysConsts document b → a ≡ b

@@ -20,7 +20,7 @@ use Rattle.slice_table.specs.declared.plant_key.Field.{Field}
 use Rattle.slice_table.specs.declared.plant_key.Field.TheVariants as field
 use Rattle.slice_table.specs.declared.plant_key.Place.{Place}
 use Rattle.slice_table.specs.declared.plant_key.Place.TheVariants as place
-use Rattle.slice_table.specs.Tree.{Read, ◌>>=◌, each, items_len, required, expected, checked, at_field, number_at, text_at, array_at, modem_of, table_of}
+use Rattle.slice_table.specs.Tree.{Read, ◌>>=◌, each, items_len, required, expected, checked, at_field, number_in, text_at, array_at, modem_of, table_of}
 use Rattle.slice_table.specs.ReadRows.{is_operator_name, is_called, name_at, slice_at, range_at, aged_at, policy_named, policy_at, modem_read, modems_at, provisions_if, row_at, row_read, rows_of}
 use Rattle.slice_table.specs.Says.{IsAddress, SayInTurn, SaysConsts}
 use Rattle.slice_table.proofs.Values.{at_most}
@@ -32,7 +32,7 @@ use Rattle.keys_in_order.specs.Stands.{MayStand, AllItems}
 use Rattle.keys_in_order.specs.Faults.{IsAtFault}
 use Rattle.keys_in_order.proofs.ListLemmas.{some_same, one_of}
 use Rattle.keys_in_order.proofs.FoundLemmas.{blame, Blames, blames_bind, blames_checked, refused, Found, found_behind, found_bind, found_last, found_before, found_key, found_each, judged_required}
-use Rattle.keys_in_order.proofs.KeyLemmas.{held_in, found_table, found_number, found_range, found_slice, blames_text, blames_array}
+use Rattle.keys_in_order.proofs.KeyLemmas.{held_in, found_table, found_number_in, found_range, found_slice, blames_text, blames_array}
 use Rattle.keys_in_order.proofs.FlowLemmas.{blames_address, found_flows}
 
 -- ---- the addresses
@@ -151,8 +151,8 @@ module _ (document : Members) where
         let aged : held document (Entry (place.Operator operator) field.Policy) ≡ Some (string (codes "aged")) = under (held document (Entry (place.Operator operator) field.Policy)) (string text) (string (codes "aged")) stands (ap string is) in
         found_behind document (Entry (place.Operator operator) field.Policy ∷ []) (Entry (place.Operator operator) field.Step ∷ []) (aged_at (place.Operator operator) ms)
         (found_key document {A = Policy} (Entry (place.Operator operator) field.Policy) (Some (string text)) (Ok Strict) stands (inr (inl (ap string is))))
-        (found_bind document (Entry (place.Operator operator) field.Step ∷ []) [] (number_at (place.Operator operator) field.Step 1 255 ms) _
-        (found_number document (place.Operator operator) field.Step 1 255 ms at aged (λ d. ((λ may. may aged), (λ number other. number)))) (λ step is_step. tt))
+        (found_bind document (Entry (place.Operator operator) field.Step ∷ []) [] (number_in (place.Operator operator) field.Step ms) _
+        (found_number_in document (place.Operator operator) field.Step ms at ((λ h. refl), (λ h. aged)) (λ d. ((λ may. may aged), (λ number other. number)))) (λ step is_step. tt))
     by_name text false false true holds is_strict is_aged is_short =
         found_stepless text Short (held_in document (place.Operator operator) field.Policy ms at ∙ holds) (inr (inr (ap string (same_text text (codes "short") is_short))))
         (told_apart text (codes "aged") is_aged)
@@ -252,13 +252,13 @@ module _ (document : Members) where
   found_row consts says_consts rows ms at names =
       among (field.Name ∷ []) (field.Slice ∷ field.Sfids ∷ field.Sids ∷ field.Flows ∷ field.Transactions ∷ field.Inbox ∷ field.Budget ∷ field.Elements ∷ field.Policy ∷ field.Step ∷ field.Modems ∷ field.Flow ∷ []) (name_at rows (place.Operator (length rows)) ms) _ (found_name rows ms at names)
       (λ name is_name. among (field.Slice ∷ []) (field.Sfids ∷ field.Sids ∷ field.Flows ∷ field.Transactions ∷ field.Inbox ∷ field.Budget ∷ field.Elements ∷ field.Policy ∷ field.Step ∷ field.Modems ∷ field.Flow ∷ []) (slice_at consts (place.Operator (length rows)) ms) _ (found_slice document consts (length rows) ms at says_consts)
-      (λ slice is_slice. among (field.Sfids ∷ []) (field.Sids ∷ field.Flows ∷ field.Transactions ∷ field.Inbox ∷ field.Budget ∷ field.Elements ∷ field.Policy ∷ field.Step ∷ field.Modems ∷ field.Flow ∷ []) (range_at (place.Operator (length rows)) field.Sfids 4294967295 ms) _ (found_range document (place.Operator (length rows)) field.Sfids 4294967295 ms at tt (λ d. ((λ h. h), (λ h. h))))
-      (λ sfids is_sfids. among (field.Sids ∷ []) (field.Flows ∷ field.Transactions ∷ field.Inbox ∷ field.Budget ∷ field.Elements ∷ field.Policy ∷ field.Step ∷ field.Modems ∷ field.Flow ∷ []) (range_at (place.Operator (length rows)) field.Sids 8191 ms) _ (found_range document (place.Operator (length rows)) field.Sids 8191 ms at tt (λ d. ((λ h. h), (λ h. h))))
-      (λ sids is_sids. among (field.Flows ∷ []) (field.Transactions ∷ field.Inbox ∷ field.Budget ∷ field.Elements ∷ field.Policy ∷ field.Step ∷ field.Modems ∷ field.Flow ∷ []) (number_at (place.Operator (length rows)) field.Flows 1 1024 ms) _ (found_number document (place.Operator (length rows)) field.Flows 1 1024 ms at tt (λ d. ((λ h. h), (λ h. h))))
-      (λ flows is_flows. among (field.Transactions ∷ []) (field.Inbox ∷ field.Budget ∷ field.Elements ∷ field.Policy ∷ field.Step ∷ field.Modems ∷ field.Flow ∷ []) (number_at (place.Operator (length rows)) field.Transactions 1 256 ms) _ (found_number document (place.Operator (length rows)) field.Transactions 1 256 ms at tt (λ d. ((λ h. h), (λ h. h))))
-      (λ transactions is_transactions. among (field.Inbox ∷ []) (field.Budget ∷ field.Elements ∷ field.Policy ∷ field.Step ∷ field.Modems ∷ field.Flow ∷ []) (number_at (place.Operator (length rows)) field.Inbox 1 256 ms) _ (found_number document (place.Operator (length rows)) field.Inbox 1 256 ms at tt (λ d. ((λ h. h), (λ h. h))))
-      (λ inbox is_inbox. among (field.Budget ∷ []) (field.Elements ∷ field.Policy ∷ field.Step ∷ field.Modems ∷ field.Flow ∷ []) (number_at (place.Operator (length rows)) field.Budget 0 4096 ms) _ (found_number document (place.Operator (length rows)) field.Budget 0 4096 ms at tt (λ d. ((λ h. h), (λ h. h))))
-      (λ budget is_budget. among (field.Elements ∷ []) (field.Policy ∷ field.Step ∷ field.Modems ∷ field.Flow ∷ []) (number_at (place.Operator (length rows)) field.Elements 0 235 ms) _ (found_number document (place.Operator (length rows)) field.Elements 0 235 ms at tt (λ d. ((λ h. h), (λ h. h))))
+      (λ slice is_slice. among (field.Sfids ∷ []) (field.Sids ∷ field.Flows ∷ field.Transactions ∷ field.Inbox ∷ field.Budget ∷ field.Elements ∷ field.Policy ∷ field.Step ∷ field.Modems ∷ field.Flow ∷ []) (range_at (place.Operator (length rows)) field.Sfids ms) _ (found_range document (place.Operator (length rows)) field.Sfids ms at tt (λ d. ((λ h. h), (λ h. h))))
+      (λ sfids is_sfids. among (field.Sids ∷ []) (field.Flows ∷ field.Transactions ∷ field.Inbox ∷ field.Budget ∷ field.Elements ∷ field.Policy ∷ field.Step ∷ field.Modems ∷ field.Flow ∷ []) (range_at (place.Operator (length rows)) field.Sids ms) _ (found_range document (place.Operator (length rows)) field.Sids ms at tt (λ d. ((λ h. h), (λ h. h))))
+      (λ sids is_sids. among (field.Flows ∷ []) (field.Transactions ∷ field.Inbox ∷ field.Budget ∷ field.Elements ∷ field.Policy ∷ field.Step ∷ field.Modems ∷ field.Flow ∷ []) (number_in (place.Operator (length rows)) field.Flows ms) _ (found_number_in document (place.Operator (length rows)) field.Flows ms at ((λ h. refl), (λ h. tt)) (λ d. ((λ h. h), (λ h. h))))
+      (λ flows is_flows. among (field.Transactions ∷ []) (field.Inbox ∷ field.Budget ∷ field.Elements ∷ field.Policy ∷ field.Step ∷ field.Modems ∷ field.Flow ∷ []) (number_in (place.Operator (length rows)) field.Transactions ms) _ (found_number_in document (place.Operator (length rows)) field.Transactions ms at ((λ h. refl), (λ h. tt)) (λ d. ((λ h. h), (λ h. h))))
+      (λ transactions is_transactions. among (field.Inbox ∷ []) (field.Budget ∷ field.Elements ∷ field.Policy ∷ field.Step ∷ field.Modems ∷ field.Flow ∷ []) (number_in (place.Operator (length rows)) field.Inbox ms) _ (found_number_in document (place.Operator (length rows)) field.Inbox ms at ((λ h. refl), (λ h. tt)) (λ d. ((λ h. h), (λ h. h))))
+      (λ inbox is_inbox. among (field.Budget ∷ []) (field.Elements ∷ field.Policy ∷ field.Step ∷ field.Modems ∷ field.Flow ∷ []) (number_in (place.Operator (length rows)) field.Budget ms) _ (found_number_in document (place.Operator (length rows)) field.Budget ms at ((λ h. refl), (λ h. tt)) (λ d. ((λ h. h), (λ h. h))))
+      (λ budget is_budget. among (field.Elements ∷ []) (field.Policy ∷ field.Step ∷ field.Modems ∷ field.Flow ∷ []) (number_in (place.Operator (length rows)) field.Elements ms) _ (found_number_in document (place.Operator (length rows)) field.Elements ms at ((λ h. refl), (λ h. tt)) (λ d. ((λ h. h), (λ h. h))))
       (λ elements is_elements. among (field.Policy ∷ field.Step ∷ []) (field.Modems ∷ field.Flow ∷ []) (policy_at (place.Operator (length rows)) ms) _ (found_policy (length rows) ms at)
       (λ policy is_policy. among (field.Modems ∷ []) (field.Flow ∷ []) (modems_at (place.Operator (length rows)) ms) _ (found_modems (length rows) ms at)
       (λ modems is_modems. found_last document (own (field.Flow ∷ []) ++ flows_behind) (provisions_if consts (length rows) modems (at_field field.Flow ms)) _

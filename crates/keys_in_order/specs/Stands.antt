@@ -1,5 +1,5 @@
 -- Which keys of a plant file have to be there, and what may stand under each (own).
-use Rattle.std.specs.Prelude.{◌≡◌, ◌≢◌, ℕ, ◌+◌, ◌<◌, ◌≤◌, ◌⊎◌, pos, codes, IsTrue, IsSome, List, length, Some, Ok}
+use Rattle.std.specs.Prelude.{◌≡◌, ◌≢◌, ℕ, ◌+◌, ◌<◌, ◌≤◌, ◌⊎◌, pos, codes, IsTrue, IsSome, IsNone, List, length, Some, Ok}
 use Rattle.std.specs.Char.{is_ascii_alphanumeric}
 use Rattle.std.specs.List.{list_all}
 use Rattle.toml.specs.Data.{Data, string, integer, array, table, Items, no_items, item, Members}
@@ -17,6 +17,7 @@ use Rattle.plant.specs.Name.{IsOperatorName}
 use Rattle.plant.specs.Classes.{StatesParameters}
 use Rattle.plant.specs.Provisioned.{sets_of_encoding}
 use Rattle.plant.specs.Row.{is_listed, IsFrom}
+use Rattle.slice_table.specs.Ranges.{range_of, default_of}
 use Rattle.slice_table.specs.Tree.{items_len}
 use Rattle.slice_table.specs.Says.{two, IsAddress, SaysConsts, SaysModems}
 use Rattle.keys_in_order.specs.Held.{table_in, standing_at, held}
@@ -30,9 +31,14 @@ number n = integer (pos n)
 abbrev pub IsNumber : ℕ → ℕ → Data → Type 0
 IsNumber low high d = (n : ℕ) × (d ≡ number n) × (low ≤ n) × (n ≤ high)
 
--- the first and the last number of a range, from 1 to high
-abbrev pub IsRange : ℕ → Data → Type 0
-IsRange high d = (first : ℕ) × (last : ℕ) × (d ≡ two first last) × (1 ≤ first) × (first ≤ last) × (last ≤ high)
+-- a number of the key's range
+abbrev pub IsNumberIn : Field → Data → Type 0
+IsNumberIn f d = IsNumber (range_of f).low (range_of f).high d
+
+-- the first and the last number of a range, within the key's range
+abbrev pub IsRange : Field → Data → Type 0
+IsRange f d =
+    (first : ℕ) × (last : ℕ) × (d ≡ two first last) × ((range_of f).low ≤ first) × (first ≤ last) × (last ≤ (range_of f).high)
 
 -- a table
 abbrev pub IsTable : Data → Type 0
@@ -58,34 +64,22 @@ abbrev pub IsHead : Members → Data → Type 0
 IsHead document d = (frame : ℕ) × (held document (Entry place.Plant field.FrameMinislots) ≡ Some (number frame)) × IsNumber 0 frame d
 
 abbrev pub OfPlant : Members → Field → Data → Type 0
-OfPlant document field.FrameMinislots d = IsNumber 1 4096 d
+OfPlant document field.FrameMinislots d = IsNumberIn field.FrameMinislots d
 OfPlant document field.Head d = IsHead document d
-OfPlant document field.FrameUs d = IsNumber 1 1000000 d
-OfPlant document field.BytesPerMinislot d = IsNumber 1 65535 d
-OfPlant document field.ShortMax d = IsNumber 0 4096 d
-OfPlant document field.Channel d = IsNumber 0 255 d
-OfPlant document field.UcdCount d = IsNumber 0 255 d
-OfPlant document field.RangingStart d = IsNumber 0 15 d
-OfPlant document field.RangingEnd d = IsNumber 0 15 d
-OfPlant document field.DataStart d = IsNumber 0 15 d
-OfPlant document field.DataEnd d = IsNumber 0 15 d
-OfPlant document field.AckWait d = IsNumber 1 65535 d
-OfPlant document field.Resends d = IsNumber 0 255 d
-OfPlant document field.Hold d = IsNumber 1 65535 d
-OfPlant document field.FirstFrame d = IsNumber 0 4294967295 d
+OfPlant document field.FrameUs d = IsNumberIn field.FrameUs d
+OfPlant document field.BytesPerMinislot d = IsNumberIn field.BytesPerMinislot d
+OfPlant document field.ShortMax d = IsNumberIn field.ShortMax d
+OfPlant document field.Channel d = IsNumberIn field.Channel d
+OfPlant document field.UcdCount d = IsNumberIn field.UcdCount d
+OfPlant document field.RangingStart d = IsNumberIn field.RangingStart d
+OfPlant document field.RangingEnd d = IsNumberIn field.RangingEnd d
+OfPlant document field.DataStart d = IsNumberIn field.DataStart d
+OfPlant document field.DataEnd d = IsNumberIn field.DataEnd d
+OfPlant document field.AckWait d = IsNumberIn field.AckWait d
+OfPlant document field.Resends d = IsNumberIn field.Resends d
+OfPlant document field.Hold d = IsNumberIn field.Hold d
+OfPlant document field.FirstFrame d = IsNumberIn field.FirstFrame d
 OfPlant document other d = ⊥
-
--- the keys that have no default
-abbrev pub HasNoDefault : Field → Type 0
-HasNoDefault field.RangingStart = ⊥
-HasNoDefault field.RangingEnd = ⊥
-HasNoDefault field.DataStart = ⊥
-HasNoDefault field.DataEnd = ⊥
-HasNoDefault field.AckWait = ⊥
-HasNoDefault field.Resends = ⊥
-HasNoDefault field.Hold = ⊥
-HasNoDefault field.FirstFrame = ⊥
-HasNoDefault other = Unit {0}
 
 -- ---- of a class
 
@@ -133,15 +127,15 @@ AreModems d = (ds : Items) × (d ≡ array ds) × IsFrom 1 1024 (items_len ds) �
 abbrev pub OfOperator : Members → ℕ → Field → Data → Type 0
 OfOperator document operator field.Name d = IsName document operator d
 OfOperator document operator field.Slice d = IsSlice document d
-OfOperator document operator field.Sfids d = IsRange 4294967295 d
-OfOperator document operator field.Sids d = IsRange 8191 d
-OfOperator document operator field.Flows d = IsNumber 1 1024 d
-OfOperator document operator field.Transactions d = IsNumber 1 256 d
-OfOperator document operator field.Inbox d = IsNumber 1 256 d
-OfOperator document operator field.Budget d = IsNumber 0 4096 d
-OfOperator document operator field.Elements d = IsNumber 0 235 d
+OfOperator document operator field.Sfids d = IsRange field.Sfids d
+OfOperator document operator field.Sids d = IsRange field.Sids d
+OfOperator document operator field.Flows d = IsNumberIn field.Flows d
+OfOperator document operator field.Transactions d = IsNumberIn field.Transactions d
+OfOperator document operator field.Inbox d = IsNumberIn field.Inbox d
+OfOperator document operator field.Budget d = IsNumberIn field.Budget d
+OfOperator document operator field.Elements d = IsNumberIn field.Elements d
 OfOperator document operator field.Policy d = IsPolicy d
-OfOperator document operator field.Step d = IsAged document operator → IsNumber 1 255 d
+OfOperator document operator field.Step d = IsAged document operator → IsNumberIn field.Step d
 OfOperator document operator field.Modems d = AreModems d
 OfOperator document operator field.Flow d = (ds : Items) × (d ≡ array ds)
 OfOperator document operator other d = ⊥
@@ -182,12 +176,13 @@ MayStand document (Entry (place.Class class) f) d = OfClass document class f d
 MayStand document (Entry (place.Operator operator) f) d = OfOperator document operator f d
 MayStand document (Entry (place.Flow operator flow) f) d = OfFlow document operator f d
 
--- a table of an array is there by its number, and where there is no table `plant` its first key is missing
+-- a key of the table `plant` has to be there where it has no default; a table of an array is there by its number, and where
+-- there is no table `plant` its first key is missing
 abbrev pub MustStand : Members → Key → Type 0
 MustStand document Classes = ⊥
 MustStand document Operators = Unit {0}
 MustStand document (Table place) = ⊥
-MustStand document (Entry place.Plant f) = HasNoDefault f
+MustStand document (Entry place.Plant f) = IsNone (default_of f)
 MustStand document (Entry (place.Class class) f) = Unit {0}
 MustStand document (Entry (place.Operator operator) f) = MustOfOperator document operator f
 MustStand document (Entry (place.Flow operator flow) f) = Unit {0}

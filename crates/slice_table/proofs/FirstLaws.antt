@@ -1,24 +1,19 @@
 -- Which of several is the first.
-use Rattle.std.proofs.Common.{◌≡◌, ◌≢◌, ℕ, zero, suc, ◌+◌, ◌<◌, ◌≤◌, ◌⊎◌, ◌↔◌, inl, inr, Bool, true, false, ◌||◌, List, [], ◌∷◌, ◌++◌, append-nil, append_assoc, length, length-append, get_or, AllPairs, find, option_map, Option, Some, None, is_some, refl, sym, subst, ap, ◌∙◌, arith}
+use Rattle.std.proofs.Common.{◌≡◌, ◌≢◌, ℕ, zero, suc, ◌<◌, ◌≤◌, ◌⊎◌, ◌↔◌, inl, inr, Bool, true, false, List, [], ◌∷◌, ◌++◌, append-nil, append_assoc, get_or, AllPairs, find, option_map, Option, Some, None, refl, sym, subst, ap, ◌∙◌, arith}
 use Rattle.std.specs.Prelude.{slice_get}
 use Rattle.std.specs.Option.{option_or}
-use Rattle.std.specs.List.{position_from}
-use Rattle.std.proofs.lemmas.Bool.{cases_Bool, false≢true}
-use Rattle.std.proofs.lemmas.List.{get_or-append-add}
+use Rattle.std.proofs.lemmas.Bool.{cases_Bool}
 use Rattle.std.proofs.lemmas.List.Quantifiers.{all_pairs_push}
 use Rattle.dsx_messages.specs.declared.modem.Modem.{Modem}
 use Rattle.plant.specs.declared.operator_row.RowFields.{RowFields}
 use Rattle.plant.specs.Row.{is_listed, same_modem}
-use Rattle.plant.specs.Plant.{all_modems}
-use Rattle.plant.specs.Roster.{holder}
 use Rattle.slice_table.specs.declared.checks.Apart.{Apart}
 use Rattle.slice_table.specs.Checks.{meets, first_pair, first_meeting, first_named, first_again}
 use Rattle.slice_table.specs.First.{IsLeastPair, IsFirst, StandsAgain}
-use Rattle.plant.proofs.Addresses.{same_is_equal, listed_append}
 use Rattle.plant.proofs.Holders.{same_some, true_false, first_least}
 use Rattle.slice_table.proofs.Values.{none_passes}
-use Rattle.slice_table.proofs.PlantReading.{told_modems, none_step, passed}
-use Rattle.slice_table.proofs.SaidPlant.{is_new, none_again}
+use Rattle.slice_table.proofs.PlantReading.{told_modems, none_step}
+use Rattle.slice_table.proofs.SaidPlant.{is_new}
 
 -- ---- the first that passes
 

@@ -4,9 +4,7 @@ use Rattle.std.specs.Option.{option_or}
 use Rattle.std.specs.List.{position_from}
 use Rattle.std.proofs.lemmas.Bool.{false≢true, cases_Bool}
 use Rattle.std.proofs.lemmas.List.{take_more, drop_more, length-take}
-use Rattle.std.proofs.lemmas.List.Folds.{list_any-append}
 use Rattle.std.proofs.lemmas.List.Concat.{flat_map-append}
-use Rattle.std.proofs.lemmas.Slice.Eq.{bytes_eq-Decides}
 use Rattle.dsx_messages.specs.declared.modem.Modem.{Modem}
 use Rattle.plant.specs.declared.operator_row.RowFields.{RowFields}
 use Rattle.plant.specs.Row.{same_modem, is_listed}
@@ -14,7 +12,7 @@ use Rattle.plant.specs.Plant.{all_modems}
 use Rattle.plant.specs.Roster.{Places, place_of, holder, Finds, Lists, Adds}
 use Rattle.slice_table.specs.declared.plant_fault.PlantFault.{PlantFault}
 use Rattle.slice_table.specs.declared.plant_fault.PlantFault.TheVariants.{NoMemory, ModemTwice}
-use Rattle.plant.proofs.Addresses.{same_is_equal, modem_itself, or_false, listed_append, some_holder}
+use Rattle.plant.proofs.Addresses.{same_is_equal, or_false, listed_append, some_holder}
 use Rattle.slice_table.specs.Tree.{Read, Fails}
 use Rattle.slice_table.specs.Checks.{first_again, repeated, unless}
 

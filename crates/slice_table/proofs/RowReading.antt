@@ -18,22 +18,18 @@ use Rattle.slice_table.specs.declared.plant_key.Place.{Place}
 use Rattle.slice_table.specs.declared.plant_key.Place.TheVariants as place
 use Rattle.plant.specs.Provisioned.{sets_of_encoding}
 use Rattle.plant.specs.Row.{is_listed, IsFrom, IsRow, IsProvision}
-use Rattle.slice_table.specs.Tree.{items_len, required, expected, checked, at_field, natural, number_of, modem_at, number_at, pair_at, text_at, bytes_at, array_at, table_of}
-use Rattle.slice_table.specs.ReadRows.{is_operator_name, is_called, name_at, is_within, slice_at, is_range, range_at, modem_read, modems_at, own_modem_at, has_sets, provision_at, provision_read, provisions_in, provisions_if, row_at, row_read, rows_of}
+use Rattle.slice_table.specs.Ranges.{range_of}
+use Rattle.slice_table.specs.Tree.{items_len, required, expected, checked, at_field, modem_at, number_in, pair_at, text_at, bytes_at, array_at, table_of}
+use Rattle.slice_table.specs.ReadRows.{is_operator_name, is_called, name_at, is_within, slice_at, range_at, modem_read, modems_at, own_modem_at, has_sets, provision_at, provision_read, provisions_in, provisions_if, row_at, row_read, rows_of}
 use Rattle.slice_table.proofs.Parsed.{bind_ok, checked_ok, each_keeps, each_len}
+use Rattle.slice_table.proofs.SaidKeys.{number_in_is, said_in_range, range_is}
 use Rattle.slice_table.proofs.RowParts.{row_parts}
 use Rattle.slice_table.proofs.Values.{none_passes, told_apart, at_most}
 
 -- ---- one key
 
-pub number_read : (place : Place) (f : Field) (low high : ℕ) (ms : Members) (n : ℕ) → number_at place f low high ms ≡ Ok n → (low ≤ n) × (n ≤ high)
-unfolding number_at number_of
-number_read place f low high ms n h =
-    let d = bind_ok (required (Entry place f) (at_field f ms)) _ n h in
-    let m = bind_ok (expected (Entry place f) (natural d.0)) _ n d.2 in
-    let test = checked_ok (Entry place f) (nat_le low m.0 && nat_le m.0 high) m.0 n m.2 in
-    let parts = and_parts (nat_le low m.0) (nat_le m.0 high) test.0 in
-    subst (λ (k : ℕ). (low ≤ k) × (k ≤ high)) test.1 (at_most low m.0 parts.0, at_most m.0 high parts.1)
+number_read : (place : Place) (f : Field) (ms : Members) (n : ℕ) → number_in place f ms ≡ Ok n → ((range_of f).low ≤ n) × (n ≤ (range_of f).high)
+number_read place f ms n h = said_in_range ms f n ((number_in_is place f ms n).0 h)
 
 name_read : (rows : List RowFields) (place : Place) (ms : Members) (name : List ℕ) → name_at rows place ms ≡ Ok name
     → list_any (is_called name) rows ≡ false
@@ -62,15 +58,9 @@ slice_read consts place ms slice h =
       within_frame = at_most (pair.0.0 + pair.0.1) consts.channel.frame_minislots parts.1;
     })
 
-range_read : (place : Place) (f : Field) (high : ℕ) (ms : Members) (range : Numbers) → range_at place f high ms ≡ Ok range → (1 ≤ range.first) × (range.last ≤ high)
-unfolding range_at is_range
-range_read place f high ms range h =
-    let pair = bind_ok (pair_at place f ms) _ range h in
-    let made : Numbers = record { first = pair.0.0; last = pair.0.1 } in
-    let test = checked_ok (Entry place f) (is_range high pair.0.0 pair.0.1) made range pair.2 in
-    let parts = and_parts (nat_le 1 pair.0.0 && nat_le pair.0.0 pair.0.1) (nat_le pair.0.1 high) test.0 in
-    let low = and_parts (nat_le 1 pair.0.0) (nat_le pair.0.0 pair.0.1) parts.0 in
-    subst (λ (r : Numbers). (1 ≤ r.first) × (r.last ≤ high)) test.1 (at_most 1 pair.0.0 low.0, at_most pair.0.1 high parts.1)
+range_read : (place : Place) (f : Field) (ms : Members) (range : Numbers) → range_at place f ms ≡ Ok range
+    → ((range_of f).low ≤ range.first) × (range.last ≤ (range_of f).high)
+range_read place f ms range h = let said = (range_is place f ms range).0 h in (said.low, said.most)
 
 pub modems_read : (place : Place) (ms : Members) (modems : List Modem) → modems_at place ms ≡ Ok modems → IsFrom 1 1024 (length modems)
 unfolding modems_at
@@ -145,13 +135,13 @@ one_at consts rows operator ms row h =
     let place : Place = place.Operator operator in
     let parts = row_parts consts rows operator ms row h in
     let sliced = slice_read consts place ms row.slice parts.slice in
-    let sfids_in = range_read place field.Sfids 4294967295 ms row.sfids parts.sfids in
-    let sids_in = range_read place field.Sids 8191 ms row.sids parts.sids in
-    let flows_in = number_read place field.Flows 1 1024 ms row.flows parts.flows in
-    let transactions_in = number_read place field.Transactions 1 256 ms row.transactions parts.transactions in
-    let inbox_in = number_read place field.Inbox 1 256 ms row.inbox parts.inbox in
-    let budget_in = number_read place field.Budget 0 4096 ms row.budget parts.budget in
-    let elements_in = number_read place field.Elements 0 235 ms row.elements parts.elements in
+    let sfids_in = range_read place field.Sfids ms row.sfids parts.sfids in
+    let sids_in = range_read place field.Sids ms row.sids parts.sids in
+    let flows_in = number_read place field.Flows ms row.flows parts.flows in
+    let transactions_in = number_read place field.Transactions ms row.transactions parts.transactions in
+    let inbox_in = number_read place field.Inbox ms row.inbox parts.inbox in
+    let budget_in = number_read place field.Budget ms row.budget parts.budget in
+    let elements_in = number_read place field.Elements ms row.elements parts.elements in
     let own = provisions_read consts operator row.modems (at_field field.Flow ms) row.provisions parts.provisions in (
       record {
         keys = record {

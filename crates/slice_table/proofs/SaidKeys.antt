@@ -1,5 +1,5 @@
 -- A reading of one key answers a value exactly where the key says it.
-use Rattle.std.proofs.Common.{◌≡◌, ℕ, pos, negsuc, ◌+◌, ◌≤◌, ◌↔◌, inl, inr, nat_le, le-leb, ◌&&◌, Bool, true, List, [], ◌∷◌, ◌++◌, Option, Some, None, Result, Ok, Err, codes, refl, sym, subst, ap, ◌∙◌}
+use Rattle.std.proofs.Common.{◌≡◌, ℕ, pos, negsuc, ◌+◌, ◌≤◌, ◌↔◌, inl, inr, nat_le, le-leb, ◌&&◌, Bool, true, List, [], ◌∷◌, ◌++◌, Option, Some, None, Result, Ok, Err, codes, refl, sym, subst, ap, ◌∙◌, arith}
 use Rattle.std.specs.Str.{bytes_eq}
 use Rattle.std.proofs.lemmas.Bool.{and_parts, cases_Bool}
 use Rattle.std.proofs.lemmas.Slice.Eq.{bytes_eq-Decides}
@@ -17,9 +17,10 @@ use Rattle.slice_table.specs.declared.plant_key.Field.TheVariants as field
 use Rattle.slice_table.specs.declared.plant_key.Place.{Place}
 use Rattle.slice_table.specs.declared.plant_key.Key.{Key}
 use Rattle.slice_table.specs.declared.plant_key.Key.TheVariants.{Table, Entry}
-use Rattle.slice_table.specs.Tree.{Read, ◌>>=◌, each, required, expected, checked, at_field, natural, number_of, number_if, number_at, number_or, both, pair_in, array_at, pair_at, text_at, decoded, bytes_at, modem_in, modem_of, table_of}
+use Rattle.slice_table.specs.Ranges.{range_of, default_of}
+use Rattle.slice_table.specs.Tree.{Read, ◌>>=◌, each, required, expected, checked, at_field, natural, number_of, number_if, number_at, number_in, both, pair_in, array_at, pair_at, text_at, decoded, bytes_at, modem_in, modem_of, table_of}
 use Rattle.slice_table.specs.ReadRows.{is_within, slice_at, is_range, range_at, aged_at, policy_named, policy_at}
-use Rattle.slice_table.specs.Says.{SaysNumber, SaysNumberOr, two, SaysBytes, IsAddress, SayInTurn, SaysSlice, SaysRange, SaysPolicy}
+use Rattle.slice_table.specs.Says.{SaysNumber, SaysNumberIn, two, SaysBytes, IsAddress, SayInTurn, SaysSlice, SaysRange, SaysPolicy}
 use Rattle.slice_table.proofs.Parsed.{ok_same, bind_ok, required_ok, expected_ok, checked_ok}
 use Rattle.slice_table.proofs.Values.{at_most}
 
@@ -126,23 +127,42 @@ number_is place f low high ms n = (
       (number_again (Entry place f) low high n s.low_enough s.high_enough),
 )
 
-number_if_said : (place : Place) (f : Field) (low high default : ℕ) (ms : Members) (o : Option Data) (n : ℕ) → at_field f ms ≡ o
-    → number_if (Entry place f) low high default o ≡ Ok n → SaysNumberOr ms f low high default n
-number_if_said place f low high default ms None n at h = inl (at, sym (ok_same default n h))
-number_if_said place f low high default ms (Some d) n at h =
-    let said = number_said (Entry place f) low high d n h in
+number_if_said : (place : Place) (f : Field) (ms : Members) (o : Option Data) (n : ℕ) → at_field f ms ≡ o
+    → number_if (Entry place f) (range_of f) (default_of f) o ≡ Ok n → SaysNumberIn ms f n
+number_if_said place f ms None n at h = inl (at, required_ok (Entry place f) (default_of f) n h)
+number_if_said place f ms (Some d) n at h =
+    let said = number_said (Entry place f) (range_of f).low (range_of f).high d n h in
     inr (record { held = under (at_field f ms) d (integer (pos n)) at said.0; low_enough = said.1; high_enough = said.2 })
 
-pub number_or_is : (place : Place) (f : Field) (low high default : ℕ) (ms : Members) (n : ℕ)
-    → (number_or place f low high default ms ≡ Ok n) ↔ SaysNumberOr ms f low high default n
-unfolding number_or
-number_or_is place f low high default ms n = (
-  λ h. number_if_said place f low high default ms (at_field f ms) n refl h,
+pub number_in_is : (place : Place) (f : Field) (ms : Members) (n : ℕ) → (number_in place f ms ≡ Ok n) ↔ SaysNumberIn ms f n
+unfolding number_in
+number_in_is place f ms n = (
+  λ h. number_if_said place f ms (at_field f ms) n refl h,
   λ s. elim s [
-    | inl none ↦ ap (number_if (Entry place f) low high default) none.0 ∙ ap (λ (k : ℕ). Ok k) (sym none.1)
-    | inr some ↦ ap (number_if (Entry place f) low high default) some.held ∙ number_again (Entry place f) low high n some.low_enough some.high_enough
+    | inl none ↦ ap (number_if (Entry place f) (range_of f) (default_of f)) none.0 ∙ required_said (Entry place f) (default_of f) n none.1
+    | inr some ↦
+        ap (number_if (Entry place f) (range_of f) (default_of f)) some.held
+        ∙ number_again (Entry place f) (range_of f).low (range_of f).high n some.low_enough some.high_enough
   ],
 )
+
+-- a default is of its key's range
+default_in_range : (f : Field) (n : ℕ) → default_of f ≡ Some n → ((range_of f).low ≤ n) × (n ≤ (range_of f).high)
+default_in_range field.RangingStart n h = let e : 0 ≡ n = cc in (omega (arith, e), omega (arith, e))
+default_in_range field.RangingEnd n h = let e : 0 ≡ n = cc in (omega (arith, e), omega (arith, e))
+default_in_range field.DataStart n h = let e : 0 ≡ n = cc in (omega (arith, e), omega (arith, e))
+default_in_range field.DataEnd n h = let e : 0 ≡ n = cc in (omega (arith, e), omega (arith, e))
+default_in_range field.AckWait n h = let e : 150 ≡ n = cc in (omega (arith, e), omega (arith, e))
+default_in_range field.Resends n h = let e : 3 ≡ n = cc in (omega (arith, e), omega (arith, e))
+default_in_range field.Hold n h = let e : 1500 ≡ n = cc in (omega (arith, e), omega (arith, e))
+default_in_range field.FirstFrame n h = let e : 0 ≡ n = cc in (omega (arith, e), omega (arith, e))
+default_in_range other n h = let e : ◌≡◌ {A = Option ℕ} None (Some n) = h in cc
+
+pub said_in_range : (ms : Members) (f : Field) (n : ℕ) → SaysNumberIn ms f n → ((range_of f).low ≤ n) × (n ≤ (range_of f).high)
+said_in_range ms f n s = elim s [
+  | inl none ↦ default_in_range f n none.1
+  | inr some ↦ (some.low_enough, some.high_enough)
+]
 
 -- ---- pairs, slices and ranges
 
@@ -184,26 +204,26 @@ slice_is consts place ms slice = (
       (le_true (slice.start + slice.length) consts.channel.frame_minislots s.within_frame))),
 )
 
-pub range_is : (place : Place) (f : Field) (high : ℕ) (ms : Members) (range : Numbers) → (range_at place f high ms ≡ Ok range) ↔ SaysRange ms f high range
+pub range_is : (place : Place) (f : Field) (ms : Members) (range : Numbers) → (range_at place f ms ≡ Ok range) ↔ SaysRange ms f range
 unfolding range_at is_range
-range_is place f high ms range = (
+range_is place f ms range = (
   λ h.
       let pair = bind_ok (pair_at place f ms) _ range h in
       let made : Numbers = record { first = pair.0.0; last = pair.0.1 } in
-      let test = checked_ok (Entry place f) (is_range high pair.0.0 pair.0.1) made range pair.2 in
-      let parts = and_parts (nat_le 1 pair.0.0 && nat_le pair.0.0 pair.0.1) (nat_le pair.0.1 high) test.0 in
-      let low = and_parts (nat_le 1 pair.0.0) (nat_le pair.0.0 pair.0.1) parts.0 in
-      subst (SaysRange ms f high) test.1 (record {
+      let test = checked_ok (Entry place f) (is_range (range_of f) pair.0.0 pair.0.1) made range pair.2 in
+      let parts = and_parts (nat_le (range_of f).low pair.0.0 && nat_le pair.0.0 pair.0.1) (nat_le pair.0.1 (range_of f).high) test.0 in
+      let low = and_parts (nat_le (range_of f).low pair.0.0) (nat_le pair.0.0 pair.0.1) parts.0 in
+      subst (SaysRange ms f) test.1 (record {
         held = pair_said place f ms pair.0.0 pair.0.1 pair.1;
-        low = at_most 1 pair.0.0 low.0;
+        low = at_most (range_of f).low pair.0.0 low.0;
         ordered = at_most pair.0.0 pair.0.1 low.1;
-        most = at_most pair.0.1 high parts.1;
+        most = at_most pair.0.1 (range_of f).high parts.1;
       }),
   λ s.
-      let low = both_true (nat_le 1 range.first) (nat_le range.first range.last) (le_true 1 range.first s.low) (le_true range.first range.last s.ordered) in
+      let low = both_true (nat_le (range_of f).low range.first) (nat_le range.first range.last) (le_true (range_of f).low range.first s.low) (le_true range.first range.last s.ordered) in
       bind_both (pair_at place f ms) _ (range.first, range.last) range (pair_again place f ms range.first range.last s.held)
-      (checked_said (Entry place f) (is_range high range.first range.last) range
-      (both_true (nat_le 1 range.first && nat_le range.first range.last) (nat_le range.last high) low (le_true range.last high s.most))),
+      (checked_said (Entry place f) (is_range (range_of f) range.first range.last) range
+      (both_true (nat_le (range_of f).low range.first && nat_le range.first range.last) (nat_le range.last (range_of f).high) low (le_true range.last (range_of f).high s.most))),
 )
 
 -- ---- texts
@@ -246,15 +266,15 @@ address_is key d modem = (
 
 -- ---- the policy
 
-aged_said : (place : Place) (ms : Members) (policy : Policy) → aged_at place ms ≡ Ok policy → (step : ℕ) × (policy ≡ Aged step) × SaysNumber ms field.Step 1 255 step
+aged_said : (place : Place) (ms : Members) (policy : Policy) → aged_at place ms ≡ Ok policy → (step : ℕ) × (policy ≡ Aged step) × SaysNumberIn ms field.Step step
 unfolding aged_at
 aged_said place ms policy h =
-    let step = bind_ok (number_at place field.Step 1 255 ms) _ policy h in
-    (step.0, sym (ok_same (Aged step.0) policy step.2), (number_is place field.Step 1 255 ms step.0).0 step.1)
+    let step = bind_ok (number_in place field.Step ms) _ policy h in
+    (step.0, sym (ok_same (Aged step.0) policy step.2), (number_in_is place field.Step ms step.0).0 step.1)
 
-aged_again : (place : Place) (ms : Members) (step : ℕ) → SaysNumber ms field.Step 1 255 step → aged_at place ms ≡ Ok (Aged step)
+aged_again : (place : Place) (ms : Members) (step : ℕ) → SaysNumberIn ms field.Step step → aged_at place ms ≡ Ok (Aged step)
 unfolding aged_at
-aged_again place ms step s = bind_both (number_at place field.Step 1 255 ms) _ step (Aged step) ((number_is place field.Step 1 255 ms step).1 s) refl
+aged_again place ms step s = bind_both (number_in place field.Step ms) _ step (Aged step) ((number_in_is place field.Step ms step).1 s) refl
 
 same_text : (a b : List ℕ) → bytes_eq a b ≡ true → a ≡ b
 same_text a b h = (bytes_eq-Decides a b).0 h

@@ -1,5 +1,5 @@
 -- A document is read as a plant exactly where its keys say it and it is valid.
-use Rattle.std.proofs.Common.{◌≡◌, ◌≢◌, ℕ, zero, suc, ◌-◌, ◌≤◌, ◌↔◌, inl, inr, nat_le, nat_lt, ◌&&◌, Bool, true, false, not, List, [], ◌∷◌, ◌++◌, append_assoc, length, length-append, get_or, All, AllPairs, find, option_map, Option, Some, None, Ok, codes, refl, sym, subst, ap, ◌∙◌, arith}
+use Rattle.std.proofs.Common.{◌≡◌, ◌≢◌, ℕ, zero, suc, ◌-◌, ◌≤◌, ◌↔◌, nat_le, nat_lt, ◌&&◌, Bool, true, false, not, List, [], ◌∷◌, ◌++◌, append_assoc, length, length-append, get_or, All, AllPairs, find, option_map, Option, Some, None, Ok, codes, refl, sym, subst, ap, ◌∙◌, arith}
 use Rattle.std.proofs.lemmas.Bool.{false_from_ne_true}
 use Rattle.std.proofs.lemmas.List.{get_or_append_left, get_or-append_right}
 use Rattle.std.proofs.lemmas.List.Folds.{list_any_none}
@@ -11,7 +11,6 @@ use Rattle.plant.specs.declared.consts.ConstsFields.{ConstsFields}
 use Rattle.plant.specs.declared.operator_row.RowFields.{RowFields}
 use Rattle.plant.specs.declared.plant.PlantFields.{PlantFields}
 use Rattle.slice_table.specs.declared.plant_fault.PlantFault.{PlantFault}
-use Rattle.slice_table.specs.declared.plant_key.Field.{Field}
 use Rattle.slice_table.specs.declared.plant_key.Field.TheVariants as field
 use Rattle.plant.specs.Consts.{AreConsts}
 use Rattle.plant.specs.Row.{is_listed, same_modem, DoesFit, count_of}
@@ -20,13 +19,13 @@ use Rattle.slice_table.specs.ReadConsts.{consts_of}
 use Rattle.slice_table.specs.ReadRows.{rows_of}
 use Rattle.slice_table.specs.Checks.{meets, first_pair, first_meeting, first_again, is_over_slice, is_overfull, sids_needed, minislots_needed, elements_needed, counts_fit, needs_fit, do_fit, meeting_fault, twice_fault, elements_fault, budget_fault, provisioned_fault, late_fault, rows_fault, unless}
 use Rattle.slice_table.specs.ReadPlant.{plant_of}
-use Rattle.slice_table.specs.Says.{SaysNumberOr, SaysConsts, SaysPlant}
+use Rattle.slice_table.specs.Says.{SaysConsts, SaysPlant}
 use Rattle.slice_table.proofs.Parsed.{ok_same, bind_ok}
 use Rattle.plant.proofs.Addresses.{same_is_equal}
 use Rattle.slice_table.proofs.ClassReading.{classes_read}
 use Rattle.slice_table.proofs.RowReading.{rows_read}
 use Rattle.slice_table.proofs.PlantReading.{valid, no_fault}
-use Rattle.slice_table.proofs.SaidKeys.{bind_both, both_true, le_true}
+use Rattle.slice_table.proofs.SaidKeys.{bind_both, both_true, le_true, said_in_range}
 use Rattle.slice_table.proofs.SaidRows.{rows_are}
 use Rattle.slice_table.proofs.SaidConsts.{consts_are, classes_are}
 
@@ -98,29 +97,23 @@ valid_again consts rows h =
 
 -- ---- the plant
 
-from_default : (ms : Members) (f : Field) (low high default n : ℕ) → default ≤ high → SaysNumberOr ms f low high default n → n ≤ high
-from_default ms f low high default n h s = elim s [
-  | inl none ↦ omega (arith, h, none.1)
-  | inr some ↦ some.high_enough
-]
-
 consts_valid : (document : Members) (consts : ConstsFields) → SaysConsts document consts → AreConsts consts
 consts_valid document consts s =
     let keys = s.keys in
     let backoffs = keys.backoffs in
     record {
       channel = record {
-        some_frame = keys.frame_minislots.low_enough;
-        frame = keys.frame_minislots.high_enough;
+        some_frame = (said_in_range s.ms field.FrameMinislots consts.channel.frame_minislots keys.frame_minislots).0;
+        frame = (said_in_range s.ms field.FrameMinislots consts.channel.frame_minislots keys.frame_minislots).1;
         head = keys.head.high_enough;
         backoffs = record {
-          ranging_start = from_default s.ms field.RangingStart 0 15 0 consts.channel.backoffs.ranging_start (omega arith) backoffs.ranging_start;
-          ranging_end = from_default s.ms field.RangingEnd 0 15 0 consts.channel.backoffs.ranging_end (omega arith) backoffs.ranging_end;
-          data_start = from_default s.ms field.DataStart 0 15 0 consts.channel.backoffs.data_start (omega arith) backoffs.data_start;
-          data_end = from_default s.ms field.DataEnd 0 15 0 consts.channel.backoffs.data_end (omega arith) backoffs.data_end;
+          ranging_start = (said_in_range s.ms field.RangingStart consts.channel.backoffs.ranging_start backoffs.ranging_start).1;
+          ranging_end = (said_in_range s.ms field.RangingEnd consts.channel.backoffs.ranging_end backoffs.ranging_end).1;
+          data_start = (said_in_range s.ms field.DataStart consts.channel.backoffs.data_start backoffs.data_start).1;
+          data_end = (said_in_range s.ms field.DataEnd consts.channel.backoffs.data_end backoffs.data_end).1;
         };
       };
-      short_max = keys.short_max.high_enough;
+      short_max = (said_in_range s.ms field.ShortMax consts.short_max keys.short_max).1;
       classes = classes_read (get_member (codes "class") document) consts.classes ((classes_are document consts.classes).1 s.classes);
     }
 

@@ -18,13 +18,13 @@ use Rattle.slice_table.specs.declared.plant_key.Key.TheVariants.{Operators, Entr
 use Rattle.plant.specs.Name.{IsOperatorName}
 use Rattle.plant.specs.Provisioned.{sets_of_encoding}
 use Rattle.plant.specs.Row.{is_listed}
-use Rattle.slice_table.specs.Tree.{items_len, required, expected, checked, at_field, number_at, text_at, bytes_at, array_at, modem_at, table_of}
+use Rattle.slice_table.specs.Tree.{items_len, required, expected, checked, at_field, number_in, text_at, bytes_at, array_at, modem_at, table_of}
 use Rattle.slice_table.specs.ReadRows.{is_operator_name, is_called, name_at, slice_at, range_at, policy_at, modem_read, modems_at, own_modem_at, has_sets, provision_at, provision_read, provisions_in, provisions_if, row_at, row_read, rows_of}
 use Rattle.slice_table.specs.Says.{IsAddress, SayInTurn, SaysName, SaysModems, SaysProvision, SaysProvisions, SaysRow, SaysRows}
 use Rattle.slice_table.proofs.Parsed.{ok_same, bind_ok, required_ok, expected_ok, checked_ok}
 use Rattle.slice_table.proofs.RowParts.{row_parts}
 use Rattle.slice_table.proofs.Values.{at_most, none_passes, told_apart}
-use Rattle.slice_table.proofs.SaidKeys.{bind_both, required_said, checked_said, both_true, le_true, array_is, under, number_is, slice_is, range_is, text_said, text_again, bytes_is, address_is, policy_is, turn_is, array_said, array_again, table_said, table_again}
+use Rattle.slice_table.proofs.SaidKeys.{bind_both, required_said, checked_said, both_true, le_true, array_is, under, number_in_is, slice_is, range_is, text_said, text_again, bytes_is, address_is, policy_is, turn_is, array_said, array_again, table_said, table_again}
 
 -- ---- the name
 
@@ -190,13 +190,13 @@ row_said consts rows operator ms row h =
       is = refl;
       name = (name_is rows place ms row.name).0 parts.name;
       slice = (slice_is consts place ms row.slice).0 parts.slice;
-      sfids = (range_is place field.Sfids 4294967295 ms row.sfids).0 parts.sfids;
-      sids = (range_is place field.Sids 8191 ms row.sids).0 parts.sids;
-      flows = (number_is place field.Flows 1 1024 ms row.flows).0 parts.flows;
-      transactions = (number_is place field.Transactions 1 256 ms row.transactions).0 parts.transactions;
-      inbox = (number_is place field.Inbox 1 256 ms row.inbox).0 parts.inbox;
-      budget = (number_is place field.Budget 0 4096 ms row.budget).0 parts.budget;
-      elements = (number_is place field.Elements 0 235 ms row.elements).0 parts.elements;
+      sfids = (range_is place field.Sfids ms row.sfids).0 parts.sfids;
+      sids = (range_is place field.Sids ms row.sids).0 parts.sids;
+      flows = (number_in_is place field.Flows ms row.flows).0 parts.flows;
+      transactions = (number_in_is place field.Transactions ms row.transactions).0 parts.transactions;
+      inbox = (number_in_is place field.Inbox ms row.inbox).0 parts.inbox;
+      budget = (number_in_is place field.Budget ms row.budget).0 parts.budget;
+      elements = (number_in_is place field.Elements ms row.elements).0 parts.elements;
       policy = (policy_is place ms row.policy).0 parts.policy;
       modems = (modems_are place ms row.modems).0 parts.modems;
       provisions = (provisions_are consts operator row.modems ms row.provisions).0 parts.provisions;
@@ -210,13 +210,13 @@ row_again consts rows operator d row s =
     let ms : Members = s.ms in
     bind_both (name_at rows place ms) _ row.name row ((name_is rows place ms row.name).1 s.name)
     (bind_both (slice_at consts place ms) _ row.slice row ((slice_is consts place ms row.slice).1 s.slice)
-    (bind_both (range_at place field.Sfids 4294967295 ms) _ row.sfids row ((range_is place field.Sfids 4294967295 ms row.sfids).1 s.sfids)
-    (bind_both (range_at place field.Sids 8191 ms) _ row.sids row ((range_is place field.Sids 8191 ms row.sids).1 s.sids)
-    (bind_both (number_at place field.Flows 1 1024 ms) _ row.flows row ((number_is place field.Flows 1 1024 ms row.flows).1 s.flows)
-    (bind_both (number_at place field.Transactions 1 256 ms) _ row.transactions row ((number_is place field.Transactions 1 256 ms row.transactions).1 s.transactions)
-    (bind_both (number_at place field.Inbox 1 256 ms) _ row.inbox row ((number_is place field.Inbox 1 256 ms row.inbox).1 s.inbox)
-    (bind_both (number_at place field.Budget 0 4096 ms) _ row.budget row ((number_is place field.Budget 0 4096 ms row.budget).1 s.budget)
-    (bind_both (number_at place field.Elements 0 235 ms) _ row.elements row ((number_is place field.Elements 0 235 ms row.elements).1 s.elements)
+    (bind_both (range_at place field.Sfids ms) _ row.sfids row ((range_is place field.Sfids ms row.sfids).1 s.sfids)
+    (bind_both (range_at place field.Sids ms) _ row.sids row ((range_is place field.Sids ms row.sids).1 s.sids)
+    (bind_both (number_in place field.Flows ms) _ row.flows row ((number_in_is place field.Flows ms row.flows).1 s.flows)
+    (bind_both (number_in place field.Transactions ms) _ row.transactions row ((number_in_is place field.Transactions ms row.transactions).1 s.transactions)
+    (bind_both (number_in place field.Inbox ms) _ row.inbox row ((number_in_is place field.Inbox ms row.inbox).1 s.inbox)
+    (bind_both (number_in place field.Budget ms) _ row.budget row ((number_in_is place field.Budget ms row.budget).1 s.budget)
+    (bind_both (number_in place field.Elements ms) _ row.elements row ((number_in_is place field.Elements ms row.elements).1 s.elements)
     (bind_both (policy_at place ms) _ row.policy row ((policy_is place ms row.policy).1 s.policy)
     (bind_both (modems_at place ms) _ row.modems row ((modems_are place ms row.modems).1 s.modems)
     (bind_both (provisions_if consts operator row.modems (at_field field.Flow ms)) _ row.provisions row ((provisions_are consts operator row.modems ms row.provisions).1 s.provisions) refl)))))))))))

@@ -6,6 +6,7 @@ pub use Rattle.plant.specs.Row
 pub use Rattle.plant.specs.Plant
 pub use Rattle.plant.specs.Roster
 pub mod Keys
+pub mod Ranges
 pub mod Tree
 pub mod ReadConsts
 pub mod ReadRows

@@ -20,42 +20,42 @@ use Rattle.slice_table.specs.declared.plant_key.Place.TheVariants as place
 use Rattle.slice_table.specs.declared.plant_key.Field.TheVariants as field
 use Rattle.plant.specs.Classes.{is_named}
 use Rattle.plant.specs.Consts.{IsChannel}
-use Rattle.slice_table.specs.Tree.{Read, ◌>>=◌, each, items_len, required, expected, checked, number_at, number_or, text_at, bytes_at, table_of}
+use Rattle.slice_table.specs.Tree.{Read, ◌>>=◌, each, items_len, required, expected, checked, number_at, number_in, text_at, bytes_at, table_of}
 
 -- ---- the table `plant`
 
 unfoldable pub units_at : Members → Read UnitSizes
 units_at ms = do
-  frame_us ← number_at place.Plant field.FrameUs 1 1000000 ms
-  bytes_per_minislot ← number_at place.Plant field.BytesPerMinislot 1 65535 ms
+  frame_us ← number_in place.Plant field.FrameUs ms
+  bytes_per_minislot ← number_in place.Plant field.BytesPerMinislot ms
   Ok (record { frame_us = frame_us; bytes_per_minislot = bytes_per_minislot })
 
 unfoldable pub backoffs_at : Members → Read Backoffs
 backoffs_at ms = do
-  ranging_start ← number_or place.Plant field.RangingStart 0 15 0 ms
-  ranging_end ← number_or place.Plant field.RangingEnd 0 15 0 ms
-  data_start ← number_or place.Plant field.DataStart 0 15 0 ms
-  data_end ← number_or place.Plant field.DataEnd 0 15 0 ms
+  ranging_start ← number_in place.Plant field.RangingStart ms
+  ranging_end ← number_in place.Plant field.RangingEnd ms
+  data_start ← number_in place.Plant field.DataStart ms
+  data_end ← number_in place.Plant field.DataEnd ms
   Ok (record { ranging_start = ranging_start; ranging_end = ranging_end; data_start = data_start; data_end = data_end })
 
 unfoldable pub timers_at : Members → Read Waits
 timers_at ms = do
-  ack_wait ← number_or place.Plant field.AckWait 1 65535 150 ms
-  resends ← number_or place.Plant field.Resends 0 255 3 ms
-  hold ← number_or place.Plant field.Hold 1 65535 1500 ms
+  ack_wait ← number_in place.Plant field.AckWait ms
+  resends ← number_in place.Plant field.Resends ms
+  hold ← number_in place.Plant field.Hold ms
   Ok (record { ack_wait = ack_wait; resends = resends; hold = hold })
 
 unfoldable pub plant_keys_at : Members → Read PlantKeys
 plant_keys_at ms = do
-  frame_minislots ← number_at place.Plant field.FrameMinislots 1 4096 ms
+  frame_minislots ← number_in place.Plant field.FrameMinislots ms
   head ← number_at place.Plant field.Head 0 frame_minislots ms
   units ← units_at ms
-  short_max ← number_at place.Plant field.ShortMax 0 4096 ms
-  id ← number_at place.Plant field.Channel 0 255 ms
-  ucd_count ← number_at place.Plant field.UcdCount 0 255 ms
+  short_max ← number_in place.Plant field.ShortMax ms
+  id ← number_in place.Plant field.Channel ms
+  ucd_count ← number_in place.Plant field.UcdCount ms
   backoffs ← backoffs_at ms
   timers ← timers_at ms
-  first_frame ← number_or place.Plant field.FirstFrame 0 4294967295 0 ms
+  first_frame ← number_in place.Plant field.FirstFrame ms
   Ok (record {
     channel = record { frame_minislots = frame_minislots; head = head; id = id; ucd_count = ucd_count; backoffs = backoffs; first_frame = first_frame };
     units = units;

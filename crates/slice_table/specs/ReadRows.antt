@@ -18,9 +18,11 @@ use Rattle.slice_table.specs.declared.plant_key.Field.TheVariants as field
 use Rattle.slice_table.specs.declared.plant_key.Place.{Place}
 use Rattle.slice_table.specs.declared.plant_key.Place.TheVariants as place
 use Rattle.slice_table.specs.declared.plant_key.Key.TheVariants.{Operators, Entry}
+use Rattle.slice_table.specs.declared.ranges.Bounds.{Bounds}
 use Rattle.plant.specs.Provisioned.{sets_of_encoding}
 use Rattle.plant.specs.Row.{is_listed}
-use Rattle.slice_table.specs.Tree.{Read, ◌>>=◌, each, items_len, required, expected, checked, at_field, number_at, pair_at, text_at, bytes_at, array_at, modem_of, modem_at, table_of}
+use Rattle.slice_table.specs.Ranges.{range_of}
+use Rattle.slice_table.specs.Tree.{Read, ◌>>=◌, each, items_len, required, expected, checked, at_field, number_in, pair_at, text_at, bytes_at, array_at, modem_of, modem_at, table_of}
 
 -- ---- an operator's own keys
 
@@ -47,19 +49,19 @@ slice_at consts place ms = do
   pair ← pair_at place field.Slice ms
   checked (Entry place field.Slice) (is_within consts pair.0 pair.1) (record { start = pair.0; length = pair.1 })
 
--- numbers from 1 to high
-unfoldable pub is_range : ℕ → ℕ → ℕ → Bool
-is_range high first last = (nat_le 1 first && nat_le first last) && nat_le last high
+-- the first and the last number, within the key's range
+unfoldable pub is_range : Bounds → ℕ → ℕ → Bool
+is_range range first last = (nat_le range.low first && nat_le first last) && nat_le last range.high
 
-unfoldable pub range_at : Place → Field → ℕ → Members → Read Numbers
-range_at place field high ms = do
+unfoldable pub range_at : Place → Field → Members → Read Numbers
+range_at place field ms = do
   pair ← pair_at place field ms
-  checked (Entry place field) (is_range high pair.0 pair.1) (record { first = pair.0; last = pair.1 })
+  checked (Entry place field) (is_range (range_of field) pair.0 pair.1) (record { first = pair.0; last = pair.1 })
 
 -- the policy "aged" has a step
 unfoldable pub aged_at : Place → Members → Read Policy
 aged_at place ms = do
-  step ← number_at place field.Step 1 255 ms
+  step ← number_in place field.Step ms
   Ok (Aged step)
 
 unfoldable pub policy_named : List ℕ → Place → Members → Read Policy
@@ -124,13 +126,13 @@ unfoldable pub row_at : ConstsFields → List RowFields → ℕ → Members → 
 row_at consts rows operator ms = do
   name ← name_at rows (place.Operator operator) ms
   slice ← slice_at consts (place.Operator operator) ms
-  sfids ← range_at (place.Operator operator) field.Sfids 4294967295 ms
-  sids ← range_at (place.Operator operator) field.Sids 8191 ms
-  flows ← number_at (place.Operator operator) field.Flows 1 1024 ms
-  transactions ← number_at (place.Operator operator) field.Transactions 1 256 ms
-  inbox ← number_at (place.Operator operator) field.Inbox 1 256 ms
-  budget ← number_at (place.Operator operator) field.Budget 0 4096 ms
-  elements ← number_at (place.Operator operator) field.Elements 0 235 ms
+  sfids ← range_at (place.Operator operator) field.Sfids ms
+  sids ← range_at (place.Operator operator) field.Sids ms
+  flows ← number_in (place.Operator operator) field.Flows ms
+  transactions ← number_in (place.Operator operator) field.Transactions ms
+  inbox ← number_in (place.Operator operator) field.Inbox ms
+  budget ← number_in (place.Operator operator) field.Budget ms
+  elements ← number_in (place.Operator operator) field.Elements ms
   policy ← policy_at (place.Operator operator) ms
   modems ← modems_at (place.Operator operator) ms
   provisions ← provisions_if consts operator modems (at_field field.Flow ms)

@@ -26,6 +26,7 @@ use Rattle.plant.specs.Classes.{StatesParameters}
 use Rattle.plant.specs.Provisioned.{sets_of_encoding}
 use Rattle.plant.specs.Row.{is_listed, IsFrom}
 use Rattle.plant.specs.Plant.{IsPlant}
+use Rattle.slice_table.specs.Ranges.{range_of, default_of}
 use Rattle.slice_table.specs.Tree.{at_field, items_len}
 
 -- ---- one key
@@ -36,9 +37,9 @@ pub record SaysNumber (ms : Members) (f : Field) (low high n : ℕ) : Type 0 whe
   pub low_enough : low ≤ n
   pub high_enough : n ≤ high
 
--- the same, or no such key is there and the number is the default
-abbrev pub SaysNumberOr : Members → Field → ℕ → ℕ → ℕ → ℕ → Type 0
-SaysNumberOr ms f low high default n = ((at_field f ms ≡ None) × (n ≡ default)) ⊎ SaysNumber ms f low high n
+-- a number of the key's range, or no such key is there and the number is its default
+abbrev pub SaysNumberIn : Members → Field → ℕ → Type 0
+SaysNumberIn ms f n = ((at_field f ms ≡ None) × (default_of f ≡ Some n)) ⊎ SaysNumber ms f (range_of f).low (range_of f).high n
 
 -- an array of exactly two numbers
 abbrev pub two : ℕ → ℕ → Data
@@ -60,31 +61,31 @@ SayInTurn {A} Says done (item d ds) xs = (x : A) × Says done d x × SayInTurn S
 -- ---- the table `plant`
 
 pub record SaysUnits (ms : Members) (units : UnitSizes) : Type 0 where
-  pub frame_us : SaysNumber ms field.FrameUs 1 1000000 units.frame_us
-  pub bytes_per_minislot : SaysNumber ms field.BytesPerMinislot 1 65535 units.bytes_per_minislot
+  pub frame_us : SaysNumberIn ms field.FrameUs units.frame_us
+  pub bytes_per_minislot : SaysNumberIn ms field.BytesPerMinislot units.bytes_per_minislot
 
 pub record SaysBackoffs (ms : Members) (backoffs : Backoffs) : Type 0 where
-  pub ranging_start : SaysNumberOr ms field.RangingStart 0 15 0 backoffs.ranging_start
-  pub ranging_end : SaysNumberOr ms field.RangingEnd 0 15 0 backoffs.ranging_end
-  pub data_start : SaysNumberOr ms field.DataStart 0 15 0 backoffs.data_start
-  pub data_end : SaysNumberOr ms field.DataEnd 0 15 0 backoffs.data_end
+  pub ranging_start : SaysNumberIn ms field.RangingStart backoffs.ranging_start
+  pub ranging_end : SaysNumberIn ms field.RangingEnd backoffs.ranging_end
+  pub data_start : SaysNumberIn ms field.DataStart backoffs.data_start
+  pub data_end : SaysNumberIn ms field.DataEnd backoffs.data_end
 
 pub record SaysTimers (ms : Members) (timers : Waits) : Type 0 where
-  pub ack_wait : SaysNumberOr ms field.AckWait 1 65535 150 timers.ack_wait
-  pub resends : SaysNumberOr ms field.Resends 0 255 3 timers.resends
-  pub hold : SaysNumberOr ms field.Hold 1 65535 1500 timers.hold
+  pub ack_wait : SaysNumberIn ms field.AckWait timers.ack_wait
+  pub resends : SaysNumberIn ms field.Resends timers.resends
+  pub hold : SaysNumberIn ms field.Hold timers.hold
 
 -- the keys of the table `plant`
 pub record SaysKeys (ms : Members) (consts : ConstsFields) : Type 0 where
-  pub frame_minislots : SaysNumber ms field.FrameMinislots 1 4096 consts.channel.frame_minislots
+  pub frame_minislots : SaysNumberIn ms field.FrameMinislots consts.channel.frame_minislots
   pub head : SaysNumber ms field.Head 0 consts.channel.frame_minislots consts.channel.head
   pub units : SaysUnits ms consts.units
-  pub short_max : SaysNumber ms field.ShortMax 0 4096 consts.short_max
-  pub id : SaysNumber ms field.Channel 0 255 consts.channel.id
-  pub ucd_count : SaysNumber ms field.UcdCount 0 255 consts.channel.ucd_count
+  pub short_max : SaysNumberIn ms field.ShortMax consts.short_max
+  pub id : SaysNumberIn ms field.Channel consts.channel.id
+  pub ucd_count : SaysNumberIn ms field.UcdCount consts.channel.ucd_count
   pub backoffs : SaysBackoffs ms consts.channel.backoffs
   pub timers : SaysTimers ms consts.timers
-  pub first_frame : SaysNumberOr ms field.FirstFrame 0 4294967295 0 consts.channel.first_frame
+  pub first_frame : SaysNumberIn ms field.FirstFrame consts.channel.first_frame
 
 -- ---- the array `class`
 
@@ -136,17 +137,17 @@ pub record SaysSlice (consts : ConstsFields) (ms : Members) (slice : Minislots) 
   pub some : 1 ≤ slice.length
   pub within_frame : slice.start + slice.length ≤ consts.channel.frame_minislots
 
--- a range of identifiers from 1 to high
-pub record SaysRange (ms : Members) (f : Field) (high : ℕ) (range : Numbers) : Type 0 where
+-- a range of identifiers, within the key's range
+pub record SaysRange (ms : Members) (f : Field) (range : Numbers) : Type 0 where
   pub held : at_field f ms ≡ Some (two range.first range.last)
-  pub low : 1 ≤ range.first
+  pub low : (range_of f).low ≤ range.first
   pub ordered : range.first ≤ range.last
-  pub most : range.last ≤ high
+  pub most : range.last ≤ (range_of f).high
 
 -- its policy, by its name; "aged" has a step
 abbrev pub SaysPolicy : Members → Policy → Type 0
 SaysPolicy ms Strict = at_field field.Policy ms ≡ Some (string (codes "strict"))
-SaysPolicy ms (Aged step) = (at_field field.Policy ms ≡ Some (string (codes "aged"))) × SaysNumber ms field.Step 1 255 step
+SaysPolicy ms (Aged step) = (at_field field.Policy ms ≡ Some (string (codes "aged"))) × SaysNumberIn ms field.Step step
 SaysPolicy ms Short = at_field field.Policy ms ≡ Some (string (codes "short"))
 
 -- its modems: 1 to 1,024 addresses
@@ -178,13 +179,13 @@ pub record SaysRow (consts : ConstsFields) (before : List RowFields) (d : Data) 
   pub is : d ≡ table ms
   pub name : SaysName before ms row.name
   pub slice : SaysSlice consts ms row.slice
-  pub sfids : SaysRange ms field.Sfids 4294967295 row.sfids
-  pub sids : SaysRange ms field.Sids 8191 row.sids
-  pub flows : SaysNumber ms field.Flows 1 1024 row.flows
-  pub transactions : SaysNumber ms field.Transactions 1 256 row.transactions
-  pub inbox : SaysNumber ms field.Inbox 1 256 row.inbox
-  pub budget : SaysNumber ms field.Budget 0 4096 row.budget
-  pub elements : SaysNumber ms field.Elements 0 235 row.elements
+  pub sfids : SaysRange ms field.Sfids row.sfids
+  pub sids : SaysRange ms field.Sids row.sids
+  pub flows : SaysNumberIn ms field.Flows row.flows
+  pub transactions : SaysNumberIn ms field.Transactions row.transactions
+  pub inbox : SaysNumberIn ms field.Inbox row.inbox
+  pub budget : SaysNumberIn ms field.Budget row.budget
+  pub elements : SaysNumberIn ms field.Elements row.elements
   pub policy : SaysPolicy ms row.policy
   pub modems : SaysModems ms row.modems
   pub provisions : SaysProvisions consts row.modems ms row.provisions

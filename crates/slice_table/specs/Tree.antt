@@ -10,7 +10,9 @@ use Rattle.slice_table.specs.declared.plant_key.Field.{Field}
 use Rattle.slice_table.specs.declared.plant_key.Place.{Place}
 use Rattle.slice_table.specs.declared.plant_key.Key.{Key}
 use Rattle.slice_table.specs.declared.plant_key.Key.TheVariants.{Table, Entry}
+use Rattle.slice_table.specs.declared.ranges.Bounds.{Bounds}
 use Rattle.slice_table.specs.Keys.{field_text}
+use Rattle.slice_table.specs.Ranges.{range_of, default_of}
 
 -- ---- a value, or the first fault
 
@@ -82,13 +84,14 @@ number_at place field low high ms = do
   d ← required (Entry place field) (at_field field ms)
   number_of (Entry place field) low high d
 
--- a number from low to high; the default where the key is not there
-abbrev pub number_if : Key → ℕ → ℕ → ℕ → Option Data → Read ℕ
-number_if key low high default None = Ok default
-number_if key low high default (Some d) = number_of key low high d
+-- a number of a range; the default where the key is not there, and is missing where it has none
+abbrev pub number_if : Key → Bounds → Option ℕ → Option Data → Read ℕ
+number_if key range default None = required key default
+number_if key range default (Some d) = number_of key range.low range.high d
 
-unfoldable pub number_or : Place → Field → ℕ → ℕ → ℕ → Members → Read ℕ
-number_or place field low high default ms = number_if (Entry place field) low high default (at_field field ms)
+-- a number as the table of ranges says of its key
+unfoldable pub number_in : Place → Field → Members → Read ℕ
+number_in place field ms = number_if (Entry place field) (range_of field) (default_of field) (at_field field ms)
 
 -- two numbers
 abbrev pub both : Option ℕ → Option ℕ → Option (ℕ × ℕ)

@@ -8,9 +8,9 @@ ghost use Rattle.slice_scheduler.specs.Minislots.{Minislots};
 ghost use Rattle.plant.specs.declared.consts.ConstsFields.{ConstsFields};
 ghost use Rattle.slice_table.specs.declared.plant_key.Field.{Field};
 ghost use Rattle.slice_table.specs.declared.plant_key.Place.{Place};
-ghost use Rattle.slice_table.specs.Tree.{number_at, number_or};
+ghost use Rattle.slice_table.specs.Tree.{number_at, number_in};
 ghost use Rattle.slice_table.specs.ReadRows.{slice_at, range_at, policy_at};
-ghost use Rattle.slice_table.specs.Says.{SaysNumber, SaysNumberOr, SaysSlice, SaysRange, SaysPolicy};
+ghost use Rattle.slice_table.specs.Says.{SaysNumber, SaysNumberIn, SaysSlice, SaysRange, SaysPolicy};
 
 /// A number is read exactly where it stands under its key, in its range.
 pub fn number_is_said()
@@ -18,10 +18,10 @@ pub fn number_is_said()
         → (number_at place field low high ms ≡ Ok n) ↔ SaysNumber ms field low high n }
 {}
 
-/// The default is read exactly where the key is not there.
+/// The default is read exactly where the key is not there, and else the number of its range that stands there.
 pub fn default_is_said()
-    ensures { (place : Place) (field : Field) (low high default : ℕ) (ms : Members) (n : ℕ)
-        → (number_or place field low high default ms ≡ Ok n) ↔ SaysNumberOr ms field low high default n }
+    ensures { (place : Place) (field : Field) (ms : Members) (n : ℕ)
+        → (number_in place field ms ≡ Ok n) ↔ SaysNumberIn ms field n }
 {}
 
 /// A slice is read exactly where it stands under its key, behind the head and within the frame.
@@ -30,10 +30,10 @@ pub fn slice_is_said()
         → (slice_at consts place ms ≡ Ok slice) ↔ SaysSlice consts ms slice }
 {}
 
-/// A range is read exactly where it stands under its key, from 1 to the greatest number, in order.
+/// A range is read exactly where it stands under its key, within the key's range, in order.
 pub fn range_is_said()
-    ensures { (place : Place) (field : Field) (high : ℕ) (ms : Members) (range : Numbers)
-        → (range_at place field high ms ≡ Ok range) ↔ SaysRange ms field high range }
+    ensures { (place : Place) (field : Field) (ms : Members) (range : Numbers)
+        → (range_at place field ms ≡ Ok range) ↔ SaysRange ms field range }
 {}
 
 /// A policy is read exactly where its name stands under its key, with its step where it has one.

@@ -7,6 +7,7 @@ mod key_laws;
 mod laws;
 mod plant_fault;
 mod plant_key;
+mod ranges;
 mod read_consts;
 mod read_rows;
 mod reading;

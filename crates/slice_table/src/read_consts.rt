@@ -13,7 +13,7 @@ ghost use Rattle.slice_table.specs.ReadConsts.{units_at, backoffs_at, timers_at,
 
 use crate::plant_fault::PlantFault;
 use crate::plant_key::{Field, Key, Place};
-use crate::tree::{array_of, bytes_at, entry, number_at, number_or, table_of, text_at};
+use crate::tree::{array_of, bytes_at, entry, number_at, number_in, table_of, text_at};
 use param_sets::Units;
 use plant::{Backoffs, Channel, Class, Classes, Consts, ConstsFields, is_alphanumeric};
 use std::alloc::Global;
@@ -35,8 +35,8 @@ pub struct PlantKeys {
 fn units_at(table: &Table) -> Result<Units, PlantFault>
     ensures { result ≡ units_at (table_view table.now) }
 {
-    let frame_us = number_at(table, Place::Plant, Field::FrameUs, 1, 1_000_000)?;
-    let bytes_per_minislot = number_at(table, Place::Plant, Field::BytesPerMinislot, 1, 65_535)?;
+    let frame_us = number_in(table, Place::Plant, Field::FrameUs)?;
+    let bytes_per_minislot = number_in(table, Place::Plant, Field::BytesPerMinislot)?;
     Ok(Units::new(frame_us, bytes_per_minislot))
 }
 
@@ -46,10 +46,10 @@ fn backoffs_at(table: &Table) -> Result<Backoffs, PlantFault>
     ensures value { result ≡ backoffs_at (table_view table.now) }
     ensures in_range { IfOk result AreBackoffs }
 {
-    let ranging_start = number_or(table, Place::Plant, Field::RangingStart, 0, 15, 0)?;
-    let ranging_end = number_or(table, Place::Plant, Field::RangingEnd, 0, 15, 0)?;
-    let data_start = number_or(table, Place::Plant, Field::DataStart, 0, 15, 0)?;
-    let data_end = number_or(table, Place::Plant, Field::DataEnd, 0, 15, 0)?;
+    let ranging_start = number_in(table, Place::Plant, Field::RangingStart)?;
+    let ranging_end = number_in(table, Place::Plant, Field::RangingEnd)?;
+    let data_start = number_in(table, Place::Plant, Field::DataStart)?;
+    let data_end = number_in(table, Place::Plant, Field::DataEnd)?;
     Ok(Backoffs {
         ranging_start: ranging_start as u8,
         ranging_end: ranging_end as u8,
@@ -63,9 +63,9 @@ fn backoffs_at(table: &Table) -> Result<Backoffs, PlantFault>
 fn timers_at(table: &Table) -> Result<Timers, PlantFault>
     ensures { result ≡ timers_at (table_view table.now) }
 {
-    let ack_wait = number_or(table, Place::Plant, Field::AckWait, 1, 65_535, 150)?;
-    let resends = number_or(table, Place::Plant, Field::Resends, 0, 255, 3)?;
-    let hold = number_or(table, Place::Plant, Field::Hold, 1, 65_535, 1_500)?;
+    let ack_wait = number_in(table, Place::Plant, Field::AckWait)?;
+    let resends = number_in(table, Place::Plant, Field::Resends)?;
+    let hold = number_in(table, Place::Plant, Field::Hold)?;
     Ok(Timers::new(ack_wait as u16, resends as u8, hold as u16))
 }
 
@@ -75,15 +75,15 @@ fn plant_keys_at(table: &Table) -> Result<PlantKeys, PlantFault>
     ensures value { result ≡ plant_keys_at (table_view table.now) }
     ensures in_range { IfOk result AreKeys }
 {
-    let frame_minislots = number_at(table, Place::Plant, Field::FrameMinislots, 1, 4_096)?;
+    let frame_minislots = number_in(table, Place::Plant, Field::FrameMinislots)?;
     let head = number_at(table, Place::Plant, Field::Head, 0, frame_minislots)?;
     let units = units_at(table)?;
-    let short_max = number_at(table, Place::Plant, Field::ShortMax, 0, 4_096)?;
-    let id = number_at(table, Place::Plant, Field::Channel, 0, 255)?;
-    let ucd_count = number_at(table, Place::Plant, Field::UcdCount, 0, 255)?;
+    let short_max = number_in(table, Place::Plant, Field::ShortMax)?;
+    let id = number_in(table, Place::Plant, Field::Channel)?;
+    let ucd_count = number_in(table, Place::Plant, Field::UcdCount)?;
     let backoffs = backoffs_at(table)?;
     let timers = timers_at(table)?;
-    let first_frame = number_or(table, Place::Plant, Field::FirstFrame, 0, u32::MAX, 0)?;
+    let first_frame = number_in(table, Place::Plant, Field::FirstFrame)?;
     Ok(PlantKeys {
         channel: Channel {
             frame_minislots: frame_minislots as u16,

@@ -7,12 +7,14 @@ ghost use Rattle.toml.specs.View.{view, table_view, items_view};
 ghost use Rattle.slice_table.specs.declared.plant_key.Key.TheVariants.{Entry};
 ghost use Rattle.slice_table.specs.declared.plant_key.Field.TheVariants.{Flow as FlowField};
 ghost use Rattle.slice_table.specs.Tree.{Gives, each, at_field};
+ghost use Rattle.slice_table.specs.Ranges.{range_of};
 ghost use Rattle.slice_table.specs.ReadRows.{is_operator_name, is_called, name_at, is_within, slice_at, is_range, range_at, aged_at, policy_named, policy_at, modem_read, modems_at, own_modem_at, has_sets, provision_at, provision_read, provisions_in, provisions_if, row_at, row_read, rows_of};
 
 use crate::plant_fault::PlantFault;
 use crate::plant_key::{Field, Key, Place};
+use crate::ranges::range_of;
 use crate::tree::{
-    array_at, array_of, bytes_at, entry, modem_at, modem_of, number_at, pair_at, table_of, text_at,
+    array_at, array_of, bytes_at, entry, modem_at, modem_of, number_in, pair_at, table_of, text_at,
 };
 use admission::IdRange;
 use dsx_messages::Modem;
@@ -82,14 +84,16 @@ fn slice_at(consts: &Consts, table: &Table, place: Place) -> Result<Slice, Plant
     slice_of(consts, start, length).ok_or(place.wrong(Field::Slice))
 }
 
-/// A range of identifiers from 1 to `high`.
+/// A range of identifiers, of the key's range.
 #[tactic(auto, unfolding(crate::specs::ReadRows::range_at, crate::specs::ReadRows::is_range))]
-fn range_at(table: &Table, place: Place, field: Field, high: u32) -> Result<IdRange, PlantFault>
-    ensures value { result ≡ range_at place field high (table_view table.now) }
-    ensures in_range { IfOk result (λ range. (1 ≤ range.first) × (range.last ≤ high)) }
+fn range_at(table: &Table, place: Place, field: Field) -> Result<IdRange, PlantFault>
+    ensures value { result ≡ range_at place field (table_view table.now) }
+    ensures in_range { IfOk result (λ range. ((range_of field).low ≤ range.first)
+        × (range.last ≤ (range_of field).high)) }
 {
+    let range = range_of(field);
     let (first, last) = pair_at(table, place, field)?;
-    if 1 <= first && first <= last && last <= u64::from(high) {
+    if u64::from(range.low) <= first && first <= last && last <= u64::from(range.high) {
         Ok(IdRange::new(first as u32, last as u32))
     } else {
         Err(place.wrong(field))
@@ -101,7 +105,7 @@ fn range_at(table: &Table, place: Place, field: Field, high: u32) -> Result<IdRa
 fn aged_at(table: &Table, place: Place) -> Result<Policy, PlantFault>
     ensures { result ≡ aged_at place (table_view table.now) }
 {
-    let step = number_at(table, place, Field::Step, 1, 255)?;
+    let step = number_in(table, place, Field::Step)?;
     match Policy::aged(step as u8) {
         Some(policy) => Ok(policy),
         None => unreachable!(),
@@ -262,13 +266,13 @@ fn row_at(
     let place = Place::Operator(operator);
     let name = name_at(rows, table, place)?;
     let slice = slice_at(consts, table, place)?;
-    let sfids = range_at(table, place, Field::Sfids, u32::MAX)?;
-    let sids = range_at(table, place, Field::Sids, 8_191)?;
-    let flows = number_at(table, place, Field::Flows, 1, 1_024)?;
-    let transactions = number_at(table, place, Field::Transactions, 1, 256)?;
-    let inbox = number_at(table, place, Field::Inbox, 1, 256)?;
-    let budget = number_at(table, place, Field::Budget, 0, 4_096)?;
-    let elements = number_at(table, place, Field::Elements, 0, 235)?;
+    let sfids = range_at(table, place, Field::Sfids)?;
+    let sids = range_at(table, place, Field::Sids)?;
+    let flows = number_in(table, place, Field::Flows)?;
+    let transactions = number_in(table, place, Field::Transactions)?;
+    let inbox = number_in(table, place, Field::Inbox)?;
+    let budget = number_in(table, place, Field::Budget)?;
+    let elements = number_in(table, place, Field::Elements)?;
     let policy = policy_at(table, place)?;
     let modems = modems_at(alloc, table, place)?;
     let provisions = provisions_of(alloc, consts, operator, &modems, table)?;

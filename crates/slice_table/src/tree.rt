@@ -3,11 +3,13 @@
 ghost use Rattle.std.specs.Prelude.{◌≡◌, ◌≤◌, option_map, Some, IfOk};
 ghost use Rattle.toml.specs.Data.{get_member, as_array, as_table};
 ghost use Rattle.toml.specs.View.{view, table_view, items_view};
-ghost use Rattle.slice_table.specs.Tree.{Gives, seen, required, expected, array_at, modem_at, at_field, natural, number_of, number_at, number_or, pair_in, pair_at, text_at, bytes_at, modem_of, table_of};
+ghost use Rattle.slice_table.specs.Tree.{Gives, seen, required, expected, array_at, modem_at, at_field, natural, number_of, number_at, number_in, pair_in, pair_at, text_at, bytes_at, modem_of, table_of};
+ghost use Rattle.slice_table.specs.Ranges.{range_of, default_of};
 ghost use Rattle.slice_table.specs.declared.plant_key.Key.TheVariants.{Entry};
 
 use crate::plant_fault::PlantFault;
 use crate::plant_key::{Field, Key, Place};
+use crate::ranges::{default_of, range_of};
 use dsx_messages::Modem;
 use hex::{FromHex, FromHexError};
 use std::alloc::Global;
@@ -70,24 +72,17 @@ pub(crate) fn number_at(
     number_of(value, Key::Entry(place, field), low, high)
 }
 
-/// The number from `low` to `high` under a key, and a default where it is not there.
-#[tactic(auto, unfolding(crate::specs::Tree::number_or))]
-pub(crate) fn number_or(
-    table: &Table,
-    place: Place,
-    field: Field,
-    low: u32,
-    high: u32,
-    default: u32,
-) -> Result<u32, PlantFault>
-    requires low { low ≤ default }
-    requires high { default ≤ high }
-    ensures value { result ≡ number_or place field low high default (table_view table.now) }
-    ensures in_range { IfOk result (λ n. (low ≤ n) × (n ≤ high)) }
+/// The number under a key, of the key's range, and the key's default where it is not there.
+#[tactic(auto, unfolding(crate::specs::Tree::number_in))]
+pub(crate) fn number_in(table: &Table, place: Place, field: Field) -> Result<u32, PlantFault>
+    ensures value { result ≡ number_in place field (table_view table.now) }
+    ensures in_range { IfOk result (λ n. ((range_of field).low ≤ n) × (n ≤ (range_of field).high)) }
 {
+    let key = Key::Entry(place, field);
+    let range = range_of(field);
     match entry(table, field.text()) {
-        Some(value) => number_of(value, Key::Entry(place, field), low, high),
-        None => Ok(default),
+        Some(value) => number_of(value, key, range.low, range.high),
+        None => default_of(field).ok_or(PlantFault::Missing { key }),
     }
 }
 
