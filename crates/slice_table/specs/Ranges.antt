@@ -4,8 +4,8 @@ use Rattle.slice_table.specs.declared.ranges.Bounds.{Bounds}
 use Rattle.slice_table.specs.declared.plant_key.Field.{Field}
 use Rattle.slice_table.specs.declared.plant_key.Field.TheVariants as field
 
--- the least and the greatest number, also of the two of a pair; the head's greatest is the frame's, so it is not here, and
--- no number stands under the others
+-- the least and the greatest number, alone or in a pair; the head is not here, since its greatest is the frame's, and
+-- under the others stands no number
 abbrev pub range_of : Field → Bounds
 range_of field.FrameMinislots = record { low = 1; high = 4096 }
 range_of field.FrameUs = record { low = 1; high = 1000000 }

@@ -19,8 +19,8 @@ fn between(low: u32, high: u32) -> Bounds
     Bounds { low, high }
 }
 
-/// The numbers that may stand under a key, also as one of a pair; none under a key that is no number's, and under the
-/// head, whose greatest is the frame's.
+/// The numbers that may stand under a key, alone or in a pair. The head is not here, since its greatest is the frame's,
+/// and under the others stands no number.
 pub(crate) fn range_of(field: Field) -> Bounds
     ensures { result ≡ range_of field }
 {
