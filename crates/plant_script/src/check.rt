@@ -1,7 +1,8 @@
 //! The word `check`: a plant file and a script, and whether both are well.
 
-ghost use Rattle.std.specs.Prelude.{◌≡◌, ◌++◌, ◌∷◌, [], codes, true, IfOk, IfErr};
+ghost use Rattle.std.specs.Prelude.{◌≡◌, ◌≤◌, ◌++◌, ◌∷◌, [], codes, length, true, IfOk, IfErr};
 ghost use Rattle.std.specs.Fmt.{decimal};
+ghost use Rattle.std.specs.Str.{is_utf8};
 ghost use Rattle.std.specs.String.{string_bytes};
 ghost use Rattle.plant_lines.specs.Script.{steps_of};
 ghost use Rattle.plant_script.specs.Check.{fault_text, answer_to_steps, check_of};

@@ -1,11 +1,13 @@
 //! A run that is asked for, or what is answered in its place.
 
-ghost use Rattle.std.specs.Prelude.{◌≡◌, true, IfOk, IfErr};
+ghost use Rattle.std.specs.Prelude.{◌≡◌, map, true, IfOk, IfErr};
 ghost use Rattle.std.specs.List.{position_from};
+ghost use Rattle.toml.specs.Parse.{parse_document};
+ghost use Rattle.slice_table.specs.ReadPlant.{text_plant};
 ghost use Rattle.plant_lines.specs.Script.{is_named, steps_of};
 ghost use Rattle.plant_script.specs.One.{is_readable};
 ghost use Rattle.plant_script.specs.Task.{RunsTo, asked, Comes};
-ghost use Rattle.plant_script.specs.Words.{AnswersSteps, AnswersOperator, AnswersInput};
+ghost use Rattle.plant_script.specs.Words.{AnswersSteps, AnswersOperator, AnswersPlant, AnswersInput};
 ghost use Rattle.plant_script.specs.declared.input.Stop.TheVariants.{Memory};
 
 use crate::answer::Answer;
