@@ -4,6 +4,10 @@ ghost use Rattle.std.specs.Prelude.{◌≡◌, ◌≤◌, ◌++◌, ◌∷◌, [
 ghost use Rattle.std.specs.Fmt.{decimal};
 ghost use Rattle.std.specs.Str.{is_utf8};
 ghost use Rattle.std.specs.String.{string_bytes};
+ghost use Rattle.toml.specs.Parse.{parse_document};
+ghost use Rattle.slice_table.specs.Tree.{Gives};
+ghost use Rattle.slice_table.specs.ReadPlant.{text_plant};
+ghost use Rattle.plant_lines.specs.Input.{before_bar, plant_text};
 ghost use Rattle.plant_lines.specs.Script.{steps_of};
 ghost use Rattle.plant_script.specs.Check.{fault_text, answer_to_steps, check_of};
 ghost use Rattle.plant_script.specs.One.{is_readable};
@@ -76,6 +80,16 @@ fn answer_to_script(alloc: Global, plant: &Plant, script: &[u8]) -> Result<Answe
     }
 }
 
+/// Reads the plant of an input: what stands before the bar, whose place the caller knows.
+pub(crate) fn plant_of_input(alloc: Global, input: &[u8], place: usize) -> Result<Plant, PlantFault>
+    requires utf8 { is_utf8 input.now ≡ true }
+    requires place { place ≡ before_bar true input.now }
+    requires inside { place ≤ length input.now }
+    ensures { Gives (λ plant. plant) result (text_plant (parse_document (plant_text input.now))) }
+{
+    read_plant(alloc, plant_text(input, place))
+}
+
 /// What `check` answers to an input.
 #[tactic(auto, unfolding(crate::specs::Check::check_of))]
 pub fn check_of(alloc: Global, input: &[u8]) -> Result<Answer, Stop>
@@ -85,7 +99,7 @@ pub fn check_of(alloc: Global, input: &[u8]) -> Result<Answer, Stop>
     ensures memory { IfErr result (λ stop. stop ≡ Memory) }
 {
     let place = before_bar(input);
-    match read_plant(alloc, plant_text(input, place)) {
+    match plant_of_input(alloc, input, place) {
         Ok(plant) => answer_to_script(alloc, &plant, script_text(input, place)),
         Err(PlantFault::NoMemory) => Err(Stop::Memory),
         Err(fault) => Ok(answer_to_fault(alloc, fault)?),

@@ -11,11 +11,11 @@ ghost use Rattle.plant_script.specs.Words.{AnswersSteps, AnswersOperator, Answer
 ghost use Rattle.plant_script.specs.declared.input.Stop.TheVariants.{Memory};
 
 use crate::answer::Answer;
-use crate::check::{answer_to_fault, answer_to_line};
+use crate::check::{answer_to_fault, answer_to_line, plant_of_input};
 use crate::input::Stop;
 use plant::{Op, Plant};
-use plant_lines::{LineFault, LineStep, before_bar, place_of, plant_text, script_text, steps_of};
-use slice_table::{PlantFault, read_plant};
+use plant_lines::{LineFault, LineStep, before_bar, place_of, script_text, steps_of};
+use slice_table::PlantFault;
 use std::alloc::Global;
 
 /// What is written of a run.
@@ -123,7 +123,7 @@ pub fn task_of(alloc: Global, wanted: Wanted<'_>, input: &[u8]) -> Result<Served
     ensures memory { IfErr result (λ stop. stop ≡ Memory) }
 {
     let place = before_bar(input);
-    match read_plant(alloc, plant_text(input, place)) {
+    match plant_of_input(alloc, input, place) {
         Ok(plant) => task_of_plant(alloc, plant, wanted, script_text(input, place)),
         Err(PlantFault::NoMemory) => Err(Stop::Memory),
         Err(fault) => {
