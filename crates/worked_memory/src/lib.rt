@@ -7,15 +7,9 @@
 #[cfg(test)]
 mod again;
 #[cfg(test)]
-mod book_scripts;
-#[cfg(test)]
-mod books;
-#[cfg(test)]
 mod captures;
 #[cfg(test)]
 mod copies;
-#[cfg(test)]
-mod cores;
 #[cfg(test)]
 mod maps;
 #[cfg(test)]
