@@ -1,17 +1,16 @@
 //! A capture: a call that is refused has added nothing, and made once more, the file is what it is otherwise.
 
 use crate::again::again;
+use crate::tables::plant;
 use dsx_messages::Modem;
 use hex::{decode, encode_upper};
 use map_assembly::MapBytes;
 use operator_machine::{Heard, Output};
 use plant_capture::Capture;
 use plant_runs::{Out, Step};
-use slice_table::read_plant;
-use std::alloc::Global;
+use std::alloc::{AllocError, Global};
 use std::test::Fail;
 use tlv24::Bytes;
-use worked_plants::PLANT;
 
 const ONE: Modem = Modem([2, 0, 0, 0, 0, 1]);
 
@@ -64,35 +63,65 @@ fn reply(alloc: Global, digits: &str) -> Result<Out, Fail> {
     })
 }
 
-/// The MAP of a frame.
-fn map(alloc: Global, frame: u32) -> Result<Out, Fail> {
+/// The MAP of the first frame.
+fn map(alloc: Global) -> Result<Out, Fail> {
     Ok(Out::Map(MapBytes {
-        frame,
+        frame: 0,
         bytes: bytes_of(alloc, MAP)?,
     }))
 }
 
 /// A capture of the plant of two operators.
 fn capture_of(alloc: Global) -> Result<Capture, Fail> {
-    let plant = read_plant(alloc, PLANT).ok().ok_or("no plant")?;
+    let plant = plant(alloc)?;
     Ok(Capture::open(alloc, plant.consts()))
+}
+
+/// Captures a step.
+fn sent(alloc: Global, capture: &mut Capture, step: &Step) -> Result<(), AllocError> {
+    again!(capture.sent(alloc, step));
+    Ok(())
+}
+
+/// Captures what is put out.
+fn told(alloc: Global, capture: &mut Capture, outs: &[Out]) -> Result<(), AllocError> {
+    again!(capture.told(alloc, outs));
+    Ok(())
+}
+
+/// Captures a message of the modem.
+fn send(alloc: Global, capture: &mut Capture, digits: &str) -> Result<(), Fail> {
+    let step = message(alloc, digits)?;
+    Ok(sent(alloc, capture, &step)?)
+}
+
+/// Captures what is put out.
+fn tell(alloc: Global, capture: &mut Capture, out: Out) -> Result<(), Fail> {
+    let outs = [out];
+    Ok(told(alloc, capture, &outs)?)
+}
+
+/// The digits of the file.
+fn file(alloc: Global, capture: &Capture) -> Result<String, AllocError> {
+    let file = again!(capture.to_bytes(alloc));
+    encode_upper(alloc, file.as_slice())
+}
+
+/// The digits of the file of a flow's addition, its MAP and its deletion.
+fn first_flow(alloc: Global) -> Result<String, Fail> {
+    let mut capture = capture_of(alloc)?;
+    send(alloc, &mut capture, "0F0001180A010200010601060F0102")?;
+    let answered = "10000100180E0102000102040000010103020101";
+    tell(alloc, &mut capture, reply(alloc, answered)?)?;
+    send(alloc, &mut capture, "11000100")?;
+    tell(alloc, &mut capture, map(alloc)?)?;
+    send(alloc, &mut capture, "150002000000000101")?;
+    Ok(file(alloc, &capture)?)
 }
 
 #[test]
 fn a_flow_is_captured_again(rt: HostRuntime) -> Result<(), Fail> {
-    let alloc = rt.alloc();
-    let mut capture = capture_of(alloc)?;
-    let asked = message(alloc, "0F0001180A010200010601060F0102")?;
-    let answered = [reply(alloc, "10000100180E0102000102040000010103020101")?];
-    let acked = message(alloc, "11000100")?;
-    let mapped = [map(alloc, 0)?];
-    let deleted = message(alloc, "150002000000000101")?;
-    again!(capture.sent(alloc, &asked));
-    again!(capture.told(alloc, &answered));
-    again!(capture.sent(alloc, &acked));
-    again!(capture.told(alloc, &mapped));
-    again!(capture.sent(alloc, &deleted));
-    let file = again!(capture.to_bytes(alloc));
-    assert_eq!(rt; encode_upper(alloc, file.as_slice())?.as_str(), FIRST_FLOW);
+    let digits = first_flow(rt.alloc())?;
+    assert_eq!(rt; digits.as_str(), FIRST_FLOW);
     Ok(())
 }

@@ -1,28 +1,21 @@
-//! Copies of what goes into a book or a core and comes out of it.
+//! Copies of what a book puts out. No word of the program copies a whole output; what it copies, its runs show.
 
 use crate::again::again;
 use dsx_messages::Modem;
-use operator_machine::{Action, Heard, Output, SliceRow};
-use plant_runs::{SliceRows, Step};
+use operator_machine::Output;
 use slice_scheduler::{Elements, ElementsFields, Iuc, Sids, Slice, Span, Spans};
 use std::alloc::{AllocError, Global};
-use std::fmt::Debug;
 use std::process::Abort;
 use std::test::Fail;
 use tlv24::Bytes;
 
-const ONE: Modem = Modem([2, 0, 0, 0, 0, 1]);
-
-/// Asserts that two values show alike.
-fn check_alike<T: Debug>(rt: &impl Abort, alloc: Global, a: &T, b: &T) -> Result<(), AllocError> {
-    let (a, b) = (format!(in alloc; "{a:?}")?, format!(in alloc; "{b:?}")?);
-    assert_eq!(rt; a.as_str(), b.as_str());
+/// Asserts that a copy of an output shows as the output.
+fn check(rt: &impl Abort, alloc: Global, output: Output) -> Result<(), AllocError> {
+    let copied = again!(output.copy(alloc));
+    let shown = format!(in alloc; "{output:?}")?;
+    let again = format!(in alloc; "{copied:?}")?;
+    assert_eq!(rt; again.as_str(), shown.as_str());
     Ok(())
-}
-
-/// A message.
-fn heard(alloc: Global) -> Result<Heard, AllocError> {
-    Ok(Heard::Message(Bytes::from_slice(alloc, &[15, 0, 1])?))
 }
 
 /// A grant, what is left of the slice, and a SID that waits.
@@ -40,56 +33,25 @@ fn elements(alloc: Global) -> Result<Elements, AllocError> {
     }))
 }
 
-#[test]
-fn what_is_heard_is_copied(rt: HostRuntime) -> Result<(), Fail> {
-    let alloc = rt.alloc();
-    let heard = heard(alloc)?;
-    check_alike(&rt, alloc, &heard, &again!(heard.copy(alloc)))?;
-    let action = Action::Arrive { modem: ONE, heard };
-    check_alike(&rt, alloc, &action, &again!(action.copy(alloc)))?;
-    Ok(())
+/// A frame.
+fn frame(alloc: Global) -> Result<Output, AllocError> {
+    Ok(Output::Frame {
+        number: 7,
+        elements: elements(alloc)?,
+    })
 }
 
-#[test]
-fn elements_are_copied(rt: HostRuntime) -> Result<(), Fail> {
-    let alloc = rt.alloc();
-    let elements = elements(alloc)?;
-    check_alike(&rt, alloc, &elements, &again!(elements.copy(alloc)))?;
-    Ok(())
-}
-
-/// Asserts that a copy of an output shows as the output.
-fn check_output(rt: &impl Abort, alloc: Global, output: &Output) -> Result<(), Fail> {
-    check_alike(rt, alloc, output, &again!(output.copy(alloc)))?;
-    Ok(())
+/// A reply.
+fn reply(alloc: Global) -> Result<Output, AllocError> {
+    Ok(Output::Reply {
+        modem: Modem([2, 0, 0, 0, 0, 1]),
+        bytes: Bytes::from_slice(alloc, &[16, 0, 1, 3])?,
+    })
 }
 
 #[test]
 fn outputs_are_copied(rt: HostRuntime) -> Result<(), Fail> {
-    let alloc = rt.alloc();
-    let elements = elements(alloc)?;
-    let frame = Output::Frame {
-        number: 7,
-        elements,
-    };
-    check_output(&rt, alloc, &frame)?;
-    let bytes = Bytes::from_slice(alloc, &[16, 0, 1, 3])?;
-    check_output(&rt, alloc, &Output::Reply { modem: ONE, bytes })
-}
-
-#[test]
-fn steps_are_copied(rt: HostRuntime) -> Result<(), Fail> {
-    let alloc = rt.alloc();
-    let heard = heard(alloc)?;
-    let step = Step::Arrive { modem: ONE, heard };
-    check_alike(&rt, alloc, &step, &again!(step.copy(alloc)))?;
-    let row = SliceRow {
-        start: 8,
-        length: 16,
-        budget: 16,
-    };
-    let rows = SliceRows::from_vec(Vec::from_slice(alloc, &[row, row])?);
-    let step = Step::Reslice { from: 1, rows };
-    check_alike(&rt, alloc, &step, &again!(step.copy(alloc)))?;
+    check(&rt, rt.alloc(), frame(rt.alloc())?)?;
+    check(&rt, rt.alloc(), reply(rt.alloc())?)?;
     Ok(())
 }

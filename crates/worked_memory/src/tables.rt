@@ -3,9 +3,10 @@
 use crate::again::{again, again_if};
 use admission::{Budget, Ledger};
 use dsx_messages::{Kind, Modem};
-use plant::{Consts, OperatorRow, Plant};
+use plant::Plant;
 use slice_table::{PlantFault, read_plant};
 use std::alloc::{AllocError, Global};
+use std::process::Abort;
 use std::test::Fail;
 use tlv24::Bytes;
 use transactions::{Kept, KeptEntry, Timers};
@@ -35,28 +36,51 @@ const ONE: Modem = Modem([2, 0, 0, 0, 0, 1]);
 
 const THREE: Modem = Modem([2, 0, 0, 0, 0, 3]);
 
-#[test]
-fn a_ledger_is_made(rt: HostRuntime) -> Result<(), Fail> {
-    let alloc = rt.alloc();
-    let mut ledger = again!(Ledger::new(alloc, 2));
+/// A ledger of two rows, and once more where that finds no memory.
+fn ledger(alloc: Global) -> Result<Ledger, AllocError> {
+    Ok(again!(Ledger::new(alloc, 2)))
+}
+
+/// Whether a ledger takes a flow's row.
+fn takes(ledger: &mut Ledger, sfid: u32) -> bool {
     let budget = Budget {
         minislots: 5,
         elements: 2,
     };
-    assert_eq!(rt; ledger.add(257, budget), Ok(()));
-    assert_eq!(rt; ledger.add(258, budget), Ok(()));
+    ledger.add(sfid, budget).is_ok()
+}
+
+#[test]
+fn a_ledger_is_made(rt: HostRuntime) -> Result<(), Fail> {
+    let mut ledger = ledger(rt.alloc())?;
+    let taken = [takes(&mut ledger, 257), takes(&mut ledger, 258)];
+    assert_eq!(rt; taken, [true, true]);
     Ok(())
 }
 
-/// A table of two responses that are sent again at the first tick and given up at the second.
+/// A table of two responses that are sent again at the first tick and given up at the second, empty yet.
+fn kept(alloc: Global) -> Result<Kept, AllocError> {
+    Ok(again!(Kept::new(alloc, 2, Timers::new(1, 1, 5))))
+}
+
+/// Begins a transaction with a reply of four bytes.
+fn begin(
+    alloc: Global,
+    kept: &mut Kept,
+    modem: Modem,
+    kind: Kind,
+    reply: [u8; 4],
+) -> Result<(), Fail> {
+    let reply = Bytes::from_slice(alloc, &reply)?;
+    let begun = kept.begin(modem, 1, kind, reply, 257, true);
+    Ok(begun.ok().ok_or("not begun")?)
+}
+
+/// The table with both.
 fn two_kept(alloc: Global) -> Result<Kept, Fail> {
-    let mut kept = again!(Kept::new(alloc, 2, Timers::new(1, 1, 5)));
-    let first = Bytes::from_slice(alloc, &[16, 0, 1, 0])?;
-    let second = Bytes::from_slice(alloc, &[13, 0, 2, 0])?;
-    let begun = kept.begin(ONE, 1, Kind::Dsa, first, 257, true);
-    begun.ok().ok_or("not begun")?;
-    let begun = kept.begin(THREE, 2, Kind::Dsc, second, 258, true);
-    begun.ok().ok_or("not begun")?;
+    let mut kept = kept(alloc)?;
+    begin(alloc, &mut kept, ONE, Kind::Dsa, [16, 0, 1, 0])?;
+    begin(alloc, &mut kept, THREE, Kind::Dsc, [13, 0, 1, 0])?;
     Ok(kept)
 }
 
@@ -69,11 +93,10 @@ fn ticked(alloc: Global, kept: &mut Kept) -> Result<(usize, usize), AllocError> 
 /// A tick that is refused counts no timer on.
 #[test]
 fn kept_responses_are_sent_again_and_given_up(rt: HostRuntime) -> Result<(), Fail> {
-    let alloc = rt.alloc();
-    let mut kept = two_kept(alloc)?;
-    assert_eq!(rt; ticked(alloc, &mut kept)?, (2, 0));
-    assert_eq!(rt; ticked(alloc, &mut kept)?, (0, 2));
-    assert!(rt; kept.is_empty());
+    let mut kept = two_kept(rt.alloc())?;
+    let first = ticked(rt.alloc(), &mut kept)?;
+    let second = ticked(rt.alloc(), &mut kept)?;
+    assert_eq!(rt; (first, second, kept.is_empty()), ((2, 0), (0, 2), true));
     Ok(())
 }
 
@@ -88,13 +111,18 @@ fn copied(alloc: Global, entry: &KeptEntry) -> Result<KeptEntry, AllocError> {
     Ok(again!(entry.copy(alloc)))
 }
 
+/// The reply of a copy of the first entry.
+fn first_reply(alloc: Global, kept: &Kept) -> Result<Bytes, Fail> {
+    let entry = kept.entries().first().ok_or("no entry")?;
+    Ok(copied(alloc, entry)?.reply)
+}
+
 #[test]
 fn kept_responses_are_copied(rt: HostRuntime) -> Result<(), Fail> {
-    let alloc = rt.alloc();
-    let kept = two_kept(alloc)?;
-    assert_eq!(rt; resend_count(alloc, &kept)?, 2);
-    let entry = copied(alloc, kept.entries().first().ok_or("no entry")?)?;
-    assert_eq!(rt; entry.reply.as_slice(), [16, 0, 1, 0].as_slice());
+    let kept = two_kept(rt.alloc())?;
+    let count = resend_count(rt.alloc(), &kept)?;
+    let reply = first_reply(rt.alloc(), &kept)?;
+    assert_eq!(rt; (count, reply.as_slice()), (2, [16, 0, 1, 0].as_slice()));
     Ok(())
 }
 
@@ -106,14 +134,15 @@ fn is_the_plant(plant: &Plant) -> bool {
         && plant.consts().get_fields().classes.as_slice().len() == 1
 }
 
+/// The plant of a text, and once more where that finds no memory.
+fn plant_in(rt: &impl Abort, alloc: Global, text: &str) -> Result<Plant, Fail> {
+    Ok(again_if!(rt, read_plant(alloc, text), PlantFault::NoMemory))
+}
+
 #[test]
 fn a_plant_is_read(rt: HostRuntime) -> Result<(), Fail> {
     let text = plant_text(rt.alloc())?;
-    let plant = again_if!(
-        &rt,
-        read_plant(rt.alloc(), text.as_str()),
-        PlantFault::NoMemory
-    );
+    let plant = plant_in(&rt, rt.alloc(), text.as_str())?;
     assert!(rt; is_the_plant(&plant));
     Ok(())
 }
@@ -122,35 +151,4 @@ fn a_plant_is_read(rt: HostRuntime) -> Result<(), Fail> {
 pub(crate) fn plant(alloc: Global) -> Result<Plant, Fail> {
     let text = plant_text(alloc)?;
     Ok(read_plant(alloc, text.as_str()).ok().ok_or("no memory")?)
-}
-
-#[test]
-fn a_plant_is_copied(rt: HostRuntime) -> Result<(), Fail> {
-    let plant = plant(rt.alloc())?;
-    let copied = again!(plant.copy(rt.alloc()));
-    assert!(rt; is_the_plant(&copied));
-    Ok(())
-}
-
-/// How many classes a copy of what all operators share has.
-fn classes_copied(alloc: Global, consts: &Consts) -> Result<usize, AllocError> {
-    let copied = again!(consts.copy(alloc));
-    Ok(copied.get_fields().classes.as_slice().len())
-}
-
-/// How many modems a copy of a row has, and how many provisioned flows.
-fn row_copied(alloc: Global, row: &OperatorRow) -> Result<(usize, usize), AllocError> {
-    let copied = again!(row.copy(alloc));
-    let fields = copied.get_fields();
-    let (modems, provisions) = (fields.modems.as_slice(), fields.provisions.as_slice());
-    Ok((modems.len(), provisions.len()))
-}
-
-#[test]
-fn parts_of_a_plant_are_copied(rt: HostRuntime) -> Result<(), Fail> {
-    let plant = plant(rt.alloc())?;
-    assert_eq!(rt; classes_copied(rt.alloc(), plant.consts())?, 1);
-    let row = plant.rows().first().ok_or("no row")?;
-    assert_eq!(rt; row_copied(rt.alloc(), row)?, (2, 1));
-    Ok(())
 }
