@@ -1,42 +1,25 @@
 //! What no clause says: that calls on a cell succeed and a turn comes, and what they answer.
 
-use dsx_messages::Modem;
-use grant_policy::{Policy, Ranking};
+ghost use Rattle.std.specs.Prelude.{◌<◌, ◌^◌};
+
+use crate::opening::{modem, opened, strict};
 use hex::{decode, encode_upper};
-use operator_book::{Action, Book, BookFault, Heard, Output};
+use operator_book::{Action, BookFault, Heard, Output};
 use plant_workers::{CellFault, OpenGate, OperatorCell, Receipt};
 use slice_scheduler::{Elements, Span};
-use slice_table::read_plant;
 use std::alloc::{AllocError, Global};
 use std::process::Abort;
 use std::sync::Wait;
 use std::test::Fail;
 use tlv24::Bytes;
-use worked_plants::ALONE;
-use worked_playing::ranking;
 
 /// A message that adds a flow.
-pub(crate) const ADDITION: &str = "0F0001180A010200010601060F0102";
-
-/// The modem whose address ends with this byte.
-pub(crate) fn modem(last: u8) -> Modem {
-    Modem([2, 0, 0, 0, 0, last])
-}
+const ADDITION: &str = "0F0001180A010200010601060F0102";
 
 /// The message that digits spell.
-pub(crate) fn message(alloc: Global, digits: &str) -> Result<Heard, Fail> {
+fn message(alloc: Global, digits: &str) -> Result<Heard, Fail> {
     let bytes = decode(alloc, digits).ok().ok_or("no digits")?;
     Ok(Heard::Message(Bytes::from_slice(alloc, bytes.as_slice())?))
-}
-
-/// The cell of operator A with nothing done.
-pub(crate) fn opened(alloc: Global, ranking: Ranking) -> Result<OperatorCell, Fail> {
-    let plant = read_plant(alloc, ALONE).ok().ok_or("no plant")?;
-    let row = plant.rows().get(0).ok_or("no row")?;
-    let book = Book::open(alloc, row, plant.consts(), ranking)
-        .ok()
-        .ok_or("no book")?;
-    Ok(OperatorCell::new(0, book))
 }
 
 /// Writes an output: the digits of a reply, the cause of silence, or the number of a frame.
@@ -169,35 +152,111 @@ fn collect_after<R: Wait>(
     Ok(())
 }
 
-/// Two actions, a tick and its frame.
-fn play<R: Wait>(
+/// An addition of the operator's first modem arrives, and what is answered is written.
+fn arrive<R: Wait>(
     rt: &R,
     alloc: Global,
     cell: &OperatorCell,
     text: &mut String,
 ) -> Result<(), Fail> {
     let heard = message(alloc, ADDITION)?;
-    put_answer(alloc, text, cell.arrive(rt, alloc, modem(1), heard))?;
-    work(rt, alloc, cell, text)?;
-    tick(rt, alloc, cell, text)?;
-    collect(rt, alloc, cell, text)
+    put_answer(alloc, text, cell.arrive(rt, alloc, modem(1), heard))
 }
 
-/// The same, and a tick in its turn and its frame.
-fn played<R: Wait>(rt: &R, alloc: Global, cell: &OperatorCell) -> Result<String, Fail> {
+/// The arrival of a modem of another operator.
+fn stranger() -> Action {
+    Action::Arrive {
+        modem: modem(3),
+        heard: Heard::Request {
+            sid: 257,
+            minislots: 1,
+        },
+    }
+}
+
+/// A call on a cell. One that names a place is made in that turn.
+#[derive(Clone, Copy)]
+enum Call {
+    Arrive,
+    Work,
+    Tick,
+    Collect,
+    WorkAt(usize),
+    TickAt(usize),
+    /// The arrival of a modem of another operator.
+    StrangerAt(usize),
+    CollectBehind(usize),
+    Stop,
+}
+
+/// Makes a call, and writes what is answered.
+fn answer<R: Wait>(
+    rt: &R,
+    alloc: Global,
+    cell: &OperatorCell,
+    text: &mut String,
+    call: Call,
+) -> Result<(), Fail> {
+    match call {
+        Call::Arrive => arrive(rt, alloc, cell, text),
+        Call::Work => work(rt, alloc, cell, text),
+        Call::Tick => tick(rt, alloc, cell, text),
+        Call::Collect => collect(rt, alloc, cell, text),
+        Call::WorkAt(index) => turn(rt, alloc, cell, text, index, Action::Work),
+        Call::TickAt(index) => turn(rt, alloc, cell, text, index, Action::Tick),
+        Call::StrangerAt(index) => turn(rt, alloc, cell, text, index, stranger()),
+        Call::CollectBehind(index) => collect_after(rt, alloc, cell, text, index),
+        Call::Stop => {
+            cell.stop(rt);
+            Ok(())
+        }
+    }
+}
+
+/// Makes calls, and writes what is answered.
+fn make<R: Wait>(
+    rt: &R,
+    alloc: Global,
+    cell: &OperatorCell,
+    text: &mut String,
+    calls: &[Call],
+) -> Result<(), Fail> {
+    for each in calls {
+        answer(rt, alloc, cell, text, *each)?;
+    }
+    Ok(())
+}
+
+/// A cell with the book and the frames of another, which is taken apart.
+fn again(cell: OperatorCell) -> OperatorCell
+    requires { cell.op < 2 ^ 64 }
+{
+    let (book, taken) = cell.into_parts();
+    OperatorCell::again(0, book, taken)
+}
+
+/// What calls on the cell of operator A answer, line by line, and then others on the cell that it is once it was taken apart and put
+/// together again.
+fn told<R: Wait>(rt: &R, alloc: Global, calls: &[Call], others: &[Call]) -> Result<String, Fail> {
     let mut text = String::new(alloc);
-    play(rt, alloc, cell, &mut text)?;
-    turn(rt, alloc, cell, &mut text, 3, Action::Tick)?;
-    collect_after(rt, alloc, cell, &mut text, 4)?;
+    let cell = opened(alloc, strict!(alloc))?;
+    make(rt, alloc, &cell, &mut text, calls)?;
+    make(rt, alloc, &again(cell), &mut text, others)?;
     Ok(text)
 }
 
 /// The first addition gets the least SFID and SID, 257 both, and an idle frame is one span of the whole slice.
 #[test]
 fn a_cell_answers_receipts_and_frames(rt: HostRuntime) -> Result<(), Fail> {
-    let alloc = rt.alloc();
-    let cell = opened(alloc, ranking!(alloc, Policy::Strict))?;
-    let text = played(&rt, alloc, &cell)?;
+    let calls = [
+        Call::Arrive,
+        Call::Work,
+        Call::Tick,
+        Call::Collect,
+        Call::TickAt(3),
+        Call::CollectBehind(4),
+    ];
+    let text = told(&rt, rt.alloc(), &calls, &[])?;
     let wanted = "
 0
 1 10000100180E0102000102040000010103020101
@@ -205,104 +264,51 @@ fn a_cell_answers_receipts_and_frames(rt: HostRuntime) -> Result<(), Fail> {
 frame 0 0/Long/8/32
 3 frame 1
 frame 1 0/Long/8/32";
-    assert!(&rt; text.as_str() == wanted, "{text}");
+    assert_eq!(rt; text.as_str(), wanted);
     Ok(())
-}
-
-/// Work, and work in the turn that it took.
-fn passed<R: Wait>(rt: &R, alloc: Global, cell: &OperatorCell) -> Result<String, Fail> {
-    let mut text = String::new(alloc);
-    work(rt, alloc, cell, &mut text)?;
-    turn(rt, alloc, cell, &mut text, 0, Action::Work)?;
-    Ok(text)
 }
 
 /// A place that the history has passed is told, with the operator and the place.
 #[test]
 fn a_turn_that_is_past_is_refused(rt: HostRuntime) -> Result<(), Fail> {
-    let alloc = rt.alloc();
-    let cell = opened(alloc, ranking!(alloc, Policy::Strict))?;
-    let text = passed(&rt, alloc, &cell)?;
+    let text = told(&rt, rt.alloc(), &[Call::Work, Call::WorkAt(0)], &[])?;
     assert_eq!(rt; text.as_str(), "\n0 Idle\npassed 0 0");
     Ok(())
-}
-
-/// Work, and behind a stop three turns, a frame in its turn, and work again.
-fn stopped<R: Wait>(rt: &R, alloc: Global, cell: &OperatorCell) -> Result<String, Fail> {
-    let mut text = String::new(alloc);
-    work(rt, alloc, cell, &mut text)?;
-    cell.stop(rt);
-    for index in [0, 1, 9] {
-        turn(rt, alloc, cell, &mut text, index, Action::Work)?;
-    }
-    collect_after(rt, alloc, cell, &mut text, 9)?;
-    work(rt, alloc, cell, &mut text)?;
-    Ok(text)
 }
 
 /// Where the turns have stopped each is refused, also one that would be past; what waits for no turn goes on.
 #[test]
 fn stopped_turns_are_refused(rt: HostRuntime) -> Result<(), Fail> {
-    let alloc = rt.alloc();
-    let cell = opened(alloc, ranking!(alloc, Policy::Strict))?;
-    let text = stopped(&rt, alloc, &cell)?;
+    let calls = [
+        Call::Work,
+        Call::Stop,
+        Call::WorkAt(0),
+        Call::WorkAt(1),
+        Call::WorkAt(9),
+        Call::CollectBehind(9),
+        Call::Work,
+    ];
+    let text = told(&rt, rt.alloc(), &calls, &[])?;
     let wanted = "\n0 Idle\nstopped 0\nstopped 0\nstopped 0\nstopped 0\n1 Idle";
     assert_eq!(rt; text.as_str(), wanted);
     Ok(())
 }
 
-/// The turn of a modem of another operator, and the turn that would have been next.
-fn refused<R: Wait>(rt: &R, alloc: Global, cell: &OperatorCell) -> Result<String, Fail> {
-    let mut text = String::new(alloc);
-    let action = Action::Arrive {
-        modem: modem(3),
-        heard: message(alloc, ADDITION)?,
-    };
-    turn(rt, alloc, cell, &mut text, 0, action)?;
-    turn(rt, alloc, cell, &mut text, 0, Action::Work)?;
-    Ok(text)
-}
-
 /// A turn that is refused stops the cell: a modem of another operator, and then the turn that would have been next.
 #[test]
 fn a_refused_turn_stops_the_cell(rt: HostRuntime) -> Result<(), Fail> {
-    let alloc = rt.alloc();
-    let cell = opened(alloc, ranking!(alloc, Policy::Strict))?;
-    let text = refused(&rt, alloc, &cell)?;
+    let calls = [Call::StrangerAt(0), Call::WorkAt(0)];
+    let text = told(&rt, rt.alloc(), &calls, &[])?;
     assert_eq!(rt; text.as_str(), "\nnot mine\nstopped 0");
     Ok(())
-}
-
-/// Two ticks, and the first frame.
-fn ticked<R: Wait>(rt: &R, alloc: Global, cell: &OperatorCell) -> Result<String, Fail> {
-    let mut text = String::new(alloc);
-    tick(rt, alloc, cell, &mut text)?;
-    tick(rt, alloc, cell, &mut text)?;
-    collect(rt, alloc, cell, &mut text)?;
-    Ok(text)
-}
-
-/// The same cell taken apart and put together, and two frames of it, behind a text.
-fn again<R: Wait>(
-    rt: &R,
-    alloc: Global,
-    cell: OperatorCell,
-    mut text: String,
-) -> Result<String, Fail> {
-    let (book, taken) = cell.into_parts();
-    let again = OperatorCell::again(0, book, taken);
-    collect(rt, alloc, &again, &mut text)?;
-    collect(rt, alloc, &again, &mut text)?;
-    Ok(text)
 }
 
 /// Taken apart and put together again, a cell goes on where it was: the frame that was collected is not given again.
 #[test]
 fn a_cell_goes_on_from_its_parts(rt: HostRuntime) -> Result<(), Fail> {
-    let alloc = rt.alloc();
-    let cell = opened(alloc, ranking!(alloc, Policy::Strict))?;
-    let text = ticked(&rt, alloc, &cell)?;
-    let text = again(&rt, alloc, cell, text)?;
+    let calls = [Call::Tick, Call::Tick, Call::Collect];
+    let others = [Call::Collect, Call::Collect];
+    let text = told(&rt, rt.alloc(), &calls, &others)?;
     let wanted = "
 0 frame 0
 1 frame 1

@@ -1,13 +1,15 @@
 //! Operators that work at the same time, as a gate can see.
 
-use crate::playing::told;
+use crate::playing::maps_of;
 use plant::Op;
 use plant_workers::Gate;
+use std::alloc::Global;
 use std::process::Abort;
 use std::sync::Wait;
 use std::sync::atomic::{AtomicU64, Ordering};
 use std::test::Fail;
 use std::thread;
+use std::thread::Threads;
 use std::time::{Clock, Duration};
 
 /// Holds one operator's second action inside until another's second is outside, ten seconds at most.
@@ -41,39 +43,33 @@ impl<R: Wait, C: Clock> Gate<R> for Holds<'_, C> {
     }
 }
 
-/// Two operators, each with an arrival and its work.
-const SCRIPT: &str = "
-A 020000000001 11000100
-A 020000000003 11000100
-W A
-W B";
-
-#[test]
-fn one_thread_or_one_lock(rt: HostRuntime) -> Result<(), Fail> {
+/// Runs two operators, of which the first that is named is held inside its second action until the other's second is outside, and asserts
+/// that it was not held in vain.
+fn check_apart<R: Threads + Wait + Sync + Clock + Abort>(
+    rt: &R,
+    alloc: Global,
+    held: Op,
+    other: Op,
+) -> Result<(), Fail> {
     let gate = Holds {
-        clock: &rt,
-        held: 0,
-        other: 1,
+        clock: rt,
+        held,
+        other,
         done: AtomicU64::new(0),
         missed: AtomicU64::new(0),
     };
-    let _text = told(&rt, rt.alloc(), SCRIPT, &gate, &[])?;
+    assert_eq!(rt; maps_of(rt, alloc, &gate, &[])?, Ok(1));
     assert_eq!(rt; gate.missed.load(Ordering::SeqCst), 0);
     assert_eq!(rt; gate.done.load(Ordering::SeqCst), 1);
     Ok(())
 }
 
 #[test]
+fn one_thread_or_one_lock(rt: HostRuntime) -> Result<(), Fail> {
+    check_apart(&rt, rt.alloc(), 0, 1)
+}
+
+#[test]
 fn one_thread_or_one_lock_the_other_way(rt: HostRuntime) -> Result<(), Fail> {
-    let gate = Holds {
-        clock: &rt,
-        held: 1,
-        other: 0,
-        done: AtomicU64::new(0),
-        missed: AtomicU64::new(0),
-    };
-    let _text = told(&rt, rt.alloc(), SCRIPT, &gate, &[])?;
-    assert_eq!(rt; gate.missed.load(Ordering::SeqCst), 0);
-    assert_eq!(rt; gate.done.load(Ordering::SeqCst), 1);
-    Ok(())
+    check_apart(&rt, rt.alloc(), 1, 0)
 }

@@ -9,10 +9,10 @@ mod faults;
 #[cfg(test)]
 mod gates;
 #[cfg(test)]
+mod opening;
+#[cfg(test)]
 mod playing;
 #[cfg(test)]
 mod runs;
 #[cfg(test)]
 mod sharing;
-#[cfg(test)]
-mod telling;

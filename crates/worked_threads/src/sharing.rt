@@ -1,8 +1,7 @@
 //! Two threads on one cell.
 
-use crate::cells::{ADDITION, message, modem, opened};
+use crate::opening::{modem, opened, strict};
 use dsx_messages::Modem;
-use grant_policy::Policy;
 use operator_book::{Book, Heard};
 use plant_workers::{Callers, OperatorCell, Receipts, settle};
 use std::alloc::{AllocError, Global};
@@ -11,17 +10,20 @@ use std::sync::Wait;
 use std::test::Fail;
 use std::thread;
 use std::thread::{Builder, Threads};
-use worked_playing::ranking;
 
 /// What a thread does with what threads share. A trait of its own, so that a thread that borrows it asks for no more of it
 /// than that it may be shared.
 trait Plays<R: Wait> {
     /// Three calls, each with its receipt; none where one is refused.
-    fn play(&self, rt: &R, alloc: Global, modem: Modem, heard: Heard) -> Option<Receipts>;
+    fn play(&self, rt: &R, alloc: Global, modem: Modem) -> Option<Receipts>;
 }
 
 impl<R: Wait> Plays<R> for OperatorCell {
-    fn play(&self, rt: &R, alloc: Global, modem: Modem, heard: Heard) -> Option<Receipts> {
+    fn play(&self, rt: &R, alloc: Global, modem: Modem) -> Option<Receipts> {
+        let heard = Heard::Request {
+            sid: 257,
+            minislots: 1,
+        };
         let mut receipts = Receipts::new(alloc);
         receipts
             .push(self.arrive(rt, alloc, modem, heard).ok()?)
@@ -37,18 +39,16 @@ fn race<R: Threads + Wait + Sync, P: Plays<R> + Sync>(
     rt: &R,
     alloc: Global,
     plays: &P,
-    first: Heard,
-    second: Heard,
 ) -> Option<(Receipts, Receipts)> {
     thread::scope(
         thread::scope_env(),
         rt,
         |scope| -> Option<(Receipts, Receipts)> {
             let first = Builder::new()
-                .spawn_scoped(scope, move || { plays.play(rt, alloc, modem(1), first) })
+                .spawn_scoped(scope, move || { plays.play(rt, alloc, modem(1)) })
                 .ok()?;
             let second = Builder::new()
-                .spawn_scoped(scope, move || { plays.play(rt, alloc, modem(2), second) })
+                .spawn_scoped(scope, move || { plays.play(rt, alloc, modem(2)) })
                 .ok()?;
             let (first, second) = (first.join(rt), second.join(rt));
             Some((first?, second?))
@@ -61,10 +61,8 @@ fn race_on<R: Threads + Wait + Sync>(
     rt: &R,
     alloc: Global,
     cell: &OperatorCell,
-    first: Heard,
-    second: Heard,
 ) -> Option<(Receipts, Receipts)> {
-    race(rt, alloc, cell, first, second)
+    race(rt, alloc, cell)
 }
 
 /// Whether these receipts of two callers settle over a book.
@@ -84,23 +82,12 @@ fn settles(
     Ok(settle(alloc, books, receipts, Vec::new(alloc)).is_ok())
 }
 
-/// The receipts of two threads that play on a cell, each with an addition.
-fn receipts<R: Threads + Wait + Sync>(
-    rt: &R,
-    alloc: Global,
-    cell: &OperatorCell,
-) -> Result<(Receipts, Receipts), Fail> {
-    let (first, second) = (message(alloc, ADDITION)?, message(alloc, ADDITION)?);
-    let told = race_on(rt, alloc, cell, first, second);
-    Ok(told.ok_or("a call was refused")?)
-}
-
 /// Each thread makes three calls: six entries, whose receipts settle.
 #[test]
 fn receipts_of_two_threads_settle(rt: HostRuntime) -> Result<(), Fail> {
     let alloc = rt.alloc();
-    let cell = opened(alloc, ranking!(alloc, Policy::Strict))?;
-    let (first, second) = receipts(&rt, alloc, &cell)?;
+    let cell = opened(alloc, strict!(alloc))?;
+    let (first, second) = race_on(&rt, alloc, &cell).ok_or("a call was refused")?;
     let (book, _) = cell.into_parts();
     assert_eq!(rt; book.history().len(), 6);
     assert!(&rt;
