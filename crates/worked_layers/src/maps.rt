@@ -1,7 +1,10 @@
 //! MAPs, read from their bytes.
 
+use crate::same::same;
 use map_assembly::{MapFault, MapHeader, MapSpan, read_map};
 use plant::Backoffs;
+use std::alloc::Global;
+use std::process::Abort;
 use std::test::Fail;
 
 /// One operator of two has a grant: the header, the head, the grant, an idle span of each operator, the Null.
@@ -42,6 +45,12 @@ const TWO_GRANTS: [u8; 40] = [
 /// A header without an element.
 const HEADER: [u8; 16] = [1, 1, 0, 0, 0, 0, 0, 0, 0, 0, 0, 0, 0, 0, 0, 0];
 
+/// A header that counts one element, which is missing.
+const NO_ELEMENT: [u8; 16] = [1, 1, 1, 0, 0, 0, 0, 0, 0, 0, 0, 0, 0, 0, 0, 0];
+
+/// A header without its last byte.
+const CUT: [u8; 15] = [1, 1, 0, 0, 0, 0, 0, 0, 0, 0, 0, 0, 0, 0, 0];
+
 /// A header that counts four elements, and these: the Null is not among them.
 const NO_NULL: [u8; 32] = [
     0x01, 0x01, 0x04, 0x00, 0x00, 0x00, 0x00, 0x00, 0x00, 0x00, 0x00, 0x00, 0x00, 0x00, 0x00, 0x00,
@@ -53,59 +62,66 @@ const ALL_FIELDS: [u8; 20] = [
     7, 9, 1, 255, 0xFF, 0xFF, 0xFF, 0x70, 1, 2, 3, 4, 11, 12, 13, 14, 0x00, 0x01, 0xC0, 0x05,
 ];
 
-fn span(sid: u16, iuc: u8, start: u16, len: u16) -> MapSpan {
-    MapSpan {
-        sid,
-        iuc,
-        start,
-        len,
-    }
+/// Spans of a SID, a use, a first minislot and minislots each.
+macro_rules! spans {
+    ($(($sid:expr, $iuc:expr, $start:expr, $len:expr)),*) => {
+        &[$(MapSpan { sid: $sid, iuc: $iuc, start: $start, len: $len }),*]
+    };
 }
 
-#[test]
-fn a_map_says_its_spans(rt: HostRuntime) -> Result<(), Fail> {
-    let one = read_map(rt.alloc(), &ONE_GRANT)?;
-    assert_eq!(rt; one.header.elements, 5);
+/// What `ONE_GRANT` says.
+const ONE_SPANS: &[MapSpan] = spans![
+    (0x3FFF, 1, 0, 8),
+    (257, 6, 8, 5),
+    (0, 6, 13, 27),
+    (0, 6, 40, 32)
+];
+
+/// What `TWO_GRANTS` says.
+const TWO_SPANS: &[MapSpan] = spans![
+    (0x3FFF, 1, 0, 8),
+    (257, 6, 8, 5),
+    (0, 6, 13, 27),
+    (513, 5, 40, 3),
+    (0, 6, 43, 29)
+];
+
+/// What `PENDING` says, of which the second grant waits for more.
+const PENDING_SPANS: &[MapSpan] = spans![
+    (0x3FFF, 1, 0, 8),
+    (257, 6, 8, 20),
+    (258, 6, 28, 12),
+    (0, 6, 40, 32)
+];
+
+/// MAPs, their spans, and the SIDs that wait.
+const MAPS: [(&[u8], &[MapSpan], &[u16]); 3] = [
+    (&ONE_GRANT, ONE_SPANS, &[]),
+    (&TWO_GRANTS, TWO_SPANS, &[]),
+    (&PENDING, PENDING_SPANS, &[258]),
+];
+
+/// Asserts the spans of a MAP, and who waits.
+fn check_map(
+    rt: &impl Abort,
+    alloc: Global,
+    bytes: &[u8],
+    spans: &[MapSpan],
+    pending: &[u16],
+) -> Result<(), MapFault> {
+    let map = read_map(alloc, bytes)?;
     assert_eq!(rt;
-        one.spans.as_slice(),
-        [
-            span(0x3FFF, 1, 0, 8),
-            span(257, 6, 8, 5),
-            span(0, 6, 13, 27),
-            span(0, 6, 40, 32),
-        ]
-        .as_slice()
-    );
-    assert!(rt; one.pending.as_slice().is_empty());
-    let two = read_map(rt.alloc(), &TWO_GRANTS)?;
-    assert_eq!(rt;
-        two.spans.as_slice(),
-        [
-            span(0x3FFF, 1, 0, 8),
-            span(257, 6, 8, 5),
-            span(0, 6, 13, 27),
-            span(513, 5, 40, 3),
-            span(0, 6, 43, 29),
-        ]
-        .as_slice()
+        (map.spans.as_slice(), map.pending.as_slice()),
+        (spans, pending)
     );
     Ok(())
 }
 
 #[test]
-fn a_map_says_who_waits(rt: HostRuntime) -> Result<(), Fail> {
-    let view = read_map(rt.alloc(), &PENDING)?;
-    assert_eq!(rt;
-        view.spans.as_slice(),
-        [
-            span(0x3FFF, 1, 0, 8),
-            span(257, 6, 8, 20),
-            span(258, 6, 28, 12),
-            span(0, 6, 40, 32),
-        ]
-        .as_slice()
-    );
-    assert_eq!(rt; view.pending.as_slice(), [258].as_slice());
+fn a_map_says_its_spans_and_who_waits(rt: HostRuntime) -> Result<(), Fail> {
+    for (bytes, spans, pending) in MAPS {
+        check_map(&rt, rt.alloc(), bytes, spans, pending)?;
+    }
     Ok(())
 }
 
@@ -130,14 +146,24 @@ fn a_header_has_its_fields(rt: HostRuntime) -> Result<(), Fail> {
     Ok(())
 }
 
+/// Bytes that are no MAP, and what is wrong with them.
+const FAULTS: [(&[u8], MapFault); 6] = [
+    (&CUT, MapFault::Short),
+    (&NO_ELEMENT, MapFault::Count),
+    (&HEADER, MapFault::NoNull),
+    (&NO_NULL, MapFault::NoNull),
+    (&TURNED, MapFault::Backward { at: 2 }),
+    (&STRAYED, MapFault::AfterNull { at: 5 }),
+];
+
+/// What is wrong with the bytes of a MAP.
+fn fault_in(alloc: Global, bytes: &[u8]) -> Option<MapFault> {
+    read_map(alloc, bytes).err()
+}
+
 #[test]
 fn other_bytes_say_what_is_wrong(rt: HostRuntime) {
-    let alloc = rt.alloc();
-    let fault = |bytes: &[u8]| -> Option<MapFault> { read_map(alloc, bytes).err() };
-    assert_eq!(rt; fault(&ONE_GRANT[..15]), Some(MapFault::Short));
-    assert_eq!(rt; fault(&ONE_GRANT[..16]), Some(MapFault::Count));
-    assert_eq!(rt; fault(&HEADER), Some(MapFault::NoNull));
-    assert_eq!(rt; fault(&NO_NULL), Some(MapFault::NoNull));
-    assert_eq!(rt; fault(&TURNED), Some(MapFault::Backward { at: 2 }));
-    assert_eq!(rt; fault(&STRAYED), Some(MapFault::AfterNull { at: 5 }));
+    for (bytes, wanted) in FAULTS {
+        same!(rt; fault_in(rt.alloc(), bytes), Some(wanted));
+    }
 }
