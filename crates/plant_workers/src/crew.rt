@@ -6,8 +6,8 @@ ghost use Rattle.plant_workers.specs.Faulting.{IsReslice, IsOfRun};
 
 use crate::gate::Gate;
 use crate::job::Job;
-use crate::lists::{Lists, add_owned, add_tales, no_lists};
 use crate::part::parts_of;
+use crate::receipt_lists::{Lists, add_owned, add_tales, no_lists};
 use crate::shared::run_shared;
 use crate::tale::{Tale, first_fault};
 use operator_machine::SliceRow;

@@ -6,7 +6,7 @@ ghost use Rattle.plant_outcomes.specs.Outcome.{AreTicked, IsOutcome};
 ghost use Rattle.plant_workers.specs.Faulting.{IsOfRun};
 
 use crate::crew::Crew;
-use crate::lists::callers_of;
+use crate::receipt_lists::callers_of;
 use map_assembly::MapBytes;
 use operator_book::Book;
 use plant::Plant;
