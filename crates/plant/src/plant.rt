@@ -48,10 +48,20 @@ fn copy_places(places: &IndexMap<Modem, Op>) -> Result<IndexMap<Modem, Op>, Allo
 }
 
 /// A valid plant. Contracts see what it is made of. The operator of a modem is found by the modem's address.
-#[derive(Debug, Drop)]
+#[derive(Debug)]
 pub struct Plant {
     fields: PlantFields,
     places: IndexMap<Modem, Op>,
+}
+
+/// Written out, so that the crates above prove nothing of how the parts of a plant are dropped.
+impl Drop for Plant {
+    fn drop(self) {
+        let Plant {
+            fields: _,
+            places: _,
+        } = self;
+    }
 }
 
 impl Model for Plant {

@@ -10,10 +10,20 @@ use map_assembly::Gather;
 
 /// A plant's core: the plant, each operator's book with its frames that wait to be collected, and what is gathered. Contracts
 /// speak of `core_view` of it. The type keeps that it is what some steps make of the plant's core as it is opened.
-#[derive(Drop)]
 pub struct PlantCore {
     pub routes: Routes,
     pub desks: Vec<Desk>,
     pub gather: Gather,
     ghost reached: { ∥ IsReachable (core_of routes (map book_at desks.items) (map waiting_at desks.items) gather) ∥₁ },
+}
+
+/// Written out, so that the crates above prove nothing of how the parts of a core are dropped.
+impl Drop for PlantCore {
+    fn drop(self) {
+        let PlantCore {
+            routes: _,
+            desks: _,
+            gather: _,
+        } = self;
+    }
 }
