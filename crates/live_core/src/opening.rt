@@ -1,12 +1,12 @@
 //! Opening a live core.
 
-ghost use Rattle.std.specs.Prelude.{◌≡◌, ◌≢◌, ◌↔◌, [], map, length, replicate, All, Err, IfOk};
+ghost use Rattle.std.specs.Prelude.{◌≡◌, ◌≢◌, ◌↔◌, [], map, length, replicate, All, Err, IfOk, IfErr};
 ghost use Rattle.plant.specs.Row.{IsRowOf};
 ghost use Rattle.plant.specs.Plant.{IsPlant};
 ghost use Rattle.map_assembly.specs.Gathering.{gathering_of, IsGathering};
 ghost use Rattle.plant_runs.specs.Opened.{opened_book, opened_core};
 ghost use Rattle.plant_core.specs.declared.core_fault.CoreOpenFault.{CoreOpenFault};
-ghost use Rattle.plant_core.specs.declared.core_fault.CoreOpenFault.TheVariants.{RankingsMismatch};
+ghost use Rattle.plant_core.specs.declared.core_fault.CoreOpenFault.TheVariants.{RankingsMismatch, NoMemory};
 ghost use Rattle.live_core.specs.DeskView.{book_at, waiting_at};
 ghost use Rattle.live_core.specs.After.{IsAfter};
 ghost use Rattle.live_core.specs.LiveView.{live_view};
@@ -79,14 +79,19 @@ impl LiveCore {
         if !follow(rankings.as_slice(), plant.rows()) {
             return Err(CoreOpenFault::RankingsMismatch);
         }
-        Ok(LiveCore::opened(alloc, plant, rankings)?)
+        LiveCore::opened(alloc, plant, rankings)
     }
 
     /// The core of a plant with nothing done, where there is a ranking for each operator.
-    fn opened(alloc: Global, plant: Plant, rankings: Vec<Ranking>) -> Result<LiveCore, AllocError>
+    fn opened(
+        alloc: Global,
+        plant: Plant,
+        rankings: Vec<Ranking>,
+    ) -> Result<LiveCore, CoreOpenFault>
         requires { length rankings.items ≡ length plant.rows }
         ensures ok { IfOk result (λ core. live_view core ≡ opened_core plant) }
         ensures reached { IfOk result (λ core. IsAfter plant [] [] (live_view core)) }
+        ensures memory { IfErr result (λ fault. fault ≡ NoMemory) }
     {
         let parts = opened_parts(alloc, &plant, rankings)?;
         let routes = Routes::new(alloc, plant)?;

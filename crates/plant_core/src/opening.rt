@@ -1,6 +1,6 @@
 //! Opening a plant's core.
 
-ghost use Rattle.std.specs.Prelude.{◌≡◌, ◌≢◌, ◌↔◌, [], map, length, replicate, All, IsTrue, Err, IfOk};
+ghost use Rattle.std.specs.Prelude.{◌≡◌, ◌≢◌, ◌↔◌, [], map, length, replicate, All, IsTrue, Err, IfOk, IfErr};
 ghost use Rattle.plant.specs.Row.{IsRowOf};
 ghost use Rattle.plant.specs.Plant.{IsPlant};
 ghost use Rattle.map_assembly.specs.Gathering.{gathering_of};
@@ -98,14 +98,19 @@ impl PlantCore {
         if !follow(rankings.as_slice(), plant.rows()) {
             return Err(CoreOpenFault::RankingsMismatch);
         }
-        Ok(PlantCore::opened(alloc, plant, rankings)?)
+        PlantCore::opened(alloc, plant, rankings)
     }
 
     /// The core of a plant with nothing done, where there is a ranking for each operator.
-    fn opened(alloc: Global, plant: Plant, rankings: Vec<Ranking>) -> Result<PlantCore, AllocError>
+    fn opened(
+        alloc: Global,
+        plant: Plant,
+        rankings: Vec<Ranking>,
+    ) -> Result<PlantCore, CoreOpenFault>
         requires { length rankings.items ≡ length plant.rows }
         ensures ok { IfOk result (λ core. core_view core ≡ opened_core plant) }
         ensures reached { IfOk result (λ core. Reached plant [] [] (core_view core)) }
+        ensures memory { IfErr result (λ fault. fault ≡ CoreOpenFault.NoMemory) }
     {
         let parts = opened_parts(alloc, &plant, rankings)?;
         let routes = Routes::new(alloc, plant)?;
