@@ -2,7 +2,7 @@
 use Rattle.std.proofs.Common.{◌≡◌, ℕ, zero, suc, ◌-◌, ◌<◌, ◌≤◌, false, List, [], ◌∷◌, ◌++◌, map, length, All, Contains, Some, Option, option_map, sym, refl, ap, ◌∙◌, subst, arith, append_assoc}
 use Rattle.std.proofs.lemmas.Bool.{cond_both}
 use Rattle.std.proofs.lemmas.List.{map-append}
-use Rattle.std.proofs.lemmas.List.Elements.{All-pop, All-nil, All-cons, Contains-append_left, Contains-append_right, Contains-push}
+use Rattle.std.proofs.lemmas.List.Elements.{All-pop, All-weaker, All-nil, All-cons, Contains-append_left, Contains-append_right, Contains-push}
 use mathlib.Core.Option.{some}
 use lib.ListN.{get_elem?}
 use Rattle.atomic_table.specs.Table.{State}
@@ -66,6 +66,11 @@ gathers_more p ps v w g part same = record {
 
 pub pop_all : {A : Type 0} (xs ys : List A) (x : A) (f : A → TableId) (id : TableId) → xs ≡ ys ++ x ∷ [] → All (λ p. f p ≡ id) xs → All (λ p. f p ≡ id) ys × (f x ≡ id)
 pop_all {A} xs ys x f id e all = let h = All-pop (λ (p : A). f p ≡ id) xs ys (Some x) e all in (h.0, h.1)
+
+-- passes of a cell, when the last was taken from them
+pub popped_are_of : {A : Type 0} (xs ys : List A) (x : A) (f : A → PassView) (c : CellView) → xs ≡ ys ++ x ∷ [] → All (λ p. IsOf c (f p)) xs → ((f x).cell ≡ c.cell) × All (λ p. (f p).cell ≡ c.cell) ys
+popped_are_of {A} xs ys x f c e all =
+    let h = pop_all xs ys x (λ p. (f p).cell) c.cell e (All-weaker (λ (p : A). IsOf c (f p)) (λ (p : A). (f p).cell ≡ c.cell) (λ p h. h.cell) xs all) in (h.1, h.0)
 
 pub map_popped : {A : Type 0} (xs ys : List A) (x : A) (f : A → PassView) (ps : List PassView) → xs ≡ ys ++ x ∷ [] → map f ys ++ f x ∷ ps ≡ map f xs ++ ps
 map_popped xs ys x f ps e = sym (append_assoc (map f ys) (f x ∷ []) ps) ∙ ap (λ l. l ++ ps) (sym (ap (map f) e ∙ map-append f ys (x ∷ [])))

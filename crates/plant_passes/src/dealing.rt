@@ -85,7 +85,15 @@ pub(crate) fn table_round(
     book.always_replayed();
     let (kept, rest) = book.into_parts();
     let key = Key { kept, passes };
-    let (table, mut giver) = Table::vacant(alloc, &[start, start], 1, &key)?;
+    let (table, mut giver) = match Table::vacant(alloc, &[start, start], 1, &key) {
+        Ok(made) => made,
+        Err(error) => {
+            // Dropped by calls: part by part, as `?` drops them, takes longer to prove.
+            drop(key);
+            drop(rest);
+            return Err(error);
+        }
+    };
     let held = Held {
         kept: key.kept,
         rest,

@@ -1,4 +1,4 @@
-use Rattle.std.proofs.Common.{rules, ◌≡◌, ◌<◌, ℕ, [], ◌∷◌, ◌++◌, Some, sym, ap, ◌∙◌, refl, subst}
+use Rattle.std.proofs.Common.{rules, ◌<◌, ℕ, [], ◌∷◌, ◌++◌, sym, ap, ◌∙◌, refl, subst}
 use Rattle.plant_passes.specs.Words.{entries, entry_of}
 use Rattle.plant_passes.specs.Steps.{Looks}
 use Rattle.plant_passes.specs.Turns.{HasInHand}

@@ -1,10 +1,13 @@
 use Rattle.std.proofs.Common.{arith, ◌≡◌, ◌≤◌, length, Some, sym, ap, ◌∙◌}
 use Rattle.operator_book.specs.ViewOf.{policy_of}
 use Rattle.plant_passes.specs.Runs.{origin_of}
-use Rattle.plant_passes.specs.ViewOf.{pass_of}
+use Rattle.plant_passes.specs.ViewOf.{cell_of, pass_of}
 use Rattle.plant_passes.proofs.Logs.{at_one}
-use Rattle.plant_passes.proofs.Cells.{the_book}
+use Rattle.plant_passes.proofs.Cells.{popped_are_of, the_book}
 use Rattle.plant_passes.proofs.pass.PassedCell.close.Goals as goal
+
+pub gather-collector-requires-clause-own : goal.gather-collector-requires-clause-own
+gather-collector-requires-clause-own g c = popped_are_of c.args.passes.items _ _ (λ p. pass_of p) (cell_of c.args.self) c.in-Some.ensures.items c.requires.of
 
 pub unreachable-requires-in_default-held : goal.unreachable-requires-in_default-held
 unreachable-requires-in_default-held g c =
