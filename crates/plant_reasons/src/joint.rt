@@ -1,17 +1,19 @@
 //! What is wrong with all keys of a plant file together.
 
-use crate::tree::{named, number, pair, values};
+use crate::reason::{Part, Reason};
+use crate::tree::{named, number, pair, values, values_below};
 use dsx_messages::Modem;
 use hex::FromHex;
 use plant::OperatorName;
 use slice_table::Field;
-use std::alloc::{AllocError, Global};
 use toml::{Table, Value};
 
-/// The two numbers under a key of the operator of this name.
-fn pair_of(document: &Table, name: &str, field: Field) -> Option<(u64, u64)> {
-    let (_number, table) = named(document, "operator", name)?;
-    pair(table, field)
+/// The two numbers under a key of the operator of this name; zeros where they are not there.
+fn pair_of(document: &Table, name: &str, field: Field) -> (u64, u64) {
+    match named(document, "operator", name) {
+        Some(table) => pair(table, field).unwrap_or((0, 0)),
+        None => (0, 0),
+    }
 }
 
 /// The name of an operator as a text.
@@ -19,76 +21,71 @@ pub(crate) fn name_of(name: &OperatorName) -> &str {
     str::from_utf8(name.as_slice()).unwrap_or("")
 }
 
-/// Adds which numbers an operator has, or is to have.
-fn put_range(
-    text: &mut String,
-    name: &str,
-    has: &str,
-    range: (u64, u64),
-) -> Result<(), AllocError> {
-    let (first, last) = range;
-    write!(text, "{name} {has} {first} to {last}")
+/// Says which numbers an operator has, or is to have.
+fn say_numbers<'a>(reason: &mut Reason, name: &'a str, has: &'a str, range: (u64, u64)) {
+    reason.say(
+        "{} {} {} to {}",
+        &[
+            Part::Words(name),
+            Part::Words(has),
+            Part::Number(range.0),
+            Part::Number(range.1),
+        ],
+    );
 }
 
-/// That the numbers which two operators have, or are to have, under a key meet. The words behind a name say which numbers these are.
-pub(crate) fn meeting(
-    alloc: Global,
-    key: &str,
-    has: (&str, &str),
-    names: (&str, &str),
+/// Says that the numbers which two operators have, or are to have, under a key meet. The words behind a name say which numbers these are.
+pub(crate) fn say_meeting<'a>(
+    reason: &mut Reason,
+    key: &'a str,
+    has: (&'a str, &'a str),
+    names: (&'a str, &'a str),
     ranges: ((u64, u64), (u64, u64)),
-) -> Result<String, AllocError> {
+) {
     let (a, b) = names;
-    let mut text = format!(in alloc; "operators {a} and {b}: their {key} meet: ")?;
-    put_range(&mut text, a, has.0, ranges.0)?;
-    text.push_str(", ")?;
-    put_range(&mut text, b, has.1, ranges.1)?;
-    Ok(text)
+    reason.say(
+        "operators {} and {}: their {} meet: ",
+        &[Part::Words(a), Part::Words(b), Part::Words(key)],
+    );
+    say_numbers(reason, a, has.0, ranges.0);
+    reason.say(", ", &[]);
+    say_numbers(reason, b, has.1, ranges.1);
 }
 
 /// The first and the last minislot of an operator's slice.
 fn slice_of(document: &Table, name: &str) -> (u64, u64) {
-    let (start, length) = pair_of(document, name, Field::Slice).unwrap_or((0, 0));
+    let (start, length) = pair_of(document, name, Field::Slice);
     (start, start.saturating_add(length).saturating_sub(1))
 }
 
-/// Slices of two operators that have a minislot in common.
-pub(crate) fn slices_meet(
-    alloc: Global,
+/// Says that slices of two operators have a minislot in common.
+pub(crate) fn say_slices_meet(
+    reason: &mut Reason,
     document: &Table,
     a: OperatorName,
     b: OperatorName,
-) -> Result<String, AllocError> {
+) {
     let (a, b) = (name_of(&a), name_of(&b));
     let ranges = (slice_of(document, a), slice_of(document, b));
-    meeting(
-        alloc,
-        "slices",
-        ("has the minislots", "has"),
-        (a, b),
-        ranges,
-    )
+    let has = ("has the minislots", "has");
+    say_meeting(reason, "slices", has, (a, b), ranges);
 }
 
-/// Ranges of identifiers of two operators that have a number in common.
-pub(crate) fn ranges_meet(
-    alloc: Global,
+/// Says that ranges of identifiers of two operators have a number in common.
+pub(crate) fn say_ranges_meet(
+    reason: &mut Reason,
     document: &Table,
     field: Field,
     a: OperatorName,
     b: OperatorName,
-) -> Result<String, AllocError> {
+) {
     let (a, b) = (name_of(&a), name_of(&b));
-    let first = pair_of(document, a, field).unwrap_or((0, 0));
-    let other = pair_of(document, b, field).unwrap_or((0, 0));
-    meeting(alloc, field.text(), ("has", "has"), (a, b), (first, other))
+    let ranges = (pair_of(document, a, field), pair_of(document, b, field));
+    say_meeting(reason, field.text(), ("has", "has"), (a, b), ranges);
 }
 
-/// A place of a modem: the operator's number and the modem's.
-type ModemPlace = (usize, usize);
-
 /// Whether a value is the address of a modem.
-fn is_address(value: &Value, modem: Modem) -> bool {
+fn is_address_of(value: &Value, modem: Modem) -> bool {
     match value.as_str() {
         Some(text) => match <[u8; 6] as FromHex>::from_hex(text) {
             Ok(address) => address == modem.0,
@@ -98,79 +95,73 @@ fn is_address(value: &Value, modem: Modem) -> bool {
     }
 }
 
-/// The first of some modems, from a number on, that has an address.
-fn modem_from(modems: &[Value], from: usize, modem: Modem) -> Option<usize> {
-    for (number, value) in modems.iter().enumerate() {
-        if number >= from && is_address(value, modem) {
-            return Some(number);
-        }
-    }
-    None
-}
-
-/// The modems of an operator.
-fn modems_of(operator: &Value) -> &[Value] {
-    match operator.as_table() {
-        Some(table) => values(table, "modems"),
-        None => &[],
-    }
-}
-
-/// The first place, from one on, at which an address stands.
-fn place_from(operators: &[Value], from: ModemPlace, modem: Modem) -> Option<ModemPlace> {
-    for (number, operator) in operators.iter().enumerate() {
-        if number >= from.0 {
-            let first = if number == from.0 { from.1 } else { 0 };
-            if let Some(place) = modem_from(modems_of(operator), first, modem) {
-                return Some((number, place));
-            }
-        }
-    }
-    None
-}
-
-/// An address that stands twice.
-pub(crate) fn modem_twice(
-    alloc: Global,
-    document: &Table,
+/// Says at which places of an operator's modems an address stands, up to the second place of all.
+fn say_places(
+    reason: &mut Reason,
+    number: usize,
+    operator: &Value,
     modem: Modem,
-) -> Result<String, AllocError> {
-    let operators = values(document, "operator");
-    let (a, i) = place_from(operators, (0, 0), modem).unwrap_or((0, 0));
-    match place_from(operators, (a, i.saturating_add(1)), modem) {
-        Some((b, j)) => format!(in alloc;
-            "modem {modem} is listed twice: as operator[{a}].modems[{i}] and as operator[{b}].modems[{j}]"
-        ),
-        None => format!(in alloc; "modem {modem} is listed twice"),
+    found: &mut usize,
+) {
+    for (place, value) in values_below(operator, "modems").iter().enumerate() {
+        if *found < 2 && is_address_of(value, modem) {
+            let lead = if *found == 0 { ": as" } else { " and as" };
+            *found += 1;
+            reason.say(
+                "{} operator[{}].modems[{}]",
+                &[
+                    Part::Words(lead),
+                    Part::Number(number as u64),
+                    Part::Number(place as u64),
+                ],
+            );
+        }
     }
 }
 
-/// More elements than a MAP has.
-pub(crate) fn too_many_elements(
-    alloc: Global,
-    document: &Table,
-    total: usize,
-) -> Result<String, AllocError> {
-    let count = values(document, "operator").len();
-    let others = count.saturating_mul(2).saturating_add(3);
-    let quotas = total.saturating_sub(others);
-    format!(in alloc;
-        "a MAP could need {total} elements and has at most 240: the keys elements of all {count} operators are together {quotas}, two more for each operator and three more are {others}"
-    )
+/// Says that an address stands twice, and where.
+pub(crate) fn say_modem_twice(reason: &mut Reason, document: &Table, modem: Modem) {
+    reason.say("modem {} is listed twice", &[Part::Modem(modem)]);
+    let mut found = 0;
+    for (number, operator) in values(document, "operator").iter().enumerate() {
+        say_places(reason, number, operator, modem, &mut found);
+    }
 }
 
-/// A budget that is more than its slice.
-pub(crate) fn budget_over_slice(
-    alloc: Global,
-    document: &Table,
-    operator: OperatorName,
-) -> Result<String, AllocError> {
-    let (_start, length) = pair_of(document, name_of(&operator), Field::Slice).unwrap_or((0, 0));
-    let budget = match named(document, "operator", name_of(&operator)) {
-        Some((_number, table)) => number(table, Field::Budget).unwrap_or(0),
+/// Says that there are more elements than a MAP has.
+pub(crate) fn say_too_many_elements(reason: &mut Reason, document: &Table, total: usize) {
+    let (count, total) = (values(document, "operator").len() as u64, total as u64);
+    let others = count.saturating_mul(2).saturating_add(3);
+    reason.say(
+        "a MAP could need {} elements and has at most 240: the keys elements of all {} operators are together {}, two more for each operator and three more are {}",
+        &[
+            Part::Number(total),
+            Part::Number(count),
+            Part::Number(total.saturating_sub(others)),
+            Part::Number(others),
+        ],
+    );
+}
+
+/// Says that a budget is more than its slice.
+pub(crate) fn say_over_slice(reason: &mut Reason, name: &str, budget: u64, length: u64) {
+    reason.say(
+        "operator {}: its budget is {} minislots, its slice has {}",
+        &[
+            Part::Words(name),
+            Part::Number(budget),
+            Part::Number(length),
+        ],
+    );
+}
+
+/// Says that the budget of an operator is more than its slice.
+pub(crate) fn say_budget_over_slice(reason: &mut Reason, document: &Table, operator: OperatorName) {
+    let name = name_of(&operator);
+    let (_start, length) = pair_of(document, name, Field::Slice);
+    let budget = match named(document, "operator", name) {
+        Some(table) => number(table, Field::Budget).unwrap_or(0),
         None => 0,
     };
-    format!(in alloc;
-        "operator {operator}: its budget is {budget} minislots, its slice has {length}"
-    )
+    say_over_slice(reason, name, budget, length);
 }

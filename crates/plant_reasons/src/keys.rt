@@ -1,180 +1,165 @@
 //! A key of a plant file that is missing or has a wrong value.
 
 use crate::encodings::{encoding_in, need_of, stated_below_7, units_of};
-use crate::fault::Fault;
+use crate::reason::{Part, Reason};
 use crate::tree::{value_of, values, values_in};
-use crate::unread::nearest;
+use crate::unread::Nearest;
 use crate::values::{
-    address_wrong, first_item_wrong, head_wrong, name_wrong, range_wrong, shown, slice_wrong,
+    is_address, say_address, say_head, say_items, say_name, say_range, say_slice_value,
 };
 use crate::wanted::wanted;
 use slice_table::{Field, Key, Place};
-use std::alloc::{AllocError, Global};
 use toml::{Table, Value};
 
-/// A key that is missing.
-pub(crate) fn missing(alloc: Global, document: &Table, key: Key) -> Result<String, AllocError> {
+/// Says that a key is missing.
+pub(crate) fn say_missing(reason: &mut Reason, document: &Table, key: Key) {
     match key {
-        Key::Entry(Place::Plant, field) if document.get("plant").is_none() => {
-            let text = field.text();
-            format!(in alloc; "there is no table [plant], which has the key {text}")
-        }
-        Key::Entry(place, field) => {
-            let wanted = wanted(place, field);
-            format!(in alloc; "{key} is missing: {wanted}")
-        }
-        Key::Operators => {
-            String::from_str(
-                alloc,
-                "there is no operator: a plant has 1 to 32 tables [[operator]]",
-            )
-        }
-        Key::Classes | Key::Table(_) => format!(in alloc; "{key} is missing"),
+        Key::Entry(Place::Plant, field) if document.get("plant").is_none() => reason.say(
+            "there is no table [plant], which has the key {}",
+            &[Part::Words(field.text())],
+        ),
+        Key::Entry(place, field) => reason.say(
+            "{} is missing: {}",
+            &[Part::Key(key), Part::Words(wanted(place, field))],
+        ),
+        Key::Operators => reason.say(
+            "there is no operator: a plant has 1 to 32 tables [[operator]]",
+            &[],
+        ),
+        Key::Classes | Key::Table(_) => reason.say("{} is missing", &[Part::Key(key)]),
     }
 }
 
-/// What is wrong with an encoding.
-fn encoding_wrong(
-    alloc: Global,
-    document: &Table,
-    place: Place,
-    digits: &str,
-) -> Result<Option<String>, Fault> {
-    if let Place::Flow(..) = place {
-        if let Some(units) = units_of(document) {
-            need_of(alloc, document, units, digits)?;
+/// Says what is wrong with the encoding of a class.
+fn say_class_encoding(reason: &mut Reason, digits: &str) {
+    if let Some(flow) = encoding_in(reason, digits) {
+        if let Some(subtype) = stated_below_7(&flow) {
+            reason.say(
+                "it states subtype {}, and a class states none of the subtypes 1 to 6",
+                &[Part::Number(u64::from(subtype))],
+            );
         }
-        return Ok(None);
-    }
-    match stated_below_7(&encoding_in(alloc, digits)?) {
-        Some(subtype) => Ok(Some(format!(in alloc;
-            "it states subtype {subtype}, and a class states none of the subtypes 1 to 6"
-        )?)),
-        None => Ok(None),
     }
 }
 
-/// What is wrong with an encoding, where it is a text.
-fn encoding_told(
-    alloc: Global,
-    document: &Table,
-    place: Place,
-    value: &Value,
-) -> Result<Option<String>, AllocError> {
-    let Some(digits) = value.as_str() else {
-        return Ok(None);
-    };
-    match encoding_wrong(alloc, document, place, digits) {
-        Ok(wrong) => Ok(wrong),
-        Err(Fault::Reason(reason)) => Ok(Some(reason)),
-        Err(Fault::NoMemory) => Err(AllocError),
+/// Says what is wrong with an encoding, where it is a text.
+fn say_encoding(reason: &mut Reason, document: &Table, place: Place, value: &Value) {
+    match (value.as_str(), place) {
+        (None, _) => {}
+        (Some(digits), Place::Flow(..)) => {
+            if let Some(units) = units_of(document) {
+                let _need = need_of(reason, document, units, digits);
+            }
+        }
+        (Some(digits), _) => say_class_encoding(reason, digits),
     }
 }
 
-/// What is wrong with the address of a provisioned flow's modem.
-fn modem_wrong(alloc: Global, value: &Value) -> Result<Option<String>, AllocError> {
-    let Some(address) = value.as_str() else {
-        return Ok(None);
-    };
-    match address_wrong(alloc, address)? {
-        Some(wrong) => Ok(Some(format!(in alloc; "it {wrong}")?)),
-        None => Ok(Some(String::from_str(alloc, "no modem of this operator has this address")?)),
+/// Says what is wrong with the address of a provisioned flow's modem.
+fn say_modem(reason: &mut Reason, value: &Value) {
+    if let Some(address) = value.as_str() {
+        if is_address(address) {
+            reason.say("no modem of this operator has this address", &[]);
+        } else {
+            reason.say("it ", &[]);
+            say_address(reason, address);
+        }
     }
 }
 
-/// What is wrong with a policy's name.
-fn policy_wrong(alloc: Global, value: &Value) -> Result<Option<String>, AllocError> {
+/// Says which policy may be meant by another name.
+fn say_policy(reason: &mut Reason, value: &Value) {
     let Some(name) = value.as_str() else {
-        return Ok(None);
+        return;
     };
-    match nearest(alloc, name, &["strict", "aged", "short"])? {
-        Some(policy) => Ok(Some(format!(in alloc; "is \"{policy}\" meant?")?)),
-        None => Ok(None),
+    let mut nearest = Nearest::new(name);
+    nearest.try_words(reason, &["strict", "aged", "short"]);
+    if let Some(policy) = nearest.found {
+        reason.say("is \"{}\" meant?", &[Part::Words(policy)]);
     }
 }
 
-/// What is wrong with a value under a key, where more can be said than what is wanted.
-fn wrong_with(
-    alloc: Global,
-    document: &Table,
-    place: Place,
-    field: Field,
-    value: &Value,
-) -> Result<Option<String>, AllocError> {
-    match (place, field) {
-        (_, Field::Encoding) => encoding_told(alloc, document, place, value),
-        (_, Field::Slice) => slice_wrong(alloc, document, value),
-        (_, Field::Sfids) => range_wrong(alloc, value, 4_294_967_295),
-        (_, Field::Sids) => range_wrong(alloc, value, 8_191),
-        (_, Field::Head) => head_wrong(alloc, document, value),
-        (_, Field::Policy) => policy_wrong(alloc, value),
-        (_, Field::Modem) => modem_wrong(alloc, value),
-        (Place::Class(_), Field::Name) => name_wrong(alloc, document, "class", 15, value),
-        (Place::Operator(_), Field::Name) => name_wrong(alloc, document, "operator", 16, value),
-        _ => Ok(None),
-    }
-}
-
-/// A list of modems that is wrong.
-fn modems_bad(alloc: Global, key: Key, value: &Value) -> Result<Option<String>, AllocError> {
+/// Says what is wrong with a list of modems, where it is one.
+fn say_modems(reason: &mut Reason, value: &Value) {
     let items = values_in(value);
-    let count = items.len();
-    if count == 0 || count > 1024 {
-        return Ok(None);
-    }
-    match first_item_wrong(alloc, items)? {
-        Some(wrong) => Ok(Some(format!(in alloc; "{key}{wrong}")?)),
-        None => Ok(None),
+    if items.len() <= 1024 {
+        say_items(reason, items);
     }
 }
 
-/// An entry of a table that has a wrong value.
-fn bad_entry(
-    alloc: Global,
-    document: &Table,
-    place: Place,
-    field: Field,
-    value: &Value,
-) -> Result<String, AllocError> {
-    let key = Key::Entry(place, field);
-    if let Field::Modems = field {
-        if let Some(reason) = modems_bad(alloc, key, value)? {
-            return Ok(reason);
-        }
-    }
-    let wanted = wanted(place, field);
-    let shown = shown(alloc, value)?;
-    match wrong_with(alloc, document, place, field, value)? {
-        Some(wrong) => format!(in alloc; "{key} is {shown}: {wrong}; wanted is {wanted}"),
-        None => format!(in alloc; "{key} is {shown}; wanted is {wanted}"),
+/// Says what is wrong with a value under a key, where more can be said than what is wanted.
+fn say_wrong(reason: &mut Reason, document: &Table, place: Place, field: Field, value: &Value) {
+    match (place, field) {
+        (_, Field::Encoding) => say_encoding(reason, document, place, value),
+        (_, Field::Slice) => say_slice_value(reason, document, value),
+        (_, Field::Sfids) => say_range(reason, value, 4_294_967_295),
+        (_, Field::Sids) => say_range(reason, value, 8_191),
+        (_, Field::Head) => say_head(reason, document),
+        (_, Field::Policy) => say_policy(reason, value),
+        (_, Field::Modem) => say_modem(reason, value),
+        (_, Field::Modems) => say_modems(reason, value),
+        (Place::Class(_), Field::Name) => say_name(reason, document, "class", 15, value),
+        (Place::Operator(_), Field::Name) => say_name(reason, document, "operator", 16, value),
+        _ => {}
     }
 }
 
-/// An array of tables that has a wrong value.
-fn bad_array(
-    alloc: Global,
-    document: &Table,
-    name: &str,
-    most: usize,
-) -> Result<String, AllocError> {
-    let count = values(document, name).len();
-    if count == 0 {
-        format!(in alloc; "{name} is no array of tables: each of them begins with [[{name}]]")
+/// Says that an entry of a table has a wrong value.
+fn say_bad_entry(reason: &mut Reason, document: &Table, place: Place, field: Field, value: &Value) {
+    let mut wrong = Reason::new(reason.alloc);
+    say_wrong(&mut wrong, document, place, field, value);
+    let (key, wanted) = (Key::Entry(place, field), wanted(place, field));
+    if wrong.is_silent() {
+        reason.say(
+            "{} is {}; wanted is {}",
+            &[Part::Key(key), Part::Value(value), Part::Words(wanted)],
+        );
+    } else if let Field::Modems = field {
+        reason.say("{}{}", &[Part::Key(key), Part::Told(&wrong)]);
     } else {
-        format!(in alloc; "there are {count} tables [[{name}]], at most {most} are allowed")
+        reason.say(
+            "{} is {}: {}; wanted is {}",
+            &[
+                Part::Key(key),
+                Part::Value(value),
+                Part::Told(&wrong),
+                Part::Words(wanted),
+            ],
+        );
     }
 }
 
-/// A key that has a wrong value.
-pub(crate) fn bad_value(alloc: Global, document: &Table, key: Key) -> Result<String, AllocError> {
+/// Says that an array of tables has a wrong value.
+fn say_bad_array(reason: &mut Reason, document: &Table, name: &str, most: u64) {
+    let count = values(document, name).len() as u64;
+    let name = Part::Words(name);
+    if count == 0 {
+        reason.say(
+            "{} is no array of tables: each of them begins with [[{}]]",
+            &[name, name],
+        );
+    } else {
+        reason.say(
+            "there are {} tables [[{}]], at most {} are allowed",
+            &[Part::Number(count), name, Part::Number(most)],
+        );
+    }
+}
+
+/// Says that a key has a wrong value.
+pub(crate) fn say_bad_value(reason: &mut Reason, document: &Table, key: Key) {
     match (key, value_of(document, key)) {
-        (Key::Classes, _) => bad_array(alloc, document, "class", 64),
-        (Key::Operators, _) => bad_array(alloc, document, "operator", 32),
-        (Key::Entry(place, field), Some(value)) => bad_entry(alloc, document, place, field, value),
-        (Key::Table(_), Some(value)) => {
-            let shown = shown(alloc, value)?;
-            format!(in alloc; "{key} is {shown}, and no table")
+        (Key::Classes, _) => say_bad_array(reason, document, "class", 64),
+        (Key::Operators, _) => say_bad_array(reason, document, "operator", 32),
+        (Key::Entry(place, field), Some(value)) => {
+            say_bad_entry(reason, document, place, field, value);
         }
-        _ => format!(in alloc; "{key} has a wrong value"),
+        (Key::Table(_), Some(value)) => {
+            reason.say(
+                "{} is {}, and no table",
+                &[Part::Key(key), Part::Value(value)],
+            );
+        }
+        _ => reason.say("{} has a wrong value", &[Part::Key(key)]),
     }
 }

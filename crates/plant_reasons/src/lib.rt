@@ -3,7 +3,6 @@
 #![tactic(auto)]
 
 mod encodings;
-mod fault;
 mod joint;
 mod keys;
 mod lines;
@@ -11,6 +10,7 @@ mod parts;
 mod plain;
 mod plants;
 mod provisioned;
+mod reason;
 mod reasons;
 mod refusals;
 mod show;

@@ -1,16 +1,14 @@
 //! The lines of a script, and of the input of the word `one`: the steps that they say, or why they say none.
 
-use crate::encodings::{hex_reason, told};
-use crate::fault::Fault;
+use crate::encodings::say_no_hex;
 use crate::joint::name_of;
-use crate::show::quoted;
-use crate::values::address_wrong;
+use crate::reason::{Part, Reason};
+use crate::values::{Letters, first_beside, say_address};
 use dsx_messages::Modem;
 use hex::FromHex;
 use operator_book::{Heard, SliceRow};
 use plant::{Op, OperatorRow, Plant};
 use plant_runs::{SliceRows, Step};
-use std::alloc::{AllocError, Global};
 use tlv24::Bytes;
 
 /// A step, and the number of the line that says it; the first line has number 1.
@@ -20,97 +18,69 @@ pub(crate) struct LineStep {
     pub(crate) step: Step,
 }
 
-/// A line at fault.
+/// The steps of a script, as its lines are read.
 #[derive(Drop)]
-pub(crate) struct LineReason {
-    /// Its number; the first line has number 1.
+pub(crate) struct Steps {
+    /// The number of the line that was read last.
     pub(crate) number: usize,
-    /// Why it is at fault.
-    pub(crate) reason: String,
+    /// The steps up to there.
+    pub(crate) steps: Vec<LineStep>,
 }
 
-/// Why a script has no steps.
-#[derive(Drop)]
-pub(crate) enum NoSteps {
-    /// Its first line at fault.
-    Line(LineReason),
-    /// No memory was left.
-    NoMemory,
-}
-
-impl NoSteps {
-    /// The line at fault.
-    pub(crate) fn told(self) -> Result<Option<LineReason>, AllocError> {
-        match self {
-            NoSteps::Line(wrong) => Ok(Some(wrong)),
-            NoSteps::NoMemory => Err(AllocError),
+impl Steps {
+    /// Adds a step of the line.
+    fn put(&mut self, reason: &mut Reason, step: Step) {
+        let number = self.number;
+        if self.steps.push(LineStep { number, step }).is_err() {
+            reason.is_lost = true;
         }
     }
 }
 
-/// A reason that needs no values.
-fn plain(alloc: Global, reason: &str) -> Fault {
-    told(String::from_str(alloc, reason))
-}
-
-/// The bytes of a message.
-fn message_in(alloc: Global, field: &str) -> Result<Bytes, Fault> {
+/// The bytes of a message. None where there are none, and the reason says why.
+fn message_in(reason: &mut Reason, field: &str) -> Option<Bytes> {
     if field == "-" {
-        return Ok(Bytes::from_vec(Vec::new(alloc)));
+        return Some(Bytes::from_vec(Vec::new(reason.alloc)));
     }
-    match hex::decode(alloc, field) {
-        Ok(bytes) => Ok(Bytes::from_vec(bytes)),
-        Err(fault) => match hex_reason(alloc, field, fault) {
-            Fault::Reason(reason) => Err(told(format!(in alloc; "the message: {reason}"))),
-            Fault::NoMemory => Err(Fault::NoMemory),
-        },
-    }
-}
-
-/// Why a field is no address.
-fn no_address(alloc: Global, field: &str) -> Result<String, AllocError> {
-    let shown = quoted(alloc, field)?;
-    match address_wrong(alloc, field)? {
-        Some(wrong) => format!(in alloc; "the address {shown} {wrong}"),
-        None => format!(in alloc; "the address {shown} is none"),
+    match hex::decode(reason.alloc, field) {
+        Ok(bytes) => Some(Bytes::from_vec(bytes)),
+        Err(fault) => {
+            reason.say("the message: ", &[]);
+            say_no_hex(reason, field, fault);
+            None
+        }
     }
 }
 
-/// The modem of an address, and its operator.
-fn sender_in(alloc: Global, plant: &Plant, field: &str) -> Result<(Modem, Op), Fault> {
+/// The modem of an address, and its operator. None where there is none, and the reason says why.
+fn sender_in(reason: &mut Reason, plant: &Plant, field: &str) -> Option<(Modem, Op)> {
     let Ok(address) = <[u8; 6] as FromHex>::from_hex(field) else {
-        return Err(told(no_address(alloc, field)));
+        reason.say("the address {} ", &[Part::Quoted(field)]);
+        say_address(reason, field);
+        return None;
     };
-    match plant.operator_of(Modem(address)) {
-        Some(op) => Ok((Modem(address), op)),
+    let modem = Modem(address);
+    match plant.operator_of(modem) {
+        Some(op) => Some((modem, op)),
         None => {
-            let modem = Modem(address);
-            Err(told(format!(in alloc; "no operator lists the modem {modem}")))
+            reason.say("no operator lists the modem {}", &[Part::Modem(modem)]);
+            None
         }
     }
 }
 
-/// The names of operators, parted by commas.
-fn names_of(alloc: Global, rows: &[OperatorRow]) -> Result<String, AllocError> {
-    let mut names = String::new(alloc);
+/// Says that no operator has a name, and which names there are.
+pub(crate) fn say_stranger(reason: &mut Reason, rows: &[OperatorRow], name: &str) {
+    reason.say(
+        "no operator of the plant is called {}: they are called ",
+        &[Part::Quoted(name)],
+    );
+    let mut lead = "";
     for row in rows {
-        if !names.is_empty() {
-            names.push_str(", ")?;
-        }
-        names.push_str(name_of(&row.get_fields().name))?;
+        let name = name_of(&row.get_fields().name);
+        reason.say("{}{}", &[Part::Words(lead), Part::Words(name)]);
+        lead = ", ";
     }
-    Ok(names)
-}
-
-/// That no operator has a name, and which names there are.
-pub(crate) fn stranger(
-    alloc: Global,
-    rows: &[OperatorRow],
-    name: &str,
-) -> Result<String, AllocError> {
-    let name = quoted(alloc, name)?;
-    let names = names_of(alloc, rows)?;
-    format!(in alloc; "no operator of the plant is called {name}: they are called {names}")
 }
 
 /// Whether an operator has this name.
@@ -118,234 +88,241 @@ fn is_called(row: &OperatorRow, name: &str) -> bool {
     row.get_fields().name.as_slice() == name.as_bytes()
 }
 
-/// The operator of a name.
-fn operator_in(alloc: Global, plant: &Plant, field: &str) -> Result<Op, Fault> {
+/// The operator of a name. None where there is none, and the reason says so.
+fn operator_in(reason: &mut Reason, plant: &Plant, field: &str) -> Option<Op> {
     for (op, row) in plant.rows().iter().enumerate() {
         if is_called(row, field) {
-            return Ok(op);
+            return Some(op);
         }
     }
-    Err(told(stranger(alloc, plant.rows(), field)))
+    say_stranger(reason, plant.rows(), field);
+    None
 }
 
-/// That a field, called so in a reason, is no number.
-fn no_number(alloc: Global, name: &str, field: &str) -> Result<String, AllocError> {
-    let shown = quoted(alloc, field)?;
-    format!(in alloc; "{name} {shown} is no decimal number")
-}
-
-/// A decimal number, called so in a reason: at most so many digits, and at most `most`.
-fn number_in(
-    alloc: Global,
-    name: &str,
+/// A decimal number, called so in a reason: at most so many digits, and at most `most`. None where there is none, and the reason says why.
+fn number_in<'a>(
+    reason: &mut Reason,
+    name: &'a str,
     digits: usize,
     most: u64,
-    field: &str,
-) -> Result<u64, Fault> {
-    if field.is_empty() || !field.chars().all(|c| c.is_ascii_digit()) {
-        return Err(told(no_number(alloc, name, field)));
-    }
-    let count = field.len();
+    field: &'a str,
+) -> Option<u64> {
     let number = field.parse::<u64>().unwrap_or(u64::MAX);
-    if number > most {
-        Err(told(format!(in alloc; "{name} {field} is over {most}")))
-    } else if count > digits {
-        Err(told(format!(in alloc; "{name} {field} is {count} digits, at most {digits}")))
+    if field.is_empty() || first_beside(field, Letters::Decimal).is_some() {
+        reason.say(
+            "{} {} is no decimal number",
+            &[Part::Words(name), Part::Quoted(field)],
+        );
+    } else if number > most {
+        reason.say(
+            "{} {} is over {}",
+            &[Part::Words(name), Part::Words(field), Part::Number(most)],
+        );
+    } else if field.len() > digits {
+        let (count, digits) = (field.len() as u64, digits as u64);
+        reason.say(
+            "{} {} is {} digits, at most {}",
+            &[
+                Part::Words(name),
+                Part::Words(field),
+                Part::Number(count),
+                Part::Number(digits),
+            ],
+        );
     } else {
-        Ok(number)
+        return Some(number);
     }
+    None
 }
 
-/// A number of at most 5 digits, up to 65,535.
-fn short_in(alloc: Global, name: &str, field: &str) -> Result<u16, Fault> {
-    let number = number_in(alloc, name, 5, 65_535, field)?;
-    Ok(u16::try_from(number).unwrap_or(0))
+/// A number of at most 5 digits, up to 65,535. None where there is none, and the reason says why.
+fn short_in(reason: &mut Reason, name: &str, field: &str) -> Option<u16> {
+    let number = number_in(reason, name, 5, 65_535, field)?;
+    Some(u16::try_from(number).unwrap_or(0))
 }
 
-/// The steps of what is heard of a modem.
-fn put_heard(
-    number: usize,
-    sender: (Modem, Op),
-    heard: Heard,
-    steps: &mut Vec<LineStep>,
-) -> Result<(), Fault> {
+/// Adds the steps of what is heard of a modem.
+fn put_heard(reason: &mut Reason, steps: &mut Steps, sender: (Modem, Op), heard: Heard) {
     let (modem, op) = sender;
-    let step = Step::Arrive { modem, heard };
-    steps.push(LineStep { number, step })?;
-    let step = Step::Work { op };
-    steps.push(LineStep { number, step })?;
-    Ok(())
+    steps.put(reason, Step::Arrive { modem, heard });
+    steps.put(reason, Step::Work { op });
 }
 
-/// That a word has other fields behind it than those it is to have.
-fn other_fields(alloc: Global, wanted: &str, count: usize) -> Fault {
-    told(format!(in alloc; "{wanted}, here are {count}"))
+/// Says that a word has other fields behind it than those it is to have.
+fn say_other_fields(reason: &mut Reason, wanted: &str, fields: &[&str]) {
+    reason.say(
+        "{}, here are {}",
+        &[Part::Words(wanted), Part::Number(fields.len() as u64)],
+    );
 }
 
-/// The steps of a message.
-fn put_message(
-    alloc: Global,
-    plant: &Plant,
-    number: usize,
-    fields: &[&str],
-    steps: &mut Vec<LineStep>,
-) -> Result<(), Fault> {
+/// Adds the steps of a message.
+fn put_message(reason: &mut Reason, plant: &Plant, fields: &[&str], steps: &mut Steps) {
     let [address, message] = fields else {
         let wanted = "M has two fields behind it, an address and a message";
-        return Err(other_fields(alloc, wanted, fields.len()));
+        say_other_fields(reason, wanted, fields);
+        return;
     };
-    let sender = sender_in(alloc, plant, address)?;
-    let message = message_in(alloc, message)?;
-    put_heard(number, sender, Heard::Message(message), steps)
+    if let Some(sender) = sender_in(reason, plant, address) {
+        if let Some(message) = message_in(reason, message) {
+            put_heard(reason, steps, sender, Heard::Message(message));
+        }
+    }
 }
 
-/// The steps of a request for minislots.
-fn put_request(
-    alloc: Global,
-    plant: &Plant,
-    number: usize,
-    fields: &[&str],
-    steps: &mut Vec<LineStep>,
-) -> Result<(), Fault> {
+/// What a request for minislots asks for. None where that is not said, and the reason says why.
+fn request_in(reason: &mut Reason, sid: &str, minislots: &str) -> Option<Heard> {
+    let sid = short_in(reason, "SID", sid)?;
+    let minislots = short_in(reason, "minislots", minislots)?;
+    Some(Heard::Request { sid, minislots })
+}
+
+/// Adds the steps of a request for minislots.
+fn put_request(reason: &mut Reason, plant: &Plant, fields: &[&str], steps: &mut Steps) {
     let [address, sid, minislots] = fields else {
         let wanted = "Q has three fields behind it, an address, a SID and minislots";
-        return Err(other_fields(alloc, wanted, fields.len()));
+        say_other_fields(reason, wanted, fields);
+        return;
     };
-    let sender = sender_in(alloc, plant, address)?;
-    let sid = short_in(alloc, "SID", sid)?;
-    let minislots = short_in(alloc, "minislots", minislots)?;
-    put_heard(number, sender, Heard::Request { sid, minislots }, steps)
-}
-
-/// The steps of one operator's tick.
-fn put_tick(number: usize, op: Op, steps: &mut Vec<LineStep>) -> Result<(), Fault> {
-    let step = Step::Tick { op };
-    steps.push(LineStep { number, step })?;
-    let step = Step::Collect { op };
-    steps.push(LineStep { number, step })?;
-    Ok(())
-}
-
-/// The steps of a tick of each operator.
-fn put_ticks(number: usize, count: usize, steps: &mut Vec<LineStep>) -> Result<(), Fault> {
-    for op in 0..count {
-        put_tick(number, op, steps)?;
+    if let Some(sender) = sender_in(reason, plant, address) {
+        if let Some(heard) = request_in(reason, sid, minislots) {
+            put_heard(reason, steps, sender, heard);
+        }
     }
-    Ok(())
 }
 
-/// The steps of a tick.
-fn put_ticked(
-    alloc: Global,
-    plant: &Plant,
-    number: usize,
-    fields: &[&str],
-    steps: &mut Vec<LineStep>,
-) -> Result<(), Fault> {
+/// Adds the steps of one operator's tick.
+fn put_tick(reason: &mut Reason, op: Op, steps: &mut Steps) {
+    steps.put(reason, Step::Tick { op });
+    steps.put(reason, Step::Collect { op });
+}
+
+/// Adds the steps of a tick of each operator.
+fn put_ticks(reason: &mut Reason, count: usize, steps: &mut Steps) {
+    for op in 0..count {
+        put_tick(reason, op, steps);
+    }
+}
+
+/// Adds the steps of a tick.
+fn put_ticked(reason: &mut Reason, plant: &Plant, fields: &[&str], steps: &mut Steps) {
     match fields {
-        [] => put_ticks(number, plant.rows().len(), steps),
+        [] => put_ticks(reason, plant.rows().len(), steps),
         [name] => {
-            let op = operator_in(alloc, plant, name)?;
-            put_tick(number, op, steps)
+            if let Some(op) = operator_in(reason, plant, name) {
+                put_tick(reason, op, steps);
+            }
         }
         _ => {
             let wanted = "T has at most one field behind it, an operator's name";
-            Err(other_fields(alloc, wanted, fields.len()))
+            say_other_fields(reason, wanted, fields);
         }
     }
 }
 
-/// That a field is no slice and budget.
-fn no_share(alloc: Global, field: &str) -> Result<String, AllocError> {
-    let shown = quoted(alloc, field)?;
-    format!(in alloc; "{shown} is no start/length/budget, three numbers")
-}
-
-/// A slice and a budget.
-fn share_in(alloc: Global, field: &str) -> Result<SliceRow, Fault> {
-    let mut parts = field.split('/');
-    let (Some(start), Some(length), Some(budget), None) = (
-        parts.next(),
-        parts.next(),
-        parts.next(),
-        parts.next(),
-    ) else {
-        return Err(told(no_share(alloc, field)));
-    };
-    Ok(SliceRow {
-        start: short_in(alloc, "the start", start)?,
-        length: short_in(alloc, "the length", length)?,
-        budget: short_in(alloc, "the budget", budget)?,
+/// The three numbers of a slice and a budget. None where there are none, and the reason says why.
+fn row_in(reason: &mut Reason, start: &str, length: &str, budget: &str) -> Option<SliceRow> {
+    let start = short_in(reason, "the start", start)?;
+    let length = short_in(reason, "the length", length)?;
+    let budget = short_in(reason, "the budget", budget)?;
+    Some(SliceRow {
+        start,
+        length,
+        budget,
     })
 }
 
-/// The slices and budgets of fields.
-fn shares_in(alloc: Global, fields: &[&str]) -> Result<SliceRows, Fault> {
-    let mut rows = Vec::new(alloc);
+/// A slice and a budget. None where there are none, and the reason says why.
+fn share_in(reason: &mut Reason, field: &str) -> Option<SliceRow> {
+    let mut parts = field.split('/');
+    match (parts.next(), parts.next(), parts.next(), parts.next()) {
+        (Some(start), Some(length), Some(budget), None) => row_in(reason, start, length, budget),
+        _ => {
+            reason.say(
+                "{} is no start/length/budget, three numbers",
+                &[Part::Quoted(field)],
+            );
+            None
+        }
+    }
+}
+
+/// The slices and budgets of fields, up to the first field that says none: then the reason says why.
+fn shares_in(reason: &mut Reason, fields: &[&str]) -> SliceRows {
+    let mut rows = Vec::new(reason.alloc);
     for field in fields {
-        rows.push(share_in(alloc, field)?)?;
+        match share_in(reason, field) {
+            Some(row) => {
+                if rows.push(row).is_err() {
+                    reason.is_lost = true;
+                }
+            }
+            None => break,
+        }
     }
-    Ok(SliceRows::from_vec(rows))
+    SliceRows::from_vec(rows)
 }
 
-/// The step of other slices.
-fn put_resliced(
-    alloc: Global,
-    plant: &Plant,
-    number: usize,
-    fields: &[&str],
-    steps: &mut Vec<LineStep>,
-) -> Result<(), Fault> {
-    let [from, fields @ ..] = fields else {
-        return Err(plain(
-            alloc,
-            "Z has behind it the first frame and a start/length/budget of each operator",
-        ));
-    };
-    let from = number_in(alloc, "the first frame", 10, 4_294_967_295, from)?;
-    let from = u32::try_from(from).unwrap_or(0);
+/// Adds the step of other slices from a frame on, a slice and a budget of each operator.
+fn put_slices(reason: &mut Reason, plant: &Plant, from: u64, fields: &[&str], steps: &mut Steps) {
     let (wanted, count) = (plant.rows().len(), fields.len());
-    if wanted != count {
-        return Err(told(format!(in alloc;
-            "Z has a start/length/budget for each of the {wanted} operators, here are {count}"
-        )));
+    if wanted == count {
+        let rows = shares_in(reason, fields);
+        let from = u32::try_from(from).unwrap_or(0);
+        steps.put(reason, Step::Reslice { from, rows });
+    } else {
+        reason.say(
+            "Z has a start/length/budget for each of the {} operators, here are {}",
+            &[Part::Number(wanted as u64), Part::Number(count as u64)],
+        );
     }
-    let rows = shares_in(alloc, fields)?;
-    let step = Step::Reslice { from, rows };
-    steps.push(LineStep { number, step })?;
-    Ok(())
 }
 
-/// A first field that is no word of a script.
-fn no_word(alloc: Global, word: &str) -> Fault {
-    match word {
-        "---" => plain(
-            alloc,
-            "the line --- stands once, between the plant file and the script",
+/// Adds the step of other slices.
+fn put_resliced(reason: &mut Reason, plant: &Plant, fields: &[&str], steps: &mut Steps) {
+    match fields {
+        [] => reason.say(
+            "Z has behind it the first frame and a start/length/budget of each operator",
+            &[],
         ),
-        "m" | "q" | "t" | "z" => plain(alloc, "a line begins with M, Q, T or Z, a capital letter"),
-        _ => match quoted(alloc, word) {
-            Ok(word) => told(format!(in alloc; "a line begins with M, Q, T or Z, not with {word}")),
-            Err(_full) => Fault::NoMemory,
-        },
+        [from, fields @ ..] => {
+            let (name, most) = ("the first frame", u64::from(u32::MAX));
+            if let Some(from) = number_in(reason, name, 10, most, from) {
+                put_slices(reason, plant, from, fields, steps);
+            }
+        }
+    }
+}
+
+/// Says that a first field is no word of a script.
+fn say_no_word(reason: &mut Reason, word: &str) {
+    match word {
+        "---" => reason.say(
+            "the line --- stands once, between the plant file and the script",
+            &[],
+        ),
+        "m" | "q" | "t" | "z" => reason.say(
+            "a line begins with M, Q, T or Z, a capital letter",
+            &[],
+        ),
+        _ => reason.say(
+            "a line begins with M, Q, T or Z, not with {}",
+            &[Part::Quoted(word)],
+        ),
     }
 }
 
 /// Adds the steps of a line by its first field.
-fn put_fields(
-    alloc: Global,
-    plant: &Plant,
-    number: usize,
-    fields: &[&str],
-    steps: &mut Vec<LineStep>,
-) -> Result<(), Fault> {
-    match fields {
-        ["M", fields @ ..] => put_message(alloc, plant, number, fields, steps),
-        ["Q", fields @ ..] => put_request(alloc, plant, number, fields, steps),
-        ["T", fields @ ..] => put_ticked(alloc, plant, number, fields, steps),
-        ["Z", fields @ ..] => put_resliced(alloc, plant, number, fields, steps),
-        [word, ..] => Err(no_word(alloc, word)),
-        [] => Ok(()),
+fn put_fields(reason: &mut Reason, plant: &Plant, fields: &[&str], steps: &mut Steps) {
+    let [word, fields @ ..] = fields else {
+        return;
+    };
+    match *word {
+        "M" => put_message(reason, plant, fields, steps),
+        "Q" => put_request(reason, plant, fields, steps),
+        "T" => put_ticked(reason, plant, fields, steps),
+        "Z" => put_resliced(reason, plant, fields, steps),
+        word => say_no_word(reason, word),
     }
 }
 
@@ -366,85 +343,66 @@ fn parted_wrong(line: &str) -> Option<&'static str> {
     }
 }
 
-/// Adds the steps of a line; an empty one says nothing.
-fn put_line(
-    alloc: Global,
-    plant: &Plant,
-    number: usize,
-    line: &str,
-    steps: &mut Vec<LineStep>,
-) -> Result<(), Fault> {
-    if line.is_empty() {
-        return Ok(());
-    }
-    if let Some(wrong) = parted_wrong(line) {
-        return Err(plain(alloc, wrong));
-    }
-    let mut fields = Vec::new(alloc);
+/// The fields of a line.
+fn fields_of<'a>(reason: &mut Reason, line: &'a str) -> Vec<&'a str> {
+    let mut fields = Vec::new(reason.alloc);
     for field in line.split(' ') {
-        fields.push(field)?;
-    }
-    put_fields(alloc, plant, number, fields.as_slice(), steps)
-}
-
-/// Adds the steps of a script. Answers the first line at fault, if there is one.
-fn put_steps(
-    alloc: Global,
-    plant: &Plant,
-    script: &str,
-    steps: &mut Vec<LineStep>,
-) -> Result<Option<LineReason>, AllocError> {
-    for (place, line) in script.split('\n').enumerate() {
-        let number = place.saturating_add(1);
-        match put_line(alloc, plant, number, line, steps) {
-            Ok(()) => {}
-            Err(Fault::Reason(reason)) => return Ok(Some(LineReason { number, reason })),
-            Err(Fault::NoMemory) => return Err(AllocError),
+        if fields.push(field).is_err() {
+            reason.is_lost = true;
         }
     }
-    Ok(None)
+    fields
 }
 
-/// The steps of a script.
-pub(crate) fn steps_of(
-    alloc: Global,
-    plant: &Plant,
-    script: &str,
-) -> Result<Vec<LineStep>, NoSteps> {
-    let mut steps = Vec::new(alloc);
-    match put_steps(alloc, plant, script, &mut steps) {
-        Ok(None) => Ok(steps),
-        Ok(Some(wrong)) => Err(NoSteps::Line(wrong)),
-        Err(_full) => Err(NoSteps::NoMemory),
-    }
-}
-
-/// Why a line of the input of `one` is no message; none where it is one.
-fn message_wrong(alloc: Global, line: &str) -> Result<Option<String>, AllocError> {
+/// Adds the steps of a line. An empty one says nothing; of one at fault the reason says why.
+fn put_line(reason: &mut Reason, plant: &Plant, line: &str, steps: &mut Steps) {
     if line.is_empty() {
-        return Ok(None);
+        return;
     }
-    let fault = match (parted_wrong(line), message_in(alloc, line)) {
-        (_, Ok(_message)) => return Ok(None),
-        (Some(wrong), Err(_fault)) => plain(alloc, wrong),
-        (None, Err(fault)) => fault,
-    };
-    match fault {
-        Fault::Reason(reason) => Ok(Some(reason)),
-        Fault::NoMemory => Err(AllocError),
+    match parted_wrong(line) {
+        Some(wrong) => reason.say(wrong, &[]),
+        None => {
+            let fields = fields_of(reason, line);
+            put_fields(reason, plant, fields.as_slice(), steps);
+        }
     }
 }
 
-/// The first line of the input of `one` that is no message.
-pub(crate) fn first_no_message(
-    alloc: Global,
-    input: &str,
-) -> Result<Option<LineReason>, AllocError> {
-    for (place, line) in input.split('\n').enumerate() {
-        if let Some(reason) = message_wrong(alloc, line)? {
-            let number = place.saturating_add(1);
-            return Ok(Some(LineReason { number, reason }));
+/// The steps of a script up to the first line at fault, if there is one: then its number is that of this line, and the reason says why.
+pub(crate) fn steps_of(reason: &mut Reason, plant: &Plant, script: &str) -> Steps {
+    let mut steps = Steps {
+        number: 0,
+        steps: Vec::new(reason.alloc),
+    };
+    for line in script.split('\n') {
+        if reason.is_silent() {
+            steps.number = steps.number.saturating_add(1);
+            put_line(reason, plant, line, &mut steps);
         }
     }
-    Ok(None)
+    steps
+}
+
+/// Says why a line of the input of `one` is no message, where it is none.
+fn say_no_message(reason: &mut Reason, line: &str) {
+    if line.is_empty() {
+        return;
+    }
+    match parted_wrong(line) {
+        Some(wrong) => reason.say(wrong, &[]),
+        None => {
+            let _message = message_in(reason, line);
+        }
+    }
+}
+
+/// The number of the first line of the input of `one` that is no message. The reason says why it is none.
+pub(crate) fn first_no_message(reason: &mut Reason, input: &str) -> Option<usize> {
+    for (place, line) in input.split('\n').enumerate() {
+        say_no_message(reason, line);
+        if !reason.is_silent() {
+            return Some(place.saturating_add(1));
+        }
+    }
+    None
 }

@@ -1,13 +1,12 @@
 //! Provisioned flows that do not fit their operator's keys.
 
 use crate::encodings::{need_of, units_of};
-use crate::fault::Fault;
 use crate::joint::name_of;
+use crate::reason::{Part, Reason};
 use crate::tree::{named, number, pair, text, values};
 use param_sets::Units;
 use plant::OperatorName;
 use slice_table::Field;
-use std::alloc::{AllocError, Global};
 use toml::{Table, Value};
 
 /// What the provisioned flows of an operator need together.
@@ -21,31 +20,24 @@ struct Demand {
 
 /// Adds what a provisioned flow needs.
 fn add_flow(
-    alloc: Global,
+    reason: &mut Reason,
     document: &Table,
     units: Units,
     value: &Value,
     demand: &mut Demand,
-) -> Result<(), Fault> {
-    let Some(table) = value.as_table() else {
-        return Ok(());
-    };
-    let digits = text(table, Field::Encoding).unwrap_or("");
-    if let Some(need) = need_of(alloc, document, units, digits)? {
-        demand.sids = demand.sids.saturating_add(1);
-        demand.minislots = demand.minislots.saturating_add(u64::from(need.minislots));
-        demand.elements = demand.elements.saturating_add(u64::from(need.elements));
+) {
+    if let Some(table) = value.as_table() {
+        let digits = text(table, Field::Encoding).unwrap_or("");
+        if let Some(need) = need_of(reason, document, units, digits) {
+            demand.sids = demand.sids.saturating_add(1);
+            demand.minislots = demand.minislots.saturating_add(u64::from(need.minislots));
+            demand.elements = demand.elements.saturating_add(u64::from(need.elements));
+        }
     }
-    Ok(())
 }
 
-/// What provisioned flows need together.
-fn demand_of(
-    alloc: Global,
-    document: &Table,
-    units: Units,
-    flows: &[Value],
-) -> Result<Demand, Fault> {
+/// What provisioned flows need together. Where one of them is wrong the reason says why.
+fn demand_of(reason: &mut Reason, document: &Table, units: Units, flows: &[Value]) -> Demand {
     let mut demand = Demand {
         flows: flows.len() as u64,
         sids: 0,
@@ -53,9 +45,9 @@ fn demand_of(
         elements: 0,
     };
     for value in flows {
-        add_flow(alloc, document, units, value, &mut demand)?;
+        add_flow(reason, document, units, value, &mut demand);
     }
-    Ok(demand)
+    demand
 }
 
 /// How many numbers stand under a key of an operator that is a range.
@@ -72,86 +64,74 @@ fn room(table: &Table, field: Field) -> u64 {
     }
 }
 
-/// A key that provisioned flows do not fit: what they need of it, and what there is.
-#[derive(Clone, Copy)]
-struct Excess {
-    flows: u64,
-    what: &'static str,
-    need: u64,
-    field: Field,
-    room: u64,
-}
-
-/// The first key that the flows do not fit.
-fn over(table: &Table, demand: Demand) -> Option<Excess> {
-    let needs = [
-        ("flows", demand.flows, Field::Flows),
-        ("SFIDs", demand.flows, Field::Sfids),
-        ("SIDs", demand.sids, Field::Sids),
-        ("minislots of a frame", demand.minislots, Field::Budget),
-        ("elements of a MAP", demand.elements, Field::Elements),
-    ];
-    for (what, need, field) in needs.iter() {
-        let (what, need, field) = (*what, *need, *field);
-        let room = room(table, field);
-        if need > room {
-            let flows = demand.flows;
-            return Some(Excess {
-                flows,
-                what,
-                need,
-                field,
-                room,
-            });
-        }
+/// Says that provisioned flows need more of something than there is under a key, where that is so and nothing was said before.
+fn say_over(reason: &mut Reason, table: &Table, flows: u64, what: &str, need: u64, field: Field) {
+    let room = room(table, field);
+    if need <= room || !reason.is_silent() {
+        return;
     }
-    None
-}
-
-/// The first key that an operator's provisioned flows do not fit.
-fn over_of(
-    alloc: Global,
-    document: &Table,
-    operator: OperatorName,
-) -> Result<Option<Excess>, Fault> {
-    let (Some((_number, table)), Some(units)) = (
-        named(document, "operator", name_of(&operator)),
-        units_of(document),
-    ) else {
-        return Ok(None);
-    };
-    let demand = demand_of(alloc, document, units, values(table, "flow"))?;
-    Ok(over(table, demand))
-}
-
-/// That provisioned flows do not fit a key.
-fn over_told(alloc: Global, operator: OperatorName, over: Excess) -> Result<String, AllocError> {
-    let Excess {
-        flows,
-        what,
-        need,
-        field,
-        room,
-    } = over;
-    let key = field.text();
     let verb = match field {
         Field::Sfids | Field::Sids => "has",
         _ => "is",
     };
-    format!(in alloc;
-        "operator {operator}: its {flows} provisioned flows need {need} {what}, its {key} {verb} {room}"
-    )
+    reason.say(
+        "its {} provisioned flows need {} {}, its {} {} {}",
+        &[
+            Part::Number(flows),
+            Part::Number(need),
+            Part::Words(what),
+            Part::Words(field.text()),
+            Part::Words(verb),
+            Part::Number(room),
+        ],
+    );
 }
 
-/// Provisioned flows that do not fit.
-pub(crate) fn provisioned_over(
-    alloc: Global,
-    document: &Table,
-    operator: OperatorName,
-) -> Result<String, AllocError> {
-    match over_of(alloc, document, operator) {
-        Ok(Some(over)) => over_told(alloc, operator, over),
-        Err(Fault::NoMemory) => Err(AllocError),
-        _ => format!(in alloc; "operator {operator}: its provisioned flows do not fit"),
+/// Says which key an operator's provisioned flows do not fit, the first one.
+fn say_first_over(reason: &mut Reason, table: &Table, demand: Demand) {
+    let flows = demand.flows;
+    say_over(reason, table, flows, "flows", flows, Field::Flows);
+    say_over(reason, table, flows, "SFIDs", flows, Field::Sfids);
+    say_over(reason, table, flows, "SIDs", demand.sids, Field::Sids);
+    let minislots = demand.minislots;
+    say_over(
+        reason,
+        table,
+        flows,
+        "minislots of a frame",
+        minislots,
+        Field::Budget,
+    );
+    let elements = demand.elements;
+    say_over(
+        reason,
+        table,
+        flows,
+        "elements of a MAP",
+        elements,
+        Field::Elements,
+    );
+}
+
+/// Says of an operator of this name which key its provisioned flows do not fit. Says nothing where they cannot be read.
+fn say_over_of(reason: &mut Reason, document: &Table, name: &str) {
+    if let (Some(table), Some(units)) = (named(document, "operator", name), units_of(document)) {
+        let mut wrong = Reason::new(reason.alloc);
+        let demand = demand_of(&mut wrong, document, units, values(table, "flow"));
+        reason.is_lost |= wrong.is_lost;
+        if wrong.is_silent() {
+            say_first_over(reason, table, demand);
+        }
     }
+}
+
+/// Says that provisioned flows do not fit.
+pub(crate) fn say_provisioned_over(reason: &mut Reason, document: &Table, operator: OperatorName) {
+    let name = name_of(&operator);
+    let mut over = Reason::new(reason.alloc);
+    say_over_of(&mut over, document, name);
+    if over.is_silent() {
+        over.say("its provisioned flows do not fit", &[]);
+    }
+    reason.say("operator {}: {}", &[Part::Words(name), Part::Told(&over)]);
 }

@@ -1,12 +1,12 @@
 //! The reasons of a status.
 
-use crate::lines::{LineReason, first_no_message, steps_of, stranger};
+use crate::lines::{first_no_message, say_stranger, steps_of};
 use crate::parts::{Parts, parts_of};
 use crate::plain::is_plain;
-use crate::plants::{fault_reason, put_no_bar, toml_reason};
+use crate::plants::{say_fault, say_no_bar, say_no_toml};
+use crate::reason::{Part, Reason};
 use crate::refusals::refused_of;
-use crate::show::quoted;
-use crate::unread::put_unread;
+use crate::unread::say_all_unread;
 use plant::Plant;
 use plant_words::{Word, text_of_wrong};
 use slice_table::{PlantFault, read_plant};
@@ -14,7 +14,7 @@ use std::alloc::{AllocError, Global};
 use toml::Table;
 
 /// Why a run came to no end.
-#[derive(Clone, Copy, Debug, PartialEq, Eq)]
+#[derive(Clone, Copy)]
 pub enum Trouble {
     /// No memory was left.
     Memory,
@@ -32,22 +32,26 @@ pub enum Trouble {
 
 /// The reason of a run that came to no end.
 pub fn reason_of_trouble(alloc: Global, trouble: Trouble) -> Result<String, AllocError> {
-    let reason = match trouble {
+    let mut reason = Reason::new(alloc);
+    let sentence = match trouble {
         Trouble::Memory => "no memory was left: the run needs more than this process may have\n",
         Trouble::Read => "a read of standard input failed\n",
         Trouble::TooLong => "the input has more than 1048576 bytes, and no more are read\n",
         Trouble::NoText { valid } => {
-            let place = valid.saturating_add(1);
-            return format!(in alloc;
-                "the input is no UTF-8 text: byte {place} is of no character\n"
+            let place = (valid as u64).saturating_add(1);
+            reason.say(
+                "the input is no UTF-8 text: byte {}",
+                &[Part::Number(place)],
             );
+            " is of no character\n"
         }
         Trouble::Write => "a write to standard output failed: what was written is not whole\n",
         Trouble::Strayed => {
             "what the threads did is not what the script says: the word run tells what it says\n"
         }
     };
-    String::from_str(alloc, reason)
+    reason.say(sentence, &[]);
+    reason.told()
 }
 
 /// The reason of words that give no order: clap's own message and usage, and where a script is read.
@@ -59,47 +63,37 @@ pub fn reason_of_words<'a>(alloc: Global, words: &'a [&'a str]) -> Result<String
     Ok(reason)
 }
 
-/// Adds the reason of a line at fault. The lines of a script are counted on from that of the three dashes.
-fn put_line(
-    alloc: Global,
-    reason: &mut String,
-    text: &str,
-    bar: usize,
-    wrong: LineReason,
-) -> Result<(), AllocError> {
-    let number = wrong.number;
+/// Says what is wrong with a line at fault. The lines of a script are counted on from that of the three dashes.
+fn say_line<'a>(reason: &mut Reason, text: &'a str, bar: usize, number: usize, wrong: &'a Reason) {
     let line = text.split('\n').nth(number.saturating_sub(1)).unwrap_or("");
-    let line = quoted(alloc, line)?;
-    let wrong = wrong.reason.as_str();
-    if bar == 0 {
-        return write!(reason, "line {number}, {line}: {wrong}\n");
+    let in_input = number.saturating_add(bar) as u64;
+    reason.say("line {}", &[Part::Number(in_input)]);
+    if bar > 0 {
+        reason.say(
+            " of the input, {} of the script",
+            &[Part::Number(number as u64)],
+        );
     }
-    let in_input = number.saturating_add(bar);
-    write!(
-        reason,
-        "line {in_input} of the input, {number} of the script, {line}: {wrong}\n"
-    )
+    reason.say(", {}: {}\n", &[Part::Quoted(line), Part::Told(wrong)]);
 }
 
-/// The first line of a script at fault: one of another shape, or else one of which a step is refused.
-fn line_wrong(alloc: Global, plant: Plant, script: &str) -> Result<Option<LineReason>, AllocError> {
-    match steps_of(alloc, &plant, script) {
-        Ok(steps) => refused_of(alloc, plant, steps),
-        Err(fault) => fault.told(),
+/// The number of the first line of a script at fault: one of another shape, or else one of which a step is refused. The reason says why.
+fn line_wrong(reason: &mut Reason, plant: Plant, script: &str) -> usize {
+    let steps = steps_of(reason, &plant, script);
+    if reason.is_silent() {
+        refused_of(reason, plant, steps.steps)
+    } else {
+        steps.number
     }
 }
 
-/// Adds why a script is at fault.
-fn put_script(
-    alloc: Global,
-    reason: &mut String,
-    plant: Plant,
-    parts: Parts<'_>,
-) -> Result<(), AllocError> {
+/// Says why a script is at fault.
+fn say_script(reason: &mut Reason, plant: Plant, parts: &Parts<'_>) {
     let script = parts.script.unwrap_or("");
-    match line_wrong(alloc, plant, script)? {
-        Some(wrong) => put_line(alloc, reason, script, parts.bar, wrong),
-        None => Ok(()),
+    let mut wrong = Reason::new(reason.alloc);
+    let number = line_wrong(&mut wrong, plant, script);
+    if !wrong.is_silent() {
+        say_line(reason, script, parts.bar, number, &wrong);
     }
 }
 
@@ -111,60 +105,53 @@ fn is_of_script(word: Word<'_>, status: u8) -> bool {
     }
 }
 
-/// Adds why a plant that is well has no answer, where that is not for its script.
-fn put_beside_script(
-    alloc: Global,
-    reason: &mut String,
+/// Says why a plant that is well has no answer, where that is not for its script.
+fn say_beside_script(
+    reason: &mut Reason,
     word: Word<'_>,
     plant: &Plant,
-    parts: Parts<'_>,
+    parts: &Parts<'_>,
     status: u8,
-) -> Result<(), AllocError> {
+) {
     match (word, status) {
         (Word::History { operator }, 2) => {
-            let wrong = stranger(alloc, plant.rows(), operator)?;
-            write!(reason, "{wrong}\n")
+            say_stranger(reason, plant.rows(), operator);
+            reason.say("\n", &[]);
         }
-        (Word::Serve, _) | (Word::Check, _) => Ok(()),
-        (_, 0) => put_no_bar(alloc, reason, &parts),
-        _ => Ok(()),
+        (Word::Serve, _) | (Word::Check, _) => {}
+        (_, 0) => say_no_bar(reason, parts),
+        _ => {}
     }
 }
 
-/// Adds why a plant that is well has no answer.
-fn put_behind_plant(
-    alloc: Global,
-    reason: &mut String,
+/// Says why a plant that is well has no answer.
+fn say_behind_plant(
+    reason: &mut Reason,
     word: Word<'_>,
     plant: Plant,
-    parts: Parts<'_>,
+    parts: &Parts<'_>,
     status: u8,
-) -> Result<(), AllocError> {
+) {
     if is_of_script(word, status) {
-        put_script(alloc, reason, plant, parts)
+        say_script(reason, plant, parts);
     } else {
-        put_beside_script(alloc, reason, word, &plant, parts, status)
+        say_beside_script(reason, word, &plant, parts, status);
     }
 }
 
-/// Adds why a plant file is at fault.
-fn put_plant(
-    alloc: Global,
-    reason: &mut String,
-    document: &Table,
-    parts: Parts<'_>,
-    fault: PlantFault,
-) -> Result<(), AllocError> {
-    if parts.plant.trim().is_empty() && parts.script.is_none() {
-        return reason.push_str(
+/// Says why a plant file is at fault.
+fn say_plant(reason: &mut Reason, document: &Table, parts: &Parts<'_>, fault: PlantFault) {
+    match (parts.plant.trim().is_empty(), parts.script) {
+        (true, None) => reason.say(
             "the input is empty: a plant file is read from standard input, then a line ---, then a script\n",
-        );
+            &[],
+        ),
+        (true, Some(_)) => reason.say("no plant file stands before the line ---\n", &[]),
+        (false, _) => {
+            say_fault(reason, document, fault);
+            reason.say("\n", &[]);
+        }
     }
-    if parts.plant.trim().is_empty() {
-        return reason.push_str("no plant file stands before the line ---\n");
-    }
-    let wrong = fault_reason(alloc, document, fault)?;
-    write!(reason, "{wrong}\n")
 }
 
 /// The parts of the input under a word. Of `serve` the input is the plant file: what stands behind it is read as it comes.
@@ -180,75 +167,62 @@ fn parts_under<'a>(word: Word<'_>, input: &'a str) -> Parts<'a> {
     }
 }
 
-/// Adds why a status of a plant file that is TOML is what it is.
-fn put_status(
-    alloc: Global,
-    reason: &mut String,
+/// Says why a status of a plant file that is TOML is what it is.
+fn say_status(
+    reason: &mut Reason,
     word: Word<'_>,
     document: &Table,
-    parts: Parts<'_>,
+    parts: &Parts<'_>,
     status: u8,
-) -> Result<(), AllocError> {
-    match read_plant(alloc, parts.plant) {
-        Ok(plant) => put_behind_plant(alloc, reason, word, plant, parts, status),
-        Err(PlantFault::NoMemory) => Err(AllocError),
-        Err(fault) => put_plant(alloc, reason, document, parts, fault),
+) {
+    match read_plant(reason.alloc, parts.plant) {
+        Ok(plant) => say_behind_plant(reason, word, plant, parts, status),
+        Err(PlantFault::NoMemory) => reason.is_lost = true,
+        Err(fault) => say_plant(reason, document, parts, fault),
     }
 }
 
-/// Adds why a status of a plant file that is TOML is what it is, and what nothing reads of that file.
-fn put_document(
-    alloc: Global,
-    reason: &mut String,
+/// Says why a status of a plant file that is TOML is what it is, and what nothing reads of that file.
+fn say_document(
+    reason: &mut Reason,
     word: Word<'_>,
     document: &Table,
-    parts: Parts<'_>,
+    parts: &Parts<'_>,
     status: u8,
-) -> Result<(), AllocError> {
+) {
     if status != 0 || parts.script.is_none() {
-        put_status(alloc, reason, word, document, parts, status)?;
+        say_status(reason, word, document, parts, status);
     }
-    put_unread(alloc, reason, document)
+    say_all_unread(reason, document);
 }
 
-/// Adds why a plant file is no TOML.
-fn put_no_toml(
-    alloc: Global,
-    reason: &mut String,
-    parts: Parts<'_>,
-    error: &toml::de::Error,
-) -> Result<(), AllocError> {
+/// Says why a plant file is no TOML.
+fn say_no_table(reason: &mut Reason, parts: &Parts<'_>, error: &toml::de::Error) {
     if error.is_memory() {
-        return Err(AllocError);
+        reason.is_lost = true;
+    } else {
+        say_no_toml(reason, parts.plant, error);
+        say_no_bar(reason, parts);
     }
-    let wrong = toml_reason(alloc, parts.plant, error)?;
-    write!(reason, "{wrong}\n")?;
-    put_no_bar(alloc, reason, &parts)
 }
 
-/// Adds the reason of the status that an input of a plant and a script has.
-fn put_of_plant(
-    alloc: Global,
-    reason: &mut String,
-    word: Word<'_>,
-    input: &str,
-    status: u8,
-) -> Result<(), AllocError> {
+/// Says the reason of the status that an input of a plant and a script has.
+fn say_of_plant(reason: &mut Reason, word: Word<'_>, input: &str, status: u8) {
     let parts = parts_under(word, input);
     if status == 0 && parts.script.is_some() && is_plain(parts.plant) {
-        return Ok(());
+        return;
     }
-    match toml::table_from_str(alloc, parts.plant) {
-        Ok(document) => put_document(alloc, reason, word, &document, parts, status),
-        Err(error) => put_no_toml(alloc, reason, parts, &error),
+    match toml::table_from_str(reason.alloc, parts.plant) {
+        Ok(document) => say_document(reason, word, &document, &parts, status),
+        Err(error) => say_no_table(reason, &parts, &error),
     }
 }
 
-/// Adds which line of the input of `one` is no message.
-fn put_of_one(alloc: Global, reason: &mut String, input: &str) -> Result<(), AllocError> {
-    match first_no_message(alloc, input)? {
-        Some(wrong) => put_line(alloc, reason, input, 0, wrong),
-        None => Ok(()),
+/// Says which line of the input of `one` is no message.
+fn say_of_one(reason: &mut Reason, input: &str) {
+    let mut wrong = Reason::new(reason.alloc);
+    if let Some(number) = first_no_message(&mut wrong, input) {
+        say_line(reason, input, 0, number, &wrong);
     }
 }
 
@@ -260,11 +234,11 @@ pub fn reason_of(
     input: &str,
     status: u8,
 ) -> Result<String, AllocError> {
-    let mut reason = String::new(alloc);
+    let mut reason = Reason::new(alloc);
     match (word, status) {
-        (Word::One, 4) => put_of_one(alloc, &mut reason, input)?,
+        (Word::One, 4) => say_of_one(&mut reason, input),
         (Word::One, _) => {}
-        _ => put_of_plant(alloc, &mut reason, word, input, status)?,
+        _ => say_of_plant(&mut reason, word, input, status),
     }
-    Ok(reason)
+    reason.told()
 }

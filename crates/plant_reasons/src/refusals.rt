@@ -3,14 +3,15 @@
 ghost use Rattle.plant.specs.Plant.{IsPlant};
 ghost use Rattle.plant_core.specs.CoreView.{core_view};
 
-use crate::joint::{meeting, name_of};
-use crate::lines::{LineReason, LineStep};
+use crate::joint::{name_of, say_meeting, say_over_slice};
+use crate::lines::LineStep;
+use crate::reason::{Part, Reason};
+use crate::values::say_slice;
 use grant_policy::{RankInput, Ranking, rank_by};
 use operator_book::{Action, BookFault, Entry, SliceRow};
 use plant::{Op, Plant};
 use plant_core::{CoreFault, CoreOpenFault, PlantCore, ResliceFault};
 use plant_runs::Step;
-use std::alloc::{AllocError, Global};
 
 /// What a refused step asked for, as far as a reason tells it.
 #[derive(Drop)]
@@ -21,21 +22,23 @@ struct Asked {
 }
 
 /// What a step asks for.
-fn asked_of(alloc: Global, step: &Step) -> Result<Asked, AllocError> {
+fn asked_of(reason: &mut Reason, step: &Step) -> Asked {
     let mut asked = Asked {
         op: 0,
         from: 0,
-        rows: Vec::new(alloc),
+        rows: Vec::new(reason.alloc),
     };
     match step {
         Step::Tick { op } | Step::Work { op } | Step::Collect { op } => asked.op = *op,
         Step::Reslice { from, rows } => {
             asked.from = *from;
-            asked.rows.extend_from_slice(rows.as_slice())?;
+            if asked.rows.extend_from_slice(rows.as_slice()).is_err() {
+                reason.is_lost = true;
+            }
         }
         Step::Arrive { .. } => {}
     }
-    Ok(asked)
+    asked
 }
 
 /// An operator's name.
@@ -79,171 +82,147 @@ fn row_at(asked: &Asked, op: Op) -> SliceRow {
     }
 }
 
-/// The last minislot of a slice.
-fn last_of(row: SliceRow) -> u64 {
-    (u64::from(row.start) + u64::from(row.length)).saturating_sub(1)
+/// Says that a slice does not lie behind the head and within the frame.
+fn say_off_frame(reason: &mut Reason, plant: &Plant, row: SliceRow, name: &str) {
+    let channel = &plant.consts().get_fields().channel;
+    let (head, frame) = (u64::from(channel.head), u64::from(channel.frame_minislots));
+    reason.say("operator {}: its slice ", &[Part::Words(name)]);
+    let slice = (u64::from(row.start), u64::from(row.length));
+    say_slice(reason, slice, head, frame);
 }
 
-/// A slice that does not lie behind the head and within the frame.
-fn off_frame(alloc: Global, core: &PlantCore, asked: &Asked, op: Op) -> Result<String, AllocError> {
-    let name = name_at(core.plant(), op);
-    let consts = core.plant().consts().get_fields();
-    let (head, frame) = (consts.channel.head, consts.channel.frame_minislots);
-    let row = row_at(asked, op);
-    let (start, end) = (row.start, u64::from(row.start) + u64::from(row.length));
-    if row.length == 0 {
-        format!(in alloc; "operator {name}: its slice has no minislot")
-    } else if start < head {
-        format!(in alloc;
-            "operator {name}: its slice begins at minislot {start}, the head has {head} minislots"
-        )
-    } else {
-        format!(in alloc;
-            "operator {name}: its slice needs {end} minislots of a frame, the frame has {frame}"
-        )
+/// The first and the last minislot of a slice.
+fn minislots_of(row: SliceRow) -> (u64, u64) {
+    let start = u64::from(row.start);
+    (start, (start + u64::from(row.length)).saturating_sub(1))
+}
+
+/// Says that two slices have a minislot in common.
+fn say_slices_meet(reason: &mut Reason, plant: &Plant, asked: &Asked, a: Op, b: Op) {
+    let names = (name_at(plant, a), name_at(plant, b));
+    let ranges = (
+        minislots_of(row_at(asked, a)),
+        minislots_of(row_at(asked, b)),
+    );
+    let has = ("gets the minislots", "gets");
+    say_meeting(reason, "slices", has, names, ranges);
+}
+
+/// Says that an operator is past the frame from which on other slices were asked for.
+fn say_past(reason: &mut Reason, core: &PlantCore, op: Op, from: u32) {
+    reason.say(
+        "operator {} is at frame {}: other slices from frame {} on come too late",
+        &[
+            Part::Words(name_at(core.plant(), op)),
+            Part::Number(frame_of(core, op)),
+            Part::Number(u64::from(from)),
+        ],
+    );
+}
+
+/// Says why the slice that was asked for an operator, and its budget, are not given.
+fn say_row(reason: &mut Reason, plant: &Plant, op: Op, row: SliceRow, fault: ResliceFault) {
+    let name = name_at(plant, op);
+    let budget = u64::from(row.budget);
+    match fault {
+        ResliceFault::OffFrame { .. } => say_off_frame(reason, plant, row, name),
+        ResliceFault::BudgetOverSlice { .. } => {
+            say_over_slice(reason, name, budget, u64::from(row.length));
+        }
+        _ => reason.say(
+            "operator {}: its flows are committed more minislots of a frame than its budget, {}",
+            &[Part::Words(name), Part::Number(budget)],
+        ),
     }
 }
 
-/// Two slices that have a minislot in common.
-fn slices_meet(
-    alloc: Global,
-    plant: &Plant,
-    asked: &Asked,
-    a: Op,
-    b: Op,
-) -> Result<String, AllocError> {
-    let names = (name_at(plant, a), name_at(plant, b));
-    let (row, other) = (row_at(asked, a), row_at(asked, b));
-    let first = (u64::from(row.start), last_of(row));
-    let ranges = (first, (u64::from(other.start), last_of(other)));
-    meeting(
-        alloc,
-        "slices",
-        ("gets the minislots", "gets"),
-        names,
-        ranges,
-    )
-}
-
-/// Other slices that are refused.
-fn reslice_reason(
-    alloc: Global,
-    core: &PlantCore,
-    asked: &Asked,
-    fault: ResliceFault,
-) -> Result<String, AllocError> {
+/// Says why other slices are refused.
+fn say_reslice(reason: &mut Reason, core: &PlantCore, asked: &Asked, fault: ResliceFault) {
     let plant = core.plant();
     match fault {
-        ResliceFault::Count => String::from_str(alloc, "there is not one slice for each operator"),
-        ResliceFault::NotPast { op } => {
-            let (name, frame, from) = (name_at(plant, op), frame_of(core, op), asked.from);
-            format!(in alloc;
-                "operator {name} is at frame {frame}: other slices from frame {from} on come too late"
-            )
-        }
-        ResliceFault::Unfinished { op } => {
-            let (name, frame) = (name_at(plant, op), frame_of(core, op));
-            format!(in alloc;
-                "operator {name}, at frame {frame}, still waits for the first frame of an earlier Z"
-            )
-        }
-        ResliceFault::OffFrame { op } => off_frame(alloc, core, asked, op),
-        ResliceFault::SlicesMeet { a, b } => slices_meet(alloc, plant, asked, a, b),
-        ResliceFault::BudgetOverSlice { op } => {
-            let (name, row) = (name_at(plant, op), row_at(asked, op));
-            let (budget, length) = (row.budget, row.length);
-            format!(in alloc;
-                "operator {name}: its budget is {budget} minislots, its slice has {length}"
-            )
-        }
-        ResliceFault::Unfit { op } => {
-            let (name, budget) = (name_at(plant, op), row_at(asked, op).budget);
-            format!(in alloc;
-                "operator {name}: its flows are committed more minislots of a frame than its budget, {budget}"
-            )
-        }
+        ResliceFault::Count => reason.say("there is not one slice for each operator", &[]),
+        ResliceFault::NotPast { op } => say_past(reason, core, op, asked.from),
+        ResliceFault::Unfinished { op } => reason.say(
+            "operator {}, at frame {}, still waits for the first frame of an earlier Z",
+            &[
+                Part::Words(name_at(plant, op)),
+                Part::Number(frame_of(core, op)),
+            ],
+        ),
+        ResliceFault::SlicesMeet { a, b } => say_slices_meet(reason, plant, asked, a, b),
+        ResliceFault::OffFrame { op }
+        | ResliceFault::BudgetOverSlice { op }
+        | ResliceFault::Unfit { op } => say_row(reason, plant, op, row_at(asked, op), fault),
     }
 }
 
-/// Why a step is refused.
-fn core_reason(
-    alloc: Global,
-    core: &PlantCore,
-    asked: &Asked,
-    fault: CoreFault,
-) -> Result<String, AllocError> {
+/// Says why a step is refused.
+fn say_core(reason: &mut Reason, core: &PlantCore, asked: &Asked, fault: CoreFault) {
     match fault {
-        CoreFault::NoMemory => Err(AllocError),
-        CoreFault::Reslice(fault) => reslice_reason(alloc, core, asked, fault),
-        CoreFault::Book(BookFault::FramesSpent) => {
-            let name = name_at(core.plant(), asked.op);
-            format!(in alloc;
-                "operator {name} is at frame 4294967295, the last frame number: no tick follows"
-            )
-        }
-        other => format!(in alloc; "the step is refused: {other:?}"),
+        CoreFault::NoMemory => reason.is_lost = true,
+        CoreFault::Reslice(fault) => say_reslice(reason, core, asked, fault),
+        CoreFault::Book(BookFault::FramesSpent) => reason.say(
+            "operator {} is at frame 4294967295, the last frame number: no tick follows",
+            &[Part::Words(name_at(core.plant(), asked.op))],
+        ),
+        _ => reason.say("the step is refused", &[]),
     }
 }
 
-/// The first step that is refused, and why.
-fn first_refused(
-    alloc: Global,
-    core: &mut PlantCore,
-    steps: Vec<LineStep>,
-) -> Result<Option<LineReason>, AllocError>
+/// Runs steps up to the first that is refused. Answers the number of its line, and the reason says why.
+fn first_refused(reason: &mut Reason, core: &mut PlantCore, steps: Vec<LineStep>) -> usize
     requires { IsPlant (core_view core.old).plant }
 {
-    let mut outs = Vec::new(alloc);
+    let mut outs = Vec::new(reason.alloc);
     for LineStep { number, step } in steps {
-        let asked = asked_of(alloc, &step)?;
-        if let Err(fault) = core.step_over(alloc, step, &mut outs) {
-            let reason = core_reason(alloc, core, &asked, fault)?;
-            return Ok(Some(LineReason { number, reason }));
+        let asked = asked_of(reason, &step);
+        if let Err(fault) = core.step_over(reason.alloc, step, &mut outs) {
+            say_core(reason, core, &asked, fault);
+            return number;
         }
     }
-    Ok(None)
+    0
 }
 
-/// Runs the steps on the core of a plant and its rankings. Answers the first that is refused, and why.
+/// Runs the steps on the core of a plant and its rankings. Answers the number of the first that is refused, and the reason says why.
 fn refused_by(
-    alloc: Global,
+    reason: &mut Reason,
     plant: Plant,
     rankings: Vec<Ranking>,
     steps: Vec<LineStep>,
-) -> Result<Option<LineReason>, AllocError> {
-    match PlantCore::open(alloc, plant, rankings) {
+) -> usize {
+    match PlantCore::open(reason.alloc, plant, rankings) {
         Ok(mut core) => {
             core.always();
-            first_refused(alloc, &mut core, steps)
+            first_refused(reason, &mut core, steps)
         }
-        Err(CoreOpenFault::NoMemory) => Err(AllocError),
-        Err(CoreOpenFault::RankingsMismatch) => Ok(None),
+        Err(fault) => {
+            reason.is_lost |= matches!(fault, CoreOpenFault::NoMemory);
+            0
+        }
     }
 }
 
-/// Runs the steps on the plant's core. Answers the first that is refused, and why.
-pub(crate) fn refused_of(
-    alloc: Global,
-    plant: Plant,
-    steps: Vec<LineStep>,
-) -> Result<Option<LineReason>, AllocError> {
-    let mut rankings = Vec::new(alloc);
-    let mut is_full = false;
+/// Runs the steps on the plant's core. Answers the number of the first that is refused, and the reason says why.
+pub(crate) fn refused_of(reason: &mut Reason, plant: Plant, steps: Vec<LineStep>) -> usize {
+    let mut rankings = Vec::new(reason.alloc);
     for row in plant.rows() {
         let policy = row.get_fields().policy;
-        match Box::new(alloc, move |input: RankInput| -> u8 {
+        match Box::new(reason.alloc, move |input: RankInput| -> u8 {
             rank_by(policy, &input)
         }) {
             Ok(rank) => {
                 let ranking = Ranking::new(row.get_fields().policy, rank);
-                is_full = is_full || rankings.push(ranking).is_err();
+                if rankings.push(ranking).is_err() {
+                    reason.is_lost = true;
+                }
             }
-            Err(_full) => is_full = true,
+            Err(_full) => reason.is_lost = true,
         }
     }
-    if is_full {
-        Err(AllocError)
+    if reason.is_silent() {
+        refused_by(reason, plant, rankings, steps)
     } else {
-        refused_by(alloc, plant, rankings, steps)
+        0
     }
 }

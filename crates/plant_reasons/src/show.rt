@@ -1,6 +1,6 @@
 //! Text of the input, as a reason shows it.
 
-use std::alloc::{AllocError, Global};
+use std::alloc::AllocError;
 
 /// The most characters that are shown of a text.
 const SHOWN: usize = 80;
@@ -17,27 +17,11 @@ fn put_char(text: &mut String, c: char) -> Result<(), AllocError> {
 
 /// The first characters of a text, and two dots where there are more.
 pub(crate) fn put_shown(text: &mut String, shown: &str) -> Result<(), AllocError> {
-    for c in shown.chars().take(SHOWN) {
+    for (place, c) in shown.chars().enumerate() {
+        if place == SHOWN {
+            return text.push_str("..");
+        }
         put_char(text, c)?;
     }
-    if shown.chars().nth(SHOWN).is_some() {
-        text.push_str("..")?;
-    }
     Ok(())
-}
-
-/// A text between quotation marks, cut where it is long.
-pub(crate) fn quoted(alloc: Global, shown: &str) -> Result<String, AllocError> {
-    let mut text = String::new(alloc);
-    text.push('"')?;
-    put_shown(&mut text, shown)?;
-    text.push('"')?;
-    Ok(text)
-}
-
-/// A text without quotation marks, cut where it is long.
-pub(crate) fn cut(alloc: Global, shown: &str) -> Result<String, AllocError> {
-    let mut text = String::new(alloc);
-    put_shown(&mut text, shown)?;
-    Ok(text)
 }

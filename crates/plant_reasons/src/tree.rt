@@ -3,21 +3,16 @@
 use slice_table::{Field, Key, Place};
 use toml::{Table, Value};
 
-/// A table of an array of tables.
-fn item<'a>(table: &'a Table, name: &str, number: usize) -> Option<&'a Value> {
-    table.get(name)?.as_array()?.as_slice().get(number)
-}
-
 /// What stands in a table's place.
 pub(crate) fn value_at(document: &Table, place: Place) -> Option<&Value> {
     match place {
         Place::Plant => document.get("plant"),
-        Place::Class(class) => item(document, "class", class),
-        Place::Operator(operator) => item(document, "operator", operator),
-        Place::Flow(operator, flow) => {
-            let table = item(document, "operator", operator)?.as_table()?;
-            item(table, "flow", flow)
-        }
+        Place::Class(class) => values(document, "class").get(class),
+        Place::Operator(operator) => values(document, "operator").get(operator),
+        Place::Flow(operator, flow) => match values(document, "operator").get(operator) {
+            Some(value) => values_below(value, "flow").get(flow),
+            None => None,
+        },
     }
 }
 
@@ -51,8 +46,11 @@ pub(crate) fn number(table: &Table, field: Field) -> Option<u64> {
 
 /// The two numbers that a value is.
 pub(crate) fn pair_in(value: &Value) -> Option<(u64, u64)> {
-    match value.as_array()?.as_slice() {
-        [a, b] => Some((natural(a)?, natural(b)?)),
+    let [a, b] = values_in(value) else {
+        return None;
+    };
+    match (natural(a), natural(b)) {
+        (Some(a), Some(b)) => Some((a, b)),
         _ => None,
     }
 }
@@ -74,6 +72,14 @@ pub(crate) fn values<'a>(table: &'a Table, name: &str) -> &'a [Value] {
 pub(crate) fn values_in(value: &Value) -> &[Value] {
     match value.as_array() {
         Some(values) => values.as_slice(),
+        None => &[],
+    }
+}
+
+/// The values of an array of a table; none where it is no table, or has no such array.
+pub(crate) fn values_below<'a>(value: &'a Value, name: &str) -> &'a [Value] {
+    match value.as_table() {
+        Some(table) => values(table, name),
         None => &[],
     }
 }
@@ -101,13 +107,8 @@ pub(crate) fn place_of(values: &[Value], name: &str) -> Option<usize> {
     None
 }
 
-/// The first table of an array that has this name, and its number.
-pub(crate) fn named<'a>(
-    document: &'a Table,
-    array: &str,
-    name: &str,
-) -> Option<(usize, &'a Table)> {
+/// The first table of an array that has this name.
+pub(crate) fn named<'a>(document: &'a Table, array: &str, name: &str) -> Option<&'a Table> {
     let values = values(document, array);
-    let number = place_of(values, name)?;
-    Some((number, values.get(number)?.as_table()?))
+    values.get(place_of(values, name)?)?.as_table()
 }

@@ -1,11 +1,10 @@
 //! Keys and tables of a plant file that nothing reads.
 
-use crate::show::cut;
-use crate::tree::values;
+use crate::reason::{Part, Reason};
+use crate::tree::{values, values_below, values_in};
 use crate::wanted::has;
 use keys_in_order::{class_fields, flow_fields, operator_fields, plant_fields};
 use slice_table::{Field, Place};
-use std::alloc::{AllocError, Global};
 use strsim::osa_distance;
 use toml::{Table, Value};
 
@@ -16,30 +15,49 @@ const AT_HEAD: [&str; 3] = ["plant", "class", "operator"];
 const NEAR: usize = 2;
 
 /// Of some words the one that is nearest to another, if one is near.
-pub(crate) fn nearest<'a>(
-    alloc: Global,
-    word: &str,
-    known: &[&'a str],
-) -> Result<Option<&'a str>, AllocError> {
-    let mut found = None;
-    let mut least = NEAR;
-    for other in known {
-        let distance = osa_distance(alloc, word, other)?;
-        if distance <= least && distance < other.len() && (found.is_none() || distance < least) {
-            found = Some(*other);
-            least = distance;
-        }
-    }
-    Ok(found)
+#[derive(Drop)]
+pub(crate) struct Nearest<'a> {
+    word: &'a str,
+    pub(crate) found: Option<&'static str>,
+    least: usize,
 }
 
-/// The names of keys.
-fn texts_of(alloc: Global, fields: &[Field]) -> Result<Vec<&'static str>, AllocError> {
-    let mut texts = Vec::with_capacity(alloc, fields.len())?;
-    for field in fields {
-        texts.push(field.text())?;
+impl<'a> Nearest<'a> {
+    /// None of no words.
+    pub(crate) fn new(word: &'a str) -> Nearest<'a> {
+        Nearest {
+            word,
+            found: None,
+            least: NEAR + 1,
+        }
     }
-    Ok(texts)
+
+    /// Looks at one word more.
+    fn try_word(&mut self, reason: &mut Reason, other: &'static str) {
+        match osa_distance(reason.alloc, self.word, other) {
+            Ok(distance) => {
+                if distance < self.least && distance < other.len() {
+                    self.found = Some(other);
+                    self.least = distance;
+                }
+            }
+            Err(_full) => reason.is_lost = true,
+        }
+    }
+
+    /// Looks at some words more.
+    pub(crate) fn try_words(&mut self, reason: &mut Reason, words: &[&'static str]) {
+        for word in words {
+            self.try_word(reason, word);
+        }
+    }
+
+    /// Looks at the names of some keys more.
+    fn try_fields(&mut self, reason: &mut Reason, fields: &[Field]) {
+        for field in fields {
+            self.try_word(reason, field.text());
+        }
+    }
 }
 
 /// The table that has a key of this name.
@@ -55,133 +73,104 @@ fn table_with(word: &str) -> Option<&'static str> {
     }
 }
 
-/// A line of a key that nothing reads: what it is called, and what may be meant.
-fn put_line(
-    alloc: Global,
-    reason: &mut String,
-    name: &str,
-    word: &str,
-    near: Option<&str>,
-) -> Result<(), AllocError> {
-    let name = cut(alloc, name)?;
-    if let Some(near) = near {
-        return write!(reason, "warning: nothing reads {name}: is {near} meant?\n");
+/// Says that nothing reads a key: what it is called, and what may be meant.
+fn say_unread(reason: &mut Reason, name: &Reason, nearest: &Nearest<'_>) {
+    reason.say("warning: nothing reads {}", &[Part::Cut(name)]);
+    let word = nearest.word;
+    if let Some(near) = nearest.found {
+        reason.say(": is {} meant?", &[Part::Words(near)]);
+    } else if let Some(table) = table_with(word) {
+        reason.say(
+            ": {} is a key of the table {}",
+            &[Part::Words(word), Part::Words(table)],
+        );
     }
-    match table_with(word) {
-        Some(table) => write!(
-            reason,
-            "warning: nothing reads {name}: {word} is a key of the table {table}\n"
-        ),
-        None => write!(reason, "warning: nothing reads {name}\n"),
-    }
+    reason.say("\n", &[]);
 }
 
-/// The keys of a table that nothing reads.
-fn put_table(
-    alloc: Global,
-    reason: &mut String,
-    table: &Table,
-    place: Place,
-    fields: &[Field],
-) -> Result<(), AllocError> {
-    let known = texts_of(alloc, fields)?;
-    for (key, _value) in table.iter() {
-        let word = key.as_str();
-        if !has(fields, word) {
-            let name = format!(in alloc; "{place}.{word}")?;
-            let near = nearest(alloc, word, known.as_slice())?;
-            put_line(alloc, reason, name.as_str(), word, near)?;
+/// Says that nothing reads a key of a table.
+fn say_unread_key(reason: &mut Reason, word: &str, place: Place, fields: &[Field]) {
+    let mut name = Reason::new(reason.alloc);
+    name.say("{}.{}", &[Part::Place(place), Part::Words(word)]);
+    let mut nearest = Nearest::new(word);
+    nearest.try_fields(reason, fields);
+    say_unread(reason, &name, &nearest);
+}
+
+/// Says which keys of a table nothing reads, where it is one.
+fn say_table(reason: &mut Reason, value: &Value, place: Place, fields: &[Field]) {
+    if let Some(table) = value.as_table() {
+        for (key, _value) in table.iter() {
+            if !has(fields, key.as_str()) {
+                say_unread_key(reason, key.as_str(), place, fields);
+            }
         }
     }
-    Ok(())
 }
 
-/// The name of a key at the head of a file, as a file writes it.
-fn name_at_head(alloc: Global, word: &str, value: &Value) -> Result<String, AllocError> {
-    let is_tables = match value.as_array() {
-        Some(values) => values.as_slice().iter().any(|value| value.is_table()),
-        None => false,
-    };
-    if is_tables {
-        format!(in alloc; "[[{word}]]")
+/// Whether a value is an array that has a table.
+fn has_tables(value: &Value) -> bool {
+    for value in values_in(value) {
+        if value.is_table() {
+            return true;
+        }
+    }
+    false
+}
+
+/// Says that nothing reads a key at the head of a file, by its name as a file writes it.
+fn say_unread_head(reason: &mut Reason, word: &str, value: &Value) {
+    let written = if has_tables(value) {
+        "[[{}]]"
     } else if value.is_table() {
-        format!(in alloc; "[{word}]")
+        "[{}]"
     } else {
-        String::from_str(alloc, word)
-    }
+        "{}"
+    };
+    let mut name = Reason::new(reason.alloc);
+    name.say(written, &[Part::Words(word)]);
+    let mut nearest = Nearest::new(word);
+    nearest.try_words(reason, &AT_HEAD);
+    say_unread(reason, &name, &nearest);
 }
 
-/// The tables and keys at the head of a file that nothing reads.
-fn put_head(alloc: Global, reason: &mut String, document: &Table) -> Result<(), AllocError> {
+/// Says which tables and keys at the head of a file nothing reads.
+fn say_head(reason: &mut Reason, document: &Table) {
     for (key, value) in document.iter() {
-        let word = key.as_str();
-        if !AT_HEAD.contains(&word) {
-            let name = name_at_head(alloc, word, value)?;
-            let near = nearest(alloc, word, &AT_HEAD)?;
-            put_line(alloc, reason, name.as_str(), word, near)?;
+        if !AT_HEAD.contains(&key.as_str()) {
+            say_unread_head(reason, key.as_str(), value);
         }
     }
-    Ok(())
 }
 
-/// The keys of classes that nothing reads.
-fn put_classes(alloc: Global, reason: &mut String, document: &Table) -> Result<(), AllocError> {
+/// Says which keys of classes nothing reads.
+fn say_classes(reason: &mut Reason, document: &Table) {
     for (class, value) in values(document, "class").iter().enumerate() {
-        if let Some(table) = value.as_table() {
-            put_table(alloc, reason, table, Place::Class(class), &class_fields())?;
-        }
+        say_table(reason, value, Place::Class(class), &class_fields());
     }
-    Ok(())
 }
 
-/// The keys of an operator's provisioned flows that nothing reads.
-fn put_flows(
-    alloc: Global,
-    reason: &mut String,
-    operator: usize,
-    table: &Table,
-) -> Result<(), AllocError> {
-    for (flow, value) in values(table, "flow").iter().enumerate() {
-        if let Some(table) = value.as_table() {
-            put_table(
-                alloc,
-                reason,
-                table,
-                Place::Flow(operator, flow),
-                &flow_fields(),
-            )?;
-        }
+/// Says which keys of an operator's provisioned flows nothing reads.
+fn say_flows(reason: &mut Reason, operator: usize, flows: &[Value]) {
+    for (flow, value) in flows.iter().enumerate() {
+        say_table(reason, value, Place::Flow(operator, flow), &flow_fields());
     }
-    Ok(())
 }
 
-/// The keys of operators and of their flows that nothing reads.
-fn put_operators(alloc: Global, reason: &mut String, document: &Table) -> Result<(), AllocError> {
+/// Says which keys of operators and of their flows nothing reads.
+fn say_operators(reason: &mut Reason, document: &Table) {
     for (operator, value) in values(document, "operator").iter().enumerate() {
-        if let Some(table) = value.as_table() {
-            put_table(
-                alloc,
-                reason,
-                table,
-                Place::Operator(operator),
-                &operator_fields(),
-            )?;
-            put_flows(alloc, reason, operator, table)?;
-        }
+        say_table(reason, value, Place::Operator(operator), &operator_fields());
+        say_flows(reason, operator, values_below(value, "flow"));
     }
-    Ok(())
 }
 
-/// A line for each key and each table of a plant file that nothing reads, with the key that may be meant.
-pub(crate) fn put_unread(
-    alloc: Global,
-    reason: &mut String,
-    document: &Table,
-) -> Result<(), AllocError> {
-    put_head(alloc, reason, document)?;
-    if let Some(Value::Table(table)) = document.get("plant") {
-        put_table(alloc, reason, table, Place::Plant, &plant_fields())?;
+/// Says in a line of each key and each table of a plant file that nothing reads it, with the key that may be meant.
+pub(crate) fn say_all_unread(reason: &mut Reason, document: &Table) {
+    say_head(reason, document);
+    if let Some(value) = document.get("plant") {
+        say_table(reason, value, Place::Plant, &plant_fields());
     }
-    put_classes(alloc, reason, document)?;
-    put_operators(alloc, reason, document)
+    say_classes(reason, document);
+    say_operators(reason, document);
 }

@@ -1,0 +1,132 @@
+//! A reason as it is put into words.
+
+use crate::show::put_shown;
+use dsx_messages::Modem;
+use slice_table::{Key, Place};
+use std::alloc::{AllocError, Global};
+use std::fmt::Display;
+use toml::Value;
+
+/// What fills a gap of a sentence.
+#[derive(Clone, Copy)]
+pub(crate) enum Part<'a> {
+    /// Words, as they are.
+    Words(&'a str),
+    /// A text of the input, between quotation marks and cut where it is long.
+    Quoted(&'a str),
+    /// A number.
+    Number(u64),
+    /// A character, as Rust writes it.
+    Letter(char),
+    /// A key of a plant file.
+    Key(Key),
+    /// A place of a plant file.
+    Place(Place),
+    /// The address of a modem.
+    Modem(Modem),
+    /// A value as TOML writes it, cut where it is long.
+    Value(&'a Value),
+    /// What another reason says.
+    Told(&'a Reason),
+    /// What another reason says, cut where it is long.
+    Cut(&'a Reason),
+}
+
+/// A reason as it is put into words. Where no memory is left it is lost, and goes on to be said in vain.
+#[derive(Drop)]
+pub(crate) struct Reason {
+    /// Where its memory is from.
+    pub(crate) alloc: Global,
+    text: String,
+    /// Whether no memory was left for it.
+    pub(crate) is_lost: bool,
+}
+
+/// Adds what is printed of something.
+fn put_printed<T: Display>(text: &mut String, printed: &T) -> Result<(), AllocError> {
+    write!(text, "{printed}")
+}
+
+impl Reason {
+    /// A reason that says nothing yet.
+    pub(crate) fn new(alloc: Global) -> Reason {
+        Reason {
+            alloc,
+            text: String::new(alloc),
+            is_lost: false,
+        }
+    }
+
+    /// Whether nothing was said or lost.
+    pub(crate) fn is_silent(&self) -> bool {
+        self.text.is_empty() && !self.is_lost
+    }
+
+    /// The whole text, or else that no memory was left for it.
+    pub(crate) fn told(self) -> Result<String, AllocError> {
+        match self {
+            Reason {
+                text,
+                is_lost: false,
+                ..
+            } => Ok(text),
+            _ => Err(AllocError),
+        }
+    }
+
+    /// The text so far.
+    fn so_far(&self) -> Result<&str, AllocError> {
+        if self.is_lost {
+            Err(AllocError)
+        } else {
+            Ok(self.text.as_str())
+        }
+    }
+
+    /// Adds a value as TOML writes it, cut where it is long.
+    fn put_value(&mut self, value: &Value) -> Result<(), AllocError> {
+        let written = format!(in self.alloc; "{value}")?;
+        put_shown(&mut self.text, written.as_str())
+    }
+
+    /// Adds a text between quotation marks, cut where it is long.
+    fn put_quoted(&mut self, shown: &str) -> Result<(), AllocError> {
+        self.text.push('"')?;
+        put_shown(&mut self.text, shown)?;
+        self.text.push('"')
+    }
+
+    /// Adds what fills a gap.
+    fn put_part(&mut self, part: Part<'_>) -> Result<(), AllocError> {
+        match part {
+            Part::Words(words) => self.text.push_str(words),
+            Part::Quoted(shown) => self.put_quoted(shown),
+            Part::Number(number) => put_printed(&mut self.text, &number),
+            Part::Letter(c) => write!(self.text, "{c:?}"),
+            Part::Key(key) => put_printed(&mut self.text, &key),
+            Part::Place(place) => put_printed(&mut self.text, &place),
+            Part::Modem(modem) => put_printed(&mut self.text, &modem),
+            Part::Value(value) => self.put_value(value),
+            Part::Told(told) => self.text.push_str(told.so_far()?),
+            Part::Cut(told) => put_shown(&mut self.text, told.so_far()?),
+        }
+    }
+
+    /// Adds a sentence.
+    fn put(&mut self, sentence: &str, parts: &[Part<'_>]) -> Result<(), AllocError> {
+        for (gap, words) in sentence.split("{}").enumerate() {
+            self.text.push_str(words)?;
+            if let Some(part) = parts.get(gap) {
+                self.put_part(*part)?;
+            }
+        }
+        Ok(())
+    }
+
+    /// Says a sentence, each `{}` of which is filled by the next part. It has as many gaps as there are parts.
+    pub(crate) fn say(&mut self, sentence: &str, parts: &[Part<'_>]) {
+        if self.put(sentence, parts).is_err() {
+            self.is_lost = true;
+        }
+    }
+}
