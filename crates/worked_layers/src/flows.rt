@@ -2,13 +2,12 @@
 
 ghost use Rattle.std.specs.Prelude.{◌≡◌, Some};
 
-use crate::same::same;
 use admission::IdRange;
 use dsx_messages::Modem;
 use flow_table::{Flow, Flows};
 use param_sets::{ParamFields, ParamSet, Scheduling, Sets, Units};
+use std::alloc::AllocError;
 use std::process::Abort;
-use std::test::Fail;
 
 /// A best-effort set with a reserved rate.
 fn best_effort(rate: u32) -> ParamSet {
@@ -55,47 +54,53 @@ fn units() -> Units {
     Units::new(2000, 16)
 }
 
-/// Checks the flows under some SFIDs.
-fn check_at(rt: &impl Abort, flows: &Flows, rows: &[(u32, Option<Flow>)]) {
-    for (sfid, wanted) in rows {
-        same!(rt; flows.get(*sfid).copied(), *wanted);
-    }
+/// Whether this flow, or none, is under an SFID.
+fn is_at(flows: &Flows, sfid: u32, wanted: Option<Flow>) -> bool {
+    flows.get(sfid).copied() == wanted
 }
 
-/// Checks the flows that have some SIDs.
-fn check_with(rt: &impl Abort, flows: &Flows, rows: &[(u16, Option<(u32, Flow)>)]) {
-    for (sid, wanted) in rows {
-        same!(rt; flows.with_sid(*sid), *wanted);
-    }
+/// Whether this flow, or none, has a SID.
+fn has(flows: &Flows, sid: u16, wanted: Option<(u32, Flow)>) -> bool {
+    flows.with_sid(sid) == wanted
 }
 
-/// Checks the least SID of 40 and 41 that no flow has.
-fn check_free(rt: &impl Abort, flows: &Flows, wanted: Option<u32>) {
-    same!(rt; flows.free_sid(&IdRange::new(40, 41)), wanted);
+/// Whether this is the least SID of 40 and 41 that no flow has.
+fn is_free(flows: &Flows, wanted: Option<u32>) -> bool {
+    flows.free_sid(&IdRange::new(40, 41)) == wanted
 }
 
-/// Checks how many minislots are committed.
-fn check_committed(rt: &impl Abort, flows: &Flows, wanted: u64) {
-    same!(rt; flows.committed_minislots(), wanted);
+/// Whether so many minislots are committed.
+fn commits(flows: &Flows, wanted: u64) -> bool {
+    flows.committed_minislots() == wanted
+}
+
+/// Whether both flows are found, and no others.
+fn both_are_found(flows: &Flows) -> bool {
+    is_at(flows, 7, Some(flow(40, 64000)))
+        && is_at(flows, 4, None)
+        && has(flows, 41, Some((3, flow(41, 128000))))
+        && has(flows, 42, None)
+}
+
+/// Whether both flows stand, with what they commit, and leave no SID.
+fn both_stand(flows: &Flows) -> bool {
+    flows.len() == 2 && both_are_found(flows) && commits(flows, 3) && is_free(flows, None)
+}
+
+/// Whether the first flow is gone.
+fn first_is_gone(flows: &Flows) -> bool {
+    is_at(flows, 7, None) && has(flows, 40, None) && is_free(flows, Some(40))
 }
 
 #[test]
-fn two_flows_are_found(rt: HostRuntime) -> Result<(), Fail> {
-    let alloc = rt.alloc();
-    let mut flows = Flows::new(alloc, 2, units())?;
+fn two_flows_are_found(rt: HostRuntime) -> Result<(), AllocError> {
+    let mut flows = Flows::new(rt.alloc(), 2, units())?;
     flows.put(7, &flow(40, 64000))?;
     flows.put(3, &flow(41, 128000))?;
-    same!(rt; flows.len(), 2);
-    check_at(&rt, &flows, &[(7, Some(flow(40, 64000))), (4, None)]);
-    let second = Some((3, flow(41, 128000)));
-    check_with(&rt, &flows, &[(41, second), (42, None)]);
-    check_committed(&rt, &flows, 3);
-    check_free(&rt, &flows, None);
+    assert!(rt; both_stand(&flows));
     flows.put(3, &flow(41, 192000))?;
-    check_committed(&rt, &flows, 4);
+    assert!(rt; commits(&flows, 4));
     flows.remove(7);
-    check_at(&rt, &flows, &[(7, None)]);
-    check_with(&rt, &flows, &[(40, None)]);
-    check_free(&rt, &flows, Some(40));
+    assert!(rt; first_is_gone(&flows));
     Ok(())
 }

@@ -15,6 +15,4 @@ mod numbers;
 #[cfg(test)]
 mod ranks;
 #[cfg(test)]
-mod same;
-#[cfg(test)]
 mod sets;

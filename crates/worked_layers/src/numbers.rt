@@ -1,80 +1,77 @@
 //! An example of a ledger.
 
-use crate::same::same;
 use admission::{Budget, Ledger, LedgerFault};
-use std::alloc::{AllocError, Global};
+use std::alloc::AllocError;
 use std::process::Abort;
-use std::test::Fail;
 
-/// Adds a row. A function of its own, as those below: what the call promises is then no part of each test's proof.
-fn add(ledger: &mut Ledger, id: u32, row: Budget) -> Result<(), LedgerFault> {
-    ledger.add(id, row)
+/// Two budgets.
+const SMALL: Budget = Budget {
+    minislots: 3,
+    elements: 1,
+};
+
+const LARGE: Budget = Budget {
+    minislots: 8,
+    elements: 2,
+};
+
+/// Whether adding a row is answered so. A function of its own, as those below: what the call promises is then no part of each test's
+/// proof.
+fn adds(ledger: &mut Ledger, id: u32, row: Budget, wanted: Result<(), LedgerFault>) -> bool {
+    ledger.add(id, row) == wanted
 }
 
-/// Changes a row.
-fn change(ledger: &mut Ledger, id: u32, row: Budget) -> Result<(), LedgerFault> {
-    ledger.change(id, row)
+/// Whether changing a row is answered so.
+fn changes(ledger: &mut Ledger, id: u32, row: Budget, wanted: Result<(), LedgerFault>) -> bool {
+    ledger.change(id, row) == wanted
 }
 
-/// Removes a row.
-fn remove(ledger: &mut Ledger, id: u32) -> Result<(), LedgerFault> {
-    ledger.remove(id)
+/// Whether removing a row is answered so.
+fn removes(ledger: &mut Ledger, id: u32, wanted: Result<(), LedgerFault>) -> bool {
+    ledger.remove(id) == wanted
 }
 
-/// A ledger with room for so many rows.
-fn ledger_of(alloc: Global, rows: u32) -> Result<Ledger, AllocError> {
-    Ledger::new(alloc, rows)
+/// Whether these are the totals of a ledger.
+fn comes_to(ledger: &Ledger, minislots: u64, elements: u64) -> bool {
+    ledger.total_minislots() == minislots && ledger.total_elements() == elements
 }
 
-/// Checks that a ledger is full of so many rows.
-fn check_full(rt: &impl Abort, ledger: &Ledger, rows: u32) {
-    same!(rt; ledger.is_full(), true);
-    same!(rt; ledger.len(), rows);
+/// Whether a ledger is full of two rows: of 7, but not of 8.
+fn is_full(ledger: &Ledger) -> bool {
+    ledger.is_full() && ledger.len() == 2 && ledger.get(7) == Some(LARGE) && ledger.get(8).is_none()
 }
 
-/// Checks that a ledger has no row.
-fn check_empty(rt: &impl Abort, ledger: &Ledger) {
-    same!(rt; ledger.is_empty(), true);
+/// Whether an empty ledger takes two rows and no third.
+fn takes_two(ledger: &mut Ledger) -> bool {
+    ledger.is_empty()
+        && adds(ledger, 9, SMALL, Ok(()))
+        && adds(ledger, 9, LARGE, Err(LedgerFault::Twice))
+        && adds(ledger, 7, LARGE, Ok(()))
+        && adds(ledger, 8, Budget::NOTHING, Err(LedgerFault::Full))
+        && is_full(ledger)
+        && comes_to(ledger, 11, 3)
 }
 
-/// Checks the totals of a ledger.
-fn check_totals(rt: &impl Abort, ledger: &Ledger, minislots: u64, elements: u64) {
-    same!(rt; ledger.total_minislots(), minislots);
-    same!(rt; ledger.total_elements(), elements);
+/// Whether a row is changed that is there, and no other.
+fn changes_one(ledger: &mut Ledger) -> bool {
+    changes(ledger, 9, Budget::NOTHING, Ok(()))
+        && changes(ledger, 8, SMALL, Err(LedgerFault::NotThere))
+        && comes_to(ledger, 8, 2)
 }
 
-/// Checks the rows of some identifiers.
-fn check_rows(rt: &impl Abort, ledger: &Ledger, rows: &[(u32, Option<Budget>)]) {
-    for (id, wanted) in rows {
-        same!(rt; ledger.get(*id), *wanted);
-    }
+/// Whether both rows are removed, each once.
+fn removes_both(ledger: &mut Ledger) -> bool {
+    removes(ledger, 7, Ok(()))
+        && removes(ledger, 7, Err(LedgerFault::NotThere))
+        && removes(ledger, 9, Ok(()))
+        && comes_to(ledger, 0, 0)
 }
 
 #[test]
-fn a_ledger_of_two_rows(rt: HostRuntime) -> Result<(), Fail> {
-    let small = Budget {
-        minislots: 3,
-        elements: 1,
-    };
-    let large = Budget {
-        minislots: 8,
-        elements: 2,
-    };
-    let mut ledger = ledger_of(rt.alloc(), 2)?;
-    check_empty(&rt, &ledger);
-    same!(rt; add(&mut ledger, 9, small), Ok(()));
-    same!(rt; add(&mut ledger, 9, large), Err(LedgerFault::Twice));
-    same!(rt; add(&mut ledger, 7, large), Ok(()));
-    same!(rt; add(&mut ledger, 8, Budget::NOTHING), Err(LedgerFault::Full));
-    check_full(&rt, &ledger, 2);
-    check_totals(&rt, &ledger, 11, 3);
-    check_rows(&rt, &ledger, &[(7, Some(large)), (8, None)]);
-    same!(rt; change(&mut ledger, 9, Budget::NOTHING), Ok(()));
-    same!(rt; change(&mut ledger, 8, small), Err(LedgerFault::NotThere));
-    check_totals(&rt, &ledger, 8, 2);
-    same!(rt; remove(&mut ledger, 7), Ok(()));
-    same!(rt; remove(&mut ledger, 7), Err(LedgerFault::NotThere));
-    same!(rt; remove(&mut ledger, 9), Ok(()));
-    check_totals(&rt, &ledger, 0, 0);
+fn a_ledger_of_two_rows(rt: HostRuntime) -> Result<(), AllocError> {
+    let mut ledger = Ledger::new(rt.alloc(), 2)?;
+    assert!(rt; takes_two(&mut ledger));
+    assert!(rt; changes_one(&mut ledger));
+    assert!(rt; removes_both(&mut ledger));
     Ok(())
 }
