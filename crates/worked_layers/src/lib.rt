@@ -5,13 +5,9 @@
 #[cfg(test)]
 mod encodings;
 #[cfg(test)]
-mod flows;
-#[cfg(test)]
 mod maps;
 #[cfg(test)]
 mod messages;
-#[cfg(test)]
-mod numbers;
 #[cfg(test)]
 mod ranks;
 #[cfg(test)]
