@@ -5,16 +5,10 @@
 #[cfg(test)]
 mod encodings;
 #[cfg(test)]
-mod flows;
-#[cfg(test)]
 mod maps;
 #[cfg(test)]
 mod messages;
 #[cfg(test)]
-mod numbers;
-#[cfg(test)]
 mod ranks;
-#[cfg(test)]
-mod same;
 #[cfg(test)]
 mod sets;

@@ -3,25 +3,19 @@
 /// What a call answers, made once more where it finds no memory: `AllocError` is all that it may be refused with.
 macro_rules! again {
     ($call:expr) => {
+        again!($call, std::alloc::AllocError)
+    };
+    ($call:expr, $refused:pat) => {
         match $call {
-            Ok(answer) => answer,
-            Err(std::alloc::AllocError) => $call?,
+            Err($refused) => $call,
+            answer => answer,
         }
     };
 }
 
-/// What a call answers, made once more where it is refused. Nothing but want of memory, by this name, may refuse it.
-macro_rules! again_if {
-    ($rt:expr, $call:expr, $refused:expr) => {
-        match $call {
-            Ok(answer) => answer,
-            Err(fault) => {
-                assert_eq!($rt; fault, $refused);
-                $call.ok().ok_or("no memory")?
-            }
-        }
-    };
+/// Whether these are the bytes that are wanted.
+pub(crate) fn are(bytes: &[u8], wanted: &[u8]) -> bool {
+    bytes == wanted
 }
 
 pub(crate) use again;
-pub(crate) use again_if;

@@ -1,13 +1,12 @@
 //! Parts of MAPs put together, and MAPs read.
 
-use crate::again::{again, again_if};
+use crate::again::{again, are};
 use crate::tables::plant;
-use map_assembly::{Gather, GatherFault, MapBytes, MapFault, MapView, read_map};
+use map_assembly::{Gather, GatherFault, MapBytes, MapFault, MapView, Refused, read_map};
 use plant::{Op, Plant};
 use slice_scheduler::{Elements, ElementsFields, Iuc, Sids, Slice, Span, Spans};
 use std::alloc::{AllocError, Global};
 use std::process::Abort;
-use std::test::Fail;
 
 /// One idle span of a slice.
 fn idle(alloc: Global, slice: Slice) -> Result<Elements, AllocError> {
@@ -26,98 +25,113 @@ fn idle(alloc: Global, slice: Slice) -> Result<Elements, AllocError> {
 
 /// Puts an operator's part of the first frame, and once more where that finds no memory: what is handed back is put again.
 fn put(
-    rt: &impl Abort,
     alloc: Global,
     gather: &mut Gather,
     op: Op,
     elements: Elements,
-) -> Result<Option<MapBytes>, Fail> {
+) -> Result<Option<MapBytes>, Refused> {
     match gather.put(alloc, op, 0, elements) {
-        Ok(map) => Ok(map),
-        Err(refused) => {
-            assert_eq!(rt; refused.fault, GatherFault::NoMemory);
-            let again = gather.put(alloc, op, 0, refused.elements);
-            Ok(again.ok().ok_or("no memory")?)
-        }
+        Err(
+            Refused {
+                fault: GatherFault::NoMemory,
+                elements,
+            },
+        ) => gather.put(alloc, op, 0, elements),
+        answer => answer,
     }
 }
 
-/// Puts an idle part of an operator.
-fn put_idle(
-    rt: &impl Abort,
+/// Whether a part is put, and comes to this MAP, or to none where no byte is wanted.
+fn comes_to(alloc: Global, gather: &mut Gather, op: Op, elements: Elements, wanted: &[u8]) -> bool {
+    match &put(alloc, gather, op, elements) {
+        Ok(Some(map)) => are(map.bytes.as_slice(), wanted),
+        Ok(None) => wanted.is_empty(),
+        Err(_) => false,
+    }
+}
+
+/// The same of an idle part of an operator.
+fn idle_comes_to(
     alloc: Global,
     gather: &mut Gather,
     op: Op,
     slice: Slice,
-) -> Result<Option<MapBytes>, Fail> {
+    wanted: &[u8],
+) -> Result<bool, AllocError> {
     let elements = idle(alloc, slice)?;
-    put(rt, alloc, gather, op, elements)
+    Ok(comes_to(alloc, gather, op, elements, wanted))
 }
 
-/// The bytes of a MAP, or none.
-fn shown(map: &Option<MapBytes>) -> &[u8] {
-    match map {
-        Some(map) => map.bytes.as_slice(),
-        None => &[],
-    }
+/// Whether idle parts of both operators come to this MAP of the first frame, and the first of them to none.
+fn come_to(
+    alloc: Global,
+    gather: &mut Gather,
+    slices: &[Slice; 2],
+    wanted: &[u8],
+) -> Result<bool, AllocError> {
+    let first = idle_comes_to(alloc, gather, 0, slices[0], &[])?;
+    let second = idle_comes_to(alloc, gather, 1, slices[1], wanted)?;
+    Ok(first && second)
 }
 
-/// Asserts that idle parts of both operators come to this MAP of the first frame, and the first of them to none.
-fn check(
+/// Nothing is put yet of a plant.
+fn gather_of(alloc: Global, plant: &Plant) -> Result<Gather, AllocError> {
+    again!(Gather::new(alloc, plant))
+}
+
+/// Nothing is put yet of the plant.
+fn gather(alloc: Global) -> Result<Gather, AllocError> {
+    let plant = plant(alloc)?;
+    gather_of(alloc, &plant)
+}
+
+/// The MAP of idle parts of the plant's slices.
+const IDLE: [u8; 32] = [
+    1, 1, 4, 0, 0, 0, 0, 0, 0, 0, 0, 0, 0, 0, 0, 0, 0xFF, 0xFC, 0x40, 0x00, 0, 1, 0x80, 0x08, 0, 1,
+    0x80, 0x28, 0, 1, 0xC0, 0x48,
+];
+
+/// Whether idle parts of the plant's slices come to their MAP.
+fn idle_parts_come_to_a_map(alloc: Global) -> Result<bool, AllocError> {
+    let mut gather = gather(alloc)?;
+    let slices = [Slice::new(8, 32), Slice::new(40, 32)];
+    come_to(alloc, &mut gather, &slices, &IDLE)
+}
+
+/// Gives other slices from the first frame on.
+fn reslice(
+    rt: &impl Abort,
+    alloc: Global,
+    gather: &mut Gather,
+    slices: &[Slice],
+) -> Result<(), AllocError> {
+    assert!(rt; gather.may_reslice(0, slices));
+    again!(gather.reslice(alloc, 0, Vec::from_slice(alloc, slices)?))
+}
+
+/// The MAP of idle parts of the other slices.
+const RESLICED: [u8; 32] = [
+    1, 1, 4, 0, 0, 0, 0, 0, 0, 0, 0, 0, 0, 0, 0, 0, 0xFF, 0xFC, 0x40, 0x00, 0, 1, 0x80, 0x08, 0, 1,
+    0x80, 0x18, 0, 1, 0xC0, 0x48,
+];
+
+/// Whether other slices are given, and idle parts of them come to this MAP.
+fn resliced_come_to(
     rt: &impl Abort,
     alloc: Global,
     gather: &mut Gather,
     slices: &[Slice; 2],
     wanted: &[u8],
-) -> Result<(), Fail> {
-    let first = put_idle(rt, alloc, gather, 0, slices[0])?;
-    let second = put_idle(rt, alloc, gather, 1, slices[1])?;
-    assert_eq!(rt; shown(&first), [].as_slice());
-    assert_eq!(rt; shown(&second), wanted);
-    Ok(())
+) -> Result<bool, AllocError> {
+    reslice(rt, alloc, gather, slices)?;
+    come_to(alloc, gather, slices, wanted)
 }
 
-/// Nothing is put yet of a plant.
-fn gather_of(alloc: Global, plant: &Plant) -> Result<Gather, AllocError> {
-    Ok(again!(Gather::new(alloc, plant)))
-}
-
-/// Nothing is put yet of the plant.
-fn gather(alloc: Global) -> Result<Gather, Fail> {
-    let plant = plant(alloc)?;
-    Ok(gather_of(alloc, &plant)?)
-}
-
-#[test]
-fn parts_are_put_together(rt: HostRuntime) -> Result<(), Fail> {
-    let mut gather = gather(rt.alloc())?;
-    let slices = [Slice::new(8, 32), Slice::new(40, 32)];
-    let wanted = [
-        1, 1, 4, 0, 0, 0, 0, 0, 0, 0, 0, 0, 0, 0, 0, 0, 0xFF, 0xFC, 0x40, 0x00, 0, 1, 0x80, 0x08,
-        0, 1, 0x80, 0x28, 0, 1, 0xC0, 0x48,
-    ];
-    check(&rt, rt.alloc(), &mut gather, &slices, &wanted)
-}
-
-/// Gives other slices from the first frame on.
-fn reslice(alloc: Global, gather: &mut Gather, slices: &[Slice]) -> Result<(), Fail> {
-    if !gather.may_reslice(0, slices) {
-        return Err(Fail::new("not fit"));
-    }
-    again!(gather.reslice(alloc, 0, Vec::from_slice(alloc, slices)?));
-    Ok(())
-}
-
-#[test]
-fn other_slices_are_given(rt: HostRuntime) -> Result<(), Fail> {
-    let mut gather = gather(rt.alloc())?;
+/// Whether idle parts of other slices come to their MAP.
+fn other_slices_are_given(rt: &impl Abort, alloc: Global) -> Result<bool, AllocError> {
+    let mut gather = gather(alloc)?;
     let slices = [Slice::new(8, 16), Slice::new(24, 48)];
-    reslice(rt.alloc(), &mut gather, &slices)?;
-    let wanted = [
-        1, 1, 4, 0, 0, 0, 0, 0, 0, 0, 0, 0, 0, 0, 0, 0, 0xFF, 0xFC, 0x40, 0x00, 0, 1, 0x80, 0x08,
-        0, 1, 0x80, 0x18, 0, 1, 0xC0, 0x48,
-    ];
-    check(&rt, rt.alloc(), &mut gather, &slices, &wanted)
+    resliced_come_to(rt, alloc, &mut gather, &slices, &RESLICED)
 }
 
 /// A MAP with a grant and a SID that waits.
@@ -126,17 +140,25 @@ const GRANT_AND_WAIT: [u8; 32] = [
     0xC0, 0x48, 4, 9, 0x40, 0x48,
 ];
 
-/// What a MAP says.
-fn view(rt: &impl Abort, alloc: Global, bytes: &[u8]) -> Result<MapView, Fail> {
-    Ok(again_if!(rt, read_map(alloc, bytes), MapFault::NoMemory))
+/// What a MAP says, and once more where that finds no memory.
+fn view(alloc: Global, bytes: &[u8]) -> Result<MapView, MapFault> {
+    again!(read_map(alloc, bytes), MapFault::NoMemory)
+}
+
+/// Whether the MAP says two spans, and who waits.
+fn grant_and_wait_are_read(alloc: Global) -> bool {
+    match &view(alloc, &GRANT_AND_WAIT) {
+        Ok(view) => {
+            view.spans.as_slice().len() == 2 && view.pending.as_slice() == [258].as_slice()
+        }
+        Err(_) => false,
+    }
 }
 
 #[test]
-fn a_map_is_read(rt: HostRuntime) -> Result<(), Fail> {
-    let view = view(&rt, rt.alloc(), &GRANT_AND_WAIT)?;
-    assert_eq!(rt;
-        (view.spans.as_slice().len(), view.pending.as_slice()),
-        (2, [258].as_slice())
-    );
+fn maps_are_put_together_and_read(rt: HostRuntime) -> Result<(), AllocError> {
+    assert!(rt; grant_and_wait_are_read(rt.alloc()));
+    assert!(rt; idle_parts_come_to_a_map(rt.alloc())?);
+    assert!(rt; other_slices_are_given(&rt, rt.alloc())?);
     Ok(())
 }

@@ -1,10 +1,9 @@
 //! TLVs, flow encodings, messages and replies.
 
-use crate::again::{again, again_if};
+use crate::again::{again, are};
 use dsx_messages::{Message, MessageFault, Reply, Request, read, read_reply, write_reply};
 use std::alloc::{AllocError, Global};
 use std::process::Abort;
-use std::test::Fail;
 use tlv24::{Bytes, FlowTlv, Tlv, TlvFault, Tlvs, read_flow, write_flow};
 
 /// An addition of two encodings that admit and activate, under transaction 1 and reference 1.
@@ -17,82 +16,83 @@ const REPLY: [u8; 20] = [
     16, 0, 1, 0, 24, 14, 1, 2, 0, 1, 2, 4, 0, 0, 1, 1, 3, 2, 1, 1,
 ];
 
-/// Bytes, and once more where that finds no memory.
-fn bytes_of(alloc: Global, bytes: &[u8]) -> Result<Bytes, AllocError> {
-    Ok(again!(Bytes::from_slice(alloc, bytes)))
+/// Whether bytes are copied, and are the reply.
+fn is_copied(alloc: Global, bytes: &Bytes) -> bool {
+    match &again!(bytes.copy(alloc)) {
+        Ok(copied) => are(bytes.as_slice(), &REPLY) && are(copied.as_slice(), &REPLY),
+        Err(_) => false,
+    }
 }
 
-/// A copy of bytes.
-fn copied(alloc: Global, bytes: &Bytes) -> Result<Bytes, AllocError> {
-    Ok(again!(bytes.copy(alloc)))
-}
-
-#[test]
-fn bytes_are_copied(rt: HostRuntime) -> Result<(), Fail> {
-    let bytes = bytes_of(rt.alloc(), &REPLY)?;
-    let copied = copied(rt.alloc(), &bytes)?;
-    assert_eq!(rt;
-        (bytes.as_slice(), copied.as_slice()),
-        (REPLY.as_slice(), REPLY.as_slice())
-    );
-    Ok(())
+/// Whether the reply's bytes are made, and copied.
+fn reply_bytes_are_copied(alloc: Global) -> bool {
+    match &again!(Bytes::from_slice(alloc, &REPLY)) {
+        Ok(bytes) => is_copied(alloc, bytes),
+        Err(_) => false,
+    }
 }
 
 /// What is split, and once more where that finds no memory.
-fn split(rt: &impl Abort, alloc: Global, list: &[u8]) -> Result<Vec<Tlv>, Fail> {
-    Ok(again_if!(rt, Tlvs::split(alloc, list), TlvFault::NoMemory))
+fn split(alloc: Global, list: &[u8]) -> Result<Vec<Tlv>, TlvFault> {
+    again!(Tlvs::split(alloc, list), TlvFault::NoMemory)
 }
 
 /// Whether these are an empty TLV of type 27, and one of type 31 with one byte.
 fn are_split(tlvs: &[Tlv]) -> bool {
-    let [first, second] = tlvs else {
-        return false;
-    };
-    first.kind == 27
-        && first.value.as_slice().is_empty()
-        && second.kind == 31
-        && second.value.as_slice() == [7].as_slice()
+    match tlvs {
+        [first, second] => {
+            first.kind == 27
+                && second.kind == 31
+                && are(first.value.as_slice(), &[])
+                && are(second.value.as_slice(), &[7])
+        }
+        _ => false,
+    }
 }
 
-#[test]
-fn tlvs_are_split(rt: HostRuntime) -> Result<(), Fail> {
-    let tlvs = split(&rt, rt.alloc(), &[27, 0, 31, 1, 7])?;
-    assert!(rt; are_split(tlvs.as_slice()));
-    Ok(())
+/// Whether the list of both is split.
+fn tlvs_are_split(alloc: Global) -> bool {
+    match &split(alloc, &[27, 0, 31, 1, 7]) {
+        Ok(tlvs) => are_split(tlvs.as_slice()),
+        Err(_) => false,
+    }
 }
 
 /// Reference 1, set types admitted and active, best effort.
 const ENCODING: [u8; 10] = [1, 2, 0, 1, 6, 1, 6, 15, 1, 2];
 
-/// The flow that the encoding says.
-fn flow() -> Result<FlowTlv, Fail> {
-    Ok(read_flow(&ENCODING).ok().ok_or("no flow")?)
+/// Whether a flow is written so.
+fn is_encoded(alloc: Global, flow: &FlowTlv) -> bool {
+    match &again!(write_flow(alloc, flow)) {
+        Ok(written) => are(written.as_slice(), &ENCODING),
+        Err(_) => false,
+    }
 }
 
-/// A flow's encoding, and once more where that finds no memory.
-fn flow_written(alloc: Global, flow: &FlowTlv) -> Result<Vec<u8>, AllocError> {
-    Ok(again!(write_flow(alloc, flow)))
-}
-
-#[test]
-fn a_flow_encoding_is_written(rt: HostRuntime) -> Result<(), Fail> {
-    let written = flow_written(rt.alloc(), &flow()?)?;
-    assert_eq!(rt; written.as_slice(), ENCODING.as_slice());
-    Ok(())
+/// Whether the flow that the encoding says is written so.
+fn flow_encoding_is_written(alloc: Global) -> bool {
+    match &read_flow(&ENCODING) {
+        Ok(flow) => is_encoded(alloc, flow),
+        Err(_) => false,
+    }
 }
 
 /// What bytes say, and once more where that finds no memory.
-fn message(rt: &impl Abort, alloc: Global, bytes: &[u8]) -> Result<Message, Fail> {
-    Ok(again_if!(rt, read(alloc, bytes), MessageFault::NoMemory))
+fn message(alloc: Global, bytes: &[u8]) -> Result<Message, MessageFault> {
+    again!(read(alloc, bytes), MessageFault::NoMemory)
+}
+
+/// Whether a flow is of reference 1 and of this set type.
+fn is_one(flow: &FlowTlv, set_type: u8) -> bool {
+    flow.get_reference() == Some(1) && flow.get_set_type() == Some(set_type)
 }
 
 /// Whether these are two flows of reference 1, the one with set type 2 and the other with 4.
 fn are_two(flows: &[FlowTlv]) -> bool {
-    let [first, second] = flows else {
-        return false;
-    };
-    (first.get_reference(), first.get_set_type()) == (Some(1), Some(2))
-        && (second.get_reference(), second.get_set_type()) == (Some(1), Some(4))
+    match flows {
+        [first, second] => is_one(first, 2) && is_one(second, 4),
+        _ => false,
+    }
 }
 
 /// Whether a message is the addition.
@@ -103,26 +103,36 @@ fn is_addition(message: &Message) -> bool {
     }
 }
 
+/// Whether the addition is read.
+fn addition_is_read(alloc: Global) -> bool {
+    match &message(alloc, &ADDITION) {
+        Ok(message) => is_addition(message),
+        Err(_) => false,
+    }
+}
+
+/// Whether a reply's bytes are those of the reply.
+fn is_spelled(alloc: Global, reply: &Reply) -> bool {
+    match &again!(write_reply(alloc, reply)) {
+        Ok(written) => are(written.as_slice(), &REPLY),
+        Err(_) => false,
+    }
+}
+
+/// Whether the reply that the bytes say is written so.
+fn reply_is_written(alloc: Global) -> bool {
+    match &read_reply(&REPLY) {
+        Some(reply) => is_spelled(alloc, reply),
+        None => false,
+    }
+}
+
 #[test]
-fn a_message_is_read(rt: HostRuntime) -> Result<(), Fail> {
-    let message = message(&rt, rt.alloc(), &ADDITION)?;
-    assert!(rt; is_addition(&message));
-    Ok(())
-}
-
-/// The reply that the bytes say.
-fn reply() -> Result<Reply, Fail> {
-    Ok(read_reply(&REPLY).ok_or("no reply")?)
-}
-
-/// The bytes of a reply, and once more where that finds no memory.
-fn reply_written(alloc: Global, reply: &Reply) -> Result<Vec<u8>, AllocError> {
-    Ok(again!(write_reply(alloc, reply)))
-}
-
-#[test]
-fn a_reply_is_written(rt: HostRuntime) -> Result<(), Fail> {
-    let written = reply_written(rt.alloc(), &reply()?)?;
-    assert_eq!(rt; written.as_slice(), REPLY.as_slice());
-    Ok(())
+fn bytes_encodings_messages_and_replies(rt: HostRuntime) {
+    let alloc = rt.alloc();
+    assert!(rt; reply_bytes_are_copied(alloc));
+    assert!(rt; tlvs_are_split(alloc));
+    assert!(rt; flow_encoding_is_written(alloc));
+    assert!(rt; addition_is_read(alloc));
+    assert!(rt; reply_is_written(alloc));
 }

@@ -1,45 +1,19 @@
 //! Ledgers, kept responses, and plant files.
 
-use crate::again::{again, again_if};
+use crate::again::{again, are};
 use admission::{Budget, Ledger};
 use dsx_messages::{Kind, Modem};
 use plant::Plant;
 use slice_table::{PlantFault, read_plant};
 use std::alloc::{AllocError, Global};
 use std::process::Abort;
-use std::test::Fail;
 use tlv24::Bytes;
 use transactions::{Kept, KeptEntry, Timers};
-use worked_plants::{OPERATOR_A, OPERATOR_B, SHARED, changed};
-
-/// A class.
-const GOLD: &str = "
-[[class]]
-name = \"gold\"
-encoding = \"0F0102070105\"
-";
-
-/// A flow of that class, provisioned for operator A's first modem.
-const FLOW: &str = "
-[[operator.flow]]
-modem = \"020000000001\"
-encoding = \"0405676F6C6400060107\"
-";
-
-/// The plant of two operators with that class, that flow, and the second's backlogs served shortest first.
-fn plant_text(alloc: Global) -> Result<String, Fail> {
-    let b = changed(alloc, OPERATOR_B, "strict", "short")?;
-    Ok(format!(in alloc; "{SHARED}{GOLD}{OPERATOR_A}{FLOW}{b}")?)
-}
+use worked_plants::CLASSED;
 
 const ONE: Modem = Modem([2, 0, 0, 0, 0, 1]);
 
 const THREE: Modem = Modem([2, 0, 0, 0, 0, 3]);
-
-/// A ledger of two rows, and once more where that finds no memory.
-fn ledger(alloc: Global) -> Result<Ledger, AllocError> {
-    Ok(again!(Ledger::new(alloc, 2)))
-}
 
 /// Whether a ledger takes a flow's row.
 fn takes(ledger: &mut Ledger, sfid: u32) -> bool {
@@ -50,79 +24,97 @@ fn takes(ledger: &mut Ledger, sfid: u32) -> bool {
     ledger.add(sfid, budget).is_ok()
 }
 
-#[test]
-fn a_ledger_is_made(rt: HostRuntime) -> Result<(), Fail> {
-    let mut ledger = ledger(rt.alloc())?;
-    let taken = [takes(&mut ledger, 257), takes(&mut ledger, 258)];
-    assert_eq!(rt; taken, [true, true]);
-    Ok(())
+/// Whether a ledger of two rows is made, and takes two.
+fn two_are_taken(alloc: Global) -> bool {
+    match &mut again!(Ledger::new(alloc, 2)) {
+        Ok(ledger) => takes(ledger, 257) && takes(ledger, 258),
+        Err(_) => false,
+    }
 }
 
 /// A table of two responses that are sent again at the first tick and given up at the second, empty yet.
 fn kept(alloc: Global) -> Result<Kept, AllocError> {
-    Ok(again!(Kept::new(alloc, 2, Timers::new(1, 1, 5))))
+    again!(Kept::new(alloc, 2, Timers::new(1, 1, 5)))
 }
 
-/// Begins a transaction with a reply of four bytes.
-fn begin(
+/// Whether a transaction with a reply of four bytes is begun.
+fn begins(
     alloc: Global,
     kept: &mut Kept,
     modem: Modem,
     kind: Kind,
     reply: [u8; 4],
-) -> Result<(), Fail> {
+) -> Result<bool, AllocError> {
     let reply = Bytes::from_slice(alloc, &reply)?;
-    let begun = kept.begin(modem, 1, kind, reply, 257, true);
-    Ok(begun.ok().ok_or("not begun")?)
+    Ok(kept.begin(modem, 1, kind, reply, 257, true).is_ok())
 }
 
-/// The table with both.
-fn two_kept(alloc: Global) -> Result<Kept, Fail> {
+/// Whether both are begun.
+fn both_begin(alloc: Global, kept: &mut Kept) -> Result<bool, AllocError> {
+    let first = begins(alloc, kept, ONE, Kind::Dsa, [16, 0, 1, 0])?;
+    let second = begins(alloc, kept, THREE, Kind::Dsc, [13, 0, 1, 0])?;
+    Ok(first && second)
+}
+
+/// Whether a tick sends so many responses again, and gives up so many.
+fn ticks(alloc: Global, kept: &mut Kept, resent: usize, given_up: usize) -> bool {
+    match &again!(kept.tick(alloc)) {
+        Ok(told) => {
+            told.resend.as_slice().len() == resent && told.given_up.as_slice().len() == given_up
+        }
+        Err(_) => false,
+    }
+}
+
+/// Whether both are sent again, and then given up.
+fn run_out(alloc: Global, kept: &mut Kept) -> bool {
+    ticks(alloc, kept, 2, 0) && ticks(alloc, kept, 0, 2) && kept.is_empty()
+}
+
+/// Whether a tick would send two responses again.
+fn two_would_be_sent(alloc: Global, kept: &Kept) -> bool {
+    match &again!(kept.resends(alloc)) {
+        Ok(resends) => resends.as_slice().len() == 2,
+        Err(_) => false,
+    }
+}
+
+/// Whether an entry is copied, with the first reply.
+fn is_copied(alloc: Global, entry: &KeptEntry) -> bool {
+    match &again!(entry.copy(alloc)) {
+        Ok(copied) => are(copied.reply.as_slice(), &[16, 0, 1, 0]),
+        Err(_) => false,
+    }
+}
+
+/// Whether the first entry is copied.
+fn first_is_copied(alloc: Global, kept: &Kept) -> bool {
+    match kept.entries() {
+        [first, ..] => is_copied(alloc, first),
+        [] => false,
+    }
+}
+
+/// Whether both are begun, copied, sent again and given up. A tick that is refused counts no timer on.
+fn both_go_their_way(alloc: Global, kept: &mut Kept) -> Result<bool, AllocError> {
+    let begun = both_begin(alloc, kept)?;
+    Ok(
+        begun
+            && two_would_be_sent(alloc, kept)
+            && first_is_copied(alloc, kept)
+            && run_out(alloc, kept),
+    )
+}
+
+/// The same of a table that is empty yet.
+fn kept_go_their_way(alloc: Global) -> Result<bool, AllocError> {
     let mut kept = kept(alloc)?;
-    begin(alloc, &mut kept, ONE, Kind::Dsa, [16, 0, 1, 0])?;
-    begin(alloc, &mut kept, THREE, Kind::Dsc, [13, 0, 1, 0])?;
-    Ok(kept)
-}
-
-/// How many responses a tick sends again, and how many it gives up.
-fn ticked(alloc: Global, kept: &mut Kept) -> Result<(usize, usize), AllocError> {
-    let told = again!(kept.tick(alloc));
-    Ok((told.resend.as_slice().len(), told.given_up.as_slice().len()))
-}
-
-/// A tick that is refused counts no timer on.
-#[test]
-fn kept_responses_are_sent_again_and_given_up(rt: HostRuntime) -> Result<(), Fail> {
-    let mut kept = two_kept(rt.alloc())?;
-    let first = ticked(rt.alloc(), &mut kept)?;
-    let second = ticked(rt.alloc(), &mut kept)?;
-    assert_eq!(rt; (first, second, kept.is_empty()), ((2, 0), (0, 2), true));
-    Ok(())
-}
-
-/// What a tick would send again.
-fn resend_count(alloc: Global, kept: &Kept) -> Result<usize, AllocError> {
-    let resends = again!(kept.resends(alloc));
-    Ok(resends.as_slice().len())
-}
-
-/// The copy of an entry.
-fn copied(alloc: Global, entry: &KeptEntry) -> Result<KeptEntry, AllocError> {
-    Ok(again!(entry.copy(alloc)))
-}
-
-/// The reply of a copy of the first entry.
-fn first_reply(alloc: Global, kept: &Kept) -> Result<Bytes, Fail> {
-    let entry = kept.entries().first().ok_or("no entry")?;
-    Ok(copied(alloc, entry)?.reply)
+    both_go_their_way(alloc, &mut kept)
 }
 
 #[test]
-fn kept_responses_are_copied(rt: HostRuntime) -> Result<(), Fail> {
-    let kept = two_kept(rt.alloc())?;
-    let count = resend_count(rt.alloc(), &kept)?;
-    let reply = first_reply(rt.alloc(), &kept)?;
-    assert_eq!(rt; (count, reply.as_slice()), (2, [16, 0, 1, 0].as_slice()));
+fn kept_responses_are_copied_sent_again_and_given_up(rt: HostRuntime) -> Result<(), AllocError> {
+    assert!(rt; kept_go_their_way(rt.alloc())?);
     Ok(())
 }
 
@@ -134,21 +126,29 @@ fn is_the_plant(plant: &Plant) -> bool {
         && plant.consts().get_fields().classes.as_slice().len() == 1
 }
 
-/// The plant of a text, and once more where that finds no memory.
-fn plant_in(rt: &impl Abort, alloc: Global, text: &str) -> Result<Plant, Fail> {
-    Ok(again_if!(rt, read_plant(alloc, text), PlantFault::NoMemory))
+/// The plant of the text, and once more where that finds no memory.
+fn plant_again(alloc: Global) -> Result<Plant, PlantFault> {
+    again!(read_plant(alloc, CLASSED), PlantFault::NoMemory)
+}
+
+/// Whether the plant of the text is read.
+fn plant_is_read(alloc: Global) -> bool {
+    match plant_again(alloc) {
+        Ok(plant) => is_the_plant(&plant),
+        Err(_) => false,
+    }
 }
 
 #[test]
-fn a_plant_is_read(rt: HostRuntime) -> Result<(), Fail> {
-    let text = plant_text(rt.alloc())?;
-    let plant = plant_in(&rt, rt.alloc(), text.as_str())?;
-    assert!(rt; is_the_plant(&plant));
-    Ok(())
+fn a_ledger_is_made_and_a_plant_read(rt: HostRuntime) {
+    assert!(rt; two_are_taken(rt.alloc()));
+    assert!(rt; plant_is_read(rt.alloc()));
 }
 
 /// The plant of the text.
-pub(crate) fn plant(alloc: Global) -> Result<Plant, Fail> {
-    let text = plant_text(alloc)?;
-    Ok(read_plant(alloc, text.as_str()).ok().ok_or("no memory")?)
+pub(crate) fn plant(alloc: Global) -> Result<Plant, AllocError> {
+    match read_plant(alloc, CLASSED) {
+        Ok(plant) => Ok(plant),
+        Err(_) => Err(AllocError),
+    }
 }

@@ -47,8 +47,27 @@ transactions = 4
 inbox = 4
 budget = 32
 elements = 8
-policy = \"strict\"
 modems = [\"020000000003\"]
+")
+    };
+    ([strict $($more:ident)*] $($text:tt)*) => {
+        tables!([$($more)*] $($text)* "policy = \"strict\"\n")
+    };
+    ([short $($more:ident)*] $($text:tt)*) => {
+        tables!([$($more)*] $($text)* "policy = \"short\"\n")
+    };
+    ([gold $($more:ident)*] $($text:tt)*) => {
+        tables!([$($more)*] $($text)* "
+[[class]]
+name = \"gold\"
+encoding = \"0F0102070105\"
+")
+    };
+    ([flow_of_gold $($more:ident)*] $($text:tt)*) => {
+        tables!([$($more)*] $($text)* "
+[[operator.flow]]
+modem = \"020000000001\"
+encoding = \"0405676F6C6400060107\"
 ")
     };
 }
@@ -60,10 +79,14 @@ pub const SHARED: &str = tables!([shared]);
 pub const OPERATOR_A: &str = tables!([operator_a]);
 
 /// Operator B's table: minislots 40 to 71, the modem 020000000003.
-pub const OPERATOR_B: &str = tables!([operator_b]);
+pub const OPERATOR_B: &str = tables!([operator_b strict]);
 
 /// A plant of operator A alone.
 pub const ALONE: &str = tables!([shared operator_a]);
 
 /// A plant of both operators.
-pub const PLANT: &str = tables!([shared operator_a operator_b]);
+pub const PLANT: &str = tables!([shared operator_a operator_b strict]);
+
+/// A plant of both operators with a class, a flow of it that is provisioned for operator A's first modem, and operator B's backlogs served
+/// shortest first.
+pub const CLASSED: &str = tables!([shared gold operator_a flow_of_gold operator_b short]);

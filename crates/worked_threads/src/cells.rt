@@ -3,228 +3,235 @@
 ghost use Rattle.std.specs.Prelude.{◌<◌, ◌^◌};
 
 use crate::opening::{modem, opened, strict};
-use hex::{decode, encode_upper};
-use operator_book::{Action, BookFault, Heard, Output};
+use operator_book::{Action, BookFault, Cause, Heard, Output};
 use plant_workers::{CellFault, OpenGate, OperatorCell, Receipt};
-use slice_scheduler::{Elements, Span};
+use slice_scheduler::{Elements, Iuc, Span};
 use std::alloc::{AllocError, Global};
 use std::process::Abort;
 use std::sync::Wait;
-use std::test::Fail;
 use tlv24::Bytes;
 
 /// A message that adds a flow.
-const ADDITION: &str = "0F0001180A010200010601060F0102";
+const ADDITION: [u8; 15] = [15, 0, 1, 24, 10, 1, 2, 0, 1, 6, 1, 6, 15, 1, 2];
 
-/// The message that digits spell.
-fn message(alloc: Global, digits: &str) -> Result<Heard, Fail> {
-    let bytes = decode(alloc, digits).ok().ok_or("no digits")?;
-    Ok(Heard::Message(Bytes::from_slice(alloc, bytes.as_slice())?))
-}
+/// The reply: the first addition gets the least SFID and SID, 257 both.
+const REPLY: [u8; 20] = [
+    16, 0, 1, 0, 24, 14, 1, 2, 0, 1, 2, 4, 0, 0, 1, 1, 3, 2, 1, 1,
+];
 
-/// Writes an output: the digits of a reply, the cause of silence, or the number of a frame.
-fn put_output(alloc: Global, text: &mut String, output: &Output) -> Result<(), AllocError> {
-    match output {
-        Output::Reply { modem: _, bytes } => {
-            text.push_str(" ")?;
-            text.push_str(encode_upper(alloc, bytes.as_slice())?.as_str())
-        }
-        Output::Silent { modem: _, cause } => {
-            text.push_str(format!(in alloc; " {cause:?}")?.as_str())
-        }
-        Output::Frame {
-            number,
-            elements: _,
-        } => { text.push_str(format!(in alloc; " frame {number}")?.as_str()) }
-    }
-}
+/// An idle frame is one span of the whole slice.
+const IDLE: [Span; 1] = [Span {
+    sid: 0,
+    iuc: Iuc::Long,
+    start: 8,
+    len: 32,
+}];
 
-/// Writes some outputs.
-fn put_outputs(alloc: Global, text: &mut String, outputs: &[Output]) -> Result<(), AllocError> {
-    for output in outputs {
-        put_output(alloc, text, output)?;
-    }
-    Ok(())
-}
-
-/// Writes a line of a receipt: its index and its outputs; or of a fault.
-fn put_answer(
+/// Whether an addition of the operator's first modem is answered by a receipt at this place that puts out nothing.
+fn arrives<R: Wait>(
+    rt: &R,
     alloc: Global,
-    text: &mut String,
-    answer: Result<Receipt, CellFault>,
-) -> Result<(), Fail> {
+    cell: &OperatorCell,
+    index: usize,
+) -> Result<bool, AllocError> {
+    let heard = Heard::Message(Bytes::from_slice(alloc, &ADDITION)?);
+    match &cell.arrive(rt, alloc, modem(1), heard) {
+        Ok(receipt) => Ok(receipt.index == index && receipt.outputs.as_slice().is_empty()),
+        Err(_) => Ok(false),
+    }
+}
+
+/// Whether the reply is all that is put out.
+fn is_reply(outputs: &[Output]) -> bool {
+    match outputs {
+        [Output::Reply { modem: _, bytes }] => bytes.as_slice() == REPLY.as_slice(),
+        _ => false,
+    }
+}
+
+/// Whether work is answered by a receipt at this place with the reply.
+fn replies<R: Wait>(rt: &R, alloc: Global, cell: &OperatorCell, index: usize) -> bool {
+    match &cell.work(rt, alloc) {
+        Ok(receipt) => receipt.index == index && is_reply(receipt.outputs.as_slice()),
+        Err(_) => false,
+    }
+}
+
+/// Whether silence at an empty inbox is all that is put out.
+fn is_idle(outputs: &[Output]) -> bool {
+    match outputs {
+        [Output::Silent { modem: _, cause }] => *cause == Cause::Idle,
+        _ => false,
+    }
+}
+
+/// Whether work is answered by a receipt at this place: there is nothing to do.
+fn idles<R: Wait>(rt: &R, alloc: Global, cell: &OperatorCell, index: usize) -> bool {
+    match &cell.work(rt, alloc) {
+        Ok(receipt) => receipt.index == index && is_idle(receipt.outputs.as_slice()),
+        Err(_) => false,
+    }
+}
+
+/// Whether a frame is all that is put out.
+fn is_frame(outputs: &[Output], wanted: u32) -> bool {
+    match outputs {
+        [
+            Output::Frame {
+                number,
+                elements: _,
+            },
+        ] => *number == wanted,
+        _ => false,
+    }
+}
+
+/// Whether an answer is a receipt at this place with a frame.
+fn has_frame(answer: &Result<Receipt, CellFault>, index: usize, number: u32) -> bool {
     match answer {
-        Ok(receipt) => {
-            text.push_str(format!(in alloc; "\n{}", receipt.index)?.as_str())?;
-            put_outputs(alloc, text, receipt.outputs.as_slice())?;
-        }
-        Err(CellFault::Book(BookFault::NotMine { modem: _ })) => text.push_str("\nnot mine")?,
-        Err(CellFault::Book(_)) => text.push_str("\nrefused")?,
-        Err(CellFault::Passed { op, index }) => {
-            text.push_str(format!(in alloc; "\npassed {op} {index}")?.as_str())?;
-        }
-        Err(CellFault::Stopped { op }) => {
-            text.push_str(format!(in alloc; "\nstopped {op}")?.as_str())?;
-        }
+        Ok(receipt) => receipt.index == index && is_frame(receipt.outputs.as_slice(), number),
+        Err(_) => false,
     }
-    Ok(())
 }
 
-/// Writes spans.
-fn put_spans(alloc: Global, text: &mut String, spans: &[Span]) -> Result<(), AllocError> {
-    for span in spans {
-        let iuc = span.iuc;
-        let line = format!(in alloc; " {}/{iuc:?}/{}/{}", span.sid, span.start, span.len)?;
-        text.push_str(line.as_str())?;
+/// Whether a tick is answered so.
+fn ticks<R: Wait>(rt: &R, alloc: Global, cell: &OperatorCell, index: usize, number: u32) -> bool {
+    has_frame(&cell.tick(rt, alloc), index, number)
+}
+
+/// Whether a tick in this turn is answered so.
+fn ticks_at<R: Wait>(
+    rt: &R,
+    alloc: Global,
+    cell: &OperatorCell,
+    index: usize,
+    number: u32,
+) -> bool {
+    let answer = cell.in_turn(rt, alloc, index, Action::Tick, &OpenGate);
+    has_frame(&answer, index, number)
+}
+
+/// Whether what is taken is an idle frame.
+fn is_taken(taken: &Option<(u32, Elements)>, wanted: u32) -> bool {
+    match taken {
+        Some((number, elements)) => { *number == wanted && elements.get_spans() == IDLE.as_slice() }
+        None => false,
     }
-    Ok(())
 }
 
-/// Writes a line of a frame that was taken: its number and its spans.
-fn put_frame(
-    alloc: Global,
-    text: &mut String,
-    taken: Option<(u32, Elements)>,
-) -> Result<(), AllocError> {
-    let Some((number, elements)) = taken else {
-        return text.push_str("\nnone");
-    };
-    text.push_str(format!(in alloc; "\nframe {number}")?.as_str())?;
-    put_spans(alloc, text, elements.get_spans())
+/// Whether an idle frame is collected.
+fn collects<R: Wait>(rt: &R, alloc: Global, cell: &OperatorCell, number: u32) -> bool {
+    match &cell.collect(rt, alloc) {
+        Ok(taken) => is_taken(taken, number),
+        Err(_) => false,
+    }
 }
 
-/// Works, and writes what is answered.
-fn work<R: Wait>(
+/// Whether no frame waits to be collected.
+fn collects_none<R: Wait>(rt: &R, alloc: Global, cell: &OperatorCell) -> bool {
+    matches!(&cell.collect(rt, alloc), Ok(None))
+}
+
+/// Whether an idle frame is collected behind so many actions.
+fn collects_behind<R: Wait>(
     rt: &R,
     alloc: Global,
     cell: &OperatorCell,
-    text: &mut String,
-) -> Result<(), Fail> {
-    put_answer(alloc, text, cell.work(rt, alloc))
+    index: usize,
+    number: u32,
+) -> bool {
+    match &cell.collect_after(rt, alloc, index) {
+        Ok(taken) => is_taken(taken, number),
+        Err(_) => false,
+    }
 }
 
-/// Ticks, and writes what is answered.
-fn tick<R: Wait>(
+/// Whether a turn is refused by this.
+fn refuses<R: Wait>(
     rt: &R,
     alloc: Global,
     cell: &OperatorCell,
-    text: &mut String,
-) -> Result<(), Fail> {
-    put_answer(alloc, text, cell.tick(rt, alloc))
-}
-
-/// Collects a frame, and writes it.
-fn collect<R: Wait>(
-    rt: &R,
-    alloc: Global,
-    cell: &OperatorCell,
-    text: &mut String,
-) -> Result<(), Fail> {
-    put_frame(alloc, text, cell.collect(rt, alloc)?)?;
-    Ok(())
-}
-
-/// Acts in a turn, and writes what is answered.
-fn turn<R: Wait>(
-    rt: &R,
-    alloc: Global,
-    cell: &OperatorCell,
-    text: &mut String,
     index: usize,
     action: Action,
-) -> Result<(), Fail> {
-    let answer = cell.in_turn(rt, alloc, index, action, &OpenGate);
-    put_answer(alloc, text, answer)
-}
-
-/// Collects a frame behind so many actions, and writes it, or that the turns have stopped.
-fn collect_after<R: Wait>(
-    rt: &R,
-    alloc: Global,
-    cell: &OperatorCell,
-    text: &mut String,
-    index: usize,
-) -> Result<(), Fail> {
-    match cell.collect_after(rt, alloc, index) {
-        Ok(taken) => put_frame(alloc, text, taken)?,
-        Err(fault) => put_answer(alloc, text, Err(fault))?,
+    wanted: CellFault,
+) -> bool {
+    match &cell.in_turn(rt, alloc, index, action, &OpenGate) {
+        Ok(_) => false,
+        Err(fault) => *fault == wanted,
     }
-    Ok(())
 }
 
-/// An addition of the operator's first modem arrives, and what is answered is written.
-fn arrive<R: Wait>(
+/// Whether work in this turn is refused since the turns have stopped.
+fn has_stopped<R: Wait>(rt: &R, alloc: Global, cell: &OperatorCell, index: usize) -> bool {
+    refuses(
+        rt,
+        alloc,
+        cell,
+        index,
+        Action::Work,
+        CellFault::Stopped { op: 0 },
+    )
+}
+
+/// Whether a frame behind so many actions is refused since the turns have stopped.
+fn has_stopped_collecting<R: Wait>(
     rt: &R,
     alloc: Global,
     cell: &OperatorCell,
-    text: &mut String,
-) -> Result<(), Fail> {
-    let heard = message(alloc, ADDITION)?;
-    put_answer(alloc, text, cell.arrive(rt, alloc, modem(1), heard))
+    index: usize,
+) -> bool {
+    match &cell.collect_after(rt, alloc, index) {
+        Ok(_) => false,
+        Err(fault) => *fault == CellFault::Stopped { op: 0 },
+    }
 }
 
-/// The arrival of a modem of another operator.
-fn stranger() -> Action {
-    Action::Arrive {
+/// Receipts and frames are answered.
+fn answers<R: Wait>(rt: &R, alloc: Global, cell: &OperatorCell) -> Result<bool, AllocError> {
+    Ok(
+        arrives(rt, alloc, cell, 0)?
+            && replies(rt, alloc, cell, 1)
+            && ticks(rt, alloc, cell, 2, 0)
+            && collects(rt, alloc, cell, 0)
+            && ticks_at(rt, alloc, cell, 3, 1)
+            && collects_behind(rt, alloc, cell, 4, 1),
+    )
+}
+
+/// A place that the history has passed is told, with the operator and the place.
+fn refuses_the_past<R: Wait>(rt: &R, alloc: Global, cell: &OperatorCell) -> bool {
+    let passed = CellFault::Passed { op: 0, index: 0 };
+    idles(rt, alloc, cell, 0) && refuses(rt, alloc, cell, 0, Action::Work, passed)
+}
+
+/// Where the turns have stopped each is refused, also one that would be past; what waits for no turn goes on.
+fn stops<R: Wait>(rt: &R, alloc: Global, cell: &OperatorCell) -> bool {
+    let begun = idles(rt, alloc, cell, 0);
+    cell.stop(rt);
+    begun
+        && has_stopped(rt, alloc, cell, 0)
+        && has_stopped(rt, alloc, cell, 1)
+        && has_stopped(rt, alloc, cell, 9)
+        && has_stopped_collecting(rt, alloc, cell, 9)
+        && idles(rt, alloc, cell, 1)
+}
+
+/// Whether the arrival of a modem of another operator is refused in this turn.
+fn refuses_a_stranger<R: Wait>(rt: &R, alloc: Global, cell: &OperatorCell, index: usize) -> bool {
+    let arrival = Action::Arrive {
         modem: modem(3),
         heard: Heard::Request {
             sid: 257,
             minislots: 1,
         },
-    }
+    };
+    let stranger = CellFault::Book(BookFault::NotMine { modem: modem(3) });
+    refuses(rt, alloc, cell, index, arrival, stranger)
 }
 
-/// A call on a cell. One that names a place is made in that turn.
-#[derive(Clone, Copy)]
-enum Call {
-    Arrive,
-    Work,
-    Tick,
-    Collect,
-    WorkAt(usize),
-    TickAt(usize),
-    /// The arrival of a modem of another operator.
-    StrangerAt(usize),
-    CollectBehind(usize),
-    Stop,
-}
-
-/// Makes a call, and writes what is answered.
-fn answer<R: Wait>(
-    rt: &R,
-    alloc: Global,
-    cell: &OperatorCell,
-    text: &mut String,
-    call: Call,
-) -> Result<(), Fail> {
-    match call {
-        Call::Arrive => arrive(rt, alloc, cell, text),
-        Call::Work => work(rt, alloc, cell, text),
-        Call::Tick => tick(rt, alloc, cell, text),
-        Call::Collect => collect(rt, alloc, cell, text),
-        Call::WorkAt(index) => turn(rt, alloc, cell, text, index, Action::Work),
-        Call::TickAt(index) => turn(rt, alloc, cell, text, index, Action::Tick),
-        Call::StrangerAt(index) => turn(rt, alloc, cell, text, index, stranger()),
-        Call::CollectBehind(index) => collect_after(rt, alloc, cell, text, index),
-        Call::Stop => {
-            cell.stop(rt);
-            Ok(())
-        }
-    }
-}
-
-/// Makes calls, and writes what is answered.
-fn make<R: Wait>(
-    rt: &R,
-    alloc: Global,
-    cell: &OperatorCell,
-    text: &mut String,
-    calls: &[Call],
-) -> Result<(), Fail> {
-    for each in calls {
-        answer(rt, alloc, cell, text, *each)?;
-    }
-    Ok(())
+/// A turn that is refused stops the cell: a modem of another operator, and then the turn that would have been next.
+fn is_stopped_by_a_stranger<R: Wait>(rt: &R, alloc: Global, cell: &OperatorCell) -> bool {
+    refuses_a_stranger(rt, alloc, cell, 0) && has_stopped(rt, alloc, cell, 0)
 }
 
 /// A cell with the book and the frames of another, which is taken apart.
@@ -235,86 +242,60 @@ fn again(cell: OperatorCell) -> OperatorCell
     OperatorCell::again(0, book, taken)
 }
 
-/// What calls on the cell of operator A answer, line by line, and then others on the cell that it is once it was taken apart and put
-/// together again.
-fn told<R: Wait>(rt: &R, alloc: Global, calls: &[Call], others: &[Call]) -> Result<String, Fail> {
-    let mut text = String::new(alloc);
-    let cell = opened(alloc, strict!(alloc))?;
-    make(rt, alloc, &cell, &mut text, calls)?;
-    make(rt, alloc, &again(cell), &mut text, others)?;
-    Ok(text)
-}
-
-/// The first addition gets the least SFID and SID, 257 both, and an idle frame is one span of the whole slice.
-#[test]
-fn a_cell_answers_receipts_and_frames(rt: HostRuntime) -> Result<(), Fail> {
-    let calls = [
-        Call::Arrive,
-        Call::Work,
-        Call::Tick,
-        Call::Collect,
-        Call::TickAt(3),
-        Call::CollectBehind(4),
-    ];
-    let text = told(&rt, rt.alloc(), &calls, &[])?;
-    let wanted = "
-0
-1 10000100180E0102000102040000010103020101
-2 frame 0
-frame 0 0/Long/8/32
-3 frame 1
-frame 1 0/Long/8/32";
-    assert_eq!(rt; text.as_str(), wanted);
-    Ok(())
-}
-
-/// A place that the history has passed is told, with the operator and the place.
-#[test]
-fn a_turn_that_is_past_is_refused(rt: HostRuntime) -> Result<(), Fail> {
-    let text = told(&rt, rt.alloc(), &[Call::Work, Call::WorkAt(0)], &[])?;
-    assert_eq!(rt; text.as_str(), "\n0 Idle\npassed 0 0");
-    Ok(())
-}
-
-/// Where the turns have stopped each is refused, also one that would be past; what waits for no turn goes on.
-#[test]
-fn stopped_turns_are_refused(rt: HostRuntime) -> Result<(), Fail> {
-    let calls = [
-        Call::Work,
-        Call::Stop,
-        Call::WorkAt(0),
-        Call::WorkAt(1),
-        Call::WorkAt(9),
-        Call::CollectBehind(9),
-        Call::Work,
-    ];
-    let text = told(&rt, rt.alloc(), &calls, &[])?;
-    let wanted = "\n0 Idle\nstopped 0\nstopped 0\nstopped 0\nstopped 0\n1 Idle";
-    assert_eq!(rt; text.as_str(), wanted);
-    Ok(())
-}
-
-/// A turn that is refused stops the cell: a modem of another operator, and then the turn that would have been next.
-#[test]
-fn a_refused_turn_stops_the_cell(rt: HostRuntime) -> Result<(), Fail> {
-    let calls = [Call::StrangerAt(0), Call::WorkAt(0)];
-    let text = told(&rt, rt.alloc(), &calls, &[])?;
-    assert_eq!(rt; text.as_str(), "\nnot mine\nstopped 0");
-    Ok(())
+/// Two frames, of which the first is collected.
+fn begins<R: Wait>(rt: &R, alloc: Global, cell: &OperatorCell) -> bool {
+    ticks(rt, alloc, cell, 0, 0) && ticks(rt, alloc, cell, 1, 1) && collects(rt, alloc, cell, 0)
 }
 
 /// Taken apart and put together again, a cell goes on where it was: the frame that was collected is not given again.
+fn goes_on<R: Wait>(rt: &R, alloc: Global, cell: &OperatorCell) -> bool {
+    collects(rt, alloc, cell, 1) && collects_none(rt, alloc, cell)
+}
+
+/// What a cell is tried on.
+enum Case {
+    Answers,
+    Past,
+    Stop,
+    Stranger,
+    Parts,
+}
+
+/// Whether a cell with nothing done does what is wanted of it, taken apart and put together again in the midst.
+fn does<R: Wait>(
+    rt: &R,
+    alloc: Global,
+    cell: OperatorCell,
+    case: &Case,
+) -> Result<bool, AllocError> {
+    let done = match case {
+        Case::Answers => answers(rt, alloc, &cell)?,
+        Case::Past => refuses_the_past(rt, alloc, &cell),
+        Case::Stop => stops(rt, alloc, &cell),
+        Case::Stranger => is_stopped_by_a_stranger(rt, alloc, &cell),
+        Case::Parts => begins(rt, alloc, &cell),
+    };
+    let cell = again(cell);
+    match case {
+        Case::Parts => Ok(done && goes_on(rt, alloc, &cell)),
+        _ => Ok(done),
+    }
+}
+
+/// Whether the cell of operator A does what is wanted of it.
+fn cell_does<R: Wait>(rt: &R, alloc: Global, case: &Case) -> Result<bool, AllocError> {
+    match opened(alloc, strict!(alloc)) {
+        Some(cell) => does(rt, alloc, cell, case),
+        None => Ok(false),
+    }
+}
+
 #[test]
-fn a_cell_goes_on_from_its_parts(rt: HostRuntime) -> Result<(), Fail> {
-    let calls = [Call::Tick, Call::Tick, Call::Collect];
-    let others = [Call::Collect, Call::Collect];
-    let text = told(&rt, rt.alloc(), &calls, &others)?;
-    let wanted = "
-0 frame 0
-1 frame 1
-frame 0 0/Long/8/32
-frame 1 0/Long/8/32
-none";
-    assert_eq!(rt; text.as_str(), wanted);
+fn calls_on_a_cell_are_answered(rt: HostRuntime) -> Result<(), AllocError> {
+    assert!(rt; cell_does(&rt, rt.alloc(), &Case::Answers)?);
+    assert!(rt; cell_does(&rt, rt.alloc(), &Case::Past)?);
+    assert!(rt; cell_does(&rt, rt.alloc(), &Case::Stop)?);
+    assert!(rt; cell_does(&rt, rt.alloc(), &Case::Stranger)?);
+    assert!(rt; cell_does(&rt, rt.alloc(), &Case::Parts)?);
     Ok(())
 }

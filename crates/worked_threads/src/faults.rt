@@ -1,28 +1,27 @@
 //! The texts of faults.
 
-use dsx_messages::Modem;
+use crate::opening::modem;
 use plant_core::{CoreFault, ResliceFault};
 use plant_receipts::RunFault;
-use std::test::Fail;
+use std::alloc::{AllocError, Global};
+use std::process::Abort;
+
+/// Whether this is the text of a fault.
+fn says(alloc: Global, fault: RunFault, wanted: &str) -> Result<bool, AllocError> {
+    let text = format!(in alloc; "{fault}")?;
+    Ok(text.as_str() == wanted)
+}
 
 #[test]
-fn faults_are_sentences(rt: HostRuntime) -> Result<(), Fail> {
-    let alloc = rt.alloc();
-    let modem = Modem([2, 0, 0, 0, 0, 3]);
-    let core = RunFault::Core(CoreFault::UnknownModem { modem });
-    let text = format!(in alloc; "{core}")?;
-    assert_eq!(rt;
-        text.as_str(),
-        "a step was refused: no operator has the modem 020000000003"
-    );
-    let refused = RunFault::ResliceRefused {
+fn faults_are_sentences(rt: HostRuntime) -> Result<(), AllocError> {
+    let stranger = RunFault::Core(CoreFault::UnknownModem { modem: modem(3) });
+    let wanted = "a step was refused: no operator has the modem 020000000003";
+    assert!(rt; says(rt.alloc(), stranger, wanted)?);
+    let meeting = RunFault::ResliceRefused {
         at: 4,
         fault: ResliceFault::SlicesMeet { a: 0, b: 1 },
     };
-    let text = format!(in alloc; "{refused}")?;
-    assert_eq!(rt;
-        text.as_str(),
-        "step 4 was refused: the new slices of operators 0 and 1 meet"
-    );
+    let wanted = "step 4 was refused: the new slices of operators 0 and 1 meet";
+    assert!(rt; says(rt.alloc(), meeting, wanted)?);
     Ok(())
 }

@@ -1,13 +1,12 @@
 //! Operators that work at the same time, as a gate can see.
 
-use crate::playing::maps_of;
+use crate::playing::comes_to;
 use plant::Op;
 use plant_workers::Gate;
-use std::alloc::Global;
+use std::alloc::{AllocError, Global};
 use std::process::Abort;
 use std::sync::Wait;
 use std::sync::atomic::{AtomicU64, Ordering};
-use std::test::Fail;
 use std::thread;
 use std::thread::Threads;
 use std::time::{Clock, Duration};
@@ -43,14 +42,14 @@ impl<R: Wait, C: Clock> Gate<R> for Holds<'_, C> {
     }
 }
 
-/// Runs two operators, of which the first that is named is held inside its second action until the other's second is outside, and asserts
-/// that it was not held in vain.
-fn check_apart<R: Threads + Wait + Sync + Clock + Abort>(
+/// Whether two operators, of which the first that is named is held inside its second action until the other's second is outside, come to
+/// a MAP, and it was not held in vain.
+fn are_apart<R: Threads + Wait + Sync + Clock>(
     rt: &R,
     alloc: Global,
     held: Op,
     other: Op,
-) -> Result<(), Fail> {
+) -> Result<bool, AllocError> {
     let gate = Holds {
         clock: rt,
         held,
@@ -58,18 +57,16 @@ fn check_apart<R: Threads + Wait + Sync + Clock + Abort>(
         done: AtomicU64::new(0),
         missed: AtomicU64::new(0),
     };
-    assert_eq!(rt; maps_of(rt, alloc, &gate, &[])?, Ok(1));
-    assert_eq!(rt; gate.missed.load(Ordering::SeqCst), 0);
-    assert_eq!(rt; gate.done.load(Ordering::SeqCst), 1);
+    let ran = comes_to(rt, alloc, &gate, &[], Ok(1))?;
+    let missed = gate.missed.load(Ordering::SeqCst);
+    let done = gate.done.load(Ordering::SeqCst);
+    Ok(ran && missed == 0 && done == 1)
+}
+
+/// One way round and the other.
+#[test]
+fn one_thread_or_one_lock(rt: HostRuntime) -> Result<(), AllocError> {
+    assert!(rt; are_apart(&rt, rt.alloc(), 0, 1)?);
+    assert!(rt; are_apart(&rt, rt.alloc(), 1, 0)?);
     Ok(())
-}
-
-#[test]
-fn one_thread_or_one_lock(rt: HostRuntime) -> Result<(), Fail> {
-    check_apart(&rt, rt.alloc(), 0, 1)
-}
-
-#[test]
-fn one_thread_or_one_lock_the_other_way(rt: HostRuntime) -> Result<(), Fail> {
-    check_apart(&rt, rt.alloc(), 1, 0)
 }

@@ -3,10 +3,10 @@
 use dsx_messages::Modem;
 use grant_policy::Ranking;
 use operator_book::Book;
+use plant::Plant;
 use plant_workers::OperatorCell;
 use slice_table::read_plant;
 use std::alloc::Global;
-use std::test::Fail;
 use worked_plants::ALONE;
 
 /// The ranking by traffic priority alone. A function that hands out a ranking is not proved, so each makes its own.
@@ -28,12 +28,19 @@ pub(crate) fn modem(last: u8) -> Modem {
     Modem([2, 0, 0, 0, 0, last])
 }
 
+/// The cell of a plant's first operator with nothing done.
+fn first_opened(alloc: Global, plant: &Plant, ranking: Ranking) -> Option<OperatorCell> {
+    let row = plant.rows().get(0)?;
+    match Book::open(alloc, row, plant.consts(), ranking) {
+        Ok(book) => Some(OperatorCell::new(0, book)),
+        Err(_) => None,
+    }
+}
+
 /// The cell of operator A with nothing done.
-pub(crate) fn opened(alloc: Global, ranking: Ranking) -> Result<OperatorCell, Fail> {
-    let plant = read_plant(alloc, ALONE).ok().ok_or("no plant")?;
-    let row = plant.rows().get(0).ok_or("no row")?;
-    let book = Book::open(alloc, row, plant.consts(), ranking)
-        .ok()
-        .ok_or("no book")?;
-    Ok(OperatorCell::new(0, book))
+pub(crate) fn opened(alloc: Global, ranking: Ranking) -> Option<OperatorCell> {
+    match read_plant(alloc, ALONE) {
+        Ok(plant) => first_opened(alloc, &plant, ranking),
+        Err(_) => None,
+    }
 }

@@ -3,11 +3,10 @@
 use crate::opening::{modem, opened, strict};
 use dsx_messages::Modem;
 use operator_book::{Book, Heard};
-use plant_workers::{Callers, OperatorCell, Receipts, settle};
+use plant_workers::{Callers, CellFault, OperatorCell, Receipt, Receipts, settle};
 use std::alloc::{AllocError, Global};
 use std::process::Abort;
 use std::sync::Wait;
-use std::test::Fail;
 use std::thread;
 use std::thread::{Builder, Threads};
 
@@ -18,6 +17,14 @@ trait Plays<R: Wait> {
     fn play(&self, rt: &R, alloc: Global, modem: Modem) -> Option<Receipts>;
 }
 
+/// Keeps the receipt that is answered; whether there is one, and memory for it.
+fn keeps(receipts: &mut Receipts, answer: Result<Receipt, CellFault>) -> bool {
+    match answer {
+        Ok(receipt) => receipts.push(receipt).is_ok(),
+        Err(_) => false,
+    }
+}
+
 impl<R: Wait> Plays<R> for OperatorCell {
     fn play(&self, rt: &R, alloc: Global, modem: Modem) -> Option<Receipts> {
         let heard = Heard::Request {
@@ -25,12 +32,10 @@ impl<R: Wait> Plays<R> for OperatorCell {
             minislots: 1,
         };
         let mut receipts = Receipts::new(alloc);
-        receipts
-            .push(self.arrive(rt, alloc, modem, heard).ok()?)
-            .ok()?;
-        receipts.push(self.work(rt, alloc).ok()?).ok()?;
-        receipts.push(self.tick(rt, alloc).ok()?).ok()?;
-        Some(receipts)
+        let done = keeps(&mut receipts, self.arrive(rt, alloc, modem, heard))
+            && keeps(&mut receipts, self.work(rt, alloc))
+            && keeps(&mut receipts, self.tick(rt, alloc));
+        if done { Some(receipts) } else { None }
     }
 }
 
@@ -72,27 +77,36 @@ fn settles(
     first: Receipts,
     second: Receipts,
 ) -> Result<bool, AllocError> {
-    let mut callers = Vec::new(alloc);
-    callers.push(first)?;
-    callers.push(second)?;
-    let mut books = Vec::new(alloc);
-    books.push(book)?;
-    let mut receipts = Vec::new(alloc);
-    receipts.push(Callers::from_vec(callers))?;
+    let callers = Vec::from_array(alloc, [first, second])?;
+    let books = Vec::from_array(alloc, [book])?;
+    let receipts = Vec::from_array(alloc, [Callers::from_vec(callers)])?;
     Ok(settle(alloc, books, receipts, Vec::new(alloc)).is_ok())
+}
+
+/// Whether two threads that play on a cell make six entries, whose receipts settle.
+fn two_threads_settle<R: Threads + Wait + Sync>(
+    rt: &R,
+    alloc: Global,
+    cell: OperatorCell,
+) -> Result<bool, AllocError> {
+    let Some((first, second)) = race_on(rt, alloc, &cell) else {
+        return Ok(false);
+    };
+    let (book, _) = cell.into_parts();
+    Ok(book.history().len() == 6 && settles(alloc, book, first, second)?)
+}
+
+/// Whether two threads do so on the cell of operator A.
+fn receipts_settle<R: Threads + Wait + Sync>(rt: &R, alloc: Global) -> Result<bool, AllocError> {
+    match opened(alloc, strict!(alloc)) {
+        Some(cell) => two_threads_settle(rt, alloc, cell),
+        None => Ok(false),
+    }
 }
 
 /// Each thread makes three calls: six entries, whose receipts settle.
 #[test]
-fn receipts_of_two_threads_settle(rt: HostRuntime) -> Result<(), Fail> {
-    let alloc = rt.alloc();
-    let cell = opened(alloc, strict!(alloc))?;
-    let (first, second) = race_on(&rt, alloc, &cell).ok_or("a call was refused")?;
-    let (book, _) = cell.into_parts();
-    assert_eq!(rt; book.history().len(), 6);
-    assert!(&rt;
-        settles(alloc, book, first, second)?,
-        "the receipts do not settle"
-    );
+fn receipts_of_two_threads_settle(rt: HostRuntime) -> Result<(), AllocError> {
+    assert!(rt; receipts_settle(&rt, rt.alloc())?);
     Ok(())
 }
