@@ -38,14 +38,7 @@ impl PassedCell {
         ensures passes { IfOk result (λ r. map pass_of r.1.items
             ≡ first_passes (cell_of r.0).cell (cell_of r.0).origin (marks 0 (view_of book).history) passes) }
     {
-        let room = match room_for(alloc, &book, passes) {
-            Ok(room) => room,
-            Err(error) => {
-                // Dropped by a call: part by part, as `?` drops it, takes longer to prove.
-                drop(book);
-                return Err(error);
-            }
-        };
+        let room = room_for(alloc, &book, passes)?;
         let (table, giver) = table_round(alloc, book, room.start, passes)?;
         let given = deal_out(&table.shared, giver, room.given, passes);
         let cell = PassedCell {

@@ -78,9 +78,6 @@ pub const SHARED: &str = tables!([shared]);
 /// Operator A's table: minislots 8 to 39, the modems 020000000001 and 020000000002.
 pub const OPERATOR_A: &str = tables!([operator_a]);
 
-/// Operator B's table: minislots 40 to 71, the modem 020000000003.
-pub const OPERATOR_B: &str = tables!([operator_b strict]);
-
 /// A plant of operator A alone.
 pub const ALONE: &str = tables!([shared operator_a]);
 
