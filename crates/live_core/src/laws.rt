@@ -14,7 +14,6 @@ ghost use Rattle.live_core.specs.GoingOn.{IsOf, GoesOn};
 ghost use Rattle.live_core.specs.After.{IsAfter, TwoLiveCores};
 
 /// A step leaves a live core as it is after that step more.
-#[tactic(auto, using(crate::proofs::GoLemmas::after_more))]
 pub fn step_goes_on()
     ensures { (plant : PlantFields) (before : List Step) (told : List Out) (step : Step) (old new : CoreView)
         (now : List Out) → IsPlant plant → GoesOn (Steps step) old new now → IsAfter plant before told old
