@@ -8,5 +8,6 @@ pub mod GrantedLemmas
 pub mod AskingLemmas
 pub mod ServableLemmas
 pub mod TiledLemmas
+pub mod MoreLemmas
 pub mod NamedLemmas
 pub mod FewLemmas

@@ -1,7 +1,10 @@
-use Rattle.std.proofs.Common.{◌∙◌, ap, ◌++◌, ◌∷◌, []}
+use Rattle.std.proofs.Common.{◌∙◌, ap, subst, All, List, ◌++◌, ◌∷◌, []}
+use Rattle.std.proofs.lemmas.List.{take_all}
 use Rattle.std.proofs.lemmas.List.Elements.{All-push}
 use Rattle.slice_scheduler.specs.declared.claim.Claim.{Claim}
-use Rattle.slice_scheduler.specs.Wanted.{IsClaim}
+use Rattle.slice_scheduler.specs.declared.flowing.Flowing.{Flowing}
+use Rattle.slice_scheduler.specs.Claims.{claims_of}
+use Rattle.slice_scheduler.specs.Wanted.{IsClaim, asking}
 use Rattle.slice_scheduler.proofs.AskingLemmas.{claims-more, claims-same, sound-more}
 use Rattle.slice_scheduler.proofs.claiming.claims.Goals as goal
 use Rattle.slice_scheduler.proofs.claiming.claims.Goals.{then-flow-gt0+in_ok-push, else-flow-gt0}
@@ -24,4 +27,15 @@ loop-flow-preserved g c =
         | else-flow-gt0 w ↦ rw w.claims-is c.loop-flow.invariant.sound
       ];
       all_sound = sound-more policy at flows i flow c.loop-flow-test.true c.flow-item.is c.loop-flow.invariant.all_sound c.always_claims.ensures;
+    }
+
+pub returns : goal.returns
+returns g c =
+    let policy = c.args.ranking.now.policy in
+    let at = c.args.at.now in
+    let whole = take_all c.loop-flow.flow-index c.args.flows.now c.loop-flow-test.false in
+    record {
+      items = c.loop-flow.invariant.items ∙ ap (λ (flows : List Flowing). claims_of policy at (asking flows)) whole;
+      sound = c.loop-flow.invariant.sound;
+      all_sound = subst (λ (flows : List Flowing). All IsClaim (claims_of policy at flows)) whole c.loop-flow.invariant.all_sound;
     }
