@@ -1,10 +1,11 @@
 -- Lists that a pass takes from, changes, or writes to at one place.
-use Rattle.std.proofs.Common.{◌≡◌, ℕ, zero, suc, ◌+◌, ◌<◌, ◌≤◌, Bool, true, false, cond, List, [], ◌∷◌, length, get_or, set, slice_get, nat_lt, map, filter, count_by, Some, None, All, refl, sym, ap, ◌∙◌, subst, arith}
+use Rattle.std.proofs.Common.{◌≡◌, ℕ, zero, suc, ◌+◌, ◌<◌, ◌≤◌, Bool, true, false, cond, List, [], ◌∷◌, ◌++◌, length, get_or, set, take, slice_get, nat_lt, map, filter, count_by, Some, None, All, refl, sym, ap, ◌∙◌, subst, arith}
 use Rattle.std.specs.List.Retain.{RetainsInTurn}
 use Rattle.std.specs.List.{find, position, position_or_len}
 use Rattle.std.proofs.lemmas.Bool.{true≢false, ltb-false}
 use Rattle.std.proofs.lemmas.Option.{none-some, slice_get-get_or, slice_get_past}
-use Rattle.std.proofs.lemmas.List.Elements.{All-filter, filter_passes, All-map}
+use Rattle.std.proofs.lemmas.List.{append-nil, map-append}
+use Rattle.std.proofs.lemmas.List.Elements.{All-filter, filter_passes, filter_more, All-map}
 use Rattle.std.proofs.lemmas.List.Quantifiers.{position-Some}
 use Rattle.std.proofs.lemmas.List.Folds.{find_at}
 use Rattle.std.proofs.lemmas.List.Sums.{sum_by-cons, sum_by_more_le, position_or_len_is}
@@ -33,6 +34,21 @@ told_there {X} {Y} p f (x ∷ xs) (suc i) d lt passes none =
     step : (b : Bool) → map f (cond b (x ∷ filter p xs) (filter p xs)) ≡ [] → (map f (filter p xs) ≡ [] → ⊥) → ⊥
     step true some rest = cc
     step false rest_none rest = rest rest_none
+
+-- one more element, and what a filter's image has then
+module _ {X Y : Type 0} (p : X → Bool) (f : X → Y) (xs : List X) (i : ℕ) (x : X) (lt : i < length xs) (is : x ≡ get_or xs i x) (ys : List Y) (eq : ys ≡ map f (filter p (take i xs))) where
+  more : (b : Bool) → p x ≡ b → ys ++ map f (cond b (x ∷ []) []) ≡ map f (filter p (take (i + 1) xs))
+  more b here =
+      ap (λ (zs : List Y). zs ++ map f (cond b (x ∷ []) [])) eq
+      ∙ (ap (λ (c : Bool). map f (filter p (take i xs)) ++ map f (cond c (x ∷ []) [])) (sym here)
+      ∙ (ap (λ (y : X). map f (filter p (take i xs)) ++ map f (cond (p y) (y ∷ []) [])) is
+      ∙ (sym (map-append f (filter p (take i xs)) _) ∙ ap (map f) (sym (filter_more p xs i x lt)))))
+
+  pub map-kept : p x ≡ true → ys ++ f x ∷ [] ≡ map f (filter p (take (i + 1) xs))
+  map-kept here = more true here
+
+  pub map-left : p x ≡ false → ys ≡ map f (filter p (take (i + 1) xs))
+  map-left here = sym (append-nil ys) ∙ more false here
 
 -- a fact that the change keeps of what passes
 pub All-kept : {X : Type 0} (P : X → Type 0) (test : X → Bool) (change : X → X) → ((x : X) → P x → test x ≡ true → P (change x)) → (xs : List X) → All P xs → All P (map change (filter test xs))
