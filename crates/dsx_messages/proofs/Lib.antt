@@ -1,3 +1,4 @@
 pub mod Passes
 pub mod Grammar
 pub mod Replies
+pub mod Typed
