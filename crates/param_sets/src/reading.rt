@@ -24,7 +24,6 @@ const POLLED_EACH: u32 = 1_000_000;
 /// Refused, in this order: with code 8 naming the least required subtype that is missing; with code 23 naming 15 where the
 /// kind of scheduling is unknown (nothing is required of such a one); with code 23 naming the first of 17, 19, 20 and 22
 /// that is out of its range, of those that the kind keeps.
-#[tactic(auto, using(crate::proofs::AskedLemmas::asked_is_answered, crate::proofs::RefusalLemmas::is_unknown, crate::proofs::RefusalLemmas::is_missing))]
 pub fn from_tlv(flow: &FlowTlv, units: &Units) -> Result<ParamSet, Refusal>
     ensures exact { result ≡ parameter_set_of flow.now units.now }
     ensures asked { IfOk result (AsksFor flow.now units.now) }
