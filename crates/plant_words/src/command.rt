@@ -1,7 +1,7 @@
 //! The program's command line, as clap reads it.
 ghost use Rattle.std.specs.Prelude.{◌≡◌, IfOk, IfErr, []};
 ghost use Rattle.clap.specs.Walk.{texts};
-ghost use Rattle.clap.specs.Words.{HasKind, app_of, new_app, subcommand_rows_of};
+ghost use Rattle.clap.specs.Words.{HasKind, app_of, new_app, subcommand_rows_of, with_subcommand};
 ghost use Rattle.plant_words.specs.ClapLine.{entered, faults, history_app, program, top, with_first_words, with_later_words};
 
 use clap::{Arg, ArgMatches, Command, Error};
@@ -95,51 +95,68 @@ fn command_line<'a>(alloc: Global) -> Result<Command<'a>, AllocError>
 fn with_first_words<'a>(alloc: Global, command: Command<'a>) -> Result<Command<'a>, AllocError>
     ensures { IfOk result (λ c. app_of c ≡ with_first_words (app_of command.entry)) }
 {
-    command
-        .subcommand(plain_command(
-            alloc,
-            "one",
-            "Answer the messages of one modem, a line each",
-            ONE_INPUT,
-        ))?
-        .subcommand(plain_command(
-            alloc,
-            "check",
-            "Say whether a plant and a script are well",
-            CHECK_INPUT,
-        ))?
-        .subcommand(plain_command(alloc, "run", "Run a script over a plant", RUN_INPUT))?
-        .subcommand(plain_command(
-            alloc,
-            "threads",
-            "Run a script over a plant, on a thread for each operator",
-            THREADS_INPUT,
-        ))
+    let one = with_word(
+        alloc,
+        command,
+        "one",
+        "Answer the messages of one modem, a line each",
+        ONE_INPUT,
+    )?;
+    let check = with_word(
+        alloc,
+        one,
+        "check",
+        "Say whether a plant and a script are well",
+        CHECK_INPUT,
+    )?;
+    let run = with_word(alloc, check, "run", "Run a script over a plant", RUN_INPUT)?;
+    with_word(
+        alloc,
+        run,
+        "threads",
+        "Run a script over a plant, on a thread for each operator",
+        THREADS_INPUT,
+    )
 }
 
 /// With the words behind those that have no operand: `capture`, `serve` and `trace`.
 fn with_later_words<'a>(alloc: Global, command: Command<'a>) -> Result<Command<'a>, AllocError>
     ensures { IfOk result (λ c. app_of c ≡ with_later_words (app_of command.entry)) }
 {
-    command
-        .subcommand(plain_command(
-            alloc,
-            "capture",
-            "Run a script over a plant, and write the run as a pcap file",
-            CAPTURE_INPUT,
-        ))?
-        .subcommand(plain_command(
-            alloc,
-            "serve",
-            "Keep a plant running: answer each line of a script as it comes",
-            SERVE_INPUT,
-        ))?
-        .subcommand(plain_command(
-            alloc,
-            "trace",
-            "Run a script over a plant, and tell in words what decided each step and what came of it",
-            TRACE_INPUT,
-        ))
+    let capture = with_word(
+        alloc,
+        command,
+        "capture",
+        "Run a script over a plant, and write the run as a pcap file",
+        CAPTURE_INPUT,
+    )?;
+    let serve = with_word(
+        alloc,
+        capture,
+        "serve",
+        "Keep a plant running: answer each line of a script as it comes",
+        SERVE_INPUT,
+    )?;
+    with_word(
+        alloc,
+        serve,
+        "trace",
+        "Run a script over a plant, and tell in words what decided each step and what came of it",
+        TRACE_INPUT,
+    )
+}
+
+/// With a word that has no operand.
+fn with_word<'a>(
+    alloc: Global,
+    command: Command<'a>,
+    name: &'a str,
+    about: &'a str,
+    input: &'a str,
+) -> Result<Command<'a>, AllocError>
+    ensures { IfOk result (λ c. app_of c ≡ with_subcommand (app_of command.entry) (new_app name.entry.now).top) }
+{
+    command.subcommand(plain_command(alloc, name, about, input))
 }
 
 fn top_command<'a>(alloc: Global) -> Result<Command<'a>, AllocError>
