@@ -1,7 +1,6 @@
 -- The reading function answers what the relations say.
-use Rattle.std.proofs.Common.{◌≡◌, ◌≢◌, ℕ, zero, suc, ◌+◌, ◌-◌, ◌<◌, ◌≤◌, Bool, true, false, cond, leb, List, [], ◌∷◌, ◌++◌, length, take, drop, get_or, Option, Some, None, Result, Ok, Err, refl, sym, ap, subst, ◌∙◌, append_assoc, length-append, length-drop, arith}
-use Rattle.std.specs.List.{AllByRecursion}
-use Rattle.std.proofs.lemmas.List.{append-nil, take_at, drop_at, take-append-drop, length-take, get_or-drop}
+use Rattle.std.proofs.Common.{◌≡◌, ◌≢◌, ℕ, zero, suc, ◌+◌, ◌-◌, ◌<◌, ◌≤◌, Bool, true, false, cond, leb, List, [], ◌∷◌, ◌++◌, length, take, drop, Option, Some, None, Result, Ok, Err, refl, sym, ap, subst, ◌∙◌, append_assoc, length-append, arith}
+use Rattle.std.proofs.lemmas.List.{take-append-drop, length-take, get_or-drop}
 use Rattle.std.proofs.lemmas.Option.{same_Some}
 use Rattle.std.proofs.lemmas.Bool.{leb-true, leb-false}
 use Rattle.tlv24.specs.declared.tlv.Tlv.{Tlv}
@@ -9,12 +8,12 @@ use Rattle.tlv24.specs.declared.tlv.TlvFault.{TlvFault}
 use Rattle.tlv24.specs.declared.tlv.TlvFault.TheVariants.{Cut}
 use Rattle.tlv24.specs.declared.fields.FlowFields.{FlowFields}
 use Rattle.tlv24.specs.declared.fault.FlowFault.{FlowFault}
-use Rattle.tlv24.specs.Tlv.{tlv, IsShort, spelled, spelled_one, IsTlvList, IsFront, Begins, NoTlvBegins, First, Front, first_of, front_of}
+use Rattle.tlv24.specs.Tlv.{tlv, spelled, spelled_one, IsFront, Begins, NoTlvBegins, First, Front, first_of, front_of}
 use Rattle.tlv24.specs.Flow.{fields_of, fault_of, flow_of, IsFlowEncoding, IsFirstFlowFault}
 use Rattle.tlv24.specs.Stated.{States}
 use Rattle.tlv24.specs.Reading.{IsReadUpTo}
 use Rattle.tlv24.specs.Law.{AreBytes, IsRightAnswer}
-use Rattle.tlv24.proofs.Lists.{shrinks, front_of-none, front_of-some, IsFront-more}
+use Rattle.tlv24.proofs.Lists.{shrinks, front_of-none, front_of-some}
 use Rattle.tlv24.proofs.Sound.{read_nothing, read_more_here, read_all, read_flow_of, cut_exact, cut_first, fault_exact_here, fault_first_here, refused, one_flow, flow_ok}
 
 -- ---- the first TLV

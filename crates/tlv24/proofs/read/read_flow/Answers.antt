@@ -1,6 +1,5 @@
-use Rattle.std.proofs.Common.{ℕ, ◌≡◌, ◌≢◌, length, arith, refl, sym, ap, ◌∙◌}
+use Rattle.std.proofs.Common.{◌≡◌, ◌≢◌, length, arith, refl, sym, ap, ◌∙◌}
 use Rattle.std.proofs.lemmas.Bool.Decides.{nat_tests}
-use Rattle.tlv24.specs.Flow.{IsFirstFlowFault}
 use Rattle.tlv24.proofs.Sound.{read_nothing, read_more, read_all, read_flow_of, read_in_range, cut_exact, cut_first, fault_exact, fault_first, one_flow, refused, flow_ok}
 use Rattle.tlv24.proofs.read.read_flow.Goals as goal
 
@@ -11,6 +10,11 @@ pub returns-in_default-clause-only : goal.returns-in_default-clause-only
 returns-in_default-clause-only c m says =
     let some : length c.loop-rest.rest.now ≢ 0 = grind (arith, nat_tests, c.loop-rest-test.ensures) in
     absurd (refused c.args.bytes.now m c.fault_after.result says (cut_first c.args.bytes.now c.loop-rest.rest.now c.loop-rest.fields c.fault_after.result c.loop-rest.invariant some c.in_default.ensures.begins c.fault_after.ensures))
+
+pub returns-in_default-clause-fault : goal.returns-in_default-clause-fault
+returns-in_default-clause-fault c =
+    let some : length c.loop-rest.rest.now ≢ 0 = grind (arith, nat_tests, c.loop-rest-test.ensures) in
+    cut_first c.args.bytes.now c.loop-rest.rest.now c.loop-rest.fields c.fault_after.result c.loop-rest.invariant some c.in_default.ensures.begins c.fault_after.ensures
 
 pub returns-in_default-clause-exact : goal.returns-in_default-clause-exact
 returns-in_default-clause-exact c =
