@@ -21,3 +21,6 @@ pub returns-in_default-clause-none : goal.returns-in_default-clause-none
 returns-in_default-clause-none c =
     let no = c.in_default in
     no_order c.args.name.now _ no.not-one no.not-check no.not-run no.not-threads no.not-capture no.not-serve no.not-trace no.not-history
+
+pub returns-in-run-clause-some : goal.returns-in-run-clause-some
+returns-in-run-clause-some c = c.in-run.is
