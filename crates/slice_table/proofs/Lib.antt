@@ -1,4 +1,5 @@
 pub mod Trees
+pub mod EachValue
 pub mod Parsed
 pub mod Values
 pub mod ClassReading

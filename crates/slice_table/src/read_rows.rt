@@ -199,8 +199,25 @@ fn provision_at(
     }
 }
 
-/// The provisioned flows one after the other.
+/// A provisioned flow that comes behind others.
 #[tactic(auto, unfolding(crate::specs::ReadRows::provision_read))]
+fn provision_read(
+    alloc: Global,
+    consts: &Consts,
+    operator: usize,
+    modems: &Modems,
+    flows: &[Provision],
+    value: &Value,
+) -> Result<Provision, PlantFault>
+    ensures { Gives (λ provision. provision) result
+        (provision_read consts.now operator modems.now flows.now (view value.now)) }
+{
+    let place = Place::Flow(operator, flows.len());
+    let table = table_of(value, place)?;
+    provision_at(alloc, consts, modems, table, place)
+}
+
+/// The provisioned flows one after the other.
 fn provisions_each(
     alloc: Global,
     consts: &Consts,
@@ -211,13 +228,12 @@ fn provisions_each(
     ensures { Gives (λ provisions. provisions.items) result
         (each (provision_read consts.now operator modems.now) [] (items_view values.now)) }
 {
-    let mut provisions = Vec::with_capacity(alloc, values.len())?;
+    let mut flows = Vec::with_capacity(alloc, values.len())?;
     for value in values {
-        let place = Place::Flow(operator, provisions.len());
-        let table = table_of(value, place)?;
-        provisions.push(provision_at(alloc, consts, modems, table, place)?)?;
+        let flow = provision_read(alloc, consts, operator, modems, flows.as_slice(), value)?;
+        flows.push(flow)?;
     }
-    Ok(provisions)
+    Ok(flows)
 }
 
 /// The provisioned flows of an array.

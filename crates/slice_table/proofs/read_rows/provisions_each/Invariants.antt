@@ -5,4 +5,4 @@ use Rattle.slice_table.specs.ReadRows.{provision_read}
 use Rattle.slice_table.proofs.read_rows.provisions_each.Given as goal
 
 abbrev pub invariant-loop-value : goal.invariant-loop-value
-invariant-loop-value l = each (provision_read l.consts l.operator l.modems) l.provisions.items (items_view (drop l.value-index l.values)) ≡ each (provision_read l.consts l.operator l.modems) [] (items_view l.values)
+invariant-loop-value l = each (provision_read l.consts l.operator l.modems) l.flows.items (items_view (drop l.value-index l.values)) ≡ each (provision_read l.consts l.operator l.modems) [] (items_view l.values)

@@ -1,0 +1,12 @@
+use Rattle.slice_table.specs.ReadRows.{row_read}
+use Rattle.slice_table.proofs.EachValue.{each_next, each_end}
+use Rattle.slice_table.proofs.read_rows.rows_each.Goals as goal
+
+pub loop-value-preserved : goal.loop-value-preserved
+loop-value-preserved c =
+    rw c.in_ok-push.ensures.items
+    (each_next (row_read c.args.consts.now) c.args.values.now _ _ _ _ _
+    c.loop-value-test.true c.value-item.is c.loop-value.invariant (rw c.as_slice.ensures.value at c.in_ok-row.ensures))
+
+pub returns : goal.returns
+returns c = each_end (row_read c.args.consts.now) c.args.values.now _ _ _ c.loop-value-test.false c.loop-value.invariant
