@@ -99,7 +99,7 @@ impl Display for Place {
 
     fn fmt<W: fmt::Write>(&self, f: &mut fmt::Formatter<W>) -> fmt::Result {
         match *self {
-            Place::Plant => write!(f, "plant"),
+            Place::Plant => f.write_str("plant"),
             Place::Class(class) => write!(f, "class[{class}]"),
             Place::Operator(operator) => write!(f, "operator[{operator}]"),
             Place::Flow(operator, flow) => write!(f, "operator[{operator}].flow[{flow}]"),
@@ -125,9 +125,9 @@ impl Display for Key {
 
     fn fmt<W: fmt::Write>(&self, f: &mut fmt::Formatter<W>) -> fmt::Result {
         match *self {
-            Key::Classes => write!(f, "class"),
-            Key::Operators => write!(f, "operator"),
-            Key::Table(place) => write!(f, "{place}"),
+            Key::Classes => f.write_str("class"),
+            Key::Operators => f.write_str("operator"),
+            Key::Table(place) => Display::fmt(&place, f),
             Key::Entry(place, field) => {
                 let field = field.text();
                 write!(f, "{place}.{field}")
