@@ -1,9 +1,10 @@
 -- Lists that are made of what a test leaves of others.
-use Rattle.std.proofs.Common.{◌≡◌, ℕ, Bool, true, false, List, [], ◌∷◌, ◌⊎◌, map, filter, Option, Some, None, is_some, unwrap_or, refl, sym, ap, ◌∙◌, subst, inl, inr}
+use Rattle.std.proofs.Common.{◌≡◌, ℕ, ◌+◌, ◌<◌, Bool, true, false, cond, List, [], ◌∷◌, ◌++◌, ◌⊎◌, length, get_or, take, map, filter, Option, Some, None, is_some, unwrap_or, refl, sym, ap, ◌∙◌, subst, inl, inr, append_assoc}
 use Rattle.std.specs.Prelude.{Any, All, Contains, if◌then◌else◌}
 use Rattle.std.specs.Bool.{Decides}
 use Rattle.std.specs.List.{AllByRecursion, list_any}
-use Rattle.std.proofs.lemmas.List.Elements.{All-from_recursion}
+use Rattle.std.proofs.lemmas.List.{append-nil, map-append}
+use Rattle.std.proofs.lemmas.List.Elements.{All-from_recursion, filter_more}
 use Rattle.std.proofs.lemmas.Bool.{true≢false}
 use Rattle.std.proofs.lemmas.List.Folds.{Any-from_list_any, list_any-from_Any}
 use Rattle.flow_table.specs.declared.flow.Flow.{Flow}
@@ -23,6 +24,23 @@ sids_chosen (entry ∷ flows) = by entry.1.sid refl (sids_chosen flows)
     by : (o : Option ℕ) → entry.1.sid ≡ o → map sid_in (filter has_sid flows) ≡ sids_of flows → map sid_in (filter has_sid (entry ∷ flows)) ≡ sids_of (entry ∷ flows)
     by None is rest = rw is rest
     by (Some sid) is rest = rw is (ap (λ (sids : List ℕ). sid ∷ sids) rest)
+
+-- ---- one more element: what comes of it is put behind what was there
+
+module _ {X Y : Type 0} (f : X → Y) (p : X → Bool) (xs : List X) (i : ℕ) (x : X) (lt : i < length xs) (is : x ≡ get_or xs i x) (before ys : List Y) (eq : ys ≡ before ++ map f (filter p (take i xs))) where
+  more : (b : Bool) → p x ≡ b → ys ++ map f (cond b (x ∷ []) []) ≡ before ++ map f (filter p (take (i + 1) xs))
+  more b here =
+      ap (λ (zs : List Y). zs ++ map f (cond b (x ∷ []) [])) eq
+      ∙ (append_assoc before _ _
+      ∙ ap (λ (zs : List Y). before ++ zs) (ap (λ (c : Bool). map f (filter p (take i xs)) ++ map f (cond c (x ∷ []) [])) (sym here)
+      ∙ (ap (λ (y : X). map f (filter p (take i xs)) ++ map f (cond (p y) (y ∷ []) [])) is
+      ∙ (sym (map-append f (filter p (take i xs)) _) ∙ ap (map f) (sym (filter_more p xs i x lt))))))
+
+  pub one_kept : p x ≡ true → ys ++ f x ∷ [] ≡ before ++ map f (filter p (take (i + 1) xs))
+  one_kept here = more true here
+
+  pub one_left : p x ≡ false → ys ≡ before ++ map f (filter p (take (i + 1) xs))
+  one_left here = sym (append-nil ys) ∙ more false here
 
 -- ---- any
 
