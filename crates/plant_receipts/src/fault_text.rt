@@ -25,39 +25,32 @@ pub(crate) struct ResliceText(pub ResliceFault);
 
 impl Display for ResliceText {
     fn fmt<W: fmt::Write>(&self, f: &mut fmt::Formatter<W>) -> fmt::Result {
-        match self.0 {
-            ResliceFault::Count => f.write_str("there is not one new slice for each operator"),
-            ResliceFault::NotPast { op } => {
-                write!(
-                    f,
-                    "operator {op} is already past the frame from which it gets a new slice"
-                )
-            }
-            ResliceFault::Unfinished { op } => {
-                write!(
-                    f,
-                    "an earlier slice of operator {op} still waits for its frame"
-                )
-            }
-            ResliceFault::OffFrame { op } => {
-                write!(
-                    f,
-                    "the new slice of operator {op} does not lie in the frame behind its head"
-                )
+        let (lead, op, rest) = match self.0 {
+            ResliceFault::Count => {
+                return f.write_str("there is not one new slice for each operator");
             }
             ResliceFault::SlicesMeet { a, b } => {
-                write!(f, "the new slices of operators {a} and {b} meet")
+                return write!(f, "the new slices of operators {a} and {b} meet");
             }
+            ResliceFault::NotPast { op } => (
+                "",
+                op,
+                " is already past the frame from which it gets a new slice",
+            ),
+            ResliceFault::Unfinished { op } => {
+                ("an earlier slice of ", op, " still waits for its frame")
+            }
+            ResliceFault::OffFrame { op } => (
+                "the new slice of ",
+                op,
+                " does not lie in the frame behind its head",
+            ),
             ResliceFault::BudgetOverSlice { op } => {
-                write!(
-                    f,
-                    "the new budget of operator {op} is more than its new slice"
-                )
+                ("the new budget of ", op, " is more than its new slice")
             }
-            ResliceFault::Unfit { op } => {
-                write!(f, "operator {op} has committed more than its new budget")
-            }
-        }
+            ResliceFault::Unfit { op } => ("", op, " has committed more than its new budget"),
+        };
+        write!(f, "{lead}operator {op}{rest}")
     }
 }
 
@@ -70,13 +63,13 @@ impl Display for CoreText {
         match self.0 {
             CoreFault::UnknownModem { modem } => write!(f, "no operator has the modem {modem}"),
             CoreFault::UnknownOperator { op } => write!(f, "there is no operator {op}"),
-            CoreFault::Book(fault) => write!(f, "{}", BookText(fault)),
+            CoreFault::Book(fault) => BookText(fault).fmt(f),
             CoreFault::Gather(_) => f.write_str("the assembly of MAPs did not take a frame"),
             CoreFault::NothingToCollect { op } => {
                 write!(f, "no frame of operator {op} waits to be collected")
             }
             CoreFault::NoMemory => f.write_str("out of memory"),
-            CoreFault::Reslice(fault) => write!(f, "{}", ResliceText(fault)),
+            CoreFault::Reslice(fault) => ResliceText(fault).fmt(f),
         }
     }
 }
