@@ -194,7 +194,7 @@ def by_program(program, case):
 
 def by_reference(case):
     """What differs where the reference answers a case. It has a help of its own, and of `trace` the lines of checks and faults alone."""
-    if case.words == ["--help"]:
+    if {"-h", "--help"} & set(case.words):
         return []
     known = fixed(case) if case.words == ["trace"] else case
     return list(differences(known, *reference_answer(case.words, case.plant.encode() + case.data)))

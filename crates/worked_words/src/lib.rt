@@ -1,5 +1,0 @@
-//! The program's words, as tests alone.
-#![tactic(auto)]
-
-#[cfg(test)]
-mod words;
