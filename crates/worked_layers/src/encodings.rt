@@ -2,10 +2,7 @@
 
 use std::alloc::{AllocError, Global};
 use std::process::Abort;
-use tlv24::{
-    ClassName, ErrorEncodings, FlowFields, FlowTlv, flow_is_read, one_meaning, read_back,
-    read_flow, write_flow,
-};
+use tlv24::{ClassName, ErrorEncodings, FlowFields, FlowTlv, read_back, read_flow, write_flow};
 
 /// An encoding with every known subtype.
 const WHOLE: &[u8] = &[
@@ -65,42 +62,24 @@ fn says(bytes: &[u8], wanted: FlowFields) -> bool {
     }
 }
 
-/// A SID alone.
-fn sid() -> FlowFields {
+/// A set type before a SID, which has two bits that are none of it; a subtype that is not known comes twice.
+const TURNED: &[u8] = &[
+    0x63, 0x01, 0xFF, // not known
+    0x06, 0x01, 0x06, // set type
+    0x63, 0x01, 0xFF, // not known
+    0x03, 0x02, 0xC1, 0x01, // SID
+];
+
+/// The same as it is written: fields in ascending order.
+const ASCENDING: &[u8] = &[0x03, 0x02, 0x01, 0x01, 0x06, 0x01, 0x06];
+
+/// What both say.
+fn turned_fields() -> FlowFields {
     FlowFields {
         sid: Some(257),
+        set_type: Some(6),
         ..FlowFields::NONE
     }
-}
-
-/// A class name alone.
-fn class_name() -> FlowFields {
-    FlowFields {
-        class_name: ClassName::new(b"A"),
-        ..FlowFields::NONE
-    }
-}
-
-/// Error encodings alone.
-fn errored() -> FlowFields {
-    FlowFields {
-        errored: Some(ErrorEncodings {
-            errored_parameter: 2,
-            code: 3,
-        }),
-        ..FlowFields::NONE
-    }
-}
-
-#[test]
-fn encodings_are_read(rt: HostRuntime) {
-    assert!(rt; says(b"", FlowFields::NONE));
-    assert!(rt; says(b"\x03\x02\xC1\x01", sid()));
-    assert!(rt; says(b"\x04\x02A\0", class_name()));
-    assert!(rt; says(b"\x05\x06\x01\x01\x02\x02\x01\x03", errored()));
-    // A subtype that is not known is skipped however often it comes.
-    assert!(rt; says(b"\x63\x01\xFF\x63\x01\xFF", FlowFields::NONE));
-    assert!(rt; says(WHOLE, whole_fields()));
 }
 
 /// Whether a flow is written so.
@@ -122,13 +101,12 @@ fn are_written(alloc: Global, bytes: &[u8], wanted: &[u8]) -> Result<bool, Alloc
     }
 }
 
-/// All fields in ascending order, whatever the order of the bytes was; and a SID without its upper bits.
 #[test]
-fn fields_are_written(rt: HostRuntime) -> Result<(), AllocError> {
-    one_meaning();
-    flow_is_read();
+fn encodings_are_read_and_written(rt: HostRuntime) -> Result<(), AllocError> {
+    assert!(rt; says(b"", FlowFields::NONE));
+    assert!(rt; says(TURNED, turned_fields()));
+    assert!(rt; says(WHOLE, whole_fields()));
+    assert!(rt; are_written(rt.alloc(), TURNED, ASCENDING)?);
     assert!(rt; are_written(rt.alloc(), WHOLE, WHOLE)?);
-    let turned = b"\x06\x01\x06\x03\x02\xC1\x01";
-    assert!(rt; are_written(rt.alloc(), turned, b"\x03\x02\x01\x01\x06\x01\x06")?);
     Ok(())
 }

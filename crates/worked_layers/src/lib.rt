@@ -1,5 +1,5 @@
 //! Worked examples of the layers below a book and of MAPs, as tests alone: what the program calls no function for, or what none of its
-//! lines shows. What it shows is told by the cases of `tests/`.
+//! lines shows; and library calls where one request for memory is refused. What the program shows is told by the cases of `tests/`.
 #![tactic(auto)]
 
 #[cfg(test)]
@@ -12,3 +12,5 @@ mod messages;
 mod ranks;
 #[cfg(test)]
 mod sets;
+#[cfg(test)]
+mod want_of_memory;

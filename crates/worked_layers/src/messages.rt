@@ -1,27 +1,12 @@
 //! Replies, and bytes that are none, written by hand from the layouts.
 
-use dsx_messages::{Reply, message_is_read, read_back, read_reply};
+use dsx_messages::{Reply, read_back, read_reply};
 use std::alloc::{AllocError, Global};
 use std::process::Abort;
 
 /// Whether bytes are no reply. A function of its own: what the call promises is then no part of the test's proof.
 fn are_none(bytes: &[u8]) -> bool {
     read_reply(bytes).is_none()
-}
-
-#[test]
-fn no_second_spelling_is_read(rt: HostRuntime) {
-    for bytes in [
-        b"".as_slice(),
-        b"\x10\x00\x01\x07", // 7 is no code
-        b"\x10\x00\x01\x00", // accepted, with no flow
-        b"\x16\x00\x03\x00\x01", // a reserved byte that is not 0
-        b"\x10\x00\x02\x02\x18\x0C\x01\x02\x00\x01\x05\x06\x01\x01\x0F\x02\x01\x03", // another code
-        b"\x10\x00\x01\x00\x18\x0E\x02\x04\x00\x00\x01\x01\x01\x02\x00\x01\x03\x02\x01\x01", // SFID first
-        b"\x10\x00\x01\x00\x18\x0E\x01\x02\x00\x01\x02\x04\x00\x00\x01\x01\x03\x02\x01\x01\x00", // one more byte
-    ] {
-        assert!(rt; are_none(bytes));
-    }
 }
 
 /// Whether a reply that is written is read back as it is.
@@ -37,10 +22,23 @@ fn are_read_back(alloc: Global, bytes: &[u8]) -> Result<bool, AllocError> {
     }
 }
 
+/// A reply.
+const REPLY: &[u8] =
+    b"\x10\x00\x01\x00\x18\x0E\x01\x02\x00\x01\x02\x04\x00\x00\x01\x01\x03\x02\x01\x01";
+
 #[test]
-fn a_reply_is_read_back(rt: HostRuntime) -> Result<(), AllocError> {
-    message_is_read();
-    let bytes = b"\x10\x00\x01\x00\x18\x0E\x01\x02\x00\x01\x02\x04\x00\x00\x01\x01\x03\x02\x01\x01";
-    assert!(rt; are_read_back(rt.alloc(), bytes)?);
+fn a_reply_is_read_back_and_has_no_second_spelling(rt: HostRuntime) -> Result<(), AllocError> {
+    assert!(rt; are_read_back(rt.alloc(), REPLY)?);
+    for bytes in [
+        b"".as_slice(),
+        b"\x10\x00\x01\x07", // 7 is no code
+        b"\x10\x00\x01\x00", // accepted, with no flow
+        b"\x16\x00\x03\x00\x01", // a reserved byte that is not 0
+        b"\x10\x00\x02\x02\x18\x0C\x01\x02\x00\x01\x05\x06\x01\x01\x0F\x02\x01\x03", // another code
+        b"\x10\x00\x01\x00\x18\x0E\x02\x04\x00\x00\x01\x01\x01\x02\x00\x01\x03\x02\x01\x01", // SFID first
+        b"\x10\x00\x01\x00\x18\x0E\x01\x02\x00\x01\x02\x04\x00\x00\x01\x01\x03\x02\x01\x01\x00", // one more byte
+    ] {
+        assert!(rt; are_none(bytes));
+    }
     Ok(())
 }

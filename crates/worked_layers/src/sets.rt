@@ -86,14 +86,6 @@ fn keeps(number: Option<u8>, wanted: ParamFields) -> bool {
     }
 }
 
-#[test]
-fn what_each_kind_keeps(rt: HostRuntime) {
-    assert!(rt; keeps(None, best_effort()));
-    assert!(rt; keeps(Some(3), polled(Scheduling::NonRealTimePolling)));
-    assert!(rt; keeps(Some(4), polled(Scheduling::RealTimePolling)));
-    assert!(rt; keeps(Some(6), granted()));
-}
-
 /// Whether polling that says no interval has one of a second.
 fn polls_each_second() -> bool {
     let slow = FlowFields {
@@ -107,7 +99,11 @@ fn polls_each_second() -> bool {
 }
 
 #[test]
-fn polling_without_an_interval(rt: HostRuntime) {
+fn what_each_kind_keeps(rt: HostRuntime) {
+    assert!(rt; keeps(None, best_effort()));
+    assert!(rt; keeps(Some(3), polled(Scheduling::NonRealTimePolling)));
+    assert!(rt; keeps(Some(4), polled(Scheduling::RealTimePolling)));
+    assert!(rt; keeps(Some(6), granted()));
     assert!(rt; polls_each_second());
     assert!(rt; units().get_bytes_per_minislot() == 16);
 }

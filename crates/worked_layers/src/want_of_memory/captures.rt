@@ -1,7 +1,7 @@
 //! A capture: a call that is refused has added nothing, and made once more, the file is what it is otherwise.
 
-use crate::again::again;
-use crate::tables::plant;
+use crate::want_of_memory::again::again;
+use crate::want_of_memory::tables::plant;
 use dsx_messages::Modem;
 use hex::encode_upper;
 use map_assembly::MapBytes;

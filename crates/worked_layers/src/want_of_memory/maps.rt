@@ -1,7 +1,7 @@
 //! Parts of MAPs put together, and MAPs read.
 
-use crate::again::{again, are};
-use crate::tables::plant;
+use crate::want_of_memory::again::{again, are};
+use crate::want_of_memory::tables::plant;
 use map_assembly::{Gather, GatherFault, MapBytes, MapFault, MapView, Refused, read_map};
 use plant::{Op, Plant};
 use slice_scheduler::{Elements, ElementsFields, Iuc, Sids, Slice, Span, Spans};
@@ -98,15 +98,13 @@ fn idle_parts_come_to_a_map(alloc: Global) -> Result<bool, AllocError> {
     come_to(alloc, &mut gather, &slices, &IDLE)
 }
 
-/// Gives other slices from the first frame on.
-fn reslice(
-    rt: &impl Abort,
-    alloc: Global,
-    gather: &mut Gather,
-    slices: &[Slice],
-) -> Result<(), AllocError> {
-    assert!(rt; gather.may_reslice(0, slices));
-    again!(gather.reslice(alloc, 0, Vec::from_slice(alloc, slices)?))
+/// Gives other slices from the first frame on; whether they may be given.
+fn reslices(alloc: Global, gather: &mut Gather, slices: &[Slice]) -> Result<bool, AllocError> {
+    if !gather.may_reslice(0, slices) {
+        return Ok(false);
+    }
+    again!(gather.reslice(alloc, 0, Vec::from_slice(alloc, slices)?))?;
+    Ok(true)
 }
 
 /// The MAP of idle parts of the other slices.
@@ -115,23 +113,11 @@ const RESLICED: [u8; 32] = [
     0x80, 0x18, 0, 1, 0xC0, 0x48,
 ];
 
-/// Whether other slices are given, and idle parts of them come to this MAP.
-fn resliced_come_to(
-    rt: &impl Abort,
-    alloc: Global,
-    gather: &mut Gather,
-    slices: &[Slice; 2],
-    wanted: &[u8],
-) -> Result<bool, AllocError> {
-    reslice(rt, alloc, gather, slices)?;
-    come_to(alloc, gather, slices, wanted)
-}
-
 /// Whether idle parts of other slices come to their MAP.
-fn other_slices_are_given(rt: &impl Abort, alloc: Global) -> Result<bool, AllocError> {
+fn other_slices_are_given(alloc: Global) -> Result<bool, AllocError> {
     let mut gather = gather(alloc)?;
     let slices = [Slice::new(8, 16), Slice::new(24, 48)];
-    resliced_come_to(rt, alloc, &mut gather, &slices, &RESLICED)
+    Ok(reslices(alloc, &mut gather, &slices)? && come_to(alloc, &mut gather, &slices, &RESLICED)?)
 }
 
 /// A MAP with a grant and a SID that waits.
@@ -159,6 +145,6 @@ fn grant_and_wait_are_read(alloc: Global) -> bool {
 fn maps_are_put_together_and_read(rt: HostRuntime) -> Result<(), AllocError> {
     assert!(rt; grant_and_wait_are_read(rt.alloc()));
     assert!(rt; idle_parts_come_to_a_map(rt.alloc())?);
-    assert!(rt; other_slices_are_given(&rt, rt.alloc())?);
+    assert!(rt; other_slices_are_given(rt.alloc())?);
     Ok(())
 }

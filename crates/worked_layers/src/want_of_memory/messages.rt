@@ -1,6 +1,6 @@
 //! TLVs, flow encodings, messages and replies.
 
-use crate::again::{again, are};
+use crate::want_of_memory::again::{again, are};
 use dsx_messages::{Message, MessageFault, Reply, Request, read, read_reply, write_reply};
 use std::alloc::{AllocError, Global};
 use std::process::Abort;

@@ -1,6 +1,6 @@
 //! Ledgers, kept responses, and plant files.
 
-use crate::again::{again, are};
+use crate::want_of_memory::again::{again, are};
 use admission::{Budget, Ledger};
 use dsx_messages::{Kind, Modem};
 use plant::Plant;
@@ -112,12 +112,6 @@ fn kept_go_their_way(alloc: Global) -> Result<bool, AllocError> {
     both_go_their_way(alloc, &mut kept)
 }
 
-#[test]
-fn kept_responses_are_copied_sent_again_and_given_up(rt: HostRuntime) -> Result<(), AllocError> {
-    assert!(rt; kept_go_their_way(rt.alloc())?);
-    Ok(())
-}
-
 /// Whether a plant is the one of the text.
 fn is_the_plant(plant: &Plant) -> bool {
     plant.operator_of(ONE) == Some(0)
@@ -131,24 +125,24 @@ fn plant_again(alloc: Global) -> Result<Plant, PlantFault> {
     again!(read_plant(alloc, CLASSED), PlantFault::NoMemory)
 }
 
-/// Whether the plant of the text is read.
-fn plant_is_read(alloc: Global) -> bool {
-    match plant_again(alloc) {
-        Ok(plant) => is_the_plant(&plant),
-        Err(_) => false,
-    }
-}
-
-#[test]
-fn a_ledger_is_made_and_a_plant_read(rt: HostRuntime) {
-    assert!(rt; two_are_taken(rt.alloc()));
-    assert!(rt; plant_is_read(rt.alloc()));
-}
-
 /// The plant of the text.
 pub(crate) fn plant(alloc: Global) -> Result<Plant, AllocError> {
-    match read_plant(alloc, CLASSED) {
+    match plant_again(alloc) {
         Ok(plant) => Ok(plant),
         Err(_) => Err(AllocError),
     }
+}
+
+/// Whether the plant of the text is read.
+fn plant_is_read(alloc: Global) -> Result<bool, AllocError> {
+    let plant = plant(alloc)?;
+    Ok(is_the_plant(&plant))
+}
+
+#[test]
+fn ledgers_kept_responses_and_plants(rt: HostRuntime) -> Result<(), AllocError> {
+    assert!(rt; two_are_taken(rt.alloc()));
+    assert!(rt; kept_go_their_way(rt.alloc())?);
+    assert!(rt; plant_is_read(rt.alloc())?);
+    Ok(())
 }

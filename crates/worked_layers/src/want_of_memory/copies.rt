@@ -1,6 +1,6 @@
 //! Copies of what a book puts out. No word of the program copies a whole output; what it copies, its runs show.
 
-use crate::again::again;
+use crate::want_of_memory::again::again;
 use dsx_messages::Modem;
 use operator_machine::Output;
 use slice_scheduler::{Elements, ElementsFields, Iuc, Sids, Slice, Span, Spans};
