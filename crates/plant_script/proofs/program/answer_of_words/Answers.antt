@@ -1,4 +1,4 @@
-use Rattle.std.proofs.Common.{◌≡◌, ℕ, Ok, subst}
+use Rattle.std.proofs.Common.{◌≡◌, ℕ, Ok, refl, subst}
 use Rattle.clap.specs.Walk.{texts}
 use Rattle.plant_words.specs.Order.{order_of}
 use Rattle.plant_words.specs.CommandLine.{GivesHelp, GivesWrong}
@@ -46,3 +46,47 @@ returns-in-Err-serve g c =
       memory = λ five. told_alone (texts c.args.words.now) (g.R.Read.remaining c.args.reader.now) old new
           (stop_wants stop c.stopped.result wrote c.stopped.ensures.memory c.stopped.ensures.io five);
     }
+
+-- nor are they wrong
+pub returns-clause-refused : goal.returns-clause-refused
+returns-clause-refused g c = λ wrong.
+    let given : GivesWrong (Ok c.in-Ok.word) = subst GivesWrong c.in-Ok.is (c.read_words.ensures.wrong wrong) in absurd given
+
+pub returns-clause-unread_if_wrong : goal.returns-clause-unread_if_wrong
+returns-clause-unread_if_wrong g c = λ wrong.
+    let given : GivesWrong (Ok c.in-Ok.word) = subst GivesWrong c.in-Ok.is (c.read_words.ensures.wrong wrong) in absurd given
+
+pub returns-in-Ok-Answer-clause-refused : goal.returns-in-Ok-Answer-clause-refused
+returns-in-Ok-Answer-clause-refused g c = λ wrong.
+    let given : GivesWrong (Ok c.in-Ok.word) = subst GivesWrong c.in-Ok.is (c.read_words.ensures.wrong wrong) in absurd given
+
+pub returns-in-Ok-Answer-clause-helped : goal.returns-in-Ok-Answer-clause-helped
+returns-in-Ok-Answer-clause-helped g c = λ asks.
+    let given : GivesHelp (Ok c.in-Ok.word) = subst GivesHelp c.in-Ok.is (c.read_words.ensures.help asks) in absurd given
+
+pub returns-in-Ok-Answer-clause-unread_if_wrong : goal.returns-in-Ok-Answer-clause-unread_if_wrong
+returns-in-Ok-Answer-clause-unread_if_wrong g c = λ wrong.
+    let given : GivesWrong (Ok c.in-Ok.word) = subst GivesWrong c.in-Ok.is (c.read_words.ensures.wrong wrong) in absurd given
+
+pub returns-in-Serve-clause-refused : goal.returns-in-Serve-clause-refused
+returns-in-Serve-clause-refused g c = λ wrong.
+    let given : GivesWrong (Ok c.in-Ok.word) = subst GivesWrong c.in-Ok.is (c.read_words.ensures.wrong wrong) in absurd given
+
+pub returns-in-Serve-clause-helped : goal.returns-in-Serve-clause-helped
+returns-in-Serve-clause-helped g c = λ asks.
+    let given : GivesHelp (Ok c.in-Ok.word) = subst GivesHelp c.in-Ok.is (c.read_words.ensures.help asks) in absurd given
+
+pub returns-in-Serve-clause-unread_if_wrong : goal.returns-in-Serve-clause-unread_if_wrong
+returns-in-Serve-clause-unread_if_wrong g c = λ wrong.
+    let given : GivesWrong (Ok c.in-Ok.word) = subst GivesWrong c.in-Ok.is (c.read_words.ensures.wrong wrong) in absurd given
+
+pub returns-in-Serve-clause-unread_for_help : goal.returns-in-Serve-clause-unread_for_help
+returns-in-Serve-clause-unread_for_help g c = λ asks.
+    let given : GivesHelp (Ok c.in-Ok.word) = subst GivesHelp c.in-Ok.is (c.read_words.ensures.help asks) in absurd given
+
+-- words that give no order are answered with nothing read
+pub returns-in-Err-clause-unread_if_wrong : goal.returns-in-Err-clause-unread_if_wrong
+returns-in-Err-clause-unread_if_wrong g c = λ wrong. refl
+
+pub returns-in-Err-clause-unread_for_help : goal.returns-in-Err-clause-unread_for_help
+returns-in-Err-clause-unread_for_help g c = λ asks. refl
