@@ -12,13 +12,24 @@ use std::alloc::{AllocError, Global};
 use std::marker::Model;
 
 /// A copy of an operator: what all operators share, its row, and the state of its machine. Contracts see the operator.
-#[derive(Drop)]
 pub struct Standing {
     pub(crate) consts: Consts,
     pub(crate) row: OperatorRow,
     pub(crate) state: StateView,
     pub(crate) sfids: Vec<u32>,
     pub(crate) sids: Vec<u32>,
+}
+
+impl Drop for Standing {
+    fn drop(self) {
+        let Standing {
+            consts: _,
+            row: _,
+            state: _,
+            sfids: _,
+            sids: _,
+        } = self;
+    }
 }
 
 impl Model for Standing {
