@@ -22,7 +22,7 @@ const MAP: u8 = 3;
 const LONGEST: usize = 65_511;
 
 /// A MAC management message (CM-SP-MULPIv3.1, 6.4.1) that fits a frame. Contracts see its parts.
-#[derive(Debug, Drop)]
+#[derive(Drop)]
 pub(crate) struct Management<'a> {
     to: [u8; 6],
     from: [u8; 6],
@@ -109,9 +109,8 @@ impl Management<'_> {
         let mut body = Vec::with_capacity(alloc, 20 + self.payload.len())?;
         body.extend_from_slice(&self.to)?;
         body.extend_from_slice(&self.from)?;
-        let length = 6 + self.payload.len() as u16;
-        body.extend_from_slice(&length.to_be_bytes())?;
-        body.extend_from_slice(&[0, 0, 3, self.version, self.kind, 0])?;
+        let [high, low] = (6 + self.payload.len() as u16).to_be_bytes();
+        body.extend_from_slice(&[high, low, 0, 0, 3, self.version, self.kind, 0])?;
         body.extend_from_slice(self.payload)?;
         Ok(body)
     }
