@@ -79,9 +79,9 @@ fn arrives_again<R: Wait>(
     ensures { IsOf (cell_of cell.now) (pass_of pass.new) }
 {
     match arrive(rt, alloc, cell, pass) {
-        Ok(receipt) => stands(&receipt, place),
         Err(CellFault::Book(BookFault::NoMemory)) => arrives_second(rt, alloc, cell, pass, place),
         Err(_) => None,
+        Ok(receipt) => stands(&receipt, place),
     }
 }
 
