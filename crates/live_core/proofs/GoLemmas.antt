@@ -1,6 +1,6 @@
 -- What one step makes of a live core, it makes of each core of which that is held.
 use Rattle.std.proofs.Common.{◌≡◌, ℕ, zero, suc, ◌<◌, List, [], ◌∷◌, ◌++◌, length, map, get_or, Option, Some, None, option_map, AllPairs, false, refl, sym, ap, ap₂, subst, ◌∙◌, arith}
-use Rattle.std.specs.Prelude.{slice_get, slice_set, replicate}
+use Rattle.std.specs.Prelude.{slice_get, slice_set}
 use Rattle.std.proofs.lemmas.List.{map-set, length-map}
 use Rattle.std.proofs.lemmas.Option.{slice_get-map, same_Some}
 use Rattle.std.proofs.Math.Logic.{∥∥₁_map, ∥∥₁_elim}
@@ -26,14 +26,15 @@ use Rattle.map_assembly.proofs.GoneLemmas.{alike_again, alike_self}
 use Rattle.plant_runs.specs.declared.step.Step.{Step}
 use Rattle.plant_runs.specs.declared.step.Out.{Out}
 use Rattle.plant_runs.specs.OwnSteps.{under, slice_of}
-use Rattle.plant_runs.specs.Opened.{opened_book, opened_core}
+use Rattle.plant_runs.specs.Starts.{Start, first_start, IsStart}
+use Rattle.plant_runs.specs.Opened.{opened_core, started_book, started_core, gathering_from}
 use Rattle.plant_runs.specs.Ordered.{target}
 use Rattle.plant_runs.specs.Reached.{CoreView, frames_of}
 use Rattle.plant_runs.specs.Steps.{Acts, Collects, Reslices, Steps, told_map, NoneRefuses}
-use Rattle.plant_runs.proofs.OneStep.{step_reached}
-use Rattle.plant_runs.proofs.Opening.{opened_reached}
-use Rattle.plant_runs.proofs.Fits.{waiting_fits}
-use Rattle.plant_runs.proofs.Anew.{slices_anew}
+use Rattle.plant_runs.proofs.OneStep.{step_from}
+use Rattle.plant_runs.proofs.Opening.{started_reached}
+use Rattle.plant_runs.proofs.Fits.{fits_from, opened_starts}
+use Rattle.plant_runs.proofs.Anew.{anew_from}
 use Rattle.plant_core.specs.Reachable.{core_of}
 use Rattle.plant_core.specs.Giving.{HaveTakenAs}
 use Rattle.plant_core.specs.Reslicing.{reslice_fault}
@@ -42,7 +43,7 @@ use Rattle.plant_core.proofs.ReachLemmas.{step_acts}
 use Rattle.plant_core.proofs.PlaceLemmas.{seen_at, set_alike, set_seen}
 use Rattle.plant_core.specs.Putting.{FitsOldest, PutsOldest}
 use Rattle.live_core.specs.GoingOn.{forgotten, went, IsOf, GoesOn}
-use Rattle.live_core.specs.After.{IsAfter, IsReachable}
+use Rattle.live_core.specs.After.{IsAfter, IsAfterFrom, IsReachable}
 use Rattle.live_core.proofs.AlikeLemmas.{same_fault, same_answer, alike_put, held_put, alike_resliced, held_resliced, may_too}
 
 -- ---- a book behind one without its history
@@ -138,21 +139,23 @@ collects_on plant old put new lives lives' queues queues' op waiting left made t
 
 -- ---- one step more
 
-pub after_more : (plant : PlantFields) (before : List Step) (told : List Out) (step : Step) (old new : CoreView) (now : List Out) → IsPlant plant → GoesOn (Steps step) old new now
-    → IsAfter plant before told old → IsAfter plant (before ++ step ∷ []) (told ++ now) new
-after_more plant before told step old new now valid goes so_far =
+pub after_more : (plant : PlantFields) (start : Start) (before : List Step) (told : List Out) (step : Step) (old new : CoreView) (now : List Out) → IsPlant plant → GoesOn (Steps step) old new now
+    → IsAfterFrom plant start before told old → IsAfterFrom plant start (before ++ step ∷ []) (told ++ now) new
+after_more plant start before told step old new now valid goes so_far =
     let done = goes so_far.core so_far.is_of in
     record {
+      starts = so_far.starts;
       core = done.0;
-      reached = step_reached plant before told step so_far.core done.0 now valid so_far.reached so_far.is_of.held done.1;
+      reached = step_from plant start before told step so_far.core done.0 now valid so_far.reached so_far.is_of.held done.1;
       is_of = done.2;
     }
 
 pub stepped_on : (step : Step) (old new : CoreView) (now : List Out) → IsPlant old.plant → new.plant ≡ old.plant → GoesOn (Steps step) old new now → ∥ IsReachable old ∥₁ → ∥ IsReachable new ∥₁
 stepped_on step old new now valid same goes reached = ∥∥₁_map reached (λ r. (
-  r.0 ++ step ∷ [],
-  r.1 ++ now,
-  subst (λ (p : PlantFields). IsAfter p (r.0 ++ step ∷ []) (r.1 ++ now) new) (sym same) (after_more old.plant r.0 r.1 step old new now valid goes r.2),
+  r.0,
+  r.1 ++ step ∷ [],
+  r.2 ++ now,
+  subst (λ (p : PlantFields). IsAfterFrom p r.0 (r.1 ++ step ∷ []) (r.2 ++ now) new) (sym same) (after_more old.plant r.0 r.1 r.2 step old new now valid goes r.3),
 ))
 
 pub acts_step : (step : Step) (op : ℕ) (action : Action) (old new : CoreView) (now : List Out) → target old.plant step ≡ Some (op, action) → GoesOn (Acts op action) old new now → GoesOn (Steps step) old new now
@@ -166,9 +169,9 @@ none_refused : (plant : PlantFields) (gathering : Gathering) (lives : List BookV
     → IsPlant plant → ∥ IsReachable (core_of plant lives queues gathering) ∥₁ → slice_get queues op ≡ Some ((frame, part) ∷ rest) → put_fault gathering op frame part ≡ Some fault → ⊥
 none_refused plant gathering lives queues op frame part rest fault valid reached there refused =
     ∥∥₁_elim reached (λ x y. absurd x) (λ r.
-    let core = r.2.core in
-    let is = r.2.is_of in
-    let fits = waiting_fits plant r.0 r.1 core op frame part rest valid r.2.reached is.held (ap (λ (q : List (List (ℕ × ElementsFields))). slice_get q op) is.queues_are ∙ there) in
+    let core = r.3.core in
+    let is = r.3.is_of in
+    let fits = fits_from plant r.0 r.1 r.2 core op frame part rest r.3.starts r.3.reached is.held (ap (λ (q : List (List (ℕ × ElementsFields))). slice_get q op) is.queues_are ∙ there) in
     let wrong : None ≡ Some fault = sym fits ∙ (same_fault core.gathering gathering op frame part is.gathering_is ∙ refused) in cc)
 
 -- the assembly takes each frame that waits longest
@@ -282,32 +285,25 @@ pub may_take : (plant : PlantFields) (gathering : Gathering) (lives : List BookV
     → ∥ IsReachable (core_of plant lives queues gathering) ∥₁ → reslice_fault from lives rows ≡ None → MayReslice gathering from (map slice_of rows)
 may_take plant gathering lives queues from rows valid reached none =
     ∥∥₁_elim reached (may_prop gathering from (map slice_of rows)) (λ r.
-    let core = r.2.core in
-    let is = r.2.is_of in
+    let core = r.3.core in
+    let is = r.3.is_of in
     let free = free_behind from core.books lives rows is.books_are none in
     may_too core.gathering gathering from (map slice_of rows) is.gathering_is
-    (slices_anew plant r.0 r.1 core from rows valid r.2.reached is.held free.one_each free.apart free.fit))
+    (anew_from plant r.0 r.1 r.2 core from rows valid r.3.starts r.3.reached is.held free.one_each free.apart free.fit))
 
--- ---- a core that is opened
+-- ---- a core that is resumed, and one that is opened
 
-opened_forgotten : (consts : ConstsFields) (rows : List RowFields) → map forgotten (map (opened_book consts) rows) ≡ map (opened_book consts) rows
-opened_forgotten consts [] = refl
-opened_forgotten consts (row ∷ rows) = ap (λ (bs : List BookView). opened_book consts row ∷ bs) (opened_forgotten consts rows)
+started_forgotten : (consts : ConstsFields) (start : Start) (rows : List RowFields) → map forgotten (map (started_book consts start) rows) ≡ map (started_book consts start) rows
+started_forgotten consts start [] = refl
+started_forgotten consts start (row ∷ rows) = ap (λ (bs : List BookView). started_book consts start row ∷ bs) (started_forgotten consts start rows)
 
-opened_after : (plant : PlantFields) → IsPlant plant → IsGathering (gathering_of plant) → IsAfter plant [] [] (opened_core plant)
-opened_after plant valid held = record {
-  core = opened_core plant;
-  reached = opened_reached plant valid;
-  is_of = record { plant_is = refl; books_are = opened_forgotten plant.consts plant.rows; queues_are = refl; gathering_is = alike_self (gathering_of plant); held = held };
+pub started_after : (plant : PlantFields) (start : Start) → IsPlant plant → IsStart plant start → IsGathering (gathering_from plant start) → IsAfterFrom plant start [] [] (started_core plant start)
+started_after plant start valid starts held = record {
+  starts = starts;
+  core = started_core plant start;
+  reached = started_reached plant start valid starts.at_one_frame;
+  is_of = record { plant_is = refl; books_are = started_forgotten plant.consts start plant.rows; queues_are = refl; gathering_is = alike_self (gathering_from plant start); held = held };
 }
 
-module _ (plant routes : PlantFields) (lives : List BookView) (queues : List (List (ℕ × ElementsFields))) (gathering : Gathering) (consts : ConstsFields) (rows : List RowFields) (r : routes ≡ plant) (c : consts ≡ plant.consts)
-    (w : rows ≡ plant.rows) (b : lives ≡ map (opened_book consts) rows) (q : queues ≡ replicate (length rows) []) (g : gathering ≡ gathering_of plant) where
-  pub opened_view : core_of routes lives queues gathering ≡ opened_core plant
-  opened_view = λ k. core_of (r k) ((b ∙ ap₂ (λ (x : ConstsFields) (rs : List RowFields). map (opened_book x) rs) c w) k) ((q ∙ ap (λ (rs : List RowFields). replicate (length rs) []) w) k) (g k)
-
-  pub opened_is_after : IsPlant plant → IsGathering gathering → IsAfter plant [] [] (core_of routes lives queues gathering)
-  opened_is_after valid held = subst (λ (v : CoreView). IsAfter plant [] [] v) (sym opened_view) (opened_after plant valid (subst IsGathering g held))
-
-  pub opened_reaches : IsPlant plant → IsGathering gathering → ∥ IsReachable (core_of routes lives queues gathering) ∥₁
-  opened_reaches valid held = ∣ ([], [], subst (λ (p : PlantFields). IsAfter p [] [] (core_of routes lives queues gathering)) (sym r) (opened_is_after valid held)) ∣₁
+pub opened_after : (plant : PlantFields) → IsPlant plant → IsGathering (gathering_of plant) → IsAfter plant [] [] (opened_core plant)
+opened_after plant valid held = started_after plant (first_start plant) valid (opened_starts plant (gathering_of plant) valid refl held) held

@@ -3,17 +3,21 @@ use Rattle.std.proofs.Common.{List}
 use Rattle.plant.specs.declared.plant.PlantFields.{PlantFields}
 use Rattle.plant_runs.specs.declared.step.Step.{Step}
 use Rattle.plant_runs.specs.declared.step.Out.{Out}
-use Rattle.plant_runs.specs.Ordered.{Ordered}
+use Rattle.plant_runs.specs.Starts.{Start}
+use Rattle.plant_runs.specs.Ordered.{OrderedFrom}
 use Rattle.plant_runs.specs.Reached.{CoreView}
-use Rattle.plant_runs.specs.Shown.{Shown}
-use Rattle.plant_runs.proofs.TwoRuns.{notice_same}
-use Rattle.live_core.specs.After.{IsAfter, TwoLiveCores}
+use Rattle.plant_runs.specs.Shown.{ShownFrom}
+use Rattle.plant_runs.proofs.TwoRuns.{notice_from, notice_same}
+use Rattle.live_core.specs.After.{IsAfterFrom, TwoLiveCores, TwoResumedCores}
 
-pub live_shown : (plant : PlantFields) (steps : List Step) (outs : List Out) (live : CoreView) → IsAfter plant steps outs live → Shown plant steps outs
-live_shown plant steps outs live after = after.reached.shown
+pub live_shown : (plant : PlantFields) (start : Start) (steps : List Step) (outs : List Out) (live : CoreView) → IsAfterFrom plant start steps outs live → ShownFrom plant start steps outs
+live_shown plant start steps outs live after = after.reached.shown
 
-pub live_ordered : (plant : PlantFields) (steps : List Step) (outs : List Out) (live : CoreView) → IsAfter plant steps outs live → Ordered plant steps outs
-live_ordered plant steps outs live after = after.reached.ordered
+pub live_ordered : (plant : PlantFields) (start : Start) (steps : List Step) (outs : List Out) (live : CoreView) → IsAfterFrom plant start steps outs live → OrderedFrom plant start steps outs
+live_ordered plant start steps outs live after = after.reached.ordered
+
+pub two_resumed : TwoResumedCores
+two_resumed live p q a b i j s t o u agree after shown state same = notice_from p q a b i j s t o u agree after.reached.shown shown state same
 
 pub two_live : TwoLiveCores
 two_live live p q i j s t o u agree after shown same = notice_same p q i j s t o u agree after.reached.shown shown same

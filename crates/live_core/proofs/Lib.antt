@@ -6,3 +6,8 @@ pub mod RunLemmas
 pub mod PartLemmas
 pub mod JudgeLemmas
 pub mod FaultLemmas
+pub mod ResumeLemmas
+pub mod OpenLemmas
+pub mod RestLemmas
+pub mod ResumeFaultLemmas
+pub mod ChangedLemmas

@@ -6,8 +6,9 @@ use Rattle.plant_runs.specs.declared.step.Step.{Step}
 use Rattle.plant_runs.specs.declared.step.Out.{Out}
 use Rattle.plant_runs.specs.Reached.{CoreView}
 use Rattle.plant_runs.specs.Steps.{Steps}
+use Rattle.plant_runs.specs.Starts.{Start}
 use Rattle.live_core.specs.GoingOn.{GoesOn}
-use Rattle.live_core.specs.After.{IsAfter}
+use Rattle.live_core.specs.After.{IsAfterFrom}
 use Rattle.live_core.proofs.GoLemmas.{after_more}
 
 all_now : (none now all : List Out) → all ≡ none ++ now → none ≡ [] → now ≡ all
@@ -16,7 +17,7 @@ all_now none now all are empty = sym (are ∙ ap (λ (os : List Out). os ++ now)
 pub step_same : (step : Step) (none now all : List Out) (old new : CoreView) → GoesOn (Steps step) old new now → all ≡ none ++ now → none ≡ [] → GoesOn (Steps step) old new all
 step_same step none now all old new goes are empty = subst (λ (os : List Out). GoesOn (Steps step) old new os) (all_now none now all are empty) goes
 
-pub step_more : (plant : PlantFields) (before : List Step) (told : List Out) (step : Step) (none now all : List Out) (old new : CoreView) → IsPlant plant → GoesOn (Steps step) old new now → all ≡ none ++ now → none ≡ []
-    → IsAfter plant before told old → IsAfter plant (before ++ step ∷ []) (told ++ all) new
-step_more plant before told step none now all old new valid goes are empty after =
-    after_more plant before told step old new all valid (step_same step none now all old new goes are empty) after
+pub step_more : (plant : PlantFields) (start : Start) (before : List Step) (told : List Out) (step : Step) (none now all : List Out) (old new : CoreView) → IsPlant plant → GoesOn (Steps step) old new now → all ≡ none ++ now → none ≡ []
+    → IsAfterFrom plant start before told old → IsAfterFrom plant start (before ++ step ∷ []) (told ++ all) new
+step_more plant start before told step none now all old new valid goes are empty after =
+    after_more plant start before told step old new all valid (step_same step none now all old new goes are empty) after

@@ -1,10 +1,8 @@
 //! What is done to an operator's live desk.
 
 ghost use Rattle.std.specs.Prelude.{◌≡◌, ◌≢◌, ◌↔◌, ◌<◌, false, [], ◌++◌, length, slice_get, Some, Err, IfOk, IfErr, OnOk, OnErr};
-ghost use Rattle.plant.specs.Row.{IsRowOf};
 ghost use Rattle.operator_machine.specs.Frames.{is_tick};
 ghost use Rattle.operator_machine.specs.Machine.{own_step, is_spent, IsAllowed};
-ghost use Rattle.plant_runs.specs.Opened.{opened_book};
 ghost use Rattle.plant_runs.specs.OwnSteps.{under};
 ghost use Rattle.plant_runs.specs.Reached.{frames_of};
 ghost use Rattle.plant_core.specs.Faults.{act_fault, collect_fault, IsTold};
@@ -13,16 +11,14 @@ ghost use Rattle.live_core.specs.DeskView.{book_at, waiting_at};
 ghost use Rattle.plant_core.specs.Putting.{FitsOldest, PutsOldest, CollectsOldest};
 
 use crate::desk::LiveDesk;
-use grant_policy::Ranking;
 use map_assembly::{Gather, MapBytes};
-use operator_book::{BookFault, Live, OpenFault};
+use operator_book::BookFault;
 use operator_machine::{Action, Output};
-use plant::{Consts, Op, OperatorRow};
+use plant::Op;
 use plant_core::{CoreFault, append, append_map};
 use plant_runs::Out;
 use slice_scheduler::Elements;
 use std::alloc::{AllocError, Global};
-use std::collections::VecDeque;
 
 /// The first frame among outputs.
 fn frame_in(outputs: Vec<Output>) -> Option<(u32, Elements)>
@@ -44,24 +40,6 @@ fn is_tick(action: &Action) -> bool
 }
 
 impl LiveDesk {
-    /// The desk of an operator with nothing done.
-    pub fn open(
-        alloc: Global,
-        row: &OperatorRow,
-        consts: &Consts,
-        ranking: Ranking,
-    ) -> Result<LiveDesk, OpenFault>
-        requires { IsRowOf consts.now row.now }
-        ensures book { IfOk result (λ desk. book_at desk ≡ opened_book consts.now row.now) }
-        ensures waiting { IfOk result (λ desk. waiting_at desk ≡ []) }
-        ensures mismatch { (result ≡ Err OpenFault.PolicyMismatch) ↔ (ranking.policy ≢ row.now.policy) }
-    {
-        Ok(LiveDesk {
-            live: Live::open(alloc, row, consts, ranking)?,
-            waiting: VecDeque::new(alloc),
-        })
-    }
-
     /// Does an action, and tells what it puts out. Its frame waits. The caller has seen that the frame numbers are not spent.
     #[tactic(auto, using(crate::proofs::DeskLemmas::frame_waits, crate::proofs::DeskLemmas::none_waits, crate::proofs::DeskLemmas::quiet_waits))]
     #[inline(always)]

@@ -10,7 +10,13 @@ mod judging;
 mod keeping;
 mod laws;
 mod opening;
+mod resume_fault;
+mod resuming;
 mod stepping;
 
 pub use held::LiveCore;
-pub use laws::{faults_are_the_same, live_run_is_shown, step_goes_on, two_live_cores};
+pub use laws::{
+    books_stand_now, faults_are_the_same, live_run_is_shown, resting_core_is_at_rest,
+    resumed_is_changed, started_core_is_after, step_goes_on, two_live_cores, two_resumed_cores,
+};
+pub use resume_fault::ResumeFault;

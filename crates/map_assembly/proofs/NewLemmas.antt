@@ -18,7 +18,7 @@ use Rattle.map_assembly.specs.declared.quota.Quota.{Quota}
 use Rattle.map_assembly.specs.declared.slicing.Reslicing.{Reslicing}
 use Rattle.map_assembly.specs.Part.{quota_of}
 use Rattle.map_assembly.specs.Plan.{IsQuota, AreQuotas, IsInFrame, AreSlices}
-use Rattle.map_assembly.specs.Gathering.{Gathering, gathering_of, slices_or, slices_at, is_whole, IsPartAt, AreQueued, IsGathering, IsPast, MayReslice, resliced}
+use Rattle.map_assembly.specs.Gathering.{Gathering, gathering_at, slices_or, slices_at, is_whole, IsPartAt, AreQueued, IsGathering, IsPast, MayReslice, resliced}
 use Rattle.map_assembly.proofs.OrderLemmas.{PairsByRecursion, pairs_from_AllPairs}
 
 -- ---- pairs and sums over a map
@@ -64,9 +64,9 @@ plant_quotas plant is = record {
   few = omega (arith, elements_of_quotas plant.rows, length-map plant.rows quota_of, is.elements);
 }
 
-plant_slices : (plant : PlantFields) → IsPlant plant → All (λ slice. 1 ≤ slice.length) (map (λ row. row.slice) plant.rows) → AreSlices plant.consts.channel (length (map quota_of plant.rows)) (map (λ row. row.slice) plant.rows)
-plant_slices plant is some = record {
-  one_each = length-map plant.rows (λ (row : RowFields). row.slice) ∙ sym (length-map plant.rows quota_of);
+slices_of_rows : (plant : PlantFields) → IsPlant plant → All (λ slice. 1 ≤ slice.length) (map (λ row. row.slice) plant.rows) → AreSlices plant.consts.channel (length plant.rows) (map (λ row. row.slice) plant.rows)
+slices_of_rows plant is some = record {
+  one_each = length-map plant.rows (λ (row : RowFields). row.slice);
   each = All-from_recursion (IsInFrame plant.consts.channel) (map (λ (row : RowFields). row.slice) plant.rows)
       (all-over (IsInFrame plant.consts.channel) (λ (row : RowFields). row.slice) plant.rows
       (slices_each plant.consts plant.rows (recursion_from_All (IsRowOf plant.consts) plant.rows is.rows) (recursion_from_All (λ (slice : Minislots). 1 ≤ slice.length) (map (λ (row : RowFields). row.slice) plant.rows) some)));
@@ -84,21 +84,25 @@ none_queued slice_at quota next (suc n) zero queue e =
     subst (λ (q : List ElementsFields). AreQueued slice_at quota next q) (same_Some none queue e) tt
 none_queued slice_at quota next (suc n) (suc k) queue e = none_queued slice_at quota next n k queue e
 
-gathering_is : (plant : PlantFields) → IsPlant plant → All (λ slice. 1 ≤ slice.length) (map (λ row. row.slice) plant.rows) → IsGathering (gathering_of plant)
-gathering_is plant is some = record {
+-- the slices of its rows are valid slices of a plant
+pub plant_slices : (plant : PlantFields) → IsPlant plant → (slices : List Minislots) → slices ≡ map (λ row. row.slice) plant.rows → All (λ slice. 1 ≤ slice.length) slices → AreSlices plant.consts.channel (length plant.rows) slices
+plant_slices plant is slices e some =
+    subst (λ (ms : List Minislots). AreSlices plant.consts.channel (length plant.rows) ms) (sym e)
+    (slices_of_rows plant is (subst (λ (ms : List Minislots). All (λ (slice : Minislots). 1 ≤ slice.length) ms) e some))
+
+-- what nothing is put in
+pub gathering_resumed : (plant : PlantFields) (g : Gathering) (frame : ℕ) (slices : List Minislots) → IsPlant plant → AreSlices plant.consts.channel (length plant.rows) slices → plant.consts.channel.first_frame ≤ frame
+    → g ≡ gathering_at plant frame slices → IsGathering g
+gathering_resumed plant g frame slices is valid started same = subst IsGathering (sym same) (record {
   channel_is = is.consts.channel;
   quotas_are = plant_quotas plant is;
-  slices_are = plant_slices plant is some;
+  slices_are = subst (λ (n : ℕ). AreSlices plant.consts.channel n slices) (sym (length-map plant.rows quota_of)) valid;
   reslicings_are = All-from_recursion (λ (r : Reslicing). AreSlices plant.consts.channel (length (map quota_of plant.rows)) r.slicing) [] tt;
   one_each = let none : List ElementsFields = [] in length-replicate (length plant.rows) none ∙ sym (length-map plant.rows quota_of);
   waiting = nobody_waits (length plant.rows) is.some;
-  started = omega arith;
-  queued = λ k quota queue e f. none_queued (λ (n : ℕ). slice_get (slices_at (map (λ (row : RowFields). row.slice) plant.rows) [] n) k) quota plant.consts.channel.first_frame (length plant.rows) k queue f;
-}
-
-pub gathering_made : (plant : PlantFields) (g : Gathering) → IsPlant plant → (slices : List Minislots) → slices ≡ map (λ row. row.slice) plant.rows → All (λ slice. 1 ≤ slice.length) slices → g ≡ gathering_of plant → IsGathering g
-gathering_made plant g is slices e some same =
-    subst IsGathering (sym same) (gathering_is plant is (subst (λ (ms : List Minislots). All (λ (slice : Minislots). 1 ≤ slice.length) ms) e some))
+  started = started;
+  queued = λ k quota queue e f. none_queued (λ (n : ℕ). slice_get (slices_at slices [] n) k) quota frame (length plant.rows) k queue f;
+})
 
 pub same_new : (g h : Gathering) → g.channel ≡ h.channel → g.quotas ≡ h.quotas → g.slices ≡ h.slices → g.reslicings ≡ h.reslicings → g.queues ≡ h.queues → g.next ≡ h.next → g ≡ h
 same_new g h a b c d e f = λ i. record { channel = a i; quotas = b i; slices = c i; reslicings = d i; queues = e i; next = f i }

@@ -34,6 +34,17 @@ gathering_of plant = record {
   next = plant.consts.channel.first_frame;
 }
 
+-- no part is put of the frames from this one on, and these slices are in force
+abbrev pub gathering_at : PlantFields → ℕ → List Minislots → Gathering
+gathering_at plant frame slices = record {
+  channel = plant.consts.channel;
+  quotas = map quota_of plant.rows;
+  slices = slices;
+  reslicings = [];
+  queues = replicate (length plant.rows) [];
+  next = frame;
+}
+
 -- ---- the slices of a frame
 
 -- the slices of a re-slicing, else these

@@ -1,5 +1,5 @@
 -- What the assembly of MAPs knows of a plant (own).
-use Rattle.std.specs.Prelude.{◌≡◌, ℕ, ◌+◌, ◌*◌, ◌≤◌, false, List, length, All, AllPairs, sum_by}
+use Rattle.std.specs.Prelude.{◌≡◌, ℕ, ◌+◌, ◌*◌, ◌<◌, ◌≤◌, false, List, length, take, All, AllPairs, sum_by}
 use Rattle.slice_scheduler.specs.Minislots.{Minislots, slices_overlap}
 use Rattle.plant.specs.Plant.{ranges_overlap}
 use Rattle.plant.specs.declared.consts.Channel.{Channel}
@@ -31,3 +31,9 @@ pub record AreSlices (channel : Channel) (count : ℕ) (slices : List Minislots)
   pub one_each : length slices ≡ count
   pub each : All (IsInFrame channel) slices
   pub apart : AllPairs (λ a b. slices_overlap a b ≡ false) slices
+
+-- the slices before this operator's are valid, and with its own they are not: it is outside the frame, or overlaps one of them
+pub record IsFirstInvalid (channel : Channel) (slices : List Minislots) (op : ℕ) : Type 0 where
+  pub within : op < length slices
+  pub before : AreSlices channel op (take op slices)
+  pub not_with : ¬ AreSlices channel (op + 1) (take (op + 1) slices)

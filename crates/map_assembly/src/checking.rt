@@ -1,12 +1,12 @@
 //! Whether slices are valid.
 
-ghost use Rattle.std.specs.Prelude.{◌≡◌, ◌↔◌, not, false, length, All, AllPairs, IsTrue};
+ghost use Rattle.std.specs.Prelude.{◌≡◌, ◌↔◌, not, false, length, All, AllPairs, IsTrue, IfSome, None};
 ghost use Rattle.std.specs.List.{list_all};
 ghost use Rattle.slice_scheduler.specs.Minislots.{slices_overlap};
-ghost use Rattle.map_assembly.specs.Plan.{IsInFrame, AreSlices};
+ghost use Rattle.map_assembly.specs.Plan.{IsInFrame, AreSlices, IsFirstInvalid};
 ghost use Rattle.map_assembly.specs.Apart.{all_apart};
 
-use plant::Channel;
+use plant::{Channel, Op, Plant};
 use slice_scheduler::Slice;
 
 /// Whether a slice overlaps none of others.
@@ -57,4 +57,29 @@ pub(crate) fn are_slices(channel: Channel, count: usize, slices: &[Slice]) -> bo
     ensures { IsTrue result ↔ AreSlices channel count slices.now }
 {
     slices.len() == count && all_in_frame(channel, slices) && no_two_overlap(slices)
+}
+
+/// Returns whether these are valid slices of the plant's operators: one for each, inside the frame after the head, no two
+/// overlapping. Allocates nothing.
+pub fn are_slices_of(plant: &Plant, slices: &[Slice]) -> bool
+    ensures { IsTrue result ↔ AreSlices plant.now.consts.channel (length plant.now.rows) slices.now }
+{
+    are_slices(
+        plant.consts().get_fields().channel,
+        plant.rows().len(),
+        slices,
+    )
+}
+
+/// Returns the first operator whose slice is outside the frame or overlaps that of an operator before it. Allocates nothing.
+pub fn first_invalid_slice(channel: Channel, slices: &[Slice]) -> Option<Op>
+    ensures none { (result ≡ None) ↔ AreSlices channel (length slices.now) slices.now }
+    ensures first { IfSome result (IsFirstInvalid channel slices.now) }
+{
+    for op in 0..slices.len() {
+        if !are_slices(channel, op + 1, &slices[..op + 1]) {
+            return Some(op);
+        }
+    }
+    None
 }

@@ -5,7 +5,8 @@ ghost use Rattle.slice_scheduler.specs.Minislots.{Minislots};
 ghost use Rattle.slice_scheduler.specs.Tiles.{IsTiled};
 ghost use Rattle.slice_scheduler.specs.declared.elements.ElementsFields.{ElementsFields};
 ghost use Rattle.map_assembly.specs.Part.{quota_of};
-ghost use Rattle.map_assembly.specs.Gathering.{gathering_of, fits_at, queue_of, put_fault, with_part, is_whole, is_last, after_put, frame_out, next_of, frame_slices, frame_parts, MayReslice, resliced, IsGathering};
+ghost use Rattle.map_assembly.specs.Plan.{AreSlices};
+ghost use Rattle.map_assembly.specs.Gathering.{gathering_of, gathering_at, fits_at, queue_of, put_fault, with_part, is_whole, is_last, after_put, frame_out, next_of, frame_slices, frame_parts, MayReslice, resliced, IsGathering};
 ghost use Rattle.map_assembly.specs.Assembled.{IsMapOf, IsAnswer};
 ghost use Rattle.map_assembly.specs.LettingGo.{has_begun, GoesOnAlike};
 ghost use Rattle.map_assembly.specs.declared.refused.GatherFault.{GatherFault};
@@ -184,19 +185,34 @@ impl Gather {
     pub fn new(alloc: Global, plant: &Plant) -> Result<Gather, AllocError>
         ensures { IfOk result (λ gather. gather ≡ gathering_of plant.now) }
     {
+        let first_frame = plant.consts().get_fields().channel.first_frame;
+        let slices = slices_of(alloc, plant.rows())?;
+        Gather::resume(alloc, plant, first_frame, slices)
+    }
+
+    /// Returns the assembly of a plant that goes on at `frame`: no part is put, and `slices` are in force, one for each operator
+    /// in the plant's order. The slices are valid (`are_slices_of` is the test).
+    pub fn resume(
+        alloc: Global,
+        plant: &Plant,
+        frame: u32,
+        slices: Vec<Slice>,
+    ) -> Result<Gather, AllocError>
+        requires slices { AreSlices plant.now.consts.channel (length plant.now.rows) slices.items }
+        requires started { plant.now.consts.channel.first_frame ≤ frame }
+        ensures { IfOk result (λ gather. gather ≡ gathering_at plant.now frame slices.items) }
+    {
         let rows = plant.rows();
-        let fields = plant.consts().get_fields();
-        let first_frame = fields.channel.first_frame;
         let quotas = quotas_of(alloc, rows)?;
-        let slices = Slicing::new(alloc, slices_of(alloc, rows)?)?;
         let queues = no_queues(alloc, rows.len())?;
+        let slices = Slicing::new(alloc, slices)?;
         Ok(Gather {
-            channel: fields.channel,
+            channel: plant.consts().get_fields().channel,
             quotas,
             slices,
             reslicings: Vec::new(alloc),
             queues,
-            next: first_frame as u64,
+            next: frame as u64,
         })
     }
 

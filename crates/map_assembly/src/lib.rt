@@ -16,6 +16,7 @@ mod view;
 mod wire;
 mod writing;
 
+pub use checking::{are_slices_of, first_invalid_slice};
 pub use gather::Gather;
 pub use map_bytes::MapBytes;
 pub use reading::read_map;

@@ -13,7 +13,9 @@ ghost use Rattle.operator_book.specs.MostOutputs.{most_outputs_of};
 use crate::book::{BookFault, OpenFault};
 use crate::machine::{Both, Machine};
 use grant_policy::Ranking;
-use operator_machine::{Action, Output, SliceRow, Unfit, opened_is_sound, step_keeps_sound};
+use operator_machine::{
+    Action, NextShare, Output, Share, SliceRow, Unfit, opened_is_sound, step_keeps_sound,
+};
 use plant::{Consts, OperatorRow};
 use std::alloc::{AllocError, Global};
 use std::marker::Model;
@@ -64,6 +66,13 @@ impl SoundMachine {
         let _some = row.get_fields().slice.get_length();
         let machine = Machine::open(alloc, row, consts)?;
         Ok(SoundMachine { machine })
+    }
+
+    /// A law: the state is sound. Does nothing.
+    fn always(&self)
+        ensures { IsSound self.now }
+    {
+        let _ = &self.machine;
     }
 
     /// Does an action that is not refused, and tells what it puts out, maybe twice.
@@ -165,6 +174,34 @@ impl Live {
         ensures { self.new.sound ≡ after_step self.old.sound (actions.Reslice from row) }
     {
         self.sound.reslice(from, row);
+    }
+
+    /// A law: the state is sound. Does nothing.
+    pub fn always(&self)
+        ensures { IsSound self.now.sound }
+    {
+        self.sound.always();
+    }
+
+    /// The number of the next frame.
+    pub fn frame(&self) -> u32
+        ensures { result ≡ self.now.sound.state.frame }
+    {
+        self.sound.machine.frame
+    }
+
+    /// The slice and the budget in force.
+    pub fn share(&self) -> Share
+        ensures { result ≡ self.now.sound.state.share }
+    {
+        self.sound.machine.share
+    }
+
+    /// Those that wait for their frame.
+    pub fn next(&self) -> Option<NextShare>
+        ensures { result ≡ self.now.sound.state.next }
+    {
+        self.sound.machine.next
     }
 
     /// How many outputs an action has at most, if it is done next. At most 65,537.

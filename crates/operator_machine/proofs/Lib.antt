@@ -12,6 +12,7 @@ pub mod RoomLemmas
 pub mod FreshLemmas
 pub mod ProvisionedLemmas
 pub mod OpenedLemmas
+pub mod OpenedBeforeLemmas
 pub mod SoundLemmas
 pub mod UndoLemmas
 pub mod PartLemmas

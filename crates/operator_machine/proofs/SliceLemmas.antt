@@ -1,5 +1,5 @@
 -- The slice of each frame of a run.
-use Rattle.std.proofs.Common.{◌≡◌, ℕ, ◌+◌, ◌==◌, ◌<◌, ◌≤◌, Bool, true, false, cond, List, [], ◌∷◌, Option, Some, None, is_some, IfSome, All, find, map, reverse, refl, sym, ap, ◌∙◌, subst, arith, nat_le}
+use Rattle.std.proofs.Common.{◌≡◌, ℕ, ◌+◌, ◌==◌, ◌<◌, ◌≤◌, Bool, true, false, cond, List, [], ◌∷◌, ◌++◌, Option, Some, None, is_some, IfSome, All, find, map, reverse, refl, sym, ap, ◌∙◌, subst, arith, nat_le}
 use Rattle.std.specs.List.{AllByRecursion, cons_option}
 use Rattle.std.specs.Option.{option_or}
 use Rattle.std.proofs.lemmas.Bool.{le-leb, lt-leb, leb-false, eqb-true, eqb-false}
@@ -20,13 +20,15 @@ use Rattle.operator_machine.specs.declared.output.Output.{Output}
 use Rattle.operator_machine.specs.declared.output.Output.TheVariants as outputs
 use Rattle.operator_machine.specs.declared.share.Share.{Share}
 use Rattle.operator_machine.specs.declared.share.NextShare.{NextShare}
+use Rattle.flow_table.specs.Table.{committed_minislots}
 use Rattle.operator_machine.specs.State.{operator, OperatorState, opened, Operator}
 use Rattle.operator_machine.specs.Handle.{Ran}
 use Rattle.operator_machine.specs.Frame.{share_at, next_at, resent, frame_elements}
 use Rattle.operator_machine.specs.Frames.{frames_in}
 use Rattle.operator_machine.specs.Machine.{arrived, worked, resliced, unfit_from, own_step, own_run, IsAllowed}
 use Rattle.operator_machine.specs.Replay.{actions_of, AreTold, IsReplay}
-use Rattle.operator_machine.specs.Slices.{SliceFrom, slice_from, reslicings_in, slice_or, slice_at, IsOfItsSlice, MayRun}
+use Rattle.operator_machine.specs.Sound.{IsNextShare, IsSound}
+use Rattle.operator_machine.specs.Slices.{SliceFrom, slice_from, reslicings_in, slice_or, slice_at, waiting_slice, slice_of_run, IsOfItsSlice, MayRun, FramesFollowTheirState, NextSliceFollowsItsState}
 use Rattle.operator_machine.proofs.FrameLemmas.{StaysAt, worked_none, arrived_none, resent_none}
 use Rattle.operator_machine.proofs.StepLemmas.{passed}
 
@@ -222,21 +224,34 @@ module _ (consts : ConstsFields) (row : RowFields) where
       (own_run (operator consts row (after state action)) actions).outputs
       (run_frames (after state action) actions step.to_come may.1))
 
+  -- the slice that waits is the first of the re-slicings
+  waited : (share : Share) (next : Option NextShare) (rs : List SliceFrom) (n : ℕ) → then_all (slice_then share next n) rs n ≡ slice_at share.slice (waiting_slice next ++ rs) n
+  waited share None rs n = sym (slice_at-is share.slice rs n)
+  waited share (Some next) rs n = sym (slice_at-is share.slice (waiting_slice (Some next) ++ rs) n)
+
+  frames-from : (state : OperatorState) (actions : List Action) → IsToCome state.frame state.next → MayRun (operator consts row state) actions
+      → All (IsOfItsSlice (slice_of_run state actions)) (own_run (operator consts row state) actions).outputs
+  frames-from state actions to_come may =
+      let puts = (own_run (operator consts row state) actions).outputs in
+      let made : ℕ → Minislots = λ n. then_all (of_state state n) (reslicings_in actions) n in
+      All-from_recursion (IsOfItsSlice (slice_of_run state actions)) puts
+      (recursion-weaker (IsFrom state.frame made) (IsOfItsSlice (slice_of_run state actions))
+      (of_its_slice state.frame (slice_of_run state actions) made (waited state.share state.next (reslicings_in actions)))
+      puts (run_frames state actions to_come may))
+
+  in_force-from : (state : OperatorState) (actions : List Action) → IsToCome state.frame state.next → MayRun (operator consts row state) actions
+      → (own_run (operator consts row state) actions).state.share.slice ≡ slice_of_run state actions (own_run (operator consts row state) actions).state.frame
+  in_force-from state actions to_come may =
+      let end = (own_run (operator consts row state) actions).state in
+      let all = run_slices state actions to_come may in
+      sym (now end.frame end.share end.next all.to_come) ∙ (all.same end.frame (omega arith) ∙ waited state.share state.next (reslicings_in actions) end.frame)
+
   pub run-frames : (actions : List Action) → MayRun (operator consts row (opened consts row)) actions → All (IsOfItsSlice (slice_at row.slice (reslicings_in actions))) (own_run (operator consts row (opened consts row)) actions).outputs
-  run-frames actions may =
-      let puts = (own_run (operator consts row (opened consts row)) actions).outputs in
-      let made : ℕ → Minislots = λ n. then_all row.slice (reslicings_in actions) n in
-      All-from_recursion (IsOfItsSlice (slice_at row.slice (reslicings_in actions))) puts
-      (recursion-weaker (IsFrom consts.channel.first_frame made) (IsOfItsSlice (slice_at row.slice (reslicings_in actions)))
-      (of_its_slice consts.channel.first_frame (slice_at row.slice (reslicings_in actions)) made (λ n. sym (slice_at-is row.slice (reslicings_in actions) n)))
-      puts (run_frames (opened consts row) actions tt may))
+  run-frames actions may = frames-from (opened consts row) actions tt may
 
   pub run-in_force : (actions : List Action) → MayRun (operator consts row (opened consts row)) actions
       → (own_run (operator consts row (opened consts row)) actions).state.share.slice ≡ slice_at row.slice (reslicings_in actions) (own_run (operator consts row (opened consts row)) actions).state.frame
-  run-in_force actions may =
-      let end = (own_run (operator consts row (opened consts row)) actions).state in
-      let all = run_slices (opened consts row) actions tt may in
-      sym (now end.frame end.share end.next all.to_come) ∙ (all.same end.frame (omega arith) ∙ sym (slice_at-is row.slice (reslicings_in actions) end.frame))
+  run-in_force actions may = in_force-from (opened consts row) actions tt may
 
   -- ---- a replay
 
@@ -247,3 +262,19 @@ module _ (consts : ConstsFields) (row : RowFields) where
   pub replay-in_force : (history : List Entry) (state : OperatorState) → IsReplay consts row history state → state.share.slice ≡ slice_at row.slice (reslicings_in (actions_of history)) state.frame
   replay-in_force history state replay = subst (λ (s : OperatorState). s.share.slice ≡ slice_at row.slice (reslicings_in (actions_of history)) s.frame) (sym replay.state_is)
       (run-in_force (actions_of history) (told-may (opened consts row) history replay.told))
+
+-- ---- from a sound state
+
+-- what waits of a sound state is to come
+waits_to_come : (op : Operator) → IsSound op → IsToCome op.state.frame op.state.next
+waits_to_come op sound = by op.state.next sound.next
+  where
+    by : (next : Option NextShare) → IfSome next (IsNextShare op.consts op.state.frame (committed_minislots op.consts.units op.state.flows)) → IsToCome op.state.frame next
+    by None h = tt
+    by (Some next) h = h.to_come
+
+pub state-frames : FramesFollowTheirState
+state-frames op actions sound may = frames-from op.consts op.row op.state actions (waits_to_come op sound) may
+
+pub state-in_force : NextSliceFollowsItsState
+state-in_force op actions sound may = in_force-from op.consts op.row op.state actions (waits_to_come op sound) may

@@ -19,10 +19,14 @@ AreTold o (entry ∷ history) =
     × (entry.outputs ≡ (own_step o entry.action).outputs)
     × AreTold (after_step o entry.action) history
 
--- the state is the run of the history from the opened state, and the outputs are the run's
-pub record IsReplay (consts : ConstsFields) (row : RowFields) (history : List Entry) (state : OperatorState) : Type 0 where
-  pub state_is : state ≡ (own_run (operator consts row (opened consts row)) (actions_of history)).state
-  pub told : AreTold (operator consts row (opened consts row)) history
+-- the state is the run of the history from this first state, and the outputs are the run's
+pub record IsReplayFrom (consts : ConstsFields) (row : RowFields) (first : OperatorState) (history : List Entry) (state : OperatorState) : Type 0 where
+  pub state_is : state ≡ (own_run (operator consts row first) (actions_of history)).state
+  pub told : AreTold (operator consts row first) history
+
+-- the same from the opened state
+abbrev pub IsReplay : ConstsFields → RowFields → List Entry → OperatorState → Type 0
+IsReplay consts row history state = IsReplayFrom consts row (opened consts row) history state
 
 -- what contracts see of a book
 pub record BookView : Type 0 where

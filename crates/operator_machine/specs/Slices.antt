@@ -1,16 +1,18 @@
 -- Which slice each frame of a run has (own).
-use Rattle.std.specs.Prelude.{◌≡◌, ℕ, nat_le, List, [], ◌∷◌, All, filter_map, find, reverse, Option, Some, None}
+use Rattle.std.specs.Prelude.{◌≡◌, ℕ, nat_le, List, [], ◌∷◌, ◌++◌, All, filter_map, find, reverse, Option, Some, None}
 use Rattle.slice_scheduler.specs.Minislots.{Minislots}
 use Rattle.operator_machine.specs.declared.action.Action.{Action}
 use Rattle.operator_machine.specs.declared.action.Action.TheVariants.{Arrive, Work, Tick, Reslice}
 use Rattle.operator_machine.specs.declared.output.Output.{Output}
 use Rattle.operator_machine.specs.declared.output.Output.TheVariants as outputs
+use Rattle.operator_machine.specs.declared.share.NextShare.{NextShare}
 use Rattle.plant.specs.declared.consts.ConstsFields.{ConstsFields}
 use Rattle.plant.specs.declared.operator_row.RowFields.{RowFields}
 use Rattle.operator_machine.specs.declared.action.Entry.{Entry}
 use Rattle.operator_machine.specs.State.{OperatorState, Operator, operator, opened}
 use Rattle.operator_machine.specs.Machine.{after_step, own_run, IsAllowed}
 use Rattle.operator_machine.specs.Replay.{actions_of, IsReplay}
+use Rattle.operator_machine.specs.Sound.{IsSound}
 
 -- a slice, and the first frame of which it is the slice
 pub record SliceFrom : Type 0 where
@@ -36,6 +38,15 @@ slice_or first (Some reslicing) = reslicing.slice
 abbrev pub slice_at : Minislots → List SliceFrom → ℕ → Minislots
 slice_at first reslicings frame = slice_or first (find (λ r. nat_le r.from frame) (reverse reslicings))
 
+-- the slice of a share that waits for its frame, as a re-slicing
+abbrev pub waiting_slice : Option NextShare → List SliceFrom
+waiting_slice None = []
+waiting_slice (Some next) = record { from = next.from; slice = next.share.slice } ∷ []
+
+-- the slice of a frame of a run from a state: at first that in force, then the one that waits, then those of the run
+abbrev pub slice_of_run : OperatorState → List Action → ℕ → Minislots
+slice_of_run state actions frame = slice_at state.share.slice (waiting_slice state.next ++ reslicings_in actions) frame
+
 -- a frame that is put out is of the slice of its number
 abbrev pub IsOfItsSlice : (ℕ → Minislots) → Output → Type 0
 IsOfItsSlice slice (outputs.Reply modem bytes) = Unit {0}
@@ -50,6 +61,16 @@ MayRun o (action ∷ actions) = IsAllowed o action × MayRun (after_step o actio
 -- an operator before its first action
 abbrev pub started : ConstsFields → RowFields → Operator
 started consts row = operator consts row (opened consts row)
+
+-- each frame of a run from a sound state is of the slice of its number
+abbrev pub FramesFollowTheirState : Type 0
+FramesFollowTheirState = (op : Operator) (actions : List Action) → IsSound op → MayRun op actions
+    → All (IsOfItsSlice (slice_of_run op.state actions)) (own_run op actions).outputs
+
+-- after a run from a sound state the slice of the frame that comes next is in force
+abbrev pub NextSliceFollowsItsState : Type 0
+NextSliceFollowsItsState = (op : Operator) (actions : List Action) → IsSound op → MayRun op actions
+    → (own_run op actions).state.share.slice ≡ slice_of_run op.state actions (own_run op actions).state.frame
 
 -- each frame that a run puts out is of the slice of its number
 abbrev pub FramesHaveTheirSlices : Type 0

@@ -46,6 +46,14 @@ opened consts row = record {
   next = None;
 }
 
+-- the constants of a plant that begins with this frame, all else unchanged
+abbrev pub consts_from : ℕ → ConstsFields → ConstsFields
+consts_from frame consts = record consts { channel = record consts.channel { first_frame = frame } }
+
+-- a machine as it is opened before a later frame than the plant's first one: an operator that joins a running plant
+abbrev pub opened_before : ℕ → ConstsFields → RowFields → OperatorState
+opened_before frame consts row = opened (consts_from frame consts) row
+
 -- an operator: what all operators share, its row, and its state
 pub record Operator : Type 0 where
   pub consts : ConstsFields

@@ -9,7 +9,7 @@ ghost use Rattle.flow_table.specs.Table.{flowing_in};
 ghost use Rattle.operator_machine.specs.State.{Operator};
 ghost use Rattle.operator_machine.specs.Frame.{at_frame, flows_left, frame_elements};
 ghost use Rattle.operator_machine.specs.Frames.{FramesHaveNoGap, NextFrameFollows};
-ghost use Rattle.operator_machine.specs.Slices.{FramesHaveTheirSlices, NextSliceIsInForce, ReplayedSliceIsInForce};
+ghost use Rattle.operator_machine.specs.Slices.{FramesHaveTheirSlices, NextSliceIsInForce, ReplayedSliceIsInForce, FramesFollowTheirState, NextSliceFollowsItsState};
 ghost use Rattle.operator_machine.specs.Part.{is_own_sid};
 ghost use Rattle.operator_machine.specs.Sound.{IsSound};
 
@@ -58,4 +58,11 @@ pub fn frames_are_shares()
     ensures frames { FramesHaveTheirSlices }
     ensures in_force { NextSliceIsInForce }
     ensures replayed { ReplayedSliceIsInForce }
+{}
+
+/// States the same of a run from any sound state: at first the slice in force holds, then the one that waits, then those that
+/// the run is given.
+pub fn frames_follow_their_state()
+    ensures frames { FramesFollowTheirState }
+    ensures in_force { NextSliceFollowsItsState }
 {}

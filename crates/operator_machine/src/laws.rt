@@ -1,12 +1,12 @@
 //! Laws of the machine.
 
-ghost use Rattle.std.specs.Prelude.{◌≤◌, List};
+ghost use Rattle.std.specs.Prelude.{ℕ, ◌≤◌, List};
 ghost use Rattle.plant.specs.declared.consts.ConstsFields.{ConstsFields};
 ghost use Rattle.plant.specs.declared.operator_row.RowFields.{RowFields};
 ghost use Rattle.plant.specs.Row.{IsRowOf};
 ghost use Rattle.operator_machine.specs.declared.action.Action.{Action};
 ghost use Rattle.operator_machine.specs.declared.action.Entry.{Entry};
-ghost use Rattle.operator_machine.specs.State.{Operator, OperatorState, operator, opened};
+ghost use Rattle.operator_machine.specs.State.{Operator, OperatorState, operator, opened, opened_before};
 ghost use Rattle.operator_machine.specs.Machine.{own_step, IsAllowed};
 ghost use Rattle.operator_machine.specs.Replay.{IsReplay};
 ghost use Rattle.operator_machine.specs.Sound.{IsSound};
@@ -17,6 +17,12 @@ ghost use Rattle.operator_machine.specs.Repeats.{RepeatsChangeNothing};
 pub fn opened_is_sound()
     ensures { (consts : ConstsFields) (row : RowFields) → IsRowOf consts row → 1 ≤ row.slice.length
         → IsSound (operator consts row (opened consts row)) }
+{}
+
+/// States that an operator that is opened before a later frame than the plant's first one is sound too.
+pub fn opened_before_is_sound()
+    ensures { (frame : ℕ) (consts : ConstsFields) (row : RowFields) → IsRowOf consts row → 1 ≤ row.slice.length
+        → IsSound (operator consts row (opened_before frame consts row)) }
 {}
 
 /// An action that is not refused leaves a sound state: no limit of the row is passed, no SFID or SID is given twice, no more

@@ -1,5 +1,5 @@
 -- Slices that each operator's book takes, and of which no two meet, are taken by the assembly.
-use Rattle.std.proofs.Common.{◌≡◌, ℕ, zero, suc, ◌+◌, ◌<◌, ◌≤◌, ◌==◌, ◌||◌, Bool, true, false, cond, List, [], ◌∷◌, length, map, All, AllPairs, get_or, is_some, Option, Some, None, option_map, refl, sym, ap, ◌∙◌, subst, arith, nat_le, nat_lt}
+use Rattle.std.proofs.Common.{◌≡◌, ℕ, zero, suc, ◌+◌, ◌<◌, ◌≤◌, ◌==◌, ◌||◌, Bool, true, false, cond, List, [], ◌∷◌, ◌++◌, length, map, All, AllPairs, get_or, is_some, Option, Some, None, option_map, refl, sym, ap, ◌∙◌, subst, arith, nat_le, nat_lt}
 use Rattle.std.specs.Prelude.{slice_get, count_by, if◌then◌else◌}
 use Rattle.std.specs.List.{AllByRecursion, range_with_len}
 use Rattle.std.proofs.lemmas.Bool.{or_parts, leb-false, ltb-false, eqb-false, eqb-true}
@@ -8,6 +8,7 @@ use Rattle.std.proofs.lemmas.List.Elements.{All-from_recursion}
 use Rattle.std.proofs.lemmas.Option.{slice_get-get_or, slice_get_within, slice_get-map, get_or_from_slice_get}
 use Rattle.slice_scheduler.specs.Minislots.{Minislots, slices_overlap}
 use Rattle.slice_scheduler.specs.declared.elements.ElementsFields.{ElementsFields}
+use Rattle.slice_scheduler.proofs.SumLemmas.{recursion-append}
 use Rattle.plant.specs.declared.consts.ConstsFields.{ConstsFields}
 use Rattle.plant.specs.declared.operator_row.RowFields.{RowFields}
 use Rattle.plant.specs.declared.plant.PlantFields.{PlantFields}
@@ -18,12 +19,12 @@ use Rattle.operator_machine.specs.declared.action.Action.{Action}
 use Rattle.operator_machine.specs.declared.action.Action.TheVariants.{Arrive, Work, Tick, Reslice}
 use Rattle.operator_machine.specs.declared.action.Unfit.TheVariants.{NotPast, Unfinished, OffFrame, BudgetOverSlice, OverBudget}
 use Rattle.operator_machine.specs.declared.share.NextShare.{NextShare}
-use Rattle.operator_machine.specs.State.{OperatorState, opened, operator}
+use Rattle.operator_machine.specs.State.{OperatorState, operator}
 use Rattle.operator_machine.specs.Frame.{next_at}
 use Rattle.operator_machine.specs.Frames.{is_tick}
 use Rattle.operator_machine.specs.Machine.{arrived, worked, own_step, own_run, is_off_frame, unfit_from, IsAllowed}
 use Rattle.operator_machine.specs.Replay.{BookView}
-use Rattle.operator_machine.specs.Slices.{SliceFrom, reslicings_in, MayRun}
+use Rattle.operator_machine.specs.Slices.{SliceFrom, reslicings_in, MayRun, waiting_slice}
 use Rattle.operator_machine.proofs.FrameLemmas.{arrived_none, worked_none, run_puts}
 use Rattle.operator_machine.proofs.KeptLemmas.{pairs-map}
 use Rattle.plant.specs.declared.consts.Channel.{Channel}
@@ -34,12 +35,13 @@ use Rattle.map_assembly.specs.Gathering.{Gathering, next_of, IsGathering, IsPast
 use Rattle.plant_runs.specs.declared.step.Step.{Step}
 use Rattle.plant_runs.specs.declared.step.Out.{Out}
 use Rattle.plant_runs.specs.OwnSteps.{own_steps, slice_of, reslicings_of}
-use Rattle.plant_runs.specs.Shown.{alone}
-use Rattle.plant_runs.specs.Reached.{CoreView, Reached, frames_of}
+use Rattle.plant_runs.specs.Shown.{alone_from}
+use Rattle.plant_runs.specs.Reached.{CoreView, ReachedFrom, frames_of}
 use Rattle.plant_runs.proofs.Entries.{some_at}
 use Rattle.plant_runs.proofs.Numbers.{Numbered, numbers_are}
-use Rattle.plant_runs.proofs.OwnSlices.{own_of, own_reslicings}
-use Rattle.plant_runs.proofs.Fits.{may, one_each, put_so_far, queue_there}
+use Rattle.plant_runs.proofs.Fits.{may, own_all, put_so_far, queue_there, opened_starts}
+use Rattle.plant_runs.specs.Starts.{Start, first_start, own_of, IsStart}
+use Rattle.plant_runs.specs.Reached.{Reached}
 
 -- ---- what a book that takes a row tells
 
@@ -127,6 +129,11 @@ module _ (consts : ConstsFields) (row : RowFields) where
       let later = own_step (operator consts row state) (Reslice from offered) in
       (omega (arith, run_reach later.state actions may.1, offered_reach state from offered), within_reach later.state actions may.1)
 
+-- what waited at first lies within it
+waited_reach : (frame : ℕ) (next : Option NextShare) (bound : ℕ) → reach_of frame next ≤ bound → AllByRecursion (λ (r : SliceFrom). r.from ≤ bound) (waiting_slice next)
+waited_reach frame None bound h = tt
+waited_reach frame (Some next) bound h = (h, tt)
+
 before : (i bound from : ℕ) (rs : List Reslicing) → bound < from → AllByRecursion (λ (r : SliceFrom). r.from ≤ bound) (map (own_of i) rs) → AllByRecursion (λ (r : Reslicing). r.from < from) rs
 before i bound from [] lt h = tt
 before i bound from (r ∷ rs) lt h = (omega (arith, lt, h.0), before i bound from rs lt h.1)
@@ -137,7 +144,7 @@ length_range a (suc n) = omega (arith, length_range (a + 1) n)
 
 -- ---- a re-slicing that each book takes
 
-module _ (plant : PlantFields) (done : List Step) (outs : List Out) (core : CoreView) (from : ℕ) (rows : List SliceRow) (valid : IsPlant plant) (reached : Reached plant done outs core) (is : IsGathering core.gathering)
+module _ (plant : PlantFields) (start : Start) (done : List Step) (outs : List Out) (core : CoreView) (from : ℕ) (rows : List SliceRow) (valid : IsPlant plant) (starts : IsStart plant start) (reached : ReachedFrom plant start done outs core) (is : IsGathering core.gathering)
     (one : length rows ≡ length core.books) (apart : AllPairs (λ a b. slices_overlap (slice_of a) (slice_of b) ≡ false) rows)
     (fit : (i : ℕ) (row : SliceRow) (book : BookView) → slice_get rows i ≡ Some row → slice_get core.books i ≡ Some book → unfit_from book.consts book.state from row ≡ None) where
   abbrev g : Gathering
@@ -147,7 +154,7 @@ module _ (plant : PlantFields) (done : List Step) (outs : List Out) (core : Core
   quotas_long = ap length reached.gathered.quotas_are ∙ length-map plant.rows quota_of
 
   -- the operator's own machine takes its row
-  own_takes : (i : ℕ) (row : RowFields) → slice_get plant.rows i ≡ Some row → (offered : SliceRow) × (slice_get rows i ≡ Some offered) × Takes plant.consts (alone plant.consts row i done).state from offered
+  own_takes : (i : ℕ) (row : RowFields) → slice_get plant.rows i ≡ Some row → (offered : SliceRow) × (slice_get rows i ≡ Some offered) × Takes plant.consts (alone_from plant.consts start row i done).state from offered
   own_takes i row here =
       let within = slice_get_within plant.rows i row here in
       let book = some_at core.books i (omega (arith, within, reached.one_book)) in
@@ -155,7 +162,7 @@ module _ (plant : PlantFields) (done : List Step) (outs : List Out) (core : Core
       let after = reached.books i row book.0 here book.1 in (
         offered.0,
         offered.1,
-        takes plant.consts (alone plant.consts row i done).state from offered.0
+        takes plant.consts (alone_from plant.consts start row i done).state from offered.0
             ((λ n. unfit_from (sym after.consts_are n) (sym after.state_is n) from offered.0) ∙ fit i offered.0 book.0 offered.1 book.1),
       )
 
@@ -181,23 +188,27 @@ module _ (plant : PlantFields) (done : List Step) (outs : List Out) (core : Core
       let first = some_at plant.rows 0 (omega (arith, valid.some)) in
       let own = first.0 in
       let offered = own_takes 0 own first.1 in
-      let state = (alone plant.consts own 0 done).state in
+      let at = start.state own in
+      let state = (alone_from plant.consts start own 0 done).state in
+      let run = may plant start done outs core starts reached is 0 own first.1 in
       subst (λ (rs : List Reslicing). All (λ (r : Reslicing). r.from < from) rs) (sym reached.gathered.reslicings_are)
-      (All-from_recursion (λ (r : Reslicing). r.from < from) (reslicings_of done)
-      (before 0 (reach state) from (reslicings_of done) (omega (arith, none_waits state.frame state.next offered.2.free, offered.2.past))
+      (All-from_recursion (λ (r : Reslicing). r.from < from) (start.waiting ++ reslicings_of done)
+      (before 0 (reach state) from (start.waiting ++ reslicings_of done) (omega (arith, none_waits state.frame state.next offered.2.free, offered.2.past))
       (subst (λ (rs : List SliceFrom). AllByRecursion (λ (r : SliceFrom). r.from ≤ reach state) rs)
-      (own_reslicings own 0 done (one_each plant done outs core valid reached is 0 own first.1))
-      (within_reach plant.consts own (opened plant.consts own) (own_steps own 0 done) (may plant done outs core valid reached is 0 own first.1)))))
+      (sym (own_all plant start done outs core starts reached is 0 own first.1))
+      (recursion-append (λ (r : SliceFrom). r.from ≤ reach state) (waiting_slice at.next) (reslicings_in (own_steps own 0 done))
+      (waited_reach at.frame at.next (reach state) (run_reach plant.consts own at (own_steps own 0 done) run))
+      (within_reach plant.consts own at (own_steps own 0 done) run)))))
 
   -- no more frames are put than ticked
-  behind : (i : ℕ) (row : RowFields) → slice_get plant.rows i ≡ Some row → next_of g i ≤ (alone plant.consts row i done).state.frame
+  behind : (i : ℕ) (row : RowFields) → slice_get plant.rows i ≡ Some row → next_of g i ≤ (alone_from plant.consts start row i done).state.frame
   behind i row here =
-      let puts = run_puts plant.consts row (opened plant.consts row) (own_steps row i done) in
+      let puts = run_puts plant.consts row (start.state row) (own_steps row i done) in
       let count = count_by is_tick (own_steps row i done) in
-      let frames = frames_of (alone plant.consts row i done).outputs in
+      let frames = frames_of (alone_from plant.consts start row i done).outputs in
       let long : length frames ≡ count =
-      sym (length-map frames (λ (frame : Numbered). frame.0)) ∙ (ap (λ (ns : List ℕ). length ns) (numbers_are (alone plant.consts row i done).outputs ∙ puts.numbers) ∙ length_range plant.consts.channel.first_frame count) in
-      omega (arith, put_so_far plant done outs core valid reached is i row here, reached.gathered.collected i row here, long, puts.next)
+      sym (length-map frames (λ (frame : Numbered). frame.0)) ∙ (ap (λ (ns : List ℕ). length ns) (numbers_are (alone_from plant.consts start row i done).outputs ∙ puts.numbers) ∙ length_range (start.state row).frame count) in
+      omega (arith, put_so_far plant start done outs core starts reached is i row here, reached.gathered.collected i row here, long, puts.next, starts.at_one_frame i row here)
 
   past : All (IsPast g from) g.queues
   past k d lt started =
@@ -207,5 +218,13 @@ module _ (plant : PlantFields) (done : List Step) (outs : List Out) (core : Core
       let same = ap (λ (q : List ElementsFields). length q) there in
       omega (arith, behind k row.0 row.1, same, offered.2.past)
 
-  pub slices_anew : MayReslice g from (map slice_of rows)
-  slices_anew = record { slices_are = given; later = later; past = past }
+  pub anew_from : MayReslice g from (map slice_of rows)
+  anew_from = record { slices_are = given; later = later; past = past }
+
+-- ---- from the opened plant
+
+module _ (plant : PlantFields) (done : List Step) (outs : List Out) (core : CoreView) (from : ℕ) (rows : List SliceRow) (valid : IsPlant plant) (reached : Reached plant done outs core) (is : IsGathering core.gathering)
+    (one : length rows ≡ length core.books) (apart : AllPairs (λ a b. slices_overlap (slice_of a) (slice_of b) ≡ false) rows)
+    (fit : (i : ℕ) (row : SliceRow) (book : BookView) → slice_get rows i ≡ Some row → slice_get core.books i ≡ Some book → unfit_from book.consts book.state from row ≡ None) where
+  pub slices_anew : MayReslice core.gathering from (map slice_of rows)
+  slices_anew = anew_from plant (first_start plant) done outs core from rows valid (opened_starts plant core.gathering valid reached.gathered.slices_are is) reached is one apart fit

@@ -1,9 +1,9 @@
 -- The frame that an operator's next collection takes is fit to be put.
-use Rattle.std.proofs.Common.{◌≡◌, ℕ, zero, suc, ◌+◌, ◌-◌, ◌<◌, ◌≤◌, true, false, List, [], ◌∷◌, length, map, drop, Option, Some, None, option_map, refl, sym, ap, ◌∙◌, subst, arith, nat_lt}
+use Rattle.std.proofs.Common.{◌≡◌, ℕ, zero, suc, ◌+◌, ◌-◌, ◌<◌, ◌≤◌, true, false, List, [], ◌∷◌, ◌++◌, length, map, drop, Option, Some, None, option_map, refl, sym, ap, ◌∙◌, subst, arith, nat_lt}
 use Rattle.std.specs.Prelude.{slice_get}
 use Rattle.std.specs.List.{AllByRecursion}
 use Rattle.std.proofs.lemmas.Bool.{and_from, lt-leb, le-leb, eq-eqb, false_from_ne_true, ltb-true}
-use Rattle.std.proofs.lemmas.List.{length-map}
+use Rattle.std.proofs.lemmas.List.{length-map, map-append}
 use Rattle.std.proofs.lemmas.List.Elements.{recursion_from_All}
 use Rattle.std.proofs.lemmas.Option.{none-some, same_Some, slice_get-map, slice_get_within}
 use Rattle.slice_scheduler.specs.Minislots.{Minislots}
@@ -13,26 +13,28 @@ use Rattle.plant.specs.declared.plant.PlantFields.{PlantFields}
 use Rattle.plant.specs.Row.{IsRowOf}
 use Rattle.plant.specs.Plant.{IsPlant}
 use Rattle.operator_machine.specs.declared.action.Action.{Action}
-use Rattle.operator_machine.specs.State.{opened, operator}
-use Rattle.operator_machine.specs.Slices.{reslicings_in, slice_at, MayRun}
+use Rattle.operator_machine.specs.State.{OperatorState, operator}
+use Rattle.operator_machine.specs.Slices.{SliceFrom, reslicings_in, slice_at, waiting_slice, slice_of_run, MayRun}
 use Rattle.operator_machine.specs.Sound.{IsSound}
 use Rattle.operator_machine.proofs.OpenedLemmas.{opened_sound}
-use Rattle.operator_machine.proofs.SliceLemmas.{run-frames}
+use Rattle.operator_machine.proofs.SliceLemmas.{state-frames}
 use Rattle.map_assembly.specs.declared.quota.Quota.{Quota}
 use Rattle.map_assembly.specs.declared.slicing.Reslicing.{Reslicing}
 use Rattle.map_assembly.specs.Part.{quota_of, is_fitting, is_slice}
 use Rattle.map_assembly.specs.Plan.{IsInFrame, AreSlices}
-use Rattle.map_assembly.specs.Gathering.{frame_slices, slices_at, queue_of, next_of, is_part, put_fault, IsGathering}
+use Rattle.map_assembly.specs.Gathering.{Gathering, frame_slices, slices_at, queue_of, next_of, is_part, put_fault, IsGathering}
 use Rattle.plant_runs.specs.declared.step.Step.{Step}
 use Rattle.plant_runs.specs.declared.step.Out.{Out}
 use Rattle.plant_runs.specs.OwnSteps.{own_steps, maps_in, collects_of, reslicings_of}
-use Rattle.plant_runs.specs.Shown.{alone}
-use Rattle.plant_runs.specs.Reached.{CoreView, frames_of, Reached, AreNumbered}
+use Rattle.plant_runs.specs.Shown.{alone_from}
+use Rattle.plant_runs.specs.Reached.{CoreView, frames_of, ReachedFrom, AreNumbered}
 use Rattle.plant_runs.proofs.Entries.{some_at}
-use Rattle.plant_runs.proofs.Numbers.{Numbered, are_numbered}
+use Rattle.plant_runs.proofs.Numbers.{Numbered, numbered_from}
 use Rattle.plant_runs.proofs.Collected.{put_length}
 use Rattle.plant_runs.proofs.OwnFrames.{at_place, IsOwn, run_own, told_may, of_slices}
 use Rattle.plant_runs.proofs.OwnSlices.{HaveOne, own_reslicings, own_slice}
+use Rattle.plant_runs.specs.Starts.{Start, first_start, own_of, IsStart}
+use Rattle.plant_runs.specs.Reached.{Reached}
 
 -- ---- what stands where
 
@@ -72,19 +74,23 @@ pub have_one : (n i : ℕ) (rs : List Reslicing) → i < n → AllByRecursion (�
 have_one n i [] within h = tt
 have_one n i (r ∷ rs) within h = (omega (arith, within, h.0), have_one n i rs within h.1)
 
+later_one : (i : ℕ) (rs later : List Reslicing) → HaveOne i (rs ++ later) → HaveOne i later
+later_one i [] later h = h
+later_one i (r ∷ rs) later h = later_one i rs later h.1
+
 pub lengths_of : {P : Reslicing → Type 0} (n : ℕ) → ((r : Reslicing) → P r → length r.slicing ≡ n) → (rs : List Reslicing) → AllByRecursion P rs → AllByRecursion (λ (r : Reslicing). length r.slicing ≡ n) rs
 lengths_of n f [] h = tt
 lengths_of n f (r ∷ rs) h = (f r h.0, lengths_of n f rs h.1)
 
 -- ---- an operator after a run
 
-module _ (plant : PlantFields) (done : List Step) (outs : List Out) (core : CoreView) (valid : IsPlant plant) (reached : Reached plant done outs core) (is : IsGathering core.gathering)
+module _ (plant : PlantFields) (start : Start) (done : List Step) (outs : List Out) (core : CoreView) (starts : IsStart plant start) (reached : ReachedFrom plant start done outs core) (is : IsGathering core.gathering)
     (i : ℕ) (row : RowFields) (here : slice_get plant.rows i ≡ Some row) where
   abbrev own : List Action
   own = own_steps row i done
 
   abbrev frames : List Numbered
-  frames = frames_of (alone plant.consts row i done).outputs
+  frames = frames_of (alone_from plant.consts start row i done).outputs
 
   within : i < length plant.rows
   within = slice_get_within plant.rows i row here
@@ -92,47 +98,56 @@ module _ (plant : PlantFields) (done : List Step) (outs : List Out) (core : Core
   quotas_long : length core.gathering.quotas ≡ length plant.rows
   quotas_long = ap length reached.gathered.quotas_are ∙ length-map plant.rows quota_of
 
-  pub may : MayRun (operator plant.consts row (opened plant.consts row)) own
+  abbrev first : OperatorState
+  first = start.state row
+
+  pub may : MayRun (operator plant.consts row first) own
   may =
       let book = some_at core.books i (omega (arith, within, reached.one_book)) in
       let after = reached.books i row book.0 here book.1 in
-      subst (MayRun (operator plant.consts row (opened plant.consts row))) after.actions_are (told_may plant.consts row (opened plant.consts row) book.0.history after.replay.told)
+      subst (MayRun (operator plant.consts row first)) after.actions_are (told_may plant.consts row first book.0.history after.replay.told)
 
-  slice_some : 1 ≤ row.slice.length
-  slice_some =
-      let first : slice_get core.gathering.slices i ≡ Some row.slice =
-      ap (λ (ms : List Minislots). slice_get ms i) reached.gathered.slices_are ∙ (slice_get-map (λ (r : RowFields). r.slice) plant.rows i ∙ ap (option_map (λ (r : RowFields). r.slice)) here) in
-      (at_place (IsInFrame core.gathering.channel) core.gathering.slices i row.slice (recursion_from_All (IsInFrame core.gathering.channel) core.gathering.slices is.slices_are.each) first).some
+  pub sound : IsSound (operator plant.consts row first)
+  sound = starts.sound i row here
 
-  pub sound : IsSound (operator plant.consts row (opened plant.consts row))
-  sound = opened_sound plant.consts row (at_place (IsRowOf plant.consts) plant.rows i row (recursion_from_All (IsRowOf plant.consts) plant.rows valid.rows) here) slice_some
-
-  pub one_each : HaveOne i (reslicings_of done)
-  one_each =
-      have_one (length core.gathering.quotas) i (reslicings_of done) (omega (arith, within, quotas_long))
+  -- each re-slicing, those that waited at the start among them, has a slice of the operator
+  all_one : HaveOne i (start.waiting ++ reslicings_of done)
+  all_one =
+      have_one (length core.gathering.quotas) i (start.waiting ++ reslicings_of done) (omega (arith, within, quotas_long))
       (subst (λ (rs : List Reslicing). AllByRecursion (λ (r : Reslicing). length r.slicing ≡ length core.gathering.quotas) rs) reached.gathered.reslicings_are
       (lengths_of (length core.gathering.quotas) (λ r valid. valid.one_each) core.gathering.reslicings
       (recursion_from_All (λ (r : Reslicing). AreSlices core.gathering.channel (length core.gathering.quotas) r.slicing) core.gathering.reslicings is.reslicings_are)))
 
+  pub one_each : HaveOne i (reslicings_of done)
+  one_each = later_one i start.waiting (reslicings_of done) all_one
+
+  -- they are, slice by slice, what waited of the operator and its own
+  pub own_all : map (own_of i) (start.waiting ++ reslicings_of done) ≡ waiting_slice first.next ++ reslicings_in own
+  own_all =
+      map-append (own_of i) start.waiting (reslicings_of done)
+      ∙ (λ k. starts.waits i row here k ++ sym (own_reslicings row i done one_each) k)
+
   -- the operator's slice of a frame, where the assembly looks it up
-  slice_there : (frame : ℕ) → slice_get (frame_slices core.gathering frame) i ≡ Some (slice_at row.slice (reslicings_in own) frame)
+  slice_there : (frame : ℕ) → slice_get (frame_slices core.gathering frame) i ≡ Some (slice_of_run first own frame)
   slice_there frame =
       ap (λ (ms : List Minislots). slice_get (slices_at ms core.gathering.reslicings frame) i) reached.gathered.slices_are
-      ∙ (ap (λ (rs : List Reslicing). slice_get (slices_at (map (λ (r : RowFields). r.slice) plant.rows) rs frame) i) reached.gathered.reslicings_are
-      ∙ (own_slice i frame (map (λ (r : RowFields). r.slice) plant.rows) row.slice (slice_get-map (λ (r : RowFields). r.slice) plant.rows i ∙ ap (option_map (λ (r : RowFields). r.slice)) here) (reslicings_of done) one_each
-      ∙ ap (λ rs. let o : Option Minislots = Some (slice_at row.slice rs frame) in o) (sym (own_reslicings row i done one_each))))
+      ∙ (ap (λ (rs : List Reslicing). slice_get (slices_at (map (λ (r : RowFields). (start.state r).share.slice) plant.rows) rs frame) i) reached.gathered.reslicings_are
+      ∙ (own_slice i frame (map (λ (r : RowFields). (start.state r).share.slice) plant.rows) first.share.slice
+      (slice_get-map (λ (r : RowFields). (start.state r).share.slice) plant.rows i ∙ ap (option_map (λ (r : RowFields). (start.state r).share.slice)) here) (start.waiting ++ reslicings_of done) all_one
+      ∙ ap (λ (rs : List SliceFrom). let o : Option Minislots = Some (slice_at first.share.slice rs frame) in o) own_all))
 
   pub part_fits : (n : ℕ) (frame : Numbered) → slice_get frames n ≡ Some frame → is_part core.gathering i frame.0 frame.1 ≡ true
   part_fits n frame e =
       let quota : slice_get core.gathering.quotas i ≡ Some (quota_of row) =
       ap (λ (ss : List Quota). slice_get ss i) reached.gathered.quotas_are ∙ (slice_get-map quota_of plant.rows i ∙ ap (option_map quota_of) here) in
-      let same = at_place (λ (f : Numbered). f.1.slice ≡ slice_at row.slice (reslicings_in own) f.0) frames n frame
-      (of_slices (slice_at row.slice (reslicings_in own)) (alone plant.consts row i done).outputs (run-frames plant.consts row own may)) e in
-      let mine = at_place (λ (f : Numbered). IsOwn row f.1) frames n frame (run_own plant.consts row (opened plant.consts row) own sound may) e in
-      rw (quota, slice_there frame.0) (fitting row (slice_at row.slice (reslicings_in own) frame.0) frame.1 same mine)
+      let slice : ℕ → Minislots = slice_of_run first own in
+      let same = at_place (λ (f : Numbered). f.1.slice ≡ slice f.0) frames n frame
+      (of_slices slice (alone_from plant.consts start row i done).outputs (state-frames (operator plant.consts row first) own sound may)) e in
+      let mine = at_place (λ (f : Numbered). IsOwn row f.1) frames n frame (run_own plant.consts row first own sound may) e in
+      rw (quota, slice_there frame.0) (fitting row (slice frame.0) frame.1 same mine)
 
   -- how far an operator's parts are put
-  pub put_so_far : next_of core.gathering i ≡ plant.consts.channel.first_frame + collects_of i done
+  pub put_so_far : next_of core.gathering i ≡ start.frame + collects_of i done
   put_so_far =
       let queue = some_at core.queues i (omega (arith, within, reached.one_queue)) in
       let put = some_at core.gathering.queues i (omega (arith, within, reached.gathered.one_each)) in
@@ -148,7 +163,7 @@ module _ (plant : PlantFields) (done : List Step) (outs : List Out) (core : Core
       let put = some_at core.gathering.queues i (omega (arith, within, reached.gathered.one_each)) in
       let after = reached.frames i row ((frame, part) ∷ waiting) put.0 here e put.1 in
       let there : slice_get frames (collects_of i done) ≡ Some (frame, part) = first_behind frames waiting (collects_of i done) (frame, part) (sym after.waiting_are) in
-      let number = number_at plant.consts.channel.first_frame (collects_of i done) frames (frame, part) (are_numbered plant.consts row i done) there in
+      let number = number_at start.frame (collects_of i done) frames (frame, part) (numbered_from plant.consts start row i done (starts.at_one_frame i row here)) there in
       let least = reached.shown.maps.count.at_most i within in
       rw (
         lt-leb (length core.gathering.quotas) i (omega (arith, within, quotas_long)),
@@ -158,9 +173,28 @@ module _ (plant : PlantFields) (done : List Step) (outs : List Out) (core : Core
         part_fits (collects_of i done) (frame, part) there,
       ) refl
 
+pub fits_from : (plant : PlantFields) (start : Start) (done : List Step) (outs : List Out) (core : CoreView) (i frame : ℕ) (part : ElementsFields) (waiting : List Numbered) → IsStart plant start → ReachedFrom plant start done outs core
+    → IsGathering core.gathering → slice_get core.queues i ≡ Some ((frame, part) ∷ waiting) → put_fault core.gathering i frame part ≡ None
+fits_from plant start done outs core i frame part waiting starts reached is e =
+    let within = slice_get_within core.queues i ((frame, part) ∷ waiting) e in
+    let row = some_at plant.rows i (omega (arith, within, reached.one_queue)) in
+    front_fits plant start done outs core starts reached is i row.0 row.1 frame part waiting e
+
+-- ---- from the opened plant
+
+-- where the assembly has the plant's slices, each row has a slice: so the opened plant is a start
+pub opened_starts : (plant : PlantFields) (g : Gathering) → IsPlant plant → g.slices ≡ map (λ row. row.slice) plant.rows → IsGathering g → IsStart plant (first_start plant)
+opened_starts plant g valid slices is = record {
+  sound = λ i row here.
+      let there : slice_get g.slices i ≡ Some row.slice =
+      ap (λ (ms : List Minislots). slice_get ms i) slices ∙ (slice_get-map (λ (r : RowFields). r.slice) plant.rows i ∙ ap (option_map (λ (r : RowFields). r.slice)) here) in
+      opened_sound plant.consts row (at_place (IsRowOf plant.consts) plant.rows i row (recursion_from_All (IsRowOf plant.consts) plant.rows valid.rows) here)
+      (at_place (IsInFrame g.channel) g.slices i row.slice (recursion_from_All (IsInFrame g.channel) g.slices is.slices_are.each) there).some;
+  at_one_frame = λ i row here. refl;
+  waits = λ i row here. refl;
+}
+
 pub waiting_fits : (plant : PlantFields) (done : List Step) (outs : List Out) (core : CoreView) (i frame : ℕ) (part : ElementsFields) (waiting : List Numbered) → IsPlant plant → Reached plant done outs core → IsGathering core.gathering
     → slice_get core.queues i ≡ Some ((frame, part) ∷ waiting) → put_fault core.gathering i frame part ≡ None
 waiting_fits plant done outs core i frame part waiting valid reached is e =
-    let within = slice_get_within core.queues i ((frame, part) ∷ waiting) e in
-    let row = some_at plant.rows i (omega (arith, within, reached.one_queue)) in
-    front_fits plant done outs core valid reached is i row.0 row.1 frame part waiting e
+    fits_from plant (first_start plant) done outs core i frame part waiting (opened_starts plant core.gathering valid reached.gathered.slices_are is) reached is e

@@ -10,33 +10,34 @@ use Rattle.operator_machine.specs.Replay.{BookView}
 use Rattle.plant_runs.specs.declared.step.Step.{Step}
 use Rattle.plant_runs.specs.declared.step.Out.{Out}
 use Rattle.plant_runs.specs.OwnSteps.{answers_of, output_under}
-use Rattle.plant_runs.specs.Shown.{alone}
-use Rattle.plant_runs.specs.Reached.{CoreView, IsBookAfter, Reached}
+use Rattle.plant_runs.specs.Shown.{alone_from}
+use Rattle.plant_runs.specs.Reached.{CoreView, IsBookFrom, ReachedFrom}
 use Rattle.plant_runs.proofs.Entries.{some_at}
 use Rattle.plant_runs.proofs.Books.{book_after, outputs_after}
 use Rattle.plant_runs.proofs.Moving.{EachMoves}
+use Rattle.plant_runs.specs.Starts.{Start}
 
 -- each operator's own machine, run alone, puts out what is answered more
-abbrev pub EachTells : PlantFields → List Step → Step → List Out → Type 0
-EachTells plant before step now = (i : ℕ) (row : RowFields) → slice_get plant.rows i ≡ Some row
-    → (alone plant.consts row i (before ++ step ∷ [])).outputs ≡ (alone plant.consts row i before).outputs ++ answers_of i now
+abbrev pub EachTells : PlantFields → Start → List Step → Step → List Out → Type 0
+EachTells plant start before step now = (i : ℕ) (row : RowFields) → slice_get plant.rows i ≡ Some row
+    → (alone_from plant.consts start row i (before ++ step ∷ [])).outputs ≡ (alone_from plant.consts start row i before).outputs ++ answers_of i now
 
-module _ (plant : PlantFields) (before : List Step) (outs : List Out) (step : Step) (now : List Out) (old new : CoreView) (reached : Reached plant before outs old)
+module _ (plant : PlantFields) (start : Start) (before : List Step) (outs : List Out) (step : Step) (now : List Out) (old new : CoreView) (reached : ReachedFrom plant start before outs old)
     (moves : EachMoves plant step old new now) (books : length new.books ≡ length old.books) where
-  pub each_tells : EachTells plant before step now
+  pub each_tells : EachTells plant start before step now
   each_tells i row e =
       let within = slice_get_within plant.rows i row e in
       let book = some_at old.books i (omega (arith, reached.one_book)) in
       let made = some_at new.books i (omega (arith, reached.one_book, books)) in
-      outputs_after plant before step i row book.0 made.0 (answers_of i now) (reached.books i row book.0 e book.1) (moves i row book.0 made.0 e book.1 made.1)
+      outputs_after plant start before step i row book.0 made.0 (answers_of i now) (reached.books i row book.0 e book.1) (moves i row book.0 made.0 e book.1 made.1)
 
-  pub books_follow : (i : ℕ) (row : RowFields) (made : BookView) → slice_get plant.rows i ≡ Some row → slice_get new.books i ≡ Some made → IsBookAfter plant (before ++ step ∷ []) i row made
+  pub books_follow : (i : ℕ) (row : RowFields) (made : BookView) → slice_get plant.rows i ≡ Some row → slice_get new.books i ≡ Some made → IsBookFrom plant start (before ++ step ∷ []) i row made
   books_follow i row made e f =
       let within = slice_get_within plant.rows i row e in
       let book = some_at old.books i (omega (arith, reached.one_book)) in
-      book_after plant before step i row book.0 made (answers_of i now) (reached.books i row book.0 e book.1) (moves i row book.0 made e book.1 f)
+      book_after plant start before step i row book.0 made (answers_of i now) (reached.books i row book.0 e book.1) (moves i row book.0 made e book.1 f)
 
-  pub answers_follow : (i : ℕ) (row : RowFields) → slice_get plant.rows i ≡ Some row → answers_of i (outs ++ now) ≡ (alone plant.consts row i (before ++ step ∷ [])).outputs
+  pub answers_follow : (i : ℕ) (row : RowFields) → slice_get plant.rows i ≡ Some row → answers_of i (outs ++ now) ≡ (alone_from plant.consts start row i (before ++ step ∷ [])).outputs
   answers_follow i row e =
       filter_map-append (output_under i) outs now
       ∙ (ap (λ (os : List Output). os ++ answers_of i now) (reached.shown.answers i row e) ∙ sym (each_tells i row e))

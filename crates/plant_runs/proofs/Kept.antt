@@ -10,34 +10,35 @@ use Rattle.map_assembly.specs.declared.map_bytes.MapBytes.{MapBytes}
 use Rattle.plant_runs.specs.declared.step.Step.{Step}
 use Rattle.plant_runs.specs.declared.step.Out.{Out}
 use Rattle.plant_runs.specs.OwnSteps.{answers_of, maps_in, map_in, is_collect, collects_of}
-use Rattle.plant_runs.specs.Shown.{alone, elements_in, IsMapIn, IsLeast, AreMaps}
+use Rattle.plant_runs.specs.Shown.{alone_from, elements_in, IsMapFrom, IsLeast, AreMapsFrom}
 use Rattle.plant_runs.specs.Reached.{frames_of, numbered, AreNumbered}
 use Rattle.plant_runs.proofs.Following.{EachTells}
-use Rattle.plant_runs.proofs.Numbers.{are_numbered, of_number, elements_are, number_kept}
+use Rattle.plant_runs.proofs.Numbers.{numbered_from, of_number, elements_are, number_kept}
+use Rattle.plant_runs.specs.Starts.{Start, StandAtOneFrame}
 
 -- ---- frames
 
-pub frames_more : (plant : PlantFields) (before : List Step) (step : Step) (now : List Out) → EachTells plant before step now → (i : ℕ) (row : RowFields) → slice_get plant.rows i ≡ Some row
-    → frames_of (alone plant.consts row i (before ++ step ∷ [])).outputs ≡ frames_of (alone plant.consts row i before).outputs ++ frames_of (answers_of i now)
-frames_more plant before step now tells i row e = ap frames_of (tells i row e) ∙ filter_map-append numbered (alone plant.consts row i before).outputs (answers_of i now)
+pub frames_more : (plant : PlantFields) (start : Start) (before : List Step) (step : Step) (now : List Out) → EachTells plant start before step now → (i : ℕ) (row : RowFields) → slice_get plant.rows i ≡ Some row
+    → frames_of (alone_from plant.consts start row i (before ++ step ∷ [])).outputs ≡ frames_of (alone_from plant.consts start row i before).outputs ++ frames_of (answers_of i now)
+frames_more plant start before step now tells i row e = ap frames_of (tells i row e) ∙ filter_map-append numbered (alone_from plant.consts start row i before).outputs (answers_of i now)
 
 -- the frame of a number stays what it is
-part_kept : (plant : PlantFields) (before : List Step) (step : Step) (now : List Out) → EachTells plant before step now → (i : ℕ) (row : RowFields) → slice_get plant.rows i ≡ Some row → (frame : ℕ) (part : ElementsFields)
-    → elements_in frame (alone plant.consts row i before).outputs ≡ part ∷ [] → elements_in frame (alone plant.consts row i (before ++ step ∷ [])).outputs ≡ part ∷ []
-part_kept plant before step now tells i row e frame part is =
-    let all = frames_more plant before step now tells i row e in
-    elements_are frame (alone plant.consts row i (before ++ step ∷ [])).outputs
+part_kept : (plant : PlantFields) (start : Start) → StandAtOneFrame plant start → (before : List Step) (step : Step) (now : List Out) → EachTells plant start before step now → (i : ℕ) (row : RowFields) → slice_get plant.rows i ≡ Some row → (frame : ℕ) (part : ElementsFields)
+    → elements_in frame (alone_from plant.consts start row i before).outputs ≡ part ∷ [] → elements_in frame (alone_from plant.consts start row i (before ++ step ∷ [])).outputs ≡ part ∷ []
+part_kept plant start at before step now tells i row e frame part is =
+    let all = frames_more plant start before step now tells i row e in
+    elements_are frame (alone_from plant.consts start row i (before ++ step ∷ [])).outputs
     ∙ (ap (of_number frame) all
-    ∙ number_kept frame plant.consts.channel.first_frame (frames_of (alone plant.consts row i before).outputs) (frames_of (answers_of i now)) part
-    (subst (AreNumbered plant.consts.channel.first_frame) all (are_numbered plant.consts row i (before ++ step ∷ [])))
-    (sym (elements_are frame (alone plant.consts row i before).outputs) ∙ is))
+    ∙ number_kept frame start.frame (frames_of (alone_from plant.consts start row i before).outputs) (frames_of (answers_of i now)) part
+    (subst (AreNumbered start.frame) all (numbered_from plant.consts start row i (before ++ step ∷ []) (at i row e)))
+    (sym (elements_are frame (alone_from plant.consts start row i before).outputs) ∙ is))
 
-pub map_kept : (plant : PlantFields) (before : List Step) (step : Step) (now : List Out) → EachTells plant before step now → (made : MapBytes) → IsMapIn plant before made → IsMapIn plant (before ++ step ∷ []) made
-map_kept plant before step now tells made is = record {
+pub map_kept : (plant : PlantFields) (start : Start) → StandAtOneFrame plant start → (before : List Step) (step : Step) (now : List Out) → EachTells plant start before step now → (made : MapBytes) → IsMapFrom plant start before made → IsMapFrom plant start (before ++ step ∷ []) made
+map_kept plant start at before step now tells made is = record {
   parts = is.parts;
   parts_are = record {
     one_each = is.parts_are.one_each;
-    own = λ i row part e f. part_kept plant before step now tells i row e made.frame part (is.parts_are.own i row part e f);
+    own = λ i row part e f. part_kept plant start at before step now tells i row e made.frame part (is.parts_are.own i row part e f);
   };
   map_is = is.map_is;
 }
@@ -60,7 +61,7 @@ one_least plant steps m n a b =
     let q = b.at_most a.one.0 a.one.1 in
     omega (arith, p, q, a.one.2, b.one.2)
 
-module _ (plant : PlantFields) (before : List Step) (outs : List Out) (step : Step) (now : List Out) (tells : EachTells plant before step now)
+module _ (plant : PlantFields) (start : Start) (before : List Step) (outs : List Out) (step : Step) (now : List Out) (tells : EachTells plant start before step now)
     (others : (i : ℕ) → is_collect i step ≡ false) (none : maps_in now ≡ []) where
   pub maps_same : maps_in (outs ++ now) ≡ maps_in outs
   maps_same = filter_map-append map_in outs now ∙ (ap (λ (ms : List MapBytes). maps_in outs ++ ms) none ∙ append-nil (maps_in outs))
@@ -72,9 +73,9 @@ module _ (plant : PlantFields) (before : List Step) (outs : List Out) (step : St
   }
 
   -- a step that collects nothing makes no MAP, and leaves those that were made
-  pub maps_kept : AreMaps plant before (maps_in outs) → AreMaps plant (before ++ step ∷ []) (maps_in (outs ++ now))
-  maps_kept maps = subst (AreMaps plant (before ++ step ∷ [])) (sym maps_same) (record {
+  pub maps_kept : StandAtOneFrame plant start → AreMapsFrom plant start before (maps_in outs) → AreMapsFrom plant start (before ++ step ∷ []) (maps_in (outs ++ now))
+  maps_kept at maps = subst (AreMapsFrom plant start (before ++ step ∷ [])) (sym maps_same) (record {
     frames = maps.frames;
     count = least_same (length (maps_in outs)) maps.count;
-    each = All-weaker (IsMapIn plant before) (IsMapIn plant (before ++ step ∷ [])) (map_kept plant before step now tells) (maps_in outs) maps.each;
+    each = All-weaker (IsMapFrom plant start before) (IsMapFrom plant start (before ++ step ∷ [])) (map_kept plant start at before step now tells) (maps_in outs) maps.each;
   })

@@ -1,6 +1,8 @@
 pub mod Entries
 pub mod SharingOut
 pub mod TwoRuns
+pub mod PeriodLemmas
+pub mod Changes
 pub mod TwoCoreLemmas
 pub mod OwnRuns
 pub mod OwnActions

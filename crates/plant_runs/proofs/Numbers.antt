@@ -1,5 +1,5 @@
 -- The frames of a run are numbered in order: a number tells its frame.
-use Rattle.std.proofs.Common.{◌≡◌, ℕ, zero, suc, ◌+◌, ◌<◌, List, [], ◌∷◌, ◌++◌, map, count_by, Option, Some, None, if◌then◌else◌, ◌⊎◌, inl, inr, refl, sym, ap, ◌∙◌, arith}
+use Rattle.std.proofs.Common.{◌≡◌, ℕ, zero, suc, ◌+◌, ◌<◌, List, [], ◌∷◌, ◌++◌, map, count_by, Option, Some, None, if◌then◌else◌, ◌⊎◌, inl, inr, refl, sym, ap, ◌∙◌, subst, arith}
 use Rattle.std.specs.Prelude.{◌==◌, slice_get, filter_map}
 use Rattle.std.specs.List.{range_with_len}
 use Rattle.std.proofs.lemmas.Bool.{cases_eq, eq-eqb, ne_eqb}
@@ -9,13 +9,16 @@ use Rattle.plant.specs.declared.consts.ConstsFields.{ConstsFields}
 use Rattle.plant.specs.declared.operator_row.RowFields.{RowFields}
 use Rattle.operator_machine.specs.declared.output.Output.{Output}
 use Rattle.operator_machine.specs.declared.output.Output.TheVariants.{Reply, Silent, Frame}
-use Rattle.operator_machine.specs.State.{opened}
+use Rattle.operator_machine.specs.State.{OperatorState, opened, operator}
+use Rattle.operator_machine.specs.declared.action.Action.{Action}
+use Rattle.operator_machine.specs.Machine.{own_run}
 use Rattle.operator_machine.specs.Frames.{frames_in, is_tick}
 use Rattle.operator_machine.proofs.FrameLemmas.{run_puts}
 use Rattle.map_assembly.specs.Gathering.{front_or}
 use Rattle.plant_runs.specs.declared.step.Step.{Step}
 use Rattle.plant_runs.specs.OwnSteps.{own_steps}
-use Rattle.plant_runs.specs.Shown.{alone, elements_in}
+use Rattle.plant_runs.specs.Starts.{Start}
+use Rattle.plant_runs.specs.Shown.{alone, alone_from, elements_in}
 use Rattle.plant_runs.specs.Reached.{frames_of, AreNumbered}
 
 abbrev pub Numbered : Type 0
@@ -36,11 +39,20 @@ numbers_are (Reply modem bytes ∷ outputs) = numbers_are outputs
 numbers_are (Silent modem cause ∷ outputs) = numbers_are outputs
 numbers_are (Frame number elements ∷ outputs) = ap (λ (ns : List ℕ). number ∷ ns) (numbers_are outputs)
 
--- the frames of an operator's own machine are numbered from the first frame on
+-- the frames of a machine's run are numbered from its state's frame on
+pub run_numbered : (consts : ConstsFields) (row : RowFields) (state : OperatorState) (actions : List Action) → AreNumbered state.frame (frames_of (own_run (operator consts row state) actions).outputs)
+run_numbered consts row state actions =
+    by_range state.frame (count_by is_tick actions) (frames_of (own_run (operator consts row state) actions).outputs)
+    (numbers_are (own_run (operator consts row state) actions).outputs ∙ (run_puts consts row state actions).numbers)
+
+-- those of an operator's own machine from the frame of its start on
+pub numbered_from : (consts : ConstsFields) (start : Start) (row : RowFields) (i : ℕ) (steps : List Step) → (start.state row).frame ≡ start.frame → AreNumbered start.frame (frames_of (alone_from consts start row i steps).outputs)
+numbered_from consts start row i steps at =
+    subst (λ (n : ℕ). AreNumbered n (frames_of (alone_from consts start row i steps).outputs)) at (run_numbered consts row (start.state row) (own_steps row i steps))
+
+-- from the plant's first frame on, where it is opened
 pub are_numbered : (consts : ConstsFields) (row : RowFields) (i : ℕ) (steps : List Step) → AreNumbered consts.channel.first_frame (frames_of (alone consts row i steps).outputs)
-are_numbered consts row i steps =
-    by_range consts.channel.first_frame (count_by is_tick (own_steps row i steps)) (frames_of (alone consts row i steps).outputs)
-    (numbers_are (alone consts row i steps).outputs ∙ (run_puts consts row (opened consts row) (own_steps row i steps)).numbers)
+are_numbered consts row i steps = run_numbered consts row (opened consts row) (own_steps row i steps)
 
 -- ---- the frame of a number
 
@@ -92,3 +104,14 @@ number_kept k n (frame ∷ frames) more part h e = by (cases_eq frame.0 k) (λ f
         here k frame (frames ++ more) same
         ∙ (ap (λ (es : List ElementsFields). frame.1 ∷ es) (none_before k (n + 1) (frames ++ more) (omega (arith, same, h.0)) h.1) ∙ ap (λ (p : ElementsFields). p ∷ []) is)
     by (inr other) rest = past k frame (frames ++ more) other ∙ rest (sym (past k frame frames other) ∙ e)
+
+-- nor have earlier ones
+pub number_late : (k n : ℕ) (frames more : List Numbered) (part : ElementsFields) → AreNumbered n (frames ++ more) → of_number k more ≡ part ∷ [] → of_number k (frames ++ more) ≡ part ∷ []
+number_late k n [] more part h e = e
+number_late k n (frame ∷ frames) more part h e = by (cases_eq frame.0 k) (number_late k (n + 1) frames more part h.1 e)
+  where
+    by : (frame.0 ≡ k) ⊎ (frame.0 ≡ k → ⊥) → of_number k (frames ++ more) ≡ part ∷ [] → of_number k (frame ∷ frames ++ more) ≡ part ∷ []
+    by (inl same) rest =
+        let none : of_number k (frames ++ more) ≡ [] = none_before k (n + 1) (frames ++ more) (omega (arith, same, h.0)) h.1 in
+        let wrong : ◌≡◌ {A = List ElementsFields} [] (part ∷ []) = sym none ∙ rest in cc
+    by (inr other) rest = past k frame (frames ++ more) other ∙ rest

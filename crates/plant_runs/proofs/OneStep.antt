@@ -9,23 +9,30 @@ use Rattle.plant_runs.specs.declared.step.Step.{Step}
 use Rattle.plant_runs.specs.declared.step.Step.TheVariants as steps
 use Rattle.plant_runs.specs.declared.step.Out.{Out}
 use Rattle.plant_runs.specs.Ordered.{action_at}
-use Rattle.plant_runs.specs.Reached.{CoreView, Reached}
+use Rattle.plant_runs.specs.Reached.{CoreView, ReachedFrom}
 use Rattle.plant_runs.specs.Steps.{Steps}
 use Rattle.plant_runs.proofs.OwnActions.{arrive_at, work_at, tick_at}
 use Rattle.plant_runs.proofs.Plain.{acts_reached, reslices_reached}
 use Rattle.plant_runs.proofs.Collecting.{collects_reached}
+use Rattle.plant_runs.specs.Starts.{Start, first_start}
+use Rattle.plant_runs.specs.Reached.{Reached}
 
+pub step_from : (plant : PlantFields) (start : Start) (before : List Step) (outs : List Out) (step : Step) (old new : CoreView) (now : List Out) → IsPlant plant → ReachedFrom plant start before outs old → IsGathering old.gathering → Steps step old new now
+    → ReachedFrom plant start (before ++ step ∷ []) (outs ++ now) new
+step_from plant start before outs (steps.Arrive modem heard) old new now is reached gathered goes =
+    let held : holder plant.rows modem ≡ Some goes.0 = ap (λ (p : PlantFields). holder p.rows modem) (sym reached.plant_is) ∙ goes.1 in
+    acts_reached plant start before outs (steps.Arrive modem heard) now old new reached (λ i. refl) goes.0 (actions.Arrive modem heard) refl
+    (arrive_at plant modem heard goes.0 is held) (ap (λ o. action_at o (actions.Arrive modem heard)) held) goes.2
+step_from plant start before outs (steps.Work op) old new now is reached gathered acts =
+    acts_reached plant start before outs (steps.Work op) now old new reached (λ i. refl) op actions.Work refl (work_at plant op) refl acts
+step_from plant start before outs (steps.Tick op) old new now is reached gathered acts =
+    acts_reached plant start before outs (steps.Tick op) now old new reached (λ i. refl) op actions.Tick refl (tick_at plant op) refl acts
+step_from plant start before outs (steps.Collect op) old new now is reached gathered collects =
+    collects_reached plant start before outs op now old new reached gathered collects
+step_from plant start before outs (steps.Reslice from rows) old new now is reached gathered reslices =
+    reslices_reached plant start before outs from rows now old new reached reslices
+
+-- from the opened plant
 pub step_reached : (plant : PlantFields) (before : List Step) (outs : List Out) (step : Step) (old new : CoreView) (now : List Out) → IsPlant plant → Reached plant before outs old → IsGathering old.gathering → Steps step old new now
     → Reached plant (before ++ step ∷ []) (outs ++ now) new
-step_reached plant before outs (steps.Arrive modem heard) old new now is reached gathered goes =
-    let held : holder plant.rows modem ≡ Some goes.0 = ap (λ (p : PlantFields). holder p.rows modem) (sym reached.plant_is) ∙ goes.1 in
-    acts_reached plant before outs (steps.Arrive modem heard) now old new reached (λ i. refl) goes.0 (actions.Arrive modem heard) refl
-    (arrive_at plant modem heard goes.0 is held) (ap (λ o. action_at o (actions.Arrive modem heard)) held) goes.2
-step_reached plant before outs (steps.Work op) old new now is reached gathered acts =
-    acts_reached plant before outs (steps.Work op) now old new reached (λ i. refl) op actions.Work refl (work_at plant op) refl acts
-step_reached plant before outs (steps.Tick op) old new now is reached gathered acts =
-    acts_reached plant before outs (steps.Tick op) now old new reached (λ i. refl) op actions.Tick refl (tick_at plant op) refl acts
-step_reached plant before outs (steps.Collect op) old new now is reached gathered collects =
-    collects_reached plant before outs op now old new reached gathered collects
-step_reached plant before outs (steps.Reslice from rows) old new now is reached gathered reslices =
-    reslices_reached plant before outs from rows now old new reached reslices
+step_reached plant = step_from plant (first_start plant)

@@ -8,12 +8,13 @@ use Rattle.plant.specs.declared.operator_row.RowFields.{RowFields}
 use Rattle.operator_machine.specs.declared.action.Action.{Action}
 use Rattle.operator_machine.specs.declared.action.Entry.{Entry}
 use Rattle.operator_machine.specs.declared.output.Output.{Output}
-use Rattle.operator_machine.specs.State.{OperatorState, opened, operator}
+use Rattle.operator_machine.specs.State.{OperatorState, operator}
 use Rattle.operator_machine.specs.Machine.{own_step, own_run, IsAllowed}
-use Rattle.operator_machine.specs.Replay.{actions_of, AreTold, IsReplay}
+use Rattle.operator_machine.specs.Replay.{actions_of, AreTold, IsReplayFrom}
 use Rattle.plant_runs.specs.declared.step.Step.{Step}
 use Rattle.plant_runs.specs.OwnSteps.{action_of, own_steps}
-use Rattle.plant_runs.specs.Shown.{alone}
+use Rattle.plant_runs.specs.Starts.{Start}
+use Rattle.plant_runs.specs.Shown.{alone_from}
 
 -- ---- one action more
 
@@ -38,14 +39,14 @@ module _ (consts : ConstsFields) (row : RowFields) where
   told_push state (first ∷ history) entry told allowed outputs =
       (told.0, told.1, told_push (own_step (operator consts row state) first.action).state history entry told.2 allowed outputs)
 
-  pub replay_push : (history : List Entry) (state after : OperatorState) (entry : Entry) → IsReplay consts row history state
+  pub replay_push : (first : OperatorState) (history : List Entry) (state after : OperatorState) (entry : Entry) → IsReplayFrom consts row first history state
       → IsAllowed (operator consts row state) entry.action → after ≡ (own_step (operator consts row state) entry.action).state → entry.outputs ≡ (own_step (operator consts row state) entry.action).outputs
-      → IsReplay consts row (history ++ entry ∷ []) after
-  replay_push history state after entry replay allowed is outputs = record {
+      → IsReplayFrom consts row first (history ++ entry ∷ []) after
+  replay_push first history state after entry replay allowed is outputs = record {
     state_is = is ∙ (ap (λ (s : OperatorState). (own_step (operator consts row s) entry.action).state) replay.state_is
-        ∙ (sym (state_push (opened consts row) (actions_of history) entry.action)
-        ∙ ap (λ (actions : List Action). (own_run (operator consts row (opened consts row)) actions).state) (sym (map-append (λ (e : Entry). e.action) history (entry ∷ [])))));
-    told = told_push (opened consts row) history entry replay.told
+        ∙ (sym (state_push first (actions_of history) entry.action)
+        ∙ ap (λ (actions : List Action). (own_run (operator consts row first) actions).state) (sym (map-append (λ (e : Entry). e.action) history (entry ∷ [])))));
+    told = told_push first history entry replay.told
         (subst (λ (s : OperatorState). IsAllowed (operator consts row s) entry.action) replay.state_is allowed)
         (outputs ∙ ap (λ (s : OperatorState). (own_step (operator consts row s) entry.action).outputs) replay.state_is);
   }
@@ -69,18 +70,18 @@ module _ (row : RowFields) (i : ℕ) (steps : List Step) (step : Step) where
       filter_map-append (action_of row i) steps (step ∷ [])
       ∙ (ap (λ (actions : List Action). own_steps row i steps ++ actions) (fails (action_of row i) step e) ∙ append-nil (own_steps row i steps))
 
-module _ (consts : ConstsFields) (row : RowFields) (i : ℕ) (steps : List Step) (step : Step) where
-  pub alone_same : action_of row i step ≡ None → alone consts row i (steps ++ step ∷ []) ≡ alone consts row i steps
-  alone_same e = ap (own_run (operator consts row (opened consts row))) (own_same row i steps step e)
+module _ (consts : ConstsFields) (start : Start) (row : RowFields) (i : ℕ) (steps : List Step) (step : Step) where
+  pub alone_same : action_of row i step ≡ None → alone_from consts start row i (steps ++ step ∷ []) ≡ alone_from consts start row i steps
+  alone_same e = ap (own_run (operator consts row (start.state row))) (own_same row i steps step e)
 
   pub alone_state : (action : Action) → action_of row i step ≡ Some action
-      → (alone consts row i (steps ++ step ∷ [])).state ≡ (own_step (operator consts row (alone consts row i steps).state) action).state
+      → (alone_from consts start row i (steps ++ step ∷ [])).state ≡ (own_step (operator consts row (alone_from consts start row i steps).state) action).state
   alone_state action e =
-      ap (λ (actions : List Action). (own_run (operator consts row (opened consts row)) actions).state) (own_more row i steps step action e)
-      ∙ state_push consts row (opened consts row) (own_steps row i steps) action
+      ap (λ (actions : List Action). (own_run (operator consts row (start.state row)) actions).state) (own_more row i steps step action e)
+      ∙ state_push consts row (start.state row) (own_steps row i steps) action
 
   pub alone_outputs : (action : Action) → action_of row i step ≡ Some action
-      → (alone consts row i (steps ++ step ∷ [])).outputs ≡ (alone consts row i steps).outputs ++ (own_step (operator consts row (alone consts row i steps).state) action).outputs
+      → (alone_from consts start row i (steps ++ step ∷ [])).outputs ≡ (alone_from consts start row i steps).outputs ++ (own_step (operator consts row (alone_from consts start row i steps).state) action).outputs
   alone_outputs action e =
-      ap (λ (actions : List Action). (own_run (operator consts row (opened consts row)) actions).outputs) (own_more row i steps step action e)
-      ∙ outputs_push consts row (opened consts row) (own_steps row i steps) action
+      ap (λ (actions : List Action). (own_run (operator consts row (start.state row)) actions).outputs) (own_more row i steps step action e)
+      ∙ outputs_push consts row (start.state row) (own_steps row i steps) action

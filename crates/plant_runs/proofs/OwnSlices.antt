@@ -1,5 +1,5 @@
 -- The re-slicings of a run's steps are, slice by slice, those of each operator's own steps.
-use Rattle.std.proofs.Common.{◌≡◌, ℕ, ◌<◌, ◌==◌, Bool, true, false, List, [], ◌∷◌, ◌++◌, length, map, find, reverse, Option, Some, None, option_map, refl, sym, ap, ◌∙◌, subst, arith, nat_le}
+use Rattle.std.proofs.Common.{◌≡◌, ℕ, ◌<◌, ◌==◌, Bool, true, false, List, [], ◌∷◌, ◌++◌, length, map, find, reverse, Option, Some, option_map, refl, sym, ap, ◌∙◌, subst, arith, nat_le}
 use Rattle.std.specs.Prelude.{slice_get}
 use Rattle.std.specs.List.{AllByRecursion}
 use Rattle.std.proofs.lemmas.List.{length-map, map-append, reverse-append}
@@ -14,15 +14,8 @@ use Rattle.map_assembly.specs.Gathering.{slices_or, slices_at}
 use Rattle.plant_runs.specs.declared.step.Step.{Step}
 use Rattle.plant_runs.specs.declared.step.Step.TheVariants as steps
 use Rattle.plant_runs.specs.OwnSteps.{own_steps, slice_of, reslicings_of}
+use Rattle.plant_runs.specs.Starts.{own_of}
 use Rattle.plant_runs.proofs.Entries.{some_at}
-
--- the operator's slice of a re-slicing
-abbrev slice_else : Option Minislots → Minislots
-slice_else None = record { start = 0; length = 0 }
-slice_else (Some slice) = slice
-
-abbrev pub own_of : ℕ → Reslicing → SliceFrom
-own_of i r = record { from = r.from; slice = slice_else (slice_get r.slicing i) }
 
 own_there : (i : ℕ) (r : Reslicing) → i < length r.slicing → slice_get r.slicing i ≡ Some (own_of i r).slice
 own_there i r within = let slice = some_at r.slicing i within in rw slice.1 refl

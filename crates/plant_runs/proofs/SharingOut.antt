@@ -15,13 +15,16 @@ use Rattle.map_assembly.proofs.ReadLemmas.{reads_once}
 use Rattle.plant_runs.specs.declared.step.Step.{Step}
 use Rattle.plant_runs.specs.declared.step.Out.{Out}
 use Rattle.plant_runs.specs.OwnSteps.{maps_in}
-use Rattle.plant_runs.specs.Shown.{IsMapIn, Shown}
-use Rattle.plant_runs.specs.SharedOut.{IsOwnPart, IsSharedOut}
+use Rattle.plant_runs.specs.Shown.{IsMapFrom, ShownFrom}
+use Rattle.plant_runs.specs.SharedOut.{IsOwnPartFrom, IsSharedOutFrom}
 use Rattle.plant_runs.proofs.Entries.{some_at}
+use Rattle.plant_runs.specs.Starts.{Start, first_start}
+use Rattle.plant_runs.specs.Shown.{Shown}
+use Rattle.plant_runs.specs.SharedOut.{IsSharedOut}
 
-own_part_is : (plant : PlantFields) (steps : List Step) (i : ℕ) (row : RowFields) (made : MapBytes) (view : MapView) → slice_get plant.rows i ≡ Some row → IsMapIn plant steps made → MapReads made.bytes view
-    → IsOwnPart plant steps i row made view
-own_part_is plant steps i row made view e m reads =
+own_part_is : (plant : PlantFields) (start : Start) (steps : List Step) (i : ℕ) (row : RowFields) (made : MapBytes) (view : MapView) → slice_get plant.rows i ≡ Some row → IsMapFrom plant start steps made → MapReads made.bytes view
+    → IsOwnPartFrom plant start steps i row made view
+own_part_is plant start steps i row made view e m reads =
     let there = some_at m.parts i (omega (arith, m.parts_are.one_each, slice_get_within plant.rows i row e)) in
     record {
       part = there.0;
@@ -32,11 +35,15 @@ own_part_is plant steps i row made view e m reads =
     }
 
 -- each MAP of the run
-pub shared_out : (plant : PlantFields) (steps : List Step) (outs : List Out) (made : MapBytes) (view : MapView) → Shown plant steps outs → Contains (maps_in outs) made → MapReads made.bytes view → IsSharedOut plant steps made view
-shared_out plant steps outs made view shown within reads =
-    let m : IsMapIn plant steps made = All-contains (IsMapIn plant steps) (maps_in outs) made shown.maps.each within in
+pub shared_from : (plant : PlantFields) (start : Start) (steps : List Step) (outs : List Out) (made : MapBytes) (view : MapView) → ShownFrom plant start steps outs → Contains (maps_in outs) made → MapReads made.bytes view → IsSharedOutFrom plant start steps made view
+shared_from plant start steps outs made view shown within reads =
+    let m : IsMapFrom plant start steps made = All-contains (IsMapFrom plant start steps) (maps_in outs) made shown.maps.each within in
     let same : view ≡ map_of plant.consts.channel made.frame m.parts = reads_once made.bytes view (map_of plant.consts.channel made.frame m.parts) reads m.map_is.reads in
     record {
       once = λ n lt. ap (λ (v : MapView). count_by (holds n) v.spans) same ∙ m.map_is.tiled.once n lt;
-      own = λ i row e. own_part_is plant steps i row made view e m reads;
+      own = λ i row e. own_part_is plant start steps i row made view e m reads;
     }
+
+-- from the opened plant
+pub shared_out : (plant : PlantFields) (steps : List Step) (outs : List Out) (made : MapBytes) (view : MapView) → Shown plant steps outs → Contains (maps_in outs) made → MapReads made.bytes view → IsSharedOut plant steps made view
+shared_out plant = shared_from plant (first_start plant)

@@ -12,24 +12,32 @@ use Rattle.map_assembly.specs.Tiled.{own_part}
 use Rattle.plant_runs.specs.declared.step.Step.{Step}
 use Rattle.plant_runs.specs.declared.step.Out.{Out}
 use Rattle.plant_runs.specs.OwnSteps.{own_steps}
-use Rattle.plant_runs.specs.Shown.{alone, elements_in, Shown}
+use Rattle.plant_runs.specs.Starts.{Start, first_start}
+use Rattle.plant_runs.specs.Shown.{alone_from, elements_in, Shown, ShownFrom}
 use Rattle.plant_runs.specs.TwoWorlds.{NoticeTheSame}
-use Rattle.plant_runs.proofs.SharingOut.{shared_out}
+use Rattle.plant_runs.proofs.SharingOut.{shared_from}
 
-alone_same : (p q : ConstsFields) (row : RowFields) (i j : ℕ) (s t : List Step) → p ≡ q → own_steps row i s ≡ own_steps row j t → (alone p row i s).outputs ≡ (alone q row j t).outputs
-alone_same p q row i j s t e f = λ k. (own_run (operator (e k) row (opened (e k) row)) (f k)).outputs
+same_alone : (p q : ConstsFields) (a b : Start) (row : RowFields) (i j : ℕ) (s t : List Step) → p ≡ q → a.state row ≡ b.state row → own_steps row i s ≡ own_steps row j t → (alone_from p a row i s).outputs ≡ (alone_from q b row j t).outputs
+same_alone p q a b row i j s t e state f = λ k. (own_run (operator (e k) row (state k)) (f k)).outputs
 
-one_part : (a b : ElementsFields) (xs ys : List ElementsFields) → xs ≡ a ∷ [] → ys ≡ b ∷ [] → xs ≡ ys → a ≡ b
+pub one_part : (a b : ElementsFields) (xs ys : List ElementsFields) → xs ≡ a ∷ [] → ys ≡ b ∷ [] → xs ≡ ys → a ≡ b
 one_part a b xs ys e f same = ap (front_or a) (sym e ∙ (same ∙ f))
 
-pub notice_same : (p q : PlantFields) (i j : ℕ) (s t : List Step) (o u : List Out) (agree : AgreeOn p i q j) → Shown p s o → Shown q t u → own_steps agree.row i s ≡ own_steps agree.row j t → NoticeTheSame p i o q j u agree
-notice_same p q i j s t o u agree here there same =
-    let outputs = alone_same p.consts q.consts agree.row i j s t agree.consts same in
+-- where they start alike
+pub notice_from : (p q : PlantFields) (a b : Start) (i j : ℕ) (s t : List Step) (o u : List Out) (agree : AgreeOn p i q j) → ShownFrom p a s o → ShownFrom q b t u → a.state agree.row ≡ b.state agree.row
+    → own_steps agree.row i s ≡ own_steps agree.row j t → NoticeTheSame p i o q j u agree
+notice_from p q a b i j s t o u agree here there state same =
+    let outputs = same_alone p.consts q.consts a b agree.row i j s t agree.consts state same in
     record {
       answers = here.answers i agree.row agree.here ∙ (outputs ∙ sym (there.answers j agree.row agree.there));
-      parts = λ a b v w in_a in_b frame reads_a reads_b.
-          let x = (shared_out p s o a v here in_a reads_a).own i agree.row agree.here in
-          let y = (shared_out q t u b w there in_b reads_b).own j agree.row agree.there in
-          x.part_is ∙ (ap own_part (one_part x.part y.part (elements_in a.frame (alone p.consts agree.row i s).outputs) (elements_in b.frame (alone q.consts agree.row j t).outputs) x.put y.put
+      parts = λ m n v w in_m in_n frame reads_m reads_n.
+          let x = (shared_from p a s o m v here in_m reads_m).own i agree.row agree.here in
+          let y = (shared_from q b t u n w there in_n reads_n).own j agree.row agree.there in
+          x.part_is ∙ (ap own_part (one_part x.part y.part (elements_in m.frame (alone_from p.consts a agree.row i s).outputs) (elements_in n.frame (alone_from q.consts b agree.row j t).outputs) x.put y.put
           (λ k. elements_in (frame k) (outputs k))) ∙ sym y.part_is);
     }
+
+-- from the opened plants
+pub notice_same : (p q : PlantFields) (i j : ℕ) (s t : List Step) (o u : List Out) (agree : AgreeOn p i q j) → Shown p s o → Shown q t u → own_steps agree.row i s ≡ own_steps agree.row j t → NoticeTheSame p i o q j u agree
+notice_same p q i j s t o u agree here there same =
+    notice_from p q (first_start p) (first_start q) i j s t o u agree here there (ap (λ (c : ConstsFields). opened c agree.row) agree.consts) same

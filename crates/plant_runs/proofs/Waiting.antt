@@ -1,5 +1,5 @@
 -- Frames that wait to be collected, after a step that collects nothing.
-use Rattle.std.proofs.Common.{◌≡◌, ℕ, ◌+◌, ◌≤◌, false, List, [], ◌∷◌, ◌++◌, length, map, take, drop, Some, append-nil, length-append, ◌⊎◌, inl, inr, sym, ap, ◌∙◌, arith}
+use Rattle.std.proofs.Common.{◌≡◌, ℕ, ◌+◌, ◌≤◌, false, List, [], ◌∷◌, ◌++◌, length, map, take, drop, Some, append-nil, append_assoc, length-append, ◌⊎◌, inl, inr, sym, ap, ◌∙◌, arith}
 use Rattle.std.specs.Prelude.{slice_get, slice_set}
 use Rattle.std.proofs.lemmas.Bool.{cases_eq}
 use Rattle.std.proofs.lemmas.List.{length-set, take-append-le, drop-append-le}
@@ -18,14 +18,15 @@ use Rattle.map_assembly.specs.Gathering.{Gathering}
 use Rattle.plant_runs.specs.declared.step.Step.{Step}
 use Rattle.plant_runs.specs.declared.step.Out.{Out}
 use Rattle.plant_runs.specs.OwnSteps.{answers_of, maps_in, is_collect, collects_of, reslicing_in, reslicings_of}
-use Rattle.plant_runs.specs.Shown.{alone}
-use Rattle.plant_runs.specs.Reached.{CoreView, frames_of, AreFramesAfter, IsGatheredAfter}
+use Rattle.plant_runs.specs.Shown.{alone_from}
+use Rattle.plant_runs.specs.Reached.{CoreView, frames_of, AreFramesFrom, IsGatheredFrom}
 use Rattle.plant_runs.specs.Steps.{Acts, Reslices}
 use Rattle.plant_runs.proofs.Entries.{get_same, get_other, same_at}
 use Rattle.plant_runs.proofs.Answers.{answers_here, answers_else}
 use Rattle.plant_runs.proofs.Following.{EachTells}
 use Rattle.plant_runs.proofs.Numbers.{Numbered}
 use Rattle.plant_runs.proofs.Kept.{frames_more, collects_same, maps_same}
+use Rattle.plant_runs.specs.Starts.{Start}
 
 -- each operator's frames wait behind those that waited
 abbrev pub EachWaits : CoreView → CoreView → List Out → Type 0
@@ -63,41 +64,43 @@ reslices_waits from rows old new now reslices i waiting made e f =
 
 -- ---- what they come to
 
-module _ (plant : PlantFields) (before : List Step) (outs : List Out) (step : Step) (now : List Out) (tells : EachTells plant before step now)
+module _ (plant : PlantFields) (start : Start) (before : List Step) (outs : List Out) (step : Step) (now : List Out) (tells : EachTells plant start before step now)
     (others : (i : ℕ) → is_collect i step ≡ false) (none : maps_in now ≡ []) where
   pub frames_follow : (made i : ℕ) (row : RowFields) (waiting after : List Numbered) (put : List ElementsFields) → slice_get plant.rows i ≡ Some row
-      → collects_of i before ≤ length (frames_of (alone plant.consts row i before).outputs) → AreFramesAfter plant before made i row waiting put → after ≡ waiting ++ frames_of (answers_of i now)
-      → AreFramesAfter plant (before ++ step ∷ []) made i row after put
+      → collects_of i before ≤ length (frames_of (alone_from plant.consts start row i before).outputs) → AreFramesFrom plant start before made i row waiting put → after ≡ waiting ++ frames_of (answers_of i now)
+      → AreFramesFrom plant start (before ++ step ∷ []) made i row after put
   frames_follow made i row waiting after put e within are is =
       let count = collects_same i before step (others i) in
-      let all = frames_more plant before step now tells i row e in
-      let was = frames_of (alone plant.consts row i before).outputs in
+      let all = frames_more plant start before step now tells i row e in
+      let was = frames_of (alone_from plant.consts start row i before).outputs in
       let more = frames_of (answers_of i now) in
-      let rest : drop (collects_of i (before ++ step ∷ [])) (frames_of (alone plant.consts row i (before ++ step ∷ [])).outputs) ≡ drop (collects_of i before) was ++ more =
+      let rest : drop (collects_of i (before ++ step ∷ [])) (frames_of (alone_from plant.consts start row i (before ++ step ∷ [])).outputs) ≡ drop (collects_of i before) was ++ more =
       (λ n. drop (count n) (all n)) ∙ drop-append-le (collects_of i before) was more within in
-      let front : take (collects_of i (before ++ step ∷ [])) (frames_of (alone plant.consts row i (before ++ step ∷ [])).outputs) ≡ take (collects_of i before) was =
+      let front : take (collects_of i (before ++ step ∷ [])) (frames_of (alone_from plant.consts start row i (before ++ step ∷ [])).outputs) ≡ take (collects_of i before) was =
       (λ n. take (count n) (all n)) ∙ take-append-le (collects_of i before) was more within in
       record {
         waiting_are = is ∙ (ap (λ (ws : List Numbered). ws ++ more) are.waiting_are ∙ sym rest);
         put_are = are.put_are ∙ ap (λ (frames : List Numbered). map (λ (frame : Numbered). frame.1) (drop made frames)) (sym front);
       }
 
-  pub gathered_follows : (g after : Gathering) → IsGatheredAfter plant before outs g → after.channel ≡ g.channel → after.quotas ≡ g.quotas → after.slices ≡ g.slices
+  pub gathered_follows : (g after : Gathering) → IsGatheredFrom plant start before outs g → after.channel ≡ g.channel → after.quotas ≡ g.quotas → after.slices ≡ g.slices
       → after.reslicings ≡ g.reslicings ++ reslicings_of (step ∷ []) → after.queues ≡ g.queues → after.next ≡ g.next
-      → IsGatheredAfter plant (before ++ step ∷ []) (outs ++ now) after
+      → IsGatheredFrom plant start (before ++ step ∷ []) (outs ++ now) after
   gathered_follows g after is channel quotas slices reslicings queues next = record {
     channel_is = channel ∙ is.channel_is;
     quotas_are = quotas ∙ is.quotas_are;
     slices_are = slices ∙ is.slices_are;
     reslicings_are =
         reslicings
-        ∙ (ap (λ (rs : List Reslicing). rs ++ reslicings_of (step ∷ [])) is.reslicings_are ∙ sym (filter_map-append reslicing_in before (step ∷ [])));
+        ∙ (ap (λ (rs : List Reslicing). rs ++ reslicings_of (step ∷ [])) is.reslicings_are
+        ∙ (append_assoc start.waiting (reslicings_of before) (reslicings_of (step ∷ []))
+        ∙ ap (λ (rs : List Reslicing). start.waiting ++ rs) (sym (filter_map-append reslicing_in before (step ∷ [])))));
     one_each = ap length queues ∙ is.one_each;
-    next_is = next ∙ (is.next_is ∙ ap (λ ms. plant.consts.channel.first_frame + length ms) (sym (maps_same plant before outs step now tells others none)));
+    next_is = next ∙ (is.next_is ∙ ap (λ ms. start.frame + length ms) (sym (maps_same plant start before outs step now tells others none)));
     collected = λ i row e.
         let count = collects_same i before step (others i) in
-        let all = ap length (frames_more plant before step now tells i row e) in
-        let long = length-append (frames_of (alone plant.consts row i before).outputs) (frames_of (answers_of i now)) in
+        let all = ap length (frames_more plant start before step now tells i row e) in
+        let long = length-append (frames_of (alone_from plant.consts start row i before).outputs) (frames_of (answers_of i now)) in
         let was = is.collected i row e in
         omega (arith, count, all, long, was);
   }

@@ -1,4 +1,5 @@
 pub mod OwnSteps
+pub mod Starts
 pub mod Shown
 pub mod Ordered
 pub mod Reached
@@ -8,3 +9,5 @@ pub mod Steps
 pub mod Opened
 pub mod Run
 pub mod SharedOut
+pub mod Periods
+pub mod Changing

@@ -12,7 +12,8 @@ use Rattle.plant_runs.specs.declared.step.Step.TheVariants as steps
 use Rattle.plant_runs.specs.declared.step.Out.{Out}
 use Rattle.plant_runs.specs.declared.step.Out.TheVariants as outs
 use Rattle.plant_runs.specs.OwnSteps.{under}
-use Rattle.plant_runs.specs.Shown.{alone, IsLeast}
+use Rattle.plant_runs.specs.Starts.{Start, first_start}
+use Rattle.plant_runs.specs.Shown.{alone_from, IsLeast}
 
 -- where a step goes: the operator and its action
 abbrev pub action_at : Option ℕ → Action → Option (ℕ × Action)
@@ -27,10 +28,10 @@ target plant (steps.Collect op) = None
 target plant (steps.Reslice from rows) = None
 
 -- these are the outputs of that action in the operator's own run, under it
-pub record AreOwn (plant : PlantFields) (before : List Step) (i : ℕ) (action : Action) (now : List Out) : Type 0 where
+pub record AreOwnFrom (plant : PlantFields) (start : Start) (before : List Step) (i : ℕ) (action : Action) (now : List Out) : Type 0 where
   pub row : RowFields
   pub row_is : slice_get plant.rows i ≡ Some row
-  pub outputs : now ≡ under i (own_step (operator plant.consts row (alone plant.consts row i before).state) action).outputs
+  pub outputs : now ≡ under i (own_step (operator plant.consts row (alone_from plant.consts start row i before).state) action).outputs
 
 -- a collection gives the MAP where it raises the least number of collections of all operators, else nothing
 abbrev pub IsCollected : PlantFields → List Step → List Step → List Out → Type 0
@@ -39,17 +40,31 @@ IsCollected plant before after (outs.Map made ∷ []) = (n : ℕ) → IsLeast pl
 IsCollected plant before after other = ⊥
 
 -- what one step put out, after the steps before it
-abbrev pub IsTold : PlantFields → List Step → Step → Option (ℕ × Action) → List Out → Type 0
-IsTold plant before step (Some goal) now = AreOwn plant before goal.0 goal.1 now
-IsTold plant before (steps.Collect op) None now = IsCollected plant before (before ++ steps.Collect op ∷ []) now
-IsTold plant before (steps.Reslice from rows) None now = now ≡ []
-IsTold plant before step None now = ⊥
+abbrev pub IsToldFrom : PlantFields → Start → List Step → Step → Option (ℕ × Action) → List Out → Type 0
+IsToldFrom plant start before step (Some goal) now = AreOwnFrom plant start before goal.0 goal.1 now
+IsToldFrom plant start before (steps.Collect op) None now = IsCollected plant before (before ++ steps.Collect op ∷ []) now
+IsToldFrom plant start before (steps.Reslice from rows) None now = now ≡ []
+IsToldFrom plant start before step None now = ⊥
 
 -- the outputs are one list for each step, joined in the order of the steps
+abbrev pub AreInOrderFrom : PlantFields → Start → List Step → List Step → List Out → Type 0
+AreInOrderFrom plant start before [] all = all ≡ []
+AreInOrderFrom plant start before (step ∷ later) all =
+    (now : List Out) × (rest : List Out) × (all ≡ now ++ rest) × IsToldFrom plant start before step (target plant step) now × AreInOrderFrom plant start (before ++ step ∷ []) later rest
+
+abbrev pub OrderedFrom : PlantFields → Start → List Step → List Out → Type 0
+OrderedFrom plant start all_steps all_outs = AreInOrderFrom plant start [] all_steps all_outs
+
+-- ---- a run from the opened plant
+
+abbrev pub AreOwn : PlantFields → List Step → ℕ → Action → List Out → Type 0
+AreOwn plant before i action now = AreOwnFrom plant (first_start plant) before i action now
+
+abbrev pub IsTold : PlantFields → List Step → Step → Option (ℕ × Action) → List Out → Type 0
+IsTold plant before step goal now = IsToldFrom plant (first_start plant) before step goal now
+
 abbrev pub AreInOrder : PlantFields → List Step → List Step → List Out → Type 0
-AreInOrder plant before [] all = all ≡ []
-AreInOrder plant before (step ∷ later) all =
-    (now : List Out) × (rest : List Out) × (all ≡ now ++ rest) × IsTold plant before step (target plant step) now × AreInOrder plant (before ++ step ∷ []) later rest
+AreInOrder plant before later all = AreInOrderFrom plant (first_start plant) before later all
 
 abbrev pub Ordered : PlantFields → List Step → List Out → Type 0
-Ordered plant all_steps all_outs = AreInOrder plant [] all_steps all_outs
+Ordered plant all_steps all_outs = OrderedFrom plant (first_start plant) all_steps all_outs

@@ -17,8 +17,13 @@ use Rattle.plant_runs.specs.declared.step.Step.{Step}
 use Rattle.plant_runs.specs.declared.step.Out.{Out}
 use Rattle.plant_runs.specs.declared.step.Out.TheVariants as out
 use Rattle.plant_runs.specs.OwnSteps.{own_steps, answers_of, maps_in, collects_of}
+use Rattle.plant_runs.specs.Starts.{Start, first_start}
 
--- the operator's own machine, run alone on its own steps
+-- the operator's own machine, run alone on its own steps from where it starts
+abbrev pub alone_from : ConstsFields → Start → RowFields → ℕ → List Step → Ran
+alone_from consts start row i steps = own_run (operator consts row (start.state row)) (own_steps row i steps)
+
+-- the same from the opened state
 abbrev pub alone : ConstsFields → RowFields → ℕ → List Step → Ran
 alone consts row i steps = own_run (operator consts row (opened consts row)) (own_steps row i steps)
 
@@ -34,18 +39,18 @@ abbrev pub elements_in : ℕ → List Output → List ElementsFields
 elements_in frame outputs = filter_map (frame_if frame) outputs
 
 -- these are the operators' parts of a frame, in the plant's order: each the frame of that operator's machine run alone
-pub record ArePartsAt (plant : PlantFields) (steps : List Step) (frame : ℕ) (parts : List ElementsFields) : Type 0 where
+pub record ArePartsFrom (plant : PlantFields) (start : Start) (steps : List Step) (frame : ℕ) (parts : List ElementsFields) : Type 0 where
   pub one_each : length parts ≡ length plant.rows
   pub own : (i : ℕ) (row : RowFields) (part : ElementsFields) → slice_get plant.rows i ≡ Some row → slice_get parts i ≡ Some part
-      → elements_in frame (alone plant.consts row i steps).outputs ≡ part ∷ []
+      → elements_in frame (alone_from plant.consts start row i steps).outputs ≡ part ∷ []
 
 -- ---- MAPs
 
 -- a MAP of the run: it is the MAP of its frame with the parts of all operators, so it gives no minislot twice, and each
 -- operator's part of it is that operator's frame
-pub record IsMapIn (plant : PlantFields) (steps : List Step) (made : MapBytes) : Type 0 where
+pub record IsMapFrom (plant : PlantFields) (start : Start) (steps : List Step) (made : MapBytes) : Type 0 where
   pub parts : List ElementsFields
-  pub parts_are : ArePartsAt plant steps made.frame parts
+  pub parts_are : ArePartsFrom plant start steps made.frame parts
   pub map_is : IsMapOf plant.consts.channel made.frame (map quota_of plant.rows) (map (λ part. part.slice) parts) parts made.bytes
 
 -- as many MAPs as each operator's frames were collected at least
@@ -53,20 +58,35 @@ pub record IsLeast (plant : PlantFields) (steps : List Step) (count : ℕ) : Typ
   pub at_most : (i : ℕ) → i < length plant.rows → count ≤ collects_of i steps
   pub one : (i : ℕ) × (i < length plant.rows) × (collects_of i steps ≡ count)
 
--- the MAPs are those of the frames from the first one on, each once and in order, as many as were collected of each operator
-pub record AreMaps (plant : PlantFields) (steps : List Step) (made : List MapBytes) : Type 0 where
-  pub frames : map (λ m. m.frame) made ≡ range_with_len plant.consts.channel.first_frame (length made)
+-- the MAPs are those of the frames from that of the start on, each once and in order, as many as were collected of each operator
+pub record AreMapsFrom (plant : PlantFields) (start : Start) (steps : List Step) (made : List MapBytes) : Type 0 where
+  pub frames : map (λ m. m.frame) made ≡ range_with_len start.frame (length made)
   pub count : IsLeast plant steps (length made)
-  pub each : All (IsMapIn plant steps) made
+  pub each : All (IsMapFrom plant start steps) made
 
 -- an output stands under one of so many operators, or is a MAP
 abbrev pub IsUnder : ℕ → Out → Type 0
 IsUnder count (out.Of op output) = op < count
 IsUnder count (out.Map made) = Unit {0}
 
--- to each operator its answers are those of its own machine run alone, and the MAPs are of these machines' frames; nothing
--- stands under anybody else
-pub record Shown (plant : PlantFields) (steps : List Step) (outs : List Out) : Type 0 where
-  pub answers : (i : ℕ) (row : RowFields) → slice_get plant.rows i ≡ Some row → answers_of i outs ≡ (alone plant.consts row i steps).outputs
-  pub maps : AreMaps plant steps (maps_in outs)
+-- to each operator its answers are those of its own machine run alone from where it starts, and the MAPs are of these machines'
+-- frames; nothing stands under anybody else
+pub record ShownFrom (plant : PlantFields) (start : Start) (steps : List Step) (outs : List Out) : Type 0 where
+  pub answers : (i : ℕ) (row : RowFields) → slice_get plant.rows i ≡ Some row → answers_of i outs ≡ (alone_from plant.consts start row i steps).outputs
+  pub maps : AreMapsFrom plant start steps (maps_in outs)
   pub under_plant : All (IsUnder (length plant.rows)) outs
+
+-- ---- a run from the opened plant
+
+abbrev pub ArePartsAt : PlantFields → List Step → ℕ → List ElementsFields → Type 0
+ArePartsAt plant steps frame parts = ArePartsFrom plant (first_start plant) steps frame parts
+
+abbrev pub IsMapIn : PlantFields → List Step → MapBytes → Type 0
+IsMapIn plant steps made = IsMapFrom plant (first_start plant) steps made
+
+abbrev pub AreMaps : PlantFields → List Step → List MapBytes → Type 0
+AreMaps plant steps made = AreMapsFrom plant (first_start plant) steps made
+
+-- every operator starts opened
+abbrev pub Shown : PlantFields → List Step → List Out → Type 0
+Shown plant steps outs = ShownFrom plant (first_start plant) steps outs

@@ -14,7 +14,8 @@ use Rattle.map_assembly.specs.Tiled.{part_of}
 use Rattle.plant_runs.specs.declared.step.Step.{Step}
 use Rattle.plant_runs.specs.declared.step.Out.{Out}
 use Rattle.plant_runs.specs.OwnSteps.{own_steps, answers_of, maps_in}
-use Rattle.plant_runs.specs.Shown.{Shown}
+use Rattle.plant_runs.specs.Starts.{Start}
+use Rattle.plant_runs.specs.Shown.{Shown, ShownFrom}
 
 -- what the operator at place i of one run and the one at place j of the other notice is the same
 pub record NoticeTheSame (p : PlantFields) (i : ℕ) (outs : List Out) (q : PlantFields) (j : ℕ) (others : List Out) (agree : AgreeOn p i q j) : Type 0 where
@@ -25,3 +26,8 @@ pub record NoticeTheSame (p : PlantFields) (i : ℕ) (outs : List Out) (q : Plan
 abbrev pub TwoWorlds : Type 0
 TwoWorlds = (p q : PlantFields) (i j : ℕ) (s t : List Step) (o u : List Out) (agree : AgreeOn p i q j)
     → Shown p s o → Shown q t u → own_steps agree.row i s ≡ own_steps agree.row j t → NoticeTheSame p i o q j u agree
+
+-- the same for runs of plants that are resumed: where the operator starts in one state too
+abbrev pub TwoWorldsFrom : Type 0
+TwoWorldsFrom = (p q : PlantFields) (a b : Start) (i j : ℕ) (s t : List Step) (o u : List Out) (agree : AgreeOn p i q j)
+    → ShownFrom p a s o → ShownFrom q b t u → a.state agree.row ≡ b.state agree.row → own_steps agree.row i s ≡ own_steps agree.row j t → NoticeTheSame p i o q j u agree

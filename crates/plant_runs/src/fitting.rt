@@ -9,7 +9,8 @@ ghost use Rattle.map_assembly.specs.Gathering.{put_fault, IsGathering, MayReslic
 ghost use Rattle.plant_runs.specs.declared.step.Step.{Step};
 ghost use Rattle.plant_runs.specs.declared.step.Out.{Out};
 ghost use Rattle.plant_runs.specs.OwnSteps.{slice_of};
-ghost use Rattle.plant_runs.specs.Reached.{CoreView, Reached};
+ghost use Rattle.plant_runs.specs.Starts.{Start, IsStart};
+ghost use Rattle.plant_runs.specs.Reached.{CoreView, Reached, ReachedFrom};
 ghost use Rattle.plant_runs.specs.Steps.{HaveSlicesApart, NoneRefuses};
 
 /// The assembly refuses no frame that waits: whatever steps were done, the oldest one of an operator has the number that comes
@@ -18,6 +19,14 @@ pub fn waiting_frames_fit()
     ensures { (plant : PlantFields) (steps : List Step) (outs : List Out) (core : CoreView) (i frame : ℕ)
         (part : ElementsFields) (waiting : List (ℕ × ElementsFields)) → IsPlant plant → Reached plant steps outs core
         → IsGathering core.gathering
+        → slice_get core.queues i ≡ Some ((frame, part) ∷ waiting) → put_fault core.gathering i frame part ≡ None }
+{}
+
+/// Nor does it where the operators started in states that are sound under their rows.
+pub fn waiting_frames_fit_from()
+    ensures { (plant : PlantFields) (start : Start) (steps : List Step) (outs : List Out) (core : CoreView) (i frame : ℕ)
+        (part : ElementsFields) (waiting : List (ℕ × ElementsFields)) → IsStart plant start
+        → ReachedFrom plant start steps outs core → IsGathering core.gathering
         → slice_get core.queues i ≡ Some ((frame, part) ∷ waiting) → put_fault core.gathering i frame part ≡ None }
 {}
 

@@ -10,13 +10,31 @@ ghost use Rattle.plant_runs.specs.declared.step.Out.{Out};
 ghost use Rattle.plant_runs.specs.OwnSteps.{maps_in};
 ghost use Rattle.plant_runs.specs.Shown.{Shown};
 ghost use Rattle.plant_runs.specs.SharedOut.{IsSharedOut};
-ghost use Rattle.plant_runs.specs.TwoWorlds.{TwoWorlds};
+ghost use Rattle.plant_runs.specs.TwoWorlds.{TwoWorlds, TwoWorldsFrom};
+ghost use Rattle.plant_runs.specs.Periods.{ChangesAreNotNoticed};
+ghost use Rattle.plant_runs.specs.Changing.{ServiceGoesThrough};
 ghost use Rattle.plant_runs.specs.TwoCores.{TwoCores, AnswerAlike};
 
 /// No operator notices what another's modems send: for any two runs of plants that agree on an operator's provisioning and on
 /// its own steps, its answers and its parts of the MAPs are equal.
 pub fn two_worlds()
     ensures { TwoWorlds }
+{}
+
+/// States the same of runs that start anywhere, where the operator starts in one state too.
+pub fn two_resumed_worlds()
+    ensures { TwoWorldsFrom }
+{}
+
+/// States non-interference over changes of plant: an operator that keeps its row, starts in one state and has the same own
+/// steps notices the same, however often and whenever the plant is changed for others.
+pub fn changes_are_not_noticed()
+    ensures { ChangesAreNotNoticed }
+{}
+
+/// States that an operator that keeps its row through changes of plant has periods as `changes_are_not_noticed` asks.
+pub fn kept_rows_go_through()
+    ensures { ServiceGoesThrough }
 {}
 
 /// The headline at cores: of two cores, each after its steps, which agree on an operator's provisioning and own steps, the

@@ -7,7 +7,12 @@ mod laws;
 mod reaching;
 mod step;
 
-pub use fitting::{slices_that_books_take_fit, waiting_frames_fit};
-pub use laws::{equal_books_answer_alike, maps_are_shared_out, two_cores, two_worlds};
-pub use reaching::{opened_is_reached, run_is_reached, step_is_reached};
+pub use fitting::{slices_that_books_take_fit, waiting_frames_fit, waiting_frames_fit_from};
+pub use laws::{
+    changes_are_not_noticed, equal_books_answer_alike, kept_rows_go_through, maps_are_shared_out,
+    two_cores, two_resumed_worlds, two_worlds,
+};
+pub use reaching::{
+    opened_is_reached, run_is_reached, start_is_reached, step_is_reached, step_is_reached_from,
+};
 pub use step::{Out, SliceRows, Step};

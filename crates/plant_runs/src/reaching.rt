@@ -6,8 +6,9 @@ ghost use Rattle.plant.specs.Plant.{IsPlant};
 ghost use Rattle.map_assembly.specs.Gathering.{IsGathering};
 ghost use Rattle.plant_runs.specs.declared.step.Step.{Step};
 ghost use Rattle.plant_runs.specs.declared.step.Out.{Out};
-ghost use Rattle.plant_runs.specs.Reached.{CoreView, Reached};
-ghost use Rattle.plant_runs.specs.Opened.{opened_core};
+ghost use Rattle.plant_runs.specs.Starts.{Start, StandAtOneFrame};
+ghost use Rattle.plant_runs.specs.Reached.{CoreView, Reached, ReachedFrom};
+ghost use Rattle.plant_runs.specs.Opened.{opened_core, started_core};
 ghost use Rattle.plant_runs.specs.Run.{IsRun};
 ghost use Rattle.plant_runs.specs.Steps.{Steps};
 
@@ -24,6 +25,20 @@ pub fn step_is_reached()
         (now : List Out) → IsPlant plant → Reached plant before outs old → IsGathering old.gathering
         → Steps step old new now
         → Reached plant (before ++ step ∷ []) (outs ++ now) new }
+{}
+
+/// A core whose operators start in given states is as it is after no step from there.
+pub fn start_is_reached()
+    ensures { (plant : PlantFields) (start : Start) → IsPlant plant → StandAtOneFrame plant start
+        → ReachedFrom plant start [] [] (started_core plant start) }
+{}
+
+/// A step leaves a core as it is after that step more, wherever its operators started.
+pub fn step_is_reached_from()
+    ensures { (plant : PlantFields) (start : Start) (before : List Step) (outs : List Out) (step : Step)
+        (old new : CoreView) (now : List Out) → IsPlant plant → ReachedFrom plant start before outs old
+        → IsGathering old.gathering → Steps step old new now
+        → ReachedFrom plant start (before ++ step ∷ []) (outs ++ now) new }
 {}
 
 /// Whatever steps are done to an opened core, one after the other, the core is as it is after them, and the run shows to each

@@ -4,6 +4,7 @@ use Rattle.std.specs.Prelude.{slice_get}
 use Rattle.std.specs.Io.KnownBytes.{Appends}
 use Rattle.std.proofs.KnownBytes.{Appends-trans}
 use Rattle.plant.specs.declared.plant.PlantFields.{PlantFields}
+use Rattle.plant_runs.specs.Starts.{first_start}
 use Rattle.plant_runs.specs.Reached.{CoreView}
 use Rattle.plant_core.specs.declared.core_fault.CoreFault.{CoreFault}
 use Rattle.plant_core.specs.Faults.{step_fault}
@@ -31,7 +32,7 @@ ends_by live core None ends.NoMemory is at = inr (refl, refl)
 ends_by live core (Some line) ends.NoMemory is at = inr (refl, refl)
 
 -- steps that are done from an opened core on are a run's
-pub run_ends : (plant : PlantFields) (lines : List LineStep) (live : CoreView) (end : StepsEnd) (status : ℕ) (w0 w1 w2 : Option (List ℕ)) → HasDone plant [] [] lines live end w0 w1
+pub run_ends : (plant : PlantFields) (lines : List LineStep) (live : CoreView) (end : StepsEnd) (status : ℕ) (w0 w1 w2 : Option (List ℕ)) → HasDone plant (first_start plant) [] [] lines live end w0 w1
     → status ≡ status_of end → Appends w1 w2 (line_of end) → EndsRun plant lines status (λ text. Appends w0 w2 text)
 run_ends plant lines live end status w0 w1 w2 has is wrote = (
   outs_text plant has.told ++ line_of end,

@@ -7,8 +7,9 @@ use Rattle.slice_table.specs.declared.plant_fault.PlantFault.{PlantFault}
 use Rattle.slice_table.specs.ReadPlant.{text_plant}
 use Rattle.plant_runs.specs.declared.step.Out.{Out}
 use Rattle.plant_runs.specs.declared.step.Step.{Step}
+use Rattle.plant_runs.specs.Starts.{Start, first_start}
 use Rattle.plant_runs.specs.Reached.{CoreView}
-use Rattle.live_core.specs.After.{IsAfter}
+use Rattle.live_core.specs.After.{IsAfter, IsAfterFrom}
 use Rattle.plant_lines.specs.Input.{plant_text, script_text}
 use Rattle.plant_service.specs.Service.{service_text, IsServiceOf}
 use Rattle.plant_script.specs.Check.{fault_text}
@@ -17,11 +18,11 @@ use Rattle.plant_script.specs.Words.{AnswersFront, AnswersServe}
 
 -- a service of a core as it is opened
 pub service_served : (known : Option (List ℕ)) (plant : PlantFields) (live new : CoreView) (w0 w1 : Option (List ℕ)) → IsAfter plant [] [] live
-    → IfSome known (λ input. (p : PlantFields) (before : List Step) (shown : List Out) → IsAfter p before shown live → IsServiceOf p before shown input new w0 w1)
+    → IfSome known (λ input. (p : PlantFields) (start : Start) (before : List Step) (shown : List Out) → IsAfterFrom p start before shown live → IsServiceOf p start before shown input new w0 w1)
     → IfSome known (λ script. (text : List ℕ) × IsServed plant script 0 text × Appends w0 w1 text)
 service_served None plant live new w0 w1 after serves = tt
 service_served (Some input) plant live new w0 w1 after serves =
-    let service = serves plant [] [] after in
+    let service = serves plant (first_start plant) [] [] after in
     (service_text plant 1 service.answers, record { status_is = refl; answers = service.answers; live = new; answered = service.answered; after = service.after; text_is = refl }, service.written)
 
 -- the plant file was read, and its plant is served

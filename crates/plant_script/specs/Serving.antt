@@ -4,6 +4,7 @@ use Rattle.toml.specs.Parse.{parse_document}
 use Rattle.plant.specs.declared.plant.PlantFields.{PlantFields}
 use Rattle.slice_table.specs.declared.plant_fault.PlantFault.{PlantFault}
 use Rattle.slice_table.specs.ReadPlant.{text_plant}
+use Rattle.plant_runs.specs.Starts.{first_start}
 use Rattle.plant_runs.specs.Reached.{CoreView}
 use Rattle.live_core.specs.After.{IsAfter}
 use Rattle.plant_lines.specs.Lines.{lines_of}
@@ -17,7 +18,7 @@ pub record IsServed (plant : PlantFields) (script : List ℕ) (status : ℕ) (te
   pub status_is : status ≡ 0
   pub answers : List Answered
   pub live : CoreView
-  pub answered : AreAnswered plant [] [] 1 (lines_of script) answers
+  pub answered : AreAnswered plant (first_start plant) [] [] 1 (lines_of script) answers
   pub after : IsAfter plant (all_done answers) (all_told answers) live
   pub text_is : text ≡ service_text plant 1 answers
 

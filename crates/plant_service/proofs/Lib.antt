@@ -3,3 +3,4 @@ pub mod LeftLemmas
 pub mod StepLemmas
 pub mod LineLemmas
 pub mod ServiceLemmas
+pub mod ItemLemmas

@@ -1,4 +1,5 @@
 -- What a line is answered.
+use Rattle.plant_runs.specs.Starts.{Start}
 use Rattle.std.proofs.Common.{◌≡◌, ℕ, List, [], ◌++◌, take, length, arith, ◌<◌, ◌≤◌, Bool, true, false, nat_le, Option, Some, None, Ok, Err, refl, sym, subst, append-nil}
 use Rattle.std.proofs.lemmas.Bool.Decides.{nat_tests}
 use Rattle.std.specs.Prelude.{slice_get}
@@ -8,7 +9,7 @@ use Rattle.plant.specs.declared.plant.PlantFields.{PlantFields}
 use Rattle.plant_runs.specs.declared.step.Step.{Step}
 use Rattle.plant_runs.specs.declared.step.Out.{Out}
 use Rattle.plant_runs.specs.Reached.{CoreView}
-use Rattle.live_core.specs.After.{IsAfter}
+use Rattle.live_core.specs.After.{IsAfterFrom}
 use Rattle.plant_lines.specs.declared.fields.FieldFault.{FieldFault}
 use Rattle.plant_lines.specs.declared.script.LineStep.{LineStep}
 use Rattle.plant_lines.specs.declared.fields.FieldFault.TheVariants.{Shape}
@@ -34,9 +35,9 @@ ends_so live (Some line) (ends.Refused number) is = is.1
 ends_so live (Some line) ends.NoMemory is = tt
 
 -- a line that says steps
-pub steps_answered : (plant : PlantFields) (before : List Step) (shown : List Out) (number : ℕ) (line : List ℕ) (steps : List LineStep) (live : CoreView) (end : StepsEnd) (w0 w1 : Option (List ℕ))
-    → steps_said plant number line ≡ Ok steps → HasDone plant before shown steps live end w0 w1 → HasAnswered plant before shown number line live (line_end end) w0 w1
-steps_answered plant before shown number line steps live end w0 w1 said has = record {
+pub steps_answered : (plant : PlantFields) (start : Start) (before : List Step) (shown : List Out) (number : ℕ) (line : List ℕ) (steps : List LineStep) (live : CoreView) (end : StepsEnd) (w0 w1 : Option (List ℕ))
+    → steps_said plant number line ≡ Ok steps → HasDone plant start before shown steps live end w0 w1 → HasAnswered plant start before shown number line live (line_end end) w0 w1
+steps_answered plant start before shown number line steps live end w0 w1 said has = record {
   answered = record { done = unnumbered (take has.at steps); told = has.told; end = line_end end };
   is = record {
     after = has.after;
@@ -47,19 +48,19 @@ steps_answered plant before shown number line steps live end w0 w1 said has = re
   written = has.written;
 }
 
-unchanged : (plant : PlantFields) (before : List Step) (shown : List Out) (live : CoreView) → IsAfter plant before shown live → IsAfter plant (before ++ []) (shown ++ []) live
-unchanged plant before shown live after =
-    subst (λ (s : List Step). IsAfter plant s (shown ++ []) live) (sym (append-nil before)) (subst (λ (o : List Out). IsAfter plant before o live) (sym (append-nil shown)) after)
+unchanged : (plant : PlantFields) (start : Start) (before : List Step) (shown : List Out) (live : CoreView) → IsAfterFrom plant start before shown live → IsAfterFrom plant start (before ++ []) (shown ++ []) live
+unchanged plant start before shown live after =
+    subst (λ (s : List Step). IsAfterFrom plant start s (shown ++ []) live) (sym (append-nil before)) (subst (λ (o : List Out). IsAfterFrom plant start before o live) (sym (append-nil shown)) after)
 
 abbrev nothing : LineEnd → Answered
 nothing end = record { done = []; told = []; end = end }
 
 -- a line that says none
-pub none_answered : (plant : PlantFields) (before : List Step) (shown : List Out) (number : ℕ) (line : List ℕ) (fault : FieldFault) (live : CoreView) (known : Option (List ℕ))
-    → IsAfter plant before shown live → steps_said plant number line ≡ Err fault → HasAnswered plant before shown number line live AtFault known known
-none_answered plant before shown number line fault live known after said = record {
+pub none_answered : (plant : PlantFields) (start : Start) (before : List Step) (shown : List Out) (number : ℕ) (line : List ℕ) (fault : FieldFault) (live : CoreView) (known : Option (List ℕ))
+    → IsAfterFrom plant start before shown live → steps_said plant number line ≡ Err fault → HasAnswered plant start before shown number line live AtFault known known
+none_answered plant start before shown number line fault live known after said = record {
   answered = nothing AtFault;
-  is = record { after = unchanged plant before shown live after; ends = subst (λ (r : Read (List LineStep)). EndsAs r live (nothing AtFault)) (sym said) (refl, refl, tt) };
+  is = record { after = unchanged plant start before shown live after; ends = subst (λ (r : Read (List LineStep)). EndsAs r live (nothing AtFault)) (sym said) (refl, refl, tt) };
   end_is = refl;
   written = Appends-nil known;
 }
@@ -69,19 +70,19 @@ ends_wanting (Ok steps) live = (0, refl, tt)
 ends_wanting (Err fault) live = (refl, refl, tt)
 
 -- memory is wanting for the line itself
-pub memory_answered : (plant : PlantFields) (before : List Step) (shown : List Out) (number : ℕ) (line : List ℕ) (live : CoreView) (known : Option (List ℕ))
-    → IsAfter plant before shown live → HasAnswered plant before shown number line live NoMemory known known
-memory_answered plant before shown number line live known after = record {
+pub memory_answered : (plant : PlantFields) (start : Start) (before : List Step) (shown : List Out) (number : ℕ) (line : List ℕ) (live : CoreView) (known : Option (List ℕ))
+    → IsAfterFrom plant start before shown live → HasAnswered plant start before shown number line live NoMemory known known
+memory_answered plant start before shown number line live known after = record {
   answered = nothing NoMemory;
-  is = record { after = unchanged plant before shown live after; ends = ends_wanting (steps_said plant number line) live };
+  is = record { after = unchanged plant start before shown live after; ends = ends_wanting (steps_said plant number line) live };
   end_is = refl;
   written = Appends-nil known;
 }
 
 -- the end is written too
-pub end_written : (plant : PlantFields) (before : List Step) (shown : List Out) (number : ℕ) (line : List ℕ) (live : CoreView) (end : LineEnd) (w0 w1 w2 : Option (List ℕ))
-    → HasAnswered plant before shown number line live end w0 w1 → Appends w1 w2 (end_text number end) → IsAnswered plant before shown number line live w0 w2
-end_written plant before shown number line live end w0 w1 w2 has wrote = record {
+pub end_written : (plant : PlantFields) (start : Start) (before : List Step) (shown : List Out) (number : ℕ) (line : List ℕ) (live : CoreView) (end : LineEnd) (w0 w1 w2 : Option (List ℕ))
+    → HasAnswered plant start before shown number line live end w0 w1 → Appends w1 w2 (end_text number end) → IsAnswered plant start before shown number line live w0 w2
+end_written plant start before shown number line live end w0 w1 w2 has wrote = record {
   answered = has.answered;
   is = has.is;
   written =

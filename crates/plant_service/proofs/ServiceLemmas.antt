@@ -1,4 +1,5 @@
 -- The lines of a service, one after the other.
+use Rattle.plant_runs.specs.Starts.{Start}
 use Rattle.std.proofs.Common.{◌≡◌, ℕ, suc, ◌+◌, length, arith, ◌==◌, Bool, true, false, List, [], ◌∷◌, ◌++◌, Option, Some, None, IfSome, refl, sym, ap, subst, ◌∙◌, append_assoc, append-nil, length-append}
 use Rattle.std.specs.Io.KnownBytes.{Appends}
 use Rattle.std.proofs.KnownBytes.{Appends-nil, Appends-trans}
@@ -7,7 +8,7 @@ use Rattle.plant.specs.declared.plant.PlantFields.{PlantFields}
 use Rattle.plant_runs.specs.declared.step.Step.{Step}
 use Rattle.plant_runs.specs.declared.step.Out.{Out}
 use Rattle.plant_runs.specs.Reached.{CoreView}
-use Rattle.live_core.specs.After.{IsAfter}
+use Rattle.live_core.specs.After.{IsAfterFrom}
 use Rattle.live_core.proofs.LawLemmas.{live_shown, live_ordered}
 use Rattle.plant_lines.specs.Lines.{parts_of, parts_from}
 use Rattle.plant_service.specs.Bytes.{Takes, WhereKnown}
@@ -16,30 +17,30 @@ use Rattle.plant_service.specs.SoFar.{IsHeld, IsAnswered, IsServedSoFar}
 
 -- ---- one line more
 
-moved : (plant : PlantFields) (b b' : List Step) (o o' : List Out) (n n' : ℕ) (line : List ℕ) (live : CoreView) (a : Answered) → b ≡ b' → o ≡ o' → n ≡ n' → IsAnswer plant b o n line live a → IsAnswer plant b' o' n' line live a
-moved plant b b' o o' n n' line live a eb eo en is =
-    subst (λ (x : List Step). IsAnswer plant x o' n' line live a) eb
-    (subst (λ (x : List Out). IsAnswer plant b x n' line live a) eo (subst (λ (x : ℕ). IsAnswer plant b o x line live a) en is))
+moved : (plant : PlantFields) (start : Start) (b b' : List Step) (o o' : List Out) (n n' : ℕ) (line : List ℕ) (live : CoreView) (a : Answered) → b ≡ b' → o ≡ o' → n ≡ n' → IsAnswer plant start b o n line live a → IsAnswer plant start b' o' n' line live a
+moved plant start b b' o o' n n' line live a eb eo en is =
+    subst (λ (x : List Step). IsAnswer plant start x o' n' line live a) eb
+    (subst (λ (x : List Out). IsAnswer plant start b x n' line live a) eo (subst (λ (x : ℕ). IsAnswer plant start b o x line live a) en is))
 
-answered_more : (plant : PlantFields) (before : List Step) (shown : List Out) (number : ℕ) (lines : List (List ℕ)) (answers : List Answered) (line : List ℕ) (live : CoreView) (a : Answered)
-    → AreAnswered plant before shown number lines answers → IsAnswer plant (before ++ all_done answers) (shown ++ all_told answers) (number + length lines) line live a
-    → AreAnswered plant before shown number (lines ++ line ∷ []) (answers ++ a ∷ [])
-answered_more plant before shown number [] [] line live a h is =
-    (live, moved plant _ before _ shown _ number line live a (append-nil before) (append-nil shown) (omega arith) is, tt)
-answered_more plant before shown number [] (b ∷ bs) line live a h is = absurd h
-answered_more plant before shown number (l ∷ ls) [] line live a h is = absurd h
-answered_more plant before shown number (l ∷ ls) (b ∷ bs) line live a h is = (
+answered_more : (plant : PlantFields) (start : Start) (before : List Step) (shown : List Out) (number : ℕ) (lines : List (List ℕ)) (answers : List Answered) (line : List ℕ) (live : CoreView) (a : Answered)
+    → AreAnswered plant start before shown number lines answers → IsAnswer plant start (before ++ all_done answers) (shown ++ all_told answers) (number + length lines) line live a
+    → AreAnswered plant start before shown number (lines ++ line ∷ []) (answers ++ a ∷ [])
+answered_more plant start before shown number [] [] line live a h is =
+    (live, moved plant start _ before _ shown _ number line live a (append-nil before) (append-nil shown) (omega arith) is, tt)
+answered_more plant start before shown number [] (b ∷ bs) line live a h is = absurd h
+answered_more plant start before shown number (l ∷ ls) [] line live a h is = absurd h
+answered_more plant start before shown number (l ∷ ls) (b ∷ bs) line live a h is = (
   h.0,
   h.1,
-  answered_more plant (before ++ b.done) (shown ++ b.told) (number + 1) ls bs line live a h.2
-      (moved plant _ _ _ _ _ _ line live a (sym (append_assoc before b.done (all_done bs))) (sym (append_assoc shown b.told (all_told bs))) (omega arith) is),
+  answered_more plant start (before ++ b.done) (shown ++ b.told) (number + 1) ls bs line live a h.2
+      (moved plant start _ _ _ _ _ _ line live a (sym (append_assoc before b.done (all_done bs))) (sym (append_assoc shown b.told (all_told bs))) (omega arith) is),
 )
 
-as_many : (plant : PlantFields) (before : List Step) (shown : List Out) (number : ℕ) (lines : List (List ℕ)) (answers : List Answered) → AreAnswered plant before shown number lines answers → length answers ≡ length lines
-as_many plant before shown number [] [] h = refl
-as_many plant before shown number [] (b ∷ bs) h = absurd h
-as_many plant before shown number (l ∷ ls) [] h = absurd h
-as_many plant before shown number (l ∷ ls) (b ∷ bs) h = ap suc (as_many plant (before ++ b.done) (shown ++ b.told) (number + 1) ls bs h.2)
+as_many : (plant : PlantFields) (start : Start) (before : List Step) (shown : List Out) (number : ℕ) (lines : List (List ℕ)) (answers : List Answered) → AreAnswered plant start before shown number lines answers → length answers ≡ length lines
+as_many plant start before shown number [] [] h = refl
+as_many plant start before shown number [] (b ∷ bs) h = absurd h
+as_many plant start before shown number (l ∷ ls) [] h = absurd h
+as_many plant start before shown number (l ∷ ls) (b ∷ bs) h = ap suc (as_many plant start (before ++ b.done) (shown ++ b.told) (number + 1) ls bs h.2)
 
 text_more : (plant : PlantFields) (number : ℕ) (answers : List Answered) (a : Answered) → service_text plant number (answers ++ a ∷ []) ≡ service_text plant number answers ++ answer_text plant (number + length answers) a
 text_more plant number [] a = append-nil (answer_text plant number a) ∙ ap (λ (n : ℕ). answer_text plant n a) (omega arith)
@@ -50,10 +51,10 @@ text_more plant number (b ∷ bs) a =
 
 -- ---- what is done so far
 
-module _ (plant : PlantFields) (before : List Step) (shown : List Out) where
+module _ (plant : PlantFields) (start : Start) (before : List Step) (shown : List Out) where
   -- nothing is read yet
-  pub begun : (input : List ℕ) (bytes : List ℕ) (is_long : Bool) (live : CoreView) (known : Option (List ℕ)) → IsHeld bytes is_long [] → IsAfter plant before shown live
-      → IsServedSoFar plant before shown input input bytes is_long 1 live known known
+  pub begun : (input : List ℕ) (bytes : List ℕ) (is_long : Bool) (live : CoreView) (known : Option (List ℕ)) → IsHeld bytes is_long [] → IsAfterFrom plant start before shown live
+      → IsServedSoFar plant start before shown input input bytes is_long 1 live known known
   unfolding parts_of
   begun input bytes is_long live known held after = record {
     lines = [];
@@ -63,7 +64,7 @@ module _ (plant : PlantFields) (before : List Step) (shown : List Out) where
     is_held = held;
     number_is = refl;
     answered = tt;
-    after = subst (λ (s : List Step). IsAfter plant s (shown ++ []) live) (sym (append-nil before)) (subst (λ (o : List Out). IsAfter plant before o live) (sym (append-nil shown)) after);
+    after = subst (λ (s : List Step). IsAfterFrom plant start s (shown ++ []) live) (sym (append-nil before)) (subst (λ (o : List Out). IsAfterFrom plant start before o live) (sym (append-nil shown)) after);
     written = Appends-nil known;
   }
 
@@ -73,9 +74,9 @@ module _ (plant : PlantFields) (before : List Step) (shown : List Out) where
       ap (λ (t : Bool). elim t [ true ↦ part ∷ parts_from 10 [] rest | false ↦ parts_from 10 (part ++ byte ∷ []) rest ]) other
 
   pub byte_read : (input rest : List ℕ) (bytes new_bytes : List ℕ) (is_long new_long : Bool) (number byte : ℕ) (live : CoreView) (w0 w1 : Option (List ℕ)) → (byte == 10) ≡ false
-      → IsServedSoFar plant before shown input (byte ∷ rest) bytes is_long number live w0 w1
+      → IsServedSoFar plant start before shown input (byte ∷ rest) bytes is_long number live w0 w1
       → ((part : List ℕ) → IsHeld bytes is_long part → IsHeld new_bytes new_long (part ++ byte ∷ []))
-      → IsServedSoFar plant before shown input rest new_bytes new_long number live w0 w1
+      → IsServedSoFar plant start before shown input rest new_bytes new_long number live w0 w1
   unfolding within
   byte_read input rest bytes new_bytes is_long new_long number byte live w0 w1 other so_far held = record {
     lines = so_far.lines;
@@ -91,18 +92,18 @@ module _ (plant : PlantFields) (before : List Step) (shown : List Out) where
 
   -- all that is answered with a line more
   module _ (input rest : List ℕ) (bytes : List ℕ) (is_long : Bool) (number : ℕ) (old live : CoreView) (w0 w1 w2 : Option (List ℕ))
-      (so_far : IsServedSoFar plant before shown input rest bytes is_long number old w0 w1)
-      (new : IsAnswered plant (before ++ all_done so_far.answers) (shown ++ all_told so_far.answers) number so_far.part live w1 w2) where
+      (so_far : IsServedSoFar plant start before shown input rest bytes is_long number old w0 w1)
+      (new : IsAnswered plant start (before ++ all_done so_far.answers) (shown ++ all_told so_far.answers) number so_far.part live w1 w2) where
     all : List Answered
     all = so_far.answers ++ new.answered ∷ []
 
-    are_answered : AreAnswered plant before shown 1 (so_far.lines ++ so_far.part ∷ []) all
+    are_answered : AreAnswered plant start before shown 1 (so_far.lines ++ so_far.part ∷ []) all
     unfolding all
     are_answered =
-        answered_more plant before shown 1 so_far.lines so_far.answers so_far.part live new.answered so_far.answered
-        (subst (λ (n : ℕ). IsAnswer plant (before ++ all_done so_far.answers) (shown ++ all_told so_far.answers) n so_far.part live new.answered) so_far.number_is new.is)
+        answered_more plant start before shown 1 so_far.lines so_far.answers so_far.part live new.answered so_far.answered
+        (subst (λ (n : ℕ). IsAnswer plant start (before ++ all_done so_far.answers) (shown ++ all_told so_far.answers) n so_far.part live new.answered) so_far.number_is new.is)
 
-    run_is : IsAfter plant (before ++ all_done all) (shown ++ all_told all) live
+    run_is : IsAfterFrom plant start (before ++ all_done all) (shown ++ all_told all) live
     unfolding all
     run_is =
         let a = new.answered in
@@ -112,19 +113,19 @@ module _ (plant : PlantFields) (before : List Step) (shown : List Out) where
         let told : (shown ++ all_told so_far.answers) ++ a.told ≡ shown ++ all_told (so_far.answers ++ a ∷ []) =
         append_assoc shown (all_told so_far.answers) a.told
         ∙ ap (λ (s : List Out). shown ++ s) (ap (λ (s : List Out). all_told so_far.answers ++ s) (sym (append-nil a.told)) ∙ sym (flat_map-append (λ (x : Answered). x.told) so_far.answers (a ∷ []))) in
-        subst (λ (s : List Step). IsAfter plant s (shown ++ all_told (so_far.answers ++ a ∷ [])) live) done
-        (subst (λ (o : List Out). IsAfter plant ((before ++ all_done so_far.answers) ++ a.done) o live) told new.is.after)
+        subst (λ (s : List Step). IsAfterFrom plant start s (shown ++ all_told (so_far.answers ++ a ∷ [])) live) done
+        (subst (λ (o : List Out). IsAfterFrom plant start ((before ++ all_done so_far.answers) ++ a.done) o live) told new.is.after)
 
     is_written : Appends w0 w2 (service_text plant 1 all)
     unfolding all
     is_written =
-        let count : 1 + length so_far.answers ≡ number = ap (λ (n : ℕ). 1 + n) (as_many plant before shown 1 so_far.lines so_far.answers so_far.answered) ∙ sym so_far.number_is in
+        let count : 1 + length so_far.answers ≡ number = ap (λ (n : ℕ). 1 + n) (as_many plant start before shown 1 so_far.lines so_far.answers so_far.answered) ∙ sym so_far.number_is in
         subst (λ (t : List ℕ). Appends w0 w2 t) (sym (text_more plant 1 so_far.answers new.answered))
         (Appends-trans w0 w1 w2 _ _ so_far.written (subst (λ (n : ℕ). Appends w1 w2 (answer_text plant n new.answered)) (sym count) new.written))
 
     -- the line has ended, and the next one begins
     pub line_ended : (new_bytes : List ℕ) (new_long : Bool) (next : ℕ) (left : List ℕ) → rest ≡ 10 ∷ left → next ≡ number + 1 → IsHeld new_bytes new_long []
-        → IsServedSoFar plant before shown input left new_bytes new_long next live w0 w2
+        → IsServedSoFar plant start before shown input left new_bytes new_long next live w0 w2
     unfolding all are_answered run_is is_written
     line_ended new_bytes new_long next left ends next_is held = record {
       lines = so_far.lines ++ so_far.part ∷ [];
@@ -145,11 +146,11 @@ module _ (plant : PlantFields) (before : List Step) (shown : List Out) where
         counted xs x = let long = length-append xs (x ∷ []) in omega (arith, long)
 
     -- the input has ended
-    pub input_ended : rest ≡ [] → IsServiceOf plant before shown input live w0 w2
+    pub input_ended : rest ≡ [] → IsServiceOf plant start before shown input live w0 w2
     unfolding all are_answered run_is is_written
     input_ended ends = record {
       answers = all;
-      answered = subst (λ (ls : List (List ℕ)). AreAnswered plant before shown 1 ls all) (sym (so_far.lines_are ∙ ap (λ (bs : List ℕ). so_far.lines ++ parts_from 10 so_far.part bs) ends)) are_answered;
+      answered = subst (λ (ls : List (List ℕ)). AreAnswered plant start before shown 1 ls all) (sym (so_far.lines_are ∙ ap (λ (bs : List ℕ). so_far.lines ++ parts_from 10 so_far.part bs) ends)) are_answered;
       after = run_is;
       written = is_written;
     }
@@ -160,17 +161,17 @@ pub known_same : (known : Option (List ℕ)) (P : List ℕ → List ℕ → Type
 known_same None P h = tt
 known_same (Some input) P h = h input
 
-pub known_ended : (a b d : Option (List ℕ)) (G : PlantFields → List Step → List Out → Type 0) (P : PlantFields → List Step → List Out → List ℕ → List ℕ → Type 0) (Q : PlantFields → List Step → List Out → List ℕ → Type 0)
-    → ((plant : PlantFields) (before : List Step) (shown : List Out) → G plant before shown → WhereKnown a b (P plant before shown)) → Takes b d None
-    → ((plant : PlantFields) (before : List Step) (shown : List Out) (input : List ℕ) → G plant before shown → P plant before shown input [] → Q plant before shown input)
-    → IfSome a (λ input. (plant : PlantFields) (before : List Step) (shown : List Out) → G plant before shown → Q plant before shown input)
+pub known_ended : (a b d : Option (List ℕ)) (G : PlantFields → Start → List Step → List Out → Type 0) (P : PlantFields → Start → List Step → List Out → List ℕ → List ℕ → Type 0) (Q : PlantFields → Start → List Step → List Out → List ℕ → Type 0)
+    → ((plant : PlantFields) (start : Start) (before : List Step) (shown : List Out) → G plant start before shown → WhereKnown a b (P plant start before shown)) → Takes b d None
+    → ((plant : PlantFields) (start : Start) (before : List Step) (shown : List Out) (input : List ℕ) → G plant start before shown → P plant start before shown input [] → Q plant start before shown input)
+    → IfSome a (λ input. (plant : PlantFields) (start : Start) (before : List Step) (shown : List Out) → G plant start before shown → Q plant start before shown input)
 known_ended None b d G P Q h took on = tt
-known_ended (Some input) None d G P Q h took on = λ plant before shown is. absurd (h plant before shown is)
+known_ended (Some input) None d G P Q h took on = λ plant start before shown is. absurd (h plant start before shown is)
 known_ended (Some input) (Some rest) None G P Q h took on = absurd took
-known_ended (Some input) (Some rest) (Some left) G P Q h took on = λ plant before shown is.
-    on plant before shown input is (subst (λ (l : List ℕ). P plant before shown input l) took.0 (h plant before shown is))
+known_ended (Some input) (Some rest) (Some left) G P Q h took on = λ plant start before shown is.
+    on plant start before shown input is (subst (λ (l : List ℕ). P plant start before shown input l) took.0 (h plant start before shown is))
 
 -- ---- the law
 
 pub service_shown : ServiceIsShown
-service_shown plant input live old new service = (live_shown plant _ _ live service.after, live_ordered plant _ _ live service.after)
+service_shown plant start input live old new service = (live_shown plant start _ _ live service.after, live_ordered plant start _ _ live service.after)

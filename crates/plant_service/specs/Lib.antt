@@ -4,3 +4,4 @@ pub mod Front
 pub mod Service
 pub mod SoFar
 pub mod Steps
+pub mod Items

@@ -1,4 +1,5 @@
 -- A plant in service: lines of a script are answered one after the other, and a line at fault ends nothing (own).
+use Rattle.plant_runs.specs.Starts.{Start}
 use Rattle.std.specs.Prelude.{◌≡◌, ℕ, ◌+◌, List, [], ◌∷◌, ◌++◌, nat_le, take, length, slice_get, Option, Some, None, IsSome, Ok, Err, ⊤, if◌then◌else◌, codes}
 use Rattle.std.specs.Fmt.{decimal}
 use Rattle.std.specs.Io.KnownBytes.{Appends}
@@ -7,10 +8,10 @@ use Rattle.plant.specs.declared.plant.PlantFields.{PlantFields}
 use Rattle.plant_runs.specs.declared.step.Step.{Step}
 use Rattle.plant_runs.specs.declared.step.Out.{Out}
 use Rattle.plant_runs.specs.Reached.{CoreView}
-use Rattle.plant_runs.specs.Shown.{Shown}
-use Rattle.plant_runs.specs.Ordered.{Ordered}
+use Rattle.plant_runs.specs.Shown.{ShownFrom}
+use Rattle.plant_runs.specs.Ordered.{OrderedFrom}
 use Rattle.plant_core.specs.Faults.{step_fault}
-use Rattle.live_core.specs.After.{IsAfter}
+use Rattle.live_core.specs.After.{IsAfterFrom}
 use Rattle.plant_lines.specs.declared.fields.FieldFault.TheVariants.{Shape}
 use Rattle.plant_lines.specs.declared.script.LineStep.{LineStep}
 use Rattle.plant_lines.specs.Fields.{Read}
@@ -63,20 +64,20 @@ EndsAs (Ok steps) live answered = (at : ℕ) × (answered.done ≡ unnumbered (t
 EndsAs (Err fault) live answered = (answered.done ≡ []) × (answered.told ≡ []) × IsFault answered.end
 
 -- the line is answered so, behind these steps and outputs, and this is the core behind it
-pub record IsAnswer (plant : PlantFields) (before : List Step) (shown : List Out) (number : ℕ) (line : List ℕ) (live : CoreView) (answered : Answered) : Type 0 where
-  pub after : IsAfter plant (before ++ answered.done) (shown ++ answered.told) live
+pub record IsAnswer (plant : PlantFields) (start : Start) (before : List Step) (shown : List Out) (number : ℕ) (line : List ℕ) (live : CoreView) (answered : Answered) : Type 0 where
+  pub after : IsAfterFrom plant start (before ++ answered.done) (shown ++ answered.told) live
   pub ends : EndsAs (steps_said plant number line) live answered
 
 -- ---- the whole service
 
 -- each line is answered, in order, by its number
-abbrev pub AreAnswered : PlantFields → List Step → List Out → ℕ → List (List ℕ) → List Answered → Type 0
-AreAnswered plant before shown number [] [] = ⊤
-AreAnswered plant before shown number [] (answered ∷ more) = ⊥
-AreAnswered plant before shown number (line ∷ lines) [] = ⊥
-AreAnswered plant before shown number (line ∷ lines) (answered ∷ more) =
-    (live : CoreView) × IsAnswer plant before shown number line live answered
-    × AreAnswered plant (before ++ answered.done) (shown ++ answered.told) (number + 1) lines more
+abbrev pub AreAnswered : PlantFields → Start → List Step → List Out → ℕ → List (List ℕ) → List Answered → Type 0
+AreAnswered plant start before shown number [] [] = ⊤
+AreAnswered plant start before shown number [] (answered ∷ more) = ⊥
+AreAnswered plant start before shown number (line ∷ lines) [] = ⊥
+AreAnswered plant start before shown number (line ∷ lines) (answered ∷ more) =
+    (live : CoreView) × IsAnswer plant start before shown number line live answered
+    × AreAnswered plant start (before ++ answered.done) (shown ++ answered.told) (number + 1) lines more
 
 -- all answers, each behind the one before it
 abbrev pub service_text : PlantFields → ℕ → List Answered → List ℕ
@@ -91,15 +92,15 @@ abbrev pub all_told : List Answered → List Out
 all_told answers = flat_map (λ answered. answered.told) answers
 
 -- behind these steps and outputs, all lines of the input are answered, their answers are written, and this is the core then
-pub record IsServiceOf (plant : PlantFields) (before : List Step) (shown : List Out) (input : List ℕ) (live : CoreView) (old new : Option (List ℕ)) : Type 0 where
+pub record IsServiceOf (plant : PlantFields) (start : Start) (before : List Step) (shown : List Out) (input : List ℕ) (live : CoreView) (old new : Option (List ℕ)) : Type 0 where
   pub answers : List Answered
-  pub answered : AreAnswered plant before shown 1 (lines_of input) answers
-  pub after : IsAfter plant (before ++ all_done answers) (shown ++ all_told answers) live
+  pub answered : AreAnswered plant start before shown 1 (lines_of input) answers
+  pub after : IsAfterFrom plant start (before ++ all_done answers) (shown ++ all_told answers) live
   pub written : Appends old new (service_text plant 1 answers)
 
 -- ---- the law
 
 -- what a service has put out is shown to each operator as its own machine run alone has it, and in order
 abbrev pub ServiceIsShown : Type 0
-ServiceIsShown = (plant : PlantFields) (input : List ℕ) (live : CoreView) (old new : Option (List ℕ)) (service : IsServiceOf plant [] [] input live old new)
-    → Shown plant (all_done service.answers) (all_told service.answers) × Ordered plant (all_done service.answers) (all_told service.answers)
+ServiceIsShown = (plant : PlantFields) (start : Start) (input : List ℕ) (live : CoreView) (old new : Option (List ℕ)) (service : IsServiceOf plant start [] [] input live old new)
+    → ShownFrom plant start (all_done service.answers) (all_told service.answers) × OrderedFrom plant start (all_done service.answers) (all_told service.answers)

@@ -51,7 +51,7 @@ pub fn run_steps<W: Write>(
 ) -> io::Result<StepsEnd>
     requires reached { IsReachable (live_view core.old) }
     // Behind whatever run led to the core, so many steps are done, and what they put out is written.
-    ensures { IfOk result (λ end. BehindEachRun (live_view core.old) (λ plant before shown. HasDone plant before shown
+    ensures { IfOk result (λ end. BehindEachRun (live_view core.old) (λ plant start before shown. HasDone plant start before shown
         steps.items (live_view core.new) end (W.contents writer.old) (W.contents writer.new))) }
 {
     let mut outs = Vec::new(alloc);
@@ -85,7 +85,7 @@ fn do_line<W: Write>(
     writer: &mut W,
 ) -> io::Result<LineEnd>
     requires reached { IsReachable (live_view core.old) }
-    ensures { IfOk result (λ end. BehindEachRun (live_view core.old) (λ plant before shown. HasAnswered plant before shown
+    ensures { IfOk result (λ end. BehindEachRun (live_view core.old) (λ plant start before shown. HasAnswered plant start before shown
         number line.now (live_view core.new) end (W.contents writer.old) (W.contents writer.new))) }
 {
     match steps_said(alloc, core.plant(), number, line) {
@@ -122,7 +122,7 @@ pub fn answer_line<W: Write>(
 ) -> io::Result<()>
     requires reached { IsReachable (live_view core.old) }
     // Behind whatever run led to the core, the line has such an answer, and it is written.
-    ensures { OnOk result (BehindEachRun (live_view core.old) (λ plant before shown. IsAnswered plant before shown number
+    ensures { OnOk result (BehindEachRun (live_view core.old) (λ plant start before shown. IsAnswered plant start before shown number
         line.now (live_view core.new) (W.contents writer.old) (W.contents writer.new))) }
 {
     let end = do_line(alloc, core, number, line, writer)?;

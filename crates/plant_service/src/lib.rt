@@ -14,7 +14,7 @@ mod steps_end;
 pub use answering::{answer_line, run_steps};
 pub use front::read_plant_text;
 pub use held_line::HeldLine;
-pub use laws::service_is_shown;
+pub use laws::{service_is_of_changes, service_is_shown};
 pub use line_end::LineEnd;
 pub use serving::serve;
 pub use steps_end::StepsEnd;

@@ -1,5 +1,6 @@
 //! Serving a plant as long as there are lines.
 
+ghost use Rattle.plant_runs.specs.Starts.{Start};
 ghost use Rattle.std.specs.Prelude.{◌≡◌, ◌+◌, [], ◌∷◌, List, ℕ, Option, IfOk, OnOk, IfSome};
 ghost use Rattle.plant.specs.declared.plant.PlantFields.{PlantFields};
 ghost use Rattle.plant_runs.specs.declared.step.Out.{Out};
@@ -38,9 +39,9 @@ fn answer_held<W: Write>(
 ) -> io::Result<()>
     requires reached { IsReachable (live_view core.old) }
     ensures reached { OnOk result (IsReachable (live_view core.new)) }
-    ensures answered { OnOk result (BehindEachRun (live_view core.old) (λ plant before shown. (line : List ℕ)
+    ensures answered { OnOk result (BehindEachRun (live_view core.old) (λ plant start before shown. (line : List ℕ)
         → IsHeld held.now.bytes.items held.now.is_long line
-        → IsAnswered plant before shown number line (live_view core.new)
+        → IsAnswered plant start before shown number line (live_view core.new)
         (W.contents writer.old) (W.contents writer.new))) }
 {
     if held.is_long {
@@ -61,10 +62,10 @@ fn take_byte<W: Write>(
 ) -> io::Result<()>
     requires reached { IsReachable (live_view core.old) }
     ensures reached { OnOk result (IsReachable (live_view core.new)) }
-    ensures on { OnOk result ((plant : PlantFields) (before : List Step) (shown : List Out) (input rest : List ℕ)
-        (written : Option (List ℕ)) → IsServedSoFar plant before shown input (byte ∷ rest) held.old.bytes.items
+    ensures on { OnOk result ((plant : PlantFields) (start : Start) (before : List Step) (shown : List Out) (input rest : List ℕ)
+        (written : Option (List ℕ)) → IsServedSoFar plant start before shown input (byte ∷ rest) held.old.bytes.items
         held.old.is_long number.old (live_view core.old) written (W.contents writer.old)
-        → IsServedSoFar plant before shown input rest held.new.bytes.items held.new.is_long number.new
+        → IsServedSoFar plant start before shown input rest held.new.bytes.items held.new.is_long number.new
         (live_view core.new) written (W.contents writer.new)) }
 {
     if byte != b'\n' {
@@ -91,7 +92,7 @@ pub fn serve<R: Read, W: Write>(
     requires empty { IsHeld held.bytes.items held.is_long [] }
     // Behind whatever run led to the core, all lines of the input are answered, and their answers written.
     ensures { OnOk result (IfSome (R.remaining reader.old) (λ input. BehindEachRun (live_view core.old)
-        (λ plant before shown. IsServiceOf plant before shown input (live_view core.new) (W.contents writer.old)
+        (λ plant start before shown. IsServiceOf plant start before shown input (live_view core.new) (W.contents writer.old)
         (W.contents writer.new)))) }
 {
     let mut number = 1u64;

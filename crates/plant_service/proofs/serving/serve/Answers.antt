@@ -1,5 +1,5 @@
 use Rattle.std.proofs.Common.{[], ℕ, Option, refl, subst}
-use Rattle.live_core.specs.After.{IsAfter}
+use Rattle.live_core.specs.After.{IsAfterFrom}
 use Rattle.live_core.specs.LiveView.{live_view}
 use Rattle.plant_service.specs.Bytes.{Takes}
 use Rattle.plant_service.specs.Service.{IsServiceOf}
@@ -15,9 +15,9 @@ loop-init g c =
     let written = g.W.Write.contents c.args.writer.now in
     let held = c.args.held in (
       c.requires.reached,
-      λ plant before shown after.
-          known_same known (λ input rest. IsServedSoFar plant before shown input rest held.bytes.items held.is_long 1 (live_view c.args.core.now) written written)
-          (λ input. begun plant before shown input held.bytes.items held.is_long (live_view c.args.core.now) written c.requires.empty after),
+      λ plant start before shown after.
+          known_same known (λ input rest. IsServedSoFar plant start before shown input rest held.bytes.items held.is_long 1 (live_view c.args.core.now) written written)
+          (λ input. begun plant start before shown input held.bytes.items held.is_long (live_view c.args.core.now) written c.requires.empty after),
     )
 
 pub returns-in-None : goal.returns-in-None
@@ -31,13 +31,13 @@ returns-in-None g c =
     let held = c.loop.held in
     on_ok_map c.answer_held.result _ _
     (λ answers.
-    known_ended known rest left (λ plant before shown. IsAfter plant before shown (live_view c.args.core.now))
-    (λ plant before shown input bytes. IsServedSoFar plant before shown input bytes held.bytes.items held.is_long c.loop.number (live_view c.loop.core) old mid)
-    (λ plant before shown input. IsServiceOf plant before shown input (live_view c.answer_held.new.core) old new) c.loop.invariant.1
+    known_ended known rest left (λ plant start before shown. IsAfterFrom plant start before shown (live_view c.args.core.now))
+    (λ plant start before shown input bytes. IsServedSoFar plant start before shown input bytes held.bytes.items held.is_long c.loop.number (live_view c.loop.core) old mid)
+    (λ plant start before shown input. IsServiceOf plant start before shown input (live_view c.answer_held.new.core) old new) c.loop.invariant.1
     (subst (λ (o : Option ℕ). Takes rest left o) c.in-None.is c.in_ok-next_byte.ensures)
-    (λ plant before shown input after so_far.
-    input_ended plant before shown input [] held.bytes.items held.is_long c.loop.number (live_view c.loop.core) (live_view c.answer_held.new.core) old mid new so_far
-    (answers plant _ _ so_far.after so_far.part so_far.is_held) refl))
+    (λ plant start before shown input after so_far.
+    input_ended plant start before shown input [] held.bytes.items held.is_long c.loop.number (live_view c.loop.core) (live_view c.answer_held.new.core) old mid new so_far
+    (answers plant start _ _ so_far.after so_far.part so_far.is_held) refl))
     c.answer_held.ensures.answered
 
 pub loop-preserved : goal.loop-preserved
@@ -51,10 +51,10 @@ loop-preserved g c =
     let held = c.loop.held in
     let after_held = c.take_byte.new.held in (
       c.in_ok-take_byte-in-Some.ensures.reached,
-      λ plant before shown after.
+      λ plant start before shown after.
           known_on known rest left c.in-Some.byte
-          (λ input bytes. IsServedSoFar plant before shown input bytes held.bytes.items held.is_long c.loop.number (live_view c.loop.core) old mid)
-          (λ input bytes. IsServedSoFar plant before shown input bytes after_held.bytes.items after_held.is_long c.take_byte.new.number (live_view c.take_byte.new.core) old new)
-          (λ input bytes so_far. c.in_ok-take_byte-in-Some.ensures.on plant before shown input bytes old so_far) (c.loop.invariant.1 plant before shown after)
+          (λ input bytes. IsServedSoFar plant start before shown input bytes held.bytes.items held.is_long c.loop.number (live_view c.loop.core) old mid)
+          (λ input bytes. IsServedSoFar plant start before shown input bytes after_held.bytes.items after_held.is_long c.take_byte.new.number (live_view c.take_byte.new.core) old new)
+          (λ input bytes so_far. c.in_ok-take_byte-in-Some.ensures.on plant start before shown input bytes old so_far) (c.loop.invariant.1 plant start before shown after)
           (subst (λ (o : Option ℕ). Takes rest left o) c.in-Some.is c.in_ok-next_byte.ensures),
     )

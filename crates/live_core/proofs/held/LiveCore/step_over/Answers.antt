@@ -7,6 +7,6 @@ returns-clause-ok g c =
     step_same c.args.step c.clear.new.self.items done.0 c.step_into.new.outs.items _ _ done.2 done.1 c.clear.ensures.items
 
 pub returns-clause-reached : goal.returns-clause-reached
-returns-clause-reached g c = λ before told after.
+returns-clause-reached g c = λ start before told after.
     let done = c.in_ok-step_into.ensures.ok in
-    step_more c.args.self.now.routes before told c.args.step c.clear.new.self.items done.0 c.step_into.new.outs.items _ _ c.always.ensures.plant done.2 done.1 c.clear.ensures.items after
+    step_more c.args.self.now.routes start before told c.args.step c.clear.new.self.items done.0 c.step_into.new.outs.items _ _ c.always.ensures.plant done.2 done.1 c.clear.ensures.items after

@@ -1,8 +1,9 @@
-use Rattle.std.proofs.Common.{rules}
-use Rattle.map_assembly.proofs.NewLemmas.{gathering_made, same_new}
+use Rattle.std.proofs.Common.{List, map, ap, ◌∙◌}
+use Rattle.plant.specs.declared.operator_row.RowFields.{RowFields}
+use Rattle.map_assembly.proofs.NewLemmas.{plant_slices}
 use Rattle.map_assembly.proofs.gather.Gather.new.Goals as goal
 
-pub invariant_of-result : goal.invariant_of-result
-invariant_of-result c =
-    gathering_made c.args.plant.now _ c.rows-rows.ensures.valid c.in_ok-slices_of.field-0.items (search rules) c.in_ok-slices_of.ensures.some
-    (same_new _ _ (search rules) (search rules) (search rules) (search rules) (search rules) (search rules))
+pub resume-requires-clause-slices : goal.resume-requires-clause-slices
+resume-requires-clause-slices c =
+    plant_slices c.args.plant.now c.rows.ensures.valid c.in_ok-slices.slices.items
+    (c.in_ok-slices.ensures.value ∙ ap (λ (rows : List RowFields). map (λ row. row.slice) rows) c.rows.ensures.value) c.in_ok-slices.ensures.some

@@ -1,0 +1,27 @@
+-- A live core at rest before a frame (own).
+use Rattle.std.specs.Prelude.{◌≡◌, ℕ, List, []}
+use Rattle.std.specs.Prelude.{slice_get, Some}
+use Rattle.slice_scheduler.specs.declared.elements.ElementsFields.{ElementsFields}
+use Rattle.plant.specs.declared.operator_row.RowFields.{RowFields}
+use Rattle.plant.specs.declared.plant.PlantFields.{PlantFields}
+use Rattle.operator_machine.specs.Replay.{BookView}
+use Rattle.plant_runs.specs.declared.step.Step.{Step}
+use Rattle.plant_runs.specs.declared.step.Out.{Out}
+use Rattle.plant_runs.specs.Starts.{Start}
+use Rattle.plant_runs.specs.Reached.{CoreView}
+use Rattle.plant_runs.specs.Changing.{state_now, IsAtRest}
+use Rattle.live_core.specs.After.{IsAfterFrom}
+
+-- each operator stands before this frame, and no frame waits to be collected
+pub record Rests (live : CoreView) (frame : ℕ) : Type 0 where
+  pub before : (i : ℕ) (book : BookView) → slice_get live.books i ≡ Some book → book.state.frame ≡ frame
+  pub none_waits : (i : ℕ) (waiting : List (ℕ × ElementsFields)) → slice_get live.queues i ≡ Some waiting → waiting ≡ []
+
+-- the states of a core that rests are those in which its operators stand, and nothing of its run is left to be collected
+abbrev pub RestingIsAtRest : Type 0
+RestingIsAtRest = (plant : PlantFields) (start : Start) (steps : List Step) (outs : List Out) (live : CoreView) (frame : ℕ) → IsAfterFrom plant start steps outs live → Rests live frame
+    → IsAtRest (record { plant = plant; start = start; steps = steps; outs = outs }) frame
+
+abbrev pub BooksStandNow : Type 0
+BooksStandNow = (plant : PlantFields) (start : Start) (steps : List Step) (outs : List Out) (live : CoreView) → IsAfterFrom plant start steps outs live → (i : ℕ) (row : RowFields) (book : BookView)
+    → slice_get plant.rows i ≡ Some row → slice_get live.books i ≡ Some book → (book.row ≡ row) × (book.state ≡ state_now (record { plant = plant; start = start; steps = steps; outs = outs }) i row)
