@@ -83,7 +83,7 @@ frames_of_turns (turn ∷ turns) =
     simp (flat_map-append, filter_map-append, map-append, none_sent turn.step, frames_of_outs turn.outs, frames_of_turns turns)
 
 pub times_counted : (plant : PlantFields) (steps : List Step) (outs : List Out) (captured : Captured) → Shown plant steps outs
-    → IsOfRun plant.consts steps outs captured
+    → IsOfRun plant steps outs captured
     → file_of captured.clock captured.packets
     ≡ file_header ++ counted_from plant.consts.units.frame_us plant.consts.channel.first_frame 0 captured.packets
 times_counted plant steps outs captured shown run =

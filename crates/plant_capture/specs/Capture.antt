@@ -2,12 +2,14 @@
 use Rattle.std.specs.Prelude.{◌≡◌, ℕ, List, [], ◌∷◌, ◌++◌, map, filter, Bool, true, false, not}
 use Rattle.std.specs.List.{flat_map}
 use Rattle.plant.specs.declared.consts.ConstsFields.{ConstsFields}
+use Rattle.plant.specs.declared.plant.PlantFields.{PlantFields}
 use Rattle.operator_machine.specs.declared.heard.Heard.TheVariants.{Message}
 use Rattle.operator_machine.specs.declared.output.Output.TheVariants as outputs
 use Rattle.plant_runs.specs.declared.step.Step.{Step}
 use Rattle.plant_runs.specs.declared.step.Step.TheVariants as steps
 use Rattle.plant_runs.specs.declared.step.Out.{Out}
 use Rattle.plant_runs.specs.declared.step.Out.TheVariants as outs
+use Rattle.plant_runs.specs.Ordered.{target, IsTold}
 use Rattle.plant_capture.specs.declared.clock.Clock.{Clock}
 use Rattle.plant_capture.specs.declared.packet.Packet.{Packet}
 use Rattle.plant_capture.specs.declared.packet.Packet.TheVariants.{Sent, Reply, Map}
@@ -47,27 +49,35 @@ with_packets captured more = record captured { packets = captured.packets ++ mor
 
 -- ---- a run
 
--- a step, and what it put out
+-- a step and its outputs
 pub record Turn : Type 0 where
   pub step : Step
   pub outs : List Out
 
--- what a modem sent, and behind it what was told
+-- the message that a modem sends, then the replies and MAPs
 abbrev pub packets_of : Turn → List Packet
 packets_of turn = sent_in turn.step ++ flat_map told_in turn.outs
 
--- the capture of these steps, which put these outs out, has the packets of each step and of its outs, step by step
-pub record IsOfRun (consts : ConstsFields) (steps : List Step) (outs : List Out) (captured : Captured) : Type 0 where
+-- The outputs of each step are its own, as `Ordered` says it: those of the operator's own step after the steps before it, or the
+-- MAP that a collection completes.
+abbrev pub HaveOwnOutputs : PlantFields → List Step → List Turn → Type 0
+HaveOwnOutputs plant before [] = Unit {0}
+HaveOwnOutputs plant before (turn ∷ turns) =
+    IsTold plant before turn.step (target plant turn.step) turn.outs × HaveOwnOutputs plant (before ++ turn.step ∷ []) turns
+
+-- the capture of these steps and outputs has the packets of each step and then of its own outputs, step by step
+pub record IsOfRun (plant : PlantFields) (steps : List Step) (outs : List Out) (captured : Captured) : Type 0 where
   pub turns : List Turn
   pub steps_are : map (λ turn. turn.step) turns ≡ steps
   pub outs_are : flat_map (λ turn. turn.outs) turns ≡ outs
-  pub clock_is : captured.clock ≡ clock_of consts
+  pub own : HaveOwnOutputs plant [] turns
+  pub clock_is : captured.clock ≡ clock_of plant.consts
   pub packets_are : captured.packets ≡ flat_map packets_of turns
 
 -- the bytes are the file of such a capture
-pub record IsCaptureOf (consts : ConstsFields) (steps : List Step) (outs : List Out) (bytes : List ℕ) : Type 0 where
+pub record IsCaptureOf (plant : PlantFields) (steps : List Step) (outs : List Out) (bytes : List ℕ) : Type 0 where
   pub captured : Captured
-  pub of_run : IsOfRun consts steps outs captured
+  pub of_run : IsOfRun plant steps outs captured
   pub bytes_are : bytes ≡ file_of captured.clock captured.packets
 
 -- ---- what stands in it

@@ -2,7 +2,7 @@
 
 ghost use Rattle.std.specs.Prelude.{◌≡◌, ◌++◌, List, IfOk, OnOk, OnErr};
 ghost use Rattle.std.specs.List.{flat_map};
-ghost use Rattle.plant.specs.declared.consts.ConstsFields.{ConstsFields};
+ghost use Rattle.plant.specs.declared.plant.PlantFields.{PlantFields};
 ghost use Rattle.plant_runs.specs.declared.step.Step.{Step};
 ghost use Rattle.plant_runs.specs.declared.step.Out.{Out};
 ghost use Rattle.plant_capture.specs.File.{file_of};
@@ -119,8 +119,8 @@ impl Capture {
     /// of payload.
     pub fn to_bytes(&self, alloc: Global) -> Result<Vec<u8>, AllocError>
         ensures value { IfOk result (λ bytes. bytes.items ≡ file_of self.now.clock self.now.packets) }
-        ensures of_run { IfOk result (λ bytes. (consts : ConstsFields) (steps : List Step) (outs : List Out)
-            → IsOfRun consts steps outs self.now → IsCaptureOf consts steps outs bytes.items) }
+        ensures of_run { IfOk result (λ bytes. (plant : PlantFields) (steps : List Step) (outs : List Out)
+            → IsOfRun plant steps outs self.now → IsCaptureOf plant steps outs bytes.items) }
     {
         file_of(alloc, self.clock, self.packets.as_slice())
     }

@@ -15,4 +15,7 @@ pub use capture::Capture;
 pub use clock::Clock;
 pub use laws::{check_values, file_is_read, frame_is_read};
 pub use packet::Packet;
-pub use run_laws::{capture_holds_run, opened_is_of_run, step_is_captured, times_are_counted};
+pub use run_laws::{
+    capture_holds_run, last_outputs_are_own, opened_is_of_run, run_has_one_capture,
+    step_is_captured, times_are_counted,
+};

@@ -3,16 +3,17 @@ use Rattle.std.proofs.Common.{◌≡◌, ℕ, ◌+◌, ◌<◌, ◌≤◌, List,
 use Rattle.std.specs.Prelude.{slice_get}
 use Rattle.std.proofs.lemmas.List.{map-append, take_more}
 use Rattle.std.proofs.lemmas.Option.{slice_get-get_or, slice_get_past}
-use Rattle.plant.specs.declared.consts.ConstsFields.{ConstsFields}
 use Rattle.plant.specs.declared.plant.PlantFields.{PlantFields}
 use Rattle.plant_runs.specs.declared.step.Step.{Step}
 use Rattle.plant_runs.specs.declared.step.Out.{Out}
+use Rattle.plant_runs.specs.Ordered.{target, IsTold}
 use Rattle.plant_runs.specs.Reached.{CoreView, Reached}
 use Rattle.plant_core.specs.declared.core_fault.CoreFault.{CoreFault}
 use Rattle.plant_core.specs.Faults.{step_fault}
 use Rattle.plant_lines.specs.declared.script.LineStep.{LineStep}
 use Rattle.plant_lines.specs.Script.{unnumbered}
 use Rattle.plant_capture.specs.Capture.{Captured, opened_capture, IsOfRun, IsCaptureOf}
+use Rattle.plant_capture.proofs.OneCapture.{last_told}
 use Rattle.plant_capture.proofs.RunLemmas.{opened_run}
 use Rattle.plant_script.specs.declared.answer.Answer.{Answer}
 use Rattle.plant_script.specs.Run.{IsEnd, IsCapturedRunOf}
@@ -24,7 +25,7 @@ pub none_captured : (plant : PlantFields) (core : CoreView) (captured : Captured
 none_captured plant core captured reached is = record {
   outs = [];
   reached = reached;
-  of_run = subst (λ (c : Captured). IsOfRun plant.consts [] [] c) (sym is) (opened_run plant.consts);
+  of_run = subst (λ (c : Captured). IsOfRun plant [] [] c) (sym is) (opened_run plant);
 }
 
 -- one line more
@@ -38,7 +39,7 @@ lines_more lines i line lt is =
 pub captured_more : (plant : PlantFields) (lines : List LineStep) (i : ℕ) (line : LineStep) (step : Step) (old new : CoreView) (before after : Captured) (now said : List Out)
     → i < length lines → line ≡ get_or lines i line → step ≡ line.step → said ≡ now → AreCaptured plant (take i lines) old before
     → ((steps : List Step) (told : List Out) → Reached old.plant steps told old → Reached old.plant (steps ++ step ∷ []) (told ++ now) new)
-    → ((consts : ConstsFields) (steps : List Step) (told : List Out) → IsOfRun consts steps told before → IsOfRun consts (steps ++ line.step ∷ []) (told ++ said) after)
+    → ((p : PlantFields) (steps : List Step) (told : List Out) → IsOfRun p steps told before → IsTold p steps line.step (target p line.step) said → IsOfRun p (steps ++ line.step ∷ []) (told ++ said) after)
     → AreCaptured plant (take (i + 1) lines) new after
 captured_more plant lines i line step old new before after now said lt is copy same done reached captured =
     let front = unnumbered (take i lines) in
@@ -47,11 +48,13 @@ captured_more plant lines i line step old new before after now said lt is copy s
     let then_new = reached front done.outs (subst (λ (p : PlantFields). Reached p front done.outs old) (sym plant_is) done.reached) in
     let of_plant = subst (λ (p : PlantFields). Reached p (front ++ step ∷ []) (done.outs ++ now) new) plant_is then_new in
     let of_line = subst (λ (s : Step). Reached plant (front ++ s ∷ []) (done.outs ++ now) new) copy of_plant in
+    let own = last_told plant front done.outs line.step now done.reached.shown done.reached.ordered of_line.ordered in
     record {
       outs = done.outs ++ now;
       reached = subst (λ (s : List Step). Reached plant s (done.outs ++ now) new) more of_line;
-      of_run = subst (λ (s : List Step). IsOfRun plant.consts s (done.outs ++ now) after) more
-          (subst (λ (o : List Out). IsOfRun plant.consts (front ++ line.step ∷ []) (done.outs ++ o) after) same (captured plant.consts front done.outs done.of_run));
+      of_run = subst (λ (s : List Step). IsOfRun plant s (done.outs ++ now) after) more
+          (subst (λ (o : List Out). IsOfRun plant (front ++ line.step ∷ []) (done.outs ++ o) after) same
+          (captured plant front done.outs done.of_run (subst (λ (o : List Out). IsTold plant front line.step (target plant line.step) o) (sym same) own)));
     }
 
 -- ---- the end
@@ -83,7 +86,7 @@ end_status core (Some line) refused status told is = (subst (λ (r : Option ℕ)
 
 pub filed_run : (plant : PlantFields) (lines these : List LineStep) (refused : Option ℕ) (core : CoreView) (captured : Captured) (file : List ℕ) (answer : Answer)
     → these ≡ lines → HasCaptured plant these refused core captured
-    → ((consts : ConstsFields) (steps : List Step) (outs : List Out) → IsOfRun consts steps outs captured → IsCaptureOf consts steps outs file)
+    → ((p : PlantFields) (steps : List Step) (outs : List Out) → IsOfRun p steps outs captured → IsCaptureOf p steps outs file)
     → answer.text.items ≡ file → IsStatusOf refused answer.status → IsCapturedRunOf plant lines answer.status answer.text.items
 filed_run plant lines these refused core captured file answer same run of_run text status =
     subst (λ (l : List LineStep). IsCapturedRunOf plant l answer.status answer.text.items) same (record {
@@ -92,6 +95,6 @@ filed_run plant lines these refused core captured file answer same run of_run te
       core = core;
       reached = run.done.reached;
       ends = end_status core (slice_get these run.at) refused answer.status run.ends status;
-      captured = subst (λ (t : List ℕ). IsCaptureOf plant.consts (unnumbered (take run.at these)) run.done.outs t) (sym text)
-          (of_run plant.consts (unnumbered (take run.at these)) run.done.outs run.done.of_run);
+      captured = subst (λ (t : List ℕ). IsCaptureOf plant (unnumbered (take run.at these)) run.done.outs t) (sym text)
+          (of_run plant (unnumbered (take run.at these)) run.done.outs run.done.of_run);
     })

@@ -38,7 +38,7 @@ book_text (Some book) = actions_text (actions_of book.history)
 pub record AreCaptured (plant : PlantFields) (lines : List LineStep) (core : CoreView) (captured : Captured) : Type 0 where
   pub outs : List Out
   pub reached : Reached plant (unnumbered lines) outs core
-  pub of_run : IsOfRun plant.consts (unnumbered lines) outs captured
+  pub of_run : IsOfRun plant (unnumbered lines) outs captured
 
 -- so many of the lines' steps are done, and no more
 pub record HasCaptured (plant : PlantFields) (lines : List LineStep) (refused : Option ℕ) (core : CoreView) (captured : Captured) : Type 0 where

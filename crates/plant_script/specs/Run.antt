@@ -40,12 +40,12 @@ pub record IsRunOf (plant : PlantFields) (lines : List LineStep) (say : List Ste
   pub ends : EndsBy core (slice_get lines at) status last
   pub text_is : text ≡ say (unnumbered (take at lines)) outs ++ last
 
--- So many steps are done, as in `IsRunOf`, and what is written is the capture of just these steps and of what they put out: whole, with
--- no line behind it where a step is refused.
+-- So many steps are done, as in `IsRunOf`, and what is written is the capture of just these steps, each with its own outputs: whole,
+-- with no line after it where a step is refused.
 pub record IsCapturedRunOf (plant : PlantFields) (lines : List LineStep) (status : ℕ) (text : List ℕ) : Type 0 where
   pub at : ℕ
   pub outs : List Out
   pub core : CoreView
   pub reached : Reached plant (unnumbered (take at lines)) outs core
   pub ends : IsEnd core (slice_get lines at) status
-  pub captured : IsCaptureOf plant.consts (unnumbered (take at lines)) outs text
+  pub captured : IsCaptureOf plant (unnumbered (take at lines)) outs text

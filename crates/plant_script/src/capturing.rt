@@ -1,9 +1,10 @@
 //! A script's run on a plant's core, as a capture.
 
 ghost use Rattle.std.specs.Prelude.{◌≡◌, ◌++◌, ◌∷◌, [], List, IfOk, OnOk};
-ghost use Rattle.plant.specs.declared.consts.ConstsFields.{ConstsFields};
+ghost use Rattle.plant.specs.declared.plant.PlantFields.{PlantFields};
 ghost use Rattle.plant_runs.specs.declared.step.Step.{Step};
 ghost use Rattle.plant_runs.specs.declared.step.Out.{Out};
+ghost use Rattle.plant_runs.specs.Ordered.{target, IsTold};
 ghost use Rattle.plant_runs.specs.Reached.{Reached};
 ghost use Rattle.plant_core.specs.CoreView.{core_view};
 ghost use Rattle.plant_capture.specs.Capture.{opened_capture, IsOfRun};
@@ -18,16 +19,16 @@ use plant_lines::LineStep;
 use plant_runs::{Out, Step};
 use std::alloc::{AllocError, Global};
 
-/// Captures a step that is done, and what it put out.
+/// Captures a step that is done, and its own outputs.
 fn put_turn(
     alloc: Global,
     capture: &mut Capture,
     step: &Step,
     outs: &[Out],
 ) -> Result<(), AllocError>
-    ensures { OnOk result ((consts : ConstsFields) (steps : List Step) (told : List Out)
-        → IsOfRun consts steps told capture.old
-        → IsOfRun consts (steps ++ step.now ∷ []) (told ++ outs.now) capture.new) }
+    ensures { OnOk result ((plant : PlantFields) (steps : List Step) (told : List Out)
+        → IsOfRun plant steps told capture.old → IsTold plant steps step.now (target plant step.now) outs.now
+        → IsOfRun plant (steps ++ step.now ∷ []) (told ++ outs.now) capture.new) }
 {
     capture.sent(alloc, step)?;
     capture.told(alloc, outs)?;
