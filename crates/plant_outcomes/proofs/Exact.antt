@@ -1,5 +1,5 @@
 -- What is found decides what is told.
-use Rattle.std.proofs.Common.{◌≡◌, ◌↔◌, ℕ, zero, suc, ◌<◌, List, [], ◌∷◌, map, take, Result, Err, ◌⊎◌, inl, inr, refl, sym, ap, ◌∙◌, subst, arith}
+use Rattle.std.proofs.Common.{◌≡◌, ◌↔◌, ℕ, zero, suc, ◌<◌, List, [], ◌∷◌, map, take, Result, Err, inl, inr, refl, sym, ap, ◌∙◌, subst, arith}
 use Rattle.std.specs.Prelude.{slice_get}
 use Rattle.plant.specs.declared.operator_row.RowFields.{RowFields}
 use Rattle.plant.specs.declared.plant.PlantFields.{PlantFields}
@@ -116,18 +116,21 @@ module _ (plant : PlantFields) (steps : List Step) where
                 λ n. Err (Strayed (same.0 n) (same.1 n))
             back (Short k) wrong this = absurd wrong
             back (Core k) wrong this = absurd wrong
-            back NoMemory own this = absurd (none_stray op index own this)
+            back NoMemory wrong this = absurd wrong
             back (MapStrayed frame) own this = absurd (none_stray op index own.0 this)
             back (ResliceRefused at k) wrong this = absurd wrong
 
-        pub map_strayed_is : (fault : RunFault) → IsFound plant steps books assembly fault → (frame : ℕ) → IsFound plant steps books assembly (MapStrayed frame)
-            → (Told fault ≡ Told (MapStrayed frame)) ⊎ (Told fault ≡ Told NoMemory)
-        map_strayed_is (Strayed other place) stray frame this = absurd (none_stray other place this.0 stray)
-        map_strayed_is (Short k) wrong frame this = absurd wrong
-        map_strayed_is (Core k) wrong frame this = absurd wrong
-        map_strayed_is NoMemory own frame this = inr refl
-        map_strayed_is (MapStrayed other) found frame this = inl (ap (λ (n : ℕ). Told (MapStrayed n)) (one_map_stray other frame found.1 this.1))
-        map_strayed_is (ResliceRefused at k) wrong frame this = absurd wrong
+        pub map_strayed_is : (fault : RunFault) → IsFound plant steps books assembly fault → (frame : ℕ) → (Told fault ≡ Told (MapStrayed frame)) ↔ IsFound plant steps books assembly (MapStrayed frame)
+        map_strayed_is fault found frame =
+            (λ e. subst (IsFound plant steps books assembly) (same_fault fault (MapStrayed frame) e) found, back fault found)
+          where
+            back : (f : RunFault) → IsFound plant steps books assembly f → IsFound plant steps books assembly (MapStrayed frame) → Told f ≡ Told (MapStrayed frame)
+            back (Strayed other place) stray this = absurd (none_stray other place this.0 stray)
+            back (Short k) wrong this = absurd wrong
+            back (Core k) wrong this = absurd wrong
+            back NoMemory wrong this = absurd wrong
+            back (MapStrayed other) found' this = ap (λ (n : ℕ). Told (MapStrayed n)) (one_map_stray other frame found'.1 this.1)
+            back (ResliceRefused at k) wrong this = absurd wrong
 
 -- ---- of books that are held elsewhere
 

@@ -1,6 +1,6 @@
 -- What is told of a book, of an assembly, and of a whole run.
-use Rattle.std.proofs.Common.{◌≡◌, ℕ, ◌+◌, ◌<◌, true, false, cond, Bool, List, [], ◌∷◌, length, map, take, drop, count_by, if◌then◌else◌, Option, Some, None, Result, Ok, Err, ◌⊎◌, inl, inr, refl, sym, ap, ◌∙◌, subst, arith}
-use Rattle.std.specs.Prelude.{◌==◌, slice_get, MatchOption, IfOk, All}
+use Rattle.std.proofs.Common.{◌≡◌, ℕ, ◌+◌, ◌<◌, true, false, cond, Bool, List, [], ◌∷◌, length, map, take, drop, count_by, if◌then◌else◌, Option, Some, None, ◌⊎◌, inl, inr, refl, sym, ap, ◌∙◌, subst, arith}
+use Rattle.std.specs.Prelude.{◌==◌, slice_get, MatchOption, All}
 use Rattle.std.proofs.lemmas.Bool.{cases_eq, eq-eqb, ne_eqb, cond-true}
 use Rattle.std.proofs.lemmas.List.{length-map, length-replicate, length-append}
 use Rattle.std.proofs.lemmas.List.Sums.{sum_by-cons}
@@ -32,6 +32,7 @@ use Rattle.plant_runs.proofs.Entries.{some_at}
 use Rattle.plant_runs.proofs.Numbers.{Numbered, are_numbered, numbers_are}
 use Rattle.plant_receipts.specs.declared.run_fault.RunFault.{RunFault}
 use Rattle.plant_receipts.specs.declared.receipt.Receipt.{Receipt}
+use Rattle.plant_receipts.specs.Callers.{AreByCallers}
 use Rattle.plant_receipts.specs.OwnParts.{outputs_of}
 use Rattle.plant_outcomes.specs.declared.placing.Placing.{Placing}
 use Rattle.plant_outcomes.specs.declared.placing.Placing.TheVariants.{Put, Reslice}
@@ -140,10 +141,6 @@ all_numbered plant steps books assembly one_each own same made i book e =
 
 -- ---- an assembly
 
-pub ok_weaker : {T E : Type 0} (P Q : T → Type 0) (r : Result T E) → ((x : T) → P x → Q x) → IfOk r P → IfOk r Q
-ok_weaker P Q (Ok x) f h = f x h
-ok_weaker P Q (Err e) f h = tt
-
 pub map_told : (plant : PlantFields) (steps : List Step) (books : List BookView) (assembly : AssemblyView) → assembly.plant ≡ plant → (o : Option ℕ)
     → MatchOption o (ArePut steps books assembly.placings) (IsPutStray plant.consts.channel.first_frame steps books assembly.placings)
     → MatchOption o ((assembly.plant ≡ plant) × ArePut steps books assembly.placings) (IsMapStray plant steps books assembly)
@@ -242,10 +239,10 @@ module _ {X : Type 0} (f : X → BookView) (xs ys : List X) (same_list : xs ≡ 
   pub fault_of_these : (fault : RunFault) → IsFound plant steps (map f xs) assembly fault → IsFound plant steps (map f ys) assembly fault
   fault_of_these fault = subst (λ (zs : List X). IsFound plant steps (map f zs) assembly fault) same_list
 
-  pub outcome_of_these : (receipts : List (List (List Receipt))) (maps : List MapBytes) → length xs ≡ length plant.rows → length receipts ≡ length xs → AreMerged (map f ys) receipts → AreTicked plant steps
+  pub outcome_of_these : (receipts : List (List (List Receipt))) (maps : List MapBytes) → length xs ≡ length plant.rows → length receipts ≡ length xs → AreMerged (map f ys) receipts → All AreByCallers receipts → AreTicked plant steps
       → HaveMade (gathering_of assembly.plant) assembly.placings assembly.maps assembly.gathering → IsGathering assembly.gathering → maps ≡ assembly.maps
       → AreOwn plant steps (map f xs) × (assembly.plant ≡ plant) × ArePut steps (map f xs) assembly.placings → IsOutcome plant steps (map f ys) receipts maps
-  outcome_of_these receipts maps long callers merged ticked have is maps_same told =
+  outcome_of_these receipts maps long callers merged by_callers ticked have is maps_same told =
       let told' : AreOwn plant steps (map f ys) × (assembly.plant ≡ plant) × ArePut steps (map f ys) assembly.placings =
       subst (λ (zs : List X). AreOwn plant steps (map f zs) × (assembly.plant ≡ plant) × ArePut steps (map f zs) assembly.placings) same_list told in
       let one_each : length (map f ys) ≡ length plant.rows = length-map ys f ∙ (sym (ap length same_list) ∙ long) in
@@ -253,6 +250,7 @@ module _ {X : Type 0} (f : X → BookView) (xs ys : List X) (same_list : xs ≡ 
         one_each = one_each;
         callers_each = callers ∙ (ap length same_list ∙ sym (length-map ys f));
         own = told'.0;
+        by_callers = by_callers;
         merge = merged;
         shown = subst (λ (ms : List MapBytes). Shown plant steps (outs_of (map f ys) ms)) (sym maps_same) (shown_by plant steps (map f ys) assembly one_each told'.0 told'.1 told'.2 ticked have is);
       }

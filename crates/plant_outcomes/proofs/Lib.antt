@@ -8,3 +8,4 @@ pub mod Whose
 pub mod Least
 pub mod Judging
 pub mod Exact
+pub mod Dues

@@ -1,5 +1,5 @@
 -- What a run on threads comes to (own).
-use Rattle.std.specs.Prelude.{◌≡◌, ◌≤◌, ◌==◌, ℕ, ◌<◌, Bool, false, List, length, count_by, slice_get, Some}
+use Rattle.std.specs.Prelude.{◌≡◌, ◌≤◌, ◌==◌, ℕ, ◌<◌, Bool, false, List, length, count_by, All, slice_get, Some}
 use Rattle.plant.specs.declared.plant.PlantFields.{PlantFields}
 use Rattle.operator_machine.specs.Replay.{BookView}
 use Rattle.map_assembly.specs.declared.map_bytes.MapBytes.{MapBytes}
@@ -9,6 +9,7 @@ use Rattle.plant_runs.specs.OwnSteps.{collects_of}
 use Rattle.plant_runs.specs.Shown.{Shown}
 use Rattle.plant_receipts.specs.declared.receipt.Receipt.{Receipt}
 use Rattle.plant_receipts.specs.Merge.{IsMergeOf}
+use Rattle.plant_receipts.specs.Callers.{AreByCallers}
 use Rattle.plant_outcomes.specs.Outs.{outs_of}
 use Rattle.plant_outcomes.specs.Straying.{AreOwn}
 
@@ -19,12 +20,14 @@ AreMerged books receipts =
     → slice_get receipts op ≡ Some callers → IsMergeOf book.history callers
 
 -- the run is what its steps make of its plant: each operator's history has just its own steps as actions and is the
--- merge of what its callers were told, and the histories' outputs with the MAPs are what a run of these steps shows
+-- merge of what its four callers were told, each of its own kind of action alone, and the histories' outputs with the MAPs
+-- are what a run of these steps shows
 pub record IsOutcome (plant : PlantFields) (steps : List Step) (books : List BookView)
     (receipts : List (List (List Receipt))) (maps : List MapBytes) : Type 0 where
   pub one_each : length books ≡ length plant.rows
   pub callers_each : length receipts ≡ length books
   pub own : AreOwn plant steps books
+  pub by_callers : All AreByCallers receipts
   pub merge : AreMerged books receipts
   pub shown : Shown plant steps (outs_of books maps)
 

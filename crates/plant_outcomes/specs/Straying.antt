@@ -7,7 +7,7 @@ use Rattle.plant_runs.specs.declared.step.Step.{Step}
 use Rattle.plant_runs.specs.OwnSteps.{own_steps}
 use Rattle.plant_runs.specs.Reached.{IsBookAfter}
 use Rattle.plant_receipts.specs.declared.run_fault.RunFault.{RunFault}
-use Rattle.plant_receipts.specs.declared.run_fault.RunFault.TheVariants.{Strayed, MapStrayed, NoMemory}
+use Rattle.plant_receipts.specs.declared.run_fault.RunFault.TheVariants.{Strayed, MapStrayed}
 use Rattle.plant_outcomes.specs.declared.placing.Placing.{Placing}
 use Rattle.plant_outcomes.specs.Placings.{AssemblyView, puts_of}
 use Rattle.plant_outcomes.specs.Outs.{due_of}
@@ -76,11 +76,10 @@ IsMapStray plant steps books assembly frame =
 
 -- ---- both
 
--- what is found where a run is not as it should be: histories that stray are told before MAPs that do, and before want
--- of memory; no other fault is told
+-- what is found where a run is not as it should be: histories that stray are told before MAPs that do; no other fault is
+-- told
 abbrev pub IsFound : PlantFields → List Step → List BookView → AssemblyView → RunFault → Type 0
 IsFound plant steps books assembly (Strayed op index) = IsStray plant steps books op index
 IsFound plant steps books assembly (MapStrayed frame) =
     AreOwn plant steps books × IsMapStray plant steps books assembly frame
-IsFound plant steps books assembly NoMemory = AreOwn plant steps books
 IsFound plant steps books assembly fault = ⊥

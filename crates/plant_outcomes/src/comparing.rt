@@ -1,7 +1,8 @@
 //! The comparison of what a plant's threads have done with the steps of their run.
 
-ghost use Rattle.std.specs.Prelude.{◌≡◌, ◌↔◌, length, map, vec_len, IsTrue, MatchOption, ℕ, ◌⊎◌, Err, IfOk, OnOk, IfErr};
+ghost use Rattle.std.specs.Prelude.{◌≡◌, ◌↔◌, length, map, vec_len, IsTrue, MatchOption, ℕ, All, Err, IfOk, OnOk, IfErr};
 ghost use Rattle.operator_book.specs.ViewOf.{view_of};
+ghost use Rattle.plant_receipts.specs.Callers.{AreByCallers};
 ghost use Rattle.plant_outcomes.specs.Straying.{AreOwn, ArePut, IsStray, IsMapStray, IsFound};
 ghost use Rattle.plant_outcomes.specs.Outcome.{AreMerged, AreTicked, ticks_of, is_tick_of, IsOutcome};
 
@@ -13,7 +14,6 @@ use operator_book::Book;
 use plant::{Op, Plant};
 use plant_receipts::{RunFault, Settled};
 use plant_runs::Step;
-use std::alloc::{AllocError, Global};
 
 /// Whether a step is a tick of this operator.
 fn is_tick_of(op: Op, step: &Step) -> bool
@@ -47,30 +47,28 @@ pub fn are_ticked(plant: &Plant, steps: &[Step]) -> bool
     true
 }
 
-/// The first frame of which the assembly strays.
+/// Returns the first frame of which the assembly strays. Takes no memory.
 fn first_map_stray(
-    alloc: Global,
     plant: &Plant,
     books: &[Book],
     assembly: &Assembly,
     steps: &[Step],
-) -> Result<Option<u32>, AllocError>
+) -> Option<u32>
     requires one_each { length books.now ≡ length plant.now.rows }
     requires own { AreOwn plant.now steps.now (map view_of books.now) }
-    ensures { IfOk result (λ stray. MatchOption stray
+    ensures { MatchOption result
         ((assembly.now.plant ≡ plant.now) × ArePut steps.now (map view_of books.now) assembly.now.placings)
-        (IsMapStray plant.now steps.now (map view_of books.now) assembly.now)) }
+        (IsMapStray plant.now steps.now (map view_of books.now) assembly.now) }
 {
     if !is_same_plant(assembly.plant(), plant) {
-        return Ok(Some(plant.consts().get_fields().channel.first_frame));
+        return Some(plant.consts().get_fields().channel.first_frame);
     }
     assembly.always();
-    first_put_stray(alloc, books, assembly.placings(), steps)
+    first_put_stray(books, assembly.placings(), steps)
 }
 
-/// The first fault of what was done.
+/// Returns the first fault of what was done. Takes no memory.
 pub(crate) fn first_fault(
-    alloc: Global,
     plant: &Plant,
     books: &[Book],
     assembly: &Assembly,
@@ -84,10 +82,9 @@ pub(crate) fn first_fault(
     if let Some((op, index)) = first_stray(plant, books, steps) {
         return Err(RunFault::Strayed { op, index });
     }
-    match first_map_stray(alloc, plant, books, assembly, steps) {
-        Ok(Some(frame)) => Err(RunFault::MapStrayed { frame }),
-        Ok(None) => Ok(()),
-        Err(_) => Err(RunFault::NoMemory),
+    match first_map_stray(plant, books, assembly, steps) {
+        Some(frame) => Err(RunFault::MapStrayed { frame }),
+        None => Ok(()),
     }
 }
 
@@ -96,9 +93,8 @@ pub(crate) fn first_fault(
 /// those of a run of these steps, with none assembled again; they stand in the answer in place of the settled ones.
 ///
 /// Faults, in this order: `Strayed` for the least operator whose history strays, at its first place that does;
-/// `MapStrayed` for the first frame of which a part was not put as it was due; `NoMemory`.
+/// `MapStrayed` for the first frame of which a part was not put as it was due. Takes no memory.
 pub fn compare(
-    alloc: Global,
     plant: &Plant,
     settled: Settled,
     assembly: Assembly,
@@ -107,6 +103,7 @@ pub fn compare(
     requires one_each { vec_len settled.books ≡ length plant.now.rows }
     requires callers_each { vec_len settled.books ≡ vec_len settled.receipts }
     requires merged { AreMerged (map view_of settled.books.items) settled.receipts.items }
+    requires by_callers { All AreByCallers settled.receipts.items }
     requires ticked { AreTicked plant.now steps.now }
     ensures ok { IfOk result (λ s.
         IsOutcome plant.now steps.now (map view_of s.books.items) s.receipts.items s.maps.items) }
@@ -117,16 +114,14 @@ pub fn compare(
         × ArePut steps.now (map view_of settled.books.items) assembly.placings) }
     ensures err { IfErr result (IsFound plant.now steps.now (map view_of settled.books.items) assembly) }
 
-    // What is found decides what is told: where a history strays, it is told; else where the assembly does, unless
-    // memory is wanting.
+    // What is found decides what is told: where a history strays, it is told; else where the assembly does.
     ensures strayed { (op index : ℕ) → (result ≡ Err (RunFault.Strayed op index))
         ↔ IsStray plant.now steps.now (map view_of settled.books.items) op index }
-    ensures map_strayed { (frame : ℕ)
-        → IsFound plant.now steps.now (map view_of settled.books.items) assembly (RunFault.MapStrayed frame)
-        → (result ≡ Err (RunFault.MapStrayed frame)) ⊎ (result ≡ Err RunFault.NoMemory) }
+    ensures map_strayed { (frame : ℕ) → (result ≡ Err (RunFault.MapStrayed frame))
+        ↔ IsFound plant.now steps.now (map view_of settled.books.items) assembly (RunFault.MapStrayed frame) }
 {
     let books = settled.books.as_slice();
-    if let Err(fault) = first_fault(alloc, plant, books, &assembly, steps) {
+    if let Err(fault) = first_fault(plant, books, &assembly, steps) {
         return Err(fault);
     }
     assembly.always();

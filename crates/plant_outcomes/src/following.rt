@@ -101,8 +101,8 @@ fn first_difference(plant: &Plant, op: Op, history: &[Entry], steps: &[Step]) ->
     }
 }
 
-/// Where an operator's history strays.
-fn stray_at(plant: &Plant, op: Op, book: &Book, steps: &[Step]) -> Option<usize>
+/// Finds where an operator's history strays. Takes no memory.
+pub fn stray_at(plant: &Plant, op: Op, book: &Book, steps: &[Step]) -> Option<usize>
     requires { op < length plant.now.rows }
     ensures { (row : RowFields) → slice_get plant.now.rows op ≡ Some row
         → MatchOption result (IsBookAfter plant.now steps.now op row (view_of book.now))

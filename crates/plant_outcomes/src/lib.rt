@@ -4,6 +4,7 @@
 
 mod assembly;
 mod comparing;
+mod due;
 mod following;
 mod laws;
 mod placing;
@@ -12,5 +13,6 @@ mod same;
 
 pub use assembly::Assembly;
 pub use comparing::{are_ticked, compare};
+pub use following::stray_at;
 pub use laws::placings_make_the_maps;
 pub use placing::Placing;

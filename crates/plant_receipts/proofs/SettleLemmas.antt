@@ -176,6 +176,26 @@ module _ (books : List BookView) (receipts : List Callers) where
         ap (λ (n : ℕ). Err (Strayed n index)) same.0 ∙ ap (λ (n : ℕ). Err (Strayed i n)) same.1,
   )
 
+  -- the first that is short is one
+  first_short_same : (op other : ℕ) → IsFirstShort books receipts op → IsFirstShort books receipts other → op ≡ other
+  first_short_same op other a b = by (cases_lt op other) (cases_lt other op)
+    where
+      by : (op < other) ⊎ (other ≤ op) → (other < op) ⊎ (op ≤ other) → op ≡ other
+      by (inl lt) _ = absurd (b.least op lt a.short)
+      by (inr _) (inl lt) = absurd (a.least other lt b.short)
+      by (inr le) (inr ge) = omega (arith, le, ge)
+
+  pub short_iff : {T : Type 0} (maps : List MapBytes) (op : ℕ) → NoneStrays books receipts → IsFirstShort books receipts op
+      → (i : ℕ) → (◌≡◌ {A = Result T RunFault} (Err (Short op)) (Err (Short i))) ↔ IsFirstFault books receipts maps (Short i)
+  short_iff {T} maps op none first = λ i. (
+    λ e. let same : op ≡ i = cc in (none, subst (IsFirstShort books receipts) same first),
+    λ other. ap (λ (n : ℕ). Err (Short n)) (first_short_same op i first other.1),
+  )
+
+  pub short_not : {T : Type 0} (maps : List MapBytes) (r : Result T RunFault) → ((i : ℕ) → r ≡ Err (Short i) → ⊥) → ((i : ℕ) → IsFirstFault books receipts maps (Short i) → ⊥)
+      → (i : ℕ) → (r ≡ Err (Short i)) ↔ IsFirstFault books receipts maps (Short i)
+  short_not maps r other never = λ i. (λ e. absurd (other i e), λ first. absurd (never i first))
+
   pub strayed_not : {T : Type 0} (r : Result T RunFault) → ((i k : ℕ) → r ≡ Err (Strayed i k) → ⊥) → NoneStrays books receipts
       → (i k : ℕ) → (r ≡ Err (Strayed i k)) ↔ IsFirstStrayed books receipts i k
   strayed_not r other none = λ i k. (λ e. absurd (other i k e), λ first. absurd (none i k first.strays))
@@ -186,6 +206,10 @@ moved a b c d e f P h = subst (λ x. P x d) e (subst (P a) f h)
 pub only_memory : {T : Type 0} (r : Result T RunFault) → IsErrAnd r (λ fault. fault ≡ NoMemory) → (i k : ℕ) → r ≡ Err (Strayed i k) → ⊥
 only_memory r memory i k e =
     let told : Strayed i k ≡ NoMemory = subst (λ x. IsErrAnd x (λ fault. fault ≡ NoMemory)) e memory in cc
+
+pub only_memory_short : {T : Type 0} (r : Result T RunFault) → IsErrAnd r (λ fault. fault ≡ NoMemory) → (i : ℕ) → r ≡ Err (Short i) → ⊥
+only_memory_short r memory i e =
+    let told : Short i ≡ NoMemory = subst (λ x. IsErrAnd x (λ fault. fault ≡ NoMemory)) e memory in cc
 
 pub at_some : {X : Type 0} (P : Type 0) (Q : X → Type 0) (o : Option X) (x : X) → o ≡ Some x → MatchOption o P Q → Q x
 at_some P Q o x e m = subst (λ r. MatchOption r P Q) e m

@@ -1,4 +1,5 @@
 pub mod Merge
+pub mod Callers
 pub mod Straying
 pub mod OwnParts
 pub mod Framing

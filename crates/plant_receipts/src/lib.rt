@@ -2,6 +2,7 @@
 //! callers were told, and each MAP gives every operator its own frame.
 #![tactic(auto)]
 
+mod caller;
 mod counting;
 mod fault_text;
 mod mapping;
@@ -14,6 +15,7 @@ mod settled;
 mod settling;
 mod straying;
 
+pub use caller::Caller;
 pub use own_frames::{Frame, frames_in};
 pub use receipt::{Callers, Receipt, Receipts};
 pub use run_fault::RunFault;

@@ -2,7 +2,7 @@
 
 ghost use Rattle.std.specs.Prelude.{◌≡◌, ◌≢◌, ◌↔◌, ℕ, map, vec_len, Err, IfOk, OnOk, IfErr};
 ghost use Rattle.operator_book.specs.ViewOf.{view_of};
-ghost use Rattle.plant_receipts.specs.declared.run_fault.RunFault.TheVariants.{NoMemory, Strayed};
+ghost use Rattle.plant_receipts.specs.declared.run_fault.RunFault.TheVariants.{NoMemory, Strayed, Short};
 ghost use Rattle.plant_receipts.specs.Settling.{IsSettled, IsFirstStrayed, IsFirstFault};
 
 use crate::counting::first_short;
@@ -18,7 +18,8 @@ use std::alloc::Global;
 /// Settles books, the receipts of their callers (operator by operator) and MAPs with one another, and hands them back.
 ///
 /// Ok comes exactly where they are settled, want of memory apart; else the first fault. Takes time linear in receipts
-/// and entries, and in the bytes of the MAPs times the operators.
+/// and entries, and in the bytes of the MAPs times the operators. Where no memory is left to count the receipts, it takes
+/// time in proportion to the receipts times the entries.
 pub fn settle(
     alloc: Global,
     books: Vec<Book>,
@@ -33,14 +34,16 @@ pub fn settle(
     ensures not_settled { IfErr result (λ fault. fault ≢ NoMemory
         → ¬ IsSettled (map view_of books.items) receipts.items maps.items) }
 
-    // A receipt that strays is told also where no memory is left.
+    // A receipt that strays, and an entry that was not told just once, are told also where no memory is left.
     ensures strayed { (op index : ℕ) → (result ≡ Err (Strayed op index))
         ↔ IsFirstStrayed (map view_of books.items) receipts.items op index }
+    ensures short { (op : ℕ) → (result ≡ Err (Short op))
+        ↔ IsFirstFault (map view_of books.items) receipts.items maps.items (Short op) }
 {
     if let Some((op, index)) = first_strayed(&books, &receipts) {
         return Err(RunFault::Strayed { op, index });
     }
-    if let Some(op) = first_short(alloc, &books, &receipts)? {
+    if let Some(op) = first_short(alloc, &books, &receipts) {
         return Err(RunFault::Short { op });
     }
     if let Some(frame) = first_map_strayed(alloc, &books, &maps)? {

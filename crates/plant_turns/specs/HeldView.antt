@@ -12,3 +12,7 @@ book_of held = book_at held.desk
 -- the frames that wait
 abbrev pub waiting_of : {D : Type 0} {F : D → Type 0} {m : _} → Held D F m → List (ℕ × ElementsFields)
 waiting_of held = waiting_at held.desk
+
+-- how many entries more its history has room for
+abbrev pub room_of : {D : Type 0} {F : D → Type 0} {m : _} → Held D F m → ℕ
+room_of held = held.desk.book.kept.spare

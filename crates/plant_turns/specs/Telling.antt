@@ -2,7 +2,7 @@
 use Rattle.std.specs.Prelude.{◌≡◌, ℕ}
 use Rattle.operator_book.specs.declared.book.BookFault.TheVariants.{NoMemory}
 use Rattle.plant_turns.specs.declared.cell_fault.CellFault.{CellFault}
-use Rattle.plant_turns.specs.declared.cell_fault.CellFault.TheVariants.{Book, Passed, Stopped}
+use Rattle.plant_turns.specs.declared.cell_fault.CellFault.TheVariants.{Book, Passed, Stopped, Closed}
 
 -- an action that is done at once: by the book alone
 abbrev pub IsOfBook : CellFault → Type 0
@@ -14,6 +14,7 @@ abbrev pub IsOfTurn : ℕ → ℕ → CellFault → Type 0
 IsOfTurn op index (Book fault) = Unit {0}
 IsOfTurn op index (Passed operator place) = (operator ≡ op) × (place ≡ index)
 IsOfTurn op index (Stopped operator) = operator ≡ op
+IsOfTurn op index Closed = ⊥
 
 -- a frame of this operator that is to be taken
 abbrev pub IsOfTaking : ℕ → CellFault → Type 0

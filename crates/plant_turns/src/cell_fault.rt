@@ -12,4 +12,6 @@ pub enum CellFault {
     Passed { op: Op, index: usize },
     /// An earlier turn was refused, or the operator's callers were stopped.
     Stopped { op: Op },
+    /// The cell is closed for good, since an earlier turn was refused. Only a cell of passes is closed.
+    Closed,
 }

@@ -8,8 +8,10 @@ mod held;
 mod judging;
 mod refusing;
 mod taking;
+mod told;
 mod turning;
 
 pub use cell_fault::CellFault;
 pub use giving::reslice;
 pub use held::Held;
+pub use told::Told;

@@ -23,8 +23,8 @@ use std::alloc::Global;
 impl Held {
     /// Does an action whose turn comes at this place of the history.
     ///
-    /// Faults, in this order: `Stopped`; `Passed` where the history has not just so many entries; those of the book, and
-    /// then its turns are stopped. Each names the operator that it is asked for.
+    /// Faults, in this order: `Stopped`; `Passed` where the history has not just so many entries; those of the book. Each
+    /// names the operator that it is asked for. Only a fault of the book stops the turns.
     pub fn turn(
         &mut self,
         alloc: Global,
@@ -48,6 +48,8 @@ impl Held {
             × (refusal_of (book_of self.old) action ≡ Some fault)) }
         ensures fault { IfErr result (IsOfTurn op index) }
         ensures stops { (fault : BookFault) → result ≡ Err (CellFault.Book fault) → self.new.stopped ≡ true }
+        ensures stays { self.old.stopped ≡ true → self.new.stopped ≡ true }
+        ensures waits { result ≡ Err (CellFault.Passed op index) → self.new.stopped ≡ false }
         ensures same_book { OnErr result (book_of self.new ≡ book_of self.old) }
         ensures same_waiting { OnErr result (waiting_of self.new ≡ waiting_of self.old) }
     {

@@ -1,6 +1,6 @@
 -- What the steps are decides what is told.
-use Rattle.std.proofs.Common.{◌≡◌, ℕ, ◌+◌, ◌<◌, List, take, Some, None, ◌⊎◌, inl, inr, sym, ap, ◌∙◌, arith}
-use Rattle.std.specs.Prelude.{slice_get}
+use Rattle.std.proofs.Common.{◌≡◌, ◌↔◌, ℕ, ◌+◌, ◌<◌, List, take, Option, Some, None, ◌⊎◌, inl, inr, refl, sym, ap, ◌∙◌, subst, arith}
+use Rattle.std.specs.Prelude.{slice_get, IfSome, IfNone}
 use Rattle.std.proofs.lemmas.Bool.{cases_eq}
 use Rattle.std.proofs.lemmas.Option.{none-some, same_Some, slice_get_within}
 use Rattle.plant.specs.declared.plant.PlantFields.{PlantFields}
@@ -42,3 +42,16 @@ module _ (plant : PlantFields) (all : List Step) where
           let a = before_not f g p q in
           let b = before_not g f q p in
           absurd (omega (arith, ne, a, b))
+
+  -- ---- what a walk tells decides both ways
+
+  pub served_iff : (r : Option CoreFault) → IfNone r (IsServable plant all) → IfSome r (IsFirstUnserved plant all) → (r ≡ None) ↔ IsServable plant all
+  served_iff None served first = (λ e. served, λ s. refl)
+  served_iff (Some fault) served first = (λ e. cc, λ s. absurd (not_both fault s first))
+
+  pub first_iff : (r : Option CoreFault) → IfNone r (IsServable plant all) → IfSome r (IsFirstUnserved plant all) → (fault : CoreFault) → (r ≡ Some fault) ↔ IsFirstUnserved plant all fault
+  first_iff None served first fault = (λ e. cc, λ other. absurd (not_both fault served other))
+  first_iff (Some told) served first fault = (
+    λ e. subst (IsFirstUnserved plant all) (same_Some told fault e) first,
+    λ other. ap (λ (f : CoreFault). Some f) (one_fault told fault first other),
+  )

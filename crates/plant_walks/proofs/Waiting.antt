@@ -1,9 +1,9 @@
 -- How many frames wait, step by step.
-use Rattle.std.proofs.Common.{◌≡◌, ℕ, ◌+◌, ◌-◌, ◌<◌, ◌≤◌, Bool, false, List, length, take, Some, None, Option, ◌⊎◌, inl, inr, refl, sym, ap, ◌∙◌, arith}
+use Rattle.std.proofs.Common.{◌≡◌, ℕ, ◌+◌, ◌-◌, ◌<◌, ◌≤◌, Bool, false, List, [], length, take, replicate, Some, None, Option, ◌⊎◌, inl, inr, refl, sym, ap, ◌∙◌, arith}
 use Rattle.std.specs.Prelude.{slice_get, slice_set, slice_index, if◌then◌else◌}
 use Rattle.std.proofs.lemmas.Bool.{cases_eq, eq-eqb, ne_eqb, lt-ltb, le-ltb}
 use Rattle.std.proofs.lemmas.Grind.{get_or-set_at}
-use Rattle.std.proofs.lemmas.List.{length-set, length-take-le, get_or-set_other}
+use Rattle.std.proofs.lemmas.List.{length-set, length-take-le, get_or-set_other, take-replicate, length-replicate, get_or-replicate}
 use Rattle.std.proofs.lemmas.List.Sums.{count_by-le-length}
 use Rattle.plant.specs.declared.plant.PlantFields.{PlantFields}
 use Rattle.plant_runs.specs.declared.step.Step.{Step}
@@ -71,6 +71,15 @@ module _ (operators : ℕ) (all : List Step) (at : ℕ) (waiting : List ℕ) (ar
     pub some_left : 0 < slice_index waiting op → all_collected (take at all) op ≡ None
     some_left some =
         ap (λ (b : Bool). if b then None else Some (NothingToCollect op)) (lt-ltb (collects_of op (take at all)) (ticks_of op (take at all)) (omega (arith, some, are.counts op lt)))
+
+-- before the first step no frame waits
+pub none_waits : (n operators : ℕ) → operators ≤ n → AreWaiting operators [] (take operators (replicate n 0))
+none_waits n operators le = record {
+  one_each = ap (λ (zs : List ℕ). length zs) (take-replicate operators n 0 le) ∙ length-replicate operators 0;
+  counts = λ op lt.
+      let none : slice_index (take operators (replicate n 0)) op ≡ 0 = ap (λ (zs : List ℕ). slice_index zs op) (take-replicate operators n 0 le) ∙ get_or-replicate operators op 0 0 lt in
+      omega (arith, none);
+}
 
 -- an operator that is there, and one that is not
 module _ (plant : PlantFields) (op : ℕ) (other : Option CoreFault) where

@@ -8,8 +8,6 @@ use Rattle.plant_runs.specs.declared.step.Step.TheVariants as steps
 use Rattle.plant_runs.specs.OwnSteps.{collects_of}
 use Rattle.plant_core.specs.declared.core_fault.CoreFault.{CoreFault}
 use Rattle.plant_core.specs.declared.core_fault.CoreFault.TheVariants.{UnknownModem, UnknownOperator, NothingToCollect}
-use Rattle.plant_receipts.specs.declared.run_fault.RunFault.{RunFault}
-use Rattle.plant_receipts.specs.declared.run_fault.RunFault.TheVariants.{Core, NoMemory}
 use Rattle.plant_outcomes.specs.Outcome.{ticks_of}
 
 -- no operator lists the modem
@@ -50,12 +48,6 @@ pub record IsFirstUnserved (plant : PlantFields) (all : List Step) (fault : Core
   pub step_is : slice_get all place ≡ Some step
   pub fault_is : unserved_by plant (take place all) step ≡ Some fault
   pub before : AreServed plant all place
-
--- what a walk over the steps may be refused for: the first step that is not served, or want of memory
-abbrev pub IsRefusal : PlantFields → List Step → RunFault → Type 0
-IsRefusal plant all (Core fault) = IsFirstUnserved plant all fault
-IsRefusal plant all NoMemory = Unit {0}
-IsRefusal plant all other = ⊥
 
 -- how many frames of each operator were put out by a Tick and not collected
 pub record AreWaiting (operators : ℕ) (before : List Step) (waiting : List ℕ) : Type 0 where

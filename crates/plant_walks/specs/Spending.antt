@@ -1,5 +1,6 @@
 -- Which Tick finds its operator's frame numbers spent (own).
-use Rattle.std.specs.Prelude.{◌≡◌, ℕ, ◌+◌, ◌<◌, ◌≤◌, List, length, take, slice_get, Option, Some, None}
+use Rattle.std.specs.Prelude.{◌≡◌, not, Bool, true, false, ℕ, ◌+◌, ◌<◌, ◌≤◌, List, length, take, slice_get, Option, Some, None}
+use Rattle.std.specs.List.{take_while}
 use Rattle.plant.specs.declared.plant.PlantFields.{PlantFields}
 use Rattle.plant_runs.specs.declared.step.Step.{Step}
 use Rattle.plant_runs.specs.declared.step.Step.TheVariants as steps
@@ -27,3 +28,16 @@ pub record IsFirstSpent (plant : PlantFields) (all : List Step) (place : ℕ) : 
   pub known : op < length plant.rows
   pub spent : IsSpentAt plant.consts.channel.first_frame op all place
   pub before : NoneSpentBefore plant all place
+
+-- ---- before other slices are given
+
+abbrev pub is_reslice : Step → Bool
+is_reslice (steps.Arrive modem heard) = false
+is_reslice (steps.Work op) = false
+is_reslice (steps.Tick op) = false
+is_reslice (steps.Collect op) = false
+is_reslice (steps.Reslice from rows) = true
+
+-- the steps before the first Reslice
+abbrev pub before_reslice : List Step → List Step
+before_reslice all = take_while (λ step. not (is_reslice step)) all

@@ -7,5 +7,5 @@ mod spending;
 mod turns;
 
 pub use serving::first_unserved;
-pub use spending::first_spent;
+pub use spending::{before_reslice, first_spent};
 pub use turns::turns_of;

@@ -1,16 +1,17 @@
 //! The first step that does not find what it asks for.
 
-ghost use Rattle.std.specs.Prelude.{◌≡◌, ◌⊎◌, ◌+◌, ◌<◌, length, take, slice_get, Some, None, Ok, Err, OnOk, IfErr};
+ghost use Rattle.std.specs.Prelude.{◌≡◌, ◌↔◌, ◌+◌, ◌<◌, [], length, take, slice_get, Some, None, IfSome, IfNone};
 ghost use Rattle.plant_core.specs.declared.core_fault.CoreFault.{CoreFault};
 ghost use Rattle.plant_runs.specs.declared.step.Step.{Step};
 ghost use Rattle.plant_outcomes.specs.Outcome.{AreTicked};
-ghost use Rattle.plant_walks.specs.Serving.{unserved_by, IsServable, IsFirstUnserved, IsRefusal, AreWaiting};
+ghost use Rattle.plant_walks.specs.Serving.{unserved_by, IsServable, IsFirstUnserved, AreWaiting};
 
 use plant::Plant;
 use plant_core::CoreFault;
-use plant_receipts::RunFault;
 use plant_runs::Step;
-use std::alloc::Global;
+
+/// The most operators that a plant has.
+const MOST_OPERATORS: usize = 32;
 
 /// Why the step at a place does not find what it asks for, if it does not; `waiting` has how many frames of each operator
 /// were put out and not collected.
@@ -54,24 +55,30 @@ fn unserved(plant: &Plant, waiting: &mut [usize], steps: &[Step], at: usize) -> 
     }
 }
 
-/// That each step of a run finds what it asks for: its modem's operator or the operator that it names is there, and a
-/// Collect stands behind a Tick of its operator whose frame is not collected yet. Else the first step's fault that does
-/// not. Takes time in proportion to the steps.
-pub fn first_unserved(alloc: Global, plant: &Plant, steps: &[Step]) -> Result<(), RunFault>
-    ensures ok { OnOk result (IsServable plant.now steps.now) }
-    ensures ticked { OnOk result (AreTicked plant.now steps.now) }
-    ensures err { IfErr result (IsRefusal plant.now steps.now) }
-
-    // What the steps are decides what is told, unless memory is wanting.
-    ensures servable { IsServable plant.now steps.now → (result ≡ Ok tt) ⊎ (result ≡ Err RunFault.NoMemory) }
-    ensures core { (fault : CoreFault) → IsFirstUnserved plant.now steps.now fault
-        → (result ≡ Err (RunFault.Core fault)) ⊎ (result ≡ Err RunFault.NoMemory) }
+/// Finds why the first step that does not find what it asks for does not; `waiting` has a 0 for each operator.
+fn walk(plant: &Plant, waiting: &mut [usize], steps: &[Step]) -> Option<CoreFault>
+    requires { AreWaiting (length plant.now.rows) [] waiting.old }
+    ensures served { IfNone result (IsServable plant.now steps.now) }
+    ensures ticked { IfNone result (AreTicked plant.now steps.now) }
+    ensures first { IfSome result (IsFirstUnserved plant.now steps.now) }
 {
-    let mut waiting = vec![in alloc; 0; plant.rows().len()]?;
     for at in 0..steps.len() {
-        if let Some(fault) = unserved(plant, waiting.as_mut_slice(), steps, at) {
-            return Err(RunFault::Core(fault));
+        if let Some(fault) = unserved(plant, waiting, steps, at) {
+            return Some(fault);
         }
     }
-    Ok(())
+    None
+}
+
+/// Finds why the first step that does not find what it asks for does not, if there is one: its modem's operator or the
+/// operator that it names is not there, or a Collect has no Tick of its operator before it whose frame is not collected
+/// yet. Takes no memory, and time in proportion to the steps.
+pub fn first_unserved(plant: &Plant, steps: &[Step]) -> Option<CoreFault>
+    ensures served { (result ≡ None) ↔ IsServable plant.now steps.now }
+    ensures ticked { IfNone result (AreTicked plant.now steps.now) }
+    ensures first { (fault : CoreFault) → (result ≡ Some fault) ↔ IsFirstUnserved plant.now steps.now fault }
+{
+    let operators = plant.rows().len();
+    let mut waiting = [0; MOST_OPERATORS];
+    walk(plant, &mut waiting[..operators], steps)
 }

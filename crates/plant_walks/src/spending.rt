@@ -3,7 +3,7 @@
 ghost use Rattle.std.specs.Prelude.{◌≡◌, length, MatchOption};
 ghost use Rattle.plant_outcomes.specs.Outcome.{is_tick_of};
 ghost use Rattle.plant_outcomes.specs.Numbering.{lesser};
-ghost use Rattle.plant_walks.specs.Spending.{IsOwnSpent, NoneSpentBefore, IsFirstSpent};
+ghost use Rattle.plant_walks.specs.Spending.{IsOwnSpent, NoneSpentBefore, IsFirstSpent, is_reslice, before_reslice};
 
 use plant::{Op, Plant};
 use plant_runs::Step;
@@ -61,4 +61,29 @@ pub fn first_spent(plant: &Plant, steps: &[Step]) -> Option<usize>
         least = lesser(least, spent_of(first_frame, op, steps));
     }
     least
+}
+
+/// Tells whether a step gives other slices.
+fn is_reslice(step: &Step) -> bool
+    ensures { result ≡ is_reslice step.now }
+{
+    match step {
+        Step::Reslice { from: _, rows: _ } => true,
+        Step::Arrive { modem: _, heard: _ }
+        | Step::Work { op: _ }
+        | Step::Tick { op: _ }
+        | Step::Collect { op: _ } => false,
+    }
+}
+
+/// Returns the steps before the first that gives other slices. Takes no memory.
+pub fn before_reslice(steps: &[Step]) -> &[Step]
+    ensures { result.now ≡ before_reslice steps.now }
+{
+    for at in 0..steps.len() {
+        if is_reslice(&steps[at]) {
+            return &steps[..at];
+        }
+    }
+    steps
 }

@@ -1,16 +1,20 @@
 -- What a run on threads is refused for (own).
-use Rattle.std.specs.Prelude.{◌≡◌, ◌≢◌, ◌⊎◌, ℕ, List, slice_get, Some}
+use Rattle.std.specs.Prelude.{◌≡◌, ◌≢◌, ◌⊎◌, ℕ, List, length, take, slice_get, Option, Some}
 use Rattle.plant.specs.declared.plant.PlantFields.{PlantFields}
 use Rattle.operator_machine.specs.declared.action.SliceRow.{SliceRow}
+use Rattle.operator_machine.specs.Replay.{BookView}
 use Rattle.operator_book.specs.declared.book.BookFault.TheVariants as book_faults
 use Rattle.map_assembly.specs.declared.refused.GatherFault.TheVariants as gather_faults
 use Rattle.plant_runs.specs.declared.step.Step.{Step}
 use Rattle.plant_runs.specs.declared.step.Step.TheVariants as steps
 use Rattle.plant_core.specs.declared.core_fault.CoreFault.{CoreFault}
-use Rattle.plant_core.specs.declared.core_fault.CoreFault.TheVariants.{Book, Gather}
+use Rattle.plant_core.specs.declared.core_fault.CoreFault.TheVariants.{Book, Gather, Reslice}
+use Rattle.plant_core.specs.declared.core_fault.ResliceFault.{ResliceFault}
+use Rattle.plant_core.specs.Reslicing.{reslice_fault}
 use Rattle.plant_receipts.specs.declared.run_fault.RunFault.{RunFault}
 use Rattle.plant_receipts.specs.declared.run_fault.RunFault.TheVariants.{Core, ResliceRefused}
-use Rattle.plant_walks.specs.Serving.{IsFirstUnserved}
+use Rattle.plant_outcomes.specs.Straying.{AreOwn}
+use Rattle.plant_walks.specs.Serving.{IsServable, IsFirstUnserved}
 
 -- a book refused an action, or the assembly a frame, and not for want of memory
 abbrev pub IsOfThreads : CoreFault → Type 0
@@ -18,19 +22,43 @@ IsOfThreads (Book fault) = fault ≢ book_faults.NoMemory
 IsOfThreads (Gather fault) = fault ≢ gather_faults.NoMemory
 IsOfThreads fault = ⊥
 
--- the step at this place is a Reslice
-pub record IsReslice (all : List Step) (at : ℕ) : Type 0 where
+-- the step at this place is a Reslice, which these books refuse for this fault
+pub record RefuseAt (all : List Step) (at : ℕ) (books : List BookView) (fault : ResliceFault) : Type 0 where
   pub from : ℕ
   pub rows : List SliceRow
   pub step_is : slice_get all at ≡ Some (steps.Reslice from rows)
+  pub fault_is : reslice_fault from books rows ≡ Some fault
+
+-- a fault of slices is the one that they have; any other says nothing of them
+abbrev pub IsResliceTold : CoreFault → Option ResliceFault → Type 0
+IsResliceTold (Reslice fault) found = found ≡ Some fault
+IsResliceTold fault found = Unit {0}
+
+-- the step at this place is a Reslice, of which this was told over these books
+pub record IsToldAt (all : List Step) (at : ℕ) (books : List BookView) (fault : CoreFault) : Type 0 where
+  pub from : ℕ
+  pub rows : List SliceRow
+  pub step_is : slice_get all at ≡ Some (steps.Reslice from rows)
+  pub told : IsResliceTold fault (reslice_fault from books rows)
+
+-- the fault is the one of the Reslice at this place, by the books that the steps before it make of the plant
+pub record IsResliceFault (plant : PlantFields) (all : List Step) (at : ℕ) (fault : ResliceFault) : Type 0 where
+  pub books : List BookView
+  pub one_each : length books ≡ length plant.rows
+  pub own : AreOwn plant (take at all) books
+  pub refused : RefuseAt all at books fault
 
 -- a fault that comes once each step is known to find what it asks for
-abbrev pub IsOfRun : List Step → RunFault → Type 0
-IsOfRun all (Core fault) = IsOfThreads fault
-IsOfRun all (ResliceRefused at fault) = IsReslice all at
-IsOfRun all fault = Unit {0}
+abbrev pub IsOfRun : PlantFields → List Step → RunFault → Type 0
+IsOfRun plant all (Core fault) = IsOfThreads fault
+IsOfRun plant all (ResliceRefused at fault) = IsResliceFault plant all at fault
+IsOfRun plant all fault = Unit {0}
 
--- a fault of a run: the first step that does not find what it asks for, or one of those
+-- the first step that does not find what it asks for is told
+abbrev pub IsOfWalk : PlantFields → List Step → RunFault → Type 0
+IsOfWalk plant all (Core fault) = IsFirstUnserved plant all fault
+IsOfWalk plant all fault = ⊥
+
+-- a fault of a run: the first step that does not find what it asks for; or, where each does, one of those
 abbrev pub IsFault : PlantFields → List Step → RunFault → Type 0
-IsFault plant all (Core fault) = IsFirstUnserved plant all fault ⊎ IsOfThreads fault
-IsFault plant all fault = IsOfRun all fault
+IsFault plant all fault = IsOfWalk plant all fault ⊎ (IsServable plant all × IsOfRun plant all fault)

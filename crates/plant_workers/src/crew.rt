@@ -1,18 +1,20 @@
 //! A run between its pieces: no thread is there.
 
-ghost use Rattle.std.specs.Prelude.{List, IfErr};
+ghost use Rattle.std.specs.Prelude.{◌≡◌, List, Some, slice_get, IfErr};
+ghost use Rattle.plant.specs.declared.plant.PlantFields.{PlantFields};
 ghost use Rattle.plant_runs.specs.declared.step.Step.{Step};
-ghost use Rattle.plant_workers.specs.Faulting.{IsReslice, IsOfRun};
+ghost use Rattle.plant_runs.specs.declared.step.Step.TheVariants as steps_of;
+ghost use Rattle.plant_workers.specs.Faulting.{IsOfRun};
 
+use crate::following::fault_of_reslice;
 use crate::gate::Gate;
 use crate::job::Job;
 use crate::part::parts_of;
-use crate::receipt_lists::{Lists, add_owned, add_tales, no_lists};
+use crate::receipt_lists::{Lists, add_tales, add_told, no_lists};
 use crate::shared::run_shared;
 use crate::tale::{Tale, first_fault};
 use operator_machine::SliceRow;
 use plant::Plant;
-use plant_core::CoreFault;
 use plant_outcomes::Assembly;
 use plant_receipts::RunFault;
 use plant_runs::Step;
@@ -66,7 +68,7 @@ fn tales_of<R: Threads + Wait + Sync, G: Gate<R> + Sync>(
     gate: &G,
     stacks: &[usize],
 ) -> Result<Vec<Tale>, RunFault>
-    ensures { IfErr result (λ fault. (steps : List Step) → IsOfRun steps fault) }
+    ensures { IfErr result (λ fault. (plant : PlantFields) (steps : List Step) → IsOfRun plant steps fault) }
 {
     let parts = parts_of(alloc, locks.len())?;
     let changed = signals(alloc, locks.len())?;
@@ -105,7 +107,7 @@ impl Crew {
         gate: &G,
         stacks: &[usize],
     ) -> Result<Crew, RunFault>
-        ensures { IfErr result (λ fault. (steps : List Step) → IsOfRun steps fault) }
+        ensures { IfErr result (λ fault. (plant : PlantFields) (steps : List Step) → IsOfRun plant steps fault) }
     {
         if jobs.is_empty() {
             return Ok(self);
@@ -130,31 +132,39 @@ impl Crew {
     pub(crate) fn reslice_at(
         &mut self,
         alloc: Global,
+        plant: &Plant,
         steps: &[Step],
         at: usize,
     ) -> Result<(), RunFault>
-        ensures { IfErr result (IsOfRun steps.now) }
+        ensures { IfErr result (IsOfRun plant.now steps.now) }
     {
         match steps.get(at) {
-            Some(Step::Reslice { from, rows }) => self.reslice(alloc, at, *from, rows.as_slice()),
+            Some(Step::Reslice { from, rows }) => {
+                self.reslice(alloc, plant, steps, at, *from, rows.as_slice())
+            }
             _ => Ok(()),
         }
     }
 
-    /// Gives the operators other slices, at the step of this place.
+    /// Gives the operators other slices, as the step of this place says.
     fn reslice(
         &mut self,
         alloc: Global,
+        plant: &Plant,
+        steps: &[Step],
         at: usize,
         from: u32,
         rows: &[SliceRow],
     ) -> Result<(), RunFault>
-        ensures { IfErr result (λ fault. (steps : List Step) → IsReslice steps at → IsOfRun steps fault) }
+        requires { slice_get steps.now at ≡ Some (steps_of.Reslice from rows.now) }
+        ensures { IfErr result (IsOfRun plant.now steps.now) }
     {
         match reslice(alloc, &mut self.helds, from, rows) {
-            Ok(told) => add_owned(&mut self.lists, told)?,
-            Err(CoreFault::Reslice(fault)) => return Err(RunFault::ResliceRefused { at, fault }),
-            Err(_) => return Err(RunFault::NoMemory),
+            Ok(told) => add_told(&mut self.lists, told)?,
+            Err(fault) => {
+                let helds = self.helds.as_slice();
+                return Err(fault_of_reslice(plant, helds, steps, at, fault));
+            }
         }
         if self.assembly.reslice(alloc, from, rows)? {
             Ok(())

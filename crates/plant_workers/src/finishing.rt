@@ -1,8 +1,9 @@
 //! What a run comes to, once its last thread has ended.
 
-ghost use Rattle.std.specs.Prelude.{◌≡◌, ◌<◌, ◌^◌, map, vec_len, IfOk, IfErr};
+ghost use Rattle.std.specs.Prelude.{◌≡◌, ◌<◌, ◌^◌, All, map, vec_len, IfOk, IfErr};
 ghost use Rattle.operator_book.specs.ViewOf.{view_of};
 ghost use Rattle.plant_outcomes.specs.Outcome.{AreTicked, IsOutcome};
+ghost use Rattle.plant_receipts.specs.Callers.{AreByCallers};
 ghost use Rattle.plant_workers.specs.Faulting.{IsOfRun};
 
 use crate::crew::Crew;
@@ -51,17 +52,18 @@ fn settle_all(
     assembly: Assembly,
     steps: &[Step],
 ) -> Result<Settled, RunFault>
+    requires by_callers { All AreByCallers callers.items }
     requires ticked { AreTicked plant.now steps.now }
     ensures ok { IfOk result (λ s.
         IsOutcome plant.now steps.now (map view_of s.books.items) s.receipts.items s.maps.items) }
-    ensures err { IfErr result (IsOfRun steps.now) }
+    ensures err { IfErr result (IsOfRun plant.now steps.now) }
 {
     if books.len() != plant.rows().len() || callers.len() != books.len() {
         return Err(RunFault::NoMemory);
     }
     let maps = copies_of(alloc, assembly.maps())?;
     let settled = settle(alloc, books, callers, maps)?;
-    compare(alloc, plant, settled, assembly, steps)
+    compare(plant, settled, assembly, steps)
 }
 
 /// What the run comes to.
@@ -74,7 +76,7 @@ pub(crate) fn finish(
     requires ticked { AreTicked plant.now steps.now }
     ensures ok { IfOk result (λ s.
         IsOutcome plant.now steps.now (map view_of s.books.items) s.receipts.items s.maps.items) }
-    ensures err { IfErr result (IsOfRun steps.now) }
+    ensures err { IfErr result (IsOfRun plant.now steps.now) }
 {
     let Crew {
         helds,

@@ -1,5 +1,8 @@
 //! The steps of a run, each with its operator and its turn.
 
+ghost use Rattle.std.specs.Prelude.{◌≡◌, IfOk};
+ghost use Rattle.plant_workers.specs.Parts.{action_in};
+
 use operator_machine::Action;
 use plant::{Op, Plant};
 use plant_runs::Step;
@@ -39,8 +42,10 @@ pub(crate) fn jobs_of<'a>(
 }
 
 impl Job<'_> {
-    /// The action that the step is of its operator; none of a Collect and a Reslice.
-    pub(crate) fn action(&self, alloc: Global) -> Result<Option<Action>, AllocError> {
+    /// Returns the action that the step is of its operator; none of a Collect and a Reslice.
+    pub(crate) fn action(&self, alloc: Global) -> Result<Option<Action>, AllocError>
+        ensures { IfOk result (λ action. action ≡ action_in self.now.step.now) }
+    {
         match self.step {
             Step::Arrive { modem, heard } => Ok(Some(Action::Arrive {
                 modem: *modem,

@@ -4,6 +4,7 @@
 mod cell;
 mod crew;
 mod finishing;
+mod following;
 mod gate;
 mod job;
 mod opening;
@@ -18,7 +19,7 @@ mod turn;
 
 pub use cell::OperatorCell;
 pub use gate::{Gate, OpenGate};
-pub use plant_receipts::{Callers, Receipt, Receipts, RunFault, Settled, settle};
+pub use plant_receipts::{Caller, Callers, Receipt, Receipts, RunFault, Settled, settle};
 pub use plant_turns::CellFault;
 pub use ranking::are_ranked;
 pub use running::{run_workers, run_workers_on};

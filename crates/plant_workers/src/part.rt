@@ -1,7 +1,11 @@
 //! What each thread of a run does.
 
+ghost use Rattle.std.specs.Prelude.{◌≡◌, ◌↔◌, IsTrue};
+ghost use Rattle.plant_workers.specs.Parts.{caller_in, IsOfPart};
+
 use crate::job::Job;
 use plant::Op;
+use plant_receipts::Caller;
 use plant_runs::Step;
 use std::alloc::{AllocError, Global};
 
@@ -17,13 +21,26 @@ pub(crate) enum Part {
 }
 
 impl Part {
-    /// Whether a job is one of this part.
-    pub(crate) fn has(self, job: &Job) -> bool {
+    /// Tells whether a job is one of this part.
+    pub(crate) fn has(self, job: &Job) -> bool
+        ensures { IsTrue result ↔ IsOfPart self job.now.step.now }
+    {
         match (self, job.step) {
             (Part::Arrivals, Step::Arrive { modem: _, heard: _ }) => true,
             (Part::Ticks, Step::Tick { op: _ }) => true,
             (Part::Worker(op), Step::Work { op: of } | Step::Collect { op: of }) => op == *of,
             _ => false,
+        }
+    }
+
+    /// Returns the caller that the thread of this part is.
+    pub(crate) fn caller(self) -> Caller
+        ensures { result ≡ caller_in self }
+    {
+        match self {
+            Part::Arrivals => Caller::Dispatcher,
+            Part::Ticks => Caller::Ticker,
+            Part::Worker(_) => Caller::Worker,
         }
     }
 }

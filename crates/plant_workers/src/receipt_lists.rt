@@ -1,57 +1,83 @@
 //! The receipts of an operator's four callers.
 
-use crate::part::Part;
-use crate::tale::{Tale, Told};
-use plant_receipts::{Callers, Receipt, Receipts};
+ghost use Rattle.std.specs.Prelude.{All, IfOk};
+ghost use Rattle.plant_receipts.specs.Callers.{IsFor, AreByCallers};
+ghost use Rattle.plant_receipts.specs.declared.caller.Caller.TheVariants as callers;
+
+use crate::tale::Tale;
+use plant_receipts::{Caller, Callers, Receipt, Receipts};
+use plant_turns::Told;
 use std::alloc::{AllocError, Global};
 
-/// The receipts of an operator's four callers, each in the order in which it got them.
+/// Keeps the receipts of an operator's four callers, each in the order in which it got them. The type keeps that each has
+/// receipts of its own kind of action alone.
 #[derive(Drop)]
 pub(crate) struct Lists {
-    arrivals: Receipts,
-    ticks: Receipts,
+    dispatcher: Receipts,
+    ticker: Receipts,
     worker: Receipts,
     owner: Receipts,
+    ghost dispatched: { All (IsFor callers.Dispatcher) dispatcher },
+    ghost ticked: { All (IsFor callers.Ticker) ticker },
+    ghost worked: { All (IsFor callers.Worker) worker },
+    ghost owned: { All (IsFor callers.Owner) owner },
+}
+
+/// Adds a receipt of a caller behind its others.
+fn add(caller: Caller, receipts: &mut Receipts, receipt: Receipt) -> Result<(), AllocError>
+    requires for_caller { IsFor caller receipt }
+    requires all { All (IsFor caller) receipts.old }
+    ensures { All (IsFor caller) receipts.new }
+{
+    receipts.push(receipt)
 }
 
 impl Lists {
-    /// No receipt of any caller. Takes no memory.
+    /// Makes lists of no receipts. Takes no memory.
     fn new(alloc: Global) -> Lists {
         Lists {
-            arrivals: Receipts::new(alloc),
-            ticks: Receipts::new(alloc),
+            dispatcher: Receipts::new(alloc),
+            ticker: Receipts::new(alloc),
             worker: Receipts::new(alloc),
             owner: Receipts::new(alloc),
         }
     }
 
-    /// One more receipt of a thread.
-    fn push(&mut self, part: Part, receipt: Receipt) -> Result<(), AllocError> {
-        match part {
-            Part::Arrivals => self.arrivals.push(receipt),
-            Part::Ticks => self.ticks.push(receipt),
-            Part::Worker(_) => self.worker.push(receipt),
+    /// Adds a receipt behind its caller's others.
+    fn push(&mut self, told: Told) -> Result<(), AllocError> {
+        let Told {
+            op: _,
+            caller,
+            receipt,
+        } = told;
+        match caller {
+            Caller::Dispatcher => add(Caller::Dispatcher, &mut self.dispatcher, receipt),
+            Caller::Ticker => add(Caller::Ticker, &mut self.ticker, receipt),
+            Caller::Worker => add(Caller::Worker, &mut self.worker, receipt),
+            Caller::Owner => add(Caller::Owner, &mut self.owner, receipt),
         }
     }
 
-    /// The four callers: the dispatcher, the ticker, the worker and the owner.
-    fn into_callers(self, alloc: Global) -> Result<Callers, AllocError> {
+    /// Gives the receipts of the four callers: the dispatcher, the ticker, the worker and the owner.
+    fn into_callers(self, alloc: Global) -> Result<Callers, AllocError>
+        ensures { IfOk result AreByCallers }
+    {
         let Lists {
-            arrivals,
-            ticks,
+            dispatcher,
+            ticker,
             worker,
             owner,
         } = self;
         let mut lists = Vec::with_capacity(alloc, 4)?;
-        lists.push(arrivals)?;
-        lists.push(ticks)?;
+        lists.push(dispatcher)?;
+        lists.push(ticker)?;
         lists.push(worker)?;
         lists.push(owner)?;
         Ok(Callers::from_vec(lists))
     }
 }
 
-/// No receipt of any of so many operators.
+/// Makes lists of no receipts, for so many operators.
 pub(crate) fn no_lists(alloc: Global, operators: usize) -> Result<Vec<Lists>, AllocError> {
     let mut lists = Vec::with_capacity(alloc, operators)?;
     for _ in 0..operators {
@@ -60,12 +86,12 @@ pub(crate) fn no_lists(alloc: Global, operators: usize) -> Result<Vec<Lists>, Al
     Ok(lists)
 }
 
-/// Adds the receipts of a thread.
-fn add_told(lists: &mut Vec<Lists>, part: Part, told: Vec<Told>) -> Result<(), AllocError> {
-    for heard in told {
-        let Told { op, receipt } = heard;
+/// Adds receipts, each to those of its operator.
+pub(crate) fn add_told(lists: &mut Vec<Lists>, all: Vec<Told>) -> Result<(), AllocError> {
+    for told in all {
+        let op = told.op;
         if op < lists.len() {
-            lists[op].push(part, receipt)?;
+            lists[op].push(told)?;
         }
     }
     Ok(())
@@ -74,28 +100,16 @@ fn add_told(lists: &mut Vec<Lists>, part: Part, told: Vec<Told>) -> Result<(), A
 /// Adds the receipts of all threads.
 pub(crate) fn add_tales(lists: &mut Vec<Lists>, tales: Vec<Tale>) -> Result<(), AllocError> {
     for tale in tales {
-        let Tale {
-            part,
-            told,
-            refused: _,
-        } = tale;
-        add_told(lists, part, told)?;
+        let Tale { told, refused: _ } = tale;
+        add_told(lists, told)?;
     }
     Ok(())
 }
 
-/// Adds the owner's receipts, operator by operator.
-pub(crate) fn add_owned(lists: &mut Vec<Lists>, told: Vec<Receipt>) -> Result<(), AllocError> {
-    for (op, receipt) in told.into_iter().enumerate() {
-        if op < lists.len() {
-            lists[op].owner.push(receipt)?;
-        }
-    }
-    Ok(())
-}
-
-/// The callers of each operator.
-pub(crate) fn callers_of(alloc: Global, lists: Vec<Lists>) -> Result<Vec<Callers>, AllocError> {
+/// Gives the callers of each operator.
+pub(crate) fn callers_of(alloc: Global, lists: Vec<Lists>) -> Result<Vec<Callers>, AllocError>
+    ensures { IfOk result (λ callers. All AreByCallers callers.items) }
+{
     let mut callers = Vec::with_capacity(alloc, lists.len())?;
     for list in lists {
         callers.push(list.into_callers(alloc)?)?;

@@ -1,11 +1,14 @@
 //! A plant run on threads.
 
-ghost use Rattle.std.specs.Prelude.{◌≡◌, ◌⊎◌, map, Err, IfOk, IfErr, OnOk};
+ghost use Rattle.std.specs.Prelude.{◌≡◌, ℕ, map, Err, IfOk, IfErr, OnOk};
 ghost use Rattle.operator_book.specs.ViewOf.{view_of, policy_of};
+ghost use Rattle.operator_book.specs.declared.book.BookFault.TheVariants.{FramesSpent};
 ghost use Rattle.plant_core.specs.declared.core_fault.CoreFault.{CoreFault};
-ghost use Rattle.plant_receipts.specs.declared.run_fault.RunFault.TheVariants.{Core, NoMemory};
+ghost use Rattle.plant_core.specs.declared.core_fault.CoreFault.TheVariants.{Book};
+ghost use Rattle.plant_receipts.specs.declared.run_fault.RunFault.TheVariants.{Core};
 ghost use Rattle.plant_outcomes.specs.Outcome.{AreTicked, IsOutcome};
 ghost use Rattle.plant_walks.specs.Serving.{IsServable, IsFirstUnserved};
+ghost use Rattle.plant_walks.specs.Spending.{IsFirstSpent, before_reslice};
 ghost use Rattle.plant_workers.specs.Faulting.{IsOfRun, IsFault};
 
 use crate::crew::Crew;
@@ -14,10 +17,12 @@ use crate::gate::Gate;
 use crate::job::{Job, jobs_of};
 use crate::opening::opened;
 use grant_policy::Ranking;
+use operator_book::BookFault;
 use plant::Plant;
+use plant_core::CoreFault;
 use plant_receipts::{RunFault, Settled};
 use plant_runs::Step;
-use plant_walks::first_unserved;
+use plant_walks::{before_reslice, first_spent, first_unserved};
 use std::alloc::Global;
 use std::sync::Wait;
 use std::thread::Threads;
@@ -33,13 +38,14 @@ fn between<'a, 'b>(jobs: &'a [Job<'b>], from: usize, to: usize) -> &'a [Job<'b>]
 fn run_steps<R: Threads + Wait + Sync, G: Gate<R> + Sync>(
     rt: &R,
     alloc: Global,
+    plant: &Plant,
     crew: Crew,
     steps: &[Step],
     jobs: &[Job],
     gate: &G,
     stacks: &[usize],
 ) -> Result<Crew, RunFault>
-    ensures { IfErr result (IsOfRun steps.now) }
+    ensures { IfErr result (IsOfRun plant.now steps.now) }
 {
     let mut crew = crew;
     let mut begin = 0;
@@ -49,7 +55,7 @@ fn run_steps<R: Threads + Wait + Sync, G: Gate<R> + Sync>(
                 Ok(crew) => crew,
                 Err(fault) => return Err(fault),
             };
-            crew.reslice_at(alloc, steps, at)?;
+            crew.reslice_at(alloc, plant, steps, at)?;
             begin = at + 1;
         }
     }
@@ -69,17 +75,16 @@ fn run_served<R: Threads + Wait + Sync, G: Gate<R> + Sync>(
     requires ticked { AreTicked plant.now steps.now }
     ensures ok { IfOk result (λ s.
         IsOutcome plant.now steps.now (map view_of s.books.items) s.receipts.items s.maps.items) }
-    ensures err { IfErr result (IsOfRun steps.now) }
+    ensures err { IfErr result (IsOfRun plant.now steps.now) }
 {
     let helds = opened(alloc, plant, rankings)?;
     let crew = Crew::new(alloc, plant, helds)?;
     let jobs = jobs_of(alloc, plant, steps)?;
-    let crew = run_steps(rt, alloc, crew, steps, jobs.as_slice(), gate, stacks)?;
+    let crew = run_steps(rt, alloc, plant, crew, steps, jobs.as_slice(), gate, stacks)?;
     finish(alloc, plant, crew, steps)
 }
 
 /// Does steps, once it is known that each finds what it asks for.
-#[tactic(auto, using(crate::proofs::FaultLemmas::not_unserved, crate::proofs::FaultLemmas::of_walk, crate::proofs::FaultLemmas::of_run))]
 fn run_walked<R: Threads + Wait + Sync, G: Gate<R> + Sync>(
     rt: &R,
     alloc: Global,
@@ -92,13 +97,17 @@ fn run_walked<R: Threads + Wait + Sync, G: Gate<R> + Sync>(
     ensures ok { IfOk result (λ s.
         IsOutcome plant.now steps.now (map view_of s.books.items) s.receipts.items s.maps.items) }
     ensures walked { OnOk result (IsServable plant.now steps.now) }
-    ensures walk { (fault : CoreFault) → IsFirstUnserved plant.now steps.now fault
-        → (result ≡ Err (Core fault)) ⊎ (result ≡ Err NoMemory) }
+    ensures walk { (fault : CoreFault) → IsFirstUnserved plant.now steps.now fault → result ≡ Err (Core fault) }
+    ensures spent { (place : ℕ) → IsServable plant.now steps.now
+        → IsFirstSpent plant.now (before_reslice steps.now) place → result ≡ Err (Core (Book FramesSpent)) }
     ensures err { IfErr result (IsFault plant.now steps.now) }
 {
-    match first_unserved(alloc, plant, steps) {
-        Ok(()) => run_served(rt, alloc, plant, rankings, steps, gate, stacks),
-        Err(fault) => Err(fault),
+    if let Some(fault) = first_unserved(plant, steps) {
+        return Err(RunFault::Core(fault));
+    }
+    match first_spent(plant, before_reslice(steps)) {
+        Some(_) => Err(RunFault::Core(CoreFault::Book(BookFault::FramesSpent))),
+        None => run_served(rt, alloc, plant, rankings, steps, gate, stacks),
     }
 }
 
@@ -117,8 +126,9 @@ pub fn run_workers_on<R: Threads + Wait + Sync, G: Gate<R> + Sync>(
     ensures ok { IfOk result (λ s.
         IsOutcome plant steps.items (map view_of s.books.items) s.receipts.items s.maps.items) }
     ensures walked { OnOk result (IsServable plant steps.items) }
-    ensures walk { (fault : CoreFault) → IsFirstUnserved plant steps.items fault
-        → (result ≡ Err (Core fault)) ⊎ (result ≡ Err NoMemory) }
+    ensures walk { (fault : CoreFault) → IsFirstUnserved plant steps.items fault → result ≡ Err (Core fault) }
+    ensures spent { (place : ℕ) → IsServable plant steps.items
+        → IsFirstSpent plant (before_reslice steps.items) place → result ≡ Err (Core (Book FramesSpent)) }
     ensures err { IfErr result (IsFault plant steps.items) }
 {
     run_walked(rt, alloc, &plant, rankings, steps.as_slice(), gate, stacks)
@@ -129,8 +139,9 @@ pub fn run_workers_on<R: Threads + Wait + Sync, G: Gate<R> + Sync>(
 /// operator and of its own thread, and for nothing else. Reslices are done while no thread is there.
 ///
 /// Faults: `Core` of the first step that does not find its modem, its operator or a frame to collect, before a thread
-/// starts; that of the least operator that refused an action, and then that of the assembly; `ResliceRefused`; those of
-/// `settle` and of `compare`. Nothing is left of what was handed in. It answers once all threads have ended; that they do
+/// starts; `FramesSpent` where a Tick before the first Reslice finds its operator's frame numbers spent, likewise; both are
+/// told also where no memory is left. Then that of the least operator that refused an action, and then that of the assembly;
+/// `ResliceRefused` with the fault of the core at that step; those of `settle` and of `compare`. Nothing is left of what was handed in. It answers once all threads have ended; that they do
 /// is not claimed.
 pub fn run_workers<R: Threads + Wait + Sync, G: Gate<R> + Sync>(
     rt: &R,
@@ -144,8 +155,9 @@ pub fn run_workers<R: Threads + Wait + Sync, G: Gate<R> + Sync>(
     ensures ok { IfOk result (λ s.
         IsOutcome plant steps.items (map view_of s.books.items) s.receipts.items s.maps.items) }
     ensures walked { OnOk result (IsServable plant steps.items) }
-    ensures walk { (fault : CoreFault) → IsFirstUnserved plant steps.items fault
-        → (result ≡ Err (Core fault)) ⊎ (result ≡ Err NoMemory) }
+    ensures walk { (fault : CoreFault) → IsFirstUnserved plant steps.items fault → result ≡ Err (Core fault) }
+    ensures spent { (place : ℕ) → IsServable plant steps.items
+        → IsFirstSpent plant (before_reslice steps.items) place → result ≡ Err (Core (Book FramesSpent)) }
     ensures err { IfErr result (IsFault plant steps.items) }
 {
     run_workers_on(rt, alloc, plant, rankings, steps, gate, &[])

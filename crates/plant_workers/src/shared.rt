@@ -1,16 +1,20 @@
 //! What the threads of a run share, and what each does with it.
 
+ghost use Rattle.std.specs.Prelude.{◌≡◌};
+ghost use Rattle.plant_receipts.specs.Callers.{caller_of};
+ghost use Rattle.plant_workers.specs.Parts.{caller_in, IsOfPart};
+
 use crate::gate::Gate;
 use crate::job::Job;
 use crate::part::Part;
-use crate::tale::{Refusal, Tale, Told};
+use crate::tale::{Refusal, Tale};
 use crate::threads::run_threads;
 use crate::turn::Turn;
 use operator_book::BookFault;
 use operator_machine::Action;
 use plant::Op;
 use plant_outcomes::Assembly;
-use plant_turns::{CellFault, Held};
+use plant_turns::{CellFault, Held, Told};
 use std::alloc::{AllocError, Global};
 use std::sync::{Condvar, Mutex, Wait};
 use std::thread::Threads;
@@ -42,24 +46,32 @@ impl<'a> Shared<'a> {
         })
     }
 
-    /// Does an action in its turn, and keeps its receipt.
+    /// Does an action of this part in its turn, and keeps its receipt.
     fn act<R: Wait, G: Gate<R>>(
         self,
         rt: &R,
         alloc: Global,
         turn: Turn<'a>,
         index: usize,
+        part: Part,
         action: Action,
         gate: &G,
         told: &mut Vec<Told>,
-    ) -> Result<(), Refusal> {
+    ) -> Result<(), Refusal>
+        requires { caller_of action ≡ caller_in part }
+    {
         let op = turn.op;
         if told.reserve(1).is_err() {
             return Err(no_memory(op));
         }
         match turn.in_turn(rt, alloc, index, action, gate) {
             Ok(receipt) => {
-                told.push_reserved(Told { op, receipt });
+                let caller = part.caller();
+                told.push_reserved(Told {
+                    op,
+                    caller,
+                    receipt,
+                });
                 Ok(())
             }
             Err(fault) => Err(Refusal::Turn { op, fault }),
@@ -89,20 +101,23 @@ impl<'a> Shared<'a> {
         }
     }
 
-    /// Does a job.
+    /// Does a job of this part.
     fn do_job<R: Wait, G: Gate<R>>(
         self,
         rt: &R,
         alloc: Global,
+        part: Part,
         job: &Job,
         gate: &G,
         told: &mut Vec<Told>,
-    ) -> Result<(), Refusal> {
+    ) -> Result<(), Refusal>
+        requires { IsOfPart part job.now.step.now }
+    {
         let Some(turn) = self.turn(job.op) else {
             return Ok(());
         };
         match job.action(alloc) {
-            Ok(Some(action)) => self.act(rt, alloc, turn, job.turn, action, gate, told),
+            Ok(Some(action)) => self.act(rt, alloc, turn, job.turn, part, action, gate, told),
             Ok(None) => self.put(rt, alloc, turn, job.turn),
             Err(_) => Err(no_memory(job.op)),
         }
@@ -119,7 +134,7 @@ impl<'a> Shared<'a> {
     ) -> Result<(), Refusal> {
         for job in self.jobs {
             if part.has(job) {
-                self.do_job(rt, alloc, job, gate, told)?;
+                self.do_job(rt, alloc, part, job, gate, told)?;
             }
         }
         Ok(())
@@ -147,11 +162,7 @@ impl<R: Wait, G: Gate<R>> Chores<R, G> for Shared<'_> {
                 Some(refusal)
             }
         };
-        Tale {
-            part,
-            told,
-            refused,
-        }
+        Tale { told, refused }
     }
 
     fn stop_all(&self, rt: &R) {

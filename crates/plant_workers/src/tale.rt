@@ -1,23 +1,17 @@
 //! What a thread of a run tells when it has ended.
 
-ghost use Rattle.std.specs.Prelude.{List, IfSome};
+ghost use Rattle.std.specs.Prelude.{◌≡◌, List, map, IfSome};
+ghost use Rattle.plant.specs.declared.plant.PlantFields.{PlantFields};
 ghost use Rattle.plant_runs.specs.declared.step.Step.{Step};
 ghost use Rattle.plant_workers.specs.Faulting.{IsOfRun};
+ghost use Rattle.plant_workers.specs.Refusing.{own_turn, lesser, IsLeastTurn};
 
-use crate::part::Part;
 use map_assembly::GatherFault;
 use operator_book::BookFault;
 use plant::Op;
 use plant_core::CoreFault;
-use plant_receipts::{Receipt, RunFault};
-use plant_turns::CellFault;
-
-/// A receipt, and the operator that gave it.
-#[derive(Drop)]
-pub(crate) struct Told {
-    pub op: Op,
-    pub receipt: Receipt,
-}
+use plant_receipts::RunFault;
+use plant_turns::{CellFault, Told};
 
 /// Why a thread ended before its last job.
 #[derive(Clone, Copy)]
@@ -31,26 +25,25 @@ pub(crate) enum Refusal {
 /// What a thread of a run tells when it has ended.
 #[derive(Drop)]
 pub(crate) struct Tale {
-    pub part: Part,
     pub told: Vec<Told>,
     pub refused: Option<Refusal>,
 }
 
 /// The fault of a run of which an operator refused a turn.
 fn fault_of_turn(op: Op, fault: CellFault) -> RunFault
-    ensures { (steps : List Step) → IsOfRun steps result }
+    ensures { (plant : PlantFields) (steps : List Step) → IsOfRun plant steps result }
 {
     match fault {
         CellFault::Book(BookFault::NoMemory) => RunFault::NoMemory,
         CellFault::Book(refused) => RunFault::Core(CoreFault::Book(refused)),
         CellFault::Passed { op: _, index } => RunFault::Strayed { op, index },
-        CellFault::Stopped { op: _ } => RunFault::NoMemory,
+        CellFault::Stopped { op: _ } | CellFault::Closed => RunFault::NoMemory,
     }
 }
 
 /// The fault of a run of which the assembly refused a frame.
 fn fault_of_assembly(fault: GatherFault) -> RunFault
-    ensures { (steps : List Step) → IsOfRun steps result }
+    ensures { (plant : PlantFields) (steps : List Step) → IsOfRun plant steps result }
 {
     match fault {
         GatherFault::NoMemory => RunFault::NoMemory,
@@ -58,27 +51,41 @@ fn fault_of_assembly(fault: GatherFault) -> RunFault
     }
 }
 
-/// Whether an operator refused a turn for itself, and not for another's sake.
-fn is_own(fault: CellFault) -> bool {
-    match fault {
-        CellFault::Stopped { op: _ } => false,
-        CellFault::Book(_) | CellFault::Passed { op: _, index: _ } => true,
+/// Returns the turn on which a thread ended, if the operator refused it for itself, and was not stopped for another's sake.
+fn own_turn(refused: Option<Refusal>) -> Option<(Op, CellFault)>
+    ensures { result ≡ own_turn refused }
+{
+    match refused {
+        None
+        | Some(Refusal::Assembly(_))
+        | Some(
+            Refusal::Turn {
+                op: _,
+                fault: CellFault::Stopped { op: _ } | CellFault::Closed,
+            },
+        ) => None,
+        Some(Refusal::Turn { op, fault }) => Some((op, fault)),
     }
 }
 
-/// The turn that the least operator refused for itself.
-fn least_turn(tales: &[Tale]) -> Option<(Op, CellFault)> {
-    let mut least: Option<(Op, CellFault)> = None;
+/// Returns the turn of the lesser operator, where there are two.
+fn lesser(a: Option<(Op, CellFault)>, b: Option<(Op, CellFault)>) -> Option<(Op, CellFault)>
+    ensures { result ≡ lesser a b }
+{
+    match (a, b) {
+        (Some(a), Some(b)) => { if b.0 < a.0 { Some(b) } else { Some(a) } }
+        (Some(a), None) => Some(a),
+        (None, b) => b,
+    }
+}
+
+/// Returns the turn that the least operator refused for itself.
+fn least_turn(tales: &[Tale]) -> Option<(Op, CellFault)>
+    ensures { IsLeastTurn (map (λ tale. tale.refused) tales.now) result }
+{
+    let mut least = None;
     for tale in tales {
-        if let Some(Refusal::Turn { op, fault }) = tale.refused {
-            let before = match least {
-                Some((other, _)) => op < other,
-                None => true,
-            };
-            if before && is_own(fault) {
-                least = Some((op, fault));
-            }
-        }
+        least = lesser(least, own_turn(tale.refused));
     }
     least
 }
@@ -101,7 +108,7 @@ fn is_any_refused(tales: &[Tale]) -> bool {
 /// Why the threads ended before their last jobs: the fault of the least operator that refused a turn for itself, else that
 /// of the assembly.
 pub(crate) fn first_fault(tales: &[Tale]) -> Option<RunFault>
-    ensures { IfSome result (λ fault. (steps : List Step) → IsOfRun steps fault) }
+    ensures { IfSome result (λ fault. (plant : PlantFields) (steps : List Step) → IsOfRun plant steps fault) }
 {
     if let Some((op, fault)) = least_turn(tales) {
         return Some(fault_of_turn(op, fault));

@@ -7,7 +7,7 @@ use Rattle.plant_outcomes.proofs.comparing.compare.Goals as goal
 pub returns : goal.returns
 returns g c = record {
   ok = outcome_of_these view_of c.as_slice-books.result.now c.args.settled.books.items c.as_slice-books.ensures.value c.args.plant.now c.args.steps.now c.args.assembly
-      c.args.settled.receipts.items c.into_maps-maps.result.items (c.as_slice-books.ensures.len ∙ c.requires.one_each) (omega (arith, c.as_slice-books.ensures.len, c.requires.callers_each, c.args.settled.receipts.ok)) c.requires.merged c.requires.ticked c.always.ensures.made c.always.ensures.gathering
+      c.args.settled.receipts.items c.into_maps-maps.result.items (c.as_slice-books.ensures.len ∙ c.requires.one_each) (omega (arith, c.as_slice-books.ensures.len, c.requires.callers_each, c.args.settled.receipts.ok)) c.requires.merged c.requires.by_callers c.requires.ticked c.always.ensures.made c.always.ensures.gathering
       c.into_maps-maps.ensures c.in_default.ensures.ok;
   books = refl;
   receipts = refl;
@@ -18,8 +18,10 @@ returns g c = record {
     λ wrong. cc,
     λ stray. absurd (no_stray_of_these view_of c.as_slice-books.result.now c.args.settled.books.items c.as_slice-books.ensures.value c.args.plant.now c.args.steps.now c.args.assembly c.in_default.ensures.ok.0 op index stray),
   );
-  map_strayed = λ frame found.
-      absurd (no_map_stray_of_these view_of c.as_slice-books.result.now c.args.settled.books.items c.as_slice-books.ensures.value c.args.plant.now c.args.steps.now c.args.assembly c.in_default.ensures.ok.1 c.in_default.ensures.ok.2 frame found.1);
+  map_strayed = λ frame. (
+    λ wrong. cc,
+    λ found. absurd (no_map_stray_of_these view_of c.as_slice-books.result.now c.args.settled.books.items c.as_slice-books.ensures.value c.args.plant.now c.args.steps.now c.args.assembly c.in_default.ensures.ok.1 c.in_default.ensures.ok.2 frame found.1),
+  );
 }
 
 pub returns-in-Err-clause-err : goal.returns-in-Err-clause-err

@@ -5,7 +5,7 @@ use Rattle.operator_book.specs.ViewOf.{view_of}
 use Rattle.plant_outcomes.specs.declared.placing.Placing.{Placing}
 use Rattle.plant_outcomes.specs.Straying.{ArePut, IsPutStray}
 use Rattle.plant_outcomes.specs.Numbering.{AllAreNumbered}
-use Rattle.plant_outcomes.proofs.Judging.{all_numbered, map_told, ok_weaker}
+use Rattle.plant_outcomes.proofs.Judging.{all_numbered, map_told}
 use Rattle.plant_outcomes.proofs.comparing.first_map_stray.Goals as goal
 
 pub returns : goal.returns
@@ -13,9 +13,7 @@ returns g c =
     let same : c.args.assembly.now.plant ≡ c.args.plant.now = sym c.plant.ensures ∙ c.if-not-is_same_plant.ensures.0 refl in
     let long = length-map c.args.books.now view_of in
     let are = all_numbered c.args.plant.now c.args.steps.now (map view_of c.args.books.now) c.args.assembly.now (omega (arith, long, c.requires.one_each)) c.requires.own same c.always.ensures.made in
-    ok_weaker _ _ c.first_put_stray.result
-    (λ o told. map_told c.args.plant.now c.args.steps.now (map view_of c.args.books.now) c.args.assembly.now same o
+    map_told c.args.plant.now c.args.steps.now (map view_of c.args.books.now) c.args.assembly.now same c.first_put_stray.result
     (subst (λ (ps : List Placing). AllAreNumbered c.args.plant.now.consts.channel.first_frame c.args.steps.now (map view_of c.args.books.now) ps
-    → MatchOption o (ArePut c.args.steps.now (map view_of c.args.books.now) ps) (IsPutStray c.args.plant.now.consts.channel.first_frame c.args.steps.now (map view_of c.args.books.now) ps))
-    c.placings.ensures (told c.args.plant.now.consts.channel.first_frame) are))
-    c.first_put_stray.ensures
+    → MatchOption c.first_put_stray.result (ArePut c.args.steps.now (map view_of c.args.books.now) ps) (IsPutStray c.args.plant.now.consts.channel.first_frame c.args.steps.now (map view_of c.args.books.now) ps))
+    c.placings.ensures (c.first_put_stray.ensures c.args.plant.now.consts.channel.first_frame) are)

@@ -1,10 +1,11 @@
 use Rattle.std.proofs.Common.{◌≡◌, ◌≤◌, ◌++◌, take, drop, length}
+use Rattle.plant_core.specs.Waiting.{frames_in, waiting_in}
 use Rattle.plant_outcomes.specs.Placings.{puts_of}
-use Rattle.plant_receipts.specs.Framing.{numbered}
 use Rattle.plant_outcomes.proofs.putting.first_missed.Given as goal
 
 abbrev pub invariant-loop-placing : goal.invariant-loop-placing
 invariant-loop-placing l = record {
-  within : l.place ≤ length l.due;
-  followed : puts_of l.op l.placings ≡ take l.place (numbered l.due) ++ puts_of l.op (drop l.placing-index l.placings);
+  within : l.given ≤ length (take l.due (frames_in l.history));
+  left : waiting_in l.history l.from ≡ drop l.given (frames_in l.history);
+  followed : puts_of l.op l.placings ≡ take l.given (take l.due (frames_in l.history)) ++ puts_of l.op (drop l.placing-index l.placings);
 }

@@ -1,0 +1,15 @@
+use Rattle.std.proofs.Common.{length, map, ap, arith}
+use Rattle.std.proofs.lemmas.List.{length-map}
+use Rattle.plant_turns.specs.HeldView.{book_of}
+use Rattle.plant_workers.proofs.following.fault_of_reslice.Goals as goal
+
+pub returns-in-None : goal.returns-in-None
+returns-in-None g c =
+    let long = length-map c.args.helds.now book_of in
+    let rows = ap length c.rows.ensures.value in
+    record {
+      books = map book_of c.args.helds.now;
+      one_each = omega (arith, long, rows, c.if-helds-rows.false);
+      own = c.in-None.ensures;
+      refused = record { from = c.requires.from; rows = c.requires.rows; step_is = c.requires.step_is; fault_is = rw c.in-Reslice.is at c.requires.told };
+    }

@@ -1,0 +1,11 @@
+use Rattle.std.proofs.Common.{◌≡◌, ℕ, ◌<◌, map, Some}
+use Rattle.std.specs.Prelude.{slice_get}
+use Rattle.plant.specs.declared.operator_row.RowFields.{RowFields}
+use Rattle.operator_machine.specs.Replay.{BookView}
+use Rattle.plant_turns.specs.HeldView.{book_of}
+use Rattle.plant_runs.specs.Reached.{IsBookAfter}
+use Rattle.plant_workers.proofs.following.first_stray.Given as goal
+
+abbrev pub invariant-loop-op : goal.invariant-loop-op
+invariant-loop-op g l =
+    (i : ℕ) (row : RowFields) (book : BookView) → i < l.op → slice_get l.plant.rows i ≡ Some row → slice_get (map book_of l.helds) i ≡ Some book → IsBookAfter l.plant l.steps i row book

@@ -1,0 +1,53 @@
+//! Whether operators' books follow the first steps of a run.
+
+ghost use Rattle.std.specs.Prelude.{◌≡◌, length, map, take, MatchOption};
+ghost use Rattle.plant_outcomes.specs.Straying.{AreOwn, IsStray};
+ghost use Rattle.plant_turns.specs.HeldView.{book_of};
+ghost use Rattle.plant_workers.specs.Faulting.{IsToldAt, IsOfRun};
+
+use plant::{Op, Plant};
+use plant_core::CoreFault;
+use plant_outcomes::stray_at;
+use plant_receipts::RunFault;
+use plant_runs::Step;
+use plant_turns::Held;
+
+/// Finds the least operator whose history strays from its own steps, and where it does. Takes no memory.
+fn first_stray(plant: &Plant, helds: &[Held], steps: &[Step]) -> Option<(Op, usize)>
+    requires { length helds.now ≡ length plant.now.rows }
+    ensures { MatchOption result (AreOwn plant.now steps.now (map book_of helds.now))
+        (λ stray. IsStray plant.now steps.now (map book_of helds.now) stray.0 stray.1) }
+{
+    for (op, held) in helds.iter().enumerate() {
+        if let Some(index) = stray_at(plant, op, &held.desk.book, steps) {
+            return Some((op, index));
+        }
+    }
+    None
+}
+
+/// Returns the fault of a run of which the Reslice at this place was refused: that refusal, where the books are what the
+/// steps before it make of the plant; else where the first of them strays. Takes no memory.
+pub(crate) fn fault_of_reslice(
+    plant: &Plant,
+    helds: &[Held],
+    steps: &[Step],
+    at: usize,
+    fault: CoreFault,
+) -> RunFault
+    requires { IsToldAt steps.now at (map book_of helds.now) fault }
+    ensures { IsOfRun plant.now steps.now result }
+{
+    match fault {
+        CoreFault::Reslice(fault) => {
+            if helds.len() != plant.rows().len() {
+                return RunFault::NoMemory;
+            }
+            match first_stray(plant, helds, &steps[..at]) {
+                Some((op, index)) => RunFault::Strayed { op, index },
+                None => RunFault::ResliceRefused { at, fault },
+            }
+        }
+        _ => RunFault::NoMemory,
+    }
+}
