@@ -20,8 +20,8 @@ use Rattle.plant_passes.specs.declared.view.View.{View}
 use Rattle.plant_passes.specs.declared.view.Held.{Held}
 use Rattle.plant_passes.specs.Runs.{origin_of, IsRun, state_after}
 use Rattle.plant_passes.specs.Words.{entry_of, mark, entries, places}
-use Rattle.plant_passes.specs.Steps.{drawn, Looks, IsInHand, grown, written}
-use Rattle.plant_passes.specs.Passes.{PassView, Acts}
+use Rattle.plant_passes.specs.Steps.{drawn, Looks, IsInHand, grown, written, shut_by}
+use Rattle.plant_passes.specs.Passes.{PassView, Acts, EndsCell}
 use Rattle.plant_passes.specs.Turns.{IsAsked, IsMine, HasInHand}
 use Rattle.plant_passes.proofs.Logs.{entries_push, places_own}
 
@@ -105,7 +105,7 @@ state_is_seen v book action ours is spent =
     subst (λ (s : OperatorState). is_spent s action ≡ true) (is ∙ (λ i. state_after (ours.origin i) (ours.history i))) spent
 
 abbrev pub told_of : {X : Type 0} → TableId → View X → PassView
-told_of cell v = record { cell = cell; me = v.me; origin = v.origin; seen = v.seen; made = v.made; closed = v.closed }
+told_of cell v = record { cell = cell; me = v.me; origin = v.origin; seen = v.seen; made = v.made; closed = v.closed; ended = v.ended }
 
 pub acts_now : {X : Type 0} (cell : TableId) (u : View X) (t index : ℕ) (action : Action) (outputs : List Output) (m1 m3 : Me (Option (Held X)) (View X)) (w : View X) → Looks (drawn u t) m1.0 → IsMine t m1 → m3.0 ≡ m1.0 → 0 < u.me
     → HasInHand (entries m1.0.seen ++ entry_of action outputs ∷ []) m3
@@ -129,8 +129,25 @@ acts_now {X} cell u t index action outputs m1 m3 w looks mine same here held e w
       own = ap (λ l. l ++ length v.seen ∷ []) own ∙ sym (places_own v.me v.seen (entry_of action outputs));
       run = subst (λ (p : Origin × List Entry). IsRun p.0 p.1) (λ i. (b_origin i, b_line i)) held.run;
       going = mine.closed;
+      ended = looks.ended;
     } in
     subst (λ (x : View X). Acts (told_of cell u) action record { index = index; action = action; outputs = outputs } (told_of cell' x)) (sym w_is) good
+
+-- a pass whose turn was refused, and closed the cell
+pub ends_now : {X : Type 0} (cell : TableId) (u : View X) (t : ℕ) (v m w : View X) → Looks (drawn u t) v → m ≡ v → 0 < u.me → w ≡ shut_by m → (cell' : TableId) → cell' ≡ cell → EndsCell (told_of cell u) (told_of cell' w)
+ends_now {X} cell u t v m w looks same here end cell' same_cell =
+    let good : EndsCell (told_of cell u) (told_of cell' (shut_by v)) = (
+      record {
+        same = record { cell = same_cell; me = looks.me; origin = looks.origin };
+        seen = looks.seen;
+        made = looks.made;
+        own = looks.own here;
+        run = looks.run here;
+      },
+      refl,
+      refl,
+    ) in
+    subst (λ (x : View X). EndsCell (told_of cell u) (told_of cell' x)) (sym (end ∙ ap shut_by same)) good
 
 -- what the book in hand has beside what is kept follows the policy of the book's row
 pub in_hand_follows : {X : Type 0} (policy : X → Policy) (v : View X) (b : Held X) → option_map policy v.rest ≡ Some v.origin.row.policy → IsOurs v b → policy b.rest ≡ b.kept.book.row.policy

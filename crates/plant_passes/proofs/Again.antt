@@ -17,6 +17,7 @@ pub record Stays {X : Type 0} (v w : View X) : Type 0 where
   pub me : w.me ≡ v.me
   pub parts : w.parts ≡ v.parts
   pub opens : w.opens ≡ v.opens
+  pub ended : w.ended ≡ v.ended
   pub origin : w.origin ≡ v.origin
   pub rest_is : w.rest ≡ v.rest
   pub made : w.made ≡ v.made
@@ -25,13 +26,14 @@ pub record Stays {X : Type 0} (v w : View X) : Type 0 where
   pub closed : v.closed ≡ true → w.closed ≡ true
 
 pub stays_here : {X : Type 0} (v : View X) → Stays v v
-stays_here v = record { me = refl; parts = refl; opens = refl; origin = refl; rest_is = refl; made = refl; kept = refl; seen = begins_self v.seen; closed = λ h. h }
+stays_here v = record { me = refl; parts = refl; opens = refl; ended = refl; origin = refl; rest_is = refl; made = refl; kept = refl; seen = begins_self v.seen; closed = λ h. h }
 
 pub stays_on : {X : Type 0} (u v w : View X) (r : ℕ) → Stays u v → Looks v w → (v.closed ≡ true → w.closed ≡ true) → Stays u w
 stays_on u v w r a b closed = record {
   me = b.me ∙ a.me;
   parts = b.parts ∙ a.parts;
   opens = b.opens ∙ a.opens;
+  ended = b.ended ∙ a.ended;
   origin = b.origin ∙ a.origin;
   rest_is = b.rest_is ∙ a.rest_is;
   made = b.made ∙ a.made;
@@ -45,6 +47,7 @@ looks_on u v w a b = record {
   me = b.me ∙ a.me;
   parts = b.parts ∙ a.parts;
   opens = b.opens ∙ a.opens;
+  ended = b.ended ∙ a.ended;
   origin = b.origin ∙ a.origin;
   rest_is = b.rest_is ∙ a.rest_is;
   made = b.made ∙ a.made;

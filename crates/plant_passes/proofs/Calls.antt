@@ -1,5 +1,5 @@
 -- What a call of a cell answers, of what its steps answered.
-use Rattle.std.proofs.Common.{◌≡◌, ◌≢◌, true, [], ◌∷◌, ◌++◌, length, Result, Ok, Err, IfErr, IsErrAnd, sym, subst, ap, ◌∙◌, append_assoc, arith}
+use Rattle.std.proofs.Common.{◌≡◌, ◌≢◌, inl, true, false, [], ◌∷◌, ◌++◌, length, Result, Ok, Err, IfErr, IsErrAnd, sym, subst, ap, ◌∙◌, append_assoc, arith}
 use Rattle.std.proofs.lemmas.Bool.Decides.{nat_tests}
 use Rattle.dsx_messages.specs.declared.modem.Modem.{Modem}
 use Rattle.operator_machine.specs.declared.action.Action.{Action}
@@ -7,17 +7,18 @@ use Rattle.operator_machine.specs.declared.action.Action.TheVariants.{Arrive, Wo
 use Rattle.operator_machine.specs.declared.action.Unfit as misfits
 use Rattle.operator_machine.specs.State.{OperatorState}
 use Rattle.operator_machine.specs.Machine.{is_spent}
+use Rattle.operator_book.specs.declared.book.BookFault.{BookFault}
 use Rattle.operator_book.specs.declared.book.BookFault.TheVariants.{NotMine, FramesSpent, Unfit, NoMemory}
-use Rattle.plant_passes.specs.declared.receipt.Receipt.{Receipt}
-use Rattle.plant_passes.specs.declared.receipt.CellFault.{CellFault}
-use Rattle.plant_passes.specs.declared.receipt.CellFault.TheVariants.{Book, Closed}
+use Rattle.plant_receipts.specs.declared.receipt.Receipt.{Receipt}
+use Rattle.plant_turns.specs.declared.cell_fault.CellFault.{CellFault}
+use Rattle.plant_turns.specs.declared.cell_fault.CellFault.TheVariants.{Book, Passed, Stopped, Closed}
 use Rattle.plant_passes.specs.Words.{entry_of, mark}
-use Rattle.plant_passes.specs.Passes.{PassView, Acts, LooksOn, FindsClosed, Refuses, state_seen}
+use Rattle.plant_passes.specs.Passes.{PassView, Acts, LooksOn, EndsCell, RefusesTurn, RefusesArrival, state_seen}
 use Rattle.plant_passes.proofs.Again.{begins_again}
 
 -- an action after a look, told by a copy of it
-pub acts_later : (p q s : PassView) (action told : Action) (r : Receipt) → LooksOn p q → told ≡ action → Acts q action r s → Acts p action record { index = r.index; action = told; outputs = r.outputs } s
-acts_later p q s action told r look is acts =
+pub acts_later : (p q s : PassView) (action told : Action) (r : Receipt) → LooksOn p q → q.ended ≡ p.ended → told ≡ action → Acts q action r s → Acts p action record { index = r.index; action = told; outputs = r.outputs } s
+acts_later p q s action told r look same is acts =
     let all : q.seen ++ acts.seen.0 ≡ p.seen ++ (look.seen.0 ++ acts.seen.0) = ap (λ l. l ++ acts.seen.0) look.seen.1 ∙ append_assoc p.seen look.seen.0 acts.seen.0 in record {
       same = record { cell = acts.same.cell ∙ look.same.cell; me = acts.same.me ∙ look.same.me; origin = acts.same.origin ∙ look.same.origin };
       action_is = is;
@@ -26,20 +27,33 @@ acts_later p q s action told r look is acts =
       own = acts.own;
       run = acts.run;
       going = acts.going;
+      ended = acts.ended ∙ same;
     }
 
--- a cell that is found closed after a look
-pub closed_later : (p q s : PassView) → LooksOn p q → FindsClosed q s → FindsClosed p s
-closed_later p q s a b = (
-  record {
-    same = record { cell = b.0.same.cell ∙ a.same.cell; me = b.0.same.me ∙ a.same.me; origin = b.0.same.origin ∙ a.same.origin };
-    seen = begins_again p.seen q.seen s.seen a.seen b.0.seen;
-    made = b.0.made ∙ a.made;
-    own = b.0.own;
-    run = b.0.run;
-  },
-  b.1,
-)
+-- one look after another
+looks_later : (p q s : PassView) → LooksOn p q → LooksOn q s → LooksOn p s
+looks_later p q s a b = record {
+  same = record { cell = b.same.cell ∙ a.same.cell; me = b.same.me ∙ a.same.me; origin = b.same.origin ∙ a.same.origin };
+  seen = begins_again p.seen q.seen s.seen a.seen b.seen;
+  made = b.made ∙ a.made;
+  own = b.own;
+  run = b.run;
+}
+
+-- an arrival that is refused in its turn, after a look
+pub refused_later : (p q s : PassView) (fault : CellFault) → LooksOn p q → q.ended ≡ p.ended → RefusesTurn q fault s → RefusesArrival p fault s
+refused_later p q s (Book (NotMine modem)) look same h = absurd h
+refused_later p q s (Book FramesSpent) look same h = ((looks_later p q s look h.0.0, h.0.1, h.0.2), h.1)
+refused_later p q s (Book (Unfit why)) look same h = absurd h
+refused_later p q s (Book NoMemory) look same h = inl (looks_later p q s look h.0, h.1, h.2)
+refused_later p q s (Passed op index) look same h = absurd h
+refused_later p q s (Stopped op) look same h = absurd h
+refused_later p q s Closed look same h = (looks_later p q s look h.0, h.1, h.2 ∙ same)
+
+-- what a refused call passes on
+pub refused_now : {B : Type 0} (R : CellFault → Type 0) (fault : CellFault) (out : Result B CellFault) → IsErrAnd out (λ f. f ≡ fault) → R fault → IfErr out R
+refused_now R fault (Ok b) out h = tt
+refused_now R fault (Err e) out h = subst R (sym out) h
 
 spent_frame : (s : OperatorState) (action : Action) → is_spent s action ≡ true → s.frame ≡ 4294967295
 spent_frame s (Arrive modem heard) h = absurd (cc h)
@@ -47,18 +61,15 @@ spent_frame s Work h = absurd (cc h)
 spent_frame s Tick h = grind (arith, nat_tests)
 spent_frame s (Reslice from row) h = absurd (cc h)
 
-refuses : {A : Type 0} (p q : PassView) (action : Action) (r : Result A CellFault) (fault : CellFault) → r ≡ Err fault → FindsClosed p q
-    → ((modem : Modem) → r ≢ Err (Book (NotMine modem))) → ((why : misfits.Unfit) → r ≢ Err (Book (Unfit why)))
-    → (r ≡ Err (Book FramesSpent) → is_spent (state_seen q) action ≡ true) → Refuses p fault q
-refuses p q action r (Book (NotMine modem)) is found mine fits spent = absurd (mine modem is)
-refuses p q action r (Book FramesSpent) is found mine fits spent = (found, spent_frame (state_seen q) action (spent is))
-refuses p q action r (Book (Unfit why)) is found mine fits spent = absurd (fits why is)
-refuses p q action r (Book NoMemory) is found mine fits spent = found.0
-refuses p q action r Closed is found mine fits spent = found
+-- a refusal of the book in its turn, which closes the cell
+pub refuses_turn : {A : Type 0} (p q : PassView) (action : Action) (r : Result A BookFault) (fault : BookFault) → r ≡ Err fault → EndsCell p q
+    → ((modem : Modem) → r ≢ Err (NotMine modem)) → ((why : misfits.Unfit) → r ≢ Err (Unfit why))
+    → (r ≡ Err FramesSpent → is_spent (state_seen q) action ≡ true) → RefusesTurn p (Book fault) q
+refuses_turn p q action r (NotMine modem) is ended mine fits spent = absurd (mine modem is)
+refuses_turn p q action r FramesSpent is ended mine fits spent = (ended, spent_frame (state_seen q) action (spent is))
+refuses_turn p q action r (Unfit why) is ended mine fits spent = absurd (fits why is)
+refuses_turn p q action r NoMemory is ended mine fits spent = ended
 
--- what a refusal leaves that is passed on, for no stranger and no misfit
-pub passes_on : {A B : Type 0} (p q : PassView) (action : Action) (r : Result A CellFault) (fault : CellFault) (out : Result B CellFault) → r ≡ Err fault → IsErrAnd out (λ f. f ≡ fault) → FindsClosed p q
-    → ((modem : Modem) → r ≢ Err (Book (NotMine modem))) → ((why : misfits.Unfit) → r ≢ Err (Book (Unfit why)))
-    → (r ≡ Err (Book FramesSpent) → is_spent (state_seen q) action ≡ true) → IfErr out (λ f. Refuses p f q)
-passes_on p q action r fault (Ok b) is out found mine fits spent = tt
-passes_on p q action r fault (Err e) is out found mine fits spent = subst (λ f. Refuses p f q) (sym out) (refuses p q action r fault is found mine fits spent)
+-- a tick that was refused memory was not one past the last frame
+pub not_last_frame : (s : OperatorState) → is_spent s Tick ≡ false → s.frame ≢ 4294967295
+not_last_frame s h e = grind (arith, nat_tests)

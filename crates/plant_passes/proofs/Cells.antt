@@ -13,7 +13,6 @@ use Rattle.plant_passes.specs.Runs.{origin_of}
 use Rattle.plant_passes.specs.Rule.{Serves}
 use Rattle.plant_passes.proofs.Logs.{begins_self}
 use Rattle.plant_passes.proofs.Moves.{ends}
-use Rattle.plant_passes.proofs.Acting.{has_rest}
 use Rattle.plant_passes.specs.declared.view.Origin.{Origin}
 use Rattle.plant_passes.specs.declared.view.Mark.{Mark}
 use Rattle.plant_passes.specs.declared.view.View.{View}
@@ -87,20 +86,19 @@ no_hands [] e = refl
 no_hands (x ∷ l) e = absurd (omega arith)
 
 -- the book that lies in the slot, where every pass was taken in
-pub the_book : {A X : Type 0} (policy : X → Policy) (origin : Origin) (passes start : ℕ) (s : State (Option (Held X)) (View X)) → Serves origin passes start s → (id : ℕ) (v : View X) → get_elem? s.views id ≡ some v → length s.homes ≡ 1
+pub the_book : {A X : Type 0} (policy : X → Policy) (origin : Origin) (beside : X) (passes : ℕ) (s : State (Option (Held X)) (View X)) → Serves origin beside passes s → (id : ℕ) (v : View X) → get_elem? s.views id ≡ some v → length s.homes ≡ 1
     → (xs ys : List A) (f : A → PassView) → xs ≡ ys → Gathers (map f ys) v → option_map policy v.rest ≡ Some v.origin.row.policy → passes ≤ length xs
     → (b : Held X) × (get_elem? s.homes 0 ≡ some (some (Some b))) × (origin_of b.kept.book ≡ origin) × IsLongest (map f xs) b.kept.book.history × (policy b.rest ≡ b.kept.book.row.policy)
-the_book {A} {X} policy origin passes start s rule id v at one xs ys f same gathers follows enough =
+the_book {A} {X} policy origin beside passes s rule id v at one xs ys f same gathers follows enough =
     let both = gathers_of xs ys f v same gathers in
     let g = both.0 in
     let parts = both.1 in
-    let has = has_rest policy v.rest v.origin.row.policy follows in
-    let e = ends X origin passes start s rule id v has.0 has.1 g.named at one (omega arith) g.holds in
-    let p : Some (policy has.0) ≡ Some v.origin.row.policy = ap (option_map policy) (sym has.1) ∙ follows in
-    let q : policy has.0 ≡ v.origin.row.policy = cc p in (
+    let e = ends X origin beside passes s rule id v g.named at one (omega arith) g.holds in
+    let p : Some (policy e.0.rest) ≡ Some v.origin.row.policy = ap (option_map policy) (sym e.5) ∙ follows in
+    let q : policy e.0.rest ≡ v.origin.row.policy = cc p in (
       e.0,
       e.1,
       e.4,
       record { longest = v.seen; among = g.among; begins = g.begins v.seen (begins_self v.seen) e.3; entries_are = e.2 },
-      ap policy e.5 ∙ (q ∙ (ap (λ (o : Origin). o.row.policy) e.6 ∙ ap (λ (o : Origin). o.row.policy) (sym e.4))),
+      q ∙ (ap (λ (o : Origin). o.row.policy) e.6 ∙ ap (λ (o : Origin). o.row.policy) (sym e.4)),
     )

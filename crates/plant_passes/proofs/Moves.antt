@@ -1,13 +1,12 @@
 -- Each kind of step keeps the rule, and tells what it is to tell.
-use Rattle.std.proofs.Common.{◌≡◌, ◌≢◌, ℕ, ◌+◌, ◌-◌, ◌<◌, ◌≤◌, eqb, Bool, true, false, cond, ◌||◌, ◌⊎◌, List, [], ◌∷◌, ◌++◌, length, set, get_or, Some, None, Option, sym, refl, ap, ◌∙◌, subst, inl, inr, ⊎_elim, arith, length-append, length-set, ne_eqb, eq-eqb, get_or-set_same, get_or-set_other}
+use Rattle.std.proofs.Common.{◌≡◌, ◌≢◌, ℕ, ◌+◌, ◌-◌, ◌<◌, ◌≤◌, eqb, Bool, true, false, cond, ◌||◌, ◌⊎◌, List, [], ◌∷◌, ◌++◌, length, set, get_or, Some, None, Option, sym, refl, ap, ◌∙◌, subst, inl, inr, ⊎_elim, arith, length-append, ne_eqb, eq-eqb}
 use mathlib.Core.Option.{some, none, some-injective, some-ne-none}
 use mathlib.Core.Option as maths
 use mathlib.Core.Logic.{dite}
 use native.Mathlib.Decide.{ℕ_discrete}
 use lib.ListN.{get_elem?}
-use lib.Seq.{set-get_or}
 use prog.Atomic.{either}
-use Rattle.atomic_table.specs.Table.{State, Me, step, keeps, takes, gives, stepped, rest, opening, Allows, Splits, Joins}
+use Rattle.atomic_table.specs.Table.{State, Me, Act, Valid, step, keeps, takes, gives, stepped, carried_after, opening, Allows, Splits, Joins}
 use Rattle.atomic_table.proofs.Lists.{at_set, set_else, set_again, at_longer, at_last}
 use Rattle.operator_machine.specs.declared.action.Entry.{Entry}
 use Rattle.plant_passes.specs.declared.view.Origin.{Origin}
@@ -15,10 +14,10 @@ use Rattle.plant_passes.specs.Runs.{origin_of, IsRun}
 use Rattle.plant_passes.specs.declared.view.Mark.{Mark}
 use Rattle.plant_passes.specs.declared.view.View.{View}
 use Rattle.plant_passes.specs.declared.view.Held.{Held}
-use Rattle.plant_passes.specs.Words.{closing, mark, marks, entries, places, StartsWith, BeginsAll, opener, grabber, starter, dealer, dealt, copy, joined, spent}
-use Rattle.plant_passes.specs.Rule.{Knows, Apart, Expert, IsBookAfter, IsOut, Serves}
-use Rattle.plant_passes.specs.Steps.{drawn, drew, looked, grown, advanced, shut_by, shut, grabbed, started}
-use Rattle.plant_passes.proofs.Logs.{begins_self, begins_more, begins_all_more, longer_begins, longer_whole_left, longer_whole_right, places_other, places_own, places_past, entries_push, entries_marks, length_marks, parts_set, parts_append, set_at, at_one, at_end, at_below, parts_two}
+use Rattle.plant_passes.specs.Words.{closing, mark, marks, entries, places, StartsWith, BeginsAll, opener, dealer, dealt, copy, joined, spent}
+use Rattle.plant_passes.specs.Rule.{Progress, Knows, IsDrawn, Apart, Expert, IsBookAfter, IsOut, Serves}
+use Rattle.plant_passes.specs.Steps.{drawn, drew, looked, grown, advanced, shut_by, shut}
+use Rattle.plant_passes.proofs.Logs.{begins_self, begins_more, begins_all_more, longer_begins, longer_whole_left, longer_whole_right, places_other, places_own, places_past, entries_push, entries_marks, length_marks, parts_set, parts_append, set_at, at_one, at_end, parts_two}
 
 -- what a change of one view keeps
 
@@ -61,6 +60,18 @@ held_stays {X} vs me v w x at still = dite (ℕ_discrete x.0 me)
     (me, w, set_at vs me v w at, still (ap (λ (u : View X). u.holds) (sym same) ∙ x.3)))
     (λ ne. (x.0, x.1, set_else vs me x.0 w ne ∙ x.2, x.3))
 
+-- a ticket that is out stays out, where the one seat that changes keeps it
+pub drawn_stays : {X : Type 0} (vs : List (View X)) (me : ℕ) (v w : View X) (t : ℕ) → IsDrawn t vs → get_elem? vs me ≡ some v → (v.ticket ≡ Some t → w.ticket ≡ Some t) → IsDrawn t (set vs me w)
+drawn_stays {X} vs me v w t x at still = dite (ℕ_discrete x.0 me)
+    (λ e. let here : get_elem? vs me ≡ some x.1 = subst (λ (k : ℕ). get_elem? vs k ≡ some x.1) e x.2 in
+    let same : x.1 ≡ v = at_one vs me x.1 v here at in
+    (me, w, set_at vs me v w at, still (ap (λ (u : View X). u.ticket) (sym same) ∙ x.3)))
+    (λ ne. (x.0, x.1, set_else vs me x.0 w ne ∙ x.2, x.3))
+
+-- it stays out where a seat is added
+pub drawn_longer : {X : Type 0} (vs : List (View X)) (w : View X) (t : ℕ) → IsDrawn t vs → IsDrawn t (vs ++ w ∷ [])
+drawn_longer vs w t x = (x.0, x.1, at_longer vs (w ∷ []) x.0 x.1 x.2, x.3)
+
 has_ticket : (o : Option ℕ) (n : ℕ) → Dec (o ≡ Some n)
 has_ticket None n = no (λ e. cc)
 has_ticket (Some t) n = dite (ℕ_discrete t n) (λ e. yes (ap Some e)) (λ ne. no (λ e. ne (let h : t ≡ n = cc in h)))
@@ -76,7 +87,7 @@ slot_is : {S : Type 0} (hs : List (maths.Option S)) (a b : maths.Option S) → l
 slot_is [] a b e h = absurd (omega arith)
 slot_is (x ∷ hs) a b e h = some-injective a b h
 
-module _ (X : Type 0) (origin : Origin) (passes start : ℕ) where
+module _ (X : Type 0) (origin : Origin) (beside : X) (passes : ℕ) where
   abbrev S : Type 0
   S = Option (Held X)
 
@@ -87,40 +98,42 @@ module _ (X : Type 0) (origin : Origin) (passes start : ℕ) where
   St = State S (View X)
 
   abbrev Rule : St → Type 0
-  Rule = Serves origin passes start
+  Rule = Serves origin beside passes
 
-  abbrev w0 : St → ℕ
-  w0 s = get_or s.words 0 0
+  abbrev Known : Progress → ℕ → View X → Type 0
+  Known = Knows origin beside
 
-  abbrev w1 : St → ℕ
-  w1 s = get_or s.words 1 0
+  -- each ticket of this cell is out at one of these seats
+  abbrev AreDrawn : Progress → List (View X) → Type 0
+  AreDrawn now views = now.serving ≢ closing → (t : ℕ) → now.serving ≤ t → t < now.tickets → IsDrawn t views
 
-  -- a step of the seat `id`, whose view was v and is w
-  moved : (s : St) (r : Rule s) (id : ℕ) (v w : View X) (ws : List ℕ) (hs : List (maths.Option S)) (log : List Mark) (n0 n1 : ℕ)
-      → get_elem? s.views id ≡ some v → length ws ≡ 2 → get_or ws 0 0 ≡ n0 → get_or ws 1 0 ≡ n1 → n1 < closing → (n0 ≢ closing → n0 ≤ n1) → (n0 ≢ closing → (x : X) → r.rest ≡ Some x → n0 ≡ length log) → (r.rest ≡ None → n0 ≡ start)
-      → Knows origin r.rest log n0 n1 r.seat r.left r.opens id w
-      → ((j : ℕ) (d : View X) → j ≢ id → get_elem? s.views j ≡ some d → Knows origin r.rest log n0 n1 r.seat r.left r.opens j d)
-      → IsTicket s.views v w → w.parts ≡ v.parts → Expert log (set s.views id w)
-      → ((x : ℕ) → 0 < x → x ≤ r.left → places x log ≡ [])
-      → ((y : S) (x : X) → r.rest ≡ Some x → get_elem? hs 0 ≡ some (some y) → IsBookAfter origin log x y)
+  serving_is : (s : St) (r : Rule s) → get_or s.words 0 0 ≡ r.now.serving
+  serving_is s r = ap (λ (ws : List ℕ). get_or ws 0 0) r.words
+
+  tickets_are : (s : St) (r : Rule s) → get_or s.words 1 0 ≡ r.now.tickets
+  tickets_are s r = ap (λ (ws : List ℕ). get_or ws 1 0) r.words
+
+  -- a step of the seat `id`, whose view was v and is w, after which the cell has come so far
+  moved : (s : St) (r : Rule s) (id : ℕ) (v w : View X) (hs : List (maths.Option S)) (now : Progress)
+      → get_elem? s.views id ≡ some v → now.tickets < closing → (now.serving ≢ closing → (now.serving ≡ length now.log) × (now.serving ≤ now.tickets))
+      → Known now id w
+      → ((j : ℕ) (d : View X) → j ≢ id → get_elem? s.views j ≡ some d → Known now j d)
+      → AreDrawn now (set s.views id w)
+      → IsTicket s.views v w → w.parts ≡ v.parts → Expert now.log (set s.views id w)
+      → ((x : ℕ) → 0 < x → x ≤ now.left → places x now.log ≡ [])
+      → ((y : S) → get_elem? hs 0 ≡ some (some y) → IsBookAfter origin beside now.log y)
       → (get_elem? hs 0 ≡ some none → IsOut (set s.views id w))
-      → IsRun origin (entries log)
-      → Rule record { words = ws; homes = hs; views = set s.views id w }
-  moved s r id v w ws hs log n0 n1 at wide e0 e1 few serving place before_it mine others ticket part expert fresh home out run =
+      → IsRun origin (entries now.log)
+      → Rule record { words = now.serving ∷ now.tickets ∷ []; homes = hs; views = set s.views id w }
+  moved s r id v w hs now at few going mine others out_there ticket part expert fresh home out run =
       let sum = parts_set s.views id v w at in
       let before = r.total in record {
-        log = log;
-        rest = r.rest;
-        seat = r.seat;
-        left = r.left;
-        opens = r.opens;
-        wide = wide;
-        few = omega arith;
-        serving = subst (λ (p : ℕ × ℕ). p.0 ≢ closing → p.0 ≤ p.1) (λ i. (sym e0 i, sym e1 i)) serving;
-        place = subst (λ (n : ℕ). n ≢ closing → (x : X) → r.rest ≡ Some x → n ≡ length log) (sym e0) place;
-        before = λ h. (e0 ∙ before_it h, length-set s.views id w ∙ (r.before h).1);
-        each_seat = subst (λ (p : ℕ × ℕ). (j : ℕ) (d : View X) → get_elem? (set s.views id w) j ≡ some d → Knows origin r.rest log p.0 p.1 r.seat r.left r.opens j d) (λ i. (sym e0 i, sym e1 i))
-            (seats_stay (Knows origin r.rest log n0 n1 r.seat r.left r.opens) s.views id w mine others);
+        now = now;
+        words = refl;
+        few = few;
+        going = going;
+        each_seat = seats_stay (Known now) s.views id w mine others;
+        each_ticket = out_there;
         apart = apart_stay s.views id v w r.apart at ticket;
         total = omega arith;
         expert = expert;
@@ -130,111 +143,112 @@ module _ (X : Type 0) (origin : Origin) (passes start : ℕ) where
         run = run;
       }
 
-  -- a step that changes no word, and after which the log is the same
-  unmoved : (s : St) (r : Rule s) (id : ℕ) (v w : View X) (hs : List (maths.Option S)) (i : ℕ)
+  -- a look, which changes no word, and after which the history is the same
+  unmoved : (s : St) (r : Rule s) (id : ℕ) (v w : View X) (hs : List (maths.Option S))
       → get_elem? s.views id ≡ some v
-      → Knows origin r.rest r.log (w0 s) (w1 s) r.seat r.left r.opens id w
-      → IsTicket s.views v w → w.parts ≡ v.parts → (v.seen ≡ r.log → w.seen ≡ r.log)
-      → ((y : S) (x : X) → r.rest ≡ Some x → get_elem? hs 0 ≡ some (some y) → IsBookAfter origin r.log x y)
+      → Known r.now id w
+      → AreDrawn r.now (set s.views id w)
+      → IsTicket s.views v w → w.parts ≡ v.parts → (v.seen ≡ r.now.log → w.seen ≡ r.now.log)
+      → ((y : S) → get_elem? hs 0 ≡ some (some y) → IsBookAfter origin beside r.now.log y)
       → (get_elem? hs 0 ≡ some none → IsOut (set s.views id w))
-      → Rule record { words = set s.words i (get_or s.words i 0); homes = hs; views = set s.views id w }
-  unmoved s r id v w hs i at mine ticket part seen home out =
-      subst (λ (ws : List ℕ). Rule record { words = ws; homes = hs; views = set s.views id w }) (sym (set-get_or s.words i 0))
-      (moved s r id v w s.words hs r.log (w0 s) (w1 s) at r.wide refl refl r.few r.serving r.place (λ h. (r.before h).0) mine (λ j d _. r.each_seat j d) ticket part
-      (expert_stays r.log s.views id v w r.expert at (λ p e. (omega arith, seen e))) r.fresh home out r.run)
+      → Rule record { words = set s.words 0 r.now.serving; homes = hs; views = set s.views id w }
+  unmoved s r id v w hs at mine out_there ticket part seen home out =
+      subst (λ (ws : List ℕ). Rule record { words = set ws 0 r.now.serving; homes = hs; views = set s.views id w }) (sym r.words)
+      (moved s r id v w hs r.now at r.few r.going mine (λ j d _. r.each_seat j d) out_there ticket part
+      (expert_stays r.now.log s.views id v w r.expert at (λ p e. (omega arith, seen e))) r.fresh home out r.run)
 
   -- where it is the seat's turn, the book is at home
-  at_home : (s : St) (r : Rule s) (id : ℕ) (v : View X) (x0 : X) → r.rest ≡ Some x0 → get_elem? s.views id ≡ some v → length s.homes ≡ 1 → v.holds ≡ false → v.ticket ≡ Some (w0 s) → (y : S) × (get_elem? s.homes 0 ≡ some (some y))
-  at_home s r id v x0 opened at one idle mine = ⊎_elim
+  at_home : (s : St) (r : Rule s) (id : ℕ) (v : View X) → get_elem? s.views id ≡ some v → length s.homes ≡ 1 → v.holds ≡ false → v.ticket ≡ Some r.now.serving → (y : S) × (get_elem? s.homes 0 ≡ some (some y))
+  at_home s r id v at one idle mine = ⊎_elim
       (λ (e : get_elem? s.homes 0 ≡ some none). let x = r.out e in
-      let theirs = (r.each_seat x.0 x.1 x.2).turn x.3 x0 opened in
+      let theirs = (r.each_seat x.0 x.1 x.2).turn x.3 in
       dite (ℕ_discrete x.0 id)
       (λ same. let is : x.1 ≡ v = at_one s.views id x.1 v (subst (λ (k : ℕ). get_elem? s.views k ≡ some x.1) same x.2) at in
       let h : true ≡ false = sym x.3 ∙ (ap (λ (u : View X). u.holds) is ∙ idle) in absurd (cc h))
-      (λ ne. absurd (r.apart x.0 id x.1 v (w0 s) ne x.2 at theirs.1 mine)))
+      (λ ne. absurd (r.apart x.0 id x.1 v r.now.serving ne x.2 at theirs.1 mine)))
       (λ h. h)
       (slot_cases s.homes one)
 
   runs : (log : List Mark) (v : View X) → IsRun origin (entries log) → v.origin ≡ origin → IsRun v.origin (entries log)
   runs log v run named = subst (λ (o : Origin). IsRun o (entries log)) (sym named) run
 
-  -- the look's result
-  abbrev Shown : St → ℕ → M → Type 0
-  Shown s id me = (w : View X) × (a : Rattle.atomic_table.specs.Table.Act S) × Rattle.atomic_table.specs.Table.Valid s.homes me.1 a × Rule (stepped s 0 (w0 s) id me.1 w a)
-      × looked (step 1 0 0 0 none) me (w0 s) (w, Rattle.atomic_table.specs.Table.carried_after me.1 a)
+  -- the result of a look that finds n
+  abbrev Shown : St → ℕ → ℕ → M → Type 0
+  Shown s n id me = (w : View X) × (a : Act S) × Valid s.homes me.1 a × Rule (stepped s 0 n id me.1 w a)
+      × looked (step 1 0 0 0 none) me n (w, carried_after me.1 a)
 
-  look_shut : (s : St) (r : Rule s) (id : ℕ) (me : M) → get_elem? s.views id ≡ some me.0 → me.0.holds ≡ false → w0 s ≡ closing → Shown s id me
+  look_shut : (s : St) (r : Rule s) (id : ℕ) (me : M) → get_elem? s.views id ≡ some me.0 → me.0.holds ≡ false → r.now.serving ≡ closing → Shown s r.now.serving id me
   look_shut s r id me at idle e =
       let v : View X = me.0 in
       let k = r.each_seat id v at in
-      let w : View X = record v { seen = r.log; ticket = None; holds = false; closed = true } in (
+      let w : View X = record v { seen = r.now.log; ticket = None; holds = false; closed = true } in (
         w,
         keeps,
         tt,
-        unmoved s r id v w s.homes 0 at
-            record { seen = begins_self r.log; told = k.told; named = k.named; opener = k.opener; ticket = λ t h. absurd (cc h); turn = λ h _ _. absurd (cc h); closed = λ _. e }
-            (λ t h. absurd (cc h)) refl (λ _. refl) r.home (λ h. held_stays s.views id v w (r.out h) at (λ t. let c : true ≡ false = sym t ∙ idle in absurd (cc c))),
+        unmoved s r id v w s.homes at
+            record { seen = begins_self r.now.log; told = k.told; named = k.named; opener = k.opener; ticket = λ t h. absurd (cc h); turn = λ h. absurd (cc h); closed = λ _. e }
+            (λ going. absurd (going e)) (λ t h. absurd (cc h)) refl (λ _. refl) r.home (λ h. held_stays s.views id v w (r.out h) at (λ t. let c : true ≡ false = sym t ∙ idle in absurd (cc c))),
         (
-          record { me = refl; parts = refl; opens = refl; origin = refl; rest_is = refl; made = refl; seen = k.seen; kept = refl; told = k.told; own = λ p. (k.named p).0; run = λ p. runs r.log v r.run (k.named p).1 },
+          record { me = refl; parts = refl; opens = refl; ended = refl; origin = refl; rest_is = refl; made = refl; seen = k.seen; kept = refl; told = k.told; own = λ p. (k.named p).0; run = λ p. runs r.now.log v r.run (k.named p).1 },
           record { shut = λ _. e; closed = λ _. (refl, refl, refl, refl); mine = λ ne _. absurd (ne e); other = λ ne _. absurd (ne e) },
         ),
       )
 
-  look_other : (s : St) (r : Rule s) (id : ℕ) (me : M) → get_elem? s.views id ≡ some me.0 → me.0.holds ≡ false → w0 s ≢ closing → me.0.ticket ≢ Some (w0 s) → Shown s id me
+  look_other : (s : St) (r : Rule s) (id : ℕ) (me : M) → get_elem? s.views id ≡ some me.0 → me.0.holds ≡ false → r.now.serving ≢ closing → me.0.ticket ≢ Some r.now.serving → Shown s r.now.serving id me
   look_other s r id me at idle going no_turn =
       let v : View X = me.0 in
       let k = r.each_seat id v at in
-      let w : View X = record v { seen = r.log; holds = false; closed = false } in (
+      let w : View X = record v { seen = r.now.log; holds = false; closed = false } in (
         w,
         keeps,
         tt,
-        unmoved s r id v w s.homes 0 at
-            record { seen = begins_self r.log; told = k.told; named = k.named; opener = k.opener; ticket = k.ticket; turn = λ h _ _. absurd (cc h); closed = λ h. absurd (cc h) }
-            (λ t h. inl h) refl (λ _. refl) r.home (λ h. held_stays s.views id v w (r.out h) at (λ t. let c : true ≡ false = sym t ∙ idle in absurd (cc c))),
+        unmoved s r id v w s.homes at
+            record { seen = begins_self r.now.log; told = k.told; named = k.named; opener = k.opener; ticket = k.ticket; turn = λ h. absurd (cc h); closed = λ h. absurd (cc h) }
+            (λ _ t low high. drawn_stays s.views id v w t (r.each_ticket going t low high) at (λ h. h)) (λ t h. inl h) refl (λ _. refl) r.home
+            (λ h. held_stays s.views id v w (r.out h) at (λ t. let c : true ≡ false = sym t ∙ idle in absurd (cc c))),
         (
-          record { me = refl; parts = refl; opens = refl; origin = refl; rest_is = refl; made = refl; seen = k.seen; kept = refl; told = k.told; own = λ p. (k.named p).0; run = λ p. runs r.log v r.run (k.named p).1 },
+          record { me = refl; parts = refl; opens = refl; ended = refl; origin = refl; rest_is = refl; made = refl; seen = k.seen; kept = refl; told = k.told; own = λ p. (k.named p).0; run = λ p. runs r.now.log v r.run (k.named p).1 },
           record { shut = k.closed; closed = λ e. absurd (going e); mine = λ _ t. absurd (no_turn t); other = λ _ _. (refl, refl, refl, refl) },
         ),
       )
 
-  look_mine : (s : St) (r : Rule s) (id : ℕ) (me : M) (x : X) → me.0.rest ≡ Some x → get_elem? s.views id ≡ some me.0 → length s.homes ≡ 1 → me.0.holds ≡ false → w0 s ≢ closing → me.0.ticket ≡ Some (w0 s) → Shown s id me
-  look_mine s r id me x has at one idle going turn =
+  look_mine : (s : St) (r : Rule s) (id : ℕ) (me : M) → get_elem? s.views id ≡ some me.0 → length s.homes ≡ 1 → me.0.holds ≡ false → r.now.serving ≢ closing → me.0.ticket ≡ Some r.now.serving → Shown s r.now.serving id me
+  look_mine s r id me at one idle going turn =
       let v : View X = me.0 in
       let k = r.each_seat id v at in
-      let w : View X = record v { seen = r.log; holds = true; closed = false } in
-      let mine = k.named (k.ticket (w0 s) turn).2 in
-      let named = mine.1 in
-      let opened : r.rest ≡ Some x = sym mine.4 ∙ has in
-      let y = at_home s r id v x opened at one idle turn in
-      let b = r.home y.0 x opened y.1 in (
+      let w : View X = record v { seen = r.now.log; holds = true; closed = false } in
+      let named = k.named (k.ticket r.now.serving turn).2 in
+      let y = at_home s r id v at one idle turn in
+      let b = r.home y.0 y.1 in (
         w,
         takes 0 y.0,
         y.1,
-        unmoved s r id v w (set s.homes 0 none) 0 at
-            record { seen = begins_self r.log; told = k.told; named = k.named; opener = k.opener; ticket = k.ticket; turn = λ _ _ _. (going, turn, refl); closed = λ h. absurd (cc h) }
-            (λ t h. inl h) refl (λ _. refl) (λ z _ _ h. let c = slot_is s.homes none (some z) one h in absurd (some-ne-none z (sym c))) (λ _. (id, w, set_at s.views id v w at, refl)),
+        unmoved s r id v w (set s.homes 0 none) at
+            record { seen = begins_self r.now.log; told = k.told; named = k.named; opener = k.opener; ticket = k.ticket; turn = λ _. (going, turn, refl); closed = λ h. absurd (cc h) }
+            (λ _ t low high. drawn_stays s.views id v w t (r.each_ticket going t low high) at (λ h. h)) (λ t h. inl h) refl (λ _. refl)
+            (λ z h. let c = slot_is s.homes none (some z) one h in absurd (some-ne-none z (sym c))) (λ _. (id, w, set_at s.views id v w at, refl)),
         (
-          record { me = refl; parts = refl; opens = refl; origin = refl; rest_is = refl; made = refl; seen = k.seen; kept = refl; told = k.told; own = λ p. (k.named p).0; run = λ p. runs r.log v r.run (k.named p).1 },
+          record { me = refl; parts = refl; opens = refl; ended = refl; origin = refl; rest_is = refl; made = refl; seen = k.seen; kept = refl; told = k.told; own = λ p. (k.named p).0; run = λ p. runs r.now.log v r.run (k.named p).1 },
           record {
             shut = k.closed;
             closed = λ e. absurd (going e);
-            mine = λ _ _. (turn, refl, refl, r.place going x opened, (b.0, ap (λ z. (0, z) ∷ me.1) b.1, b.2, b.3 ∙ sym named, has ∙ ap Some (sym b.4)));
+            mine = λ _ _. (turn, refl, refl, (r.going going).0, (b.0, ap (λ z. (0, z) ∷ me.1) b.1, b.2, b.3 ∙ sym named.1, named.4 ∙ ap Some (sym b.4)));
             other = λ _ ne. absurd (ne turn);
           },
         ),
       )
 
-  pub looks : (slots id : ℕ) (me : M) (x : X) → me.0.rest ≡ Some x → slots ≡ 1 → me.0.holds ≡ false → Allows Rule slots id me 0 (λ x. x) (looked (step slots 0 0 0 none) me)
-  looks slots id me x has one idle s r homes at small = dite (ℕ_discrete (w0 s) closing)
+  pub looks : (slots id : ℕ) (me : M) → slots ≡ 1 → me.0.holds ≡ false → Allows Rule slots id me 0 (λ x. x) (looked (step slots 0 0 0 none) me)
+  looks slots id me one idle s r homes at small = subst (λ (n : ℕ). Shown s n id me) (sym (serving_is s r)) (dite (ℕ_discrete r.now.serving closing)
       (λ e. look_shut s r id me at idle e)
-      (λ going. elim (has_ticket me.0.ticket (w0 s)) [
-        | yes t ↦ look_mine s r id me x has at (homes ∙ one) idle going t
+      (λ going. elim (has_ticket me.0.ticket r.now.serving) [
+        | yes t ↦ look_mine s r id me at (homes ∙ one) idle going t
         | no ne ↦ look_other s r id me at idle going ne
-      ])
+      ]))
 
-  -- what a seat knows, where more tickets were drawn
-  more_tickets : (rest : Option X) (log : List Mark) (n0 n1 n2 : ℕ) (seat : ℕ → ℕ) (left opens j : ℕ) (d : View X) → n1 ≤ n2 → Knows origin rest log n0 n1 seat left opens j d → Knows origin rest log n0 n2 seat left opens j d
-  more_tickets rest log n0 n1 n2 seat left opens j d le k = record {
+  -- what a seat knows, where one more ticket was drawn
+  more_tickets : (now : Progress) (n j : ℕ) (d : View X) → now.tickets ≤ n → Known now j d → Known (record now { tickets = n }) j d
+  more_tickets now n j d le k = record {
     seen = k.seen;
     told = k.told;
     named = k.named;
@@ -244,119 +258,132 @@ module _ (X : Type 0) (origin : Origin) (passes start : ℕ) where
     closed = k.closed;
   }
 
-  draw_hit : (s : St) (r : Rule s) (id : ℕ) (me : M) (new : ℕ) → get_elem? s.views id ≡ some me.0 → new ≡ w1 s + 1 → new < closing → me.0.holds ≡ false → 0 < me.0.me → 0 < me.0.parts
-      → Rule (stepped s 1 new id me.1 (drawn me.0 (w1 s)) keeps)
-  draw_hit s r id me new at up few idle named part =
+  draw_hit : (s : St) (r : Rule s) (id : ℕ) (me : M) (new : ℕ) → get_elem? s.views id ≡ some me.0 → new ≡ r.now.tickets + 1 → new < closing → me.0.holds ≡ false → me.0.ticket ≡ None → 0 < me.0.me → 0 < me.0.parts
+      → Rule (stepped s 1 new id me.1 (drawn me.0 r.now.tickets) keeps)
+  draw_hit s r id me new at up few idle free named part =
       let v : View X = me.0 in
-      let w : View X = drawn v (w1 s) in
-      let wide = r.wide in
+      let w : View X = drawn v r.now.tickets in
       let k = r.each_seat id v at in
-      moved s r id v w (set s.words 1 new) s.homes r.log (w0 s) new at (length-set s.words 1 new ∙ r.wide) (get_or-set_other s.words 1 0 new 0 (λ e. omega arith)) (get_or-set_same s.words 1 new 0 (omega arith)) few
-      (λ going. let x = r.serving going in omega arith) r.place (λ h. (r.before h).0)
+      let now : Progress = record r.now { tickets = new } in
+      subst (λ (ws : List ℕ). Rule record { words = set ws 1 new; homes = s.homes; views = set s.views id w }) (sym r.words)
+      (moved s r id v w s.homes now at few (λ going. let x = r.going going in (x.0, omega arith))
       record {
         seen = k.seen;
         told = k.told;
         named = k.named;
         opener = k.opener;
-        ticket = λ t e. let is : w1 s ≡ t = cc e in (omega arith, (λ going. let x = r.serving going in omega arith), named, part);
-        turn = λ h _ _. let c : true ≡ false = sym h ∙ idle in absurd (cc c);
+        ticket = λ t e. let is : r.now.tickets ≡ t = cc e in (omega arith, (λ going. let x = (r.going going).1 in omega arith), named, part);
+        turn = λ h. let c : true ≡ false = sym h ∙ idle in absurd (cc c);
         closed = k.closed;
       }
-      (λ j d _ there. more_tickets r.rest r.log (w0 s) (w1 s) new r.seat r.left r.opens j d (omega arith) (r.each_seat j d there))
-      (λ t e. let is : w1 s ≡ t = cc e in inr (λ j d there h. let x = (r.each_seat j d there).ticket t h in omega arith))
-      refl (expert_stays r.log s.views id v w r.expert at (λ p e. (p, e))) r.fresh r.home
-      (λ h. held_stays s.views id v w (r.out h) at (λ h. h)) r.run
+      (λ j d _ there. more_tickets r.now new j d (omega arith) (r.each_seat j d there))
+      (λ going t low high. dite (ℕ_discrete t r.now.tickets)
+      (λ e. (id, w, set_at s.views id v w at, ap Some (sym e)))
+      (λ ne. drawn_stays s.views id v w t (r.each_ticket going t low (omega arith)) at (λ h. let c = sym free ∙ h in absurd (cc c))))
+      (λ t e. let is : r.now.tickets ≡ t = cc e in inr (λ j d there h. let x = (r.each_seat j d there).ticket t h in omega arith))
+      refl (expert_stays r.now.log s.views id v w r.expert at (λ p e. (p, e))) r.fresh r.home
+      (λ h. held_stays s.views id v w (r.out h) at (λ h. h)) r.run)
 
-  draw_miss : (s : St) (r : Rule s) (id : ℕ) (me : M) → get_elem? s.views id ≡ some me.0 → Rule (stepped s 1 (w1 s) id me.1 me.0 keeps)
-  draw_miss s r id me at = subst (λ (p : List ℕ × List (View X)). Rule record { words = p.0; homes = s.homes; views = p.1 }) (λ i. (sym (set-get_or s.words 1 0) i, sym (set_again s.views id me.0 at) i)) r
+  draw_miss : (s : St) (r : Rule s) (id : ℕ) (me : M) → get_elem? s.views id ≡ some me.0 → Rule (stepped s 1 r.now.tickets id me.1 me.0 keeps)
+  draw_miss s r id me at =
+      let same : s.words ≡ set s.words 1 r.now.tickets = r.words ∙ ap (λ (ws : List ℕ). set ws 1 r.now.tickets) (sym r.words) in
+      subst (λ (p : List ℕ × List (View X)). Rule record { words = p.0; homes = s.homes; views = p.1 }) (λ i. (same i, sym (set_again s.views id me.0 at) i)) r
 
-  pub draws : (slots id : ℕ) (me : M) (old new : ℕ) → new ≡ old + 1 → new < closing → me.0.holds ≡ false → 0 < me.0.me → 0 < me.0.parts
+  -- the result of a draw that finds n
+  abbrev Drew : St → ℕ → ℕ → M → ℕ → ℕ → Type 0
+  Drew s n id me old new = (w : View X) × (a : Act S) × Valid s.homes me.1 a × Rule (stepped s 1 (either (eqb n old) new n) id me.1 w a)
+      × drew (step 1 1 old new none) me n (w, carried_after me.1 a)
+
+  pub draws : (slots id : ℕ) (me : M) (old new : ℕ) → new ≡ old + 1 → new < closing → me.0.holds ≡ false → me.0.ticket ≡ None → 0 < me.0.me → 0 < me.0.parts
       → Allows Rule slots id me 1 (λ x. either (eqb x old) new x) (drew (step slots 1 old new none) me)
-  draws slots id me old new up few idle named part s r homes at small = dite (ℕ_discrete (w1 s) old)
+  draws slots id me old new up few idle free named part s r homes at small = subst (λ (n : ℕ). Drew s n id me old new) (sym (tickets_are s r)) (dite (ℕ_discrete r.now.tickets old)
       (λ hit. (
-        drawn me.0 (w1 s),
+        drawn me.0 r.now.tickets,
         keeps,
         tt,
-        subst (λ b. Rule (stepped s 1 (either b new (w1 s)) id me.1 (drawn me.0 (w1 s)) keeps)) (sym (eq-eqb (w1 s) old hit)) (draw_hit s r id me new at (omega arith) few idle named part),
+        subst (λ b. Rule (stepped s 1 (either b new r.now.tickets) id me.1 (drawn me.0 r.now.tickets) keeps)) (sym (eq-eqb r.now.tickets old hit)) (draw_hit s r id me new at (omega arith) few idle free named part),
         ((λ _. ap (λ t. (drawn me.0 t, me.1)) hit), λ miss. absurd (miss hit)),
       ))
       (λ miss. (
         me.0,
         keeps,
         tt,
-        subst (λ b. Rule (stepped s 1 (either b new (w1 s)) id me.1 me.0 keeps)) (sym (ne_eqb (w1 s) old miss)) (draw_miss s r id me at),
+        subst (λ b. Rule (stepped s 1 (either b new r.now.tickets) id me.1 me.0 keeps)) (sym (ne_eqb r.now.tickets old miss)) (draw_miss s r id me at),
         ((λ hit. absurd (miss hit)), λ _. refl),
-      ))
+      )))
 
-  -- what the other seats know, where the one whose turn it is adds an entry of its own
-  others_grow : (s : St) (r : Rule s) (id : ℕ) (v : View X) (x0 : X) (e : Entry) → r.rest ≡ Some x0 → get_elem? s.views id ≡ some v → v.holds ≡ true → 0 < v.me → (j : ℕ) (d : View X) → j ≢ id → get_elem? s.views j ≡ some d
-      → Knows origin r.rest (r.log ++ mark v.me e ∷ []) (w0 s + 1) (w1 s) r.seat r.left r.opens j d
-  others_grow s r id v x0 e opened at holds here j d ne there =
+  -- how far a cell has come, once the seat whose turn it is has added an entry of its own
+  abbrev grown_by : Progress → View X → Entry → ℕ → Progress
+  grown_by now v e n = record now { log = now.log ++ mark v.me e ∷ []; serving = n }
+
+  -- what the other seats know then
+  others_grow : (s : St) (r : Rule s) (id : ℕ) (v : View X) (e : Entry) (n : ℕ) → n ≡ r.now.serving + 1 → get_elem? s.views id ≡ some v → v.holds ≡ true → 0 < v.me → (j : ℕ) (d : View X) → j ≢ id → get_elem? s.views j ≡ some d
+      → Known (grown_by r.now v e n) j d
+  others_grow s r id v e n up at holds here j d ne there =
       let k = r.each_seat id v at in
-      let mine = k.turn holds x0 opened in
+      let mine = k.turn holds in
       let o = r.each_seat j d there in
-      let not_mine : d.ticket ≢ Some (w0 s) = λ h. r.apart j id d v (w0 s) ne there at h mine.1 in record {
-        seen = begins_more r.log (mark v.me e ∷ []) d.seen o.seen;
-        told = begins_all_more r.log (mark v.me e ∷ []) d.told o.told;
-        named = λ p. let n = o.named p in (
-          n.0 ∙ sym (places_other d.me r.log (mark v.me e) (λ same. ne (sym n.2 ∙ (ap r.seat (sym same) ∙ (k.named here).2)))),
-          n.1,
-          n.2,
-          n.3,
-          n.4,
+      let not_mine : d.ticket ≢ Some r.now.serving = λ h. r.apart j id d v r.now.serving ne there at h mine.1 in record {
+        seen = begins_more r.now.log (mark v.me e ∷ []) d.seen o.seen;
+        told = begins_all_more r.now.log (mark v.me e ∷ []) d.told o.told;
+        named = λ p. let x = o.named p in (
+          x.0 ∙ sym (places_other d.me r.now.log (mark v.me e) (λ same. ne (sym x.2 ∙ (ap r.now.seat (sym same) ∙ (k.named here).2)))),
+          x.1,
+          x.2,
+          x.3,
+          x.4,
         );
         opener = o.opener;
         ticket = λ t h. let x = o.ticket t h in
-            let far : t ≢ w0 s = λ same. not_mine (h ∙ ap Some same) in
+            let far : t ≢ r.now.serving = λ same. not_mine (h ∙ ap Some same) in
             let above = x.1 mine.0 in
             (x.0, (λ _. omega arith), x.2, x.3);
-        turn = λ h x e. absurd (not_mine (o.turn h x e).1);
+        turn = λ h. absurd (not_mine (o.turn h).1);
         closed = λ h. absurd (mine.0 (o.closed h));
       }
 
   pub advance_keeps : (s : St) (r : Rule s) (id : ℕ) (v : View X) (c : List (ℕ × S)) (b : Held X) (e : Entry) (n : ℕ) → v.rest ≡ Some b.rest → get_elem? s.views id ≡ some v → length s.homes ≡ 1
-      → v.holds ≡ true → 0 < v.me → n ≡ w0 s + 1 → b.kept.book.history ≡ entries v.seen ++ e ∷ [] → origin_of b.kept.book ≡ v.origin → IsRun (origin_of b.kept.book) b.kept.book.history
+      → v.holds ≡ true → 0 < v.me → n ≡ r.now.serving + 1 → b.kept.book.history ≡ entries v.seen ++ e ∷ [] → origin_of b.kept.book ≡ v.origin → IsRun (origin_of b.kept.book) b.kept.book.history
       → Rule (stepped s 0 n id ((0, Some b) ∷ c) (grown v e) gives)
   advance_keeps s r id v c b e n has at one holds here up history book run =
       let k = r.each_seat id v at in
       let named = k.named here in
-      let opened : r.rest ≡ Some b.rest = sym named.4 ∙ has in
-      let mine = k.turn holds b.rest opened in
-      let place = r.place mine.0 b.rest opened in
-      let ticket = k.ticket (w0 s) mine.1 in
-      let serving = r.serving mine.0 in
-      let wide = r.wide in
-      let few = r.few in
-      let log : List Mark = r.log ++ mark v.me e ∷ [] in
+      let same_rest : b.rest ≡ beside = let z = sym has ∙ named.4 in cc z in
+      let mine = k.turn holds in
+      let place = (r.going mine.0).0 in
+      let ticket = k.ticket r.now.serving mine.1 in
+      let below = ticket.0 in
+      let now : Progress = grown_by r.now v e n in
       let w : View X = grown v e in
-      let seen : w.seen ≡ log = ap (λ l. l ++ mark v.me e ∷ []) mine.2 in
-      let count : length log ≡ length r.log + 1 = length-append r.log (mark v.me e ∷ []) in
-      let line : b.kept.book.history ≡ entries log = history ∙ (ap (λ l. entries l ++ e ∷ []) mine.2 ∙ sym (entries_push r.log v.me e)) in
-      moved s r id v w (set s.words 0 n) (set s.homes 0 (some (Some b))) log (w0 s + 1) (w1 s) at (length-set s.words 0 n ∙ r.wide)
-      (get_or-set_same s.words 0 n 0 (omega arith) ∙ up) (get_or-set_other s.words 0 1 n 0 (λ e. omega arith)) r.few
-      (λ _. omega arith) (λ _ _ _. omega arith) (λ h. let z = sym h ∙ opened in absurd (cc z))
+      let seen : w.seen ≡ now.log = ap (λ l. l ++ mark v.me e ∷ []) mine.2 in
+      let count : length now.log ≡ length r.now.log + 1 = length-append r.now.log (mark v.me e ∷ []) in
+      let line : b.kept.book.history ≡ entries now.log = history ∙ (ap (λ l. entries l ++ e ∷ []) mine.2 ∙ sym (entries_push r.now.log v.me e)) in
+      subst (λ (ws : List ℕ). Rule record { words = set ws 0 n; homes = set s.homes 0 (some (Some b)); views = set s.views id w }) (sym r.words)
+      (moved s r id v w (set s.homes 0 (some (Some b))) now at r.few (λ _. (omega arith, omega arith))
       record {
-        seen = subst (StartsWith log) (sym seen) (begins_self log);
-        told = begins_all_more r.log (mark v.me e ∷ []) v.told k.told;
-        named = λ p. ((λ i. named.0 i ++ length (mine.2 i) ∷ []) ∙ sym (places_own v.me r.log e), named.1, named.2, named.3, named.4);
+        seen = subst (StartsWith now.log) (sym seen) (begins_self now.log);
+        told = begins_all_more r.now.log (mark v.me e ∷ []) v.told k.told;
+        named = λ p. ((λ i. named.0 i ++ length (mine.2 i) ∷ []) ∙ sym (places_own v.me r.now.log e), named.1, named.2, named.3, named.4);
         opener = k.opener;
         ticket = λ t h. absurd (cc h);
-        turn = λ h _ _. absurd (cc h);
+        turn = λ h. absurd (cc h);
         closed = λ h. absurd (mine.0 (k.closed h));
       }
-      (others_grow s r id v b.rest e opened at holds here)
+      (others_grow s r id v e n up at holds here)
+      (λ _ t low high. drawn_stays s.views id v w t (r.each_ticket mine.0 t (omega arith) high) at
+      (λ h. let z = sym mine.1 ∙ h in let is : r.now.serving ≡ t = cc z in absurd (omega arith)))
       (λ t h. absurd (cc h)) refl (id, w, set_at s.views id v w at, ticket.3, seen)
-      (λ x p q. places_other x r.log (mark v.me e) (λ same. let far = named.3 in omega arith) ∙ r.fresh x p q)
-      (λ y x has_x h. let is = some-injective (Some b) y (slot_is s.homes (some (Some b)) (some y) one h) in let z = sym opened ∙ has_x in let same : b.rest ≡ x = cc z in (b, sym is, line, book ∙ named.1, same))
+      (λ x p q. places_other x r.now.log (mark v.me e) (λ same. let far = named.3 in omega arith) ∙ r.fresh x p q)
+      (λ y h. let is = some-injective (Some b) y (slot_is s.homes (some (Some b)) (some y) one h) in (b, sym is, line, book ∙ named.1, same_rest))
       (λ h. absurd (some-ne-none (Some b) (some-injective (some (Some b)) none (ap some (slot_is s.homes (some (Some b)) none one h)))))
-      (subst (λ (p : Origin × List Entry). IsRun p.0 p.1) (λ i. ((book ∙ named.1) i, line i)) run)
+      (subst (λ (p : Origin × List Entry). IsRun p.0 p.1) (λ i. ((book ∙ named.1) i, line i)) run))
 
   pub advances : (slots id : ℕ) (me : M) (t n : ℕ) (c : List (ℕ × S)) (b : Held X) (e : Entry) → me.0.rest ≡ Some b.rest → slots ≡ 1 → me.0.holds ≡ true → me.0.ticket ≡ Some t → 0 < me.0.me → n ≡ t + 1
       → me.1 ≡ (0, Some b) ∷ c → b.kept.book.history ≡ entries me.0.seen ++ e ∷ [] → origin_of b.kept.book ≡ me.0.origin → IsRun (origin_of b.kept.book) b.kept.book.history
       → Allows Rule slots id me 0 (λ _. n) (λ _. advanced (step slots 0 n 0 none) me n)
   advances slots id me t n c b e has one holds turn here up hand history book run = subst (λ (x : List (ℕ × S)). Allows Rule slots id (me.0, x) 0 (λ _. n) (λ _. advanced (step slots 0 n 0 none) (me.0, x) n)) (sym hand)
       (λ s r homes at small.
-      let now : w0 s ≡ t = let k = r.each_seat id me.0 at in let a = sym (k.turn holds b.rest (sym (k.named here).4 ∙ has)).1 ∙ turn in cc a in
+      let now : r.now.serving ≡ t = let k = r.each_seat id me.0 at in let a = sym (k.turn holds).1 ∙ turn in cc a in
       (grown me.0 e, gives, tt, advance_keeps s r id me.0 c b e n has at (homes ∙ one) holds here (omega arith) history book run, (e, history, refl)))
 
   shut_keeps : (s : St) (r : Rule s) (id : ℕ) (v : View X) (c : List (ℕ × S)) (b : Held X) (n : ℕ) → v.rest ≡ Some b.rest → get_elem? s.views id ≡ some v → length s.homes ≡ 1
@@ -364,69 +391,33 @@ module _ (X : Type 0) (origin : Origin) (passes start : ℕ) where
   shut_keeps s r id v c b n has at one holds here is history book =
       let k = r.each_seat id v at in
       let named = k.named here in
-      let opened : r.rest ≡ Some b.rest = sym named.4 ∙ has in
-      let mine = k.turn holds b.rest opened in
-      let wide = r.wide in
+      let same_rest : b.rest ≡ beside = let z = sym has ∙ named.4 in cc z in
+      let mine = k.turn holds in
       let w : View X = shut_by v in
-      moved s r id v w (set s.words 0 n) (set s.homes 0 (some (Some b))) r.log closing (w1 s) at (length-set s.words 0 n ∙ r.wide)
-      (get_or-set_same s.words 0 n 0 (omega arith) ∙ is) (get_or-set_other s.words 0 1 n 0 (λ e. omega arith)) r.few
-      (λ going. absurd (going refl)) (λ going _ _. absurd (going refl)) (λ h. let z = sym h ∙ opened in absurd (cc z))
-      record { seen = k.seen; told = k.told; named = k.named; opener = k.opener; ticket = λ t h. absurd (cc h); turn = λ h _ _. absurd (cc h); closed = λ _. refl }
+      let now : Progress = record r.now { serving = n } in
+      subst (λ (ws : List ℕ). Rule record { words = set ws 0 n; homes = set s.homes 0 (some (Some b)); views = set s.views id w }) (sym r.words)
+      (moved s r id v w (set s.homes 0 (some (Some b))) now at r.few (λ going. absurd (going is))
+      record { seen = k.seen; told = k.told; named = k.named; opener = k.opener; ticket = λ t h. absurd (cc h); turn = λ h. absurd (cc h); closed = λ _. is }
       (λ j d ne there. let o = r.each_seat j d there in record {
         seen = o.seen;
         told = o.told;
         named = o.named;
         opener = o.opener;
-        ticket = λ t h. let x = o.ticket t h in (x.0, (λ going. absurd (going refl)), x.2, x.3);
-        turn = λ h x e. absurd (r.apart j id d v (w0 s) ne there at (o.turn h x e).1 mine.1);
-        closed = λ _. refl;
+        ticket = λ t h. let x = o.ticket t h in (x.0, (λ going. absurd (going is)), x.2, x.3);
+        turn = λ h. absurd (r.apart j id d v r.now.serving ne there at (o.turn h).1 mine.1);
+        closed = λ _. is;
       })
-      (λ t h. absurd (cc h)) refl (expert_stays r.log s.views id v w r.expert at (λ p e. (p, e))) r.fresh
-      (λ y x has_x h. let e = some-injective (Some b) y (slot_is s.homes (some (Some b)) (some y) one h) in let z = sym opened ∙ has_x in let same : b.rest ≡ x = cc z in (b, sym e, history ∙ ap entries mine.2, book ∙ named.1, same))
+      (λ going. absurd (going is))
+      (λ t h. absurd (cc h)) refl (expert_stays r.now.log s.views id v w r.expert at (λ p e. (p, e))) r.fresh
+      (λ y h. let e = some-injective (Some b) y (slot_is s.homes (some (Some b)) (some y) one h) in (b, sym e, history ∙ ap entries mine.2, book ∙ named.1, same_rest))
       (λ h. absurd (some-ne-none (Some b) (slot_is s.homes (some (Some b)) none one h)))
-      r.run
+      r.run)
 
   pub shuts : (slots id : ℕ) (me : M) (n : ℕ) (c : List (ℕ × S)) (b : Held X) → me.0.rest ≡ Some b.rest → slots ≡ 1 → me.0.holds ≡ true → 0 < me.0.me → n ≡ closing
       → me.1 ≡ (0, Some b) ∷ c → b.kept.book.history ≡ entries me.0.seen → origin_of b.kept.book ≡ me.0.origin
       → Allows Rule slots id me 0 (λ _. n) (λ _. shut (step slots 0 n 0 none) me n)
   shuts slots id me n c b has one holds here is hand history book = subst (λ (x : List (ℕ × S)). Allows Rule slots id (me.0, x) 0 (λ _. n) (λ _. shut (step slots 0 n 0 none) (me.0, x) n)) (sym hand)
       (λ s r homes at small. (shut_by me.0, gives, tt, shut_keeps s r id me.0 c b n has at (homes ∙ one) holds here is history book, refl))
-
-  -- a new seat comes with the view w, which has no ticket and no part
-  pub tells : (id : ℕ) (v : View X) (x : X) → v.rest ≡ Some x → 0 < v.me → Splits Rule id v v (copy v)
-  tells id v x0 has here s r at =
-      let k = r.each_seat id v at in
-      let opened : r.rest ≡ Some x0 = sym (k.named here).4 ∙ has in
-      let w : View X = copy v in
-      subst (λ (vs : List (View X)). Rule record { words = s.words; homes = s.homes; views = vs ++ w ∷ [] }) (sym (set_again s.views id v at)) record {
-        log = r.log;
-        rest = r.rest;
-        seat = r.seat;
-        left = r.left;
-        opens = r.opens;
-        wide = r.wide;
-        few = r.few;
-        serving = r.serving;
-        place = r.place;
-        before = λ h. let z = sym h ∙ opened in absurd (cc z);
-        each_seat = λ j d e. ⊎_elim (r.each_seat j d)
-            (λ (t : (j ≡ length s.views) × (w ≡ d)). subst (Knows origin r.rest r.log (w0 s) (w1 s) r.seat r.left r.opens j) t.1
-            record { seen = k.seen; told = tt; named = λ p. absurd (omega arith); opener = λ h. absurd (cc h); ticket = λ t h. absurd (cc h); turn = λ h _ _. absurd (cc h); closed = k.closed })
-            (at_end s.views w d j e);
-        apart = λ j l x y t ne ej el tj tl. ⊎_elim
-            (λ (a : get_elem? s.views j ≡ some x). ⊎_elim
-            (λ (b : get_elem? s.views l ≡ some y). r.apart j l x y t ne a b tj tl)
-            (λ (b : (l ≡ length s.views) × (w ≡ y)). let h = ap (λ (u : View X). u.ticket) b.1 ∙ tl in cc h)
-            (at_end s.views w y l el))
-            (λ (a : (j ≡ length s.views) × (w ≡ x)). let h = ap (λ (u : View X). u.ticket) a.1 ∙ tj in cc h)
-            (at_end s.views w x j ej);
-        total = let sum = parts_append s.views w in let before = r.total in omega arith;
-        expert = let x = r.expert in (x.0, x.1, at_longer s.views (w ∷ []) x.0 x.1 x.2, x.3, x.4);
-        fresh = r.fresh;
-        home = r.home;
-        out = λ h. let x = r.out h in (x.0, x.1, at_longer s.views (w ∷ []) x.0 x.1 x.2, x.3);
-        run = r.run;
-      }
 
   apart_more : (vs : List (View X)) (w : View X) → Apart vs → w.ticket ≡ None → Apart (vs ++ w ∷ [])
   apart_more vs w apart none_here j l x y t ne ej el tj tl = ⊎_elim
@@ -437,38 +428,55 @@ module _ (X : Type 0) (origin : Origin) (passes start : ℕ) where
       (λ (a : (j ≡ length vs) × (w ≡ x)). let h = sym none_here ∙ (ap (λ (u : View X). u.ticket) a.1 ∙ tj) in cc h)
       (at_end vs w x j ej)
 
+  -- a new seat comes with a copy of what v has seen, and has no ticket and no part
+  pub tells : (id : ℕ) (v : View X) → Splits Rule id v v (copy v)
+  tells id v s r at =
+      let k = r.each_seat id v at in
+      let w : View X = copy v in
+      subst (λ (vs : List (View X)). Rule record { words = s.words; homes = s.homes; views = vs ++ w ∷ [] }) (sym (set_again s.views id v at)) record {
+        now = r.now;
+        words = r.words;
+        few = r.few;
+        going = r.going;
+        each_seat = λ j d e. ⊎_elim (r.each_seat j d)
+            (λ (t : (j ≡ length s.views) × (w ≡ d)). subst (Known r.now j) t.1
+            record { seen = k.seen; told = tt; named = λ p. absurd (omega arith); opener = λ h. absurd (cc h); ticket = λ t h. absurd (cc h); turn = λ h. absurd (cc h); closed = k.closed })
+            (at_end s.views w d j e);
+        each_ticket = λ going t low high. drawn_longer s.views w t (r.each_ticket going t low high);
+        apart = apart_more s.views w r.apart refl;
+        total = let sum = parts_append s.views w in let before = r.total in omega arith;
+        expert = let x = r.expert in (x.0, x.1, at_longer s.views (w ∷ []) x.0 x.1 x.2, x.3, x.4);
+        fresh = r.fresh;
+        home = r.home;
+        out = λ h. let x = r.out h in (x.0, x.1, at_longer s.views (w ∷ []) x.0 x.1 x.2, x.3);
+        run = r.run;
+      }
+
   abbrev seat_with : (ℕ → ℕ) → ℕ → ℕ → ℕ → ℕ
   seat_with seat number place x = cond (eqb x number) place (seat x)
 
   -- the opener gives a pass, whose number is what the opener has left
-  pub deals : (id : ℕ) (v : View X) (x : X) → v.rest ≡ Some x → v.opens ≡ true → 0 < v.parts → Splits Rule id v (dealer v) (dealt v)
-  deals id v x0 has opening_it some_left s r at =
+  pub deals : (id : ℕ) (v : View X) → v.opens ≡ true → 0 < v.parts → Splits Rule id v (dealer v) (dealt v)
+  deals id v opening_it some_left s r at =
       let k = r.each_seat id v at in
       let o = k.opener opening_it in
-      let opened : r.rest ≡ Some x0 = sym o.4 ∙ has in
       let a : View X = dealer v in
       let w : View X = dealt v in
       let vs : List (View X) = set s.views id a in
-      let wide : length vs ≡ length s.views = length-set s.views id a in
-      let seat : ℕ → ℕ = seat_with r.seat v.parts (length vs) in
-      let K = Knows origin r.rest r.log (w0 s) (w1 s) seat (r.left - 1) r.opens in record {
-        log = r.log;
-        rest = r.rest;
-        seat = seat;
-        left = r.left - 1;
-        opens = r.opens;
-        wide = r.wide;
+      let seat : ℕ → ℕ = seat_with r.now.seat v.parts (length vs) in
+      let now : Progress = record r.now { seat = seat; left = r.now.left - 1 } in
+      let K : ℕ → View X → Type 0 = Known now in record {
+        now = now;
+        words = r.words;
         few = r.few;
-        serving = r.serving;
-        place = r.place;
-        before = λ h. let z = sym h ∙ opened in absurd (cc z);
+        going = r.going;
         each_seat = λ j d e. ⊎_elim
             (λ (t : get_elem? vs j ≡ some d). seats_stay K s.views id a
             record { seen = k.seen; told = k.told; named = λ p. let z = o.2 in absurd (omega arith); opener = λ _. (o.0, (let p = o.1 in omega arith), o.2, o.3, o.4); ticket = λ t h. let x = k.ticket t h in let z = o.2 in absurd (omega arith); turn = k.turn; closed = k.closed }
             (λ i u ne there. let x = r.each_seat i u there in record {
               seen = x.seen;
               told = x.told;
-              named = λ p. let n = x.named p in let far = n.3 in let is = o.1 in (n.0, n.1, ap (λ c. cond c (length vs) (r.seat u.me)) (ne_eqb u.me v.parts (λ e. omega arith)) ∙ n.2, omega arith, n.4);
+              named = λ p. let n = x.named p in let far = n.3 in let is = o.1 in (n.0, n.1, ap (λ c. cond c (length vs) (r.now.seat u.me)) (ne_eqb u.me v.parts (λ e. omega arith)) ∙ n.2, omega arith, n.4);
               opener = λ h. absurd (ne ((x.opener h).0 ∙ sym o.0));
               ticket = x.ticket;
               turn = x.turn;
@@ -478,13 +486,14 @@ module _ (X : Type 0) (origin : Origin) (passes start : ℕ) where
             record {
               seen = k.seen;
               told = tt;
-              named = λ p. let is = o.1 in (sym (r.fresh v.parts some_left (omega arith)), o.3, ap (λ c. cond c (length vs) (r.seat v.parts)) (eq-eqb v.parts v.parts refl), omega arith, o.4);
+              named = λ p. let is = o.1 in (sym (r.fresh v.parts some_left (omega arith)), o.3, ap (λ c. cond c (length vs) (r.now.seat v.parts)) (eq-eqb v.parts v.parts refl), omega arith, o.4);
               opener = λ h. absurd (cc h);
               ticket = λ t h. absurd (cc h);
-              turn = λ h _ _. absurd (cc h);
+              turn = λ h. absurd (cc h);
               closed = λ h. absurd (cc h);
             })
             (at_end vs w d j e);
+        each_ticket = λ going t low high. drawn_longer vs w t (drawn_stays s.views id v a t (r.each_ticket going t low high) at (λ h. h));
         apart = apart_more vs w (apart_stay s.views id v a r.apart at (λ t h. inl h)) refl;
         total = let sum = parts_append vs w in let change = parts_set s.views id v a at in let before = r.total in omega arith;
         expert = let x = r.expert in dite (ℕ_discrete x.0 id)
@@ -501,49 +510,44 @@ module _ (X : Type 0) (origin : Origin) (passes start : ℕ) where
   or_cases true b h = inl refl
   or_cases false b h = inr h
 
-  -- a seat of a pass takes in another, and has then what both had
-  pub joins : (id : ℕ) (v : View X) (other : ℕ) (w : View X) → 0 < v.me → v.holds ≡ false → w.holds ≡ false → Joins Rule id v other w (joined v w) spent
-  joins id v other w here idle idle_too s r at apart there =
+  -- a seat of a pass takes in another, which has no ticket, and has then what both had
+  pub joins : (id : ℕ) (v : View X) (other : ℕ) (w : View X) → 0 < v.me → v.holds ≡ false → w.holds ≡ false → w.ticket ≡ None → Joins Rule id v other w (joined v w) spent
+  joins id v other w here idle idle_too free s r at apart there =
       let k = r.each_seat id v at in
       let both : View X = joined v w in
       let vs : List (View X) = set s.views id both in
       let at_other : get_elem? s.views other ≡ some w = sym (set_else s.views id other both apart) ∙ there in
       let o = r.each_seat other w at_other in
       let at_both : get_elem? (set vs other spent) id ≡ some both = set_else vs other id spent (λ e. apart (sym e)) ∙ set_at s.views id v both at in
-      let K = Knows origin r.rest r.log (w0 s) (w1 s) r.seat r.left r.opens in record {
-        log = r.log;
-        rest = r.rest;
-        seat = r.seat;
-        left = r.left;
-        opens = r.opens;
-        wide = r.wide;
+      let K : ℕ → View X → Type 0 = Known r.now in record {
+        now = r.now;
+        words = r.words;
         few = r.few;
-        serving = r.serving;
-        place = r.place;
-        before = λ h. ((r.before h).0, length-set vs other spent ∙ (length-set s.views id both ∙ (r.before h).1));
+        going = r.going;
         each_seat = seats_stay K vs other spent
-            record { seen = (r.log, refl); told = tt; named = λ p. absurd (omega arith); opener = λ h. absurd (cc h); ticket = λ t h. absurd (cc h); turn = λ h _ _. absurd (cc h); closed = λ h. absurd (cc h) }
+            record { seen = (r.now.log, refl); told = tt; named = λ p. absurd (omega arith); opener = λ h. absurd (cc h); ticket = λ t h. absurd (cc h); turn = λ h. absurd (cc h); closed = λ h. absurd (cc h) }
             (λ j d _. seats_stay K s.views id both
             record {
-              seen = longer_begins r.log v.seen w.seen k.seen o.seen;
+              seen = longer_begins r.now.log v.seen w.seen k.seen o.seen;
               told = (k.seen, (o.seen, k.told));
               named = k.named;
               opener = λ h. let z = (k.opener h).2 in absurd (omega arith);
               ticket = λ t h. let x = k.ticket t h in (x.0, x.1, x.2, (let p = x.3 in omega arith));
-              turn = λ h _ _. let c : true ≡ false = sym h ∙ idle in absurd (cc c);
+              turn = λ h. let c : true ≡ false = sym h ∙ idle in absurd (cc c);
               closed = λ h. ⊎_elim (λ e. k.closed e) (λ e. o.closed e) (or_cases v.closed w.closed h);
             }
             (λ i u _. r.each_seat i u) j d);
+        each_ticket = λ going t low high. drawn_stays vs other w spent t (drawn_stays s.views id v both t (r.each_ticket going t low high) at (λ h. h)) there (λ h. let c = sym free ∙ h in absurd (cc c));
         apart = apart_stay vs other w spent (apart_stay s.views id v both r.apart at (λ t h. inl h)) there (λ t h. absurd (cc h));
         total = let one = parts_set s.views id v both at in let two = parts_set vs other w spent there in let before = r.total in omega arith;
         expert = let x = r.expert in dite (ℕ_discrete x.0 id)
             (λ e. let same : x.1 ≡ v = at_one s.views id x.1 v (subst (λ (k : ℕ). get_elem? s.views k ≡ some x.1) e x.2) at in
             let part = subst (λ (u : View X). 0 < u.parts) same x.3 in
-            (id, both, at_both, omega arith, longer_whole_left r.log v.seen w.seen (ap (λ (u : View X). u.seen) (sym same) ∙ x.4) o.seen))
+            (id, both, at_both, omega arith, longer_whole_left r.now.log v.seen w.seen (ap (λ (u : View X). u.seen) (sym same) ∙ x.4) o.seen))
             (λ ne. dite (ℕ_discrete x.0 other)
             (λ e. let same : x.1 ≡ w = at_one s.views other x.1 w (subst (λ (k : ℕ). get_elem? s.views k ≡ some x.1) e x.2) at_other in
             let part = subst (λ (u : View X). 0 < u.parts) same x.3 in
-            (id, both, at_both, omega arith, longer_whole_right r.log v.seen w.seen k.seen (ap (λ (u : View X). u.seen) (sym same) ∙ x.4)))
+            (id, both, at_both, omega arith, longer_whole_right r.now.log v.seen w.seen k.seen (ap (λ (u : View X). u.seen) (sym same) ∙ x.4)))
             (λ far. (x.0, x.1, set_else vs other x.0 spent far ∙ (set_else s.views id x.0 both ne ∙ x.2), x.3, x.4)));
         fresh = r.fresh;
         home = r.home;
@@ -552,14 +556,14 @@ module _ (X : Type 0) (origin : Origin) (passes start : ℕ) where
       }
 
   -- who has every part and no turn knows the history whole, and the book is at home
-  pub ends : (s : St) → Rule s → (id : ℕ) (v : View X) (x : X) → v.rest ≡ Some x → 0 < v.me → get_elem? s.views id ≡ some v → length s.homes ≡ 1 → passes ≤ v.parts → v.holds ≡ false
-      → (b : Held X) × (get_elem? s.homes 0 ≡ some (some (Some b))) × (b.kept.book.history ≡ entries v.seen) × BeginsAll v.seen v.told × (origin_of b.kept.book ≡ origin) × (b.rest ≡ x) × (v.origin ≡ origin)
-  ends s r id v x0 has here at one all idle =
-      let opened : r.rest ≡ Some x0 = sym ((r.each_seat id v at).named here).4 ∙ has in
+  pub ends : (s : St) → Rule s → (id : ℕ) (v : View X) → 0 < v.me → get_elem? s.views id ≡ some v → length s.homes ≡ 1 → passes ≤ v.parts → v.holds ≡ false
+      → (b : Held X) × (get_elem? s.homes 0 ≡ some (some (Some b))) × (b.kept.book.history ≡ entries v.seen) × BeginsAll v.seen v.told × (origin_of b.kept.book ≡ origin) × (v.rest ≡ Some b.rest) × (v.origin ≡ origin)
+  ends s r id v here at one all idle =
+      let named = (r.each_seat id v at).named here in
       let total = r.total in
       let x = r.expert in
       let alone : (j : ℕ) (d : View X) → j ≢ id → get_elem? s.views j ≡ some d → 0 < d.parts → ⊥ = λ j d ne there some_part. let two = parts_two s.views id j v d (λ e. ne (sym e)) at there in absurd (omega arith) in
-      let whole : v.seen ≡ r.log = dite (ℕ_discrete x.0 id)
+      let whole : v.seen ≡ r.now.log = dite (ℕ_discrete x.0 id)
       (λ e. ap (λ (u : View X). u.seen) (sym (at_one s.views id x.1 v (subst (λ (k : ℕ). get_elem? s.views k ≡ some x.1) e x.2) at)) ∙ x.4)
       (λ ne. absurd (alone x.0 x.1 ne x.2 x.3)) in
       let y : (y : S) × (get_elem? s.homes 0 ≡ some (some y)) = ⊎_elim
@@ -568,123 +572,44 @@ module _ (X : Type 0) (origin : Origin) (passes start : ℕ) where
       dite (ℕ_discrete h.0 id)
       (λ same. let is : h.1 ≡ v = at_one s.views id h.1 v (subst (λ (k : ℕ). get_elem? s.views k ≡ some h.1) same h.2) at in
       let c : true ≡ false = sym h.3 ∙ (ap (λ (u : View X). u.holds) is ∙ idle) in absurd (cc c))
-      (λ ne. absurd (alone h.0 h.1 ne h.2 (theirs.ticket (w0 s) (theirs.turn h.3 x0 opened).1).3)))
+      (λ ne. absurd (alone h.0 h.1 ne h.2 (theirs.ticket r.now.serving (theirs.turn h.3).1).3)))
       (λ h. h)
       (slot_cases s.homes one) in
-      let b = r.home y.0 x0 opened y.1 in
-      (b.0, y.1 ∙ ap (λ z. some (some z)) b.1, b.2 ∙ ap entries (sym whole), subst (λ l. BeginsAll l v.told) (sym whole) (r.each_seat id v at).told, b.3, b.4, ((r.each_seat id v at).named here).1)
+      let b = r.home y.0 y.1 in
+      (b.0, y.1 ∙ ap (λ z. some (some z)) b.1, b.2 ∙ ap entries (sym whole), subst (λ l. BeginsAll l v.told) (sym whole) (r.each_seat id v at).told, b.3, named.4 ∙ ap Some (sym b.4), named.1)
 
-  -- the first seat takes the empty slot
-  pub grabs : (slots id : ℕ) (me : M) → slots ≡ 1 → me.0.opens ≡ true → me.0.rest ≡ None → me.0.holds ≡ false → Allows Rule slots id me 0 (λ x. x) (grabbed (step slots 0 0 0 none) me)
-  grabs slots id me one opening_it no_rest idle s r homes at small =
-      let v : View X = me.0 in
-      let w : View X = grabber v in
-      let k = r.each_seat id v at in
-      let o = k.opener opening_it in
-      let fresh : r.rest ≡ None = sym o.4 ∙ no_rest in
-      let alone = (r.before fresh).1 in
-      let y : (y : S) × (get_elem? s.homes 0 ≡ some (some y)) = ⊎_elim
-      (λ (e : get_elem? s.homes 0 ≡ some none). let x = r.out e in
-      let a : x.0 < length s.views = at_below s.views x.0 x.1 x.2 in
-      let b : id < length s.views = at_below s.views id v at in
-      let same : x.0 ≡ id = omega arith in
-      let is : x.1 ≡ v = at_one s.views id x.1 v (subst (λ (k : ℕ). get_elem? s.views k ≡ some x.1) same x.2) at in
-      let h : true ≡ false = sym x.3 ∙ (ap (λ (u : View X). u.holds) is ∙ idle) in absurd (cc h))
-      (λ h. h)
-      (slot_cases s.homes (homes ∙ one)) in (
-        w,
-        takes 0 y.0,
-        y.1,
-        unmoved s r id v w (set s.homes 0 none) 0 at
-            record { seen = k.seen; told = k.told; named = k.named; opener = k.opener; ticket = k.ticket; turn = λ _ x e. let z = sym fresh ∙ e in absurd (cc z); closed = k.closed }
-            (λ t h. inl h) refl (λ e. e) (λ z x e _. let c = sym fresh ∙ e in absurd (cc c)) (λ _. (id, w, set_at s.views id v w at, refl)),
-        (y.0, refl),
-      )
-
-  start_keeps : (s : St) (r : Rule s) (id : ℕ) (v : View X) (c : List (ℕ × S)) (b : Held X) → get_elem? s.views id ≡ some v → length s.homes ≡ 1 → v.opens ≡ true → v.rest ≡ None → 0 < v.parts
-      → origin_of b.kept.book ≡ v.origin → length b.kept.book.history ≡ start → IsRun (origin_of b.kept.book) b.kept.book.history
-      → Rule (stepped s 0 (w0 s) id ((0, Some b) ∷ c) (starter v (marks 0 b.kept.book.history) b.rest) gives)
-  start_keeps s r id v c b at one opening_it no_rest some_part book count run =
-      let k = r.each_seat id v at in
-      let o = k.opener opening_it in
-      let fresh : r.rest ≡ None = sym o.4 ∙ no_rest in
-      let before = r.before fresh in
-      let log : List Mark = marks 0 b.kept.book.history in
-      let w : View X = starter v log b.rest in
-      let many : length log ≡ length b.kept.book.history = length_marks 0 b.kept.book.history in
-      subst (λ (ws : List ℕ). Rule record { words = ws; homes = set s.homes 0 (some (Some b)); views = set s.views id w }) (sym (set-get_or s.words 0 0)) record {
-        log = log;
-        rest = Some b.rest;
-        seat = r.seat;
-        left = r.left;
-        opens = r.opens;
-        wide = r.wide;
-        few = r.few;
-        serving = r.serving;
-        place = λ _ x e. before.0 ∙ (sym count ∙ sym many);
-        before = λ h. absurd (cc h);
-        each_seat = seats_stay (Knows origin (Some b.rest) log (w0 s) (w1 s) r.seat r.left r.opens) s.views id w
-            record {
-              seen = begins_self log;
-              told = tt;
-              named = λ p. let z = o.2 in absurd (omega arith);
-              opener = λ _. (o.0, o.1, o.2, o.3, refl);
-              ticket = λ t e. let x = (k.ticket t e).2 in let z = o.2 in absurd (omega arith);
-              turn = λ h _ _. absurd (cc h);
-              closed = k.closed;
-            }
-            (λ j d ne there. let p = at_below s.views j d there in let q = at_below s.views id v at in let n = before.1 in absurd (ne (omega arith)));
-        apart = apart_stay s.views id v w r.apart at (λ t h. inl h);
-        total = let sum = parts_set s.views id v w at in let now = r.total in omega arith;
-        expert = (id, w, set_at s.views id v w at, some_part, refl);
-        fresh = λ x p _. places_past x 0 b.kept.book.history p;
-        home = λ y x e h. let is = some-injective (Some b) y (slot_is s.homes (some (Some b)) (some y) one h) in (b, sym is, sym (entries_marks 0 b.kept.book.history), book ∙ o.3, cc e);
-        out = λ h. absurd (some-ne-none (Some b) (slot_is s.homes (some (Some b)) none one h));
-        run = subst (λ (p : Origin × List Entry). IsRun p.0 p.1) (λ i. ((book ∙ o.3) i, sym (entries_marks 0 b.kept.book.history) i)) run;
-      }
-
-  -- the first seat puts the book in
-  pub starts : (slots id : ℕ) (me : M) (c : List (ℕ × S)) (b : Held X) → slots ≡ 1 → me.0.opens ≡ true → me.0.rest ≡ None → 0 < me.0.parts → me.1 ≡ (0, Some b) ∷ c
-      → origin_of b.kept.book ≡ me.0.origin → length b.kept.book.history ≡ start → IsRun (origin_of b.kept.book) b.kept.book.history → Allows Rule slots id me 0 (λ x. x) (started (step slots 0 0 0 none) me)
-  starts slots id me c b one opening_it no_rest some_part hand book count run = subst (λ (x : List (ℕ × S)). Allows Rule slots id (me.0, x) 0 (λ x. x) (started (step slots 0 0 0 none) (me.0, x))) (sym hand)
-      (λ s r homes at small. (starter me.0 (marks 0 b.kept.book.history) b.rest, gives, tt, start_keeps s r id me.0 c b at (homes ∙ one) opening_it no_rest some_part book count run, (b, refl, refl)))
-
-pub begins : {X : Type 0} (origin : Origin) (passes start : ℕ) (y : Option (Held X)) → start < closing → 0 < passes → Serves origin passes start (opening (start ∷ start ∷ []) (y ∷ []) (opener origin passes))
-begins {X} origin passes start y few some_passes =
-    let v : View X = opener origin passes in record {
-      log = [];
-      rest = None;
-      seat = λ _. 0;
-      left = passes;
-      opens = 0;
-      wide = refl;
+-- a table that is made round a book, whose two words count the book's history
+pub begins : {X : Type 0} (held : Held X) (passes n : ℕ) → n ≡ length held.kept.book.history → n < closing → 0 < passes → IsRun (origin_of held.kept.book) held.kept.book.history
+    → Serves (origin_of held.kept.book) held.rest passes (opening (n ∷ n ∷ []) (Some held ∷ []) (opener held passes))
+begins {X} held passes n count few some_passes run =
+    let v : View X = opener held passes in
+    let past : List Entry = held.kept.book.history in
+    let log : List Mark = marks 0 past in
+    let now : Progress = record { log = log; serving = n; tickets = n; seat = λ _. 0; left = passes; opens = 0 } in record {
+      now = now;
+      words = refl;
       few = few;
-      serving = λ _. omega arith;
-      place = λ _ x h. absurd (cc h);
-      before = λ _. (refl, refl);
+      going = λ _. (count ∙ sym (length_marks 0 past), omega arith);
       each_seat = λ j d e. ⊎_elim (λ (t : get_elem? {A = View X} [] j ≡ some d). absurd (some-ne-none d (sym t)))
-          (λ (t : (j ≡ 0) × (v ≡ d)). subst (λ (p : ℕ × View X). Knows origin None [] start start (λ _. 0) passes 0 p.0 p.1) (λ i. (sym t.0 i, t.1 i))
+          (λ (t : (j ≡ 0) × (v ≡ d)). subst (λ (p : ℕ × View X). Knows (origin_of held.kept.book) held.rest now p.0 p.1) (λ i. (sym t.0 i, t.1 i))
           record {
-            seen = begins_self [];
+            seen = begins_self log;
             told = tt;
             named = λ p. absurd (omega arith);
             opener = λ _. (refl, refl, refl, refl, refl);
             ticket = λ t h. absurd (cc h);
-            turn = λ h _ _. absurd (cc h);
+            turn = λ h. absurd (cc h);
             closed = λ h. absurd (cc h);
           })
           (at_end [] v d j e);
+      each_ticket = λ _ t low high. absurd (omega arith);
       apart = λ j l x y t ne ej el tj tl. ⊎_elim (λ (t : get_elem? {A = View X} [] j ≡ some x). absurd (some-ne-none x (sym t)))
           (λ (a : (j ≡ 0) × (v ≡ x)). let h = ap (λ (u : View X). u.ticket) a.1 ∙ tj in cc h)
           (at_end [] v x j ej);
       total = omega arith;
       expert = (0, v, refl, some_passes, refl);
-      fresh = λ x p _. refl;
-      home = λ y x h. absurd (cc h);
-      out = λ h. absurd (some-ne-none y (some-injective _ _ h));
-      run = tt;
+      fresh = λ x p _. places_past x 0 past p;
+      home = λ y h. let is = some-injective (Some held) y (some-injective (some (Some held)) (some y) h) in (held, sym is, sym (entries_marks 0 past), refl, refl);
+      out = λ h. absurd (some-ne-none (Some held) (some-injective (some (Some held)) none h));
+      run = subst (IsRun (origin_of held.kept.book)) (sym (entries_marks 0 past)) run;
     }
-
--- the same, where the words count the book's history
-pub begins_at : {X : Type 0} (origin : Origin) (passes start n : ℕ) (y : Option (Held X)) → n ≡ start → n < closing → 0 < passes → Serves origin passes start (opening (n ∷ n ∷ []) (y ∷ []) (opener origin passes))
-begins_at origin passes start n y e few some_passes = subst (λ (k : ℕ). Serves origin passes k (opening (n ∷ n ∷ []) (y ∷ []) (opener origin passes))) e (begins origin passes n y few some_passes)

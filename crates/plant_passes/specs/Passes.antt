@@ -1,17 +1,17 @@
 -- What a pass tells, and what the calls of a cell change (own).
-use Rattle.std.specs.Prelude.{◌≡◌, ℕ, zero, suc, Bool, true, false, List, [], ◌∷◌, ◌++◌, map, length, All, Contains}
+use Rattle.std.specs.Prelude.{◌≡◌, ℕ, zero, suc, Bool, true, false, ◌⊎◌, List, [], ◌∷◌, ◌++◌, map, length, All, Contains}
 use Rattle.atomic_table.specs.Seated.{TableId}
 use Rattle.atomic_table.specs.declared.shared.Seat.{Seat}
 use Rattle.operator_machine.specs.declared.action.Action.{Action}
 use Rattle.operator_machine.specs.declared.action.Entry.{Entry}
 use Rattle.operator_machine.specs.State.{OperatorState}
-use Rattle.operator_book.specs.declared.book.BookFault.TheVariants.{NotMine, FramesSpent, Unfit, NoMemory}
+use Rattle.operator_book.specs.declared.book.BookFault.TheVariants.{NotMine, FramesSpent, NoMemory}
 use Rattle.plant_passes.specs.declared.view.Mark.{Mark}
 use Rattle.plant_passes.specs.declared.view.Origin.{Origin}
 use Rattle.plant_passes.specs.declared.view.View.{View}
-use Rattle.plant_passes.specs.declared.receipt.Receipt.{Receipt}
-use Rattle.plant_passes.specs.declared.receipt.CellFault.{CellFault}
-use Rattle.plant_passes.specs.declared.receipt.CellFault.TheVariants.{Book, Closed}
+use Rattle.plant_receipts.specs.declared.receipt.Receipt.{Receipt}
+use Rattle.plant_turns.specs.declared.cell_fault.CellFault.{CellFault}
+use Rattle.plant_turns.specs.declared.cell_fault.CellFault.TheVariants.{Book, Closed}
 use Rattle.plant_passes.specs.Runs.{IsRun, state_after}
 use Rattle.plant_passes.specs.Words.{entry_of, mark, entries, places, StartsWith}
 
@@ -24,7 +24,7 @@ pub record CellView : Type 0 where
   pub origin : Origin
 
 -- of a pass: its cell, its number there, what the book was opened with, the history that it has seen, the places of its
--- own entries, and whether it knows the cell closed
+-- own entries, whether it knows the cell closed, and whether a refused turn of its own has closed it
 pub record PassView : Type 0 where
   pub cell : TableId
   pub me : ℕ
@@ -32,6 +32,7 @@ pub record PassView : Type 0 where
   pub seen : List Mark
   pub made : List ℕ
   pub closed : Bool
+  pub ended : Bool
 
 abbrev pub told_by : {S X : Type 0} → Seat S (View X) → PassView
 told_by p = record {
@@ -41,6 +42,7 @@ told_by p = record {
   seen = p.me.0.seen;
   made = p.me.0.made;
   closed = p.me.0.closed;
+  ended = p.me.0.ended;
 }
 
 -- the pass is of this cell
@@ -58,7 +60,15 @@ pub record IsSamePass (p q : PassView) : Type 0 where
 
 -- a pass of this number, which has seen this past
 abbrev pub first_pass : TableId → Origin → List Mark → ℕ → PassView
-first_pass cell origin past n = record { cell = cell; me = n; origin = origin; seen = past; made = []; closed = false }
+first_pass cell origin past n = record {
+  cell = cell;
+  me = n;
+  origin = origin;
+  seen = past;
+  made = [];
+  closed = false;
+  ended = false;
+}
 
 -- the passes of the numbers from n down to 1
 abbrev pub first_passes : TableId → Origin → List Mark → ℕ → List PassView
@@ -79,6 +89,7 @@ pub record Acts (p : PassView) (action : Action) (r : Receipt) (q : PassView) : 
   pub own : q.made ≡ places q.me q.seen
   pub run : IsRun q.origin (entries q.seen)
   pub going : q.closed ≡ false
+  pub ended : q.ended ≡ p.ended
 
 -- the history so far was seen, and the pass made no entry
 pub record LooksOn (p q : PassView) : Type 0 where
@@ -88,21 +99,31 @@ pub record LooksOn (p q : PassView) : Type 0 where
   pub own : q.made ≡ places q.me q.seen
   pub run : IsRun q.origin (entries q.seen)
 
--- the same, and the cell is closed
+-- the same, and the cell was closed before
 abbrev pub FindsClosed : PassView → PassView → Type 0
-FindsClosed p q = LooksOn p q × (q.closed ≡ true)
+FindsClosed p q = LooksOn p q × (q.closed ≡ true) × (q.ended ≡ p.ended)
+
+-- the same, and the pass closed the cell by a refused turn after the history that it then has seen
+abbrev pub EndsCell : PassView → PassView → Type 0
+EndsCell p q = LooksOn p q × (q.closed ≡ true) × (q.ended ≡ true)
 
 -- the machine's state after the history that was seen
 abbrev pub state_seen : PassView → OperatorState
 state_seen p = state_after p.origin (entries p.seen)
 
--- What a refusal leaves, fault by fault. A stranger is refused before a turn is drawn, and a cell takes no other slice.
-abbrev pub Refuses : PassView → CellFault → PassView → Type 0
-Refuses p (Book (NotMine modem)) q = q ≡ p
-Refuses p (Book FramesSpent) q = FindsClosed p q × ((state_seen q).frame ≡ 4294967295)
-Refuses p (Book (Unfit why)) q = ⊥
-Refuses p (Book NoMemory) q = LooksOn p q
-Refuses p Closed q = FindsClosed p q
+-- what a refusal leaves that comes once a turn was asked for
+abbrev pub RefusesTurn : PassView → CellFault → PassView → Type 0
+RefusesTurn p (Book FramesSpent) q = EndsCell p q × ((state_seen q).frame ≡ 4294967295)
+RefusesTurn p (Book NoMemory) q = EndsCell p q
+RefusesTurn p Closed q = FindsClosed p q
+RefusesTurn p fault q = ⊥
+
+-- What a refusal of an arrival leaves. A stranger is refused before a turn is asked for. Memory may be missing before it too,
+-- where the cell was found open.
+abbrev pub RefusesArrival : PassView → CellFault → PassView → Type 0
+RefusesArrival p (Book (NotMine modem)) q = q ≡ p
+RefusesArrival p (Book NoMemory) q = EndsCell p q ⊎ (LooksOn p q × (q.closed ≡ false) × (q.ended ≡ p.ended))
+RefusesArrival p fault q = RefusesTurn p fault q
 
 -- ---- meeting
 
@@ -110,6 +131,7 @@ Refuses p Closed q = FindsClosed p q
 pub record HasMet (p teller q : PassView) : Type 0 where
   pub looks : LooksOn p q
   pub told : StartsWith q.seen teller.seen
+  pub ended : q.ended ≡ p.ended
   pub closed : p.closed ≡ true → q.closed ≡ true
   pub told_closed : teller.closed ≡ true → q.closed ≡ true
 

@@ -5,13 +5,14 @@ use Rattle.operator_machine.specs.declared.action.Entry.{Entry}
 use Rattle.plant_passes.specs.Runs.{origin_of, IsRun}
 use Rattle.plant_passes.specs.declared.view.View.{View}
 use Rattle.plant_passes.specs.declared.view.Held.{Held}
-use Rattle.plant_passes.specs.Words.{closing, mark, marks, entries, places, StartsWith, BeginsAll, grabber, starter}
+use Rattle.plant_passes.specs.Words.{closing, mark, entries, places, StartsWith, BeginsAll}
 
 -- the history so far was seen, which begins with all that was seen and told of. What is one's own stays
 pub record Looks {X : Type 0} (v w : View X) : Type 0 where
   pub me : w.me ≡ v.me
   pub parts : w.parts ≡ v.parts
   pub opens : w.opens ≡ v.opens
+  pub ended : w.ended ≡ v.ended
   pub origin : w.origin ≡ v.origin
   pub rest_is : w.rest ≡ v.rest
   pub made : w.made ≡ v.made
@@ -55,15 +56,7 @@ module _ {X : Type 0} where
   advanced st m r m' = (e : Entry) × (written m.1 ≡ entries m.0.seen ++ e ∷ []) × (m' ≡ (grown m.0 e, rest m.1))
 
   abbrev pub shut_by : View X → View X
-  shut_by v = record v { ticket = None; holds = false; closed = true }
+  shut_by v = record v { ticket = None; holds = false; closed = true; ended = true }
 
   abbrev pub shut : Step (Option (Held X)) → Me (Option (Held X)) (View X) → ℕ → Me (Option (Held X)) (View X) → Type 0
   shut st m r m' = m' ≡ (shut_by m.0, rest m.1)
-
-  -- the empty slot was taken, to put the book in
-  abbrev pub grabbed : Step (Option (Held X)) → Me (Option (Held X)) (View X) → ℕ → Me (Option (Held X)) (View X) → Type 0
-  grabbed st m r m' = (y : Option (Held X)) × (m' ≡ (grabber m.0, (0, y) ∷ m.1))
-
-  -- the book was put in
-  abbrev pub started : Step (Option (Held X)) → Me (Option (Held X)) (View X) → ℕ → Me (Option (Held X)) (View X) → Type 0
-  started st m r m' = (b : Held X) × (m.1 ≡ (0, Some b) ∷ rest m.1) × (m' ≡ (starter m.0 (marks 0 b.kept.book.history) b.rest, rest m.1))

@@ -7,6 +7,8 @@ use Rattle.grant_policy.specs.declared.policy.Policy.TheVariants.{Strict}
 use Rattle.plant_passes.specs.declared.view.Origin.{Origin}
 use Rattle.plant_passes.specs.declared.view.Mark.{Mark}
 use Rattle.plant_passes.specs.declared.view.View.{View}
+use Rattle.plant_passes.specs.declared.view.Held.{Held}
+use Rattle.plant_passes.specs.Runs.{origin_of}
 
 -- the serving word of a closed cell
 abbrev pub closing : ℕ
@@ -88,17 +90,22 @@ no_origin = record {
 }
 
 module _ {X : Type 0} where
-  -- the first seat, before the book is put in
-  abbrev pub opener : Origin → ℕ → View X
-  opener origin passes = record { me = 0; parts = passes; opens = true; closed = false; origin = origin; seen = []; told = []; made = []; ticket = None; holds = false; rest = None }
-
-  -- the first seat, with the slot in hand
-  abbrev pub grabber : View X → View X
-  grabber v = record v { holds = true }
-
-  -- the first seat, with the book put in: its past, and what the rule does not read
-  abbrev pub starter : View X → List Mark → X → View X
-  starter v past x = record v { seen = past; told = []; holds = false; rest = Some x }
+  -- the first seat of a table round this book, which gives so many passes
+  abbrev pub opener : Held X → ℕ → View X
+  opener held passes = record {
+    me = 0;
+    parts = passes;
+    opens = true;
+    closed = false;
+    ended = false;
+    origin = origin_of held.kept.book;
+    seen = marks 0 held.kept.book.history;
+    told = [];
+    made = [];
+    ticket = None;
+    holds = false;
+    rest = Some held.rest;
+  }
 
   -- the opener after it has given a pass
   abbrev pub dealer : View X → View X
@@ -106,11 +113,11 @@ module _ {X : Type 0} where
 
   -- the pass that it gives
   abbrev pub dealt : View X → View X
-  dealt v = record v { me = v.parts; parts = 1; opens = false; closed = false; told = []; made = []; ticket = None; holds = false }
+  dealt v = record v { me = v.parts; parts = 1; opens = false; closed = false; ended = false; told = []; made = []; ticket = None; holds = false }
 
   -- what a pass tells
   abbrev pub copy : View X → View X
-  copy v = record v { me = 0; parts = 0; opens = false; told = []; made = []; ticket = None; holds = false }
+  copy v = record v { me = 0; parts = 0; opens = false; ended = false; told = []; made = []; ticket = None; holds = false }
 
   -- a seat that has taken in another
   abbrev pub joined : View X → View X → View X
@@ -118,4 +125,4 @@ module _ {X : Type 0} where
 
   -- the seat that was taken in
   abbrev pub spent : View X
-  spent = record { me = 0; parts = 0; opens = false; closed = false; origin = no_origin; seen = []; told = []; made = []; ticket = None; holds = false; rest = None }
+  spent = record { me = 0; parts = 0; opens = false; closed = false; ended = false; origin = no_origin; seen = []; told = []; made = []; ticket = None; holds = false; rest = None }

@@ -1,26 +1,27 @@
 //! The calls of a cell.
 
-ghost use Rattle.std.specs.Prelude.{◌≡◌, ◌≢◌, ◌↔◌, ◌<◌, ◌≤◌, true, Some, None, Err, All, map, vec_len, IfOk, OnErr, IfErr, OnOk, IfSome, IsNone};
+ghost use Rattle.std.specs.Prelude.{◌≡◌, ◌≢◌, ◌↔◌, ◌<◌, ◌≤◌, true, Some, None, Err, All, map, vec_len, IfOk, OnErr, IfErr, OnOk, IsOk, IfSome, IsNone};
 ghost use Rattle.dsx_messages.specs.declared.modem.Modem.{Modem};
 ghost use Rattle.operator_machine.specs.declared.action.Action.TheVariants as actions;
 ghost use Rattle.operator_machine.specs.Machine.{stranger_of};
 ghost use Rattle.operator_book.specs.ViewOf.{view_of};
 ghost use Rattle.operator_book.specs.declared.book.BookFault.TheVariants as faults;
-ghost use Rattle.plant_passes.specs.declared.receipt.CellFault.TheVariants as refusals;
+ghost use Rattle.plant_turns.specs.declared.cell_fault.CellFault.TheVariants as refusals;
 ghost use Rattle.plant_passes.specs.Runs.{origin_of};
 ghost use Rattle.plant_passes.specs.Words.{marks};
-ghost use Rattle.plant_passes.specs.Passes.{IsOf, first_passes, Acts, Refuses, HasMet, IsLongest};
+ghost use Rattle.plant_passes.specs.Passes.{IsOf, state_seen, first_passes, Acts, RefusesTurn, RefusesArrival, HasMet, IsLongest};
 ghost use Rattle.plant_passes.specs.ViewOf.{cell_of, pass_of};
 
 use crate::dealing::{deal_out, gather, room_for, table_round};
 use crate::pass::{Pass, PassedCell};
 use crate::plays::{Look, Take, Tell};
-use crate::receipt::{CellFault, Receipt};
 use crate::turns;
 use crate::view::Held;
 use dsx_messages::Modem;
 use operator_book::{Action, Book, BookFault, Heard};
 use plant::is_listed;
+use plant_receipts::Receipt;
+use plant_turns::CellFault;
 use std::alloc::{AllocError, Global};
 use std::sync::Wait;
 
@@ -39,7 +40,7 @@ impl PassedCell {
             ≡ first_passes (cell_of r.0).cell (cell_of r.0).origin (marks 0 (view_of book).history) passes) }
     {
         let room = room_for(alloc, &book, passes)?;
-        let (table, giver) = table_round(alloc, book, room.start, passes)?;
+        let (table, giver) = table_round(alloc, book, room.slots, passes)?;
         let given = deal_out(&table.shared, giver, room.given, passes);
         let cell = PassedCell {
             table,
@@ -62,7 +63,7 @@ impl PassedCell {
         requires of { IsOf (cell_of self.now) (pass_of pass.old) }
         ensures of { IsOf (cell_of self.now) (pass_of pass.new) }
         ensures ok { IfOk result (λ r. Acts (pass_of pass.old) (actions.Arrive modem heard) r (pass_of pass.new)) }
-        ensures err { IfErr result (λ fault. Refuses (pass_of pass.old) fault (pass_of pass.new)) }
+        ensures err { IfErr result (λ fault. RefusesArrival (pass_of pass.old) fault (pass_of pass.new)) }
 
         // A stranger is refused first, and before a turn is drawn; whoever knows the cell closed is then told so.
         ensures not_mine { (stranger : Modem) → (result ≡ Err (refusals.Book (faults.NotMine stranger)))
@@ -79,7 +80,9 @@ impl PassedCell {
             return Err(CellFault::Closed);
         }
         let action = Action::Arrive { modem, heard };
-        let told = action.copy(alloc)?;
+        let Ok(told) = action.copy(alloc) else {
+            return Err(CellFault::Book(BookFault::NoMemory));
+        };
         let (index, outputs) = turns::act(rt, alloc, &self.table.shared, &mut pass.seat, action)?;
         Ok(Receipt {
             index,
@@ -98,7 +101,7 @@ impl PassedCell {
         requires of { IsOf (cell_of self.now) (pass_of pass.old) }
         ensures of { IsOf (cell_of self.now) (pass_of pass.new) }
         ensures ok { IfOk result (λ r. Acts (pass_of pass.old) actions.Work r (pass_of pass.new)) }
-        ensures err { IfErr result (λ fault. Refuses (pass_of pass.old) fault (pass_of pass.new)) }
+        ensures err { IfErr result (λ fault. RefusesTurn (pass_of pass.old) fault (pass_of pass.new)) }
         ensures mine { (stranger : Modem) → result ≢ Err (refusals.Book (faults.NotMine stranger)) }
         ensures not_spent { result ≢ Err (refusals.Book faults.FramesSpent) }
         ensures closed { OnErr result ((pass_of pass.new).closed ≡ true) }
@@ -129,8 +132,10 @@ impl PassedCell {
         requires of { IsOf (cell_of self.now) (pass_of pass.old) }
         ensures of { IsOf (cell_of self.now) (pass_of pass.new) }
         ensures ok { IfOk result (λ r. Acts (pass_of pass.old) actions.Tick r (pass_of pass.new)) }
-        ensures err { IfErr result (λ fault. Refuses (pass_of pass.old) fault (pass_of pass.new)) }
+        ensures err { IfErr result (λ fault. RefusesTurn (pass_of pass.old) fault (pass_of pass.new)) }
         ensures mine { (stranger : Modem) → result ≢ Err (refusals.Book (faults.NotMine stranger)) }
+        ensures memory { result ≡ Err (refusals.Book faults.NoMemory)
+            → (state_seen (pass_of pass.new)).frame ≢ 4294967295 }
         ensures closed { OnErr result ((pass_of pass.new).closed ≡ true) }
         ensures shut { (pass_of pass.old).closed ≡ true → result ≡ Err refusals.Closed }
     {
@@ -155,7 +160,7 @@ impl PassedCell {
         ensures of { IsOf (cell_of self.now) (pass_of told.new) × IsOf (cell_of self.now) (pass_of teller.new) }
         ensures told { OnOk result (HasMet (pass_of told.old) (pass_of teller.old) (pass_of told.new)) }
         ensures teller { pass_of teller.new ≡ pass_of teller.old }
-        ensures err { OnErr result (pass_of told.new ≡ pass_of told.old) }
+        ensures never_refused { IsOk result }
     {
         let shared = &self.table.shared;
         let copy = shared.split_seat::<Tell>(&mut teller.seat);

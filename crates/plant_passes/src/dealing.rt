@@ -1,14 +1,13 @@
 //! Passes, dealt out by a cell's first seat and taken in again.
 
-ghost use Rattle.std.specs.Prelude.{◌≡◌, ◌<◌, ◌≤◌, true, false, None, [], ◌∷◌, ◌++◌, All, IfOk, map, length, vec_capacity};
+ghost use Rattle.std.specs.Prelude.{◌≡◌, ◌<◌, ◌≤◌, true, [], ◌∷◌, ◌++◌, All, IfOk, map, vec_capacity};
 ghost use Rattle.operator_book.specs.ViewOf.{policy_of};
-ghost use Rattle.plant_passes.specs.Runs.{origin_of, IsRun};
-ghost use Rattle.plant_passes.specs.Words.{marks, opener, starter, grabber};
+ghost use Rattle.plant_passes.specs.Words.{opener};
 ghost use Rattle.plant_passes.specs.Passes.{told_by, first_passes};
-ghost use Rattle.plant_passes.specs.Turns.{Follows, IsSame, Gathers};
+ghost use Rattle.plant_passes.specs.Turns.{Follows, Gathers};
 
 use crate::pass::Pass;
-use crate::plays::{Deal, Grab, Law, Start, Take};
+use crate::plays::{Deal, Law, Take};
 use crate::turns::{Desk, Place, Slot};
 use crate::view::{Held, Key, View};
 use atomic_table::Table;
@@ -16,90 +15,65 @@ use grant_policy::Ranking;
 use operator_book::Book;
 use plant::Modems;
 use std::alloc::{AllocError, Global};
+use std::snapshot::Snapshot;
 
-/// What a cell is opened with, beside its book.
+/// Room that is taken before a cell is made, and the modems of its book.
 #[derive(Drop)]
 pub(crate) struct Room {
     /// Room for the passes.
     pub given: Vec<Pass>,
+    /// Room for the slot with the book.
+    pub slots: Vec<Slot>,
     /// The modems of the book's row.
     pub modems: Modems,
-    /// How many entries the book has.
-    pub start: u64,
 }
 
-/// Room for so many passes of a cell round a book.
+/// Takes room for so many passes of a cell round a book.
 pub(crate) fn room_for(alloc: Global, book: &Book, passes: usize) -> Result<Room, AllocError>
     ensures given { IfOk result (λ room. (room.given.items ≡ []) × (passes ≤ vec_capacity room.given)) }
+    ensures slots { IfOk result (λ room. (room.slots.items ≡ []) × (1 ≤ vec_capacity room.slots)) }
     ensures modems { IfOk result (λ room. room.modems ≡ book.now.kept.book.row.modems) }
-    ensures start { IfOk result (λ room. room.start ≡ length book.now.kept.book.history) }
-    ensures below { IfOk result (λ room. room.start < u64.MAX) }
 {
-    let given = Vec::with_capacity(alloc, passes)?;
-    let modems = book.row().get_fields().modems.copy(alloc)?;
-    let start = book.history().len() as u64;
-    if start == u64::MAX {
-        return Err(AllocError);
-    }
     Ok(Room {
-        given,
-        modems,
-        start,
+        given: Vec::with_capacity(alloc, passes)?,
+        slots: Vec::with_capacity(alloc, 1)?,
+        modems: book.row().get_fields().modems.copy(alloc)?,
     })
 }
 
-/// Puts the book in, with the first seat.
-fn put_in(desk: &Desk, giver: &mut Place, held: Held<Ranking>)
-    requires own { (giver.old.table_id ≡ desk.now.table_id) × (desk.now.table_id.words ≡ 2)
-        × (desk.now.table_id.slots ≡ 1) }
-    requires first { (giver.old.me.0.opens ≡ true) × (giver.old.me.0.rest ≡ None) × (giver.old.me.0.holds ≡ false)
-        × (0 < giver.old.me.0.parts) × (giver.old.me.1 ≡ []) }
-    requires book { (origin_of held.kept.book ≡ giver.old.me.0.origin)
-        × (held.kept.book.history ≡ desk.now.key.kept.book.history) }
-    requires run { IsRun (origin_of held.kept.book) held.kept.book.history }
-    ensures same { IsSame giver.old giver.new }
-    ensures started { giver.new.me
-        ≡ (starter (grabber giver.old.me.0) (marks 0 held.kept.book.history) held.rest, []) }
-{
-    desk.load::<Grab>(giver, 0);
-    drop(desk.exchange(giver, 0, Some(held)));
-    desk.load::<Start>(giver, 0);
-}
-
-/// The table of a cell with the book put in, and its first seat.
+/// Makes the table of a cell with the book in its slot, and its first seat.
 pub(crate) fn table_round(
     alloc: Global,
     book: Book,
-    start: u64,
+    mut slots: Vec<Slot>,
     passes: usize,
-) -> Result<(Table<Slot, View<Ranking>, Key, Law, Global>, Place), AllocError>
-    requires start { (start ≡ length book.kept.book.history) × (start < u64.MAX) }
+) -> Result<(Table<Slot, View<Ranking>, Key<Ranking>, Law, Global>, Place), AllocError>
+    requires slots { (slots.items ≡ []) × (1 ≤ vec_capacity slots) }
     requires some { 0 < passes }
     ensures sizes { IfOk result (λ r. (r.0.shared.table_id.words ≡ 2) × (r.0.shared.table_id.slots ≡ 1)) }
-    ensures key { IfOk result (λ r. (r.0.shared.key.kept ≡ book.kept) × (r.0.shared.key.passes ≡ passes)) }
+    ensures key { IfOk result (λ r. (r.0.shared.key.held.value.kept ≡ book.kept)
+        × (r.0.shared.key.passes ≡ passes)) }
     ensures own { IfOk result (λ r. r.1.table_id ≡ r.0.shared.table_id) }
-    ensures first { IfOk result (λ r. r.1.me.0 ≡ starter (grabber (opener (origin_of book.kept.book) passes))
-        (marks 0 book.kept.book.history) book.ranking) }
+    ensures first { IfOk result (λ r. r.1.me.0
+        ≡ opener (record { kept = book.kept; rest = book.ranking }) passes) }
     ensures follows { IfOk result (λ r. Follows policy_of r.1.me.0) }
 {
     book.always_replayed();
+    let start = book.history().len() as u64;
     let (kept, rest) = book.into_parts();
-    let key = Key { kept, passes };
-    let (table, mut giver) = match Table::vacant(alloc, &[start, start], 1, &key) {
-        Ok(made) => made,
-        Err(error) => {
-            // Dropped by calls: part by part, as `?` drops them, takes longer to prove.
-            drop(key);
-            drop(rest);
-            return Err(error);
+    let held = Held { kept, rest };
+    let key = Key {
+        held: Snapshot::of(&held),
+        passes,
+    };
+    slots.push_reserved(Some(held));
+    match Table::new(alloc, &[start, start], slots, &key) {
+        Ok(made) => Ok(made),
+        Err(refused) => {
+            drop(refused);
+            Err(AllocError)
         }
-    };
-    let held = Held {
-        kept: key.kept,
-        rest,
-    };
-    put_in(&table.shared, &mut giver, held);
-    Ok((table, giver))
+    }
 }
 
 /// Gives passes, until there are as many as are wanted.

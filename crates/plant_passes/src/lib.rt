@@ -6,10 +6,10 @@ mod cell;
 mod dealing;
 mod pass;
 mod plays;
-mod receipt;
 mod turns;
 mod view;
 
 pub use pass::{Pass, PassedCell};
-pub use receipt::{CellFault, Receipt};
+pub use plant_receipts::Receipt;
+pub use plant_turns::CellFault;
 pub use view::{Held, Key, Mark, Origin, View};

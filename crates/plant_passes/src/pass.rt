@@ -14,14 +14,14 @@ use std::alloc::Global;
 /// A book that threads share, each with a pass of its own. What contracts say of it they say of `cell_of`.
 #[derive(Drop)]
 pub struct PassedCell {
-    pub(crate) table: Table<Slot, View<Ranking>, Key, Law, Global>,
+    pub(crate) table: Table<Slot, View<Ranking>, Key<Ranking>, Law, Global>,
     pub(crate) passes: usize,
     pub(crate) modems: Modems,
     ghost two: { table.shared.table_id.words ≡ 2 },
     ghost one: { table.shared.table_id.slots ≡ 1 },
     ghost passes_are: { table.shared.key.passes ≡ passes },
     ghost some: { 0 < passes },
-    ghost modems_are: { table.shared.key.kept.book.row.modems ≡ modems },
+    ghost modems_are: { table.shared.key.held.value.kept.book.row.modems ≡ modems },
 }
 
 /// The right to act on a cell's book, of one holder at a time. What contracts say of it they say of `pass_of`.

@@ -4,15 +4,14 @@ use atomic_table::{Join, Play, Split, TableRule};
 
 pub struct Law;
 
-impl<X> TableRule<Option<Held<X>>, View<X>, Key> for Law {
-    ghost use Rattle.std.specs.Prelude.{length};
+impl<X> TableRule<Option<Held<X>>, View<X>, Key<X>> for Law {
     ghost use Rattle.plant_passes.specs.Runs.{origin_of};
     ghost use Rattle.plant_passes.specs.Rule.{Serves};
     ghost use Rattle.plant_passes.specs.Words.{opener};
 
-    ghost holds = { λ key s. Serves (origin_of key.kept.book) key.passes (length key.kept.book.history) s };
+    ghost holds = { λ key s. Serves (origin_of key.held.value.kept.book) key.held.value.rest key.passes s };
 
-    ghost first = { λ key. opener (origin_of key.kept.book) key.passes };
+    ghost first = { λ key. opener key.held.value key.passes };
 }
 
 /// A ticket is drawn.
@@ -49,24 +48,6 @@ impl<X> Play<Option<Held<X>>, View<X>> for Shut {
     ghost use Rattle.plant_passes.specs.Steps.{shut};
 
     ghost then = { shut };
-}
-
-/// The first seat takes the empty slot.
-pub(crate) struct Grab;
-
-impl<X> Play<Option<Held<X>>, View<X>> for Grab {
-    ghost use Rattle.plant_passes.specs.Steps.{grabbed};
-
-    ghost then = { grabbed };
-}
-
-/// The first seat puts the book in.
-pub(crate) struct Start;
-
-impl<X> Play<Option<Held<X>>, View<X>> for Start {
-    ghost use Rattle.plant_passes.specs.Steps.{started};
-
-    ghost then = { started };
 }
 
 /// The opener gives a pass.

@@ -1,38 +1,39 @@
 //! A turn at the book: a ticket is drawn, one waits for it, acts, and ends the turn.
 
-ghost use Rattle.std.specs.Prelude.{◌≡◌, ◌≢◌, ◌<◌, true, false, [], ◌∷◌, ◌++◌, Some, None, MatchBool, IfOk, OnErr, Err};
+ghost use Rattle.std.specs.Prelude.{◌≡◌, ◌≢◌, ◌↔◌, ◌<◌, true, false, [], ◌∷◌, ◌++◌, Some, None, MatchBool, IfOk, IfErr, OnErr, Err};
 ghost use Rattle.operator_machine.specs.Machine.{is_spent};
 ghost use Rattle.operator_machine.specs.declared.action.Unfit.{Unfit};
 ghost use Rattle.dsx_messages.specs.declared.modem.Modem.{Modem};
 ghost use Rattle.operator_book.specs.ViewOf.{policy_of};
 ghost use Rattle.operator_book.specs.declared.book.BookFault.TheVariants as faults;
-ghost use Rattle.plant_passes.specs.declared.receipt.CellFault.TheVariants as refusals;
+ghost use Rattle.plant_turns.specs.declared.cell_fault.CellFault.TheVariants as refusals;
 ghost use Rattle.plant_passes.specs.Runs.{state_after};
 ghost use Rattle.plant_passes.specs.Words.{entries, entry_of};
 ghost use Rattle.plant_passes.specs.Steps.{drawn, Looks, IsInHand};
-ghost use Rattle.plant_passes.specs.Passes.{told_by, state_seen, Acts, LooksOn, FindsClosed};
+ghost use Rattle.plant_passes.specs.Passes.{told_by, state_seen, Acts, LooksOn, RefusesTurn};
 ghost use Rattle.plant_passes.specs.Turns.{IsIdle, IsSame, IsAsked, Waits, IsMine, IsShut, HasInHand, Follows};
 
 use crate::plays::{Advance, Draw, Law, Look, Shut};
-use crate::receipt::CellFault;
 use crate::view::{Held, Key, View};
 use atomic_table::{Seat, Shared};
 use grant_policy::Ranking;
 use operator_book::{Action, Book, BookFault, Output, Outputs};
+use plant_turns::CellFault;
 use std::alloc::Global;
 use std::sync::Wait;
 use std::thread;
 
 pub(crate) type Slot = Option<Held<Ranking>>;
 
-pub(crate) type Desk = Shared<Slot, View<Ranking>, Key, Law>;
+pub(crate) type Desk = Shared<Slot, View<Ranking>, Key<Ranking>, Law>;
 
 pub(crate) type Place = Seat<Slot, View<Ranking>>;
 
 /// Draws a ticket.
 fn draw<R: Wait>(rt: &R, desk: &Desk, seat: &mut Place) -> u64
     requires own { (seat.old.table_id ≡ desk.now.table_id) × (desk.now.table_id.words ≡ 2) }
-    requires idle { (seat.old.me.0.holds ≡ false) × (0 < seat.old.me.0.me) × (0 < seat.old.me.0.parts) }
+    requires idle { (seat.old.me.0.ticket ≡ None) × (seat.old.me.0.holds ≡ false) × (0 < seat.old.me.0.me)
+        × (0 < seat.old.me.0.parts) }
     ensures same { IsSame seat.old seat.new }
     ensures drawn { seat.new.me ≡ (drawn seat.old.me.0 result, seat.old.me.1) }
     ensures below { result < u64.MAX }
@@ -54,7 +55,6 @@ fn wait_turn<R: Wait>(rt: &R, desk: &Desk, seat: &mut Place, ticket: u64) -> boo
     requires own { (seat.old.table_id ≡ desk.now.table_id) × (desk.now.table_id.words ≡ 2)
         × (desk.now.table_id.slots ≡ 1) }
     requires waits { Waits ticket seat.old.me }
-    requires follows { Follows policy_of seat.old.me.0 }
     ensures same { IsSame seat.old seat.new }
     ensures looks { Looks seat.old.me.0 seat.new.me.0 }
     ensures shut { seat.old.me.0.closed ≡ true → result ≡ false }
@@ -83,8 +83,9 @@ pub(crate) fn is_closed(desk: &Desk, seat: &mut Place) -> bool
     ensures idle { IsIdle seat.new.me }
     ensures follows { Follows policy_of seat.new.me.0 }
     ensures looks { LooksOn (told_by seat.old) (told_by seat.new) }
+    ensures ended { seat.new.me.0.ended ≡ seat.old.me.0.ended }
     ensures shut { seat.old.me.0.closed ≡ true → result ≡ true }
-    ensures closed { result ≡ true → seat.new.me.0.closed ≡ true }
+    ensures closed { seat.new.me.0.closed ≡ result }
 {
     desk.load::<Look>(seat, 0) == u64::MAX
 }
@@ -117,8 +118,8 @@ fn act_in_turn(
     ensures err { OnErr result (HasInHand (entries seat.old.me.0.seen) seat.new.me) }
     ensures mine { (modem : Modem) → result ≢ Err (faults.NotMine modem) }
     ensures fits { (why : Unfit) → result ≢ Err (faults.Unfit why) }
-    ensures spent { result ≡ Err faults.FramesSpent
-        → is_spent (state_after seat.old.me.0.origin (entries seat.old.me.0.seen)) action ≡ true }
+    ensures spent { (result ≡ Err faults.FramesSpent)
+        ↔ (is_spent (state_after seat.old.me.0.origin (entries seat.old.me.0.seen)) action ≡ true) }
 {
     let Some(held) = desk.exchange(seat, 0, None) else {
         unreachable!()
@@ -150,12 +151,13 @@ pub(crate) fn act<R: Wait>(
     ensures follows { Follows policy_of seat.new.me.0 }
     ensures ok { IfOk result (λ r. Acts (told_by seat.old) action
         (record { index = r.0; action = action; outputs = r.1 }) (told_by seat.new)) }
-    ensures err { OnErr result (FindsClosed (told_by seat.old) (told_by seat.new)) }
+    ensures err { IfErr result (λ fault. RefusesTurn (told_by seat.old) fault (told_by seat.new)) }
     ensures shut { seat.old.me.0.closed ≡ true → result ≡ Err refusals.Closed }
     ensures mine { (modem : Modem) → result ≢ Err (refusals.Book (faults.NotMine modem)) }
-    ensures fits { (why : Unfit) → result ≢ Err (refusals.Book (faults.Unfit why)) }
     ensures spent { result ≡ Err (refusals.Book faults.FramesSpent)
         → is_spent (state_seen (told_by seat.new)) action ≡ true }
+    ensures memory { result ≡ Err (refusals.Book faults.NoMemory)
+        → is_spent (state_seen (told_by seat.new)) action ≡ false }
 {
     let ticket = draw(rt, desk, seat);
     if !wait_turn(rt, desk, seat, ticket) {

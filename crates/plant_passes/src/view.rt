@@ -3,6 +3,7 @@
 use operator_book::{Entry, Logged};
 use plant::{Consts, OperatorRow};
 use std::collections::LinkedList;
+use std::snapshot::Snapshot;
 
 /// What a book was opened with.
 pub struct Origin {
@@ -17,12 +18,14 @@ pub struct Mark {
 }
 
 /// What a seat knows: its pass's number and parts, the history that it has seen and was told of, the places of its own
-/// entries in it, and its turn. `rest` is what the book has beside what is kept.
+/// entries in it, and its turn. `ended`: its own refused turn closed the cell. `rest` is what the book has beside what is
+/// kept.
 pub struct View<X> {
     pub me: u64,
     pub parts: u64,
     pub opens: bool,
     pub closed: bool,
+    pub ended: bool,
     pub origin: Origin,
     pub seen: LinkedList<Mark>,
     pub told: LinkedList<LinkedList<Mark>>,
@@ -39,9 +42,9 @@ pub struct Held<X> {
     pub rest: X,
 }
 
-/// What a cell is told when it is made: what is kept of the book, as it is then, and how many passes there are to be.
+/// Names what a cell is made of, for its rule: the book in its slot, and how many passes there are to be.
 #[derive(Drop)]
-pub struct Key {
-    pub kept: Logged,
+pub struct Key<X> {
+    pub held: Snapshot<Held<X>>,
     pub passes: usize,
 }

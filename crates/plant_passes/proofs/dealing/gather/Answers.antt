@@ -27,7 +27,7 @@ join_seat-requires g c =
       popped.1,
       no_hands _ c.in-Some.pass.hands,
       search rules,
-      joins _ _ _ _ _ _ _ _ t.named t.holds c.in-Some.pass.holds,
+      joins _ _ _ _ _ _ _ _ t.named t.holds c.in-Some.pass.holds c.in-Some.pass.ticket,
     )
 
 pub loop-pass-preserved : goal.loop-pass-preserved

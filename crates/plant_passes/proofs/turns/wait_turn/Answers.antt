@@ -1,15 +1,10 @@
 use Rattle.std.proofs.Common.{rules, ◌∙◌}
 use Rattle.plant_passes.proofs.Moves.{looks}
-use Rattle.operator_book.specs.ViewOf.{policy_of}
 use Rattle.plant_passes.proofs.Again.{waits_on, looks_on, mine_now}
-use Rattle.plant_passes.proofs.Acting.{has_rest}
 use Rattle.plant_passes.proofs.turns.wait_turn.Goals as goal
 
 pub load-now-requires : goal.load-now-requires
-load-now-requires g c =
-    let i = c.loop.invariant in
-    let has = has_rest policy_of _ _ c.requires.follows in
-    (search rules, search rules, looks _ _ _ _ _ _ _ has.0 (i.2.rest_is ∙ has.1) (search rules) i.1.holds)
+load-now-requires g c = (search rules, search rules, looks _ _ _ _ _ _ _ (search rules) c.loop.invariant.1.holds)
 
 pub returns-then-now-ticket-clause-turn : goal.returns-then-now-ticket-clause-turn
 returns-then-now-ticket-clause-turn g c = mine_now _ c.load-now.result _ _ c.loop.invariant.1 c.load-now.ensures.2.1 (search rules) (search rules)

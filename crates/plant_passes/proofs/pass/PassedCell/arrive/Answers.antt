@@ -1,6 +1,6 @@
-use Rattle.operator_machine.specs.declared.action.Action.TheVariants.{Arrive}
+use Rattle.plant_passes.specs.Passes.{RefusesArrival, told_by}
 use Rattle.plant_passes.proofs.Cells.{no_hands}
-use Rattle.plant_passes.proofs.Calls.{acts_later, closed_later, passes_on}
+use Rattle.plant_passes.proofs.Calls.{acts_later, refused_later, refused_now}
 use Rattle.plant_passes.proofs.pass.PassedCell.arrive.Goals as goal
 
 pub is_closed-requires-clause-idle : goal.is_closed-requires-clause-idle
@@ -8,8 +8,8 @@ is_closed-requires-clause-idle g c = let p = c.args.pass.now in record { ticket 
 
 pub returns-in_err-index-clause-err : goal.returns-in_err-index-clause-err
 returns-in_err-index-clause-err g c =
-    let said = c.act.ensures in
-    passes_on _ _ (Arrive c.args.modem c.args.heard) c.act.result _ _ c.in_err-index.was c.from_residual-in_err-index.ensures.1 (closed_later _ _ _ c.is_closed.ensures.looks c.in_err-index.ensures.err) said.mine said.fits said.spent
+    refused_now (λ fault. RefusesArrival (told_by c.args.pass.now.seat) fault (told_by c.act.new.seat)) _ _ c.from_residual.ensures.1
+    (refused_later _ _ _ _ c.is_closed.ensures.looks c.is_closed.ensures.ended c.in_err-index.ensures.err)
 
 pub returns-clause-ok : goal.returns-clause-ok
-returns-clause-ok g c = acts_later _ _ _ _ c.in_ok-told.told _ c.is_closed.ensures.looks c.in_ok-told.ensures c.in_ok-index.ensures.ok
+returns-clause-ok g c = acts_later _ _ _ _ c.in-Ok.told _ c.is_closed.ensures.looks c.is_closed.ensures.ended c.in-Ok.ensures c.in_ok-index.ensures.ok
