@@ -3,7 +3,7 @@
 
     tools/cases.py [PROGRAM]     Prints each case that differs, what is told and what is wanted; exits with 1 where one does.
 
-What is wanted is typed from docs/PROFILE.md and from descriptions, never taken from what a program printed. The first line of a file says
+What is wanted is typed from docs/FORMATS.md, docs/RULES.md and descriptions, never taken from what a program printed. The first line of a file says
 how many cases it has, so that one that is lost is seen. A case begins with `# NAME`; each line behind that begins with a sign:
 
     // what the case is about
@@ -15,15 +15,18 @@ how many cases it has, so that one that is lost is seen. A case begins with `# N
     . text           the same, and no end of the line
     * 9 text         a text so many times, in which `|` ends a line, `{8}` is 8, then 9, then 10, `{8+4}` is 8, then 12, then 16, and `{0:02x}` is
                      00, then 01, in hexadecimal
+    < 0F01 text      a text for each beginning of some bytes: `-`, then 0F, then 0F01, each in the place of `{}`; in it `|` ends a line
+    ^ 0F01 text      a text for each change of one of the bytes to each of the 256 values: 0001, then 0101, and last 0FFF
     = line           the next line that is wanted on standard output; `…` is any text, of one line or of many
     =* 9 text        the text that is wanted next there, so many times, as behind `*`
     x 0F01           the next bytes that are wanted there, in hexadecimal
     check 6, ..      the next line of a check that is wanted of `trace`: there are these and no others
+    check* 9 6, ..   the next lines of checks, so many times the same
     - text           what is not to stand on standard output
     ! line           the next line that is wanted on standard error, with `…` as above
     silent           nothing is wanted on standard error
 
-Standard output is to be what the lines `=`, `=*` and `x` say. With none of them it may be anything where the case has another of the last seven
+Standard output is to be what the lines `=`, `=*` and `x` say. With none of them it may be anything where the case has another of the last eight
 signs, and is to be empty where it has none. Standard error may be anything where the case has neither `!` nor `silent`. Where it has, the
 program is run once more with a standard error that takes nothing: its status and its standard output are to be as wanted.
 """
@@ -103,6 +106,9 @@ def take_line(case, line):
         setattr(case, place, (getattr(case, place) or "") + before + text + behind)
     elif sign == "=*":
         case.output = (case.output or "") + repeated(text.replace("|", "\n"))
+    elif sign == "check*":
+        times, _, text = text.partition(" ")
+        case.checks = (case.checks or "") + int(times) * f"  check {text}\n"
     elif sign == "-":
         case.absent.append(text)
     elif sign == "silent":
@@ -121,6 +127,9 @@ def take_input(case, sign, text):
         case.data += spelled(text) + (b"\n" if sign == ">" else b"")
     elif sign == "*":
         case.data += repeated(text.replace("|", "\n")).encode()
+    elif sign in VARIED:
+        digits, _, text = text.replace("|", "\n").partition(" ")
+        case.data += "".join(text.replace("{}", varied) for varied in VARIED[sign](digits)).encode()
     else:
         sys.exit(f"{case.name}: no line of a case begins with {sign!r}")
 
@@ -140,6 +149,20 @@ def repeated(text):
     if "{" not in text:
         return text * int(times)
     return "".join(COUNTED.sub(lambda found: counted(found, place), text) for place in range(int(times)))
+
+
+def beginnings(digits):
+    """Of some bytes the beginnings, from that of no byte to all of them."""
+    return ["-"] + [digits[:end] for end in range(2, len(digits) + 1, 2)]
+
+
+def changes(digits):
+    """Some bytes with each of them changed to each value, itself among them."""
+    return [digits[:place] + format(value, "02X") + digits[place + 2:] for place in range(0, len(digits), 2) for value in range(256)]
+
+
+# What comes of the bytes of a message, by the sign that asks for it.
+VARIED = {"<": beginnings, "^": changes}
 
 
 def counted(found, place):

@@ -2,7 +2,10 @@
 
 use std::alloc::{AllocError, Global};
 use std::process::Abort;
-use tlv24::{ClassName, ErrorEncodings, FlowFields, FlowTlv, read_back, read_flow, write_flow};
+use tlv24::{
+    ClassName, ErrorEncodings, FlowFault, FlowFields, FlowTlv, TlvFault, read_back, read_flow,
+    write_flow,
+};
 
 /// An encoding with every known subtype.
 const WHOLE: &[u8] = &[
@@ -101,12 +104,107 @@ fn are_written(alloc: Global, bytes: &[u8], wanted: &[u8]) -> Result<bool, Alloc
     }
 }
 
+/// A reference and a set type, as they are read and written.
+const REFERENCE_AND_SET: &[u8] = &[0x01, 0x02, 0x00, 0x01, 0x06, 0x01, 0x06];
+
+/// Returns the fields of both.
+fn reference_and_set() -> FlowFields {
+    FlowFields {
+        reference: Some(1),
+        set_type: Some(6),
+        ..FlowFields::NONE
+    }
+}
+
+/// A SID with its upper two bits set. They do not count, and are written as 0.
+const UPPER_SID: &[u8] = &[0x03, 0x02, 0xC1, 0x01];
+
+const LOWER_SID: &[u8] = &[0x03, 0x02, 0x01, 0x01];
+
+/// Returns the fields of both.
+fn sid_alone() -> FlowFields {
+    FlowFields {
+        sid: Some(257),
+        ..FlowFields::NONE
+    }
+}
+
+/// A service class name of one letter.
+const ONE_LETTER: &[u8] = &[0x04, 0x02, 0x41, 0x00];
+
+/// Returns its field.
+fn one_letter() -> FlowFields {
+    FlowFields {
+        class_name: ClassName::new(b"A"),
+        ..FlowFields::NONE
+    }
+}
+
+/// Invalid encodings, the first fault of each, and the reference before it. None has an SFID.
+const FAULTS: [(&[u8], TlvFault, Option<u16>); 6] = [
+    (
+        &[0x01, 0x02, 0x00, 0x00],
+        TlvFault::Range { subtype: 1 },
+        None,
+    ),
+    (
+        &[0x04, 0x02, 0x00, 0x41],
+        TlvFault::Range { subtype: 4 },
+        None,
+    ),
+    (
+        &[0x05, 0x01, 0x00],
+        TlvFault::WrongLength { subtype: 5 },
+        None,
+    ),
+    (
+        &[0x06, 0x01, 0x06, 0x06, 0x01],
+        TlvFault::Cut { at: 3 },
+        None,
+    ),
+    (
+        &[0x01, 0x02, 0x00, 0x01, 0x01, 0x02, 0x00, 0x00],
+        TlvFault::Twice { subtype: 1 },
+        Some(1),
+    ),
+    (
+        &[0x01, 0x02, 0x00, 0x01, 0x01, 0x01, 0x00],
+        TlvFault::WrongLength { subtype: 1 },
+        Some(1),
+    ),
+];
+
+/// Returns whether an encoding has this first fault.
+fn is_at_fault(bytes: &[u8], fault: TlvFault, reference: Option<u16>) -> bool {
+    let wanted = FlowFault {
+        fault,
+        reference,
+        sfid: None,
+    };
+    match read_flow(bytes) {
+        Ok(_) => false,
+        Err(fault) => fault == wanted,
+    }
+}
+
+#[test]
+fn an_invalid_encoding_returns_its_first_fault(rt: HostRuntime) {
+    for (bytes, fault, reference) in FAULTS {
+        assert!(rt; is_at_fault(bytes, fault, reference));
+    }
+}
+
 #[test]
 fn encodings_are_read_and_written(rt: HostRuntime) -> Result<(), AllocError> {
     assert!(rt; says(b"", FlowFields::NONE));
     assert!(rt; says(TURNED, turned_fields()));
     assert!(rt; says(WHOLE, whole_fields()));
+    assert!(rt; says(REFERENCE_AND_SET, reference_and_set()));
+    assert!(rt; says(UPPER_SID, sid_alone()));
+    assert!(rt; says(ONE_LETTER, one_letter()));
     assert!(rt; are_written(rt.alloc(), TURNED, ASCENDING)?);
     assert!(rt; are_written(rt.alloc(), WHOLE, WHOLE)?);
+    assert!(rt; are_written(rt.alloc(), REFERENCE_AND_SET, REFERENCE_AND_SET)?);
+    assert!(rt; are_written(rt.alloc(), UPPER_SID, LOWER_SID)?);
     Ok(())
 }

@@ -5,11 +5,17 @@
 #[cfg(test)]
 mod encodings;
 #[cfg(test)]
+mod gathering;
+#[cfg(test)]
+mod keeping;
+#[cfg(test)]
 mod maps;
 #[cfg(test)]
 mod messages;
 #[cfg(test)]
 mod ranks;
+#[cfg(test)]
+mod schedules;
 #[cfg(test)]
 mod sets;
 #[cfg(test)]

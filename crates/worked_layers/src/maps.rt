@@ -55,6 +55,11 @@ const NO_NULL: [u8; 32] = [
     0xFF, 0xFC, 0x40, 0x00, 0x04, 0x05, 0x80, 0x08, 0x00, 0x01, 0x80, 0x0D, 0x00, 0x01, 0x80, 0x28,
 ];
 
+/// The first 15 bytes of `ONE_GRANT`, and its first 16: a header that counts five elements, of which none is there.
+const ONE_GRANT_15: [u8; 15] = [1, 1, 5, 0, 0, 0, 0, 0, 0, 0, 0, 0, 0, 0, 0];
+
+const ONE_GRANT_16: [u8; 16] = [1, 1, 5, 0, 0, 0, 0, 0, 0, 0, 0, 0, 0, 0, 0, 0];
+
 /// A header with each field of its own, and the Null at 5.
 const ALL_FIELDS: [u8; 20] = [
     7, 9, 1, 255, 0xFF, 0xFF, 0xFF, 0x70, 1, 2, 3, 4, 11, 12, 13, 14, 0x00, 0x01, 0xC0, 0x05,
@@ -146,8 +151,10 @@ fn a_map_says_its_header_its_spans_and_who_waits(rt: HostRuntime) {
 }
 
 /// Bytes that are no MAP, and what is wrong with them.
-const FAULTS: [(&[u8], MapFault); 6] = [
+const FAULTS: [(&[u8], MapFault); 8] = [
     (&CUT, MapFault::Short),
+    (&ONE_GRANT_15, MapFault::Short),
+    (&ONE_GRANT_16, MapFault::Count),
     (&NO_ELEMENT, MapFault::Count),
     (&HEADER, MapFault::NoNull),
     (&NO_NULL, MapFault::NoNull),

@@ -1,6 +1,6 @@
 //! Replies, and bytes that are none, written by hand from the layouts.
 
-use dsx_messages::{Reply, read_back, read_reply};
+use dsx_messages::{Code, Detail, Kind, Reply, ReplyFields, read_back, read_reply};
 use std::alloc::{AllocError, Global};
 use std::process::Abort;
 
@@ -12,6 +12,34 @@ fn are_none(bytes: &[u8]) -> bool {
 /// Whether a reply that is written is read back as it is.
 fn is_read_back(alloc: Global, reply: &Reply) -> Result<bool, AllocError> {
     Ok(read_back(alloc, reply)? == *reply)
+}
+
+/// The fields of `REPLY`.
+const FIELDS: ReplyFields = ReplyFields {
+    kind: Kind::Dsa,
+    tid: 1,
+    code: Code::Okay,
+    detail: Detail::Given {
+        reference: Some(1),
+        sfid: 257,
+        sid: Some(257),
+    },
+};
+
+/// Returns whether a reply has these fields.
+fn are_fields(reply: &Reply, wanted: ReplyFields) -> bool {
+    reply.get_kind() == wanted.kind
+        && reply.get_tid() == wanted.tid
+        && reply.get_code() == wanted.code
+        && reply.get_detail() == wanted.detail
+}
+
+/// Returns whether bytes are a reply with these fields.
+fn has_fields(bytes: &[u8], wanted: ReplyFields) -> bool {
+    match &read_reply(bytes) {
+        Some(reply) => are_fields(reply, wanted),
+        None => false,
+    }
 }
 
 /// Whether bytes are a reply, and it is read back.
@@ -28,6 +56,7 @@ const REPLY: &[u8] =
 
 #[test]
 fn a_reply_is_read_back_and_has_no_second_spelling(rt: HostRuntime) -> Result<(), AllocError> {
+    assert!(rt; has_fields(REPLY, FIELDS));
     assert!(rt; are_read_back(rt.alloc(), REPLY)?);
     for bytes in [
         b"".as_slice(),

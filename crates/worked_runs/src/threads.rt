@@ -6,5 +6,6 @@ mod faults;
 mod gates;
 mod opening;
 mod playing;
+mod refusals;
 mod runs;
 mod sharing;

@@ -1,4 +1,5 @@
-//! How many calls a second a cell takes, beside a book behind a lock.
+//! Many calls by many threads, on a cell of passes and on a book behind a lock. The test asserts that each call has its entry. It also
+//! prints how many calls a second were made, which nothing asserts: `tools/measure_passes.sh` makes a table of that.
 
 use crate::passes::cells::{MODEM, addition, book, opened, strict};
 use crate::passes::teams::raced;
@@ -15,7 +16,7 @@ use std::time::{Clock, Instant};
 /// The calls of a run, with all threads.
 const CALLS: usize = 48_000;
 
-/// How many calls a second are made, where all were answered.
+/// Returns how many calls a second were made, or `None` where one of them has no entry.
 fn per_second(calls: usize, micros: u128) -> Option<u128> {
     if calls != CALLS {
         return None;
@@ -130,8 +131,9 @@ fn passed_pace<R: Threads + Wait + Sync + Clock>(
     per_second(cell.close(passes)?.history().len(), took)
 }
 
+/// Each of 48,000 calls is answered, by 1, 2, 4 and 8 threads, on a cell and on a book behind a lock.
 #[test]
-fn calls_a_second(rt: HostRuntime) -> Result<(), Fail> {
+fn each_call_of_many_threads_is_answered(rt: HostRuntime) -> Result<(), Fail> {
     let alloc = rt.alloc();
     for threads in [1, 2, 4, 8] {
         let passed = passed_pace(&rt, alloc, strict!(alloc), threads).ok_or("no pace")?;

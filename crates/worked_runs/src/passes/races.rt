@@ -10,6 +10,7 @@ use crate::passes::teams::raced;
 use hex::encode_upper;
 use operator_book::{Book, Entry, Output};
 use plant_passes::{Pass, PassedCell, Receipt};
+use plant_receipts::{Callers, Receipts, settle};
 use std::alloc::Global;
 use std::process::Abort;
 use std::sync::Wait;
@@ -81,6 +82,27 @@ fn frames_follow(history: &[Entry], first: u32, end: u32) -> bool {
     next == end
 }
 
+/// Splits receipts into those of callers that made so many calls each, one caller after the other.
+fn callers_of(alloc: Global, receipts: Vec<Receipt>, calls: usize) -> Option<Callers> {
+    let mut callers = Callers::new(alloc);
+    let mut own = Receipts::new(alloc);
+    for receipt in receipts {
+        own.push(receipt).ok()?;
+        if own.len() == calls {
+            callers.push(own).ok()?;
+            own = Receipts::new(alloc);
+        }
+    }
+    Some(callers)
+}
+
+/// Returns whether the receipts of these callers settle over a book.
+fn settles(alloc: Global, book: Book, callers: Callers) -> Option<bool> {
+    let books = Vec::from_array(alloc, [book]).ok()?;
+    let receipts = Vec::from_array(alloc, [callers]).ok()?;
+    Some(settle(alloc, books, receipts, Vec::new(alloc)).is_ok())
+}
+
 /// The history of a cell whose passes are handed back.
 fn closed(cell: PassedCell, passes: Vec<Pass>) -> Option<Book>
     requires { All (λ p. IsOf (cell_of cell) (pass_of p)) passes.items }
@@ -100,6 +122,20 @@ fn two_threads_make_three_calls_each(rt: HostRuntime) -> Result<(), Fail> {
     assert_eq!(rt; fit(alloc, history, receipts.as_slice()), Some(true));
     assert_eq!(rt; replies(alloc, history), Some(2));
     assert!(rt; frames_follow(history, 0, 2));
+    Ok(())
+}
+
+/// Receipts of passes go to `settle` as those of other callers do.
+#[test]
+fn receipts_of_two_passes_settle(rt: HostRuntime) -> Result<(), Fail> {
+    let alloc = rt.alloc();
+    let book = book(alloc, strict!(alloc)).ok_or("no book")?;
+    let (cell, passes) = opened(alloc, book, 2).ok_or("no cell")?;
+    let (passes, receipts) = raced(&rt, alloc, &cell, passes, 2, 3).ok_or("no race")?;
+    let book = closed(cell, passes).ok_or("no book")?;
+    let callers = callers_of(alloc, receipts, 3).ok_or("no callers")?;
+    assert_eq!(rt; callers.len(), 2);
+    assert_eq!(rt; settles(alloc, book, callers), Some(true));
     Ok(())
 }
 

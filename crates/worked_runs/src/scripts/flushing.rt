@@ -39,13 +39,13 @@ impl Read for Waiting<'_> {
 /// Takes all bytes, and counts those that are not flushed.
 #[derive(Drop)]
 struct Buffered<'a> {
-    taken: usize,
+    taken: Vec<u8>,
     held_back: &'a Cell<usize>,
 }
 
 impl Write for Buffered<'_> {
     fn write(&mut self, buf: &[u8]) -> io::Result<usize> {
-        self.taken = self.taken.saturating_add(buf.len());
+        self.taken.extend_from_slice(buf)?;
         let held = self.held_back.get().saturating_add(buf.len());
         self.held_back.set(held);
         Ok(buf.len())
@@ -57,8 +57,8 @@ impl Write for Buffered<'_> {
     }
 }
 
-/// How many bytes a plant in service writes to a script's lines, where it never reads on with something held back.
-fn bytes_served(alloc: Global, script: &[u8]) -> Result<usize, Fail> {
+/// Returns what a plant in service writes to a script's lines, where it never reads on with something held back.
+fn served(alloc: Global, script: &[u8]) -> Result<Vec<u8>, Fail> {
     let plant = read_plant(alloc, PLANT).ok().ok_or("no plant")?;
     let mut rankings = Vec::new(alloc);
     for row in plant.rows() {
@@ -82,7 +82,7 @@ fn bytes_served(alloc: Global, script: &[u8]) -> Result<usize, Fail> {
         held_back: &held_back,
     };
     let mut writer = Buffered {
-        taken: 0,
+        taken: Vec::new(alloc),
         held_back: &held_back,
     };
     match serve(alloc, &mut core, held, &mut reader, &mut writer) {
@@ -91,13 +91,25 @@ fn bytes_served(alloc: Global, script: &[u8]) -> Result<usize, Fail> {
     }
 }
 
+/// The answers to a tick of A, to a line of no shape, to a tick of B, which makes the MAP, and to another line of no shape, which no line
+/// feed ends.
+const TICKED: &[u8] = b"F A 0 0/6/8/32
+fault: line 2
+F B 0 0/6/40/32
+MAP 0 01010400000000000000000000000000FFFC400000018008000180280001C048
+fault: line 4
+";
+
 /// Answers with lines, fault lines and the answer to the last line, which no line feed ends, are flushed.
 #[test]
 fn answers_are_flushed(rt: HostRuntime) -> Result<(), Fail> {
     let alloc = rt.alloc();
-    let faults = bytes_served(alloc, b"X\n\nT Nobody\n")?;
-    assert_eq!(rt; faults, 28);
-    let ticked = bytes_served(alloc, b"T Alpha\nX\nT Beta\nX")?;
-    assert!(rt; ticked > 28);
+    let faults = served(alloc, b"X\n\nT Nobody\n")?;
+    assert_eq!(rt;
+        faults.as_slice(),
+        b"fault: line 1\nfault: line 3\n".as_slice()
+    );
+    let ticked = served(alloc, b"T A\nX\nT B\nX")?;
+    assert_eq!(rt; ticked.as_slice(), TICKED);
     Ok(())
 }

@@ -1,6 +1,6 @@
 //! Operators that work at the same time, as a gate can see.
 
-use crate::threads::playing::comes_to;
+use crate::threads::playing::{Order, steps_come_to, steps_of_both};
 use plant::Op;
 use plant_workers::Gate;
 use std::alloc::{AllocError, Global};
@@ -11,62 +11,81 @@ use std::thread;
 use std::thread::Threads;
 use std::time::{Clock, Duration};
 
-/// Holds one operator's second action inside until another's second is outside, ten seconds at most.
+/// Holds one operator inside its second action until the other's second action is outside. The other's first action waits inside until
+/// that operator is held, so that its second action comes later. Each wait ends after ten seconds.
 #[derive(Drop)]
-struct Holds<'a, C: Clock> {
+struct HoldingGate<'a, C: Clock> {
     clock: &'a C,
     held: Op,
     other: Op,
-    done: AtomicU64,
-    missed: AtomicU64,
+    /// How often the operator was held.
+    holds: AtomicU64,
+    /// How often the other's second action was outside.
+    releases: AtomicU64,
+    /// How often the other's second action came while the operator was held.
+    passes: AtomicU64,
 }
 
-impl<R: Wait, C: Clock> Gate<R> for Holds<'_, C> {
+/// Waits until a count is no longer 0, ten seconds at most. Returns whether it is so.
+fn is_counted<C: Clock>(clock: &C, count: &AtomicU64) -> bool {
+    for _ in 0..10_000 {
+        if count.load(Ordering::SeqCst) > 0 {
+            return true;
+        }
+        thread::sleep(clock, Duration::from_millis(1));
+    }
+    false
+}
+
+impl<R: Wait, C: Clock> Gate<R> for HoldingGate<'_, C> {
     fn inside(&self, _rt: &R, op: Op, index: usize) {
-        if op != self.held || index != 1 {
-            return;
+        if op == self.other && index == 0 {
+            let _held = is_counted(self.clock, &self.holds);
         }
-        for _ in 0..10_000 {
-            if self.done.load(Ordering::SeqCst) > 0 {
-                return;
+        if op == self.held && index == 1 {
+            let is_first = self.releases.load(Ordering::SeqCst) == 0;
+            self.holds.fetch_add(1, Ordering::SeqCst);
+            if is_counted(self.clock, &self.releases) && is_first {
+                self.passes.fetch_add(1, Ordering::SeqCst);
             }
-            thread::sleep(self.clock, Duration::from_millis(1));
         }
-        self.missed.fetch_add(1, Ordering::SeqCst);
     }
 
     fn outside(&self, _rt: &R, op: Op, index: usize) {
         if op == self.other && index == 1 {
-            self.done.fetch_add(1, Ordering::SeqCst);
+            self.releases.fetch_add(1, Ordering::SeqCst);
         }
     }
 }
 
-/// Whether two operators, of which the first that is named is held inside its second action until the other's second is outside, come to
-/// a MAP, and it was not held in vain.
-fn are_apart<R: Threads + Wait + Sync + Clock>(
+/// Returns whether a run gives its MAP, one operator is held inside its work once, and the other's work ends meanwhile, once.
+fn work_overlaps<R: Threads + Wait + Sync + Clock>(
     rt: &R,
     alloc: Global,
     held: Op,
     other: Op,
+    order: Order,
 ) -> Result<bool, AllocError> {
-    let gate = Holds {
+    let gate = HoldingGate {
         clock: rt,
         held,
         other,
-        done: AtomicU64::new(0),
-        missed: AtomicU64::new(0),
+        holds: AtomicU64::new(0),
+        releases: AtomicU64::new(0),
+        passes: AtomicU64::new(0),
     };
-    let ran = comes_to(rt, alloc, &gate, &[], Ok(1))?;
-    let missed = gate.missed.load(Ordering::SeqCst);
-    let done = gate.done.load(Ordering::SeqCst);
-    Ok(ran && missed == 0 && done == 1)
+    let steps = steps_of_both(alloc, order)?;
+    let ran = steps_come_to(rt, alloc, steps, &gate, &[], Ok(1))?;
+    let holds = gate.holds.load(Ordering::SeqCst);
+    let releases = gate.releases.load(Ordering::SeqCst);
+    let passes = gate.passes.load(Ordering::SeqCst);
+    Ok(ran && holds == 1 && releases == 1 && passes == 1)
 }
 
-/// One way round and the other.
+/// Each operator works while the other is held: not with one thread for both, nor with one lock round both.
 #[test]
 fn one_thread_or_one_lock(rt: HostRuntime) -> Result<(), AllocError> {
-    assert!(rt; are_apart(&rt, rt.alloc(), 0, 1)?);
-    assert!(rt; are_apart(&rt, rt.alloc(), 1, 0)?);
+    assert!(rt; work_overlaps(&rt, rt.alloc(), 0, 1, Order::FirstIsA)?);
+    assert!(rt; work_overlaps(&rt, rt.alloc(), 1, 0, Order::FirstIsB)?);
     Ok(())
 }

@@ -24,11 +24,27 @@ fn asks(last: u8) -> Step {
     }
 }
 
-/// A modem of each operator asks for minislots; then each operator works, ticks, and has its frame collected.
-fn steps_of_both(alloc: Global) -> Result<Vec<Step>, AllocError> {
+/// Whose modem is heard first.
+#[derive(Clone, Copy, Debug, PartialEq, Eq)]
+pub(crate) enum Order {
+    FirstIsA,
+    FirstIsB,
+}
+
+/// Returns the requests for minislots of a modem of each operator.
+fn requests(order: Order) -> [Step; 2] {
+    match order {
+        Order::FirstIsA => [asks(1), asks(3)],
+        Order::FirstIsB => [asks(3), asks(1)],
+    }
+}
+
+/// Returns the steps of a run: a modem of each operator asks for minislots; then each operator works, ticks, and has its frame collected.
+pub(crate) fn steps_of_both(alloc: Global, order: Order) -> Result<Vec<Step>, AllocError> {
+    let [first, second] = requests(order);
     let steps = [
-        asks(1),
-        asks(3),
+        first,
+        second,
         Step::Work { op: 0 },
         Step::Tick { op: 0 },
         Step::Collect { op: 0 },
@@ -54,11 +70,11 @@ fn run_comes_to<R: Threads + Wait + Sync, G: Gate<R> + Sync>(
     alloc: Global,
     plant: Plant,
     rankings: Vec<Ranking>,
+    steps: Vec<Step>,
     gate: &G,
     stacks: &[usize],
     wanted: Result<usize, RunFault>,
 ) -> Result<bool, AllocError> {
-    let steps = steps_of_both(alloc)?;
     if are_ranked(&plant, rankings.as_slice()) {
         let settled = run_workers_on(rt, alloc, plant, rankings, steps, gate, stacks);
         Ok(is_settled(&settled, wanted))
@@ -67,7 +83,23 @@ fn run_comes_to<R: Threads + Wait + Sync, G: Gate<R> + Sync>(
     }
 }
 
-/// Whether a run of the steps on threads, over the plant of operators A and B, comes to so many MAPs, or to this fault.
+/// Returns whether a run of some steps on threads, over the plant of operators A and B, gives so many MAPs, or this fault.
+pub(crate) fn steps_come_to<R: Threads + Wait + Sync, G: Gate<R> + Sync>(
+    rt: &R,
+    alloc: Global,
+    steps: Vec<Step>,
+    gate: &G,
+    stacks: &[usize],
+    wanted: Result<usize, RunFault>,
+) -> Result<bool, AllocError> {
+    let rankings = Vec::from_array(alloc, [strict!(alloc), strict!(alloc)])?;
+    match read_plant(alloc, PLANT) {
+        Ok(plant) => run_comes_to(rt, alloc, plant, rankings, steps, gate, stacks, wanted),
+        Err(_) => Ok(false),
+    }
+}
+
+/// Returns whether a run of steps of both operators gives so many MAPs, or this fault.
 pub(crate) fn comes_to<R: Threads + Wait + Sync, G: Gate<R> + Sync>(
     rt: &R,
     alloc: Global,
@@ -75,9 +107,6 @@ pub(crate) fn comes_to<R: Threads + Wait + Sync, G: Gate<R> + Sync>(
     stacks: &[usize],
     wanted: Result<usize, RunFault>,
 ) -> Result<bool, AllocError> {
-    let rankings = Vec::from_array(alloc, [strict!(alloc), strict!(alloc)])?;
-    match read_plant(alloc, PLANT) {
-        Ok(plant) => run_comes_to(rt, alloc, plant, rankings, gate, stacks, wanted),
-        Err(_) => Ok(false),
-    }
+    let steps = steps_of_both(alloc, Order::FirstIsA)?;
+    steps_come_to(rt, alloc, steps, gate, stacks, wanted)
 }
