@@ -7,7 +7,7 @@ shows is so. tools/examples.sh calls it.
 An input is `WORD.txt` or `WORD_more.txt`, its output has the same name with `.out`; the first examples have names of their own. A block
 of a README that begins with ``` and the name of an input shows the script of this input, below each line what it prints, and indented
 below a message its words (tools/dsx); of `trace`, whose output has the script's lines, it shows the output. All such blocks together are
-the whole of it, in order. A block of `toml` stands in one of the plant files word by word. Together the examples meet each check of the table in docs/PROFILE.md, each confirmation code and each cause
+the whole of it, in order. A block of `toml` stands in one of the plant files word by word. Together the examples meet each check of the table in docs/RULES.md, each confirmation code and each cause
 that a script can meet, and the plant file of examples/every_key has each key.
 """
 
@@ -128,7 +128,7 @@ def differences(folder):
 
 # What the examples leave out
 
-PROFILE = EXAMPLES.parent / "docs/PROFILE.md"
+FORMATS = EXAMPLES.parent / "docs/FORMATS.md"
 CAUSES = ("Empty", "NotOurs", "Short", "TidInUse", "UnknownAck", "NoSuchSid", "NotRequesting")
 # The checks by which a request is answered, the last of them code 0.
 CHECKS = range(1, 23)
@@ -144,16 +144,16 @@ def left_out():
             yield f"no example meets check {check}"
     yield from (f"no example is answered {code}" for code in CODES if code not in codes)
     yield from (f"no example has the cause {cause}" for cause in CAUSES if f" {cause}\n" not in outputs)
-    yield from (f"every_key has no {key}" for key in keys_of_profile() if not re.search(f"^{key} = ", every_key(), re.MULTILINE))
+    yield from (f"every_key has no {key}" for key in keys_of_plant_files() if not re.search(f"^{key} = ", every_key(), re.MULTILINE))
 
 
 def every_key():
     return (EXAMPLES / "every_key/check.txt").read_text()
 
 
-def keys_of_profile():
+def keys_of_plant_files():
     """The keys in the tables of a plant file, but for the table `flow` itself."""
-    section = PROFILE.read_text().split("\n## The plant file")[1]
+    section = FORMATS.read_text().split("\n## The plant file")[1].split("\n## ")[0]
     rows = re.findall(r"^\| ((?:`[a-z_]+`(?:, )?)+) \|", section, re.MULTILINE)
     return [key for row in rows for key in re.findall("`([a-z_]+)`", row) if key != "flow"]
 

@@ -1,6 +1,6 @@
 #!/bin/bash
 # Measures how many calls a second 1, 2, 4 and 8 threads make on a cell of passes, and on a book behind a lock, and prints the table of
-# docs/COST.md: the best of so many runs, 10 if it is not said. Each run makes 48,000 calls on each: an arrival, work and a tick in turn.
+# docs/PERFORMANCE.md: the best of so many runs, 10 if it is not said. Each run makes 48,000 calls on each: an arrival, work and a tick in turn.
 # Usage: tools/measure_passes.sh [RUNS]   Needs bash, awk, and `rt test` in crates/worked_runs.
 set -euo pipefail
 here=$(cd "$(dirname "$0")" && pwd)
@@ -8,7 +8,7 @@ program=$here/../crates/worked_runs/out/worked_runs_tests
 runs=${1:-10}
 
 for ((run = 0; run < runs; run++)); do
-    "$program" passes::pace::calls_a_second
+    "$program" passes::pace::each_call_of_many_threads_is_answered
 done | awk -F'|' '
     NF == 5 {
         if ($3 + 0 > passed[$2 + 0]) passed[$2 + 0] = $3 + 0

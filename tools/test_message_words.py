@@ -1,5 +1,5 @@
 #!/usr/bin/env python3
-"""Checks of tools/message_words.py: words and bytes typed from docs/PROFILE.md, the way there and back over every message that stands
+"""Checks of tools/message_words.py: words and bytes typed from docs/FORMATS.md, the way there and back over every message that stands
 in the repository, in the inputs of tools/hostile.py and in generated cases, with the replies to them, and over random bytes; and each
 fault by its text.
 

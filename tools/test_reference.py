@@ -1,5 +1,5 @@
 #!/usr/bin/env python3
-"""Checks of the reference, with values typed from the tables of docs/PROFILE.md."""
+"""Checks of the reference, with values typed from the tables of docs/FORMATS.md and docs/RULES.md."""
 
 import pathlib
 import sys

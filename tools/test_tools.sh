@@ -1,10 +1,13 @@
 #!/bin/bash
-# Tests of the tools: the widths of clauses; the reference on the examples, on the cases of tests/ and on values typed from docs/PROFILE.md; the
-# generator writes the same twice, and tools/hostile.py meets each check of the table. Where the program is built, it answers the examples and the
-# cases too; it is compared with the reference on 50 generated cases, by `run`, by `threads`, by `capture` and by `trace`, and `threads` and `serve`
-# with `run` on the examples; then on the inputs of tools/hostile.py and of tools/corners.py, and tools/statuses.sh and tools/reasons.py are run.
+# Tests of the tools: the widths of clauses; the prose of the documents; the reference on the examples, on the cases of tests/ and on values
+# typed from docs/FORMATS.md and docs/RULES.md; the generator writes the same twice, and tools/hostile.py meets each check of the table. Where
+# the program is built, it answers the examples and the cases too; it is compared with the reference on 50 generated cases, by `run`, by
+# `threads`, by `capture` and by `trace`, and `threads` and `serve` with `run` on the examples; then on the inputs of tools/hostile.py and of
+# tools/corners.py, and tools/statuses.sh and tools/reasons.py are run.
 # Where socat is installed plants are served behind a socket, and where tshark is installed it reads what is captured of the examples.
-# Usage: tools/test_tools.sh     Needs bash and python3; takes 15 seconds; where the program is built half a minute, with socat and tshark more.
+# Starting and proving are tried with a stand-in for rt. The commands of README.md and docs/GUIDE.md are run, and
+# the figures of docs/SCOPE.md are tried by the reference.
+# Usage: tools/test_tools.sh     Needs bash and python3; takes 45 seconds; where the program is built a minute, with socat and tshark more.
 set -euo pipefail
 
 here=$(cd "$(dirname "$0")" && pwd)
@@ -15,11 +18,12 @@ trap 'rm -rf "$work"' EXIT
 
 # No clause has a line over 160 columns.
 "$here/clause_widths" --most 0 || { "$here/clause_widths" --list >&2; exit 1; }
+"$here/check_prose" >"$work/told" || { cat "$work/told" >&2; exit 1; }
 "$here/examples.sh" >"$work/told" || { cat "$work/told" >&2; exit 1; }
 "$here/cases.py" >"$work/told" || { cat "$work/told" >&2; exit 1; }
 ! "$here/cases.py" "$(type -P true)" >"$work/told" || { echo 'tools/cases.py does not notice a program that says nothing' >&2; exit 1; }
 [ "$(python3 "$here/reference" check <"$examples/plant_p2.toml")" = ok ]
-for test in test_reference test_message_words test_plant_view; do
+for test in test_reference test_message_words test_plant_view test_check_prose test_starting test_guide test_scope; do
     "$here/$test.py" >"$work/told" 2>&1 || { cat "$work/told" >&2; exit 1; }
 done
 

@@ -13,7 +13,8 @@
 #
 # The program is the one that PLANT_SCRIPT names, else plant_script two folders above this file. SIGTERM and SIGINT end it.
 # Statuses: those of `plant_script serve`; 0 where it was told to end; 1 where something else ended; 2 the words; 7 the record does not
-# give the answers that are there, so that the plant file or the record is another than it was; 8 another serves this folder.
+# give the answers that are there, so that the plant file or the record is another than it was; 8 another serves this folder; 126 the
+# proved program is not built. A start never builds it: `./prove` does, at the top of the repository.
 # Needs bash 5.1, socat, python3, flock, and the tail and cmp of GNU.
 set -eu
 set -m # each job is a process group of its own
@@ -23,9 +24,14 @@ if [ $# != 2 ] || [ ! -r "$1" ] || [ ! -d "$2" ]; then
     exit 2
 fi
 here=$(cd "$(dirname "$(readlink -f "$0")")" && pwd)
+top=$(cd "$here/../.." && pwd)
 plant=$(readlink -f "$1")
-program=${PLANT_SCRIPT:-$here/../../plant_script}
+program=${PLANT_SCRIPT:-$top/plant_script}
 case $program in */*) program=$(readlink -f "$program") ;; esac
+if [ "$program" = "$top/plant_script" ] && [ ! -x "$top/crates/plant_program/out/plant_program" ]; then
+    echo "serve_plant: the proved program is not built, and a service never builds it; to prove and build it: $top/prove" >&2
+    exit 126
+fi
 cd "$2"
 
 exec 9>lock

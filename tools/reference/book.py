@@ -265,7 +265,7 @@ def delete_flow(book, modem, tid, body):
     return reply("DSD", tid, OKAY), flow.sfid
 
 
-# The checks, by their numbers in docs/PROFILE.md
+# The checks, by their numbers in docs/RULES.md
 
 def judge_encodings(book, kind, flows):
     """Checks 5 to 9."""

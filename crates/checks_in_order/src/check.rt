@@ -14,7 +14,7 @@ ghost use Rattle.checks_in_order.specs.Messages.{message_table};
 
 use dsx_messages::Code;
 
-/// A check that a message with no acknowledgement meets, in the order of the table (docs/PROFILE.md).
+/// A check that a message with no acknowledgement meets, in the order of the table (docs/RULES.md).
 #[derive(Clone, Copy, Debug, PartialEq, Eq)]
 pub enum MessageCheck {
     /// There is no byte, the type is not ours, or the fixed part is short.
@@ -32,7 +32,7 @@ pub enum MessageCheck {
 }
 
 /// A check that a request meets once it is read and its transaction is new, in the order of the table
-/// (docs/PROFILE.md).
+/// (docs/RULES.md).
 #[derive(Clone, Copy, Debug, PartialEq, Eq)]
 pub enum Check {
     /// An encoding names a service class that the plant has not.
@@ -74,7 +74,7 @@ pub enum Check {
 }
 
 impl MessageCheck {
-    /// Its number in the table of docs/PROFILE.md; 5, the first of those of a request, where these decide.
+    /// Its number in the table of docs/RULES.md; 5, the first of those of a request, where these decide.
     pub fn number(self) -> u8
         ensures { slice_get message_table result ≡ Some self }
     {
@@ -90,7 +90,7 @@ impl MessageCheck {
 }
 
 impl Check {
-    /// Its number in the table of docs/PROFILE.md.
+    /// Its number in the table of docs/RULES.md.
     pub fn number(self) -> u8
         ensures { (5 ≤ result) × (slice_get table (result - 5) ≡ Some self) }
     {

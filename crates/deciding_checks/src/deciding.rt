@@ -17,7 +17,7 @@ use checks_in_order::Check;
 use dsx_messages::{Modem, Request};
 use std::alloc::{AllocError, Global};
 
-/// The checks in the order of the table (docs/PROFILE.md), without the last, which always holds.
+/// The checks in the order of the table (docs/RULES.md), without the last, which always holds.
 const CHECKS: [Check; 17] = [
     Check::UnknownClass,
     Check::NoEncoding,

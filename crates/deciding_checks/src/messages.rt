@@ -19,7 +19,7 @@ use checks_in_order::MessageCheck;
 use dsx_messages::{Kind, Message, MessageFault, Modem, Request};
 use transactions::KeptEntry;
 
-/// The checks of a message in the order of the table (docs/PROFILE.md).
+/// The checks of a message in the order of the table (docs/RULES.md).
 const MESSAGE_CHECKS: [MessageCheck; 6] = [
     MessageCheck::Unread,
     MessageCheck::OfCmts,

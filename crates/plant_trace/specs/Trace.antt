@@ -33,7 +33,7 @@ AreDecided plant before (step ∷ steps) (decision ∷ more) =
 
 -- ---- what is written
 
--- a check, by its number in the table of docs/PROFILE.md and its name
+-- a check, by its number in the table of docs/RULES.md and its name
 abbrev pub check_line : ℕ → List ℕ → List ℕ
 check_line number name = codes "  check " ++ (decimal number ++ (codes ", " ++ (name ++ 10 ∷ [])))
 

@@ -17,7 +17,7 @@ use plant_core::PlantCore;
 use plant_runs::Step;
 use std::alloc::{AllocError, Global};
 
-/// The check that decides what a message is answered (docs/PROFILE.md).
+/// The check that decides what a message is answered (docs/RULES.md).
 #[derive(Clone, Copy, Debug, PartialEq, Eq)]
 pub enum Decision {
     /// A check of a message; never `Judged`, where a check of the request decides.
