@@ -1,10 +1,10 @@
 #!/bin/bash
 # Measures how many calls a second 1, 2, 4 and 8 threads make on a cell of passes, and on a book behind a lock, and prints the table of
 # docs/PERFORMANCE.md: the best of so many runs, 10 if it is not said. Each run makes 48,000 calls on each: an arrival, work and a tick in turn.
-# Usage: tools/measure_passes.sh [RUNS]   Needs bash, awk, and `rt test` in crates/worked_runs.
+# Usage: tools/measure_passes.sh [RUNS]   Needs bash, awk, and `rt test` in crates/test_program.
 set -euo pipefail
 here=$(cd "$(dirname "$0")" && pwd)
-program=$here/../crates/worked_runs/out/worked_runs_tests
+program=$here/../crates/test_program/out/worked_runs_tests
 runs=${1:-10}
 
 for ((run = 0; run < runs; run++)); do

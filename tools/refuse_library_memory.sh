@@ -1,6 +1,6 @@
 #!/bin/bash
-# Refuses the tests of library calls each of their requests for memory in turn: those of the modules `want_of_memory` of worked_layers
-# and of worked_runs, as `rt test` built them. A run is right where the test passes, since the call whose request was
+# Refuses the tests of library calls each of their requests for memory in turn: those of the modules `want_of_memory` of test_library
+# and of test_program, as `rt test` built them. A run is right where the test passes, since the call whose request was
 # refused answered its want of memory and left its value as it was, and answered aright when it was made again; or where it ends
 # early with status 101, since a request of its own was refused. A failed assertion ends a test by a signal, and is wrong. Prints a
 # table: test, requests, how many were refused to the calls under test, how many to the test itself, and how many runs were wrong
@@ -10,7 +10,7 @@ set -euo pipefail
 
 here=$(cd "$(dirname "$0")" && pwd)
 crates=("$@")
-[ $# -gt 0 ] || crates=(worked_layers worked_runs)
+[ $# -gt 0 ] || crates=(test_library test_program)
 work=$(mktemp -d)
 trap 'rm -rf "$work"' EXIT
 gcc -shared -fPIC -O1 -o "$work/refuse.so" "$here/refuse.c"

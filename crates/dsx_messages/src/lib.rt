@@ -20,7 +20,7 @@ pub use code::Code;
 pub use fault::MessageFault;
 pub use kind::Kind;
 pub use laws::message_is_read;
-pub use message::{Flows, Message, Request};
+pub use message::{FlowEncodings, Message, Request};
 pub use modem::Modem;
 pub use reading::read;
 pub use reply::{Detail, FlowId, Reply, ReplyFields};

@@ -5,15 +5,15 @@ use lists::Listed;
 use tlv24::FlowTlv;
 
 /// The flow encodings of a request in the order of its bytes.
-pub type Flows = Listed<FlowTlv>;
+pub type FlowEncodings = Listed<FlowTlv>;
 
 /// What a modem asks for.
 #[derive(Debug, Drop)]
 pub enum Request {
     /// DSA-REQ (type 15): flows to add.
-    Dsa { tid: u16, flows: Flows },
+    Dsa { tid: u16, flows: FlowEncodings },
     /// DSC-REQ (type 18): flows to change.
-    Dsc { tid: u16, flows: Flows },
+    Dsc { tid: u16, flows: FlowEncodings },
     /// DSD-REQ (type 21): a flow to delete.
     Dsd { tid: u16, sfid: u32 },
 }

@@ -13,7 +13,7 @@ ghost use Rattle.dsx_messages.specs.declared.fault.MessageFault.TheVariants.{NoM
 
 use crate::fault::MessageFault;
 use crate::kind::Kind;
-use crate::message::{Flows, Message, Request};
+use crate::message::{FlowEncodings, Message, Request};
 use crate::reply::FlowId;
 use crate::{message_type, tlv_type};
 use std::alloc::Global;
@@ -134,7 +134,7 @@ fn flows_of(
 
 /// What the TLVs of a request say.
 #[tactic(auto, unfolding(crate::specs::Reading::flows_in))]
-fn flows_in(alloc: Global, tid: u16, kind: Kind, list: &[u8]) -> Result<Flows, MessageFault>
+fn flows_in(alloc: Global, tid: u16, kind: Kind, list: &[u8]) -> Result<FlowEncodings, MessageFault>
     ensures exact { Gives (λ flows. flows) result (flows_in tid kind list.now) }
     ensures memory { result ≡ Err NoMemory → HoldsFlows list.now }
 {
@@ -156,18 +156,18 @@ fn flows_in(alloc: Global, tid: u16, kind: Kind, list: &[u8]) -> Result<Flows, M
                 left_out: None,
                 flows: 0,
             },
-        ) => Ok(Flows::from_vec(Vec::new(alloc))),
+        ) => Ok(FlowEncodings::from_vec(Vec::new(alloc))),
         Ok(
             Survey {
                 left_out: None,
                 flows,
             },
-        ) => Ok(Flows::from_vec(flows_of(alloc, tid, kind, list, flows)?)),
+        ) => Ok(FlowEncodings::from_vec(flows_of(alloc, tid, kind, list, flows)?)),
     }
 }
 
 /// The request that holds flow encodings: an addition or a change.
-fn with_flows(kind: Kind, tid: u16, flows: Flows) -> Request
+fn with_flows(kind: Kind, tid: u16, flows: FlowEncodings) -> Request
     requires { kind ≢ Dsd }
     ensures { result ≡ with_flows kind tid flows }
 {

@@ -5,6 +5,6 @@ mod policy;
 mod rank_input;
 mod ranking;
 
-pub use policy::{Policy, Step};
+pub use policy::{AgingStep, Policy};
 pub use rank_input::RankInput;
 pub use ranking::{Ranker, Ranking, rank_at_most_63, rank_by};

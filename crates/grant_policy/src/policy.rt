@@ -4,11 +4,11 @@ use std::marker::Model;
 
 /// How many frames of waiting raise a flow's rank by one, 1 to 255. Contracts see it as a number.
 #[derive(Clone, Copy, Debug, PartialEq, Eq)]
-pub struct Step {
+pub struct AgingStep {
     frames: u8,
 }
 
-impl Model for Step {
+impl Model for AgingStep {
     ghost use Rattle.std.specs.Prelude.{ℕ, ◌<◌};
 
     ghost Value = { ℕ };
@@ -20,7 +20,7 @@ impl Model for Step {
     ghost inverse = { λ n. record { frames = n } };
 }
 
-impl Step {
+impl AgingStep {
     /// The frames of waiting that raise a rank by one, 1 to 255.
     pub fn get(self) -> u8
         ensures value { result ≡ self }
@@ -36,7 +36,7 @@ pub enum Policy {
     /// By traffic priority alone.
     Strict,
     /// By traffic priority, raised by one rank for each `step` frames waited.
-    Aged { step: Step },
+    Aged { step: AgingStep },
     /// The shortest backlog first.
     Short,
 }
@@ -51,7 +51,7 @@ impl Policy {
             None
         } else {
             Some(Policy::Aged {
-                step: Step { frames: step },
+                step: AgingStep { frames: step },
             })
         }
     }

@@ -3,9 +3,9 @@ use Rattle.std.proofs.Common.{◌≡◌, List, length, refl, sym, ap, ◌∙◌,
 use Rattle.std.proofs.lemmas.List.{length-map}
 use Rattle.std.proofs.lemmas.Option.{slice_get_within}
 use Rattle.plant.specs.declared.operator_row.RowFields.{RowFields}
-use Rattle.operator_machine.specs.Replay.{BookView}
-use Rattle.operator_machine.specs.State.{opened_before}
-use Rattle.plant_runs.proofs.Entries.{some_at}
+use Rattle.operator_model.specs.Replay.{BookView}
+use Rattle.operator_model.specs.State.{opened_before}
+use Rattle.run_model.proofs.Entries.{some_at}
 use Rattle.live_core.specs.GoingOn.{forgotten}
 use Rattle.live_core.specs.Changed.{ResumedIsChanged}
 use Rattle.live_core.proofs.ResumeLemmas.{operator_at, resumed_starts}

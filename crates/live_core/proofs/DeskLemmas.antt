@@ -2,17 +2,17 @@
 use Rattle.std.proofs.Common.{◌≡◌, ◌↔◌, ℕ, Bool, true, false, List, [], ◌∷◌, ◌++◌, length, Option, Some, None, Result, Err, append-nil, refl, sym, ap, ◌∙◌, arith}
 use Rattle.std.specs.Prelude.{slice_get, count_by, ◌==◌, IsSome}
 use Rattle.slice_scheduler.specs.declared.elements.ElementsFields.{ElementsFields}
-use Rattle.operator_machine.specs.declared.action.Action.{Action}
-use Rattle.operator_machine.specs.declared.output.Output.{Output}
-use Rattle.operator_machine.specs.State.{Operator}
+use Rattle.operator_model.specs.declared.action.Action.{Action}
+use Rattle.operator_model.specs.declared.output.Output.{Output}
+use Rattle.operator_model.specs.State.{Operator}
 use Rattle.dsx_messages.specs.declared.modem.Modem.{Modem}
-use Rattle.operator_machine.specs.declared.action.Unfit.{Unfit}
-use Rattle.operator_machine.specs.Machine.{own_step, stranger_of, is_spent, unfit_of, IsAllowed}
-use Rattle.operator_machine.specs.declared.action.Action.TheVariants as actions
-use Rattle.operator_machine.specs.Frames.{is_tick}
+use Rattle.operator_model.specs.declared.action.Unfit.{Unfit}
+use Rattle.operator_model.specs.Machine.{own_step, stranger_of, is_spent, unfit_of, IsAllowed}
+use Rattle.operator_model.specs.declared.action.Action.TheVariants as actions
+use Rattle.operator_model.specs.Frames.{is_tick}
 use Rattle.operator_book.specs.declared.book.BookFault.{BookFault}
 use Rattle.operator_book.specs.declared.book.BookFault.TheVariants as faults
-use Rattle.plant_runs.specs.Reached.{frames_of}
+use Rattle.run_model.specs.IsStateAfter.{frames_of}
 use Rattle.plant_core.specs.Faults.{collect_fault}
 use Rattle.plant_core.proofs.WaitingLemmas.{frames_are, one_frame, first_none, first_alone}
 

@@ -5,17 +5,17 @@ use Rattle.std.proofs.lemmas.List.{length-map}
 use Rattle.std.proofs.lemmas.Option.{slice_get-map}
 use Rattle.plant.specs.declared.plant.PlantFields.{PlantFields}
 use Rattle.plant.specs.Roster.{holder}
-use Rattle.operator_machine.specs.declared.action.SliceRow.{SliceRow}
-use Rattle.operator_machine.specs.declared.action.Action.{Action}
-use Rattle.operator_machine.specs.declared.action.Action.TheVariants as actions
-use Rattle.operator_machine.specs.declared.action.Unfit.{Unfit}
-use Rattle.operator_machine.specs.declared.action.Unfit.TheVariants as unfits
-use Rattle.operator_machine.specs.Machine.{unfit_from}
-use Rattle.operator_machine.specs.Replay.{BookView}
+use Rattle.operator_model.specs.declared.action.SliceRow.{SliceRow}
+use Rattle.operator_model.specs.declared.action.Action.{Action}
+use Rattle.operator_model.specs.declared.action.Action.TheVariants as actions
+use Rattle.operator_model.specs.declared.action.Unfit.{Unfit}
+use Rattle.operator_model.specs.declared.action.Unfit.TheVariants as unfits
+use Rattle.operator_model.specs.Machine.{unfit_from}
+use Rattle.operator_model.specs.Replay.{BookView}
 use Rattle.slice_scheduler.specs.declared.elements.ElementsFields.{ElementsFields}
-use Rattle.plant_runs.specs.declared.step.Step.{Step}
-use Rattle.plant_runs.specs.declared.step.Step.TheVariants as steps
-use Rattle.plant_runs.specs.Reached.{CoreView}
+use Rattle.run_model.specs.declared.step.Step.{Step}
+use Rattle.run_model.specs.declared.step.Step.TheVariants as steps
+use Rattle.run_model.specs.IsStateAfter.{CoreView}
 use Rattle.plant_core.specs.declared.core_fault.CoreFault.TheVariants.{Reslice}
 use Rattle.plant_core.specs.declared.core_fault.ResliceFault.{ResliceFault}
 use Rattle.plant_core.specs.declared.core_fault.ResliceFault.TheVariants as found

@@ -11,30 +11,30 @@ use Rattle.plant.specs.declared.consts.ConstsFields.{ConstsFields}
 use Rattle.plant.specs.declared.operator_row.RowFields.{RowFields}
 use Rattle.plant.specs.declared.plant.PlantFields.{PlantFields}
 use Rattle.plant.specs.Plant.{IsPlant}
-use Rattle.operator_machine.specs.declared.action.SliceRow.{SliceRow}
-use Rattle.operator_machine.specs.declared.action.Action.{Action}
-use Rattle.operator_machine.specs.declared.action.Action.TheVariants as actions
-use Rattle.operator_machine.specs.State.{operator}
-use Rattle.operator_machine.specs.Machine.{own_step, IsAllowed}
-use Rattle.operator_machine.specs.Replay.{BookView, acted}
+use Rattle.operator_model.specs.declared.action.SliceRow.{SliceRow}
+use Rattle.operator_model.specs.declared.action.Action.{Action}
+use Rattle.operator_model.specs.declared.action.Action.TheVariants as actions
+use Rattle.operator_model.specs.State.{operator}
+use Rattle.operator_model.specs.Machine.{own_step, IsAllowed}
+use Rattle.operator_model.specs.Replay.{BookView, acted}
 use Rattle.map_assembly.specs.declared.map_bytes.MapBytes.{MapBytes}
 use Rattle.map_assembly.specs.declared.refused.GatherFault.{GatherFault}
 use Rattle.map_assembly.specs.Plan.{AreSlices}
 use Rattle.map_assembly.specs.Gathering.{Gathering, gathering_of, put_fault, after_put, resliced, IsGathering, MayReslice}
 use Rattle.map_assembly.specs.LettingGo.{GoesOnAlike}
 use Rattle.map_assembly.proofs.GoneLemmas.{alike_again, alike_self}
-use Rattle.plant_runs.specs.declared.step.Step.{Step}
-use Rattle.plant_runs.specs.declared.step.Out.{Out}
-use Rattle.plant_runs.specs.OwnSteps.{under, slice_of}
-use Rattle.plant_runs.specs.Starts.{Start, first_start, IsStart}
-use Rattle.plant_runs.specs.Opened.{opened_core, started_book, started_core, gathering_from}
-use Rattle.plant_runs.specs.Ordered.{target}
-use Rattle.plant_runs.specs.Reached.{CoreView, frames_of}
-use Rattle.plant_runs.specs.Steps.{Acts, Collects, Reslices, Steps, told_map, NoneRefuses}
-use Rattle.plant_runs.proofs.OneStep.{step_from}
-use Rattle.plant_runs.proofs.Opening.{started_reached}
-use Rattle.plant_runs.proofs.Fits.{fits_from, opened_starts}
-use Rattle.plant_runs.proofs.Anew.{anew_from}
+use Rattle.run_model.specs.declared.step.Step.{Step}
+use Rattle.run_model.specs.declared.step.Out.{Out}
+use Rattle.run_model.specs.OwnSteps.{under, slice_of}
+use Rattle.run_model.specs.Starts.{Start, first_start, IsStart}
+use Rattle.run_model.specs.Opened.{opened_core, started_book, started_core, gathering_from}
+use Rattle.run_model.specs.Ordered.{target}
+use Rattle.run_model.specs.IsStateAfter.{CoreView, frames_of}
+use Rattle.run_model.specs.Steps.{Acts, Collects, Reslices, Steps, told_map, NoneRefuses}
+use Rattle.run_model.proofs.OneStep.{step_from}
+use Rattle.run_model.proofs.Opening.{started_reached}
+use Rattle.run_model.proofs.Fits.{fits_from, opened_starts}
+use Rattle.run_model.proofs.Anew.{anew_from}
 use Rattle.plant_core.specs.Reachable.{core_of}
 use Rattle.plant_core.specs.Giving.{HaveTakenAs}
 use Rattle.plant_core.specs.Reslicing.{reslice_fault}

@@ -3,10 +3,10 @@ use Rattle.std.proofs.Common.{◌≡◌, ℕ, ◌+◌, ◌≤◌, Bool, true, fa
 use Rattle.std.specs.Prelude.{slice_get, if◌then◌else◌}
 use Rattle.std.proofs.lemmas.List.{drop_more, drop_all}
 use Rattle.std.proofs.lemmas.Option.{same_Some, slice_get_within, slice_get-get_or}
-use Rattle.operator_machine.specs.declared.action.SliceRow.{SliceRow}
-use Rattle.operator_machine.specs.declared.action.Unfit.{Unfit}
-use Rattle.operator_machine.specs.Machine.{unfit_from}
-use Rattle.operator_machine.specs.Replay.{BookView}
+use Rattle.operator_model.specs.declared.action.SliceRow.{SliceRow}
+use Rattle.operator_model.specs.declared.action.Unfit.{Unfit}
+use Rattle.operator_model.specs.Machine.{unfit_from}
+use Rattle.operator_model.specs.Replay.{BookView}
 use Rattle.plant_core.specs.Reslicing.{is_unfit, least_unfit}
 
 -- the list from a place on

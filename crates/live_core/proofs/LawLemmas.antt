@@ -1,16 +1,16 @@
 -- Laws of a live core's runs.
 use Rattle.std.proofs.Common.{List}
 use Rattle.plant.specs.declared.plant.PlantFields.{PlantFields}
-use Rattle.plant_runs.specs.declared.step.Step.{Step}
-use Rattle.plant_runs.specs.declared.step.Out.{Out}
-use Rattle.plant_runs.specs.Starts.{Start}
-use Rattle.plant_runs.specs.Ordered.{OrderedFrom}
-use Rattle.plant_runs.specs.Reached.{CoreView}
-use Rattle.plant_runs.specs.Shown.{ShownFrom}
-use Rattle.plant_runs.proofs.TwoRuns.{notice_from, notice_same}
+use Rattle.run_model.specs.declared.step.Step.{Step}
+use Rattle.run_model.specs.declared.step.Out.{Out}
+use Rattle.run_model.specs.Starts.{Start}
+use Rattle.run_model.specs.Ordered.{OrderedFrom}
+use Rattle.run_model.specs.IsStateAfter.{CoreView}
+use Rattle.run_model.specs.IsTraceOf.{IsTraceFrom}
+use Rattle.run_model.proofs.TwoRuns.{notice_from, notice_same}
 use Rattle.live_core.specs.After.{IsAfterFrom, TwoLiveCores, TwoResumedCores}
 
-pub live_shown : (plant : PlantFields) (start : Start) (steps : List Step) (outs : List Out) (live : CoreView) → IsAfterFrom plant start steps outs live → ShownFrom plant start steps outs
+pub live_shown : (plant : PlantFields) (start : Start) (steps : List Step) (outs : List Out) (live : CoreView) → IsAfterFrom plant start steps outs live → IsTraceFrom plant start steps outs
 live_shown plant start steps outs live after = after.reached.shown
 
 pub live_ordered : (plant : PlantFields) (start : Start) (steps : List Step) (outs : List Out) (live : CoreView) → IsAfterFrom plant start steps outs live → OrderedFrom plant start steps outs

@@ -9,14 +9,14 @@ use Rattle.plant.specs.declared.consts.ConstsFields.{ConstsFields}
 use Rattle.plant.specs.declared.operator_row.RowFields.{RowFields}
 use Rattle.plant.specs.declared.plant.PlantFields.{PlantFields}
 use Rattle.plant.specs.Plant.{IsPlant}
-use Rattle.operator_machine.specs.State.{OperatorState, Operator, operator, opened}
-use Rattle.operator_machine.specs.Replay.{BookView}
+use Rattle.operator_model.specs.State.{OperatorState, Operator, operator, opened}
+use Rattle.operator_model.specs.Replay.{BookView}
 use Rattle.map_assembly.specs.Part.{quota_of}
 use Rattle.map_assembly.specs.Gathering.{IsGathering}
 use Rattle.map_assembly.proofs.OrderLemmas.{PairsByRecursion, pairs_from_AllPairs, all-map}
-use Rattle.plant_runs.specs.Starts.{Start}
-use Rattle.plant_runs.specs.Opened.{opened_core, started_core}
-use Rattle.plant_runs.specs.Reached.{CoreView}
+use Rattle.run_model.specs.Starts.{Start}
+use Rattle.run_model.specs.Opened.{opened_core, started_core}
+use Rattle.run_model.specs.IsStateAfter.{CoreView}
 use Rattle.live_core.specs.After.{IsAfter}
 use Rattle.live_core.specs.Resumed.{waiting_among, start_with}
 use Rattle.live_core.proofs.GoLemmas.{opened_after}

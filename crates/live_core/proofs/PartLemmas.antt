@@ -6,20 +6,20 @@ use Rattle.plant.specs.declared.plant.PlantFields.{PlantFields}
 use Rattle.plant.specs.Plant.{IsPlant}
 use Rattle.plant.specs.Roster.{holder}
 use Rattle.dsx_messages.specs.declared.modem.Modem.{Modem}
-use Rattle.operator_machine.specs.declared.heard.Heard.{Heard}
-use Rattle.operator_machine.specs.declared.action.Action.TheVariants as actions
-use Rattle.plant_runs.specs.declared.step.Step.{Step}
-use Rattle.plant_runs.specs.declared.step.Step.TheVariants as steps
-use Rattle.plant_runs.specs.declared.step.Out.{Out}
-use Rattle.plant_runs.specs.Steps.{Acts, Steps}
-use Rattle.operator_machine.specs.declared.action.Action.{Action}
-use Rattle.operator_machine.specs.State.{operator}
-use Rattle.operator_machine.specs.Machine.{own_step, IsAllowed}
-use Rattle.operator_machine.specs.Replay.{BookView}
+use Rattle.operator_model.specs.declared.heard.Heard.{Heard}
+use Rattle.operator_model.specs.declared.action.Action.TheVariants as actions
+use Rattle.run_model.specs.declared.step.Step.{Step}
+use Rattle.run_model.specs.declared.step.Step.TheVariants as steps
+use Rattle.run_model.specs.declared.step.Out.{Out}
+use Rattle.run_model.specs.Steps.{Acts, Steps}
+use Rattle.operator_model.specs.declared.action.Action.{Action}
+use Rattle.operator_model.specs.State.{operator}
+use Rattle.operator_model.specs.Machine.{own_step, IsAllowed}
+use Rattle.operator_model.specs.Replay.{BookView}
 use Rattle.map_assembly.specs.Gathering.{Gathering}
 use Rattle.map_assembly.specs.LettingGo.{has_begun}
-use Rattle.plant_runs.specs.OwnSteps.{under}
-use Rattle.plant_runs.specs.Reached.{CoreView, frames_of}
+use Rattle.run_model.specs.OwnSteps.{under}
+use Rattle.run_model.specs.IsStateAfter.{CoreView, frames_of}
 use Rattle.plant_core.specs.Reachable.{core_of, IsOfAStep}
 use Rattle.plant_core.proofs.PlaceLemmas.{seen_at, set_alike}
 use Rattle.plant_core.proofs.StepLemmas.{same_view}

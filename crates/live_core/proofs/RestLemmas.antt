@@ -6,16 +6,16 @@ use Rattle.std.proofs.lemmas.Option.{slice_get-map, slice_get_within, same_Some}
 use Rattle.slice_scheduler.specs.declared.elements.ElementsFields.{ElementsFields}
 use Rattle.plant.specs.declared.operator_row.RowFields.{RowFields}
 use Rattle.plant.specs.declared.plant.PlantFields.{PlantFields}
-use Rattle.operator_machine.specs.State.{OperatorState}
-use Rattle.operator_machine.specs.Replay.{BookView}
-use Rattle.plant_runs.specs.declared.step.Step.{Step}
-use Rattle.plant_runs.specs.declared.step.Out.{Out}
-use Rattle.plant_runs.specs.OwnSteps.{collects_of}
-use Rattle.plant_runs.specs.Starts.{Start}
-use Rattle.plant_runs.specs.Shown.{alone_from}
-use Rattle.plant_runs.specs.Reached.{CoreView, frames_of}
-use Rattle.plant_runs.specs.Changing.{RunSoFar, state_now, IsAtRest}
-use Rattle.plant_runs.proofs.Entries.{some_at}
+use Rattle.operator_model.specs.State.{OperatorState}
+use Rattle.operator_model.specs.Replay.{BookView}
+use Rattle.run_model.specs.declared.step.Step.{Step}
+use Rattle.run_model.specs.declared.step.Out.{Out}
+use Rattle.run_model.specs.OwnSteps.{collects_of}
+use Rattle.run_model.specs.Starts.{Start}
+use Rattle.run_model.specs.IsTraceOf.{isolated_run_from}
+use Rattle.run_model.specs.IsStateAfter.{CoreView, frames_of}
+use Rattle.run_model.specs.Changing.{RunSoFar, state_now, IsAtRest}
+use Rattle.run_model.proofs.Entries.{some_at}
 use Rattle.live_core.specs.GoingOn.{forgotten}
 use Rattle.live_core.specs.After.{IsAfterFrom}
 use Rattle.live_core.specs.Resting.{Rests, RestingIsAtRest, BooksStandNow}
@@ -60,7 +60,7 @@ module _ (plant : PlantFields) (start : Start) (steps : List Step) (outs : List 
         let put = some_at after.core.gathering.queues i (omega (arith, within, after.reached.gathered.one_each)) in
         let are = after.reached.frames i row waiting.0 put.0 here waiting.1 put.1 in
         let none : waiting.0 ≡ [] = rests.none_waits i waiting.0 (ap (λ (qs : List (List (ℕ × ElementsFields))). slice_get qs i) (sym after.is_of.queues_are) ∙ waiting.1) in
-        let all = frames_of (alone_from plant.consts start row i steps).outputs in
+        let all = frames_of (isolated_run_from plant.consts start row i steps).outputs in
         let left : length (drop (collects_of i steps) all) ≡ 0 = ap length (sym are.waiting_are ∙ none) in
         let long = length-drop (collects_of i steps) all in
         let most = after.reached.gathered.collected i row here in

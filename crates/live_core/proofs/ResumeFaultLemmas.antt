@@ -8,7 +8,7 @@ use Rattle.std.proofs.lemmas.Option.{slice_get-map, slice_get_read}
 use Rattle.slice_scheduler.specs.Minislots.{Minislots}
 use Rattle.plant.specs.declared.consts.Channel.{Channel}
 use Rattle.plant.specs.declared.plant.PlantFields.{PlantFields}
-use Rattle.operator_machine.specs.State.{Operator}
+use Rattle.operator_model.specs.State.{Operator}
 use Rattle.operator_book.specs.declared.live.Live.{Live}
 use Rattle.map_assembly.specs.Plan.{AreSlices, IsFirstInvalid}
 use Rattle.live_core.specs.declared.resume_fault.ResumeFault.{ResumeFault}

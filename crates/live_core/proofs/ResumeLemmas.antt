@@ -13,27 +13,27 @@ use Rattle.plant.specs.declared.consts.ConstsFields.{ConstsFields}
 use Rattle.plant.specs.declared.operator_row.RowFields.{RowFields}
 use Rattle.plant.specs.declared.plant.PlantFields.{PlantFields}
 use Rattle.plant.specs.Plant.{IsPlant}
-use Rattle.operator_machine.specs.declared.share.Share.{Share}
-use Rattle.operator_machine.specs.declared.share.NextShare.{NextShare}
-use Rattle.operator_machine.specs.State.{OperatorState, Operator, operator, opened}
-use Rattle.operator_machine.specs.Sound.{IsNextShare, IsSound}
-use Rattle.operator_machine.specs.Replay.{BookView}
-use Rattle.operator_machine.specs.Slices.{SliceFrom, waiting_slice}
+use Rattle.operator_model.specs.declared.share.Share.{Share}
+use Rattle.operator_model.specs.declared.share.NextShare.{NextShare}
+use Rattle.operator_model.specs.State.{OperatorState, Operator, operator, opened}
+use Rattle.operator_model.specs.Sound.{IsNextShare, IsSound}
+use Rattle.operator_model.specs.Replay.{BookView}
+use Rattle.operator_model.specs.Slices.{SliceFrom, waiting_slice}
 use Rattle.map_assembly.specs.declared.slicing.Reslicing.{Reslicing}
 use Rattle.map_assembly.specs.Part.{quota_of}
 use Rattle.map_assembly.specs.Plan.{AreSlices}
 use Rattle.map_assembly.specs.Gathering.{Gathering, gathering_at, IsGathering, IsPast, MayReslice, resliced}
 use Rattle.map_assembly.specs.LettingGo.{is_from, has_begun}
 use Rattle.map_assembly.proofs.OrderLemmas.{PairsByRecursion, pairs_from_AllPairs}
-use Rattle.plant_runs.specs.Starts.{Start, own_of, IsStart}
-use Rattle.plant_runs.specs.Opened.{started_book, started_core, gathering_from}
-use Rattle.plant_runs.specs.Reached.{CoreView}
+use Rattle.run_model.specs.Starts.{Start, own_of, IsStart}
+use Rattle.run_model.specs.Opened.{started_book, started_core, gathering_from}
+use Rattle.run_model.specs.IsStateAfter.{CoreView}
 use Rattle.plant_core.specs.Reachable.{core_of}
 use Rattle.slice_scheduler.specs.declared.elements.ElementsFields.{ElementsFields}
 use Rattle.live_core.specs.After.{IsAfterFrom, IsReachable}
 use Rattle.live_core.proofs.GoLemmas.{started_after}
-use Rattle.plant_runs.proofs.Entries.{some_at}
-use Rattle.plant_runs.proofs.OwnFrames.{at_place}
+use Rattle.run_model.proofs.Entries.{some_at}
+use Rattle.run_model.proofs.OwnFrames.{at_place}
 use Rattle.live_core.specs.DeskView.{book_of}
 use Rattle.live_core.specs.Resumed.{state_among, slice_later, later_of, waiting_if, waiting_among, start_with, waits_from, MayResume}
 

@@ -2,11 +2,11 @@
 use Rattle.std.proofs.Common.{◌≡◌, List, [], ◌∷◌, ◌++◌, sym, ap, subst, ◌∙◌}
 use Rattle.plant.specs.declared.plant.PlantFields.{PlantFields}
 use Rattle.plant.specs.Plant.{IsPlant}
-use Rattle.plant_runs.specs.declared.step.Step.{Step}
-use Rattle.plant_runs.specs.declared.step.Out.{Out}
-use Rattle.plant_runs.specs.Reached.{CoreView}
-use Rattle.plant_runs.specs.Steps.{Steps}
-use Rattle.plant_runs.specs.Starts.{Start}
+use Rattle.run_model.specs.declared.step.Step.{Step}
+use Rattle.run_model.specs.declared.step.Out.{Out}
+use Rattle.run_model.specs.IsStateAfter.{CoreView}
+use Rattle.run_model.specs.Steps.{Steps}
+use Rattle.run_model.specs.Starts.{Start}
 use Rattle.live_core.specs.GoingOn.{GoesOn}
 use Rattle.live_core.specs.After.{IsAfterFrom}
 use Rattle.live_core.proofs.GoLemmas.{after_more}

@@ -2,20 +2,20 @@
 use Rattle.std.specs.Prelude.{◌≡◌, ℕ, List, ◌++◌}
 use Rattle.plant.specs.declared.plant.PlantFields.{PlantFields}
 use Rattle.plant.specs.Plant.{AgreeOn}
-use Rattle.plant_runs.specs.declared.step.Step.{Step}
-use Rattle.plant_runs.specs.declared.step.Out.{Out}
-use Rattle.plant_runs.specs.OwnSteps.{own_steps}
-use Rattle.plant_runs.specs.Starts.{Start, first_start, IsStart}
-use Rattle.plant_runs.specs.Shown.{Shown, ShownFrom}
-use Rattle.plant_runs.specs.TwoWorlds.{NoticeTheSame}
-use Rattle.plant_runs.specs.Reached.{CoreView, ReachedFrom}
+use Rattle.run_model.specs.declared.step.Step.{Step}
+use Rattle.run_model.specs.declared.step.Out.{Out}
+use Rattle.run_model.specs.OwnSteps.{own_steps}
+use Rattle.run_model.specs.Starts.{Start, first_start, IsStart}
+use Rattle.run_model.specs.IsTraceOf.{IsTraceOf, IsTraceFrom}
+use Rattle.run_model.specs.NonInterference.{NoticeTheSame}
+use Rattle.run_model.specs.IsStateAfter.{CoreView, IsStateAfterFrom}
 use Rattle.live_core.specs.GoingOn.{IsOf}
 
 -- it is what is held of the core that these steps lead to from a valid start, with these outputs
 pub record IsAfterFrom (plant : PlantFields) (start : Start) (steps : List Step) (outs : List Out) (live : CoreView) : Type 0 where
   pub starts : IsStart plant start
   pub core : CoreView
-  pub reached : ReachedFrom plant start steps outs core
+  pub reached : IsStateAfterFrom plant start steps outs core
   pub is_of : IsOf live core
 
 -- the same from the opened plant
@@ -40,10 +40,10 @@ BehindEachRun live holds =
 -- provisioning and own steps, the operator notices the same
 abbrev pub TwoLiveCores : Type 0
 TwoLiveCores = (live : CoreView) (p q : PlantFields) (i j : ℕ) (s t : List Step) (o u : List Out) (agree : AgreeOn p i q j)
-    → IsAfter p s o live → Shown q t u → own_steps agree.row i s ≡ own_steps agree.row j t → NoticeTheSame p i o q j u agree
+    → IsAfter p s o live → IsTraceOf q t u → own_steps agree.row i s ≡ own_steps agree.row j t → NoticeTheSame p i o q j u agree
 
 -- the same at a core that was resumed, where the operator started in one state too
 abbrev pub TwoResumedCores : Type 0
 TwoResumedCores = (live : CoreView) (p q : PlantFields) (a b : Start) (i j : ℕ) (s t : List Step) (o u : List Out) (agree : AgreeOn p i q j)
-    → IsAfterFrom p a s o live → ShownFrom q b t u → a.state agree.row ≡ b.state agree.row → own_steps agree.row i s ≡ own_steps agree.row j t
+    → IsAfterFrom p a s o live → IsTraceFrom q b t u → a.state agree.row ≡ b.state agree.row → own_steps agree.row i s ≡ own_steps agree.row j t
     → NoticeTheSame p i o q j u agree

@@ -2,15 +2,15 @@
 use Rattle.std.specs.Prelude.{◌≡◌, ◌≢◌, ℕ, List, [], slice_get, Some}
 use Rattle.plant.specs.declared.plant.PlantFields.{PlantFields}
 use Rattle.plant.specs.Plant.{IsPlant}
-use Rattle.operator_machine.specs.State.{Operator, opened_before}
-use Rattle.operator_machine.specs.Replay.{BookView}
-use Rattle.plant_runs.specs.declared.step.Step.{Step}
-use Rattle.plant_runs.specs.declared.step.Out.{Out}
-use Rattle.plant_runs.specs.Starts.{Start}
+use Rattle.operator_model.specs.State.{Operator, opened_before}
+use Rattle.operator_model.specs.Replay.{BookView}
+use Rattle.run_model.specs.declared.step.Step.{Step}
+use Rattle.run_model.specs.declared.step.Out.{Out}
+use Rattle.run_model.specs.Starts.{Start}
 use Rattle.map_assembly.specs.Gathering.{IsGathering}
-use Rattle.plant_runs.specs.Opened.{gathering_from}
-use Rattle.plant_runs.specs.Reached.{CoreView}
-use Rattle.plant_runs.specs.Changing.{IsChanged}
+use Rattle.run_model.specs.Opened.{gathering_from}
+use Rattle.run_model.specs.IsStateAfter.{CoreView}
+use Rattle.run_model.specs.Changing.{IsChanged}
 use Rattle.live_core.specs.After.{IsAfterFrom}
 use Rattle.live_core.specs.Resumed.{start_with, MayResume}
 use Rattle.live_core.specs.Resting.{Rests}

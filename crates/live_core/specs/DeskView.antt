@@ -1,8 +1,8 @@
 -- What contracts see of an operator's live desk (own).
 use Rattle.std.specs.Prelude.{ℕ, List, []}
 use Rattle.slice_scheduler.specs.declared.elements.ElementsFields.{ElementsFields}
-use Rattle.operator_machine.specs.State.{Operator}
-use Rattle.operator_machine.specs.Replay.{BookView}
+use Rattle.operator_model.specs.State.{Operator}
+use Rattle.operator_model.specs.Replay.{BookView}
 use Rattle.live_core.specs.declared.desk.LiveDesk.{LiveDesk}
 
 -- the book of an operator of which no history is kept

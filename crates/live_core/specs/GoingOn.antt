@@ -1,13 +1,13 @@
 -- A core whose histories are forgotten goes on as the core that has them (own).
 use Rattle.std.specs.Prelude.{◌≡◌, List, [], map}
-use Rattle.operator_machine.specs.declared.action.Action.{Action}
-use Rattle.operator_machine.specs.State.{operator}
-use Rattle.operator_machine.specs.Machine.{own_step}
-use Rattle.operator_machine.specs.Replay.{BookView}
+use Rattle.operator_model.specs.declared.action.Action.{Action}
+use Rattle.operator_model.specs.State.{operator}
+use Rattle.operator_model.specs.Machine.{own_step}
+use Rattle.operator_model.specs.Replay.{BookView}
 use Rattle.map_assembly.specs.Gathering.{IsGathering}
 use Rattle.map_assembly.specs.LettingGo.{GoesOnAlike}
-use Rattle.plant_runs.specs.declared.step.Out.{Out}
-use Rattle.plant_runs.specs.Reached.{CoreView}
+use Rattle.run_model.specs.declared.step.Out.{Out}
+use Rattle.run_model.specs.IsStateAfter.{CoreView}
 
 -- a book of which the history is forgotten
 abbrev pub forgotten : BookView → BookView

@@ -3,9 +3,9 @@ use Rattle.std.specs.Prelude.{◌≡◌, ℕ, Option}
 use Rattle.slice_scheduler.specs.Minislots.{Minislots}
 use Rattle.plant.specs.declared.consts.ConstsFields.{ConstsFields}
 use Rattle.plant.specs.declared.operator_row.RowFields.{RowFields}
-use Rattle.operator_machine.specs.State.{Operator}
-use Rattle.operator_machine.specs.Sound.{IsSound}
-use Rattle.operator_machine.specs.Replay.{BookView}
+use Rattle.operator_model.specs.State.{Operator}
+use Rattle.operator_model.specs.Sound.{IsSound}
+use Rattle.operator_model.specs.Replay.{BookView}
 use Rattle.operator_book.specs.declared.live.Live.{Live}
 use Rattle.live_core.specs.declared.resume_fault.ResumeFault.{ResumeFault}
 use Rattle.live_core.specs.declared.resume_fault.ResumeFault.TheVariants.{NotAtFrame, SliceChangesDiffer, BeforeFirstFrame, InvalidSlice, InvalidNextSlice, NoMemory}

@@ -1,6 +1,6 @@
 -- What contracts see of a live core (own).
 use Rattle.std.specs.Prelude.{map}
-use Rattle.plant_runs.specs.Reached.{CoreView}
+use Rattle.run_model.specs.IsStateAfter.{CoreView}
 use Rattle.plant_core.specs.Reachable.{core_of}
 use Rattle.live_core.specs.declared.held.LiveCore.{LiveCore}
 use Rattle.live_core.specs.DeskView.{book_at, waiting_at}

@@ -4,12 +4,12 @@ use Rattle.std.specs.Prelude.{slice_get, Some}
 use Rattle.slice_scheduler.specs.declared.elements.ElementsFields.{ElementsFields}
 use Rattle.plant.specs.declared.operator_row.RowFields.{RowFields}
 use Rattle.plant.specs.declared.plant.PlantFields.{PlantFields}
-use Rattle.operator_machine.specs.Replay.{BookView}
-use Rattle.plant_runs.specs.declared.step.Step.{Step}
-use Rattle.plant_runs.specs.declared.step.Out.{Out}
-use Rattle.plant_runs.specs.Starts.{Start}
-use Rattle.plant_runs.specs.Reached.{CoreView}
-use Rattle.plant_runs.specs.Changing.{state_now, IsAtRest}
+use Rattle.operator_model.specs.Replay.{BookView}
+use Rattle.run_model.specs.declared.step.Step.{Step}
+use Rattle.run_model.specs.declared.step.Out.{Out}
+use Rattle.run_model.specs.Starts.{Start}
+use Rattle.run_model.specs.IsStateAfter.{CoreView}
+use Rattle.run_model.specs.Changing.{state_now, IsAtRest}
 use Rattle.live_core.specs.After.{IsAfterFrom}
 
 -- each operator stands before this frame, and no frame waits to be collected

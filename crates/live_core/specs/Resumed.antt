@@ -4,13 +4,13 @@ use Rattle.std.specs.Str.{bytes_eq}
 use Rattle.slice_scheduler.specs.Minislots.{Minislots}
 use Rattle.plant.specs.declared.operator_row.RowFields.{RowFields}
 use Rattle.plant.specs.declared.plant.PlantFields.{PlantFields}
-use Rattle.operator_machine.specs.declared.share.Share.{Share}
-use Rattle.operator_machine.specs.declared.share.NextShare.{NextShare}
-use Rattle.operator_machine.specs.State.{OperatorState, Operator, opened}
-use Rattle.operator_machine.specs.Sound.{IsSound}
+use Rattle.operator_model.specs.declared.share.Share.{Share}
+use Rattle.operator_model.specs.declared.share.NextShare.{NextShare}
+use Rattle.operator_model.specs.State.{OperatorState, Operator, opened}
+use Rattle.operator_model.specs.Sound.{IsSound}
 use Rattle.map_assembly.specs.declared.slicing.Reslicing.{Reslicing}
 use Rattle.map_assembly.specs.Plan.{AreSlices, IsFirstInvalid}
-use Rattle.plant_runs.specs.Starts.{Start}
+use Rattle.run_model.specs.Starts.{Start}
 use Rattle.live_core.specs.declared.resume_fault.ResumeFault.{ResumeFault}
 use Rattle.live_core.specs.declared.resume_fault.ResumeFault.TheVariants.{NotAtFrame, SliceChangesDiffer, BeforeFirstFrame, InvalidSlice, InvalidNextSlice, NoMemory}
 

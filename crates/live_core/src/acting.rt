@@ -1,10 +1,10 @@
 //! What is done to an operator's live desk.
 
 ghost use Rattle.std.specs.Prelude.{◌≡◌, ◌≢◌, ◌↔◌, ◌<◌, false, [], ◌++◌, length, slice_get, Some, Err, IfOk, IfErr, OnOk, OnErr};
-ghost use Rattle.operator_machine.specs.Frames.{is_tick};
-ghost use Rattle.operator_machine.specs.Machine.{own_step, is_spent, IsAllowed};
-ghost use Rattle.plant_runs.specs.OwnSteps.{under};
-ghost use Rattle.plant_runs.specs.Reached.{frames_of};
+ghost use Rattle.operator_model.specs.Frames.{is_tick};
+ghost use Rattle.operator_model.specs.Machine.{own_step, is_spent, IsAllowed};
+ghost use Rattle.run_model.specs.OwnSteps.{under};
+ghost use Rattle.run_model.specs.IsStateAfter.{frames_of};
 ghost use Rattle.plant_core.specs.Faults.{act_fault, collect_fault, IsTold};
 ghost use Rattle.live_core.specs.GoingOn.{went};
 ghost use Rattle.live_core.specs.DeskView.{book_at, waiting_at};
@@ -13,10 +13,10 @@ ghost use Rattle.plant_core.specs.Putting.{FitsOldest, PutsOldest, CollectsOldes
 use crate::desk::LiveDesk;
 use map_assembly::{Gather, MapBytes};
 use operator_book::BookFault;
-use operator_machine::{Action, Output};
+use operator_model::{Action, Output};
 use plant::Op;
 use plant_core::{CoreFault, append, append_map};
-use plant_runs::Out;
+use run_model::Out;
 use slice_scheduler::Elements;
 use std::alloc::{AllocError, Global};
 

@@ -1,9 +1,9 @@
 //! Giving other slices to all operators of a live core.
 
 ghost use Rattle.std.specs.Prelude.{◌≡◌, [], map, length, vec_len, None, OnOk, OnErr};
-ghost use Rattle.operator_machine.specs.declared.action.Action.TheVariants as actions;
-ghost use Rattle.operator_machine.specs.Machine.{unfit_from};
-ghost use Rattle.plant_runs.specs.Steps.{Reslices, NoneRefuses};
+ghost use Rattle.operator_model.specs.declared.action.Action.TheVariants as actions;
+ghost use Rattle.operator_model.specs.Machine.{unfit_from};
+ghost use Rattle.run_model.specs.Steps.{Reslices, NoneRefuses};
 ghost use Rattle.plant_core.specs.Reslicing.{reslice_fault};
 ghost use Rattle.plant_core.specs.Giving.{HaveTakenAs};
 ghost use Rattle.live_core.specs.DeskView.{book_at, waiting_at};
@@ -12,7 +12,7 @@ ghost use Rattle.live_core.specs.LiveView.{live_view};
 
 use crate::desk::LiveDesk;
 use crate::held::LiveCore;
-use operator_machine::SliceRow;
+use operator_model::SliceRow;
 use plant_core::slices_of;
 use std::alloc::{AllocError, Global};
 

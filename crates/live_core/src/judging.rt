@@ -1,8 +1,8 @@
 //! Judging other slices for all operators of a live core.
 
 ghost use Rattle.std.specs.Prelude.{◌≡◌, [], length, vec_len, option_map, None, OnOk, OnErr};
-ghost use Rattle.operator_machine.specs.Machine.{unfit_from};
-ghost use Rattle.plant_runs.specs.Steps.{Reslices};
+ghost use Rattle.operator_model.specs.Machine.{unfit_from};
+ghost use Rattle.run_model.specs.Steps.{Reslices};
 ghost use Rattle.plant_core.specs.declared.core_fault.CoreFault.TheVariants as faults;
 ghost use Rattle.plant_core.specs.Faults.{IsTold};
 ghost use Rattle.plant_core.specs.Reslicing.{is_unfit, least_unfit, row_fault, reslice_fault};
@@ -12,7 +12,7 @@ ghost use Rattle.live_core.specs.LiveView.{live_view};
 
 use crate::desk::LiveDesk;
 use crate::held::LiveCore;
-use operator_machine::{SliceRow, Unfit};
+use operator_model::{SliceRow, Unfit};
 use plant::Op;
 use plant_core::{CoreFault, ResliceFault, Unfits, first_fault, is_same};
 use std::alloc::Global;

@@ -3,15 +3,15 @@
 ghost use Rattle.std.specs.Prelude.{◌≡◌, [], ◌∷◌, ◌++◌, List};
 ghost use Rattle.plant.specs.declared.plant.PlantFields.{PlantFields};
 ghost use Rattle.plant.specs.Plant.{IsPlant};
-ghost use Rattle.plant_runs.specs.declared.step.Step.{Step};
-ghost use Rattle.plant_runs.specs.declared.step.Out.{Out};
-ghost use Rattle.plant_runs.specs.Starts.{Start, IsStart};
-ghost use Rattle.plant_runs.specs.Ordered.{OrderedFrom};
-ghost use Rattle.plant_runs.specs.Reached.{CoreView};
-ghost use Rattle.plant_runs.specs.Shown.{ShownFrom};
-ghost use Rattle.plant_runs.specs.Opened.{gathering_from, started_core};
+ghost use Rattle.run_model.specs.declared.step.Step.{Step};
+ghost use Rattle.run_model.specs.declared.step.Out.{Out};
+ghost use Rattle.run_model.specs.Starts.{Start, IsStart};
+ghost use Rattle.run_model.specs.Ordered.{OrderedFrom};
+ghost use Rattle.run_model.specs.IsStateAfter.{CoreView};
+ghost use Rattle.run_model.specs.IsTraceOf.{IsTraceFrom};
+ghost use Rattle.run_model.specs.Opened.{gathering_from, started_core};
 ghost use Rattle.map_assembly.specs.Gathering.{IsGathering};
-ghost use Rattle.plant_runs.specs.Steps.{Steps};
+ghost use Rattle.run_model.specs.Steps.{Steps};
 ghost use Rattle.plant_core.specs.Faults.{step_fault};
 ghost use Rattle.live_core.specs.GoingOn.{IsOf, GoesOn};
 ghost use Rattle.live_core.specs.Resting.{RestingIsAtRest, BooksStandNow};
@@ -36,7 +36,7 @@ pub fn faults_are_the_same()
 #[tactic(auto, using(crate::proofs::LawLemmas::live_shown, crate::proofs::LawLemmas::live_ordered))]
 pub fn live_run_is_shown()
     ensures shown { (plant : PlantFields) (start : Start) (steps : List Step) (outs : List Out) (live : CoreView)
-        → IsAfterFrom plant start steps outs live → ShownFrom plant start steps outs }
+        → IsAfterFrom plant start steps outs live → IsTraceFrom plant start steps outs }
     ensures ordered { (plant : PlantFields) (start : Start) (steps : List Step) (outs : List Out) (live : CoreView)
         → IsAfterFrom plant start steps outs live → OrderedFrom plant start steps outs }
 {}

@@ -2,8 +2,8 @@
 
 ghost use Rattle.std.specs.Prelude.{◌≡◌, ◌≢◌, ◌↔◌, [], map, length, All, Err, IfOk};
 ghost use Rattle.plant.specs.Row.{IsRowOf};
-ghost use Rattle.operator_machine.specs.State.{operator, opened};
-ghost use Rattle.plant_runs.specs.Opened.{opened_core};
+ghost use Rattle.operator_model.specs.State.{operator, opened};
+ghost use Rattle.run_model.specs.Opened.{opened_core};
 ghost use Rattle.plant_core.specs.declared.core_fault.CoreOpenFault.{CoreOpenFault};
 ghost use Rattle.plant_core.specs.declared.core_fault.CoreOpenFault.TheVariants.{RankingsMismatch};
 ghost use Rattle.live_core.specs.After.{IsAfter};

@@ -2,10 +2,10 @@
 
 ghost use Rattle.std.specs.Prelude.{◌≡◌, ◌↔◌, ◌≤◌, ◌<◌, [], map, length, replicate, All, IsTrue, not, true, false, Some, None, Option, Err, IfOk, IfErr, OnOk, OnErr, IfSome};
 ghost use Rattle.plant.specs.Plant.{IsPlant};
-ghost use Rattle.operator_machine.specs.Sound.{IsSound};
+ghost use Rattle.operator_model.specs.Sound.{IsSound};
 ghost use Rattle.map_assembly.specs.Plan.{AreSlices};
 ghost use Rattle.map_assembly.specs.Gathering.{IsGathering};
-ghost use Rattle.plant_runs.specs.Opened.{gathering_from, started_core};
+ghost use Rattle.run_model.specs.Opened.{gathering_from, started_core};
 ghost use Rattle.live_core.specs.DeskView.{book_of, book_at, waiting_at};
 ghost use Rattle.live_core.specs.After.{IsAfterFrom};
 ghost use Rattle.live_core.specs.LiveOperator.{sound_of, row_of, slice_at, later_at, book_by, IsSoundAt, Shares, StandsAt, WaitsFrom, IsOdd};

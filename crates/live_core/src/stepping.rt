@@ -1,10 +1,10 @@
 //! One step of a live core.
 
 ghost use Rattle.std.specs.Prelude.{◌≡◌, [], ◌∷◌, ◌++◌, List, slice_get, OnOk, OnErr, IfOk};
-ghost use Rattle.plant_runs.specs.declared.step.Out.{Out};
-ghost use Rattle.plant_runs.specs.declared.step.Step.{Step};
-ghost use Rattle.plant_runs.specs.declared.step.Step.TheVariants as steps;
-ghost use Rattle.plant_runs.specs.Steps.{Acts, Collects, Steps};
+ghost use Rattle.run_model.specs.declared.step.Out.{Out};
+ghost use Rattle.run_model.specs.declared.step.Step.{Step};
+ghost use Rattle.run_model.specs.declared.step.Step.TheVariants as steps;
+ghost use Rattle.run_model.specs.Steps.{Acts, Collects, Steps};
 ghost use Rattle.plant_core.specs.Faults.{act_fault, collect_fault, step_fault, IsTold};
 ghost use Rattle.plant_core.specs.Reachable.{IsOfAStep};
 ghost use Rattle.live_core.specs.GoingOn.{GoesOn};
@@ -13,10 +13,10 @@ ghost use Rattle.live_core.specs.LiveView.{live_view};
 
 use crate::held::LiveCore;
 use dsx_messages::Modem;
-use operator_machine::{Action, Heard};
+use operator_model::{Action, Heard};
 use plant::Op;
 use plant_core::CoreFault;
-use plant_runs::{Out, Step};
+use run_model::{Out, Step};
 use std::alloc::Global;
 
 impl LiveCore {

@@ -18,20 +18,20 @@ use Rattle.plant.specs.Row.{same_modem}
 use Rattle.flow_table.specs.declared.flow.Flow.{Flow}
 use Rattle.flow_table.specs.Flow.{asks_for_grants, requested}
 use Rattle.flow_table.specs.Table.{flow_with, with_flow}
-use Rattle.operator_machine.specs.declared.action.Action.{Action}
-use Rattle.operator_machine.specs.declared.action.Action.TheVariants as actions
-use Rattle.operator_machine.specs.declared.heard.Heard.{Heard}
-use Rattle.operator_machine.specs.declared.heard.Heard.TheVariants as heards
-use Rattle.operator_machine.specs.declared.heard.Arrival.{Arrival}
-use Rattle.operator_machine.specs.declared.output.Output.TheVariants as outputs
-use Rattle.operator_machine.specs.declared.output.Cause.TheVariants as causes
-use Rattle.operator_machine.specs.declared.verdict.Verdict.{Verdict}
-use Rattle.operator_machine.specs.declared.verdict.Verdict.TheVariants.{Refused}
-use Rattle.operator_machine.specs.Verdict.{verdict, errored}
-use Rattle.operator_machine.specs.State.{Operator}
-use Rattle.operator_machine.specs.Asked.{refusal}
-use Rattle.operator_machine.specs.Handle.{Ran, told, silent, carried_out, is_of_cmts, new_unless, transacted, acked_if, kind_of, tid_of, message_handled, asked_of_flow, handle}
-use Rattle.operator_machine.specs.Machine.{arrived, worked, own_step}
+use Rattle.operator_model.specs.declared.action.Action.{Action}
+use Rattle.operator_model.specs.declared.action.Action.TheVariants as actions
+use Rattle.operator_model.specs.declared.heard.Heard.{Heard}
+use Rattle.operator_model.specs.declared.heard.Heard.TheVariants as heards
+use Rattle.operator_model.specs.declared.heard.Arrival.{Arrival}
+use Rattle.operator_model.specs.declared.output.Output.TheVariants as outputs
+use Rattle.operator_model.specs.declared.output.Cause.TheVariants as causes
+use Rattle.operator_model.specs.declared.verdict.Verdict.{Verdict}
+use Rattle.operator_model.specs.declared.verdict.Verdict.TheVariants.{Refused}
+use Rattle.operator_model.specs.Verdict.{verdict, errored}
+use Rattle.operator_model.specs.State.{Operator}
+use Rattle.operator_model.specs.Asked.{refusal}
+use Rattle.operator_model.specs.Handle.{StepResult, told, silent, carried_out, is_of_cmts, new_unless, transacted, acked_if, kind_of, tid_of, message_handled, asked_of_flow, handle}
+use Rattle.operator_model.specs.Machine.{arrived, worked, own_step}
 use Rattle.operator_book.specs.MostOutputs.{most_outputs_of}
 
 one : 1 ≤ 1
@@ -91,10 +91,10 @@ module _ (op : Operator) (modem : Modem) where
   few_handled (heards.Message bytes) = few_message (message_of bytes)
   few_handled (heards.Request sid minislots) = few_asked minislots (flow_with sid op.state.flows)
 
-  abbrev dropped : Ran
+  abbrev dropped : StepResult
   dropped = record { state = op.state; outputs = outputs.Silent (Some modem) causes.InboxFull ∷ [] }
 
-  abbrev let_in : Heard → Ran
+  abbrev let_in : Heard → StepResult
   let_in heard = record { state = record op.state { inbox = op.state.inbox ++ record { modem = modem; heard = heard } ∷ [] }; outputs = [] }
 
   arriving : (heard : Heard) (b : Bool) → length (if b then dropped else let_in heard).outputs ≤ 1

@@ -19,17 +19,17 @@ use Rattle.plant.specs.Row.{same_modem}
 use Rattle.flow_table.specs.declared.flow.Flow.{Flow}
 use Rattle.flow_table.specs.Flow.{asks_for_grants, requested}
 use Rattle.flow_table.specs.Table.{with_flow}
-use Rattle.operator_machine.specs.declared.heard.Arrival.{Arrival}
-use Rattle.operator_machine.specs.declared.output.Cause.TheVariants as causes
-use Rattle.operator_machine.specs.declared.verdict.Verdict.{Verdict}
-use Rattle.operator_machine.specs.declared.verdict.Verdict.TheVariants.{Refused}
-use Rattle.operator_machine.specs.declared.heard.Heard.{Heard}
-use Rattle.operator_machine.specs.declared.heard.Heard.TheVariants as heards
-use Rattle.operator_machine.specs.Verdict.{verdict, errored}
-use Rattle.operator_machine.specs.Machine.{taken_out, worked}
-use Rattle.operator_machine.specs.State.{Operator}
-use Rattle.operator_machine.specs.Asked.{refusal}
-use Rattle.operator_machine.specs.Handle.{told, silent, carried_out, is_of_cmts, new_unless, transacted, acked_if, kind_of, tid_of, message_handled, asked_of_flow, handle}
+use Rattle.operator_model.specs.declared.heard.Arrival.{Arrival}
+use Rattle.operator_model.specs.declared.output.Cause.TheVariants as causes
+use Rattle.operator_model.specs.declared.verdict.Verdict.{Verdict}
+use Rattle.operator_model.specs.declared.verdict.Verdict.TheVariants.{Refused}
+use Rattle.operator_model.specs.declared.heard.Heard.{Heard}
+use Rattle.operator_model.specs.declared.heard.Heard.TheVariants as heards
+use Rattle.operator_model.specs.Verdict.{verdict, errored}
+use Rattle.operator_model.specs.Machine.{taken_out, worked}
+use Rattle.operator_model.specs.State.{Operator}
+use Rattle.operator_model.specs.Asked.{refusal}
+use Rattle.operator_model.specs.Handle.{told, silent, carried_out, is_of_cmts, new_unless, transacted, acked_if, kind_of, tid_of, message_handled, asked_of_flow, handle}
 
 module _ (op : Operator) (modem : Modem) where
   again : (kind : Kind) (entry : KeptEntry) (b : Bool) → (if b then told op.state modem entry.reply else silent op.state modem causes.TidInUse).state.inbox ≡ op.state.inbox

@@ -8,9 +8,9 @@ use Rattle.param_sets.specs.Sets.{sets_unless}
 use Rattle.param_sets.specs.declared.param_set.ParamFields.{ParamFields}
 use Rattle.param_sets.specs.declared.sets.SetsFields.{SetsFields}
 use Rattle.param_sets.specs.declared.refusal.Refusal.{Refusal}
-use Rattle.operator_machine.specs.declared.verdict.Transaction.{Transaction}
-use Rattle.operator_machine.specs.declared.verdict.AskedSets.{AskedSets}
-use Rattle.operator_machine.specs.Asked.{refusal_naming, nested_unless, failing_active, failing_admitted, nested_sets}
+use Rattle.operator_model.specs.declared.verdict.Transaction.{Transaction}
+use Rattle.operator_model.specs.declared.verdict.AskedSets.{AskedSets}
+use Rattle.operator_model.specs.Asked.{refusal_naming, nested_unless, failing_active, failing_admitted, nested_sets}
 use Rattle.operator_book.specs.Over.{asked_over}
 
 abbrev IsMade : Result SetsFields Refusal → Type 0

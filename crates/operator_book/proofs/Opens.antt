@@ -15,7 +15,7 @@ use Rattle.plant.specs.declared.provision.Provision.{Provision}
 use Rattle.plant.specs.Provisioned.{Opened, sets_of_encoding, opened_sfids, opened_sids, opened_sid, and_under, and_opened, all_opened}
 use Rattle.flow_table.specs.declared.flow.Flow.{Flow}
 use Rattle.flow_table.specs.Table.{sfids_of, sids_of, with_flow}
-use Rattle.operator_machine.specs.State.{opened_flow, opened}
+use Rattle.operator_model.specs.State.{opened_flow, opened}
 use Rattle.operator_book.specs.Opening.{sid_for, put_under, put_opened, put_provision, put_provisions}
 
 -- the flows as they are opened in this frame

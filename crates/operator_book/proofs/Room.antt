@@ -16,7 +16,7 @@ use Rattle.flow_table.specs.declared.flow.Flow.{Flow}
 use Rattle.flow_table.specs.Table.{FlowTable, sids_of, flow_at, sid_if, with_flow, MayStand}
 use Rattle.flow_table.specs.Moved.{moved_if, moved_at}
 use Rattle.flow_table.proofs.IndexLemmas.{sid_used}
-use Rattle.operator_machine.specs.Handle.{put_if, change_at}
+use Rattle.operator_model.specs.Handle.{put_if, change_at}
 
 -- ---- how many flows there are with one more, or with another in its place
 

@@ -1,13 +1,13 @@
 -- What an action of a machine does (own).
-use Rattle.operator_machine.specs.State.{Operator}
+use Rattle.operator_model.specs.State.{Operator}
 use Rattle.std.specs.Prelude.{◌≡◌, Bool, Result, IfOk, OnOk, OnErr}
 use Rattle.std.specs.declared.alloc.AllocError.{AllocError}
-use Rattle.operator_machine.specs.Handle.{Ran}
+use Rattle.operator_model.specs.Handle.{StepResult}
 use Rattle.operator_book.specs.declared.machine.Both.{Both}
 use Rattle.operator_book.specs.Held.{with_state}
 
 -- the machine has run so and tells so, twice where that is asked for; where memory was wanting nothing has changed
-pub record Does (two : Bool) (old new : Operator) (result : Result Both AllocError) (ran : Ran) : Type 0 where
+pub record Does (two : Bool) (old new : Operator) (result : Result Both AllocError) (ran : StepResult) : Type 0 where
   pub state : OnOk result (new ≡ with_state old ran)
   pub outputs : IfOk result (λ both. both.told.items ≡ ran.outputs)
   pub twice : IfOk result (λ both. both.twice ≡ two)

@@ -9,10 +9,10 @@ use Rattle.flow_table.specs.Table.{FlowTable, MayStand, sids_of}
 use Rattle.plant.specs.declared.consts.ConstsFields.{ConstsFields}
 use Rattle.plant.specs.declared.operator_row.RowFields.{RowFields}
 use Rattle.transactions.specs.Keeping.{Keeping}
-use Rattle.operator_machine.specs.declared.verdict.Verdict.{Verdict}
-use Rattle.operator_machine.specs.declared.verdict.Verdict.TheVariants.{Refused, Put, Deleted}
-use Rattle.operator_machine.specs.State.{Operator}
-use Rattle.operator_machine.specs.Handle.{Ran}
+use Rattle.operator_model.specs.declared.verdict.Verdict.{Verdict}
+use Rattle.operator_model.specs.declared.verdict.Verdict.TheVariants.{Refused, Put, Deleted}
+use Rattle.operator_model.specs.State.{Operator}
+use Rattle.operator_model.specs.Handle.{StepResult}
 
 -- the flows and the kept responses have the row's room, the plant's measures and its timers
 pub record IsMachine (consts : ConstsFields) (row : RowFields) (flows : FlowTable) (kept : Keeping) : Type 0 where
@@ -36,7 +36,7 @@ MayPut table (Put sfid flow reply) = MayStand table sfid flow
 MayPut table (Deleted sfid reply) = Unit {0}
 
 -- what has run, and what it put out
-abbrev pub with_state : Operator → Ran → Operator
+abbrev pub with_state : Operator → StepResult → Operator
 with_state m ran = record m { state = ran.state }
 
 -- of a request at fault: it is an addition or a change, and the identifier that is told is of its kind

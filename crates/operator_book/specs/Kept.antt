@@ -3,9 +3,9 @@ use Rattle.std.specs.Prelude.{◌≤◌, ℕ, List}
 use Rattle.plant.specs.declared.consts.ConstsFields.{ConstsFields}
 use Rattle.plant.specs.declared.operator_row.RowFields.{RowFields}
 use Rattle.plant.specs.Row.{IsRowOf}
-use Rattle.operator_machine.specs.declared.action.Entry.{Entry}
-use Rattle.operator_machine.specs.State.{OperatorState}
-use Rattle.operator_machine.specs.Replay.{BookView, IsReplay}
+use Rattle.operator_model.specs.declared.action.Entry.{Entry}
+use Rattle.operator_model.specs.State.{OperatorState}
+use Rattle.operator_model.specs.Replay.{BookView, IsReplay}
 
 -- the row is one of a plant of these constants, and the state is the replay of the history
 pub record IsBook (consts : ConstsFields) (row : RowFields) (history : List Entry) (state : OperatorState) : Type 0 where

@@ -1,16 +1,16 @@
--- What contracts say of a book (own). Each word is the definition of `operator_machine` at what a book keeps.
+-- What contracts say of a book (own). Each word is the definition of `operator_model` at what a book keeps.
 use Rattle.std.specs.Prelude.{ℕ, List, [], Option}
 use Rattle.dsx_messages.specs.declared.modem.Modem.{Modem}
 use Rattle.plant.specs.declared.consts.ConstsFields.{ConstsFields}
 use Rattle.plant.specs.declared.operator_row.RowFields.{RowFields}
-use Rattle.operator_machine.specs.declared.action.Action.{Action}
-use Rattle.operator_machine.specs.declared.action.SliceRow.{SliceRow}
-use Rattle.operator_machine.specs.declared.action.Unfit.{Unfit}
-use Rattle.operator_machine.specs.declared.output.Output.{Output}
-use Rattle.operator_machine.specs.State.{opened, operator}
-use Rattle.operator_machine.specs.Machine as machines
-use Rattle.operator_machine.specs.Replay.{BookView, IsReplay}
-use Rattle.operator_machine.specs.Sound as sound
+use Rattle.operator_model.specs.declared.action.Action.{Action}
+use Rattle.operator_model.specs.declared.action.SliceRow.{SliceRow}
+use Rattle.operator_model.specs.declared.action.Unfit.{Unfit}
+use Rattle.operator_model.specs.declared.output.Output.{Output}
+use Rattle.operator_model.specs.State.{opened, operator}
+use Rattle.operator_model.specs.Machine as machines
+use Rattle.operator_model.specs.Replay.{BookView, IsReplay}
+use Rattle.operator_model.specs.Sound as sound
 
 -- a book with nothing done
 abbrev pub opened_book : RowFields → ConstsFields → BookView

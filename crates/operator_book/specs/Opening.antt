@@ -9,7 +9,7 @@ use Rattle.plant.specs.declared.provision.Provision.{Provision}
 use Rattle.plant.specs.Provisioned.{sets_of_encoding}
 use Rattle.flow_table.specs.declared.flow.Flow.{Flow}
 use Rattle.flow_table.specs.Table.{sfids_of, sids_of, with_flow}
-use Rattle.operator_machine.specs.State.{opened_flow}
+use Rattle.operator_model.specs.State.{opened_flow}
 
 -- the least free SID, where a set is admitted
 abbrev pub sid_for : RowFields → List (ℕ × Flow) → SetsFields → Option ℕ

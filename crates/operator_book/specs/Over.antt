@@ -4,8 +4,8 @@ use Rattle.dsx_messages.specs.declared.code.Code.TheVariants.{RejectAuthorizatio
 use Rattle.param_sets.specs.Sets.{sets_unless}
 use Rattle.param_sets.specs.declared.sets.SetsFields.{SetsFields}
 use Rattle.param_sets.specs.declared.refusal.Refusal.{Refusal}
-use Rattle.operator_machine.specs.declared.verdict.AskedSets.{AskedSets}
-use Rattle.operator_machine.specs.Asked.{failing_admitted}
+use Rattle.operator_model.specs.declared.verdict.AskedSets.{AskedSets}
+use Rattle.operator_model.specs.Asked.{failing_admitted}
 
 -- refused where the admitted set is not within the provisioned one
 abbrev pub asked_over : SetsFields → AskedSets → Result SetsFields Refusal

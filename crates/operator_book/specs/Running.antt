@@ -1,5 +1,5 @@
--- What a machine makes of what it is told to do (own). Each word is the definition of `operator_machine` at what a machine holds.
-use Rattle.operator_machine.specs.State.{Operator}
+-- What a machine makes of what it is told to do (own). Each word is the definition of `operator_model` at what a machine holds.
+use Rattle.operator_model.specs.State.{Operator}
 use Rattle.std.specs.Prelude.{◌≡◌, ◌<◌, ℕ, Bool, List, [], ◌∷◌, ◌++◌, length, find, IsNone}
 use Rattle.tlv24.specs.declared.fields.FlowFields.{FlowFields}
 use Rattle.dsx_messages.specs.declared.modem.Modem.{Modem}
@@ -13,19 +13,19 @@ use Rattle.flow_table.specs.declared.flow.Flow.{Flow}
 use Rattle.flow_table.specs.Table.{flow_with, flowing_in, with_flow}
 use Rattle.slice_scheduler.specs.declared.elements.ElementsFields.{ElementsFields}
 use Rattle.slice_scheduler.specs.Schedule.{elements_of, granted_of}
-use Rattle.operator_machine.specs.declared.heard.Heard.{Heard}
-use Rattle.operator_machine.specs.declared.heard.Arrival.{Arrival}
-use Rattle.operator_machine.specs.declared.output.Output.{Output}
-use Rattle.operator_machine.specs.declared.output.Output.TheVariants as outputs
-use Rattle.operator_machine.specs.declared.verdict.Verdict.{Verdict}
-use Rattle.operator_machine.specs.declared.verdict.Verdict.TheVariants.{Put}
-use Rattle.operator_machine.specs.Asked.{transaction, addition_of, change_of}
-use Rattle.operator_machine.specs.Frame.{at_frame, flows_left}
-use Rattle.operator_machine.specs.Handle.{Ran, change_at, transacted}
-use Rattle.operator_machine.specs.Handle as handling
-use Rattle.operator_machine.specs.Machine as machines
-use Rattle.operator_machine.specs.Verdict.{limit_of}
-use Rattle.operator_machine.specs.Verdict as verdicts
+use Rattle.operator_model.specs.declared.heard.Heard.{Heard}
+use Rattle.operator_model.specs.declared.heard.Arrival.{Arrival}
+use Rattle.operator_model.specs.declared.output.Output.{Output}
+use Rattle.operator_model.specs.declared.output.Output.TheVariants as outputs
+use Rattle.operator_model.specs.declared.verdict.Verdict.{Verdict}
+use Rattle.operator_model.specs.declared.verdict.Verdict.TheVariants.{Put}
+use Rattle.operator_model.specs.Asked.{transaction, addition_of, change_of}
+use Rattle.operator_model.specs.Frame.{at_frame, flows_left}
+use Rattle.operator_model.specs.Handle.{StepResult, change_at, transacted}
+use Rattle.operator_model.specs.Handle as handling
+use Rattle.operator_model.specs.Machine as machines
+use Rattle.operator_model.specs.Verdict.{limit_of}
+use Rattle.operator_model.specs.Verdict as verdicts
 
 -- ---- a machine of which one thing differs
 
@@ -63,7 +63,7 @@ abbrev pub change_verdict : Operator → Modem → ℕ → List FlowFields → V
 change_verdict m modem tid encodings =
     verdicts.change_verdict m tid (change_of m.consts m.state.flows (transaction modem Dsc tid) encodings)
 
-abbrev pub carried_out : Operator → Modem → Kind → ℕ → Verdict → Ran
+abbrev pub carried_out : Operator → Modem → Kind → ℕ → Verdict → StepResult
 carried_out m modem kind tid v = handling.carried_out m.consts m.state modem kind tid v
 
 -- whatever the verdict would be, nothing changes, and this is the answer
@@ -79,16 +79,16 @@ pub record IsNew (m : Operator) (modem : Modem) (kind : Kind) (tid : ℕ) : Type
 
 -- ---- what a machine makes of what was heard, and of an action
 
-abbrev pub acked : Operator → Modem → ℕ → Kind → ℕ → Ran
+abbrev pub acked : Operator → Modem → ℕ → Kind → ℕ → StepResult
 acked m modem tid kind code = handling.acked m.consts m.state modem tid kind code
 
-abbrev pub asked_of_flow : Operator → Modem → ℕ → ℕ → Ran
+abbrev pub asked_of_flow : Operator → Modem → ℕ → ℕ → StepResult
 asked_of_flow m modem sid minislots = handling.asked_of_flow m.state modem minislots (flow_with sid m.state.flows)
 
-abbrev pub worked : Operator → Ran
+abbrev pub worked : Operator → StepResult
 worked m = machines.worked m m.state.inbox
 
-abbrev pub arrived : Operator → Modem → Heard → Ran
+abbrev pub arrived : Operator → Modem → Heard → StepResult
 arrived m modem heard = machines.arrived m.row m.state modem heard
 
 -- the schedule of the frame, of what flows once what is given up is gone

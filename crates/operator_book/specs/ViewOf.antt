@@ -1,7 +1,7 @@
 -- What contracts of crates above say of a book and of its ranking (own).
 use Rattle.grant_policy.specs.declared.policy.Policy.{Policy}
 use Rattle.grant_policy.specs.declared.ranking.Ranking.{Ranking}
-use Rattle.operator_machine.specs.Replay.{BookView}
+use Rattle.operator_model.specs.Replay.{BookView}
 use Rattle.operator_book.specs.declared.book.Book.{Book}
 
 abbrev pub view_of : {D : Type 0} {F : D → Type 0} {m : _} → Book D F m → BookView

@@ -6,12 +6,12 @@ ghost use Rattle.std.specs.List.{list_all};
 ghost use Rattle.dsx_messages.specs.declared.kind.Kind.TheVariants.{Dsc, Dsd};
 ghost use Rattle.flow_table.specs.Table.{flow_at};
 ghost use Rattle.operator_book.specs.Over.{asked_over};
-ghost use Rattle.operator_machine.specs.Asked.{is_unclassed, number_in, is_same, first_of, first_encoding, free_flow, set_over_class, set_of, is_change, asked_by_type, asked_by_one, in_order, asked_by_two, asked_sets, failing_active, nested_sets, addition_of, change_of};
+ghost use Rattle.operator_model.specs.Asked.{is_unclassed, number_in, is_same, first_of, first_encoding, free_flow, set_over_class, set_of, is_change, asked_by_type, asked_by_one, in_order, asked_by_two, asked_sets, failing_active, nested_sets, addition_of, change_of};
 
 use crate::refusal::{refusal, refusal_naming};
 use dsx_messages::{Code, Kind, Reply};
 use flow_table::{Flow, Flows};
-use operator_machine::{
+use operator_model::{
     Addition, AskedSets, Change, Transaction, has_set_type, is_same, number_in, stand_together,
 };
 use param_sets::{ParamSet, Refusal, Sets, from_tlv, within};
@@ -64,7 +64,7 @@ fn first_unclassed<'a>(consts: &Consts, encodings: &'a [FlowTlv]) -> Option<&'a 
 }
 
 /// The first of the encodings, where they stand together and none names a class that the plant has not.
-#[tactic(auto, unfolding(operator_machine::specs::Asked::first_encoding))]
+#[tactic(auto, unfolding(operator_model::specs::Asked::first_encoding))]
 #[inline(always)]
 fn first_encoding<'a>(
     t: Transaction,
@@ -117,7 +117,7 @@ fn set_from(
 }
 
 /// The parameter set of an encoding, over its class. One that names no class is not copied.
-#[tactic(auto, unfolding(operator_machine::specs::Asked::set_of))]
+#[tactic(auto, unfolding(operator_model::specs::Asked::set_of))]
 #[inline(always)]
 fn set_of(t: Transaction, consts: &Consts, flow: &FlowTlv) -> Result<ParamSet, Reply>
     requires { t.kind ≢ Dsd }
@@ -222,7 +222,7 @@ fn asked_by_two(
 }
 
 /// The sets that the encodings of a request ask for.
-#[tactic(auto, unfolding(operator_machine::specs::Asked::asked_sets))]
+#[tactic(auto, unfolding(operator_model::specs::Asked::asked_sets))]
 #[inline(always)]
 fn asked_sets(t: Transaction, consts: &Consts, encodings: &[FlowTlv]) -> Result<AskedSets, Reply>
     requires { t.kind ≢ Dsd }
@@ -247,7 +247,7 @@ fn failing_active(asked: &AskedSets) -> Option<u8>
 }
 
 /// The flow's sets with those that are asked for.
-#[tactic(auto, unfolding(operator_machine::specs::Asked::nested_sets))]
+#[tactic(auto, unfolding(operator_model::specs::Asked::nested_sets))]
 #[inline(always)]
 fn nested_sets(
     t: Transaction,
@@ -289,7 +289,7 @@ fn with_asked(sets: Sets, asked: &AskedSets) -> Result<Sets, Refusal>
 }
 
 /// What an addition asks for.
-#[tactic(auto, unfolding(operator_machine::specs::Asked::addition_of))]
+#[tactic(auto, unfolding(operator_model::specs::Asked::addition_of))]
 #[inline(always)]
 pub(crate) fn addition_of(
     consts: &Consts,
@@ -314,7 +314,7 @@ pub(crate) fn addition_of(
 }
 
 /// What a change asks for of the flow of its SFID.
-#[tactic(auto, unfolding(operator_machine::specs::Asked::change_of))]
+#[tactic(auto, unfolding(operator_model::specs::Asked::change_of))]
 pub(crate) fn change_of(
     consts: &Consts,
     flows: &Flows,

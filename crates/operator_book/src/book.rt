@@ -3,11 +3,11 @@
 ghost use Rattle.std.specs.Prelude.{◌≡◌, ◌≢◌, ◌↔◌, ◌<◌, ◌≤◌, true, length, Err, Some, None, IfOk, OnOk, OnErr};
 ghost use Rattle.dsx_messages.specs.declared.modem.Modem.{Modem};
 ghost use Rattle.plant.specs.Row.{IsRowOf};
-ghost use Rattle.operator_machine.specs.declared.action.Unfit.{Unfit};
-ghost use Rattle.operator_machine.specs.declared.action.Action.{Action};
-ghost use Rattle.operator_machine.specs.declared.action.Action.TheVariants as actions;
-ghost use Rattle.operator_machine.specs.Machine.{is_spent};
-ghost use Rattle.operator_machine.specs.Replay.{acted};
+ghost use Rattle.operator_model.specs.declared.action.Unfit.{Unfit};
+ghost use Rattle.operator_model.specs.declared.action.Action.{Action};
+ghost use Rattle.operator_model.specs.declared.action.Action.TheVariants as actions;
+ghost use Rattle.operator_model.specs.Machine.{is_spent};
+ghost use Rattle.operator_model.specs.Replay.{acted};
 ghost use Rattle.operator_book.specs.MostOutputs.{most_outputs_of};
 ghost use Rattle.operator_book.specs.OfBook.{opened_book, outputs_of, stranger_of, unfit_of, unfit_from, IsAllowed, IsReplayed, IsSound};
 ghost use Rattle.operator_book.specs.declared.book.OpenFault.TheVariants as open_faults;
@@ -17,7 +17,7 @@ use crate::logged::Logged;
 use crate::state_view::StateView;
 use dsx_messages::Modem;
 use grant_policy::Ranking;
-use operator_machine::{Action, Entry, Output, SliceRow, Unfit};
+use operator_model::{Action, Entry, Output, SliceRow, Unfit};
 use plant::{Consts, OperatorRow};
 use std::alloc::{AllocError, Global};
 

@@ -5,9 +5,9 @@ ghost use Rattle.dsx_messages.specs.declared.message.Message.{Message};
 ghost use Rattle.dsx_messages.specs.declared.fault.MessageFault.{MessageFault};
 ghost use Rattle.dsx_messages.specs.Reading.{Fails, Gives};
 ghost use Rattle.flow_table.specs.Flow.{acknowledged};
-ghost use Rattle.operator_machine.specs.declared.verdict.Verdict.TheVariants.{Refused};
-ghost use Rattle.operator_machine.specs.Asked.{refusal};
-ghost use Rattle.operator_machine.specs.Handle.{transacted, message_handled, undone};
+ghost use Rattle.operator_model.specs.declared.verdict.Verdict.TheVariants.{Refused};
+ghost use Rattle.operator_model.specs.Asked.{refusal};
+ghost use Rattle.operator_model.specs.Handle.{transacted, message_handled, undone};
 ghost use Rattle.operator_book.specs.Held.{HasOwnSids, HasRightId};
 ghost use Rattle.operator_book.specs.Does.{Does};
 ghost use Rattle.operator_book.specs.Running.{with_flows, with_change, with_inbox, told, acked, asked_of_flow, worked, arrived};
@@ -15,7 +15,7 @@ ghost use Rattle.operator_book.specs.Running.{with_flows, with_change, with_inbo
 use crate::machine::{Both, Machine, nothing, silent};
 use crate::refusal::{errored, refusal};
 use dsx_messages::{Code, Kind, Message, MessageFault, Modem, Reply, Request, read};
-use operator_machine::{Arrival, Cause, Heard};
+use operator_model::{Arrival, Cause, Heard};
 use std::alloc::{AllocError, Global};
 
 impl Machine {

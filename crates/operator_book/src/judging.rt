@@ -2,13 +2,13 @@
 
 ghost use Rattle.std.specs.Prelude.{◌≡◌, ◌≤◌, ◌↔◌, true, length, Err, None, Some, OnOk};
 ghost use Rattle.dsx_messages.specs.declared.modem.Modem.{Modem};
-ghost use Rattle.operator_machine.specs.declared.action.Unfit.{Unfit};
-ghost use Rattle.operator_machine.specs.Machine.{stranger_of, is_spent, unfit_of, own_step, IsAllowed};
+ghost use Rattle.operator_model.specs.declared.action.Unfit.{Unfit};
+ghost use Rattle.operator_model.specs.Machine.{stranger_of, is_spent, unfit_of, own_step, IsAllowed};
 ghost use Rattle.operator_book.specs.MostOutputs.{most_outputs_of};
 
 use crate::book::BookFault;
 use crate::machine::Machine;
-use operator_machine::Action;
+use operator_model::Action;
 use plant::is_listed;
 
 impl Machine {

@@ -21,7 +21,7 @@ mod verdict;
 pub use book::{Book, BookFault, OpenFault};
 pub use live::{Live, SoundMachine};
 pub use logged::Logged;
-pub use operator_machine::{
+pub use operator_model::{
     Action, Arrival, Cause, Entry, Heard, NextShare, Output, Outputs, Share, SliceRow, Unfit,
 };
 pub use state_view::StateView;

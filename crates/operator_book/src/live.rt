@@ -3,17 +3,17 @@
 ghost use Rattle.std.specs.Prelude.{◌≡◌, ◌≢◌, ◌↔◌, ◌≤◌, true, length, Err, Some, None, IfOk, OnOk, OnErr};
 ghost use Rattle.dsx_messages.specs.declared.modem.Modem.{Modem};
 ghost use Rattle.plant.specs.Row.{IsRowOf};
-ghost use Rattle.operator_machine.specs.declared.action.Unfit.{Unfit};
-ghost use Rattle.operator_machine.specs.declared.action.Action.TheVariants as actions;
-ghost use Rattle.operator_machine.specs.State.{operator, opened};
-ghost use Rattle.operator_machine.specs.Machine.{stranger_of, is_spent, unfit_of, unfit_from, own_step, after_step, IsAllowed};
-ghost use Rattle.operator_machine.specs.Sound.{IsSound};
+ghost use Rattle.operator_model.specs.declared.action.Unfit.{Unfit};
+ghost use Rattle.operator_model.specs.declared.action.Action.TheVariants as actions;
+ghost use Rattle.operator_model.specs.State.{operator, opened};
+ghost use Rattle.operator_model.specs.Machine.{stranger_of, is_spent, unfit_of, unfit_from, own_step, after_step, IsAllowed};
+ghost use Rattle.operator_model.specs.Sound.{IsSound};
 ghost use Rattle.operator_book.specs.MostOutputs.{most_outputs_of};
 
 use crate::book::{BookFault, OpenFault};
 use crate::machine::{Both, Machine};
 use grant_policy::Ranking;
-use operator_machine::{
+use operator_model::{
     Action, NextShare, Output, Share, SliceRow, Unfit, opened_is_sound, step_keeps_sound,
 };
 use plant::{Consts, OperatorRow};
@@ -27,8 +27,8 @@ pub struct SoundMachine {
 }
 
 impl Model for SoundMachine {
-    ghost use Rattle.operator_machine.specs.State.{Operator};
-    ghost use Rattle.operator_machine.specs.Sound.{IsSound};
+    ghost use Rattle.operator_model.specs.State.{Operator};
+    ghost use Rattle.operator_model.specs.Sound.{IsSound};
 
     ghost Value = { Operator };
 

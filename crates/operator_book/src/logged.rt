@@ -2,13 +2,13 @@
 
 ghost use Rattle.std.specs.Prelude.{◌≡◌, ◌<◌, None, IfOk, OnOk, OnErr, vec_len, vec_capacity};
 ghost use Rattle.plant.specs.Row.{IsRowOf};
-ghost use Rattle.operator_machine.specs.declared.action.Action.TheVariants as actions;
-ghost use Rattle.operator_machine.specs.Replay.{acted};
+ghost use Rattle.operator_model.specs.declared.action.Action.TheVariants as actions;
+ghost use Rattle.operator_model.specs.Replay.{acted};
 ghost use Rattle.operator_book.specs.OfBook.{opened_book, outputs_of, unfit_from, IsAllowed, IsReplayed, IsSound};
 
 use crate::machine::Machine;
 use grant_policy::Ranking;
-use operator_machine::{Action, Entry, Output, Outputs, SliceRow, replay_is_sound};
+use operator_model::{Action, Entry, Output, Outputs, SliceRow, replay_is_sound};
 use plant::{Consts, OperatorRow};
 use std::alloc::{AllocError, Global};
 use std::marker::Model;

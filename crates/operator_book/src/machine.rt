@@ -1,11 +1,11 @@
 //! The machine of a book: what it holds, and the outputs of an action.
 
 ghost use Rattle.std.specs.Prelude.{◌≡◌, true, [], ◌∷◌, IfOk};
-ghost use Rattle.operator_machine.specs.declared.output.Output.TheVariants as outputs;
+ghost use Rattle.operator_model.specs.declared.output.Output.TheVariants as outputs;
 
 use dsx_messages::Modem;
 use flow_table::Flows;
-use operator_machine::{Arrival, Cause, NextShare, Output, Share};
+use operator_model::{Arrival, Cause, NextShare, Output, Share};
 use plant::{Consts, OperatorRow};
 use std::alloc::{AllocError, Global};
 use std::collections::VecDeque;
@@ -27,7 +27,7 @@ pub(crate) struct Machine {
 }
 
 impl Model for Machine {
-    ghost use Rattle.operator_machine.specs.State.{Operator};
+    ghost use Rattle.operator_model.specs.State.{Operator};
     ghost use Rattle.operator_book.specs.Held.{IsMachine};
 
     ghost Value = { Operator };

@@ -4,13 +4,13 @@ ghost use Rattle.std.specs.Prelude.{◌≡◌, ◌<◌, ◌≤◌, ◌+◌, [], 
 ghost use Rattle.admission.specs.Free.{IsLeastFree};
 ghost use Rattle.flow_table.specs.Table.{sids_of};
 ghost use Rattle.plant.specs.Row.{IsRowOf};
-ghost use Rattle.operator_machine.specs.State.{opened_flow, opened};
+ghost use Rattle.operator_model.specs.State.{opened_flow, opened};
 ghost use Rattle.operator_book.specs.Opening.{sid_for, put_provision, put_provisions};
 
 use crate::machine::Machine;
 use dsx_messages::Modem;
 use flow_table::{Flow, Flows};
-use operator_machine::Share;
+use operator_model::Share;
 use param_sets::Sets;
 use plant::{Consts, OperatorRow, Provision};
 use std::alloc::{AllocError, Global};

@@ -5,11 +5,11 @@ ghost use Rattle.dsx_messages.specs.WellFormed.{Names};
 ghost use Rattle.dsx_messages.specs.declared.code.Code.TheVariants.{Okay};
 ghost use Rattle.dsx_messages.specs.declared.kind.Kind.TheVariants.{Dsd};
 ghost use Rattle.dsx_messages.specs.declared.reply.Detail.TheVariants.{Errored};
-ghost use Rattle.operator_machine.specs.Asked.{refusal, id_of, refusal_naming};
-ghost use Rattle.operator_machine.specs.Verdict.{errored};
+ghost use Rattle.operator_model.specs.Asked.{refusal, id_of, refusal_naming};
+ghost use Rattle.operator_model.specs.Verdict.{errored};
 
 use dsx_messages::{Code, Detail, FlowId, Kind, Reply, ReplyFields};
-use operator_machine::Transaction;
+use operator_model::Transaction;
 use tlv24::{FlowTlv, TlvFault};
 
 /// A refusal that names nothing.

@@ -1,11 +1,11 @@
 //! Another slice and budget from a later frame on.
 
 ghost use Rattle.std.specs.Prelude.{◌≡◌, None};
-ghost use Rattle.operator_machine.specs.Machine.{is_off_frame, unfit_from, resliced};
+ghost use Rattle.operator_model.specs.Machine.{is_off_frame, unfit_from, resliced};
 ghost use Rattle.operator_book.specs.Held.{with_state};
 
 use crate::machine::Machine;
-use operator_machine::{NextShare, Share, SliceRow, Unfit};
+use operator_model::{NextShare, Share, SliceRow, Unfit};
 use slice_scheduler::Slice;
 
 impl Machine {

@@ -4,7 +4,7 @@ ghost use Rattle.std.specs.Prelude.{◌≡◌, IfOk};
 
 use crate::machine::Machine;
 use flow_table::Flow;
-use operator_machine::{Arrival, NextShare, Share};
+use operator_model::{Arrival, NextShare, Share};
 use std::alloc::{AllocError, Global};
 use std::collections::VecDeque;
 use std::marker::Model;
@@ -22,7 +22,7 @@ pub struct StateView {
 }
 
 impl Model for StateView {
-    ghost use Rattle.operator_machine.specs.State.{OperatorState};
+    ghost use Rattle.operator_model.specs.State.{OperatorState};
 
     ghost Value = { OperatorState };
 

@@ -1,18 +1,18 @@
 //! One step of a machine.
 
 ghost use Rattle.std.specs.Prelude.{◌≡◌, false, None};
-ghost use Rattle.operator_machine.specs.Machine.{is_spent, unfit_of, own_step};
-ghost use Rattle.operator_machine.specs.Sound.{IsSound};
+ghost use Rattle.operator_model.specs.Machine.{is_spent, unfit_of, own_step};
+ghost use Rattle.operator_model.specs.Sound.{IsSound};
 ghost use Rattle.operator_book.specs.Does.{Does};
 
 use crate::machine::{Both, Machine, nothing};
 use grant_policy::Ranking;
-use operator_machine::Action;
+use operator_model::Action;
 use std::alloc::{AllocError, Global};
 
 impl Machine {
     /// Does an action that is not refused.
-    #[tactic(auto, unfolding(operator_machine::specs::Machine::own_step))]
+    #[tactic(auto, unfolding(operator_model::specs::Machine::own_step))]
     pub(crate) fn step(
         &mut self,
         alloc: Global,
@@ -41,7 +41,7 @@ impl Machine {
     }
 
     /// Does an action that is not refused, of which what was heard is not copied.
-    #[tactic(auto, unfolding(operator_machine::specs::Machine::own_step))]
+    #[tactic(auto, unfolding(operator_model::specs::Machine::own_step))]
     #[inline(always)]
     pub(crate) fn step_with(
         &mut self,

@@ -1,16 +1,16 @@
 //! A tick: the timers, the frame, and the next frame's share.
 
 ghost use Rattle.std.specs.Prelude.{◌≡◌, ◌<◌, ◌≤◌, ◌+◌, [], ◌∷◌, ◌++◌, map, length, IfOk, vec_capacity};
-ghost use Rattle.operator_machine.specs.declared.output.Output.TheVariants as outputs;
+ghost use Rattle.operator_model.specs.declared.output.Output.TheVariants as outputs;
 ghost use Rattle.flow_table.specs.Flow.{granted};
-ghost use Rattle.operator_machine.specs.Frame.{ticked, resent, all_undone, all_granted, share_at, next_at};
-ghost use Rattle.operator_machine.specs.Sound.{IsSound};
+ghost use Rattle.operator_model.specs.Frame.{ticked, resent, all_undone, all_granted, share_at, next_at};
+ghost use Rattle.operator_model.specs.Sound.{IsSound};
 ghost use Rattle.operator_book.specs.Does.{Does};
 ghost use Rattle.operator_book.specs.Running.{with_flows, with_change, elements_in, granted_in};
 
 use crate::machine::{Both, Machine};
 use grant_policy::Ranking;
-use operator_machine::{Output, given_up_have_no_grants, schedule_can_serve};
+use operator_model::{Output, given_up_have_no_grants, schedule_can_serve};
 use slice_scheduler::{At, Elements, Grants, Served, schedule};
 use std::alloc::{AllocError, Global};
 use transactions::{GivenUp, GivenUps, Resends, Ticked};

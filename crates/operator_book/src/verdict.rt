@@ -4,8 +4,8 @@ ghost use Rattle.std.specs.Prelude.{◌≡◌, ◌<◌, ◌≤◌, IfSome, Some,
 ghost use Rattle.admission.specs.Free.{IsLeastFree};
 ghost use Rattle.dsx_messages.specs.declared.kind.Kind.TheVariants.{Dsd};
 ghost use Rattle.flow_table.specs.Table.{flow_at, sids_of, MayStand};
-ghost use Rattle.operator_machine.specs.Asked.{transaction, free_flow};
-ghost use Rattle.operator_machine.specs.Verdict.{added, added_under, changed_with, changed, verdict, limit_of, no_room, new_flow, added_reply, changed_flow, changed_reply, wants_sid, deletion_verdict};
+ghost use Rattle.operator_model.specs.Asked.{transaction, free_flow};
+ghost use Rattle.operator_model.specs.Verdict.{added, added_under, changed_with, changed, verdict, limit_of, no_room, new_flow, added_reply, changed_flow, changed_reply, wants_sid, deletion_verdict};
 ghost use Rattle.operator_book.specs.Held.{table_of, HasOwnSids, MayPut};
 ghost use Rattle.operator_book.specs.Running.{put_within_limit, addition_verdict, change_verdict};
 
@@ -15,7 +15,7 @@ use crate::refusal::refusal;
 use admission::Budget;
 use dsx_messages::{Code, Detail, Kind, Modem, Reply, ReplyFields, Request};
 use flow_table::{Flow, Pending};
-use operator_machine::{Addition, Change, Transaction, Verdict};
+use operator_model::{Addition, Change, Transaction, Verdict};
 use param_sets::Sets;
 use std::alloc::{AllocError, Global};
 use tlv24::FlowTlv;
@@ -157,7 +157,7 @@ impl Machine {
     }
 
     /// An addition, where there is room for it.
-    #[tactic(auto, unfolding(operator_machine::specs::Verdict::added))]
+    #[tactic(auto, unfolding(operator_model::specs::Verdict::added))]
     #[inline(always)]
     fn added(&self, modem: Modem, tid: u16, addition: &Addition) -> Verdict
         ensures value { result ≡ added self.now modem tid addition.now }
@@ -210,7 +210,7 @@ impl Machine {
     }
 
     /// A change, where there is room for it.
-    #[tactic(auto, unfolding(operator_machine::specs::Verdict::changed))]
+    #[tactic(auto, unfolding(operator_model::specs::Verdict::changed))]
     fn changed(&self, tid: u16, change: &Change) -> Verdict
         requires there { flow_at change.now.sfid self.now.state.flows ≡ Some change.now.flow }
         requires range { IfSome change.now.flow.sid (λ n. n ≤ 8191) }
@@ -289,7 +289,7 @@ impl Machine {
     }
 
     /// What becomes of a request whose transaction is new: the first check of the table that holds decides.
-    #[tactic(auto, unfolding(operator_machine::specs::Verdict::verdict))]
+    #[tactic(auto, unfolding(operator_model::specs::Verdict::verdict))]
     #[inline(always)]
     pub(crate) fn verdict(&self, modem: Modem, request: &Request) -> Verdict
         requires { HasOwnSids self.now }

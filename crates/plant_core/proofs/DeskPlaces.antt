@@ -4,7 +4,7 @@ use Rattle.std.specs.Prelude.{slice_get, replicate}
 use Rattle.std.proofs.lemmas.Result.{on_ok_weaker, on_err_weaker}
 use Rattle.slice_scheduler.specs.declared.elements.ElementsFields.{ElementsFields}
 use Rattle.plant.specs.declared.plant.PlantFields.{PlantFields}
-use Rattle.operator_machine.specs.Replay.{BookView}
+use Rattle.operator_model.specs.Replay.{BookView}
 use Rattle.map_assembly.specs.Gathering.{Gathering}
 use Rattle.plant_core.specs.Reachable.{core_of}
 use Rattle.plant_core.proofs.PlaceLemmas.{seen_at, set_alike, set_seen}

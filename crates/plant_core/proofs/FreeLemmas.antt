@@ -6,17 +6,17 @@ use Rattle.std.specs.List.{AllByRecursion, position_from}
 use Rattle.std.proofs.lemmas.Bool.{eqb-true}
 use Rattle.std.proofs.lemmas.Option.{none-some, same_Some}
 use Rattle.slice_scheduler.specs.Minislots.{slices_overlap}
-use Rattle.operator_machine.specs.declared.action.SliceRow.{SliceRow}
-use Rattle.operator_machine.specs.declared.action.Unfit.{Unfit}
-use Rattle.operator_machine.specs.declared.action.Unfit.TheVariants as unfits
-use Rattle.operator_machine.specs.Machine.{unfit_from}
-use Rattle.operator_machine.specs.Replay.{BookView}
+use Rattle.operator_model.specs.declared.action.SliceRow.{SliceRow}
+use Rattle.operator_model.specs.declared.action.Unfit.{Unfit}
+use Rattle.operator_model.specs.declared.action.Unfit.TheVariants as unfits
+use Rattle.operator_model.specs.Machine.{unfit_from}
+use Rattle.operator_model.specs.Replay.{BookView}
 use Rattle.map_assembly.proofs.OrderLemmas.{PairsByRecursion}
 use Rattle.map_assembly.proofs.NewLemmas.{AllPairs-from_pairs}
-use Rattle.plant_runs.specs.OwnSteps.{slice_of}
+use Rattle.run_model.specs.OwnSteps.{slice_of}
 use Rattle.plant_core.specs.declared.core_fault.ResliceFault.TheVariants as faults
 use Rattle.plant_core.specs.Reslicing.{is_unfit, least_unfit, do_meet, least_meeting, row_fault, reslice_fault}
-use Rattle.plant_runs.specs.Steps.{NoneRefuses}
+use Rattle.run_model.specs.Steps.{NoneRefuses}
 
 neither : {X Y : Type 0} (f : X → Y) (o : Option X) (p : Option Y) → option_or (option_map f o) p ≡ None → (o ≡ None) × (p ≡ None)
 neither f None p h = (refl, h)

@@ -7,12 +7,12 @@ use Rattle.std.proofs.lemmas.Bool.{cases_eq}
 use Rattle.std.proofs.lemmas.List.Elements.{AllWithin-more_set}
 use Rattle.std.proofs.lemmas.Option.{slice_get-map, slice_get_read, same_Some, slice_get_within}
 use Rattle.slice_scheduler.specs.declared.elements.ElementsFields.{ElementsFields}
-use Rattle.operator_machine.specs.declared.action.SliceRow.{SliceRow}
-use Rattle.operator_machine.specs.declared.action.Action.TheVariants as actions
-use Rattle.operator_machine.specs.Replay.{BookView, acted}
-use Rattle.plant_runs.specs.Reached.{frames_of}
-use Rattle.plant_runs.proofs.Entries.{get_same, get_other}
-use Rattle.plant_runs.proofs.Moving.{silent}
+use Rattle.operator_model.specs.declared.action.SliceRow.{SliceRow}
+use Rattle.operator_model.specs.declared.action.Action.TheVariants as actions
+use Rattle.operator_model.specs.Replay.{BookView, acted}
+use Rattle.run_model.specs.IsStateAfter.{frames_of}
+use Rattle.run_model.proofs.Entries.{get_same, get_other}
+use Rattle.run_model.proofs.Moving.{silent}
 use Rattle.plant_core.specs.Waiting.{waiting_in}
 use Rattle.plant_core.specs.Giving.{HaveTakenAs}
 use Rattle.plant_core.proofs.PlaceLemmas.{seen_at, set_alike}

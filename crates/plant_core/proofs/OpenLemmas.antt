@@ -8,11 +8,11 @@ use Rattle.plant.specs.declared.consts.ConstsFields.{ConstsFields}
 use Rattle.plant.specs.declared.operator_row.RowFields.{RowFields}
 use Rattle.plant.specs.declared.plant.PlantFields.{PlantFields}
 use Rattle.plant.specs.Plant.{IsPlant}
-use Rattle.operator_machine.specs.Replay.{BookView}
+use Rattle.operator_model.specs.Replay.{BookView}
 use Rattle.map_assembly.specs.Gathering.{Gathering, gathering_of}
-use Rattle.plant_runs.specs.Opened.{opened_book, opened_core}
-use Rattle.plant_runs.specs.Reached.{CoreView, Reached}
-use Rattle.plant_runs.proofs.Opening.{opened_reached}
+use Rattle.run_model.specs.Opened.{opened_book, opened_core}
+use Rattle.run_model.specs.IsStateAfter.{CoreView, IsStateAfter}
+use Rattle.run_model.proofs.Opening.{opened_reached}
 use Rattle.plant_core.specs.Reachable.{core_of, IsReachable}
 
 pub map_more : {X Y Z : Type 0} (f : X → Z) (g : Y → Z) (xs more : List X) (ys : List Y) (n m : ℕ) (x : X) (y : Y) → more ≡ xs ++ x ∷ [] → m ≡ n + 1 → n < length ys → y ≡ get_or ys n y
@@ -31,7 +31,7 @@ replicate_more f xs more n m x y is one same so_far =
 
 pub opened_is : (plant routes : PlantFields) (books : List BookView) (queues : List (List (ℕ × ElementsFields))) (gathering : Gathering) (consts : ConstsFields) (rows : List RowFields)
     → IsPlant plant → routes ≡ plant → consts ≡ plant.consts → rows ≡ plant.rows → books ≡ map (opened_book consts) rows → queues ≡ replicate (length rows) [] → gathering ≡ gathering_of plant
-    → Reached plant [] [] (record { plant = routes; books = books; queues = queues; gathering = gathering })
+    → IsStateAfter plant [] [] (record { plant = routes; books = books; queues = queues; gathering = gathering })
 opened_is plant routes books queues gathering consts rows valid r c w b q g =
     let all : books ≡ map (opened_book plant.consts) plant.rows = b ∙ ap₂ (λ (k : ConstsFields) (rs : List RowFields). map (opened_book k) rs) c w in
     let none : queues ≡ replicate (length plant.rows) [] = q ∙ ap (λ (rs : List RowFields). replicate (length rs) []) w in
@@ -39,13 +39,13 @@ opened_is plant routes books queues gathering consts rows valid r c w b q g =
     ap₂ (λ (f : List BookView → List (List (ℕ × ElementsFields)) → CoreView) (bq : List BookView × List (List (ℕ × ElementsFields))). f bq.0 bq.1)
     (ap₂ (λ (p : PlantFields) (gs : Gathering). λ (bs : List BookView) (qs : List (List (ℕ × ElementsFields))). record { plant = p; books = bs; queues = qs; gathering = gs }) r g)
     (ap₂ (λ (bs : List BookView) (qs : List (List (ℕ × ElementsFields))). (bs, qs)) all none) in
-    subst (λ (core : CoreView). Reached plant [] [] core) (sym same) (opened_reached plant valid)
+    subst (λ (core : CoreView). IsStateAfter plant [] [] core) (sym same) (opened_reached plant valid)
 
 pub opened_reaches : (plant routes : PlantFields) (books : List BookView) (queues : List (List (ℕ × ElementsFields))) (gathering : Gathering) (consts : ConstsFields) (rows : List RowFields)
     → IsPlant plant → routes ≡ plant → consts ≡ plant.consts → rows ≡ plant.rows → books ≡ map (opened_book consts) rows → queues ≡ replicate (length rows) [] → gathering ≡ gathering_of plant
     → ∥ IsReachable (core_of routes books queues gathering) ∥₁
 opened_reaches plant routes books queues gathering consts rows valid r c w b q g =
-    ∣ ([], [], subst (λ (p : PlantFields). Reached p [] [] (core_of routes books queues gathering)) (sym r) (opened_is plant routes books queues gathering consts rows valid r c w b q g)) ∣₁
+    ∣ ([], [], subst (λ (p : PlantFields). IsStateAfter p [] [] (core_of routes books queues gathering)) (sym r) (opened_is plant routes books queues gathering consts rows valid r c w b q g)) ∣₁
 
 some_same : {X : Type 0} (x y : X) → Some x ≡ Some y → x ≡ y
 some_same x y h = cc

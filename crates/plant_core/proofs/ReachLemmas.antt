@@ -8,23 +8,23 @@ use Rattle.dsx_messages.specs.declared.modem.Modem.{Modem}
 use Rattle.plant.specs.declared.plant.PlantFields.{PlantFields}
 use Rattle.plant.specs.Plant.{IsPlant}
 use Rattle.plant.specs.Roster.{holder}
-use Rattle.operator_machine.specs.declared.action.Action.{Action}
-use Rattle.operator_machine.specs.declared.action.Action.TheVariants as actions
-use Rattle.operator_machine.specs.State.{operator}
-use Rattle.operator_machine.specs.Machine.{own_step, IsAllowed}
-use Rattle.operator_machine.specs.Replay.{BookView, acted}
-use Rattle.operator_machine.specs.declared.heard.Heard.{Heard}
+use Rattle.operator_model.specs.declared.action.Action.{Action}
+use Rattle.operator_model.specs.declared.action.Action.TheVariants as actions
+use Rattle.operator_model.specs.State.{operator}
+use Rattle.operator_model.specs.Machine.{own_step, IsAllowed}
+use Rattle.operator_model.specs.Replay.{BookView, acted}
+use Rattle.operator_model.specs.declared.heard.Heard.{Heard}
 use Rattle.map_assembly.specs.Gathering.{Gathering, put_fault, IsGathering}
 use Rattle.map_assembly.specs.declared.refused.GatherFault.{GatherFault}
-use Rattle.plant_runs.specs.declared.step.Step.{Step}
-use Rattle.plant_runs.specs.declared.step.Step.TheVariants as steps
-use Rattle.plant_runs.specs.declared.step.Out.{Out}
-use Rattle.plant_runs.specs.OwnSteps.{under}
-use Rattle.plant_runs.specs.Ordered.{action_at, target}
-use Rattle.plant_runs.specs.Reached.{CoreView, Reached, frames_of}
-use Rattle.plant_runs.specs.Steps.{Acts, Collects, Steps}
-use Rattle.plant_runs.proofs.OneStep.{step_reached}
-use Rattle.plant_runs.proofs.Fits.{waiting_fits}
+use Rattle.run_model.specs.declared.step.Step.{Step}
+use Rattle.run_model.specs.declared.step.Step.TheVariants as steps
+use Rattle.run_model.specs.declared.step.Out.{Out}
+use Rattle.run_model.specs.OwnSteps.{under}
+use Rattle.run_model.specs.Ordered.{action_at, target}
+use Rattle.run_model.specs.IsStateAfter.{CoreView, IsStateAfter, frames_of}
+use Rattle.run_model.specs.Steps.{Acts, Collects, Steps}
+use Rattle.run_model.proofs.OneStep.{step_reached}
+use Rattle.run_model.proofs.Fits.{waiting_fits}
 use Rattle.plant_core.specs.Putting.{FitsOldest}
 use Rattle.plant_core.specs.Reachable.{core_of, IsReachable, IsOfAStep}
 use Rattle.plant_core.proofs.StepLemmas.{same_view, acts_at}
@@ -34,7 +34,7 @@ pub stepped : (step : Step) (old new : CoreView) (now : List Out) → IsPlant ol
 stepped step old new now valid is same steps reached = ∥∥₁_map reached (λ r. (
   r.0 ++ step ∷ [],
   r.1 ++ now,
-  subst (λ (p : PlantFields). Reached p (r.0 ++ step ∷ []) (r.1 ++ now) new) (sym same) (step_reached old.plant r.0 r.1 step old new now valid r.2 is steps),
+  subst (λ (p : PlantFields). IsStateAfter p (r.0 ++ step ∷ []) (r.1 ++ now) new) (sym same) (step_reached old.plant r.0 r.1 step old new now valid r.2 is steps),
 ))
 
 -- ---- an action of one operator

@@ -8,16 +8,16 @@ use Rattle.slice_scheduler.specs.Minislots.{Minislots}
 use Rattle.slice_scheduler.specs.declared.elements.ElementsFields.{ElementsFields}
 use Rattle.plant.specs.declared.plant.PlantFields.{PlantFields}
 use Rattle.plant.specs.Plant.{IsPlant}
-use Rattle.operator_machine.specs.declared.action.SliceRow.{SliceRow}
-use Rattle.operator_machine.specs.Replay.{BookView}
+use Rattle.operator_model.specs.declared.action.SliceRow.{SliceRow}
+use Rattle.operator_model.specs.Replay.{BookView}
 use Rattle.plant.specs.declared.consts.Channel.{Channel}
 use Rattle.map_assembly.specs.Plan.{IsInFrame}
 use Rattle.map_assembly.specs.Gathering.{Gathering, IsGathering, MayReslice, resliced}
 use Rattle.map_assembly.proofs.OrderLemmas.{all-map}
-use Rattle.plant_runs.specs.OwnSteps.{slice_of}
-use Rattle.plant_runs.specs.Reached.{CoreView}
-use Rattle.plant_runs.specs.Steps.{Reslices}
-use Rattle.plant_runs.proofs.Anew.{slices_anew}
+use Rattle.run_model.specs.OwnSteps.{slice_of}
+use Rattle.run_model.specs.IsStateAfter.{CoreView}
+use Rattle.run_model.specs.Steps.{Reslices}
+use Rattle.run_model.proofs.Anew.{slices_anew}
 use Rattle.plant_core.specs.Reachable.{core_of, IsReachable}
 use Rattle.plant_core.specs.Reslicing.{reslice_fault}
 use Rattle.plant_core.specs.Giving.{IsOfASlice, HaveTaken}

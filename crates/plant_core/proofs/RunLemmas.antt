@@ -5,26 +5,26 @@ use Rattle.std.proofs.lemmas.Option.{slice_get_read}
 use Rattle.plant.specs.declared.plant.PlantFields.{PlantFields}
 use Rattle.plant.specs.Plant.{IsPlant}
 use Rattle.map_assembly.specs.Gathering.{IsGathering}
-use Rattle.plant_runs.specs.declared.step.Step.{Step}
-use Rattle.plant_runs.specs.declared.step.Out.{Out}
-use Rattle.plant_runs.specs.Reached.{CoreView, Reached}
-use Rattle.plant_runs.specs.Steps.{Steps}
-use Rattle.plant_runs.proofs.OneStep.{step_reached}
-use Rattle.plant_runs.proofs.Runs.{reached_more}
+use Rattle.run_model.specs.declared.step.Step.{Step}
+use Rattle.run_model.specs.declared.step.Out.{Out}
+use Rattle.run_model.specs.IsStateAfter.{CoreView, IsStateAfter}
+use Rattle.run_model.specs.Steps.{Steps}
+use Rattle.run_model.proofs.OneStep.{step_reached}
+use Rattle.run_model.proofs.Runs.{reached_more}
 use Rattle.plant_core.specs.declared.core_fault.CoreFault.{CoreFault}
 use Rattle.plant_core.specs.Faults.{step_fault, IsTold}
 
 pub step_more : (plant : PlantFields) (before : List Step) (step : Step) (told made now outs : List Out) (old new : CoreView) → IsPlant plant → IsGathering old.gathering
-    → Steps step old new now → outs ≡ made ++ now → made ≡ [] → Reached plant before told old → Reached plant (before ++ step ∷ []) (told ++ outs) new
+    → Steps step old new now → outs ≡ made ++ now → made ≡ [] → IsStateAfter plant before told old → IsStateAfter plant (before ++ step ∷ []) (told ++ outs) new
 step_more plant before step told made now outs old new valid gathering steps is none reached =
-    subst (λ (os : List Out). Reached plant (before ++ step ∷ []) (told ++ os) new) (sym (is ∙ ap (λ (os : List Out). os ++ now) none))
+    subst (λ (os : List Out). IsStateAfter plant (before ++ step ∷ []) (told ++ os) new) (sym (is ∙ ap (λ (os : List Out). os ++ now) none))
     (step_reached plant before told step old new now valid reached gathering steps)
 
 pub run_more : (plant : PlantFields) (before all : List Step) (at : ℕ) (step : Step) (told made now outs : List Out) (old new : CoreView) → IsPlant old.plant → IsGathering old.gathering
-    → at < length all → step ≡ get_or all at step → Steps step old new now → outs ≡ made ++ now → Reached plant (before ++ take at all) (told ++ made) old
-    → Reached plant (before ++ take (at + 1) all) (told ++ outs) new
+    → at < length all → step ≡ get_or all at step → Steps step old new now → outs ≡ made ++ now → IsStateAfter plant (before ++ take at all) (told ++ made) old
+    → IsStateAfter plant (before ++ take (at + 1) all) (told ++ outs) new
 run_more plant before all at step told made now outs old new valid gathering within is steps made_is reached =
-    subst (λ (os : List Out). Reached plant (before ++ take (at + 1) all) (told ++ os) new) (sym made_is)
+    subst (λ (os : List Out). IsStateAfter plant (before ++ take (at + 1) all) (told ++ os) new) (sym made_is)
     (reached_more plant before all at step told made now new within is
     (step_reached plant (before ++ take at all) (told ++ made) step old new now (subst IsPlant reached.plant_is valid) reached gathering steps))
 

@@ -7,11 +7,11 @@ use Rattle.dsx_messages.specs.declared.modem.Modem.{Modem}
 use Rattle.slice_scheduler.specs.declared.elements.ElementsFields.{ElementsFields}
 use Rattle.plant.specs.declared.plant.PlantFields.{PlantFields}
 use Rattle.plant.specs.Roster.{holder}
-use Rattle.operator_machine.specs.declared.heard.Heard.{Heard}
-use Rattle.operator_machine.specs.declared.action.Action.{Action}
-use Rattle.operator_machine.specs.State.{operator}
-use Rattle.operator_machine.specs.Machine.{own_step, IsAllowed}
-use Rattle.operator_machine.specs.Replay.{BookView, acted}
+use Rattle.operator_model.specs.declared.heard.Heard.{Heard}
+use Rattle.operator_model.specs.declared.action.Action.{Action}
+use Rattle.operator_model.specs.State.{operator}
+use Rattle.operator_model.specs.Machine.{own_step, IsAllowed}
+use Rattle.operator_model.specs.Replay.{BookView, acted}
 use Rattle.map_assembly.specs.Gathering.{Gathering, put_fault, after_put}
 use Rattle.map_assembly.specs.Assembled.{IsAnswer}
 use Rattle.map_assembly.specs.declared.map_bytes.MapBytes.{MapBytes}
@@ -19,16 +19,16 @@ use Rattle.map_assembly.specs.declared.refused.Refused.{Refused}
 use Rattle.map_assembly.specs.declared.refused.GatherFault.{GatherFault}
 use Rattle.map_assembly.specs.declared.refused.GatherFault.TheVariants as gather_faults
 use Rattle.map_assembly.specs.declared.refused.GatherFault.TheVariants.{Stranger, Old, PutTwice, Early, WrongSlice}
-use Rattle.plant_runs.specs.declared.step.Step.TheVariants as steps
-use Rattle.plant_runs.specs.declared.step.Out.{Out}
-use Rattle.plant_runs.specs.OwnSteps.{under}
-use Rattle.plant_runs.specs.Reached.{CoreView, frames_of}
-use Rattle.plant_runs.specs.Steps.{Acts, Collects, told_map}
+use Rattle.run_model.specs.declared.step.Step.TheVariants as steps
+use Rattle.run_model.specs.declared.step.Out.{Out}
+use Rattle.run_model.specs.OwnSteps.{under}
+use Rattle.run_model.specs.IsStateAfter.{CoreView, frames_of}
+use Rattle.run_model.specs.Steps.{Acts, Collects, told_map}
 use Rattle.plant_core.specs.declared.core_fault.CoreFault.{CoreFault}
 use Rattle.plant_core.specs.declared.core_fault.CoreFault.TheVariants.{UnknownOperator}
 use Rattle.plant_core.specs.Putting.{FitsOldest, CollectsOldest}
 use Rattle.plant_core.specs.Faults.{act_fault, collect_fault, step_fault, IsTold, core_fault_of}
-use Rattle.plant_runs.proofs.Entries.{some_at}
+use Rattle.run_model.proofs.Entries.{some_at}
 
 abbrev view : PlantFields → Gathering → List BookView → List (List (ℕ × ElementsFields)) → CoreView
 view plant gathering books queues = record { plant = plant; books = books; queues = queues; gathering = gathering }

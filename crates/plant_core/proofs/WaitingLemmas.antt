@@ -8,17 +8,17 @@ use Rattle.std.proofs.lemmas.List.Concat.{flat_map-append}
 use Rattle.slice_scheduler.specs.declared.elements.ElementsFields.{ElementsFields}
 use Rattle.plant.specs.declared.consts.ConstsFields.{ConstsFields}
 use Rattle.plant.specs.declared.operator_row.RowFields.{RowFields}
-use Rattle.operator_machine.specs.declared.action.Action.{Action}
-use Rattle.operator_machine.specs.declared.action.Action.TheVariants.{Arrive, Work, Tick, Reslice}
-use Rattle.operator_machine.specs.declared.action.Entry.{Entry}
-use Rattle.operator_machine.specs.declared.output.Output.{Output}
-use Rattle.operator_machine.specs.declared.output.Output.TheVariants.{Reply, Silent, Frame}
-use Rattle.operator_machine.specs.State.{OperatorState, operator}
-use Rattle.operator_machine.specs.Machine.{own_step}
-use Rattle.operator_machine.specs.Replay.{BookView, AreTold, IsReplay, acted}
-use Rattle.operator_machine.specs.Frames.{frame_of, is_tick}
-use Rattle.operator_machine.proofs.FrameLemmas.{run_puts}
-use Rattle.plant_runs.specs.Reached.{numbered, frames_of}
+use Rattle.operator_model.specs.declared.action.Action.{Action}
+use Rattle.operator_model.specs.declared.action.Action.TheVariants.{Arrive, Work, Tick, Reslice}
+use Rattle.operator_model.specs.declared.action.Entry.{Entry}
+use Rattle.operator_model.specs.declared.output.Output.{Output}
+use Rattle.operator_model.specs.declared.output.Output.TheVariants.{Reply, Silent, Frame}
+use Rattle.operator_model.specs.State.{OperatorState, operator}
+use Rattle.operator_model.specs.Machine.{own_step}
+use Rattle.operator_model.specs.Replay.{BookView, AreTold, IsReplay, acted}
+use Rattle.operator_model.specs.Frames.{frame_of, is_tick}
+use Rattle.operator_model.proofs.FrameLemmas.{run_puts}
+use Rattle.run_model.specs.IsStateAfter.{numbered, frames_of}
 use Rattle.plant_core.specs.Waiting.{frames_in, waiting_in, IsOneFrame, IsOldest}
 use Rattle.plant_core.specs.declared.collecting.Oldest.{Oldest}
 

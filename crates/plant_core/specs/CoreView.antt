@@ -1,6 +1,6 @@
 -- What contracts see of a core (own).
 use Rattle.std.specs.Prelude.{map}
-use Rattle.plant_runs.specs.Reached.{CoreView}
+use Rattle.run_model.specs.IsStateAfter.{CoreView}
 use Rattle.plant_core.specs.declared.held.PlantCore.{PlantCore}
 use Rattle.plant_core.specs.DeskView.{book_at, waiting_at}
 use Rattle.plant_core.specs.Reachable.{core_of}

@@ -1,7 +1,7 @@
 -- What contracts see of an operator's desk (own).
 use Rattle.std.specs.Prelude.{ℕ, List}
 use Rattle.slice_scheduler.specs.declared.elements.ElementsFields.{ElementsFields}
-use Rattle.operator_machine.specs.Replay.{BookView}
+use Rattle.operator_model.specs.Replay.{BookView}
 use Rattle.plant_core.specs.declared.desk.Desk.{Desk}
 use Rattle.plant_core.specs.Waiting.{waiting_in}
 

@@ -2,16 +2,16 @@
 use Rattle.std.specs.Prelude.{◌≡◌, ℕ, List, [], ◌∷◌, slice_get, option_map, Option, Some, None, if◌then◌else◌, Result, Ok, Err}
 use Rattle.slice_scheduler.specs.declared.elements.ElementsFields.{ElementsFields}
 use Rattle.plant.specs.Roster.{holder}
-use Rattle.operator_machine.specs.declared.action.Action.{Action}
-use Rattle.operator_machine.specs.declared.action.Action.TheVariants as actions
-use Rattle.operator_machine.specs.Machine.{is_spent}
-use Rattle.operator_machine.specs.Replay.{BookView}
+use Rattle.operator_model.specs.declared.action.Action.{Action}
+use Rattle.operator_model.specs.declared.action.Action.TheVariants as actions
+use Rattle.operator_model.specs.Machine.{is_spent}
+use Rattle.operator_model.specs.Replay.{BookView}
 use Rattle.operator_book.specs.declared.book.BookFault.TheVariants.{FramesSpent}
 use Rattle.map_assembly.specs.declared.refused.GatherFault.{GatherFault}
 use Rattle.map_assembly.specs.declared.refused.GatherFault.TheVariants as gather_faults
-use Rattle.plant_runs.specs.declared.step.Step.{Step}
-use Rattle.plant_runs.specs.declared.step.Step.TheVariants as steps
-use Rattle.plant_runs.specs.Reached.{CoreView}
+use Rattle.run_model.specs.declared.step.Step.{Step}
+use Rattle.run_model.specs.declared.step.Step.TheVariants as steps
+use Rattle.run_model.specs.IsStateAfter.{CoreView}
 use Rattle.plant_core.specs.Reslicing.{reslice_fault}
 use Rattle.plant_core.specs.declared.core_fault.CoreFault.{CoreFault}
 use Rattle.plant_core.specs.declared.core_fault.CoreFault.TheVariants.{UnknownModem, UnknownOperator, Book, Gather, NothingToCollect, NoMemory, Reslice}

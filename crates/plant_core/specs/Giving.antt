@@ -1,10 +1,10 @@
 -- Other slices, given to all operators (own).
 use Rattle.std.specs.Prelude.{◌≡◌, ℕ, List, length, slice_get, Some}
 use Rattle.slice_scheduler.specs.Minislots.{IsSlice}
-use Rattle.operator_machine.specs.declared.action.SliceRow.{SliceRow}
-use Rattle.operator_machine.specs.declared.action.Action.TheVariants as actions
-use Rattle.operator_machine.specs.Replay.{BookView, acted}
-use Rattle.plant_runs.specs.OwnSteps.{slice_of}
+use Rattle.operator_model.specs.declared.action.SliceRow.{SliceRow}
+use Rattle.operator_model.specs.declared.action.Action.TheVariants as actions
+use Rattle.operator_model.specs.Replay.{BookView, acted}
+use Rattle.run_model.specs.OwnSteps.{slice_of}
 
 -- a row's slice is one
 abbrev pub IsOfASlice : SliceRow → Type 0

@@ -4,8 +4,8 @@ use Rattle.slice_scheduler.specs.declared.elements.ElementsFields.{ElementsField
 use Rattle.map_assembly.specs.declared.map_bytes.MapBytes.{MapBytes}
 use Rattle.map_assembly.specs.Gathering.{Gathering, put_fault, after_put}
 use Rattle.map_assembly.specs.Assembled.{IsAnswer}
-use Rattle.plant_runs.specs.declared.step.Out.{Out}
-use Rattle.plant_runs.specs.Steps.{told_map}
+use Rattle.run_model.specs.declared.step.Out.{Out}
+use Rattle.run_model.specs.Steps.{told_map}
 
 -- the assembly takes the operator's first of these frames, if there is one
 abbrev pub FitsOldest : ℕ → List (ℕ × ElementsFields) → Gathering → Type 0

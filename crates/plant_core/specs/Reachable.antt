@@ -2,13 +2,13 @@
 use Rattle.std.specs.Prelude.{◌≡◌, ℕ, List, ◌++◌, Some}
 use Rattle.slice_scheduler.specs.declared.elements.ElementsFields.{ElementsFields}
 use Rattle.plant.specs.declared.plant.PlantFields.{PlantFields}
-use Rattle.operator_machine.specs.declared.action.Action.{Action}
-use Rattle.operator_machine.specs.Replay.{BookView}
+use Rattle.operator_model.specs.declared.action.Action.{Action}
+use Rattle.operator_model.specs.Replay.{BookView}
 use Rattle.map_assembly.specs.Gathering.{Gathering}
-use Rattle.plant_runs.specs.declared.step.Step.{Step}
-use Rattle.plant_runs.specs.declared.step.Out.{Out}
-use Rattle.plant_runs.specs.Ordered.{target}
-use Rattle.plant_runs.specs.Reached.{CoreView, Reached}
+use Rattle.run_model.specs.declared.step.Step.{Step}
+use Rattle.run_model.specs.declared.step.Out.{Out}
+use Rattle.run_model.specs.Ordered.{target}
+use Rattle.run_model.specs.IsStateAfter.{CoreView, IsStateAfter}
 
 -- the core of these parts
 abbrev pub core_of : PlantFields → List BookView → List (List (ℕ × ElementsFields)) → Gathering → CoreView
@@ -16,12 +16,12 @@ core_of plant books queues gathering = record { plant = plant; books = books; qu
 
 -- it is what some steps make of the plant's core as it is opened
 abbrev pub IsReachable : CoreView → Type 0
-IsReachable core = (steps : List Step) × (outs : List Out) × Reached core.plant steps outs core
+IsReachable core = (steps : List Step) × (outs : List Out) × IsStateAfter core.plant steps outs core
 
 -- behind whatever steps and outputs led to the one core, these more lead to the other
 abbrev pub LeadsOn : CoreView → List Step → List Out → CoreView → Type 0
 LeadsOn old steps outs new =
-    (before : List Step) (told : List Out) → Reached old.plant before told old → Reached old.plant (before ++ steps) (told ++ outs) new
+    (before : List Step) (told : List Out) → IsStateAfter old.plant before told old → IsStateAfter old.plant (before ++ steps) (told ++ outs) new
 
 -- some step goes to this operator as this action
 abbrev pub IsOfAStep : PlantFields → ℕ → Action → Type 0

@@ -3,12 +3,12 @@ use Rattle.std.specs.Prelude.{ℕ, ◌+◌, ◌==◌, Bool, true, false, List, [
 use Rattle.std.specs.Option.{option_or}
 use Rattle.std.specs.List.{position_from}
 use Rattle.slice_scheduler.specs.Minislots.{slices_overlap}
-use Rattle.operator_machine.specs.declared.action.SliceRow.{SliceRow}
-use Rattle.operator_machine.specs.declared.action.Unfit.{Unfit}
-use Rattle.operator_machine.specs.declared.action.Unfit.TheVariants as unfits
-use Rattle.operator_machine.specs.Machine.{unfit_from}
-use Rattle.operator_machine.specs.Replay.{BookView}
-use Rattle.plant_runs.specs.OwnSteps.{slice_of}
+use Rattle.operator_model.specs.declared.action.SliceRow.{SliceRow}
+use Rattle.operator_model.specs.declared.action.Unfit.{Unfit}
+use Rattle.operator_model.specs.declared.action.Unfit.TheVariants as unfits
+use Rattle.operator_model.specs.Machine.{unfit_from}
+use Rattle.operator_model.specs.Replay.{BookView}
+use Rattle.run_model.specs.OwnSteps.{slice_of}
 use Rattle.plant_core.specs.declared.core_fault.Unfits.{Unfits}
 use Rattle.plant_core.specs.declared.core_fault.ResliceFault.{ResliceFault}
 use Rattle.plant_core.specs.declared.core_fault.ResliceFault.TheVariants as faults

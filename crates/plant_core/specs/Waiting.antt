@@ -2,8 +2,8 @@
 use Rattle.std.specs.Prelude.{◌≡◌, ℕ, ◌≤◌, List, [], ◌∷◌, drop, length, Option, Some, None}
 use Rattle.std.specs.List.{flat_map}
 use Rattle.slice_scheduler.specs.declared.elements.ElementsFields.{ElementsFields}
-use Rattle.operator_machine.specs.declared.action.Entry.{Entry}
-use Rattle.plant_runs.specs.Reached.{frames_of}
+use Rattle.operator_model.specs.declared.action.Entry.{Entry}
+use Rattle.run_model.specs.IsStateAfter.{frames_of}
 use Rattle.plant_core.specs.declared.collecting.Oldest.{Oldest}
 
 -- the frames of these entries, each with its number

@@ -2,11 +2,11 @@
 
 ghost use Rattle.std.specs.Prelude.{◌≡◌, ◌≢◌, ◌↔◌, ◌≤◌, [], ◌++◌, length, slice_get, Some, IsSome, Err, IfOk, OnOk, OnErr};
 ghost use Rattle.plant.specs.Row.{IsRowOf};
-ghost use Rattle.operator_machine.specs.State.{opened, operator};
-ghost use Rattle.operator_machine.specs.Machine.{own_step, IsAllowed};
-ghost use Rattle.operator_machine.specs.Replay.{acted};
-ghost use Rattle.plant_runs.specs.OwnSteps.{under};
-ghost use Rattle.plant_runs.specs.Reached.{frames_of};
+ghost use Rattle.operator_model.specs.State.{opened, operator};
+ghost use Rattle.operator_model.specs.Machine.{own_step, IsAllowed};
+ghost use Rattle.operator_model.specs.Replay.{acted};
+ghost use Rattle.run_model.specs.OwnSteps.{under};
+ghost use Rattle.run_model.specs.IsStateAfter.{frames_of};
 ghost use Rattle.plant_core.specs.Faults.{act_fault, collect_fault, IsTold};
 ghost use Rattle.plant_core.specs.Waiting.{IsOldest};
 ghost use Rattle.plant_core.specs.Putting.{FitsOldest, CollectsOldest};
@@ -19,9 +19,9 @@ use crate::stepping::{append, append_map, core_fault_of};
 use grant_policy::Ranking;
 use map_assembly::Gather;
 use operator_book::{Book, BookFault, OpenFault};
-use operator_machine::{Action, Output};
+use operator_model::{Action, Output};
 use plant::{Consts, Op, OperatorRow};
-use plant_runs::Out;
+use run_model::Out;
 use std::alloc::{AllocError, Global};
 
 impl Desk {

@@ -1,10 +1,10 @@
 //! The frame that waits longest.
 
 ghost use Rattle.std.specs.Prelude.{◌≡◌, ◌≤◌, length, All, slice_get, IsSome, IfOk, OnErr};
-ghost use Rattle.plant_runs.specs.Reached.{frames_of};
+ghost use Rattle.run_model.specs.IsStateAfter.{frames_of};
 ghost use Rattle.plant_core.specs.Waiting.{waiting_in, IsOneFrame, IsOldest};
 
-use operator_machine::{Entry, Output};
+use operator_model::{Entry, Output};
 use slice_scheduler::Elements;
 use std::alloc::{AllocError, Global};
 

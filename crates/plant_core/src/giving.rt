@@ -1,11 +1,11 @@
 //! Giving other slices to all operators.
 
 ghost use Rattle.std.specs.Prelude.{◌≡◌, ◌<◌, ◌≤◌, ◌^◌, [], map, length, vec_len, All, None, IfOk, OnOk, OnErr};
-ghost use Rattle.operator_machine.specs.declared.action.Action.TheVariants as actions;
-ghost use Rattle.operator_machine.specs.Machine.{unfit_from};
-ghost use Rattle.operator_machine.specs.Replay.{acted};
-ghost use Rattle.plant_runs.specs.OwnSteps.{slice_of};
-ghost use Rattle.plant_runs.specs.Steps.{Reslices, NoneRefuses};
+ghost use Rattle.operator_model.specs.declared.action.Action.TheVariants as actions;
+ghost use Rattle.operator_model.specs.Machine.{unfit_from};
+ghost use Rattle.operator_model.specs.Replay.{acted};
+ghost use Rattle.run_model.specs.OwnSteps.{slice_of};
+ghost use Rattle.run_model.specs.Steps.{Reslices, NoneRefuses};
 ghost use Rattle.plant_core.specs.Reslicing.{reslice_fault};
 ghost use Rattle.plant_core.specs.Giving.{IsOfASlice, HaveTaken};
 ghost use Rattle.plant_core.specs.DeskView.{book_at, waiting_at, room_at};
@@ -13,7 +13,7 @@ ghost use Rattle.plant_core.specs.CoreView.{core_view};
 
 use crate::desk::Desk;
 use crate::held::PlantCore;
-use operator_machine::SliceRow;
+use operator_model::SliceRow;
 use slice_scheduler::Slice;
 use std::alloc::{AllocError, Global};
 

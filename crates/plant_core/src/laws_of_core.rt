@@ -6,7 +6,7 @@ ghost use Rattle.map_assembly.specs.Gathering.{IsGathering};
 ghost use Rattle.plant_core.specs.CoreView.{core_view};
 
 use crate::held::PlantCore;
-use operator_machine::Entry;
+use operator_model::Entry;
 use plant::{Op, Plant};
 
 impl PlantCore {

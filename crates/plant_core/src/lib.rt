@@ -20,11 +20,11 @@ pub use desk::Desk;
 pub use giving::slices_of;
 pub use held::PlantCore;
 pub use opening::follow;
-pub use plant_runs::{
-    equal_books_answer_alike, maps_are_shared_out, opened_is_reached, run_is_reached,
-    step_is_reached, two_cores, two_worlds,
-};
 pub use reslicing::{first_fault, is_refused, is_same, least_meeting};
 pub use routes::Routes;
+pub use run_model::{
+    equal_books_answer_alike, maps_are_shared_out, non_interference, opened_is_reached,
+    run_is_reached, step_is_reached, two_cores,
+};
 pub use running::RunStop;
 pub use stepping::{append, append_map, core_fault_of};

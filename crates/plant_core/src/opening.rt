@@ -4,8 +4,8 @@ ghost use Rattle.std.specs.Prelude.{◌≡◌, ◌≢◌, ◌↔◌, [], map, le
 ghost use Rattle.plant.specs.Row.{IsRowOf};
 ghost use Rattle.plant.specs.Plant.{IsPlant};
 ghost use Rattle.map_assembly.specs.Gathering.{gathering_of};
-ghost use Rattle.plant_runs.specs.Opened.{opened_book, opened_core};
-ghost use Rattle.plant_runs.specs.Reached.{Reached};
+ghost use Rattle.run_model.specs.Opened.{opened_book, opened_core};
+ghost use Rattle.run_model.specs.IsStateAfter.{IsStateAfter};
 ghost use Rattle.plant_core.specs.DeskView.{book_at, waiting_at};
 ghost use Rattle.plant_core.specs.CoreView.{core_view};
 
@@ -91,7 +91,7 @@ impl PlantCore {
         rankings: Vec<Ranking>,
     ) -> Result<PlantCore, CoreOpenFault>
         ensures ok { IfOk result (λ core. core_view core ≡ opened_core plant) }
-        ensures reached { IfOk result (λ core. Reached plant [] [] (core_view core)) }
+        ensures reached { IfOk result (λ core. IsStateAfter plant [] [] (core_view core)) }
         ensures mismatch { (result ≡ Err CoreOpenFault.RankingsMismatch)
             ↔ (map (λ ranking. ranking.policy) rankings.items ≢ map (λ row. row.policy) plant.rows) }
     {
@@ -109,7 +109,7 @@ impl PlantCore {
     ) -> Result<PlantCore, CoreOpenFault>
         requires { length rankings.items ≡ length plant.rows }
         ensures ok { IfOk result (λ core. core_view core ≡ opened_core plant) }
-        ensures reached { IfOk result (λ core. Reached plant [] [] (core_view core)) }
+        ensures reached { IfOk result (λ core. IsStateAfter plant [] [] (core_view core)) }
         ensures memory { IfErr result (λ fault. fault ≡ CoreOpenFault.NoMemory) }
     {
         let parts = opened_parts(alloc, &plant, rankings)?;

@@ -5,14 +5,14 @@ ghost use Rattle.std.specs.List.{position_from};
 ghost use Rattle.operator_book.specs.OfBook.{unfit_from};
 ghost use Rattle.operator_book.specs.ViewOf.{view_of};
 ghost use Rattle.plant_core.specs.Reslicing.{is_unfit, least_unfit, do_meet, least_meeting, first_fault, row_fault, reslice_fault};
-ghost use Rattle.plant_runs.specs.Steps.{Reslices};
+ghost use Rattle.run_model.specs.Steps.{Reslices};
 ghost use Rattle.plant_core.specs.Faults.{IsTold};
 ghost use Rattle.plant_core.specs.CoreView.{core_view};
 
 use crate::core_fault::{CoreFault, ResliceFault, Unfits};
 use crate::held::PlantCore;
 use operator_book::Book;
-use operator_machine::{SliceRow, Unfit};
+use operator_model::{SliceRow, Unfit};
 use plant::Op;
 use std::alloc::Global;
 

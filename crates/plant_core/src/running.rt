@@ -1,10 +1,10 @@
 //! Steps one after the other.
 
 ghost use Rattle.std.specs.Prelude.{◌≡◌, ◌<◌, [], ◌∷◌, ◌++◌, List, take, length, slice_get, Some, Err, IfOk, IfErr, OnOk, OnErr};
-ghost use Rattle.plant_runs.specs.declared.step.Step.{Step};
-ghost use Rattle.plant_runs.specs.declared.step.Out.{Out};
-ghost use Rattle.plant_runs.specs.declared.step.Step.TheVariants as steps;
-ghost use Rattle.plant_runs.specs.Steps.{Steps};
+ghost use Rattle.run_model.specs.declared.step.Step.{Step};
+ghost use Rattle.run_model.specs.declared.step.Out.{Out};
+ghost use Rattle.run_model.specs.declared.step.Step.TheVariants as steps;
+ghost use Rattle.run_model.specs.Steps.{Steps};
 ghost use Rattle.plant_core.specs.Faults.{step_fault, IsTold};
 ghost use Rattle.plant_core.specs.Reachable.{LeadsOn};
 ghost use Rattle.plant_core.specs.CoreView.{core_view};
@@ -12,8 +12,8 @@ ghost use Rattle.plant_core.specs.CoreView.{core_view};
 use crate::core_fault::CoreFault;
 use crate::held::PlantCore;
 use dsx_messages::Modem;
-use operator_machine::{Action, Heard};
-use plant_runs::{Out, Step};
+use operator_model::{Action, Heard};
+use run_model::{Out, Step};
 use std::alloc::Global;
 
 /// Where a run stopped: the place of the step that was refused, why, and what the steps before it put out.

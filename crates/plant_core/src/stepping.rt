@@ -2,11 +2,11 @@
 
 ghost use Rattle.std.specs.Prelude.{◌≡◌, ◌+◌, ◌<◌, ◌≤◌, [], ◌∷◌, ◌++◌, List, slice_get, vec_len, vec_capacity, Option, Some, None, Err, IfOk, OnOk, OnErr};
 ghost use Rattle.map_assembly.specs.declared.refused.GatherFault.{GatherFault};
-ghost use Rattle.plant_runs.specs.declared.step.Out.{Out};
-ghost use Rattle.plant_runs.specs.declared.step.Step.{Step};
-ghost use Rattle.plant_runs.specs.declared.step.Step.TheVariants as steps;
-ghost use Rattle.plant_runs.specs.OwnSteps.{under};
-ghost use Rattle.plant_runs.specs.Steps.{Acts, Collects, Steps, told_map};
+ghost use Rattle.run_model.specs.declared.step.Out.{Out};
+ghost use Rattle.run_model.specs.declared.step.Step.{Step};
+ghost use Rattle.run_model.specs.declared.step.Step.TheVariants as steps;
+ghost use Rattle.run_model.specs.OwnSteps.{under};
+ghost use Rattle.run_model.specs.Steps.{Acts, Collects, Steps, told_map};
 ghost use Rattle.plant_core.specs.Faults.{act_fault, collect_fault, step_fault, IsTold, core_fault_of};
 ghost use Rattle.plant_core.specs.Reachable.{IsOfAStep, LeadsOn};
 ghost use Rattle.plant_core.specs.CoreView.{core_view};
@@ -15,9 +15,9 @@ use crate::core_fault::CoreFault;
 use crate::held::PlantCore;
 use dsx_messages::Modem;
 use map_assembly::{GatherFault, MapBytes};
-use operator_machine::{Action, Heard, Output};
+use operator_model::{Action, Heard, Output};
 use plant::Op;
-use plant_runs::{Out, Step};
+use run_model::{Out, Step};
 use std::alloc::Global;
 
 /// Adds an operator's outputs, for which there is room.

@@ -4,14 +4,14 @@ use Rattle.std.proofs.lemmas.List.{append_cancel_left}
 use Rattle.atomic_table.specs.Seated.{TableId}
 use Rattle.atomic_table.specs.Table.{Me, rest}
 use Rattle.grant_policy.specs.declared.policy.Policy.{Policy}
-use Rattle.operator_machine.specs.declared.action.Action.{Action}
-use Rattle.operator_machine.specs.declared.action.Entry.{Entry}
-use Rattle.operator_machine.specs.declared.output.Output.{Output}
-use Rattle.operator_machine.specs.State.{OperatorState}
-use Rattle.operator_machine.specs.Machine.{is_spent}
-use Rattle.operator_machine.specs.Replay.{BookView, acted}
-use Rattle.operator_machine.specs.Machine as machines
-use Rattle.operator_machine.specs.declared.action.Unfit.{Unfit}
+use Rattle.operator_model.specs.declared.action.Action.{Action}
+use Rattle.operator_model.specs.declared.action.Entry.{Entry}
+use Rattle.operator_model.specs.declared.output.Output.{Output}
+use Rattle.operator_model.specs.State.{OperatorState}
+use Rattle.operator_model.specs.Machine.{is_spent}
+use Rattle.operator_model.specs.Replay.{BookView, acted}
+use Rattle.operator_model.specs.Machine as machines
+use Rattle.operator_model.specs.declared.action.Unfit.{Unfit}
 use Rattle.dsx_messages.specs.declared.modem.Modem.{Modem}
 use Rattle.operator_book.specs.OfBook.{outputs_of, stranger_of, unfit_of}
 use Rattle.plant_passes.specs.declared.view.Mark.{Mark}

@@ -2,16 +2,16 @@
 use Rattle.std.proofs.Common.{◌≡◌, ◌≢◌, inl, true, false, [], ◌∷◌, ◌++◌, length, Result, Ok, Err, IfErr, IsErrAnd, sym, subst, ap, ◌∙◌, append_assoc, arith}
 use Rattle.std.proofs.lemmas.Bool.Decides.{nat_tests}
 use Rattle.dsx_messages.specs.declared.modem.Modem.{Modem}
-use Rattle.operator_machine.specs.declared.action.Action.{Action}
-use Rattle.operator_machine.specs.declared.action.Action.TheVariants.{Arrive, Work, Tick, Reslice}
-use Rattle.operator_machine.specs.declared.action.Unfit as misfits
-use Rattle.operator_machine.specs.State.{OperatorState}
-use Rattle.operator_machine.specs.Machine.{is_spent}
+use Rattle.operator_model.specs.declared.action.Action.{Action}
+use Rattle.operator_model.specs.declared.action.Action.TheVariants.{Arrive, Work, Tick, Reslice}
+use Rattle.operator_model.specs.declared.action.Unfit as misfits
+use Rattle.operator_model.specs.State.{OperatorState}
+use Rattle.operator_model.specs.Machine.{is_spent}
 use Rattle.operator_book.specs.declared.book.BookFault.{BookFault}
 use Rattle.operator_book.specs.declared.book.BookFault.TheVariants.{NotMine, FramesSpent, Unfit, NoMemory}
-use Rattle.plant_receipts.specs.declared.receipt.Receipt.{Receipt}
-use Rattle.plant_turns.specs.declared.cell_fault.CellFault.{CellFault}
-use Rattle.plant_turns.specs.declared.cell_fault.CellFault.TheVariants.{Book, Passed, Stopped, Closed}
+use Rattle.run_receipts.specs.declared.receipt.Receipt.{Receipt}
+use Rattle.cell_state.specs.declared.cell_fault.CellFault.{CellFault}
+use Rattle.cell_state.specs.declared.cell_fault.CellFault.TheVariants.{Book, Passed, Stopped, Closed}
 use Rattle.plant_passes.specs.Words.{entry_of, mark}
 use Rattle.plant_passes.specs.Passes.{PassView, Acts, LooksOn, EndsCell, RefusesTurn, RefusesArrival, state_seen}
 use Rattle.plant_passes.proofs.Again.{begins_again}

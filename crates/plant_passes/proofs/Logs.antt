@@ -5,7 +5,7 @@ use Rattle.std.proofs.lemmas.Bool.{cond_both, ltb-true, ltb-false}
 use mathlib.Core.Option.{some, some-injective, some-ne-none}
 use lib.ListN.{get_elem?}
 use Rattle.atomic_table.proofs.Lists.{set_else}
-use Rattle.operator_machine.specs.declared.action.Entry.{Entry}
+use Rattle.operator_model.specs.declared.action.Entry.{Entry}
 use Rattle.plant_passes.specs.declared.view.Mark.{Mark}
 use Rattle.plant_passes.specs.declared.view.View.{View}
 use Rattle.plant_passes.specs.Words.{mark, marks, entries, places_from, places, StartsWith, BeginsAll, longer, parts_of, spent}

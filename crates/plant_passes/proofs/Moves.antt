@@ -8,7 +8,7 @@ use lib.ListN.{get_elem?}
 use prog.Atomic.{either}
 use Rattle.atomic_table.specs.Table.{State, Me, Act, Valid, step, keeps, takes, gives, stepped, carried_after, opening, Allows, Splits, Joins}
 use Rattle.atomic_table.proofs.Lists.{at_set, set_else, set_again, at_longer, at_last}
-use Rattle.operator_machine.specs.declared.action.Entry.{Entry}
+use Rattle.operator_model.specs.declared.action.Entry.{Entry}
 use Rattle.plant_passes.specs.declared.view.Origin.{Origin}
 use Rattle.plant_passes.specs.Runs.{origin_of, IsRun}
 use Rattle.plant_passes.specs.declared.view.Mark.{Mark}
@@ -173,11 +173,11 @@ module _ (X : Type 0) (origin : Origin) (beside : X) (passes : ℕ) where
   runs log v run named = subst (λ (o : Origin). IsRun o (entries log)) (sym named) run
 
   -- the result of a look that finds n
-  abbrev Shown : St → ℕ → ℕ → M → Type 0
-  Shown s n id me = (w : View X) × (a : Act S) × Valid s.homes me.1 a × Rule (stepped s 0 n id me.1 w a)
+  abbrev IsTraceOf : St → ℕ → ℕ → M → Type 0
+  IsTraceOf s n id me = (w : View X) × (a : Act S) × Valid s.homes me.1 a × Rule (stepped s 0 n id me.1 w a)
       × looked (step 1 0 0 0 none) me n (w, carried_after me.1 a)
 
-  look_shut : (s : St) (r : Rule s) (id : ℕ) (me : M) → get_elem? s.views id ≡ some me.0 → me.0.holds ≡ false → r.now.serving ≡ closing → Shown s r.now.serving id me
+  look_shut : (s : St) (r : Rule s) (id : ℕ) (me : M) → get_elem? s.views id ≡ some me.0 → me.0.holds ≡ false → r.now.serving ≡ closing → IsTraceOf s r.now.serving id me
   look_shut s r id me at idle e =
       let v : View X = me.0 in
       let k = r.each_seat id v at in
@@ -194,7 +194,7 @@ module _ (X : Type 0) (origin : Origin) (beside : X) (passes : ℕ) where
         ),
       )
 
-  look_other : (s : St) (r : Rule s) (id : ℕ) (me : M) → get_elem? s.views id ≡ some me.0 → me.0.holds ≡ false → r.now.serving ≢ closing → me.0.ticket ≢ Some r.now.serving → Shown s r.now.serving id me
+  look_other : (s : St) (r : Rule s) (id : ℕ) (me : M) → get_elem? s.views id ≡ some me.0 → me.0.holds ≡ false → r.now.serving ≢ closing → me.0.ticket ≢ Some r.now.serving → IsTraceOf s r.now.serving id me
   look_other s r id me at idle going no_turn =
       let v : View X = me.0 in
       let k = r.each_seat id v at in
@@ -212,7 +212,7 @@ module _ (X : Type 0) (origin : Origin) (beside : X) (passes : ℕ) where
         ),
       )
 
-  look_mine : (s : St) (r : Rule s) (id : ℕ) (me : M) → get_elem? s.views id ≡ some me.0 → length s.homes ≡ 1 → me.0.holds ≡ false → r.now.serving ≢ closing → me.0.ticket ≡ Some r.now.serving → Shown s r.now.serving id me
+  look_mine : (s : St) (r : Rule s) (id : ℕ) (me : M) → get_elem? s.views id ≡ some me.0 → length s.homes ≡ 1 → me.0.holds ≡ false → r.now.serving ≢ closing → me.0.ticket ≡ Some r.now.serving → IsTraceOf s r.now.serving id me
   look_mine s r id me at one idle going turn =
       let v : View X = me.0 in
       let k = r.each_seat id v at in
@@ -239,7 +239,7 @@ module _ (X : Type 0) (origin : Origin) (beside : X) (passes : ℕ) where
       )
 
   pub looks : (slots id : ℕ) (me : M) → slots ≡ 1 → me.0.holds ≡ false → Allows Rule slots id me 0 (λ x. x) (looked (step slots 0 0 0 none) me)
-  looks slots id me one idle s r homes at small = subst (λ (n : ℕ). Shown s n id me) (sym (serving_is s r)) (dite (ℕ_discrete r.now.serving closing)
+  looks slots id me one idle s r homes at small = subst (λ (n : ℕ). IsTraceOf s n id me) (sym (serving_is s r)) (dite (ℕ_discrete r.now.serving closing)
       (λ e. look_shut s r id me at idle e)
       (λ going. elim (has_ticket me.0.ticket r.now.serving) [
         | yes t ↦ look_mine s r id me at (homes ∙ one) idle going t

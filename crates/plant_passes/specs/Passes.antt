@@ -2,16 +2,16 @@
 use Rattle.std.specs.Prelude.{◌≡◌, ℕ, zero, suc, Bool, true, false, ◌⊎◌, List, [], ◌∷◌, ◌++◌, map, length, All, Contains}
 use Rattle.atomic_table.specs.Seated.{TableId}
 use Rattle.atomic_table.specs.declared.shared.Seat.{Seat}
-use Rattle.operator_machine.specs.declared.action.Action.{Action}
-use Rattle.operator_machine.specs.declared.action.Entry.{Entry}
-use Rattle.operator_machine.specs.State.{OperatorState}
+use Rattle.operator_model.specs.declared.action.Action.{Action}
+use Rattle.operator_model.specs.declared.action.Entry.{Entry}
+use Rattle.operator_model.specs.State.{OperatorState}
 use Rattle.operator_book.specs.declared.book.BookFault.TheVariants.{NotMine, FramesSpent, NoMemory}
 use Rattle.plant_passes.specs.declared.view.Mark.{Mark}
 use Rattle.plant_passes.specs.declared.view.Origin.{Origin}
 use Rattle.plant_passes.specs.declared.view.View.{View}
-use Rattle.plant_receipts.specs.declared.receipt.Receipt.{Receipt}
-use Rattle.plant_turns.specs.declared.cell_fault.CellFault.{CellFault}
-use Rattle.plant_turns.specs.declared.cell_fault.CellFault.TheVariants.{Book, Closed}
+use Rattle.run_receipts.specs.declared.receipt.Receipt.{Receipt}
+use Rattle.cell_state.specs.declared.cell_fault.CellFault.{CellFault}
+use Rattle.cell_state.specs.declared.cell_fault.CellFault.TheVariants.{Book, Closed}
 use Rattle.plant_passes.specs.Runs.{IsRun, state_after}
 use Rattle.plant_passes.specs.Words.{entry_of, mark, entries, places, StartsWith}
 

@@ -1,9 +1,9 @@
 -- What an operator's own machine, run alone from its opening, makes of a history (own).
 use Rattle.std.specs.Prelude.{List}
-use Rattle.operator_machine.specs.declared.action.Entry.{Entry}
-use Rattle.operator_machine.specs.State.{OperatorState, Operator, operator, opened}
-use Rattle.operator_machine.specs.Machine.{own_run}
-use Rattle.operator_machine.specs.Replay.{BookView, AreTold, actions_of}
+use Rattle.operator_model.specs.declared.action.Entry.{Entry}
+use Rattle.operator_model.specs.State.{OperatorState, Operator, operator, opened}
+use Rattle.operator_model.specs.Machine.{own_run}
+use Rattle.operator_model.specs.Replay.{BookView, AreTold, actions_of}
 use Rattle.plant_passes.specs.declared.view.Origin.{Origin}
 
 -- what a book was opened with

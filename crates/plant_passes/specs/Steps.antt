@@ -1,7 +1,7 @@
 -- What each kind of step tells.
 use Rattle.std.specs.Prelude.{◌≡◌, ◌≢◌, ℕ, ◌<◌, true, false, List, [], ◌∷◌, ◌++◌, length, Some, None, Option}
 use Rattle.atomic_table.specs.Table.{Me, Step, rest}
-use Rattle.operator_machine.specs.declared.action.Entry.{Entry}
+use Rattle.operator_model.specs.declared.action.Entry.{Entry}
 use Rattle.plant_passes.specs.Runs.{origin_of, IsRun}
 use Rattle.plant_passes.specs.declared.view.View.{View}
 use Rattle.plant_passes.specs.declared.view.Held.{Held}

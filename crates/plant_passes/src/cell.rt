@@ -2,11 +2,11 @@
 
 ghost use Rattle.std.specs.Prelude.{◌≡◌, ◌≢◌, ◌↔◌, ◌<◌, ◌≤◌, true, Some, None, Err, All, map, vec_len, IfOk, OnErr, IfErr, OnOk, IsOk, IfSome, IsNone};
 ghost use Rattle.dsx_messages.specs.declared.modem.Modem.{Modem};
-ghost use Rattle.operator_machine.specs.declared.action.Action.TheVariants as actions;
-ghost use Rattle.operator_machine.specs.Machine.{stranger_of};
+ghost use Rattle.operator_model.specs.declared.action.Action.TheVariants as actions;
+ghost use Rattle.operator_model.specs.Machine.{stranger_of};
 ghost use Rattle.operator_book.specs.ViewOf.{view_of};
 ghost use Rattle.operator_book.specs.declared.book.BookFault.TheVariants as faults;
-ghost use Rattle.plant_turns.specs.declared.cell_fault.CellFault.TheVariants as refusals;
+ghost use Rattle.cell_state.specs.declared.cell_fault.CellFault.TheVariants as refusals;
 ghost use Rattle.plant_passes.specs.Runs.{origin_of};
 ghost use Rattle.plant_passes.specs.Words.{marks};
 ghost use Rattle.plant_passes.specs.Passes.{IsOf, state_seen, first_passes, Acts, RefusesTurn, RefusesArrival, HasMet, IsLongest};
@@ -17,11 +17,11 @@ use crate::pass::{Pass, PassedCell};
 use crate::plays::{Look, Take, Tell};
 use crate::turns;
 use crate::view::Held;
+use cell_state::CellFault;
 use dsx_messages::Modem;
 use operator_book::{Action, Book, BookFault, Heard};
 use plant::is_listed;
-use plant_receipts::Receipt;
-use plant_turns::CellFault;
+use run_receipts::Receipt;
 use std::alloc::{AllocError, Global};
 use std::sync::Wait;
 

@@ -9,7 +9,7 @@ mod plays;
 mod turns;
 mod view;
 
+pub use cell_state::CellFault;
 pub use pass::{Pass, PassedCell};
-pub use plant_receipts::Receipt;
-pub use plant_turns::CellFault;
+pub use run_receipts::Receipt;
 pub use view::{Held, Key, Mark, Origin, View};

@@ -1,12 +1,12 @@
 //! A turn at the book: a ticket is drawn, one waits for it, acts, and ends the turn.
 
 ghost use Rattle.std.specs.Prelude.{◌≡◌, ◌≢◌, ◌↔◌, ◌<◌, true, false, [], ◌∷◌, ◌++◌, Some, None, MatchBool, IfOk, IfErr, OnErr, Err};
-ghost use Rattle.operator_machine.specs.Machine.{is_spent};
-ghost use Rattle.operator_machine.specs.declared.action.Unfit.{Unfit};
+ghost use Rattle.operator_model.specs.Machine.{is_spent};
+ghost use Rattle.operator_model.specs.declared.action.Unfit.{Unfit};
 ghost use Rattle.dsx_messages.specs.declared.modem.Modem.{Modem};
 ghost use Rattle.operator_book.specs.ViewOf.{policy_of};
 ghost use Rattle.operator_book.specs.declared.book.BookFault.TheVariants as faults;
-ghost use Rattle.plant_turns.specs.declared.cell_fault.CellFault.TheVariants as refusals;
+ghost use Rattle.cell_state.specs.declared.cell_fault.CellFault.TheVariants as refusals;
 ghost use Rattle.plant_passes.specs.Runs.{state_after};
 ghost use Rattle.plant_passes.specs.Words.{entries, entry_of};
 ghost use Rattle.plant_passes.specs.Steps.{drawn, Looks, IsInHand};
@@ -16,9 +16,9 @@ ghost use Rattle.plant_passes.specs.Turns.{IsIdle, IsSame, IsAsked, Waits, IsMin
 use crate::plays::{Advance, Draw, Law, Look, Shut};
 use crate::view::{Held, Key, View};
 use atomic_table::{Seat, Shared};
+use cell_state::CellFault;
 use grant_policy::Ranking;
 use operator_book::{Action, Book, BookFault, Output, Outputs};
-use plant_turns::CellFault;
 use std::alloc::Global;
 use std::sync::Wait;
 use std::thread;

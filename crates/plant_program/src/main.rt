@@ -15,12 +15,12 @@ const AWAITED: &[u8] =
 
 /// An input of which the first read tells what is awaited, where a person types it.
 #[derive(Drop)]
-struct Awaited<'a, R, N> {
+struct PromptingReader<'a, R, N> {
     reader: R,
     note: Option<&'a mut N>,
 }
 
-impl<R: Read, N: Write> Read for Awaited<'_, R, N> {
+impl<R: Read, N: Write> Read for PromptingReader<'_, R, N> {
     fn read(&mut self, buf: &mut [u8]) -> io::Result<usize> {
         if let Some(note) = self.note.take() {
             let _lost = note.write_all(AWAITED);
@@ -31,12 +31,12 @@ impl<R: Read, N: Write> Read for Awaited<'_, R, N> {
 
 /// An output that notes whether its reader has gone, as behind `| head -1`: then nobody is told that a write failed.
 #[derive(Drop)]
-struct Left<W> {
+struct BrokenPipeWatch<W> {
     writer: W,
     is_left: bool,
 }
 
-impl<W> Left<W> {
+impl<W> BrokenPipeWatch<W> {
     /// Notes whether an answer says that the reader has gone.
     fn note<T>(&mut self, told: &io::Result<T>) {
         if let Err(error) = told {
@@ -45,7 +45,7 @@ impl<W> Left<W> {
     }
 }
 
-impl<W: Write> Write for Left<W> {
+impl<W: Write> Write for BrokenPipeWatch<W> {
     fn write(&mut self, buf: &[u8]) -> io::Result<usize> {
         let told = self.writer.write(buf);
         self.note(&told);
@@ -84,11 +84,11 @@ fn run<N: Write>(
     for word in &words {
         texts.push(word.as_str())?;
     }
-    let awaited = Awaited {
+    let awaited = PromptingReader {
         reader: rt.reader(),
         note,
     };
-    let left = Left {
+    let left = BrokenPipeWatch {
         writer: io::writer(rt),
         is_left: false,
     };

@@ -4,23 +4,23 @@ use Rattle.std.specs.Prelude.{slice_get}
 use Rattle.std.proofs.lemmas.List.{map-append, take_more}
 use Rattle.std.proofs.lemmas.Option.{slice_get-get_or, slice_get_past}
 use Rattle.plant.specs.declared.plant.PlantFields.{PlantFields}
-use Rattle.plant_runs.specs.declared.step.Step.{Step}
-use Rattle.plant_runs.specs.declared.step.Out.{Out}
-use Rattle.plant_runs.specs.Ordered.{target, IsTold}
-use Rattle.plant_runs.specs.Reached.{CoreView, Reached}
+use Rattle.run_model.specs.declared.step.Step.{Step}
+use Rattle.run_model.specs.declared.step.Out.{Out}
+use Rattle.run_model.specs.Ordered.{target, IsTold}
+use Rattle.run_model.specs.IsStateAfter.{CoreView, IsStateAfter}
 use Rattle.plant_core.specs.declared.core_fault.CoreFault.{CoreFault}
 use Rattle.plant_core.specs.Faults.{step_fault}
-use Rattle.plant_lines.specs.declared.script.LineStep.{LineStep}
-use Rattle.plant_lines.specs.Script.{unnumbered}
-use Rattle.plant_capture.specs.Capture.{Captured, opened_capture, IsOfRun, IsCaptureOf}
-use Rattle.plant_capture.proofs.OneCapture.{last_told}
-use Rattle.plant_capture.proofs.RunLemmas.{opened_run}
+use Rattle.script_format.specs.declared.script.LineStep.{LineStep}
+use Rattle.script_format.specs.Script.{unnumbered}
+use Rattle.pcap_capture.specs.Capture.{Captured, opened_capture, IsOfRun, IsCaptureOf}
+use Rattle.pcap_capture.proofs.OneCapture.{last_told}
+use Rattle.pcap_capture.proofs.RunLemmas.{opened_run}
 use Rattle.plant_script.specs.declared.answer.Answer.{Answer}
 use Rattle.plant_script.specs.Run.{IsEnd, IsCapturedRunOf}
 use Rattle.plant_script.specs.Done.{IsRefused, AreCaptured, HasCaptured, IsStatusOf}
 
 -- nothing is done, and nothing captured
-pub none_captured : (plant : PlantFields) (core : CoreView) (captured : Captured) → Reached plant [] [] core → captured ≡ opened_capture plant.consts
+pub none_captured : (plant : PlantFields) (core : CoreView) (captured : Captured) → IsStateAfter plant [] [] core → captured ≡ opened_capture plant.consts
     → AreCaptured plant [] core captured
 none_captured plant core captured reached is = record {
   outs = [];
@@ -38,20 +38,20 @@ lines_more lines i line lt is =
 -- the line's step is done, by a copy of it, and captured with what it put out
 pub captured_more : (plant : PlantFields) (lines : List LineStep) (i : ℕ) (line : LineStep) (step : Step) (old new : CoreView) (before after : Captured) (now said : List Out)
     → i < length lines → line ≡ get_or lines i line → step ≡ line.step → said ≡ now → AreCaptured plant (take i lines) old before
-    → ((steps : List Step) (told : List Out) → Reached old.plant steps told old → Reached old.plant (steps ++ step ∷ []) (told ++ now) new)
+    → ((steps : List Step) (told : List Out) → IsStateAfter old.plant steps told old → IsStateAfter old.plant (steps ++ step ∷ []) (told ++ now) new)
     → ((p : PlantFields) (steps : List Step) (told : List Out) → IsOfRun p steps told before → IsTold p steps line.step (target p line.step) said → IsOfRun p (steps ++ line.step ∷ []) (told ++ said) after)
     → AreCaptured plant (take (i + 1) lines) new after
 captured_more plant lines i line step old new before after now said lt is copy same done reached captured =
     let front = unnumbered (take i lines) in
     let more : front ++ line.step ∷ [] ≡ unnumbered (take (i + 1) lines) = sym (lines_more lines i line lt is) in
     let plant_is = done.reached.plant_is in
-    let then_new = reached front done.outs (subst (λ (p : PlantFields). Reached p front done.outs old) (sym plant_is) done.reached) in
-    let of_plant = subst (λ (p : PlantFields). Reached p (front ++ step ∷ []) (done.outs ++ now) new) plant_is then_new in
-    let of_line = subst (λ (s : Step). Reached plant (front ++ s ∷ []) (done.outs ++ now) new) copy of_plant in
+    let then_new = reached front done.outs (subst (λ (p : PlantFields). IsStateAfter p front done.outs old) (sym plant_is) done.reached) in
+    let of_plant = subst (λ (p : PlantFields). IsStateAfter p (front ++ step ∷ []) (done.outs ++ now) new) plant_is then_new in
+    let of_line = subst (λ (s : Step). IsStateAfter plant (front ++ s ∷ []) (done.outs ++ now) new) copy of_plant in
     let own = last_told plant front done.outs line.step now done.reached.shown done.reached.ordered of_line.ordered in
     record {
       outs = done.outs ++ now;
-      reached = subst (λ (s : List Step). Reached plant s (done.outs ++ now) new) more of_line;
+      reached = subst (λ (s : List Step). IsStateAfter plant s (done.outs ++ now) new) more of_line;
       of_run = subst (λ (s : List Step). IsOfRun plant s (done.outs ++ now) after) more
           (subst (λ (o : List Out). IsOfRun plant (front ++ line.step ∷ []) (done.outs ++ o) after) same
           (captured plant front done.outs done.of_run (subst (λ (o : List Out). IsTold plant front line.step (target plant line.step) o) (sym same) own)));

@@ -1,9 +1,9 @@
 -- What was done of a script at one of its lines.
 use Rattle.std.proofs.Common.{◌≡◌, ℕ, List, take, drop}
 use Rattle.plant.specs.declared.plant.PlantFields.{PlantFields}
-use Rattle.plant_runs.specs.declared.step.Out.{Out}
-use Rattle.plant_runs.specs.Reached.{CoreView}
-use Rattle.plant_lines.specs.declared.script.LineStep.{LineStep}
+use Rattle.run_model.specs.declared.step.Out.{Out}
+use Rattle.run_model.specs.IsStateAfter.{CoreView}
+use Rattle.script_format.specs.declared.script.LineStep.{LineStep}
 use Rattle.plant_script.specs.Done.{AreDone}
 
 -- some of the lines' steps are done, and these lines are left

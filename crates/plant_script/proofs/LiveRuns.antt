@@ -4,17 +4,17 @@ use Rattle.std.specs.Prelude.{slice_get}
 use Rattle.std.specs.Io.KnownBytes.{Appends}
 use Rattle.std.proofs.KnownBytes.{Appends-trans}
 use Rattle.plant.specs.declared.plant.PlantFields.{PlantFields}
-use Rattle.plant_runs.specs.Starts.{first_start}
-use Rattle.plant_runs.specs.Reached.{CoreView}
+use Rattle.run_model.specs.Starts.{first_start}
+use Rattle.run_model.specs.IsStateAfter.{CoreView}
 use Rattle.plant_core.specs.declared.core_fault.CoreFault.{CoreFault}
 use Rattle.plant_core.specs.Faults.{step_fault}
 use Rattle.live_core.specs.GoingOn.{IsOf}
 use Rattle.live_core.proofs.FaultLemmas.{same_step_fault}
-use Rattle.plant_lines.specs.declared.script.LineStep.{LineStep}
-use Rattle.plant_lines.specs.Text.{outs_text}
-use Rattle.plant_service.specs.declared.steps_end.StepsEnd.{StepsEnd}
-use Rattle.plant_service.specs.declared.steps_end.StepsEnd.TheVariants as ends
-use Rattle.plant_service.specs.Steps.{IsStepsEndAt, HasDone}
+use Rattle.script_format.specs.declared.script.LineStep.{LineStep}
+use Rattle.script_format.specs.Text.{outs_text}
+use Rattle.line_service.specs.declared.steps_end.StepsEnd.{StepsEnd}
+use Rattle.line_service.specs.declared.steps_end.StepsEnd.TheVariants as ends
+use Rattle.line_service.specs.Steps.{IsStepsEndAt, HasDone}
 use Rattle.plant_script.specs.declared.task.Told.TheVariants.{Outs}
 use Rattle.plant_script.specs.Run.{memory_line, IsEnd, EndsBy, IsRunOf}
 use Rattle.plant_script.specs.Ends.{status_of, line_of}

@@ -1,8 +1,8 @@
 -- What was handled so far.
 use Rattle.std.specs.Prelude.{◌≡◌, ℕ, List, ◌++◌, drop}
-use Rattle.operator_machine.specs.State.{operator}
-use Rattle.operator_machine.specs.Machine.{own_run}
-use Rattle.operator_machine.specs.Replay.{BookView}
+use Rattle.operator_model.specs.State.{operator}
+use Rattle.operator_model.specs.Machine.{own_run}
+use Rattle.operator_model.specs.Replay.{BookView}
 use Rattle.plant_script.specs.OperatorA.{row_a, consts_a}
 use Rattle.plant_script.specs.One.{actions_of, outputs_of, text_of}
 use Rattle.plant_script.specs.View.{IsOfA}

@@ -5,13 +5,13 @@ use Rattle.toml.specs.Parse.{parse_document}
 use Rattle.plant.specs.declared.plant.PlantFields.{PlantFields}
 use Rattle.slice_table.specs.declared.plant_fault.PlantFault.{PlantFault}
 use Rattle.slice_table.specs.ReadPlant.{text_plant}
-use Rattle.plant_runs.specs.declared.step.Out.{Out}
-use Rattle.plant_runs.specs.declared.step.Step.{Step}
-use Rattle.plant_runs.specs.Starts.{Start, first_start}
-use Rattle.plant_runs.specs.Reached.{CoreView}
+use Rattle.run_model.specs.declared.step.Out.{Out}
+use Rattle.run_model.specs.declared.step.Step.{Step}
+use Rattle.run_model.specs.Starts.{Start, first_start}
+use Rattle.run_model.specs.IsStateAfter.{CoreView}
 use Rattle.live_core.specs.After.{IsAfter, IsAfterFrom}
-use Rattle.plant_lines.specs.Input.{plant_text, script_text}
-use Rattle.plant_service.specs.Service.{service_text, IsServiceOf}
+use Rattle.script_format.specs.Input.{plant_text, script_text}
+use Rattle.line_service.specs.Service.{service_text, IsServiceOf}
 use Rattle.plant_script.specs.Check.{fault_text}
 use Rattle.plant_script.specs.Serving.{IsServed}
 use Rattle.plant_script.specs.Words.{AnswersFront, AnswersServe}

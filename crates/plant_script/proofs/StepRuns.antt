@@ -5,15 +5,15 @@ use Rattle.std.proofs.lemmas.List.{map-append}
 use Rattle.std.proofs.lemmas.Option.{slice_get_past, slice_get_within}
 use Rattle.plant.specs.declared.operator_row.RowFields.{RowFields}
 use Rattle.plant.specs.declared.plant.PlantFields.{PlantFields}
-use Rattle.plant_runs.specs.declared.step.Step.{Step}
-use Rattle.plant_runs.specs.declared.step.Out.{Out}
-use Rattle.plant_runs.specs.Reached.{CoreView, Reached}
+use Rattle.run_model.specs.declared.step.Step.{Step}
+use Rattle.run_model.specs.declared.step.Out.{Out}
+use Rattle.run_model.specs.IsStateAfter.{CoreView, IsStateAfter}
 use Rattle.plant_core.specs.declared.core_fault.CoreFault.{CoreFault}
 use Rattle.plant_core.specs.Faults.{step_fault}
-use Rattle.plant_lines.specs.declared.script.LineStep.{LineStep}
-use Rattle.plant_lines.specs.Script.{unnumbered}
-use Rattle.plant_lines.specs.Text.{actions_text}
-use Rattle.plant_service.proofs.LeftLemmas.{first_left, none_left, take_next, drop_next}
+use Rattle.script_format.specs.declared.script.LineStep.{LineStep}
+use Rattle.script_format.specs.Script.{unnumbered}
+use Rattle.script_format.specs.Text.{actions_text}
+use Rattle.line_service.proofs.LeftLemmas.{first_left, none_left, take_next, drop_next}
 use Rattle.plant_script.specs.declared.answer.Answer.{Answer}
 use Rattle.plant_script.specs.Run.{last_line, IsEnd, IsRunOf}
 use Rattle.plant_script.specs.Task.{history_at, IsEnded}
@@ -36,7 +36,7 @@ slice_get_there (x ∷ xs) (suc k) lt = slice_get_there xs k (omega arith)
 
 module _ (plant : PlantFields) (lines : List LineStep) (say : List Out → List ℕ) (old new : CoreView) (text : List ℕ) (line : LineStep) (rest : List LineStep) (now : List Out)
     (half : IsHalfDone plant lines say old text (line ∷ rest))
-    (reached : (before : List Step) (told : List Out) → Reached old.plant before told old → Reached old.plant (before ++ line.step ∷ []) (told ++ now) new) where
+    (reached : (before : List Step) (told : List Out) → IsStateAfter old.plant before told old → IsStateAfter old.plant (before ++ line.step ∷ []) (told ++ now) new) where
   before : List Step
   before = unnumbered (take half.at lines)
 
@@ -46,13 +46,13 @@ module _ (plant : PlantFields) (lines : List LineStep) (say : List Out → List 
       sym (map-append (λ (l : LineStep). l.step) (take half.at lines) (line ∷ []))
       ∙ ap unnumbered (sym (take_next lines half.at line rest half.left_are))
 
-  pub reached_more : Reached plant (unnumbered (take (suc half.at) lines)) (half.done.outs ++ now) new
+  pub reached_more : IsStateAfter plant (unnumbered (take (suc half.at) lines)) (half.done.outs ++ now) new
   unfolding before steps_more
   reached_more =
       let same = half.done.reached.plant_is in
-      let then_new = reached before half.done.outs (subst (λ (p : PlantFields). Reached p before half.done.outs old) (sym same) half.done.reached) in
-      subst (λ (s : List Step). Reached plant s (half.done.outs ++ now) new) steps_more
-      (subst (λ (p : PlantFields). Reached p (before ++ line.step ∷ []) (half.done.outs ++ now) new) same then_new)
+      let then_new = reached before half.done.outs (subst (λ (p : PlantFields). IsStateAfter p before half.done.outs old) (sym same) half.done.reached) in
+      subst (λ (s : List Step). IsStateAfter plant s (half.done.outs ++ now) new) steps_more
+      (subst (λ (p : PlantFields). IsStateAfter p (before ++ line.step ∷ []) (half.done.outs ++ now) new) same then_new)
 
   -- what is said of the step's outputs is written too
   pub half_more : (later : List ℕ) → later ≡ say (half.done.outs ++ now) → IsHalfDone plant lines say new later rest
@@ -65,7 +65,7 @@ module _ (plant : PlantFields) (lines : List LineStep) (say : List Out → List 
 -- nothing is said
 pub unheard_more : (plant : PlantFields) (lines : List LineStep) (old new : CoreView) (line : LineStep) (rest : List LineStep) (now : List Out)
     → IsHalfDone plant lines (λ told. []) old [] (line ∷ rest)
-    → ((before : List Step) (told : List Out) → Reached old.plant before told old → Reached old.plant (before ++ line.step ∷ []) (told ++ now) new)
+    → ((before : List Step) (told : List Out) → IsStateAfter old.plant before told old → IsStateAfter old.plant (before ++ line.step ∷ []) (told ++ now) new)
     → IsHalfDone plant lines (λ told. []) new [] rest
 unheard_more plant lines old new line rest now half reached = half_more plant lines (λ told. []) old new [] line rest now half reached [] refl
 
@@ -99,7 +99,7 @@ end_of core (Some line) refused text answer told ended =
     ((said.0, told.1), said.1)
 
 -- what an operator did is its own of the steps
-history_is : (plant : PlantFields) (steps : List Step) (outs : List Out) (core : CoreView) (op : ℕ) (row : Option RowFields) → Reached plant steps outs core → slice_get plant.rows op ≡ row
+history_is : (plant : PlantFields) (steps : List Step) (outs : List Out) (core : CoreView) (op : ℕ) (row : Option RowFields) → IsStateAfter plant steps outs core → slice_get plant.rows op ≡ row
     → book_text (slice_get core.books op) ≡ history_at row op steps
 history_is plant steps outs core op None reached here =
     let past : length plant.rows ≤ op = slice_get_none plant.rows op here in

@@ -6,8 +6,8 @@ use Rattle.std.specs.List.{position_from}
 use Rattle.std.proofs.lemmas.Bool.{cases_Bool}
 use Rattle.plant.specs.declared.operator_row.RowFields.{RowFields}
 use Rattle.plant.specs.declared.plant.PlantFields.{PlantFields}
-use Rattle.plant_lines.specs.declared.script.LineStep.{LineStep}
-use Rattle.plant_lines.specs.Text.{history_text}
+use Rattle.script_format.specs.declared.script.LineStep.{LineStep}
+use Rattle.script_format.specs.Text.{history_text}
 use Rattle.plant_script.specs.declared.task.Told.TheVariants.{History}
 use Rattle.plant_script.specs.declared.task.Task.{Task}
 use Rattle.plant_script.specs.declared.task.Served.{Served}
@@ -16,10 +16,10 @@ use Rattle.plant_script.specs.declared.input.Stop.{Stop}
 use Rattle.plant_script.specs.declared.input.Stop.TheVariants as stops
 use Rattle.plant_script.specs.Run.{memory_line, IsRunOf}
 use Rattle.plant_script.specs.Task.{history_at, RunsTo, IsTold, Comes}
-use Rattle.plant_words.specs.Order.{Order, order_of}
-use Rattle.plant_words.specs.declared.asked.Word.{Word}
-use Rattle.plant_words.specs.declared.asked.WordsFault.{WordsFault}
-use Rattle.plant_words.specs.CommandLine.{Names, GivesOrder}
+use Rattle.command_line.specs.Order.{Order, order_of}
+use Rattle.command_line.specs.declared.asked.Word.{Word}
+use Rattle.command_line.specs.declared.asked.WordsFault.{WordsFault}
+use Rattle.command_line.specs.CommandLine.{Names, GivesOrder}
 use Rattle.plant_script.specs.Words.{Answers, AnswersSteps, TellsMemory}
 
 same_some : {A : Type 0} (x y : A) → ◌≡◌ {A = Option A} (Some x) (Some y) → x ≡ y

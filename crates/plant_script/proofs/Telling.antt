@@ -6,21 +6,21 @@ use Rattle.std.proofs.lemmas.Grind.{flat_map-append}
 use Rattle.std.proofs.lemmas.List.{drop_more}
 use Rattle.std.proofs.lemmas.List.Folds.{flat_map-map}
 use Rattle.plant.specs.declared.plant.PlantFields.{PlantFields}
-use Rattle.operator_machine.specs.declared.action.Entry.{Entry}
-use Rattle.operator_machine.specs.declared.output.Output.{Output}
-use Rattle.operator_machine.specs.Replay.{BookView}
+use Rattle.operator_model.specs.declared.action.Entry.{Entry}
+use Rattle.operator_model.specs.declared.output.Output.{Output}
+use Rattle.operator_model.specs.Replay.{BookView}
 use Rattle.map_assembly.specs.declared.map_bytes.MapBytes.{MapBytes}
-use Rattle.plant_runs.specs.OwnSteps.{under}
-use Rattle.plant_runs.specs.declared.step.Step.{Step}
-use Rattle.plant_runs.specs.declared.step.Out.TheVariants as outs
-use Rattle.plant_receipts.specs.OwnParts.{outputs_of}
-use Rattle.plant_receipts.specs.declared.receipt.Receipt.{Receipt}
-use Rattle.plant_receipts.specs.declared.run_fault.RunFault.{RunFault}
-use Rattle.plant_outcomes.specs.Outcome.{IsOutcome}
-use Rattle.plant_outcomes.specs.Outs.{outs_from, outs_of}
-use Rattle.plant_lines.specs.declared.script.LineStep.{LineStep}
-use Rattle.plant_lines.specs.Script.{unnumbered}
-use Rattle.plant_lines.specs.Text.{named, map_line, out_line, output_line, outs_text}
+use Rattle.run_model.specs.OwnSteps.{under}
+use Rattle.run_model.specs.declared.step.Step.{Step}
+use Rattle.run_model.specs.declared.step.Out.TheVariants as outs
+use Rattle.run_receipts.specs.OwnParts.{outputs_of}
+use Rattle.run_receipts.specs.declared.receipt.Receipt.{Receipt}
+use Rattle.run_receipts.specs.declared.run_fault.RunFault.{RunFault}
+use Rattle.run_audit.specs.Outcome.{IsOutcome}
+use Rattle.run_audit.specs.Outs.{outs_from, outs_of}
+use Rattle.script_format.specs.declared.script.LineStep.{LineStep}
+use Rattle.script_format.specs.Script.{unnumbered}
+use Rattle.script_format.specs.Text.{named, map_line, out_line, output_line, outs_text}
 use Rattle.plant_script.specs.declared.answer.Answer.{Answer}
 use Rattle.plant_script.specs.OnThreads.{TellsFault, IsThreadedRunOf}
 

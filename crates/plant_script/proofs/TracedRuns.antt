@@ -4,12 +4,12 @@ use Rattle.std.specs.Prelude.{slice_get}
 use Rattle.std.specs.Io.KnownBytes.{Appends}
 use Rattle.std.proofs.KnownBytes.{Appends-trans}
 use Rattle.plant.specs.declared.plant.PlantFields.{PlantFields}
-use Rattle.plant_runs.specs.Reached.{CoreView}
-use Rattle.plant_lines.specs.declared.script.LineStep.{LineStep}
-use Rattle.plant_service.specs.declared.steps_end.StepsEnd.{StepsEnd}
-use Rattle.plant_service.specs.declared.steps_end.StepsEnd.TheVariants as ends
-use Rattle.plant_service.specs.Steps.{IsStepsEndAt}
-use Rattle.plant_trace.specs.Trace.{HasTraced}
+use Rattle.run_model.specs.IsStateAfter.{CoreView}
+use Rattle.script_format.specs.declared.script.LineStep.{LineStep}
+use Rattle.line_service.specs.declared.steps_end.StepsEnd.{StepsEnd}
+use Rattle.line_service.specs.declared.steps_end.StepsEnd.TheVariants as ends
+use Rattle.line_service.specs.Steps.{IsStepsEndAt}
+use Rattle.trace_report.specs.Trace.{HasTraced}
 use Rattle.plant_script.specs.declared.task.Told.TheVariants.{Trace}
 use Rattle.plant_script.specs.Run.{memory_line, EndsBy}
 use Rattle.plant_script.specs.Ends.{status_of, line_of}

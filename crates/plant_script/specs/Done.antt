@@ -1,19 +1,19 @@
 -- What was done of a script.
 use Rattle.std.specs.Prelude.{◌≡◌, ℕ, List, [], take, slice_get, Option, Some, None, IsSome}
 use Rattle.plant.specs.declared.plant.PlantFields.{PlantFields}
-use Rattle.operator_machine.specs.Replay.{BookView, actions_of}
-use Rattle.plant_runs.specs.declared.step.Out.{Out}
-use Rattle.plant_runs.specs.Reached.{CoreView, Reached}
+use Rattle.operator_model.specs.Replay.{BookView, actions_of}
+use Rattle.run_model.specs.declared.step.Out.{Out}
+use Rattle.run_model.specs.IsStateAfter.{CoreView, IsStateAfter}
 use Rattle.plant_core.specs.Faults.{step_fault}
-use Rattle.plant_lines.specs.declared.script.LineStep.{LineStep}
-use Rattle.plant_lines.specs.Script.{unnumbered}
-use Rattle.plant_lines.specs.Text.{actions_text}
-use Rattle.plant_capture.specs.Capture.{Captured, IsOfRun}
+use Rattle.script_format.specs.declared.script.LineStep.{LineStep}
+use Rattle.script_format.specs.Script.{unnumbered}
+use Rattle.script_format.specs.Text.{actions_text}
+use Rattle.pcap_capture.specs.Capture.{Captured, IsOfRun}
 
 -- the steps of these lines are done, and what is said of their outputs is written
 pub record AreDone (plant : PlantFields) (lines : List LineStep) (say : List Out → List ℕ) (core : CoreView) (text : List ℕ) : Type 0 where
   pub outs : List Out
-  pub reached : Reached plant (unnumbered lines) outs core
+  pub reached : IsStateAfter plant (unnumbered lines) outs core
   pub text_is : text ≡ say outs
 
 -- no line is refused where no step is left; else the one whose step the core refuses, told by its number
@@ -37,7 +37,7 @@ book_text (Some book) = actions_text (actions_of book.history)
 -- the steps of these lines are done, and the capture is theirs
 pub record AreCaptured (plant : PlantFields) (lines : List LineStep) (core : CoreView) (captured : Captured) : Type 0 where
   pub outs : List Out
-  pub reached : Reached plant (unnumbered lines) outs core
+  pub reached : IsStateAfter plant (unnumbered lines) outs core
   pub of_run : IsOfRun plant (unnumbered lines) outs captured
 
 -- so many of the lines' steps are done, and no more

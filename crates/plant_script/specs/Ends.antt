@@ -1,8 +1,8 @@
 -- What is written where the steps of a run ended (own).
 use Rattle.std.specs.Prelude.{ℕ, List, [], ◌∷◌, ◌++◌, codes}
 use Rattle.std.specs.Fmt.{decimal}
-use Rattle.plant_service.specs.declared.steps_end.StepsEnd.{StepsEnd}
-use Rattle.plant_service.specs.declared.steps_end.StepsEnd.TheVariants.{Done, Refused, NoMemory}
+use Rattle.line_service.specs.declared.steps_end.StepsEnd.{StepsEnd}
+use Rattle.line_service.specs.declared.steps_end.StepsEnd.TheVariants.{Done, Refused, NoMemory}
 use Rattle.plant_script.specs.Run.{memory_line}
 
 abbrev pub status_of : StepsEnd → ℕ

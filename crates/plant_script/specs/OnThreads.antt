@@ -2,23 +2,23 @@
 use Rattle.std.specs.Prelude.{◌≡◌, ◌⊎◌, ℕ, List, [], ◌∷◌, ◌++◌, length, slice_get, Option, Some, None, codes}
 use Rattle.std.specs.Fmt.{decimal}
 use Rattle.plant.specs.declared.plant.PlantFields.{PlantFields}
-use Rattle.operator_machine.specs.Replay.{BookView}
+use Rattle.operator_model.specs.Replay.{BookView}
 use Rattle.map_assembly.specs.declared.map_bytes.MapBytes.{MapBytes}
-use Rattle.plant_runs.specs.declared.step.Step.{Step}
-use Rattle.plant_runs.specs.declared.step.Step.TheVariants as steps
-use Rattle.plant_receipts.specs.declared.receipt.Receipt.{Receipt}
-use Rattle.plant_receipts.specs.declared.run_fault.RunFault.{RunFault}
-use Rattle.plant_receipts.specs.declared.run_fault.RunFault.TheVariants as faults
-use Rattle.plant_outcomes.specs.Outcome.{IsOutcome}
-use Rattle.plant_outcomes.specs.Outs.{outs_of}
-use Rattle.plant_walks.specs.Spending.{NoneSpentBefore, IsFirstSpent}
-use Rattle.plant_lines.specs.declared.script.LineStep.{LineStep}
-use Rattle.plant_lines.specs.Script.{unnumbered}
-use Rattle.plant_lines.specs.Text.{named, outs_text}
+use Rattle.run_model.specs.declared.step.Step.{Step}
+use Rattle.run_model.specs.declared.step.Step.TheVariants as steps
+use Rattle.run_receipts.specs.declared.receipt.Receipt.{Receipt}
+use Rattle.run_receipts.specs.declared.run_fault.RunFault.{RunFault}
+use Rattle.run_receipts.specs.declared.run_fault.RunFault.TheVariants as faults
+use Rattle.run_audit.specs.Outcome.{IsOutcome}
+use Rattle.run_audit.specs.Outs.{outs_of}
+use Rattle.run_plan.specs.Spending.{NoneSpentBefore, IsFirstSpent}
+use Rattle.script_format.specs.declared.script.LineStep.{LineStep}
+use Rattle.script_format.specs.Script.{unnumbered}
+use Rattle.script_format.specs.Text.{named, outs_text}
 
 -- ---- a run that is settled
 
--- The run is what just these steps make of the plant (`IsOutcome`, which has `Shown`), and the text is the lines of what
+-- The run is what just these steps make of the plant (`IsOutcome`, which has `IsTraceOf`), and the text is the lines of what
 -- its books put out, operator by operator, and then the lines of its MAPs. So each operator's lines are those of its own
 -- machine run alone, as in `run`.
 pub record HasSettled (plant : PlantFields) (lines : List LineStep) (text : List ℕ) : Type 0 where

@@ -4,17 +4,17 @@ use Rattle.std.specs.List.{flat_map}
 use Rattle.std.specs.Str.{is_utf8}
 use Rattle.std.specs.Fmt.{decimal}
 use Rattle.hex.specs.Hex.{encode_upper}
-use Rattle.operator_machine.specs.declared.heard.Heard.TheVariants as heards
-use Rattle.operator_machine.specs.declared.action.Action.{Action}
-use Rattle.operator_machine.specs.declared.action.Action.TheVariants.{Arrive, Work}
-use Rattle.operator_machine.specs.declared.output.Output.{Output}
-use Rattle.operator_machine.specs.declared.output.Output.TheVariants.{Reply, Silent, Frame}
-use Rattle.operator_machine.specs.State.{opened, operator}
-use Rattle.operator_machine.specs.Machine.{own_run}
-use Rattle.operator_machine.specs.Worked.{first_modem}
-use Rattle.plant_lines.specs.Lines.{lines_of}
-use Rattle.plant_lines.specs.Messages.{messages_of}
-use Rattle.plant_lines.specs.Causes.{name_of}
+use Rattle.operator_model.specs.declared.heard.Heard.TheVariants as heards
+use Rattle.operator_model.specs.declared.action.Action.{Action}
+use Rattle.operator_model.specs.declared.action.Action.TheVariants.{Arrive, Work}
+use Rattle.operator_model.specs.declared.output.Output.{Output}
+use Rattle.operator_model.specs.declared.output.Output.TheVariants.{Reply, Silent, Frame}
+use Rattle.operator_model.specs.State.{opened, operator}
+use Rattle.operator_model.specs.Machine.{own_run}
+use Rattle.operator_model.specs.Worked.{first_modem}
+use Rattle.script_format.specs.Lines.{lines_of}
+use Rattle.script_format.specs.Messages.{messages_of}
+use Rattle.script_format.specs.Causes.{name_of}
 use Rattle.plant_script.specs.OperatorA.{row_a, consts_a}
 
 -- ---- messages to outputs

@@ -3,7 +3,7 @@
 use Rattle.std.specs.Prelude.{codes}
 use Rattle.plant.specs.declared.consts.ConstsFields.{ConstsFields}
 use Rattle.plant.specs.declared.operator_row.RowFields.{RowFields}
-use Rattle.operator_machine.specs.Worked.{worked_consts, worked_row}
+use Rattle.operator_model.specs.Worked.{worked_consts, worked_row}
 
 abbrev pub consts_a : ConstsFields
 consts_a = worked_consts

@@ -2,13 +2,13 @@
 use Rattle.std.specs.Prelude.{◌≡◌, ◌⊎◌, ℕ, List, [], ◌∷◌, ◌++◌, take, slice_get, Option, Some, None, IsSome, codes}
 use Rattle.std.specs.Fmt.{decimal}
 use Rattle.plant.specs.declared.plant.PlantFields.{PlantFields}
-use Rattle.plant_runs.specs.declared.step.Step.{Step}
-use Rattle.plant_runs.specs.declared.step.Out.{Out}
-use Rattle.plant_runs.specs.Reached.{CoreView, Reached}
+use Rattle.run_model.specs.declared.step.Step.{Step}
+use Rattle.run_model.specs.declared.step.Out.{Out}
+use Rattle.run_model.specs.IsStateAfter.{CoreView, IsStateAfter}
 use Rattle.plant_core.specs.Faults.{step_fault}
-use Rattle.plant_lines.specs.declared.script.LineStep.{LineStep}
-use Rattle.plant_lines.specs.Script.{unnumbered}
-use Rattle.plant_capture.specs.Capture.{IsCaptureOf}
+use Rattle.script_format.specs.declared.script.LineStep.{LineStep}
+use Rattle.script_format.specs.Script.{unnumbered}
+use Rattle.pcap_capture.specs.Capture.{IsCaptureOf}
 
 -- the run ends behind the last step; or before the first one that is refused
 abbrev pub IsEnd : CoreView → Option LineStep → ℕ → Type 0
@@ -30,12 +30,12 @@ abbrev pub EndsBy : CoreView → Option LineStep → ℕ → List ℕ → Type 0
 EndsBy core next status last = (IsEnd core next status × (last ≡ last_line next)) ⊎ ((status ≡ 5) × (last ≡ memory_line))
 
 -- so many steps are done, one after the other, on a core of the plant as it is opened: the run shows to each operator its own
--- machine run alone, with all outputs in order (`Reached`). What is said of them is written, and behind it the last line.
+-- machine run alone, with all outputs in order (`IsStateAfter`). What is said of them is written, and behind it the last line.
 pub record IsRunOf (plant : PlantFields) (lines : List LineStep) (say : List Step → List Out → List ℕ) (status : ℕ) (text : List ℕ) : Type 0 where
   pub at : ℕ
   pub outs : List Out
   pub core : CoreView
-  pub reached : Reached plant (unnumbered (take at lines)) outs core
+  pub reached : IsStateAfter plant (unnumbered (take at lines)) outs core
   pub last : List ℕ
   pub ends : EndsBy core (slice_get lines at) status last
   pub text_is : text ≡ say (unnumbered (take at lines)) outs ++ last
@@ -46,6 +46,6 @@ pub record IsCapturedRunOf (plant : PlantFields) (lines : List LineStep) (status
   pub at : ℕ
   pub outs : List Out
   pub core : CoreView
-  pub reached : Reached plant (unnumbered (take at lines)) outs core
+  pub reached : IsStateAfter plant (unnumbered (take at lines)) outs core
   pub ends : IsEnd core (slice_get lines at) status
   pub captured : IsCaptureOf plant (unnumbered (take at lines)) outs text

@@ -4,11 +4,11 @@ use Rattle.toml.specs.Parse.{parse_document}
 use Rattle.plant.specs.declared.plant.PlantFields.{PlantFields}
 use Rattle.slice_table.specs.declared.plant_fault.PlantFault.{PlantFault}
 use Rattle.slice_table.specs.ReadPlant.{text_plant}
-use Rattle.plant_runs.specs.Starts.{first_start}
-use Rattle.plant_runs.specs.Reached.{CoreView}
+use Rattle.run_model.specs.Starts.{first_start}
+use Rattle.run_model.specs.IsStateAfter.{CoreView}
 use Rattle.live_core.specs.After.{IsAfter}
-use Rattle.plant_lines.specs.Lines.{lines_of}
-use Rattle.plant_service.specs.Service.{Answered, AreAnswered, service_text, all_done, all_told}
+use Rattle.script_format.specs.Lines.{lines_of}
+use Rattle.line_service.specs.Service.{Answered, AreAnswered, service_text, all_done, all_told}
 use Rattle.plant_script.specs.Check.{fault_text}
 use Rattle.plant_script.specs.declared.serving.Front.{Front}
 use Rattle.plant_script.specs.declared.serving.Front.TheVariants as fronts

@@ -1,12 +1,12 @@
 -- A run that is told in words, and what `trace` writes of it (own).
 use Rattle.std.specs.Prelude.{◌≡◌, ℕ, List, [], ◌++◌, take, slice_get, Option}
 use Rattle.plant.specs.declared.plant.PlantFields.{PlantFields}
-use Rattle.plant_runs.specs.declared.step.Out.{Out}
-use Rattle.plant_runs.specs.Reached.{CoreView, Reached}
-use Rattle.plant_lines.specs.declared.script.LineStep.{LineStep}
-use Rattle.plant_lines.specs.Script.{unnumbered}
-use Rattle.plant_trace.specs.declared.decision.Decision.{Decision}
-use Rattle.plant_trace.specs.Trace.{AreDecided, IsTraceText}
+use Rattle.run_model.specs.declared.step.Out.{Out}
+use Rattle.run_model.specs.IsStateAfter.{CoreView, IsStateAfter}
+use Rattle.script_format.specs.declared.script.LineStep.{LineStep}
+use Rattle.script_format.specs.Script.{unnumbered}
+use Rattle.trace_report.specs.declared.decision.Decision.{Decision}
+use Rattle.trace_report.specs.Trace.{AreDecided, IsTraceText}
 use Rattle.plant_script.specs.Run.{EndsBy}
 
 -- So many steps are done, as in `IsRunOf`. For each there is what decided it, by the definitions of the checks and by the core as it stood
@@ -15,7 +15,7 @@ pub record IsTracedRunOf (plant : PlantFields) (lines : List LineStep) (status :
   pub at : ℕ
   pub outs : List Out
   pub core : CoreView
-  pub reached : Reached plant (unnumbered (take at lines)) outs core
+  pub reached : IsStateAfter plant (unnumbered (take at lines)) outs core
   pub decisions : List (Option Decision)
   pub decided : AreDecided plant [] (unnumbered (take at lines)) decisions
   pub told : List ℕ

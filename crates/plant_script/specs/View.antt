@@ -1,6 +1,6 @@
 -- What contracts say of a book.
 use Rattle.std.specs.Prelude.{◌≡◌}
-use Rattle.operator_machine.specs.Replay.{BookView}
+use Rattle.operator_model.specs.Replay.{BookView}
 use Rattle.plant_script.specs.OperatorA.{row_a, consts_a}
 
 -- the book is operator A's

@@ -2,21 +2,21 @@
 
 ghost use Rattle.std.specs.Prelude.{◌≡◌, ◌++◌, ◌∷◌, [], List, IfOk, OnOk};
 ghost use Rattle.plant.specs.declared.plant.PlantFields.{PlantFields};
-ghost use Rattle.plant_runs.specs.declared.step.Step.{Step};
-ghost use Rattle.plant_runs.specs.declared.step.Out.{Out};
-ghost use Rattle.plant_runs.specs.Ordered.{target, IsTold};
-ghost use Rattle.plant_runs.specs.Reached.{Reached};
+ghost use Rattle.run_model.specs.declared.step.Step.{Step};
+ghost use Rattle.run_model.specs.declared.step.Out.{Out};
+ghost use Rattle.run_model.specs.Ordered.{target, IsTold};
+ghost use Rattle.run_model.specs.IsStateAfter.{IsStateAfter};
 ghost use Rattle.plant_core.specs.CoreView.{core_view};
-ghost use Rattle.plant_capture.specs.Capture.{opened_capture, IsOfRun};
+ghost use Rattle.pcap_capture.specs.Capture.{opened_capture, IsOfRun};
 ghost use Rattle.plant_script.specs.Done.{HasCaptured, IsStatusOf};
 ghost use Rattle.plant_script.specs.Run.{IsCapturedRunOf};
 
 use crate::answer::Answer;
 use crate::ending::refused;
-use plant_capture::Capture;
+use pcap_capture::Capture;
 use plant_core::PlantCore;
-use plant_lines::LineStep;
-use plant_runs::{Out, Step};
+use run_model::{Out, Step};
+use script_format::LineStep;
 use std::alloc::{AllocError, Global};
 
 /// Captures a step that is done, and its own outputs.
@@ -43,7 +43,7 @@ fn run_captured(
     lines: &[LineStep],
     capture: &mut Capture,
 ) -> Result<Option<u64>, AllocError>
-    requires opened { Reached (core_view core.old).plant [] [] (core_view core.old) }
+    requires opened { IsStateAfter (core_view core.old).plant [] [] (core_view core.old) }
     requires empty { capture.old ≡ opened_capture (core_view core.old).plant.consts }
     ensures { IfOk result (λ refused.
         HasCaptured (core_view core.old).plant lines.now refused (core_view core.new) capture.new) }
@@ -77,7 +77,7 @@ pub fn answer_of_capture(
     core: &mut PlantCore,
     lines: Vec<LineStep>,
 ) -> Result<Answer, AllocError>
-    requires { Reached (core_view core.old).plant [] [] (core_view core.old) }
+    requires { IsStateAfter (core_view core.old).plant [] [] (core_view core.old) }
     ensures { IfOk result (λ answer. IsCapturedRunOf (core_view core.old).plant lines.items answer.status answer.text.items) }
 {
     let mut capture = Capture::open(alloc, core.plant().consts());

@@ -5,8 +5,8 @@ ghost use Rattle.std.specs.Io.KnownBytes.{Appends};
 ghost use Rattle.plant_core.specs.declared.core_fault.CoreFault.TheVariants.{NoMemory};
 ghost use Rattle.plant_script.specs.Ends.{status_of, line_of};
 
+use line_service::StepsEnd;
 use plant_core::CoreFault;
-use plant_service::StepsEnd;
 use std::alloc::AllocError;
 use std::io;
 use std::io::Write;

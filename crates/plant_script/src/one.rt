@@ -1,8 +1,8 @@
 //! The word `one`: messages to outputs, outputs to text.
 
 ghost use Rattle.std.specs.Prelude.{◌≡◌, ◌++◌, [], ◌∷◌, IfOk, OnOk};
-ghost use Rattle.operator_machine.specs.State.{operator};
-ghost use Rattle.operator_machine.specs.Machine.{own_step, own_run, IsAllowed};
+ghost use Rattle.operator_model.specs.State.{operator};
+ghost use Rattle.operator_model.specs.Machine.{own_step, own_run, IsAllowed};
 ghost use Rattle.plant_script.specs.OperatorA.{row_a, consts_a};
 ghost use Rattle.plant_script.specs.One.{actions_of, outputs_of, line_of, text_of};
 ghost use Rattle.grant_policy.specs.declared.policy.Policy.TheVariants.{Strict};
@@ -14,7 +14,7 @@ use crate::operator_a::{consts_a, first_modem, row_a};
 use grant_policy::{Policy, RankInput, Ranking, rank_by};
 use hex::encode_upper;
 use operator_book::{Action, Book, BookFault, Heard, OpenFault, Output};
-use plant_lines::name_of;
+use script_format::name_of;
 use std::alloc::{AllocError, Global};
 use tlv24::Bytes;
 

@@ -1,7 +1,7 @@
 //! The operator that is built in.
 
 ghost use Rattle.std.specs.Prelude.{◌≡◌, codes, IfOk};
-ghost use Rattle.operator_machine.specs.Worked.{first_modem};
+ghost use Rattle.operator_model.specs.Worked.{first_modem};
 ghost use Rattle.plant_script.specs.OperatorA.{row_a, consts_a};
 
 use admission::IdRange;

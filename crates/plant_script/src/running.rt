@@ -4,7 +4,7 @@ ghost use Rattle.std.specs.Prelude.{◌≡◌, ◌≢◌, ◌++◌, [], map, sli
 ghost use Rattle.std.specs.Io.KnownBytes.{Appends};
 ghost use Rattle.std.specs.String.{string_bytes};
 ghost use Rattle.plant.specs.declared.plant.PlantFields.{PlantFields};
-ghost use Rattle.plant_runs.specs.Reached.{Reached};
+ghost use Rattle.run_model.specs.IsStateAfter.{IsStateAfter};
 ghost use Rattle.plant_core.specs.CoreView.{core_view};
 ghost use Rattle.live_core.specs.After.{IsAfter, IsReachable};
 ghost use Rattle.live_core.specs.LiveView.{live_view};
@@ -22,11 +22,11 @@ use crate::program::{finish, stopped};
 use crate::task::{Task, Told};
 use crate::tracing::write_traced_run;
 use grant_policy::{RankInput, Ranking, rank_by};
+use line_service::run_steps;
 use live_core::LiveCore;
 use plant::{Op, Plant};
 use plant_core::{CoreOpenFault, PlantCore};
-use plant_lines::{LineStep, put_actions};
-use plant_service::run_steps;
+use script_format::{LineStep, put_actions};
 use std::alloc::{AllocError, Global};
 use std::io;
 use std::io::Write;
@@ -40,7 +40,7 @@ fn run_unheard(
     core: &mut PlantCore,
     lines: Vec<LineStep>,
 ) -> Result<Option<u64>, AllocError>
-    requires { Reached (core_view core.old).plant [] [] (core_view core.old) }
+    requires { IsStateAfter (core_view core.old).plant [] [] (core_view core.old) }
     ensures { IfOk result (λ refused.
         HasRun (core_view core.old).plant lines.items (λ told. []) refused (core_view core.new) []) }
 {
@@ -84,7 +84,7 @@ fn answer_of_history(
     op: Op,
     lines: Vec<LineStep>,
 ) -> Result<Answer, AllocError>
-    requires { Reached (core_view core.old).plant [] [] (core_view core.old) }
+    requires { IsStateAfter (core_view core.old).plant [] [] (core_view core.old) }
     ensures { IfOk result (λ answer. IsRunOf (core_view core.old).plant lines.items
         (λ done told. history_at (slice_get (core_view core.old).plant.rows op) op done) answer.status answer.text.items) }
 {
@@ -101,7 +101,7 @@ pub(crate) fn core_of(
     rankings: Vec<Ranking>,
 ) -> Result<PlantCore, AllocError>
     requires { map (λ ranking. ranking.policy) rankings.items ≡ map (λ row. row.policy) plant.rows }
-    ensures { IfOk result (λ core. Reached plant [] [] (core_view core)) }
+    ensures { IfOk result (λ core. IsStateAfter plant [] [] (core_view core)) }
 {
     match PlantCore::open(alloc, plant, rankings) {
         Ok(core) => Ok(core),

@@ -12,8 +12,8 @@ use crate::input::Stop;
 use crate::program::{finish, stopped};
 use crate::running::live_core_of;
 use grant_policy::{RankInput, Ranking, rank_by};
+use line_service::{LineBuffer, read_plant_text, serve};
 use plant::Plant;
-use plant_service::{HeldLine, read_plant_text, serve};
 use slice_table::{PlantFault, read_plant};
 use std::alloc::Global;
 use std::io;
@@ -79,7 +79,7 @@ fn serve_ranked<R: Read, W: Write>(
     ensures memory { result ≡ 5 → Appends (W.contents writer.old) (W.contents writer.new) memory_line }
 {
     let Service { plant } = service;
-    let Ok(held) = HeldLine::new(alloc) else {
+    let Ok(held) = LineBuffer::new(alloc) else {
         return stopped(writer, Stop::Memory);
     };
     let Ok(mut core) = live_core_of(alloc, plant, rankings) else {

@@ -4,7 +4,7 @@ ghost use Rattle.std.specs.Prelude.{◌≡◌, map, true, IfOk, IfErr};
 ghost use Rattle.std.specs.List.{position_from};
 ghost use Rattle.toml.specs.Parse.{parse_document};
 ghost use Rattle.slice_table.specs.ReadPlant.{text_plant};
-ghost use Rattle.plant_lines.specs.Script.{is_named, steps_of};
+ghost use Rattle.script_format.specs.Script.{is_named, steps_of};
 ghost use Rattle.plant_script.specs.One.{is_readable};
 ghost use Rattle.plant_script.specs.Task.{RunsTo, asked, Comes};
 ghost use Rattle.plant_script.specs.Words.{AnswersSteps, AnswersOperator, AnswersPlant, AnswersInput};
@@ -14,7 +14,7 @@ use crate::answer::Answer;
 use crate::check::{answer_to_fault, answer_to_line, plant_of_input};
 use crate::input::Stop;
 use plant::{Op, Plant};
-use plant_lines::{LineFault, LineStep, before_bar, place_of, script_text, steps_of};
+use script_format::{LineFault, LineStep, before_bar, place_of, script_text, steps_of};
 use slice_table::PlantFault;
 use std::alloc::Global;
 

@@ -2,7 +2,7 @@
 
 ghost use Rattle.std.specs.Prelude.{◌≡◌, ◌≢◌, [], map, IfOk};
 ghost use Rattle.std.specs.Io.KnownBytes.{Appends};
-ghost use Rattle.plant_runs.specs.Reached.{Reached};
+ghost use Rattle.run_model.specs.IsStateAfter.{IsStateAfter};
 ghost use Rattle.plant_core.specs.CoreView.{core_view};
 ghost use Rattle.plant_script.specs.Traced.{EndsTraced};
 ghost use Rattle.plant_script.specs.Task.{IsTold};
@@ -15,11 +15,11 @@ use crate::running::core_of;
 use crate::task::Task;
 use grant_policy::Ranking;
 use plant_core::PlantCore;
-use plant_lines::LineStep;
-use plant_trace::write_trace;
+use script_format::LineStep;
 use std::alloc::Global;
 use std::io;
 use std::io::Write;
+use trace_report::write_trace;
 
 /// Does the steps of lines on a core as it is opened, and writes of each what decided it and what came of it, and the last line.
 /// Answers the status.
@@ -30,7 +30,7 @@ fn write_traced<W: Write>(
     lines: Vec<LineStep>,
     writer: &mut W,
 ) -> io::Result<u8>
-    requires opened { Reached (core_view core.old).plant [] [] (core_view core.old) }
+    requires opened { IsStateAfter (core_view core.old).plant [] [] (core_view core.old) }
     ensures { IfOk result (λ status. EndsTraced (core_view core.old).plant lines.items status
         (λ text. Appends (W.contents writer.old) (W.contents writer.new) text)) }
 {

@@ -6,9 +6,9 @@ use Rattle.plant_core.specs.declared.core_fault.CoreFault.TheVariants as core_fa
 use Rattle.plant_core.specs.declared.core_fault.ResliceFault.{ResliceFault}
 use Rattle.plant_core.specs.Faults.{IsTold}
 use Rattle.plant.specs.declared.plant.PlantFields.{PlantFields}
-use Rattle.plant_runs.specs.declared.step.Step.{Step}
-use Rattle.plant_receipts.specs.declared.run_fault.RunFault.{RunFault}
-use Rattle.plant_walks.specs.Serving.{IsServable}
+use Rattle.run_model.specs.declared.step.Step.{Step}
+use Rattle.run_receipts.specs.declared.run_fault.RunFault.{RunFault}
+use Rattle.run_plan.specs.Serving.{IsServable}
 use Rattle.plant_workers.specs.Faulting.{IsResliceTold, IsOfRun, IsFault}
 
 -- the fault of a run whose steps are served is one of a run

@@ -3,9 +3,9 @@ use Rattle.std.proofs.Common.{◌≡◌, ℕ, ◌+◌, ◌<◌, ◌≤◌, Bool,
 use Rattle.std.specs.Prelude.{slice_get}
 use Rattle.std.proofs.lemmas.Bool.{cases_eq, cases_lt, lt-ltb, le-ltb}
 use Rattle.std.proofs.lemmas.Option.{slice_get_within, same_Some}
-use Rattle.plant_runs.proofs.Entries.{same_at}
-use Rattle.plant_turns.specs.declared.cell_fault.CellFault.{CellFault}
-use Rattle.plant_workers.specs.declared.tale.Refusal.{Refusal}
+use Rattle.run_model.proofs.Entries.{same_at}
+use Rattle.cell_state.specs.declared.cell_fault.CellFault.{CellFault}
+use Rattle.plant_workers.specs.declared.thread_report.Refusal.{Refusal}
 use Rattle.plant_workers.specs.Refusing.{own_turn, lesser, EndsLeast, IsLeastOf, IsLeastTurn}
 
 abbrev Turned : Type 0

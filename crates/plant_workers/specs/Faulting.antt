@@ -1,20 +1,20 @@
 -- What a run on threads is refused for (own).
 use Rattle.std.specs.Prelude.{◌≡◌, ◌≢◌, ◌⊎◌, ℕ, List, length, take, slice_get, Option, Some}
 use Rattle.plant.specs.declared.plant.PlantFields.{PlantFields}
-use Rattle.operator_machine.specs.declared.action.SliceRow.{SliceRow}
-use Rattle.operator_machine.specs.Replay.{BookView}
+use Rattle.operator_model.specs.declared.action.SliceRow.{SliceRow}
+use Rattle.operator_model.specs.Replay.{BookView}
 use Rattle.operator_book.specs.declared.book.BookFault.TheVariants as book_faults
 use Rattle.map_assembly.specs.declared.refused.GatherFault.TheVariants as gather_faults
-use Rattle.plant_runs.specs.declared.step.Step.{Step}
-use Rattle.plant_runs.specs.declared.step.Step.TheVariants as steps
+use Rattle.run_model.specs.declared.step.Step.{Step}
+use Rattle.run_model.specs.declared.step.Step.TheVariants as steps
 use Rattle.plant_core.specs.declared.core_fault.CoreFault.{CoreFault}
 use Rattle.plant_core.specs.declared.core_fault.CoreFault.TheVariants.{Book, Gather, Reslice}
 use Rattle.plant_core.specs.declared.core_fault.ResliceFault.{ResliceFault}
 use Rattle.plant_core.specs.Reslicing.{reslice_fault}
-use Rattle.plant_receipts.specs.declared.run_fault.RunFault.{RunFault}
-use Rattle.plant_receipts.specs.declared.run_fault.RunFault.TheVariants.{Core, ResliceRefused}
-use Rattle.plant_outcomes.specs.Straying.{AreOwn}
-use Rattle.plant_walks.specs.Serving.{IsServable, IsFirstUnserved}
+use Rattle.run_receipts.specs.declared.run_fault.RunFault.{RunFault}
+use Rattle.run_receipts.specs.declared.run_fault.RunFault.TheVariants.{Core, ResliceRefused}
+use Rattle.run_audit.specs.Straying.{AreOwn}
+use Rattle.run_plan.specs.Serving.{IsServable, IsFirstUnserved}
 
 -- a book refused an action, or the assembly a frame, and not for want of memory
 abbrev pub IsOfThreads : CoreFault → Type 0

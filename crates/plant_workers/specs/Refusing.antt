@@ -1,9 +1,9 @@
 -- Which refusal of the threads of a run is told (own).
 use Rattle.std.specs.Prelude.{◌≡◌, ℕ, ◌<◌, ◌≤◌, nat_lt, List, length, Option, Some, None, slice_get, if◌then◌else◌}
-use Rattle.plant_turns.specs.declared.cell_fault.CellFault.{CellFault}
-use Rattle.plant_turns.specs.declared.cell_fault.CellFault.TheVariants.{Book, Passed, Stopped, Closed}
-use Rattle.plant_workers.specs.declared.tale.Refusal.{Refusal}
-use Rattle.plant_workers.specs.declared.tale.Refusal.TheVariants.{Turn, Assembly}
+use Rattle.cell_state.specs.declared.cell_fault.CellFault.{CellFault}
+use Rattle.cell_state.specs.declared.cell_fault.CellFault.TheVariants.{Book, Passed, Stopped, Closed}
+use Rattle.plant_workers.specs.declared.thread_report.Refusal.{Refusal}
+use Rattle.plant_workers.specs.declared.thread_report.Refusal.TheVariants.{Turn, Assembly}
 
 -- the turn on which a thread ended, if the operator refused it for itself, and was not stopped for another's sake
 abbrev pub own_turn : Option Refusal → Option (ℕ × CellFault)

@@ -2,18 +2,18 @@
 
 ghost use Rattle.std.specs.Prelude.{◌≡◌, ◌<◌, ◌≤◌, ◌^◌, length, IfOk, IfErr};
 ghost use Rattle.operator_book.specs.ViewOf.{view_of};
-ghost use Rattle.operator_machine.specs.declared.action.Action.TheVariants as actions;
-ghost use Rattle.plant_turns.specs.Taking.{frames_at};
-ghost use Rattle.plant_turns.specs.Telling.{IsOfBook, IsOfTurn, IsOfTaking};
+ghost use Rattle.operator_model.specs.declared.action.Action.TheVariants as actions;
+ghost use Rattle.cell_state.specs.Taking.{frames_at};
+ghost use Rattle.cell_state.specs.Telling.{IsOfBook, IsOfTurn, IsOfTaking};
 
 use crate::gate::Gate;
 use crate::turn::Turn;
+use cell_state::{CellFault, Held};
 use dsx_messages::Modem;
 use operator_book::Book;
-use operator_machine::{Action, Heard};
+use operator_model::{Action, Heard};
 use plant::Op;
-use plant_receipts::Receipt;
-use plant_turns::{CellFault, Held};
+use run_receipts::Receipt;
 use slice_scheduler::Elements;
 use std::alloc::{AllocError, Global};
 use std::sync::{Condvar, Mutex, Wait};

@@ -2,19 +2,19 @@
 
 ghost use Rattle.std.specs.Prelude.{◌≡◌, ◌<◌, ◌^◌, All, map, vec_len, IfOk, IfErr};
 ghost use Rattle.operator_book.specs.ViewOf.{view_of};
-ghost use Rattle.plant_outcomes.specs.Outcome.{AreTicked, IsOutcome};
-ghost use Rattle.plant_receipts.specs.Callers.{AreByCallers};
+ghost use Rattle.run_audit.specs.Outcome.{AreTicked, IsOutcome};
+ghost use Rattle.run_receipts.specs.Callers.{AreByCallers};
 ghost use Rattle.plant_workers.specs.Faulting.{IsOfRun};
 
-use crate::crew::Crew;
 use crate::receipt_lists::callers_of;
+use crate::run_state::RunState;
+use cell_state::Held;
 use map_assembly::MapBytes;
 use operator_book::Book;
 use plant::Plant;
-use plant_outcomes::{Assembly, compare};
-use plant_receipts::{Callers, RunFault, Settled, settle};
-use plant_runs::Step;
-use plant_turns::Held;
+use run_audit::{Assembly, compare};
+use run_model::Step;
+use run_receipts::{Callers, RunFault, Settled, settle};
 use std::alloc::{AllocError, Global};
 
 /// The books, with no lock round them.
@@ -70,7 +70,7 @@ fn settle_all(
 pub(crate) fn finish(
     alloc: Global,
     plant: &Plant,
-    crew: Crew,
+    run_state: RunState,
     steps: &[Step],
 ) -> Result<Settled, RunFault>
     requires ticked { AreTicked plant.now steps.now }
@@ -78,11 +78,11 @@ pub(crate) fn finish(
         IsOutcome plant.now steps.now (map view_of s.books.items) s.receipts.items s.maps.items) }
     ensures err { IfErr result (IsOfRun plant.now steps.now) }
 {
-    let Crew {
+    let RunState {
         helds,
         assembly,
         lists,
-    } = crew;
+    } = run_state;
     let books = books_of(alloc, helds)?;
     let callers = callers_of(alloc, lists)?;
     settle_all(alloc, plant, books, callers, assembly, steps)

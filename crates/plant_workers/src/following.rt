@@ -1,16 +1,16 @@
 //! Whether operators' books follow the first steps of a run.
 
 ghost use Rattle.std.specs.Prelude.{◌≡◌, length, map, take, MatchOption};
-ghost use Rattle.plant_outcomes.specs.Straying.{AreOwn, IsStray};
-ghost use Rattle.plant_turns.specs.HeldView.{book_of};
+ghost use Rattle.run_audit.specs.Straying.{AreOwn, IsStray};
+ghost use Rattle.cell_state.specs.HeldView.{book_of};
 ghost use Rattle.plant_workers.specs.Faulting.{IsToldAt, IsOfRun};
 
+use cell_state::Held;
 use plant::{Op, Plant};
 use plant_core::CoreFault;
-use plant_outcomes::stray_at;
-use plant_receipts::RunFault;
-use plant_runs::Step;
-use plant_turns::Held;
+use run_audit::stray_at;
+use run_model::Step;
+use run_receipts::RunFault;
 
 /// Finds the least operator whose history strays from its own steps, and where it does. Takes no memory.
 fn first_stray(plant: &Plant, helds: &[Held], steps: &[Step]) -> Option<(Op, usize)>

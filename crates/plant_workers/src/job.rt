@@ -3,10 +3,10 @@
 ghost use Rattle.std.specs.Prelude.{◌≡◌, IfOk};
 ghost use Rattle.plant_workers.specs.Parts.{action_in};
 
-use operator_machine::Action;
+use operator_model::Action;
 use plant::{Op, Plant};
-use plant_runs::Step;
-use plant_walks::turns_of;
+use run_model::Step;
+use run_plan::turns_of;
 use std::alloc::{AllocError, Global};
 
 /// A step, its operator, and how many entries that operator's history has when the step's turn comes.

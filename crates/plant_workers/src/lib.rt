@@ -2,7 +2,6 @@
 #![tactic(auto)]
 
 mod cell;
-mod crew;
 mod finishing;
 mod following;
 mod gate;
@@ -11,15 +10,16 @@ mod opening;
 mod part;
 mod ranking;
 mod receipt_lists;
+mod run_state;
 mod running;
 mod shared;
-mod tale;
+mod thread_report;
 mod threads;
 mod turn;
 
 pub use cell::OperatorCell;
+pub use cell_state::CellFault;
 pub use gate::{Gate, OpenGate};
-pub use plant_receipts::{Caller, Callers, Receipt, Receipts, RunFault, Settled, settle};
-pub use plant_turns::CellFault;
 pub use ranking::are_ranked;
+pub use run_receipts::{Caller, Callers, Receipt, Receipts, RunFault, Settled, settle};
 pub use running::{run_workers, run_workers_on};

@@ -1,9 +1,9 @@
 //! The operators' books as a run begins.
 
+use cell_state::Held;
 use grant_policy::Ranking;
 use operator_book::Book;
 use plant::Plant;
-use plant_turns::Held;
 use std::alloc::{AllocError, Global};
 
 /// The book of each operator, with nothing done.

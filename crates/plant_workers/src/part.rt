@@ -5,8 +5,8 @@ ghost use Rattle.plant_workers.specs.Parts.{caller_in, IsOfPart};
 
 use crate::job::Job;
 use plant::Op;
-use plant_receipts::Caller;
-use plant_runs::Step;
+use run_model::Step;
+use run_receipts::Caller;
 use std::alloc::{AllocError, Global};
 
 /// What one thread of a run does, in the order of the steps.

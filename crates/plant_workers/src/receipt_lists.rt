@@ -1,12 +1,12 @@
 //! The receipts of an operator's four callers.
 
 ghost use Rattle.std.specs.Prelude.{All, IfOk};
-ghost use Rattle.plant_receipts.specs.Callers.{IsFor, AreByCallers};
-ghost use Rattle.plant_receipts.specs.declared.caller.Caller.TheVariants as callers;
+ghost use Rattle.run_receipts.specs.Callers.{IsFor, AreByCallers};
+ghost use Rattle.run_receipts.specs.declared.caller.Caller.TheVariants as callers;
 
-use crate::tale::Tale;
-use plant_receipts::{Caller, Callers, Receipt, Receipts};
-use plant_turns::Told;
+use crate::thread_report::ThreadReport;
+use cell_state::Told;
+use run_receipts::{Caller, Callers, Receipt, Receipts};
 use std::alloc::{AllocError, Global};
 
 /// Keeps the receipts of an operator's four callers, each in the order in which it got them. The type keeps that each has
@@ -98,9 +98,12 @@ pub(crate) fn add_told(lists: &mut Vec<Lists>, all: Vec<Told>) -> Result<(), All
 }
 
 /// Adds the receipts of all threads.
-pub(crate) fn add_tales(lists: &mut Vec<Lists>, tales: Vec<Tale>) -> Result<(), AllocError> {
-    for tale in tales {
-        let Tale { told, refused: _ } = tale;
+pub(crate) fn add_tales(
+    lists: &mut Vec<Lists>,
+    thread_reports: Vec<ThreadReport>,
+) -> Result<(), AllocError> {
+    for thread_report in thread_reports {
+        let ThreadReport { told, refused: _ } = thread_report;
         add_told(lists, told)?;
     }
     Ok(())

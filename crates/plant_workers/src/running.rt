@@ -5,24 +5,24 @@ ghost use Rattle.operator_book.specs.ViewOf.{view_of, policy_of};
 ghost use Rattle.operator_book.specs.declared.book.BookFault.TheVariants.{FramesSpent};
 ghost use Rattle.plant_core.specs.declared.core_fault.CoreFault.{CoreFault};
 ghost use Rattle.plant_core.specs.declared.core_fault.CoreFault.TheVariants.{Book};
-ghost use Rattle.plant_receipts.specs.declared.run_fault.RunFault.TheVariants.{Core};
-ghost use Rattle.plant_outcomes.specs.Outcome.{AreTicked, IsOutcome};
-ghost use Rattle.plant_walks.specs.Serving.{IsServable, IsFirstUnserved};
-ghost use Rattle.plant_walks.specs.Spending.{IsFirstSpent, before_reslice};
+ghost use Rattle.run_receipts.specs.declared.run_fault.RunFault.TheVariants.{Core};
+ghost use Rattle.run_audit.specs.Outcome.{AreTicked, IsOutcome};
+ghost use Rattle.run_plan.specs.Serving.{IsServable, IsFirstUnserved};
+ghost use Rattle.run_plan.specs.Spending.{IsFirstSpent, before_reslice};
 ghost use Rattle.plant_workers.specs.Faulting.{IsOfRun, IsFault};
 
-use crate::crew::Crew;
 use crate::finishing::finish;
 use crate::gate::Gate;
 use crate::job::{Job, jobs_of};
 use crate::opening::opened;
+use crate::run_state::RunState;
 use grant_policy::Ranking;
 use operator_book::BookFault;
 use plant::Plant;
 use plant_core::CoreFault;
-use plant_receipts::{RunFault, Settled};
-use plant_runs::Step;
-use plant_walks::{before_reslice, first_spent, first_unserved};
+use run_model::Step;
+use run_plan::{before_reslice, first_spent, first_unserved};
+use run_receipts::{RunFault, Settled};
 use std::alloc::Global;
 use std::sync::Wait;
 use std::thread::Threads;
@@ -39,27 +39,33 @@ fn run_steps<R: Threads + Wait + Sync, G: Gate<R> + Sync>(
     rt: &R,
     alloc: Global,
     plant: &Plant,
-    crew: Crew,
+    run_state: RunState,
     steps: &[Step],
     jobs: &[Job],
     gate: &G,
     stacks: &[usize],
-) -> Result<Crew, RunFault>
+) -> Result<RunState, RunFault>
     ensures { IfErr result (IsOfRun plant.now steps.now) }
 {
-    let mut crew = crew;
+    let mut run_state = run_state;
     let mut begin = 0;
     for (at, step) in steps.iter().enumerate() {
         if let Step::Reslice { from: _, rows: _ } = step {
-            crew = match crew.run_piece(rt, alloc, between(jobs, begin, at), gate, stacks) {
-                Ok(crew) => crew,
+            run_state = match run_state.run_piece(
+                rt,
+                alloc,
+                between(jobs, begin, at),
+                gate,
+                stacks,
+            ) {
+                Ok(run_state) => run_state,
                 Err(fault) => return Err(fault),
             };
-            crew.reslice_at(alloc, plant, steps, at)?;
+            run_state.reslice_at(alloc, plant, steps, at)?;
             begin = at + 1;
         }
     }
-    crew.run_piece(rt, alloc, between(jobs, begin, jobs.len()), gate, stacks)
+    run_state.run_piece(rt, alloc, between(jobs, begin, jobs.len()), gate, stacks)
 }
 
 /// Does steps each of which finds what it asks for.
@@ -78,10 +84,19 @@ fn run_served<R: Threads + Wait + Sync, G: Gate<R> + Sync>(
     ensures err { IfErr result (IsOfRun plant.now steps.now) }
 {
     let helds = opened(alloc, plant, rankings)?;
-    let crew = Crew::new(alloc, plant, helds)?;
+    let run_state = RunState::new(alloc, plant, helds)?;
     let jobs = jobs_of(alloc, plant, steps)?;
-    let crew = run_steps(rt, alloc, plant, crew, steps, jobs.as_slice(), gate, stacks)?;
-    finish(alloc, plant, crew, steps)
+    let run_state = run_steps(
+        rt,
+        alloc,
+        plant,
+        run_state,
+        steps,
+        jobs.as_slice(),
+        gate,
+        stacks,
+    )?;
+    finish(alloc, plant, run_state, steps)
 }
 
 /// Does steps, once it is known that each finds what it asks for.

@@ -1,20 +1,20 @@
 //! What the threads of a run share, and what each does with it.
 
 ghost use Rattle.std.specs.Prelude.{◌≡◌};
-ghost use Rattle.plant_receipts.specs.Callers.{caller_of};
+ghost use Rattle.run_receipts.specs.Callers.{caller_of};
 ghost use Rattle.plant_workers.specs.Parts.{caller_in, IsOfPart};
 
 use crate::gate::Gate;
 use crate::job::Job;
 use crate::part::Part;
-use crate::tale::{Refusal, Tale};
+use crate::thread_report::{Refusal, ThreadReport};
 use crate::threads::run_threads;
 use crate::turn::Turn;
+use cell_state::{CellFault, Held, Told};
 use operator_book::BookFault;
-use operator_machine::Action;
+use operator_model::Action;
 use plant::Op;
-use plant_outcomes::Assembly;
-use plant_turns::{CellFault, Held, Told};
+use run_audit::Assembly;
 use std::alloc::{AllocError, Global};
 use std::sync::{Condvar, Mutex, Wait};
 use std::thread::Threads;
@@ -146,14 +146,14 @@ impl<'a> Shared<'a> {
 pub(crate) trait Chores<R: Wait, G: Gate<R>> {
     /// What one thread does: its part of the jobs. Where one is refused all operators are stopped, so that no other thread
     /// waits for it.
-    fn run_part(&self, rt: &R, alloc: Global, gate: &G, part: Part) -> Tale;
+    fn run_part(&self, rt: &R, alloc: Global, gate: &G, part: Part) -> ThreadReport;
 
     /// Stops the turns of all operators.
     fn stop_all(&self, rt: &R);
 }
 
 impl<R: Wait, G: Gate<R>> Chores<R, G> for Shared<'_> {
-    fn run_part(&self, rt: &R, alloc: Global, gate: &G, part: Part) -> Tale {
+    fn run_part(&self, rt: &R, alloc: Global, gate: &G, part: Part) -> ThreadReport {
         let mut told = Vec::new(alloc);
         let refused = match self.do_jobs(rt, alloc, gate, part, &mut told) {
             Ok(()) => None,
@@ -162,7 +162,7 @@ impl<R: Wait, G: Gate<R>> Chores<R, G> for Shared<'_> {
                 Some(refusal)
             }
         };
-        Tale { told, refused }
+        ThreadReport { told, refused }
     }
 
     fn stop_all(&self, rt: &R) {
@@ -175,7 +175,7 @@ impl<R: Wait, G: Gate<R>> Chores<R, G> for Shared<'_> {
 }
 
 /// Runs each part of the jobs in a thread of its own, and joins them all. Where a thread cannot be made there are fewer
-/// tales than parts.
+/// thread_reports than parts.
 pub(crate) fn run_shared<R: Threads + Wait + Sync, G: Gate<R> + Sync>(
     rt: &R,
     alloc: Global,
@@ -186,7 +186,7 @@ pub(crate) fn run_shared<R: Threads + Wait + Sync, G: Gate<R> + Sync>(
     gate: &G,
     parts: &[Part],
     stacks: &[usize],
-) -> Result<Vec<Tale>, AllocError> {
+) -> Result<Vec<ThreadReport>, AllocError> {
     let shared = Shared {
         helds,
         changed,

@@ -3,7 +3,7 @@
 use crate::gate::Gate;
 use crate::part::Part;
 use crate::shared::Chores;
-use crate::tale::Tale;
+use crate::thread_report::ThreadReport;
 use std::alloc::{AllocError, Global};
 use std::sync::Wait;
 use std::thread;
@@ -21,7 +21,7 @@ fn stack_at(stacks: &[usize], place: usize) -> usize {
 }
 
 /// Runs each part in a thread of its own, and joins them all. Where a thread cannot be made all operators are stopped, and
-/// there are fewer tales than parts.
+/// there are fewer thread_reports than parts.
 pub(crate) fn run_threads<R: Threads + Wait + Sync, G: Gate<R> + Sync, C: Chores<R, G> + Sync>(
     rt: &R,
     alloc: Global,
@@ -29,13 +29,13 @@ pub(crate) fn run_threads<R: Threads + Wait + Sync, G: Gate<R> + Sync, C: Chores
     gate: &G,
     parts: &[Part],
     stacks: &[usize],
-) -> Result<Vec<Tale>, AllocError> {
+) -> Result<Vec<ThreadReport>, AllocError> {
     thread::scope(
         thread::scope_env(),
         rt,
-        |scope| -> Result<Vec<Tale>, AllocError> {
+        |scope| -> Result<Vec<ThreadReport>, AllocError> {
             let mut handles = Vec::with_capacity(alloc, parts.len())?;
-            let mut tales = Vec::with_capacity(alloc, parts.len())?;
+            let mut thread_reports = Vec::with_capacity(alloc, parts.len())?;
             for (place, part) in parts.iter().enumerate() {
                 let part = *part;
                 let made = Builder::new()
@@ -50,9 +50,9 @@ pub(crate) fn run_threads<R: Threads + Wait + Sync, G: Gate<R> + Sync, C: Chores
                 }
             }
             for handle in handles {
-                tales.push(handle.join(rt))?;
+                thread_reports.push(handle.join(rt))?;
             }
-            Ok(tales)
+            Ok(thread_reports)
         },
     )
 }

@@ -1,13 +1,13 @@
 //! What is done under an operator's lock.
 
 ghost use Rattle.std.specs.Prelude.{◌≡◌, IfOk, IfErr};
-ghost use Rattle.plant_turns.specs.Telling.{IsOfBook, IsOfTurn, IsOfTaking};
+ghost use Rattle.cell_state.specs.Telling.{IsOfBook, IsOfTurn, IsOfTaking};
 
 use crate::gate::Gate;
-use operator_machine::Action;
+use cell_state::{CellFault, Held};
+use operator_model::Action;
 use plant::Op;
-use plant_receipts::Receipt;
-use plant_turns::{CellFault, Held};
+use run_receipts::Receipt;
 use slice_scheduler::Elements;
 use std::alloc::{AllocError, Global};
 use std::sync::{Condvar, Mutex, MutexGuard, Wait};

@@ -4,8 +4,8 @@ use Rattle.std.specs.Str.{bytes_eq}
 use Rattle.dsx_messages.specs.declared.kind.Kind.{Kind}
 use Rattle.dsx_messages.specs.declared.kind.Kind.TheVariants.{Dsa, Dsc, Dsd}
 use Rattle.dsx_messages.specs.declared.modem.Modem.{Modem}
-use Rattle.transactions.specs.declared.entry.Standing.{Standing}
-use Rattle.transactions.specs.declared.entry.Standing.TheVariants.{Waiting, Held}
+use Rattle.transactions.specs.declared.entry.ResponseState.{ResponseState}
+use Rattle.transactions.specs.declared.entry.ResponseState.TheVariants.{Waiting, Held}
 use Rattle.transactions.specs.declared.entry.KeptEntry.{KeptEntry}
 
 -- own: whether two kinds are the same
@@ -19,7 +19,7 @@ same_kind a b = false
 abbrev pub is_waiting : KeptEntry → Bool
 is_waiting e = waits e.standing
   where
-    waits : Standing → Bool
+    waits : ResponseState → Bool
     waits Waiting = true
     waits Held = false
 

@@ -2,7 +2,7 @@
 use Rattle.std.specs.Prelude.{◌≡◌, ℕ, ◌≤◌, Bool, false, if◌then◌else◌, List, length, All, count_by}
 use Rattle.dsx_messages.specs.declared.kind.Kind.{Kind}
 use Rattle.dsx_messages.specs.declared.modem.Modem.{Modem}
-use Rattle.transactions.specs.declared.entry.Standing.TheVariants.{Waiting, Held}
+use Rattle.transactions.specs.declared.entry.ResponseState.TheVariants.{Waiting, Held}
 use Rattle.transactions.specs.declared.entry.KeptEntry.{KeptEntry}
 use Rattle.transactions.specs.Waits.{Waits, IsLasting}
 use Rattle.transactions.specs.Entry.{is_waiting, is_of, waits_for}

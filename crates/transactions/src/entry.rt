@@ -12,7 +12,7 @@ use tlv24::Bytes;
 
 /// Whether a response waits for its acknowledgement.
 #[derive(Clone, Copy, Debug, PartialEq, Eq)]
-pub enum Standing {
+pub enum ResponseState {
     /// It waits, and is sent again in the meantime.
     Waiting,
     /// It waits for nothing, and is held for a request that is repeated.
@@ -33,7 +33,7 @@ pub struct KeptEntry {
     /// The SFID of the flow that the transaction is about.
     pub sfid: u32,
     /// Whether the response waits for its acknowledgement.
-    pub standing: Standing,
+    pub standing: ResponseState,
     /// How many ticks are left until the timer acts.
     pub ticks_left: u16,
     /// How often the response may still be sent again.
@@ -55,12 +55,12 @@ impl KeptEntry {
     {
         let (standing, ticks_left, resends_left) = if waits {
             (
-                Standing::Waiting,
+                ResponseState::Waiting,
                 timers.get_ack_wait(),
                 timers.get_resends(),
             )
         } else {
-            (Standing::Held, timers.get_hold(), 0)
+            (ResponseState::Held, timers.get_hold(), 0)
         };
         KeptEntry {
             modem,
@@ -101,7 +101,7 @@ impl KeptEntry {
     pub(crate) fn waits_for(&self, modem: Modem, tid: u16, kind: Kind) -> bool
         ensures { result ≡ waits_for modem tid kind self.now }
     {
-        self.is_of(modem, tid) && self.standing == Standing::Waiting && self.kind == kind
+        self.is_of(modem, tid) && self.standing == ResponseState::Waiting && self.kind == kind
     }
 
     /// Whether the next tick ends its time.
@@ -115,21 +115,21 @@ impl KeptEntry {
     pub(crate) fn is_resent(&self) -> bool
         ensures { result ≡ is_resent self.now }
     {
-        self.is_due() && self.standing == Standing::Waiting && self.resends_left > 0
+        self.is_due() && self.standing == ResponseState::Waiting && self.resends_left > 0
     }
 
     /// Whether the next tick gives it up.
     pub(crate) fn is_given_up(&self) -> bool
         ensures { result ≡ is_given_up self.now }
     {
-        self.is_due() && self.standing == Standing::Waiting && self.resends_left == 0
+        self.is_due() && self.standing == ResponseState::Waiting && self.resends_left == 0
     }
 
     /// Whether the next tick forgets it: it is given up, or its last tick as a held entry ends.
     pub(crate) fn is_forgotten(&self) -> bool
         ensures { result ≡ is_forgotten self.now }
     {
-        self.is_given_up() || self.is_due() && self.standing == Standing::Held
+        self.is_given_up() || self.is_due() && self.standing == ResponseState::Held
     }
 
     /// Counts one tick down, and where the response is sent again, begins the next wait. Answers whether the entry stays.
@@ -151,7 +151,7 @@ impl KeptEntry {
     pub(crate) fn hold(&mut self, timers: Timers)
         ensures { self.new ≡ held_entry timers self.old }
     {
-        self.standing = Standing::Held;
+        self.standing = ResponseState::Held;
         self.ticks_left = timers.get_hold();
         self.resends_left = 0;
     }

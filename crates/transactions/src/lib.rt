@@ -7,7 +7,7 @@ mod life;
 mod tick;
 mod timers;
 
-pub use entry::{KeptEntry, Standing};
+pub use entry::{KeptEntry, ResponseState};
 pub use kept::{Kept, KeptFault};
 pub use life::timers_keep_time;
 pub use tick::{GivenUp, GivenUps, Resend, Resends, Ticked};

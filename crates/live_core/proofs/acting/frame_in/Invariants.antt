@@ -1,7 +1,7 @@
 use Rattle.std.proofs.Common.{◌≡◌, length}
 use Rattle.std.specs.Prelude.{slice_get}
 use Rattle.std.specs.Vec.Iter.{into_iter_items, into_iter_len}
-use Rattle.plant_runs.specs.Reached.{frames_of}
+use Rattle.run_model.specs.IsStateAfter.{frames_of}
 use Rattle.live_core.proofs.acting.frame_in.Given as goal
 
 abbrev pub invariant-loop-output : goal.invariant-loop-output

@@ -1,6 +1,6 @@
 use Rattle.live_core.specs.DeskView.{book_at, waiting_at}
 use Rattle.plant_core.proofs.GiveLemmas.{HaveTakenSoFar}
-use Rattle.operator_machine.specs.declared.action.Action.TheVariants as actions
+use Rattle.operator_model.specs.declared.action.Action.TheVariants as actions
 use Rattle.live_core.specs.GoingOn.{went}
 use Rattle.live_core.proofs.giving.give.Given as goal
 

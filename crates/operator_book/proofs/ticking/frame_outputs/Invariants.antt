@@ -1,6 +1,6 @@
 use Rattle.std.proofs.Common.{◌≡◌, ◌≤◌, ◌+◌, ◌++◌, map, length}
 use Rattle.std.specs.Prelude.{vec_len, vec_capacity}
-use Rattle.operator_machine.specs.Frame.{resent}
+use Rattle.operator_model.specs.Frame.{resent}
 use Rattle.operator_book.proofs.ticking.frame_outputs.Given as goal
 
 abbrev pub invariant-loop-resend : goal.invariant-loop-resend

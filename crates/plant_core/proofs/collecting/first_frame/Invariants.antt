@@ -1,5 +1,5 @@
 use Rattle.std.proofs.Common.{◌≡◌, drop}
-use Rattle.plant_runs.specs.Reached.{frames_of}
+use Rattle.run_model.specs.IsStateAfter.{frames_of}
 use Rattle.plant_core.proofs.collecting.first_frame.Given as goal
 
 abbrev pub invariant-loop-output : goal.invariant-loop-output

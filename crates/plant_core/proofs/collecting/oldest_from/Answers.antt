@@ -1,8 +1,8 @@
 use Rattle.std.proofs.Common.{◌≡◌, ◌∙◌, sym, ap, get_or, None, Some, List, arith}
 use Rattle.std.specs.Prelude.{slice_get}
-use Rattle.operator_machine.specs.declared.action.Entry.{Entry}
-use Rattle.operator_machine.specs.declared.output.Output.{Output}
-use Rattle.plant_runs.specs.Reached.{frames_of}
+use Rattle.operator_model.specs.declared.action.Entry.{Entry}
+use Rattle.operator_model.specs.declared.output.Output.{Output}
+use Rattle.run_model.specs.IsStateAfter.{frames_of}
 use Rattle.plant_core.specs.Waiting.{waiting_in}
 use Rattle.plant_core.proofs.WaitingLemmas.{none_here, one_here, some_here, on_err}
 use Rattle.plant_core.proofs.collecting.oldest_from.Goals as goal

@@ -2,8 +2,8 @@ use Rattle.std.proofs.Common.{arith}
 use Rattle.std.proofs.lemmas.Option.{slice_get-get_or}
 use Rattle.plant_core.specs.DeskView.{book_at, waiting_at}
 use Rattle.plant_core.proofs.GiveLemmas.{one_more_taken, all_taken}
-use Rattle.operator_machine.specs.declared.action.Action.TheVariants as actions
-use Rattle.operator_machine.specs.Replay.{acted}
+use Rattle.operator_model.specs.declared.action.Action.TheVariants as actions
+use Rattle.operator_model.specs.Replay.{acted}
 use Rattle.plant_core.proofs.giving.give.Goals as goal
 
 pub loop-op-preserved : goal.loop-op-preserved

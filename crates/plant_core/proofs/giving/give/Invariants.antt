@@ -1,7 +1,7 @@
 use Rattle.plant_core.specs.DeskView.{book_at, waiting_at}
 use Rattle.plant_core.proofs.GiveLemmas.{HaveTakenSoFar}
-use Rattle.operator_machine.specs.declared.action.Action.TheVariants as actions
-use Rattle.operator_machine.specs.Replay.{acted}
+use Rattle.operator_model.specs.declared.action.Action.TheVariants as actions
+use Rattle.operator_model.specs.Replay.{acted}
 use Rattle.plant_core.proofs.giving.give.Given as goal
 
 abbrev pub invariant-loop-op : goal.invariant-loop-op

@@ -1,5 +1,5 @@
 use Rattle.std.proofs.Common.{◌≡◌, map, take}
-use Rattle.plant_runs.specs.OwnSteps.{slice_of}
+use Rattle.run_model.specs.OwnSteps.{slice_of}
 use Rattle.plant_core.proofs.giving.slices_of.Given as goal
 
 abbrev pub invariant-loop-row : goal.invariant-loop-row

@@ -1,6 +1,6 @@
 use Rattle.std.proofs.Common.{◌≡◌, ◌+◌, ◌≤◌, ◌++◌, length, vec_len, vec_capacity}
 use Rattle.std.specs.Vec.Iter.{into_iter_items, into_iter_len}
-use Rattle.plant_runs.specs.OwnSteps.{under}
+use Rattle.run_model.specs.OwnSteps.{under}
 use Rattle.plant_core.proofs.stepping.append.Given as goal
 
 abbrev pub invariant-loop-output : goal.invariant-loop-output

@@ -1,5 +1,5 @@
 use Rattle.std.proofs.Common.{rules, ◌≡◌, ◌<◌, ℕ, true, [], ◌∷◌, ◌++◌, sym, ap, ◌∙◌, refl, subst}
-use Rattle.operator_machine.specs.Machine.{is_spent}
+use Rattle.operator_model.specs.Machine.{is_spent}
 use Rattle.plant_passes.specs.Runs.{state_after}
 use Rattle.plant_passes.specs.Words.{entries, entry_of}
 use Rattle.plant_passes.specs.Steps.{Looks, shut_by}

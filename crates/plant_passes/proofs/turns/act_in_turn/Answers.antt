@@ -1,5 +1,5 @@
 use Rattle.std.proofs.Common.{rules, ◌∷◌, [], Some, sym, ap, ◌∙◌, subst}
-use Rattle.operator_machine.specs.Replay.{BookView, acted}
+use Rattle.operator_model.specs.Replay.{BookView, acted}
 use Rattle.operator_book.specs.OfBook.{outputs_of}
 use Rattle.plant_passes.specs.Runs.{origin_of, IsRun}
 use Rattle.plant_passes.proofs.Acting.{one_held, taken_out, if_ok, on_err, acted_in_hand, unchanged_in_hand, no_stranger, no_misfit}

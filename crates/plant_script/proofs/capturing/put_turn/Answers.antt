@@ -1,4 +1,4 @@
-use Rattle.plant_capture.proofs.RunLemmas.{step_run}
+use Rattle.pcap_capture.proofs.RunLemmas.{step_run}
 use Rattle.plant_script.proofs.capturing.put_turn.Goals as goal
 
 pub returns : goal.returns

@@ -1,8 +1,8 @@
 use Rattle.std.proofs.Common.{arith}
 use Rattle.plant_core.specs.CoreView.{core_view}
 use Rattle.plant_core.specs.Faults.{step_fault}
-use Rattle.plant_lines.proofs.Outcomes.{if_ok}
-use Rattle.plant_service.proofs.StepLemmas.{fault_is_told}
+use Rattle.script_format.proofs.Outcomes.{if_ok}
+use Rattle.line_service.proofs.StepLemmas.{fault_is_told}
 use Rattle.plant_script.proofs.CaptureRuns.{none_captured, captured_more, all_captured, captured_refused}
 use Rattle.plant_script.proofs.capturing.run_captured.Goals as goal
 

@@ -1,7 +1,7 @@
 use Rattle.std.proofs.Common.{map, ap, ◌∙◌}
 use Rattle.operator_book.specs.ViewOf.{view_of}
-use Rattle.plant_lines.specs.Script.{unnumbered}
-use Rattle.plant_lines.proofs.Outcomes.{if_ok}
+use Rattle.script_format.specs.Script.{unnumbered}
+use Rattle.script_format.proofs.Outcomes.{if_ok}
 use Rattle.plant_script.proofs.Telling.{settled_run, fault_run}
 use Rattle.plant_script.proofs.on_threads.answer_of_threads.Goals as goal
 

@@ -1,8 +1,8 @@
 use Rattle.std.proofs.Common.{◌++◌, ◌+◌, drop, map}
 use Rattle.std.specs.String.{string_bytes}
 use Rattle.operator_book.specs.ViewOf.{view_of}
-use Rattle.plant_outcomes.specs.Outs.{outs_from}
-use Rattle.plant_lines.specs.Text.{outs_text}
+use Rattle.run_audit.specs.Outs.{outs_from}
+use Rattle.script_format.specs.Text.{outs_text}
 use Rattle.plant_script.proofs.Telling.{books_more, map_left}
 use Rattle.plant_script.proofs.on_threads.put_books.Goals as goal
 

@@ -2,8 +2,8 @@ use Rattle.std.proofs.Common.{◌++◌}
 use Rattle.std.specs.Prelude.{slice_get}
 use Rattle.std.specs.List.{flat_map}
 use Rattle.std.specs.String.{string_bytes}
-use Rattle.plant_receipts.specs.OwnParts.{outputs_of}
-use Rattle.plant_lines.specs.Text.{named, output_line}
+use Rattle.run_receipts.specs.OwnParts.{outputs_of}
+use Rattle.script_format.specs.Text.{named, output_line}
 use Rattle.plant_script.proofs.Telling.{entries_more}
 use Rattle.plant_script.proofs.on_threads.put_history.Goals as goal
 

@@ -2,7 +2,7 @@ use Rattle.std.proofs.Common.{◌≡◌, ◌++◌, take}
 use Rattle.std.specs.Prelude.{slice_get}
 use Rattle.std.specs.List.{flat_map}
 use Rattle.std.specs.String.{string_bytes}
-use Rattle.plant_lines.specs.Text.{named, output_line}
+use Rattle.script_format.specs.Text.{named, output_line}
 use Rattle.plant_script.proofs.on_threads.put_outputs.Given as goal
 
 abbrev pub invariant-loop-output : goal.invariant-loop-output

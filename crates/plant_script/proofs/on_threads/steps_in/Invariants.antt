@@ -1,5 +1,5 @@
 use Rattle.std.proofs.Common.{◌≡◌, take}
-use Rattle.plant_lines.specs.Script.{unnumbered}
+use Rattle.script_format.specs.Script.{unnumbered}
 use Rattle.plant_script.proofs.on_threads.steps_in.Given as goal
 
 abbrev pub invariant-loop-line : goal.invariant-loop-line

@@ -1,7 +1,7 @@
 use Rattle.std.proofs.Common.{◌≡◌, Option, Some, None, Err, ap, ◌∙◌}
 use Rattle.plant.specs.declared.operator_row.RowFields.{RowFields}
 use Rattle.plant.specs.declared.consts.ConstsFields.{ConstsFields}
-use Rattle.operator_machine.specs.Machine.{stranger_of, unfit_of}
+use Rattle.operator_model.specs.Machine.{stranger_of, unfit_of}
 use Rattle.operator_book.specs.ViewOf.{view_of}
 use Rattle.plant_script.proofs.one.put_action.Goals as goal
 

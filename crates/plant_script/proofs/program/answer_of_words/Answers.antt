@@ -1,7 +1,7 @@
 use Rattle.std.proofs.Common.{◌≡◌, ℕ, Ok, refl, subst}
 use Rattle.clap.specs.Walk.{texts}
-use Rattle.plant_words.specs.Order.{order_of}
-use Rattle.plant_words.specs.CommandLine.{GivesHelp, GivesWrong}
+use Rattle.command_line.specs.Order.{order_of}
+use Rattle.command_line.specs.CommandLine.{GivesHelp, GivesWrong}
 use Rattle.std.specs.Io.KnownBytes.{Appends}
 use Rattle.plant_script.specs.Run.{memory_line}
 use Rattle.plant_script.proofs.Tasks.{same_order, stop_has_status, stop_wants, task_served, task_wants, told_alone}

@@ -2,7 +2,7 @@ use Rattle.std.proofs.Common.{◌≡◌, ℕ, ◌++◌, List, subst, ap, ◌∙�
 use Rattle.std.specs.Prelude.{slice_get}
 use Rattle.std.specs.String.{string_bytes}
 use Rattle.plant_core.specs.CoreView.{core_view}
-use Rattle.plant_lines.proofs.Outcomes.{if_ok}
+use Rattle.script_format.proofs.Outcomes.{if_ok}
 use Rattle.plant_script.specs.Task.{IsEnded}
 use Rattle.plant_script.specs.Done.{book_text}
 use Rattle.plant_script.proofs.StepRuns.{history_written}

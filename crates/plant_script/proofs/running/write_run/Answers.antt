@@ -1,6 +1,6 @@
 use Rattle.std.proofs.Common.{[]}
 use Rattle.std.proofs.KnownBytes.{Appends-kept}
-use Rattle.plant_runs.specs.Starts.{first_start}
+use Rattle.run_model.specs.Starts.{first_start}
 use Rattle.live_core.specs.LiveView.{live_view}
 use Rattle.plant_script.proofs.LiveRuns.{run_ends}
 use Rattle.plant_script.proofs.running.write_run.Goals as goal

@@ -1,7 +1,7 @@
 use Rattle.std.proofs.Common.{◌≡◌, ℕ, Option, Some, sym, subst}
 use Rattle.std.specs.List.{position_from}
-use Rattle.plant_lines.specs.Script.{is_named, steps_of}
-use Rattle.plant_lines.proofs.Outcomes.{if_ok}
+use Rattle.script_format.specs.Script.{is_named, steps_of}
+use Rattle.script_format.proofs.Outcomes.{if_ok}
 use Rattle.plant_script.specs.Task.{Comes}
 use Rattle.plant_script.specs.Words.{AnswersOperator}
 use Rattle.plant_script.proofs.Tasks.{found_at, comes_of_operator}

@@ -1,6 +1,6 @@
 use Rattle.std.proofs.Common.{length, map, ap, arith}
 use Rattle.std.proofs.lemmas.List.{length-map}
-use Rattle.plant_turns.specs.HeldView.{book_of}
+use Rattle.cell_state.specs.HeldView.{book_of}
 use Rattle.plant_workers.proofs.following.fault_of_reslice.Goals as goal
 
 pub returns-in-None : goal.returns-in-None

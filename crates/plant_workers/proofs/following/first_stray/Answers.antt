@@ -2,10 +2,10 @@ use Rattle.std.proofs.Common.{◌≡◌, Some, arith}
 use Rattle.std.specs.Prelude.{slice_get}
 use Rattle.std.proofs.lemmas.Option.{slice_get_within}
 use Rattle.plant.specs.declared.operator_row.RowFields.{RowFields}
-use Rattle.plant_turns.specs.HeldView.{book_of}
-use Rattle.plant_runs.specs.Reached.{IsBookAfter}
-use Rattle.plant_runs.proofs.Entries.{some_at}
-use Rattle.plant_outcomes.proofs.Least.{next_place, map_there}
+use Rattle.cell_state.specs.HeldView.{book_of}
+use Rattle.run_model.specs.IsStateAfter.{IsBookAfter}
+use Rattle.run_model.proofs.Entries.{some_at}
+use Rattle.run_audit.proofs.Least.{next_place, map_there}
 use Rattle.plant_workers.proofs.following.first_stray.Goals as goal
 
 pub returns-in-Some : goal.returns-in-Some

@@ -1,9 +1,9 @@
 use Rattle.std.proofs.Common.{◌≡◌, ℕ, ◌<◌, map, Some}
 use Rattle.std.specs.Prelude.{slice_get}
 use Rattle.plant.specs.declared.operator_row.RowFields.{RowFields}
-use Rattle.operator_machine.specs.Replay.{BookView}
-use Rattle.plant_turns.specs.HeldView.{book_of}
-use Rattle.plant_runs.specs.Reached.{IsBookAfter}
+use Rattle.operator_model.specs.Replay.{BookView}
+use Rattle.cell_state.specs.HeldView.{book_of}
+use Rattle.run_model.specs.IsStateAfter.{IsBookAfter}
 use Rattle.plant_workers.proofs.following.first_stray.Given as goal
 
 abbrev pub invariant-loop-op : goal.invariant-loop-op

@@ -1,6 +1,6 @@
 use Rattle.std.proofs.Common.{List, ◌++◌, ap, ◌∙◌}
-use Rattle.plant_runs.specs.declared.step.Out.{Out}
-use Rattle.plant_runs.specs.Steps.{told_map}
+use Rattle.run_model.specs.declared.step.Out.{Out}
+use Rattle.run_model.specs.Steps.{told_map}
 use Rattle.plant_core.proofs.StepLemmas.{waits_in_front}
 use Rattle.live_core.proofs.DeskLemmas.{some_wait, waits_at_all}
 use Rattle.live_core.proofs.desk.LiveDesk.collect_into.Goals as goal

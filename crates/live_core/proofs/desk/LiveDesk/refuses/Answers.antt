@@ -1,5 +1,5 @@
 use Rattle.std.proofs.Common.{◌∙◌, refl, sym, ap, Option}
-use Rattle.operator_machine.specs.declared.action.Unfit.{Unfit}
+use Rattle.operator_model.specs.declared.action.Unfit.{Unfit}
 use Rattle.plant_core.specs.Reslicing.{is_unfit}
 use Rattle.plant_core.proofs.OfferLemmas.{taken}
 use Rattle.live_core.proofs.desk.LiveDesk.refuses.Goals as goal

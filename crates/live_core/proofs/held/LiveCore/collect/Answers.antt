@@ -1,6 +1,6 @@
 use Rattle.std.proofs.Common.{◌∙◌, refl, ap, Err}
-use Rattle.plant_runs.specs.declared.step.Step.TheVariants as steps
-use Rattle.plant_runs.specs.Steps.{told_map}
+use Rattle.run_model.specs.declared.step.Step.TheVariants as steps
+use Rattle.run_model.specs.Steps.{told_map}
 use Rattle.plant_core.specs.Faults.{collect_fault}
 use Rattle.plant_core.proofs.PlaceLemmas.{seen_at}
 use Rattle.plant_core.proofs.StepLemmas.{collect_told}

@@ -2,7 +2,7 @@ use Rattle.std.proofs.Common.{[], List, refl, sym, subst}
 use Rattle.slice_scheduler.specs.Minislots.{Minislots}
 use Rattle.map_assembly.specs.Gathering.{Gathering, MayReslice, resliced}
 use Rattle.map_assembly.specs.LettingGo.{GoesOnAlike}
-use Rattle.plant_runs.specs.declared.step.Step.TheVariants as steps
+use Rattle.run_model.specs.declared.step.Step.TheVariants as steps
 use Rattle.plant_core.proofs.FreeLemmas.{are_free}
 use Rattle.plant_core.proofs.ResliceLemmas.{are_slices}
 use Rattle.live_core.proofs.GoLemmas.{may_take, reslices_on, stepped_on}

@@ -1,7 +1,7 @@
 use Rattle.std.proofs.Common.{ℕ, List, map, ap, ap₂, ◌∙◌}
 use Rattle.plant.specs.declared.consts.ConstsFields.{ConstsFields}
 use Rattle.plant.specs.declared.operator_row.RowFields.{RowFields}
-use Rattle.plant_runs.specs.Opened.{started_core}
+use Rattle.run_model.specs.Opened.{started_core}
 use Rattle.live_core.specs.LiveOperator.{sound_of}
 use Rattle.live_core.specs.LiveView.{live_view}
 use Rattle.live_core.specs.Resumed.{start_with}

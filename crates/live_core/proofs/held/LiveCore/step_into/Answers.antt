@@ -1,8 +1,8 @@
 use Rattle.std.proofs.Common.{[], List, append-nil, refl, sym, subst}
 use Rattle.std.proofs.lemmas.Result.{on_ok_weaker}
-use Rattle.operator_machine.specs.declared.action.SliceRow.{SliceRow}
-use Rattle.plant_runs.specs.declared.step.Step.TheVariants as steps
-use Rattle.plant_runs.specs.Steps.{Reslices}
+use Rattle.operator_model.specs.declared.action.SliceRow.{SliceRow}
+use Rattle.run_model.specs.declared.step.Step.TheVariants as steps
+use Rattle.run_model.specs.Steps.{Reslices}
 use Rattle.live_core.specs.GoingOn.{GoesOn}
 use Rattle.live_core.specs.LiveView.{live_view}
 use Rattle.live_core.proofs.PartLemmas.{step_is}

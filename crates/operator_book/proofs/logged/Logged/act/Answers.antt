@@ -1,7 +1,7 @@
-use Rattle.operator_machine.specs.State.{operator}
+use Rattle.operator_model.specs.State.{operator}
 use Rattle.std.proofs.Common.{refl, sym, ap, subst, ◌∙◌}
-use Rattle.operator_machine.specs.Machine.{IsAllowed}
-use Rattle.operator_machine.specs.Replay.{BookView}
+use Rattle.operator_model.specs.Machine.{IsAllowed}
+use Rattle.operator_model.specs.Replay.{BookView}
 use Rattle.operator_book.specs.Kept.{HeldBook}
 use Rattle.operator_book.proofs.Replays.{replay_push}
 use Rattle.operator_book.proofs.logged.Logged.act.Goals as goal

@@ -1,5 +1,5 @@
 use Rattle.std.proofs.Common.{rules}
-use Rattle.operator_machine.specs.Verdict.{changed_flow}
+use Rattle.operator_model.specs.Verdict.{changed_flow}
 use Rattle.std.specs.Prelude.{Some, true, false}
 use Rattle.operator_book.specs.Held.{table_of}
 use Rattle.operator_book.proofs.Room.{same_may_stand, given_may_stand}

@@ -1,7 +1,7 @@
-use Rattle.operator_machine.specs.State.{Operator}
+use Rattle.operator_model.specs.State.{Operator}
 use Rattle.std.proofs.Common.{ℕ, ◌+◌, List, drop, ap, sym, ◌∙◌}
 use Rattle.std.proofs.lemmas.List.{at_drop_more}
-use Rattle.operator_machine.specs.Frame.{all_granted}
+use Rattle.operator_model.specs.Frame.{all_granted}
 use Rattle.operator_book.proofs.machine.Machine.grant_all.Goals as goal
 
 abbrev after : ℕ → List (ℕ × ℕ) → Operator → Operator

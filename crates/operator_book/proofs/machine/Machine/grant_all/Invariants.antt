@@ -1,5 +1,5 @@
 use Rattle.std.proofs.Common.{◌≡◌, drop}
-use Rattle.operator_machine.specs.Frame.{all_granted}
+use Rattle.operator_model.specs.Frame.{all_granted}
 use Rattle.operator_book.proofs.machine.Machine.grant_all.Given as goal
 
 abbrev pub invariant-loop-granted : goal.invariant-loop-granted

@@ -1,7 +1,7 @@
 use Rattle.std.proofs.Common.{◌≡◌, rules, sym, ◌∙◌}
 use Rattle.slice_scheduler.specs.declared.flowing.At.{At}
 use Rattle.flow_table.specs.Table.{flowing_in}
-use Rattle.operator_machine.specs.Frame.{at_frame, flows_left}
+use Rattle.operator_model.specs.Frame.{at_frame, flows_left}
 use Rattle.operator_book.proofs.Serving.{same_elements, same_grants}
 use Rattle.operator_book.proofs.machine.Machine.served.Goals as goal
 

@@ -1,5 +1,5 @@
 use Rattle.std.proofs.Common.{◌≡◌, drop}
-use Rattle.operator_machine.specs.Frame.{all_undone}
+use Rattle.operator_model.specs.Frame.{all_undone}
 use Rattle.operator_book.proofs.machine.Machine.undo_all.Given as goal
 
 abbrev pub invariant-loop-gone : goal.invariant-loop-gone

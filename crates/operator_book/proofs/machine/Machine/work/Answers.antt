@@ -1,10 +1,10 @@
-use Rattle.operator_machine.specs.State.{Operator}
+use Rattle.operator_model.specs.State.{Operator}
 use Rattle.std.proofs.Common.{◌≡◌, rules, refl, ap, ◌∙◌}
 use Rattle.std.specs.Prelude.{Some, drop, length, slice_get}
 use Rattle.std.proofs.lemmas.Option.{slice_get_read}
 use Rattle.dsx_messages.specs.Reading.{message_of}
-use Rattle.operator_machine.specs.declared.heard.Heard.TheVariants as heards
-use Rattle.operator_machine.specs.Handle.{Ran}
+use Rattle.operator_model.specs.declared.heard.Heard.TheVariants as heards
+use Rattle.operator_model.specs.Handle.{StepResult}
 use Rattle.operator_book.specs.Held.{with_state}
 use Rattle.operator_book.proofs.Inbox.{worked_is}
 use Rattle.operator_book.proofs.machine.Machine.work.Goals as goal
@@ -19,7 +19,7 @@ returns-in_ok-both-in-Message c =
     let is = worked_is c.args.self.now c.in-Some.first.now (heards.Message c.in-Message.bytes) first (search rules) in
     record {
       state = c.take_first.ensures ∙ ap without_first done.state ∙ ap (with_state c.args.self.now) is;
-      outputs = done.outputs ∙ ap (λ (r : Ran). r.outputs) is;
+      outputs = done.outputs ∙ ap (λ (r : StepResult). r.outputs) is;
       twice = done.twice;
       err = tt;
     }
@@ -31,7 +31,7 @@ returns-in_ok-both-in-Request c =
     let is = worked_is c.args.self.now c.in-Some.first.now (heards.Request c.in-Request.sid c.in-Request.minislots) first (search rules) in
     record {
       state = c.take_first-in-Request.ensures ∙ ap without_first done.state ∙ ap (with_state c.args.self.now) is;
-      outputs = done.outputs ∙ ap (λ (r : Ran). r.outputs) is;
+      outputs = done.outputs ∙ ap (λ (r : StepResult). r.outputs) is;
       twice = done.twice;
       err = tt;
     }

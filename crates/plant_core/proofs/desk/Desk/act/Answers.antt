@@ -1,6 +1,6 @@
 use Rattle.std.proofs.Common.{ap, ◌∙◌}
 use Rattle.std.proofs.lemmas.Result.{on_ok_weaker}
-use Rattle.operator_machine.specs.Replay.{BookView}
+use Rattle.operator_model.specs.Replay.{BookView}
 use Rattle.plant_core.specs.Waiting.{waiting_in}
 use Rattle.plant_core.proofs.WaitingLemmas.{waiting_acted}
 use Rattle.plant_core.proofs.desk.Desk.act.Goals as goal

@@ -1,6 +1,6 @@
 use Rattle.std.proofs.Common.{List, ◌++◌, ap, ◌∙◌}
-use Rattle.plant_runs.specs.declared.step.Out.{Out}
-use Rattle.plant_runs.specs.Steps.{told_map}
+use Rattle.run_model.specs.declared.step.Out.{Out}
+use Rattle.run_model.specs.Steps.{told_map}
 use Rattle.plant_core.proofs.WaitingLemmas.{oldest_front}
 use Rattle.plant_core.proofs.StepLemmas.{waits_in_front, fits_not, gather_told, refused_is}
 use Rattle.plant_core.proofs.desk.Desk.collect_into.Goals as goal

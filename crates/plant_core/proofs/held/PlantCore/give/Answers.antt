@@ -1,9 +1,9 @@
 use Rattle.std.proofs.Common.{[], List, refl, sym, ap, ◌∙◌, subst}
 use Rattle.slice_scheduler.specs.Minislots.{Minislots}
-use Rattle.operator_machine.specs.Replay.{BookView}
+use Rattle.operator_model.specs.Replay.{BookView}
 use Rattle.map_assembly.specs.Gathering.{MayReslice, resliced}
-use Rattle.plant_runs.specs.declared.step.Step.TheVariants as steps
-use Rattle.plant_runs.specs.Steps.{NoneRefuses}
+use Rattle.run_model.specs.declared.step.Step.TheVariants as steps
+use Rattle.run_model.specs.Steps.{NoneRefuses}
 use Rattle.plant_core.proofs.FreeLemmas.{are_free}
 use Rattle.plant_core.proofs.ReachLemmas.{stepped}
 use Rattle.plant_core.proofs.ResliceLemmas.{may_take, are_slices, alike, reslices_at}

@@ -1,5 +1,5 @@
 use Rattle.std.proofs.Common.{sym, ap, ◌∙◌, Some, option_map}
-use Rattle.operator_machine.specs.Replay.{BookView}
+use Rattle.operator_model.specs.Replay.{BookView}
 use Rattle.plant_core.specs.DeskView.{book_at}
 use Rattle.plant_core.proofs.PlaceLemmas.{seen_at}
 use Rattle.plant_core.proofs.held.PlantCore.history.Goals as goal

@@ -1,5 +1,5 @@
 use Rattle.std.proofs.Common.{refl}
-use Rattle.plant_runs.specs.declared.step.Step.TheVariants as steps
+use Rattle.run_model.specs.declared.step.Step.TheVariants as steps
 use Rattle.plant_core.proofs.held.PlantCore.step_copied.Goals as goal
 
 pub act_if-requires : goal.act_if-requires

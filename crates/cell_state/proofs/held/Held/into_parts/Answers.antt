@@ -1,0 +1,19 @@
+use Rattle.std.proofs.Common.{ap, take, ◌∙◌, List}
+use Rattle.std.specs.Prelude.{count_by}
+use Rattle.operator_model.specs.declared.action.Entry.{Entry}
+use Rattle.plant_core.proofs.WaitingLemmas.{replay_one}
+use Rattle.cell_state.specs.Taking.{has_frame}
+use Rattle.cell_state.proofs.TakeLemmas.{collected}
+use Rattle.cell_state.proofs.held.Held.into_parts.Goals as goal
+
+pub returns-clause-within : goal.returns-clause-within
+returns-clause-within g c =
+    let book = c.args.self.desk.book.kept.book in
+    (collected book.history c.args.self.desk.collected c.entries_with_frame-taken.result (replay_one book c.always_replayed.ensures)
+    (c.entries_with_frame-taken.ensures ∙ ap (λ (es : List Entry). count_by has_frame (take c.args.self.desk.collected es)) c.history.ensures)).0
+
+pub returns-clause-taken : goal.returns-clause-taken
+returns-clause-taken g c =
+    let book = c.args.self.desk.book.kept.book in
+    (collected book.history c.args.self.desk.collected c.entries_with_frame-taken.result (replay_one book c.always_replayed.ensures)
+    (c.entries_with_frame-taken.ensures ∙ ap (λ (es : List Entry). count_by has_frame (take c.args.self.desk.collected es)) c.history.ensures)).1

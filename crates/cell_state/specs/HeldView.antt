@@ -1,0 +1,18 @@
+-- What contracts see of what stands behind an operator's lock (own).
+use Rattle.std.specs.Prelude.{ℕ, List}
+use Rattle.slice_scheduler.specs.declared.elements.ElementsFields.{ElementsFields}
+use Rattle.operator_model.specs.Replay.{BookView}
+use Rattle.plant_core.specs.DeskView.{book_at, waiting_at}
+use Rattle.cell_state.specs.declared.held.Held.{Held}
+
+-- the book
+abbrev pub book_of : {D : Type 0} {F : D → Type 0} {m : _} → Held D F m → BookView
+book_of held = book_at held.desk
+
+-- the frames that wait
+abbrev pub waiting_of : {D : Type 0} {F : D → Type 0} {m : _} → Held D F m → List (ℕ × ElementsFields)
+waiting_of held = waiting_at held.desk
+
+-- how many entries more its history has room for
+abbrev pub room_of : {D : Type 0} {F : D → Type 0} {m : _} → Held D F m → ℕ
+room_of held = held.desk.book.kept.spare

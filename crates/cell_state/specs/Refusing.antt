@@ -1,0 +1,16 @@
+-- Why a book refuses an action, want of memory apart (own).
+use Rattle.std.specs.Prelude.{Option, Some, None, option_map, if◌then◌else◌}
+use Rattle.operator_model.specs.declared.action.Action.{Action}
+use Rattle.operator_model.specs.declared.action.Action.TheVariants.{Arrive, Work, Tick, Reslice}
+use Rattle.operator_model.specs.Machine.{is_spent}
+use Rattle.operator_model.specs.Replay.{BookView}
+use Rattle.operator_book.specs.OfBook.{stranger_of, unfit_from}
+use Rattle.operator_book.specs.declared.book.BookFault.{BookFault}
+use Rattle.operator_book.specs.declared.book.BookFault.TheVariants.{NotMine, FramesSpent, Unfit}
+
+-- the modem is another operator's, the frame numbers are spent, or the slice does not fit
+abbrev pub refusal_of : BookView → Action → Option BookFault
+refusal_of book (Arrive modem heard) = option_map (λ stranger. NotMine stranger) (stranger_of book (Arrive modem heard))
+refusal_of book Work = None
+refusal_of book Tick = if is_spent book.state Tick then Some FramesSpent else None
+refusal_of book (Reslice from row) = option_map (λ unfit. Unfit unfit) (unfit_from book from row)

@@ -1,0 +1,26 @@
+-- The frames of an operator that are taken, one by one (own).
+use Rattle.std.specs.Prelude.{◌≡◌, ℕ, Bool, true, false, nat_lt, List, [], ◌∷◌, count_by, Option, Some, None}
+use Rattle.slice_scheduler.specs.declared.elements.ElementsFields.{ElementsFields}
+use Rattle.operator_model.specs.declared.action.Entry.{Entry}
+use Rattle.operator_model.specs.declared.output.Output.{Output}
+use Rattle.operator_model.specs.declared.output.Output.TheVariants.{Reply, Silent, Frame}
+use Rattle.operator_model.specs.Replay.{BookView}
+use Rattle.plant_core.specs.Waiting.{frames_in}
+
+-- all frames of a book's history, each with its number
+abbrev pub frames_at : BookView → List (ℕ × ElementsFields)
+frames_at book = frames_in book.history
+
+-- the oldest frame that waited is taken, and the others wait still; none where none waited
+abbrev pub IsTaken : List (ℕ × ElementsFields) → List (ℕ × ElementsFields) → Option (ℕ × ElementsFields) → Type 0
+IsTaken before after None = (before ≡ []) × (after ≡ [])
+IsTaken before after (Some frame) = before ≡ frame ∷ after
+
+abbrev pub is_frame : Output → Bool
+is_frame (Reply modem bytes) = false
+is_frame (Silent modem cause) = false
+is_frame (Frame number elements) = true
+
+-- an entry put out a frame
+abbrev pub has_frame : Entry → Bool
+has_frame entry = nat_lt 0 (count_by is_frame entry.outputs)

@@ -1,0 +1,82 @@
+//! What stands behind an operator's lock.
+
+ghost use Rattle.std.specs.Prelude.{◌≡◌, ◌≢◌, ◌↔◌, ◌++◌, ◌≤◌, length, Some, Err, IfOk, OnOk, OnErr};
+ghost use Rattle.operator_model.specs.Replay.{acted};
+ghost use Rattle.operator_book.specs.OfBook.{outputs_of};
+ghost use Rattle.operator_book.specs.declared.book.BookFault.{BookFault};
+ghost use Rattle.run_model.specs.IsStateAfter.{frames_of};
+ghost use Rattle.cell_state.specs.HeldView.{book_of, waiting_of};
+ghost use Rattle.cell_state.specs.Receiving.{IsReceiptOf};
+ghost use Rattle.cell_state.specs.Refusing.{refusal_of};
+ghost use Rattle.cell_state.specs.Taking.{IsTaken};
+
+use crate::refusing::refusal_of;
+use operator_book::BookFault;
+use operator_model::{Action, Outputs};
+use plant_core::Desk;
+use run_receipts::Receipt;
+use slice_scheduler::Elements;
+use std::alloc::{AllocError, Global};
+
+/// What stands behind an operator's lock: its book with the frames that wait to be collected, and whether its turns have
+/// stopped. Whenever the lock is got, the book is the replay of its history (`Book::replay`), and the frames that wait
+/// are those behind a place of it.
+#[derive(Drop)]
+pub struct Held {
+    pub desk: Desk,
+    pub stopped: bool,
+}
+
+impl Held {
+    /// How many entries the history has.
+    pub fn count(&self) -> usize
+        ensures { result ≡ length (book_of self.now).history }
+    {
+        self.desk.book.history().len()
+    }
+
+    /// Does an action, and tells its caller. All memory is taken first.
+    pub fn act(&mut self, alloc: Global, action: Action) -> Result<Receipt, BookFault>
+        requires within { self.old.desk.collected ≤ length (book_of self.old).history }
+        ensures receipt { IfOk result (IsReceiptOf (book_of self.old) action) }
+        ensures book { OnOk result (book_of self.new ≡ acted (book_of self.old) action) }
+        ensures waiting { OnOk result (waiting_of self.new
+            ≡ waiting_of self.old ++ frames_of (outputs_of (book_of self.old) action)) }
+        ensures refused { (fault : BookFault) → fault ≢ BookFault.NoMemory
+            → (result ≡ Err fault) ↔ (refusal_of (book_of self.old) action ≡ Some fault) }
+        ensures same_book { OnErr result (book_of self.new ≡ book_of self.old) }
+        ensures same_waiting { OnErr result (waiting_of self.new ≡ waiting_of self.old) }
+        ensures stopped { self.new.stopped ≡ self.old.stopped }
+    {
+        if let Some(fault) = refusal_of(&self.desk.book, &action) {
+            return Err(fault);
+        }
+        let index = self.count();
+        let Ok(told) = action.copy(alloc) else {
+            return Err(BookFault::NoMemory);
+        };
+        match self.desk.act(alloc, action) {
+            Ok(outputs) => Ok(Receipt {
+                index,
+                action: told,
+                outputs: Outputs::from_vec(outputs),
+            }),
+            Err(_) => Err(BookFault::NoMemory),
+        }
+    }
+
+    /// Takes the oldest frame that waits, as a copy of what the history says; none where none waits.
+    pub fn collect(&mut self, alloc: Global) -> Result<Option<(u32, Elements)>, AllocError>
+        requires within { self.old.desk.collected ≤ length (book_of self.old).history }
+        ensures taken { IfOk result (IsTaken (waiting_of self.old) (waiting_of self.new)) }
+        ensures book { book_of self.new ≡ book_of self.old }
+        ensures stopped { self.new.stopped ≡ self.old.stopped }
+        ensures err { OnErr result (waiting_of self.new ≡ waiting_of self.old) }
+    {
+        let Some(oldest) = self.desk.oldest(alloc)? else {
+            return Ok(None);
+        };
+        self.desk.collected = oldest.behind;
+        Ok(Some((oldest.number, oldest.elements)))
+    }
+}

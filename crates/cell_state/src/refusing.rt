@@ -1,0 +1,36 @@
+//! Why a book refuses an action.
+
+ghost use Rattle.std.specs.Prelude.{◌≡◌};
+ghost use Rattle.operator_book.specs.ViewOf.{view_of};
+ghost use Rattle.cell_state.specs.Refusing.{refusal_of};
+
+use operator_book::{Book, BookFault};
+use operator_model::Action;
+use plant::is_listed;
+
+/// Why a book refuses an action, want of memory apart. Takes no memory.
+pub(crate) fn refusal_of(book: &Book, action: &Action) -> Option<BookFault>
+    ensures { result ≡ refusal_of (view_of book.now) action.now }
+{
+    match action {
+        Action::Arrive { modem, heard: _ } => {
+            if is_listed(*modem, book.row().get_fields().modems.as_slice()) {
+                None
+            } else {
+                Some(BookFault::NotMine { modem: *modem })
+            }
+        }
+        Action::Work => None,
+        Action::Tick => {
+            if book.is_spent(action) {
+                Some(BookFault::FramesSpent)
+            } else {
+                None
+            }
+        }
+        Action::Reslice { from, row } => match book.offer(*from, *row) {
+            Ok(()) => None,
+            Err(unfit) => Some(BookFault::Unfit(unfit)),
+        },
+    }
+}

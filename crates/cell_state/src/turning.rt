@@ -1,0 +1,100 @@
+//! Turns at an operator's book.
+
+ghost use Rattle.std.specs.Prelude.{◌≡◌, ◌≢◌, ◌↔◌, ◌++◌, ◌≤◌, true, false, length, Some, Ok, Err, IfOk, IfErr, OnOk, OnErr};
+ghost use Rattle.operator_model.specs.Replay.{acted};
+ghost use Rattle.operator_book.specs.OfBook.{outputs_of};
+ghost use Rattle.operator_book.specs.declared.book.BookFault.{BookFault};
+ghost use Rattle.run_model.specs.IsStateAfter.{frames_of};
+ghost use Rattle.cell_state.specs.HeldView.{book_of, waiting_of};
+ghost use Rattle.cell_state.specs.Receiving.{IsReceiptOf};
+ghost use Rattle.cell_state.specs.Refusing.{refusal_of};
+ghost use Rattle.cell_state.specs.Taking.{IsTaken};
+ghost use Rattle.cell_state.specs.Telling.{IsOfTurn, IsOfTaking};
+
+use crate::cell_fault::CellFault;
+use crate::held::Held;
+use operator_book::BookFault;
+use operator_model::Action;
+use plant::Op;
+use run_receipts::Receipt;
+use slice_scheduler::Elements;
+use std::alloc::Global;
+
+impl Held {
+    /// Does an action whose turn comes at this place of the history.
+    ///
+    /// Faults, in this order: `Stopped`; `Passed` where the history has not just so many entries; those of the book. Each
+    /// names the operator that it is asked for. Only a fault of the book stops the turns.
+    pub fn turn(
+        &mut self,
+        alloc: Global,
+        op: Op,
+        index: usize,
+        action: Action,
+    ) -> Result<Receipt, CellFault>
+        requires within { self.old.desk.collected ≤ length (book_of self.old).history }
+        ensures index { IfOk result (λ receipt. receipt.index ≡ index) }
+        ensures receipt { IfOk result (IsReceiptOf (book_of self.old) action) }
+        ensures book { OnOk result (book_of self.new ≡ acted (book_of self.old) action) }
+        ensures waiting { OnOk result (waiting_of self.new
+            ≡ waiting_of self.old ++ frames_of (outputs_of (book_of self.old) action)) }
+        ensures goes_on { OnOk result (self.new.stopped ≡ false) }
+        ensures stopped { (result ≡ Err (CellFault.Stopped op)) ↔ (self.old.stopped ≡ true) }
+        ensures passed { (result ≡ Err (CellFault.Passed op index))
+            ↔ ((self.old.stopped ≡ false) × (length (book_of self.old).history ≢ index)) }
+        ensures refused { (fault : BookFault) → fault ≢ BookFault.NoMemory
+            → (result ≡ Err (CellFault.Book fault)) ↔ ((self.old.stopped ≡ false)
+            × (length (book_of self.old).history ≡ index)
+            × (refusal_of (book_of self.old) action ≡ Some fault)) }
+        ensures fault { IfErr result (IsOfTurn op index) }
+        ensures stops { (fault : BookFault) → result ≡ Err (CellFault.Book fault) → self.new.stopped ≡ true }
+        ensures stays { self.old.stopped ≡ true → self.new.stopped ≡ true }
+        ensures waits { result ≡ Err (CellFault.Passed op index) → self.new.stopped ≡ false }
+        ensures same_book { OnErr result (book_of self.new ≡ book_of self.old) }
+        ensures same_waiting { OnErr result (waiting_of self.new ≡ waiting_of self.old) }
+    {
+        if self.stopped {
+            return Err(CellFault::Stopped { op });
+        }
+        if self.count() != index {
+            return Err(CellFault::Passed { op, index });
+        }
+        match self.act(alloc, action) {
+            Ok(receipt) => Ok(receipt),
+            Err(fault) => {
+                self.stop();
+                Err(CellFault::Book(fault))
+            }
+        }
+    }
+
+    /// Takes the oldest frame that waits, unless the turns are stopped.
+    ///
+    /// Faults, in this order: `Stopped`; `Book` of `NoMemory`.
+    pub fn take(&mut self, alloc: Global, op: Op) -> Result<Option<(u32, Elements)>, CellFault>
+        requires within { self.old.desk.collected ≤ length (book_of self.old).history }
+        ensures taken { IfOk result (IsTaken (waiting_of self.old) (waiting_of self.new)) }
+        ensures stopped { (result ≡ Err (CellFault.Stopped op)) ↔ (self.old.stopped ≡ true) }
+        ensures fault { IfErr result (IsOfTaking op) }
+        ensures book { book_of self.new ≡ book_of self.old }
+        ensures same { self.new.stopped ≡ self.old.stopped }
+        ensures err { OnErr result (waiting_of self.new ≡ waiting_of self.old) }
+    {
+        if self.stopped {
+            return Err(CellFault::Stopped { op });
+        }
+        match self.collect(alloc) {
+            Ok(taken) => Ok(taken),
+            Err(_) => Err(CellFault::Book(BookFault::NoMemory)),
+        }
+    }
+
+    /// Stops the turns: each that waits, and each later one, is refused.
+    pub fn stop(&mut self)
+        requires within { self.old.desk.collected ≤ length (book_of self.old).history }
+        ensures stopped { self.new.stopped ≡ true }
+        ensures desk { self.new.desk ≡ self.old.desk }
+    {
+        self.stopped = true;
+    }
+}

@@ -1,0 +1,10 @@
+use Rattle.std.proofs.Common.{◌∙◌, Some, ap, sym}
+use Rattle.check_table.specs.Said.{said_by}
+use Rattle.check_table.specs.declared.check.Check.{Check}
+use Rattle.check_explainer.proofs.FirstLemmas.{found_at_last}
+use Rattle.check_explainer.proofs.operator_snapshot.OperatorSnapshot.first_that_holds.Goals as goal
+
+pub returns : goal.returns
+returns c =
+    found_at_last c.args.self.now c.args.modem (said_by c.args.request.now) c.copied.result (c.copied.ensures ∙ c.first_of.ensures)
+    ∙ ap (λ (check : Check). Some check) (sym c.unwrap_or.ensures)

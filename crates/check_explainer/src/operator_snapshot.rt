@@ -1,0 +1,151 @@
+//! An operator as it stands.
+
+ghost use Rattle.std.specs.Prelude.{◌≡◌, IfOk};
+ghost use Rattle.flow_table.specs.Table.{sfids_of, sids_of};
+ghost use Rattle.operator_model.specs.State.{operator};
+ghost use Rattle.operator_model.specs.Sound.{IsSound};
+
+use flow_table::Flow;
+use operator_book::{Book, StateView};
+use plant::{Consts, OperatorRow};
+use std::alloc::{AllocError, Global};
+use std::marker::Model;
+
+/// A copy of an operator: what all operators share, its row, and the state of its machine. Contracts see the operator.
+pub struct OperatorSnapshot {
+    pub(crate) consts: Consts,
+    pub(crate) row: OperatorRow,
+    pub(crate) state: StateView,
+    pub(crate) sfids: Vec<u32>,
+    pub(crate) sids: Vec<u32>,
+}
+
+impl Drop for OperatorSnapshot {
+    fn drop(self) {
+        let OperatorSnapshot {
+            consts: _,
+            row: _,
+            state: _,
+            sfids: _,
+            sids: _,
+        } = self;
+    }
+}
+
+impl Model for OperatorSnapshot {
+    ghost use Rattle.operator_model.specs.State.{Operator, operator};
+    ghost use Rattle.check_explainer.specs.OperatorSnapshot.{IsStanding};
+
+    ghost Value = { Operator };
+
+    ghost view = { λ s. operator s.consts s.row s.state };
+
+    ghost invariant = { λ s. IsStanding (operator s.consts s.row s.state) s.sfids.items s.sids.items };
+}
+
+/// The SFIDs that are used.
+fn sfids_in(alloc: Global, flows: &[(u32, Flow)]) -> Result<Vec<u32>, AllocError>
+    ensures { IfOk result (λ sfids. sfids.items ≡ sfids_of flows.now) }
+{
+    let mut sfids = Vec::with_capacity(alloc, flows.len())?;
+    for (sfid, _flow) in flows {
+        sfids.push(*sfid)?;
+    }
+    Ok(sfids)
+}
+
+/// The SIDs that are used.
+fn sids_in(alloc: Global, flows: &[(u32, Flow)]) -> Result<Vec<u32>, AllocError>
+    ensures { IfOk result (λ sids. sids.items ≡ sids_of flows.now) }
+{
+    let mut sids = Vec::with_capacity(alloc, flows.len())?;
+    for (_sfid, flow) in flows {
+        if let Some(sid) = flow.sid {
+            sids.push(u32::from(sid))?;
+        }
+    }
+    Ok(sids)
+}
+
+/// The identifiers that flows use.
+#[derive(Drop)]
+struct UsedIds {
+    sfids: Vec<u32>,
+    sids: Vec<u32>,
+}
+
+/// The identifiers that are used.
+fn used_in(alloc: Global, flows: &[(u32, Flow)]) -> Result<UsedIds, AllocError>
+    ensures sfids { IfOk result (λ used. used.sfids.items ≡ sfids_of flows.now) }
+    ensures sids { IfOk result (λ used. used.sids.items ≡ sids_of flows.now) }
+{
+    let sfids = sfids_in(alloc, flows)?;
+    let sids = sids_in(alloc, flows)?;
+    Ok(UsedIds { sfids, sids })
+}
+
+/// What a book says of its operator.
+#[derive(Drop)]
+struct Copied {
+    consts: Consts,
+    row: OperatorRow,
+    state: StateView,
+}
+
+/// A copy of what a book says of its operator.
+fn copied_from(alloc: Global, book: &Book) -> Result<Copied, AllocError>
+    ensures { IfOk result (λ copied. operator copied.consts copied.row copied.state
+        ≡ operator book.now.kept.book.consts book.now.kept.book.row book.now.kept.book.state) }
+{
+    let consts = book.consts().copy(alloc)?;
+    let row = book.row().copy(alloc)?;
+    let state = book.state_view(alloc)?;
+    Ok(Copied { consts, row, state })
+}
+
+impl OperatorSnapshot {
+    /// The operator of a book, as it stands.
+    pub fn of_book(alloc: Global, book: &Book) -> Result<OperatorSnapshot, AllocError>
+        ensures { IfOk result (λ operator_snapshot. operator_snapshot
+            ≡ operator book.now.kept.book.consts book.now.kept.book.row book.now.kept.book.state) }
+    {
+        book.always_sound();
+        let copied = copied_from(alloc, book)?;
+        let used = used_in(alloc, copied.state.flows())?;
+        Ok(OperatorSnapshot {
+            consts: copied.consts,
+            row: copied.row,
+            state: copied.state,
+            sfids: used.sfids,
+            sids: used.sids,
+        })
+    }
+
+    /// What all operators share.
+    pub fn consts(&self) -> &Consts
+        ensures { result.now ≡ self.now.consts }
+    {
+        &self.consts
+    }
+
+    /// The operator's row.
+    pub fn row(&self) -> &OperatorRow
+        ensures { result.now ≡ self.now.row }
+    {
+        &self.row
+    }
+
+    /// The state of its machine.
+    pub fn state(&self) -> &StateView
+        ensures { result.now ≡ self.now.state }
+    {
+        &self.state
+    }
+
+    /// A law: the state is one that a machine can have.
+    pub fn always_sound(&self)
+        ensures { IsSound self.now }
+    {
+        let _ = &self.state;
+    }
+}

@@ -1,0 +1,155 @@
+-- What each check of the table answers (which case gets which code is own).
+use Rattle.std.specs.Prelude.{◌≡◌, ℕ, Bool, true, false, [], ◌∷◌, Any, Contains, Option, Some, None}
+use Rattle.tlv24.specs.Subtype.{class_name_subtype, set_type_subtype}
+use Rattle.tlv24.specs.declared.fields.FlowFields.{FlowFields}
+use Rattle.dsx_messages.specs.declared.modem.Modem.{Modem}
+use Rattle.dsx_messages.specs.declared.kind.Kind.{Kind}
+use Rattle.dsx_messages.specs.declared.kind.Kind.TheVariants.{Dsa, Dsc, Dsd}
+use Rattle.dsx_messages.specs.declared.code.Code.{Code}
+use Rattle.dsx_messages.specs.declared.code.Code.TheVariants.{Okay, RejectTemporary, RejectPermanent, RejectNotOwner, RejectFlowNotFound, RejectRequiredParameterNotPresent, RejectDuplicateReference, RejectMultipleUpstreamFlows, RejectInvalidForContext, RejectAuthorizationFailure}
+use Rattle.dsx_messages.specs.declared.reply.Detail.{Detail}
+use Rattle.dsx_messages.specs.declared.reply.Detail.TheVariants.{Nothing, Given, Errored}
+use Rattle.admission.specs.Free.{IsLeastFree}
+use Rattle.param_sets.specs.Within.{first_failing}
+use Rattle.param_sets.specs.declared.param_set.ParamFields.{ParamFields}
+use Rattle.param_sets.specs.declared.refusal.Refusal.{Refusal}
+use Rattle.flow_table.specs.declared.flow.Flow.{Flow}
+use Rattle.flow_table.specs.Table.{sfids_of, sids_of}
+use Rattle.operator_model.specs.declared.verdict.Verdict.{Verdict}
+use Rattle.operator_model.specs.declared.verdict.Verdict.TheVariants.{Refused, Put, Deleted}
+use Rattle.operator_model.specs.State.{Operator}
+use Rattle.check_table.specs.First.{IsFirst}
+use Rattle.check_table.specs.Said.{Said, told_identifier, identifier_subtype, Names, IsOfFlow, IsAbout, IsRefused, IsToBeAdmitted, IsToBeActive}
+use Rattle.check_table.specs.Holding.{NamesUnknownClass, GivesNoSet}
+use Rattle.check_table.specs.declared.check.Check.{Check}
+use Rattle.check_table.specs.declared.check.Check.TheVariants.{UnknownClass, NoEncoding, IdentifiersDiffer, NotTogether, NoIdentifier, UnknownFlow, NotOwner, FlowWaits, WrongSetType, NoParameterSet, ActiveNotWithin, AdmittedNotWithin, FlowsFull, NoSfidFree, NoSidFree, ElementsOver, MinislotsOver, Accepted}
+
+-- ---- refusals
+
+abbrev pub refused : Said → Code → Detail → Verdict
+refused said code detail = Refused (record { kind = said.kind; tid = said.tid; code = code; detail = detail })
+
+-- the encoding at fault, by its identifier, and a subtype
+abbrev pub naming : Said → FlowFields → ℕ → Detail
+naming said encoding subtype = Errored (told_identifier said.kind encoding) subtype
+
+-- a set type is absent, or not taken
+abbrev pub set_type_code : Option ℕ → Code
+set_type_code None = RejectRequiredParameterNotPresent
+set_type_code (Some n) = RejectInvalidForContext
+
+-- ---- what is accepted
+
+-- a new flow gets the least free identifiers, and waits with the sets that are asked for
+pub record IsAdded (op : Operator) (modem : Modem) (said : Said) (answer : Verdict) : Type 0 where
+  pub sfid : ℕ
+  pub sid : ℕ
+  pub reference : ℕ
+  pub admitted : Option ParamFields
+  pub active : Option ParamFields
+  pub is_sfid : IsLeastFree op.row.sfids (sfids_of op.state.flows) sfid
+  pub is_sid : IsLeastFree op.row.sids (sids_of op.state.flows) sid
+  pub is_reference : Any (λ encoding. encoding.reference ≡ Some reference) said.encodings
+  pub is_admitted : IsToBeAdmitted op said admitted
+  pub is_active : IsToBeActive op said active
+  pub is : answer ≡ Put sfid
+      (record {
+        modem = modem;
+        sid = Some sid;
+        sets = record { provisioned = None; admitted = None; active = None };
+        pending = Some (record {
+          sets = record { provisioned = None; admitted = admitted; active = active };
+          sid_is_new = true;
+        });
+        start = op.state.frame;
+        backlog = 0;
+        since = op.state.frame;
+      })
+      (record { kind = Dsa; tid = said.tid; code = Okay; detail = Given (Some reference) sfid (Some sid) })
+
+-- the SID of a changed flow, and whether it is new: its own; where it has none and a set is to be admitted, the least
+-- free one
+abbrev pub GetsSid : Operator → Option ℕ → Option ParamFields → Option ℕ → Bool → Type 0
+GetsSid op (Some own) set sid is_new = (sid ≡ Some own) × (is_new ≡ false)
+GetsSid op None None sid is_new = (sid ≡ None) × (is_new ≡ false)
+GetsSid op None (Some set) sid is_new =
+    (n : ℕ) × IsLeastFree op.row.sids (sids_of op.state.flows) n × (sid ≡ Some n) × (is_new ≡ true)
+
+-- the SID is told where a set is to be admitted
+abbrev pub told_sid : Option ParamFields → Option ℕ → Option ℕ
+told_sid None sid = None
+told_sid (Some set) sid = sid
+
+-- the flow waits with the sets that are asked for, and keeps its provisioned one
+pub record IsChanged (op : Operator) (said : Said) (answer : Verdict) : Type 0 where
+  pub sfid : ℕ
+  pub flow : Flow
+  pub sid : Option ℕ
+  pub sid_is_new : Bool
+  pub admitted : Option ParamFields
+  pub active : Option ParamFields
+  pub is_flow : IsOfFlow op said sfid flow
+  pub is_admitted : IsToBeAdmitted op said admitted
+  pub is_active : IsToBeActive op said active
+  pub is_sid : GetsSid op flow.sid admitted sid sid_is_new
+  pub is : answer ≡ Put sfid
+      (record flow {
+        sid = sid;
+        pending = Some (record {
+          sets = record { provisioned = flow.sets.provisioned; admitted = admitted; active = active };
+          sid_is_new = sid_is_new;
+        });
+      })
+      (record { kind = Dsc; tid = said.tid; code = Okay; detail = Given None sfid (told_sid admitted sid) })
+
+-- the flow goes
+pub record IsDeleted (said : Said) (answer : Verdict) : Type 0 where
+  pub sfid : ℕ
+  pub named : Names said.kind said.encodings said.sfid sfid
+  pub is : answer ≡ Deleted sfid (record { kind = Dsd; tid = said.tid; code = Okay; detail = Nothing })
+
+abbrev pub IsAccepted : Kind → Operator → Modem → Said → Verdict → Type 0
+IsAccepted Dsa op modem said answer = IsAdded op modem said answer
+IsAccepted Dsc op modem said answer = IsChanged op said answer
+IsAccepted Dsd op modem said answer = IsDeleted said answer
+
+-- ---- the answers
+
+abbrev pub Answers : Check → Operator → Modem → Said → Verdict → Type 0
+Answers UnknownClass op modem said answer =
+    (encoding : FlowFields) × IsFirst (NamesUnknownClass op.consts.classes) said.encodings encoding
+    × (answer ≡ refused said RejectPermanent (naming said encoding class_name_subtype))
+Answers NoEncoding op modem said answer = answer ≡ refused said RejectRequiredParameterNotPresent Nothing
+Answers IdentifiersDiffer op modem said answer = answer ≡ refused said RejectMultipleUpstreamFlows Nothing
+Answers NotTogether op modem said answer = answer ≡ refused said RejectDuplicateReference Nothing
+Answers NoIdentifier op modem said answer =
+    answer ≡ refused said RejectRequiredParameterNotPresent (Errored None (identifier_subtype said.kind))
+Answers UnknownFlow op modem said answer = answer ≡ refused said RejectFlowNotFound Nothing
+Answers NotOwner op modem said answer = answer ≡ refused said RejectNotOwner Nothing
+Answers FlowWaits op modem said answer = answer ≡ refused said RejectTemporary Nothing
+Answers WrongSetType op modem said answer =
+    (encoding : FlowFields) × (said.encodings ≡ encoding ∷ [])
+    × (answer ≡ refused said (set_type_code encoding.set_type) (naming said encoding set_type_subtype))
+Answers NoParameterSet op modem said answer =
+    (encoding : FlowFields) × (refusal : Refusal) × IsFirst (GivesNoSet op.consts) said.encodings encoding
+    × IsRefused op.consts encoding refusal
+    × (answer ≡ refused said refusal.code (naming said encoding refusal.subtype))
+Answers ActiveNotWithin op modem said answer =
+    (encoding : FlowFields) × (active : ParamFields) × (admitted : ParamFields) × (subtype : ℕ)
+    × Contains said.encodings encoding
+    × IsToBeActive op said (Some active) × IsToBeAdmitted op said (Some admitted)
+    × (first_failing active admitted ≡ Some subtype)
+    × (answer ≡ refused said RejectInvalidForContext (naming said encoding subtype))
+Answers AdmittedNotWithin op modem said answer =
+    (encoding : FlowFields) × (flow : Flow) × (admitted : ParamFields) × (provisioned : ParamFields) × (subtype : ℕ)
+    × Contains said.encodings encoding
+    × IsAbout op said (Some flow) × IsToBeAdmitted op said (Some admitted)
+    × (flow.sets.provisioned ≡ Some provisioned)
+    × (first_failing admitted provisioned ≡ Some subtype)
+    × (answer ≡ refused said RejectAuthorizationFailure (naming said encoding subtype))
+Answers FlowsFull op modem said answer = answer ≡ refused said RejectTemporary Nothing
+Answers NoSfidFree op modem said answer = answer ≡ refused said RejectTemporary Nothing
+Answers NoSidFree op modem said answer = answer ≡ refused said RejectTemporary Nothing
+Answers ElementsOver op modem said answer = answer ≡ refused said RejectTemporary Nothing
+Answers MinislotsOver op modem said answer = answer ≡ refused said RejectTemporary Nothing
+Answers Accepted op modem said answer = IsAccepted said.kind op modem said answer

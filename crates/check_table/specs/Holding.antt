@@ -1,0 +1,100 @@
+-- When each check of the table holds, by itself (CM-SP-MULPIv3.1, 11.2.2 and 11.2.3; which checks there are is own).
+use Rattle.std.specs.Prelude.{◌≡◌, ◌≢◌, ℕ, ◌+◌, ◌-◌, ◌<◌, ◌≤◌, max, List, [], ◌∷◌, length, map, sum_by, All, Any, Contains, Option, Some, None, IsSome, ◌⊎◌}
+use Rattle.tlv24.specs.declared.fields.FlowFields.{FlowFields}
+use Rattle.dsx_messages.specs.declared.modem.Modem.{Modem}
+use Rattle.dsx_messages.specs.declared.kind.Kind.{Kind}
+use Rattle.dsx_messages.specs.declared.kind.Kind.TheVariants.{Dsa, Dsc, Dsd}
+use Rattle.admission.specs.Free.{Numbers, IsFree}
+use Rattle.admission.specs.declared.budget.Budget.{Budget}
+use Rattle.param_sets.specs.Need.{need_if}
+use Rattle.param_sets.specs.Within.{IsWithin}
+use Rattle.param_sets.specs.declared.param_set.ParamFields.{ParamFields}
+use Rattle.param_sets.specs.declared.refusal.Refusal.{Refusal}
+use Rattle.plant.specs.declared.consts.ConstsFields.{ConstsFields}
+use Rattle.plant.specs.declared.class_table.Class.{Class}
+use Rattle.flow_table.specs.declared.flow.Flow.{Flow}
+use Rattle.flow_table.specs.Flow.{committed_of}
+use Rattle.flow_table.specs.Table.{sfids_of, sids_of, sid_if}
+use Rattle.operator_model.specs.declared.share.NextShare.{NextShare}
+use Rattle.operator_model.specs.State.{Operator}
+use Rattle.check_table.specs.declared.check.Check.{Check}
+use Rattle.check_table.specs.declared.check.Check.TheVariants.{UnknownClass, NoEncoding, IdentifiersDiffer, NotTogether, NoIdentifier, UnknownFlow, NotOwner, FlowWaits, WrongSetType, NoParameterSet, ActiveNotWithin, AdmittedNotWithin, FlowsFull, NoSfidFree, NoSidFree, ElementsOver, MinislotsOver, Accepted}
+use Rattle.check_table.specs.Said.{Said, identifier, Names, IsOfFlow, IsAbout, IsRefused, IsToBeAdmitted, IsToBeActive}
+
+-- an encoding names a class, and no class of the plant has that name
+abbrev pub NamesUnknownClass : List Class → FlowFields → Type 0
+NamesUnknownClass classes encoding =
+    (name : List ℕ) × (encoding.class_name ≡ Some name) × All (λ class. class.name ≢ name) classes
+
+-- two encodings, one of set type 2 and one of set type 4
+abbrev pub AreTwoAndFour : List (Option ℕ) → Type 0
+AreTwoAndFour set_types = (set_types ≡ Some 2 ∷ Some 4 ∷ []) ⊎ (set_types ≡ Some 4 ∷ Some 2 ∷ [])
+
+-- a set type that one encoding may have: 2, 6, and in a change 0
+abbrev pub IsTaken : Kind → Option ℕ → Type 0
+IsTaken kind set_type = (set_type ≡ Some 2) ⊎ ((set_type ≡ Some 6) ⊎ ((kind ≡ Dsc) × (set_type ≡ Some 0)))
+
+-- an encoding that is to give a set, and is refused
+abbrev pub GivesNoSet : ConstsFields → FlowFields → Type 0
+GivesNoSet consts encoding = (encoding.set_type ≢ Some 0) × (refusal : Refusal) × IsRefused consts encoding refusal
+
+-- no number of the range is free
+abbrev pub IsUsedUp : Numbers → List ℕ → Type 0
+IsUsedUp range used = (n : ℕ) → ¬ IsFree range used n
+
+-- what all flows would have committed of minislots or of elements, with this set as what waits for the flow: what
+-- they have now, in place of what that flow has the greater of what its admitted set needs and of what this one needs
+abbrev pub would_commit : (Budget → ℕ) → Operator → Option Flow → Option ParamFields → ℕ
+would_commit part op None set =
+    sum_by (λ entry. part (committed_of op.consts.units entry.1)) op.state.flows + part (need_if op.consts.units set)
+would_commit part op (Some flow) set =
+    sum_by (λ entry. part (committed_of op.consts.units entry.1)) op.state.flows
+    - part (committed_of op.consts.units flow)
+    + max (part (need_if op.consts.units flow.sets.admitted)) (part (need_if op.consts.units set))
+
+-- this is what an addition or a change would have all flows commit
+abbrev pub WouldCommit : (Budget → ℕ) → Operator → Said → ℕ → Type 0
+WouldCommit part op said n =
+    (flow : Option Flow) × (set : Option ParamFields) × IsAbout op said flow × IsToBeAdmitted op said set
+    × (n ≡ would_commit part op flow set)
+
+-- more minislots than the budget in force, or than the one that waits for its frame
+abbrev pub IsOverBudget : Operator → ℕ → Type 0
+IsOverBudget op n =
+    (op.state.share.budget < n) ⊎ ((next : NextShare) × (op.state.next ≡ Some next) × (next.share.budget < n))
+
+abbrev pub Holds : Check → Operator → Modem → Said → Type 0
+Holds UnknownClass op modem said = Any (NamesUnknownClass op.consts.classes) said.encodings
+Holds NoEncoding op modem said = (said.kind ≢ Dsd) × (said.encodings ≡ [])
+Holds IdentifiersDiffer op modem said =
+    (a : FlowFields) × (b : FlowFields) × Contains said.encodings a × Contains said.encodings b
+    × (identifier said.kind a ≢ identifier said.kind b)
+Holds NotTogether op modem said =
+    (1 < length said.encodings) × (¬ AreTwoAndFour (map (λ encoding. encoding.set_type) said.encodings))
+Holds NoIdentifier op modem said = Any (λ encoding. identifier said.kind encoding ≡ None) said.encodings
+Holds UnknownFlow op modem said =
+    (sfid : ℕ) × Names said.kind said.encodings said.sfid sfid × (¬ Contains (sfids_of op.state.flows) sfid)
+Holds NotOwner op modem said = (sfid : ℕ) × (flow : Flow) × IsOfFlow op said sfid flow × (flow.modem ≢ modem)
+Holds FlowWaits op modem said = (sfid : ℕ) × (flow : Flow) × IsOfFlow op said sfid flow × IsSome flow.pending
+Holds WrongSetType op modem said =
+    (encoding : FlowFields) × (said.encodings ≡ encoding ∷ []) × (¬ IsTaken said.kind encoding.set_type)
+Holds NoParameterSet op modem said = Any (GivesNoSet op.consts) said.encodings
+Holds ActiveNotWithin op modem said =
+    (active : ParamFields) × (admitted : ParamFields) × IsToBeActive op said (Some active)
+    × IsToBeAdmitted op said (Some admitted)
+    × (¬ IsWithin active admitted)
+Holds AdmittedNotWithin op modem said =
+    (flow : Flow) × (admitted : ParamFields) × (provisioned : ParamFields) × IsAbout op said (Some flow)
+    × IsToBeAdmitted op said (Some admitted)
+    × (flow.sets.provisioned ≡ Some provisioned) × (¬ IsWithin admitted provisioned)
+Holds FlowsFull op modem said = (said.kind ≡ Dsa) × (op.row.flows ≤ length op.state.flows)
+Holds NoSfidFree op modem said = (said.kind ≡ Dsa) × IsUsedUp op.row.sfids (sfids_of op.state.flows)
+Holds NoSidFree op modem said =
+    (flow : Option Flow) × (set : ParamFields) × IsAbout op said flow × IsToBeAdmitted op said (Some set)
+    × (sid_if flow ≡ None)
+    × IsUsedUp op.row.sids (sids_of op.state.flows)
+Holds ElementsOver op modem said =
+    (n : ℕ) × (said.kind ≢ Dsd) × WouldCommit (λ need. need.elements) op said n × (op.row.elements < n)
+Holds MinislotsOver op modem said =
+    (n : ℕ) × (said.kind ≢ Dsd) × WouldCommit (λ need. need.minislots) op said n × IsOverBudget op n
+Holds Accepted op modem said = Unit {0}

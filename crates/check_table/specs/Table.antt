@@ -1,0 +1,24 @@
+-- The table of checks: the first that holds decides (CM-SP-MULPIv3.1, 11.2.2 and 11.2.3; the order is own).
+use Rattle.std.specs.Prelude.{List, [], ◌∷◌}
+use Rattle.dsx_messages.specs.declared.modem.Modem.{Modem}
+use Rattle.operator_model.specs.declared.verdict.Verdict.{Verdict}
+use Rattle.operator_model.specs.State.{Operator}
+use Rattle.check_table.specs.First.{IsFirst}
+use Rattle.check_table.specs.Said.{Said}
+use Rattle.check_table.specs.Holding.{Holds}
+use Rattle.check_table.specs.Answering.{Answers}
+use Rattle.check_table.specs.declared.check.Check.{Check}
+use Rattle.check_table.specs.declared.check.Check.TheVariants.{UnknownClass, NoEncoding, IdentifiersDiffer, NotTogether, NoIdentifier, UnknownFlow, NotOwner, FlowWaits, WrongSetType, NoParameterSet, ActiveNotWithin, AdmittedNotWithin, FlowsFull, NoSfidFree, NoSidFree, ElementsOver, MinislotsOver, Accepted}
+
+-- the checks in their order
+abbrev pub table : List Check
+table =
+    UnknownClass ∷ NoEncoding ∷ IdentifiersDiffer ∷ NotTogether ∷ NoIdentifier ∷ UnknownFlow ∷ NotOwner ∷ FlowWaits
+    ∷ WrongSetType
+    ∷ NoParameterSet ∷ ActiveNotWithin ∷ AdmittedNotWithin ∷ FlowsFull ∷ NoSfidFree ∷ NoSidFree ∷ ElementsOver
+    ∷ MinislotsOver ∷ Accepted ∷ []
+
+-- this check decides a request of a modem, and so it is answered
+pub record IsDecidedBy (op : Operator) (modem : Modem) (said : Said) (check : Check) (answer : Verdict) : Type 0 where
+  pub first : IsFirst (λ c. Holds c op modem said) table check
+  pub answers : Answers check op modem said answer

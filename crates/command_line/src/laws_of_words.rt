@@ -1,0 +1,47 @@
+//! Laws of what words come to. They need no value, and run nothing.
+ghost use Rattle.std.specs.Prelude.{◌≡◌, ◌≢◌, ◌⊎◌, List, ℕ, [], ◌∷◌, codes};
+ghost use Rattle.command_line.specs.Order.{Order, one, check, run, threads, capture, serve, trace, history};
+ghost use Rattle.command_line.specs.CommandLine.{AreWrong, AsksHelp, IsHelpWord, Names};
+
+/// All words are an order's, ask for help, begin with clap's own `help`, or are wrong; of these they are one alone, and
+/// of one order.
+pub fn words_come_to_one()
+    ensures some { (words : List (List ℕ)) → ((o : Order) × Names words o)
+        ⊎ (AsksHelp words ⊎ (IsHelpWord words ⊎ AreWrong words)) }
+    ensures once { (words : List (List ℕ)) → (o : Order) → (p : Order)
+        → Names words o → Names words p → o ≡ p }
+    ensures named_not_asked { (words : List (List ℕ)) → (o : Order) → Names words o → AsksHelp words → ⊥ }
+    ensures named_not_help { (words : List (List ℕ)) → (o : Order) → Names words o → IsHelpWord words → ⊥ }
+    ensures asked_not_help { (words : List (List ℕ)) → AsksHelp words → IsHelpWord words → ⊥ }
+{}
+
+/// A word that stands alone names its order; so does `history` before a name that begins with no hyphen (45).
+pub fn orders_are_named()
+    ensures one { Names (codes "one" ∷ []) one }
+    ensures check { Names (codes "check" ∷ []) check }
+    ensures run { Names (codes "run" ∷ []) run }
+    ensures threads { Names (codes "threads" ∷ []) threads }
+    ensures capture { Names (codes "capture" ∷ []) capture }
+    ensures serve { Names (codes "serve" ∷ []) serve }
+    ensures trace { Names (codes "trace" ∷ []) trace }
+    ensures history { Names (codes "history" ∷ codes "A" ∷ []) (history (codes "A")) }
+    ensures operand { (name : List ℕ) → ((rest : List ℕ) → name ≢ 45 ∷ rest)
+        → Names (codes "history" ∷ name ∷ []) (history name) }
+{}
+
+/// The flags ask for help, alone, behind an order's word and behind its operand.
+pub fn help_is_asked()
+    ensures long { AsksHelp (codes "--help" ∷ []) }
+    ensures short { AsksHelp (codes "-h" ∷ []) }
+    ensures word { AsksHelp (codes "run" ∷ codes "--help" ∷ []) }
+    ensures operand { AsksHelp (codes "history" ∷ codes "A" ∷ codes "-h" ∷ []) }
+{}
+
+/// No word, an unknown word, and a word too many or too few are wrong.
+pub fn others_are_wrong()
+    ensures none { AreWrong [] }
+    ensures unknown { AreWrong (codes "wrong" ∷ []) }
+    ensures second { AreWrong (codes "one" ∷ codes "more" ∷ []) }
+    ensures no_operand { AreWrong (codes "history" ∷ []) }
+    ensures second_operand { AreWrong (codes "history" ∷ codes "A" ∷ codes "B" ∷ []) }
+{}

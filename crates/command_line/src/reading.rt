@@ -1,0 +1,85 @@
+//! The words after the program's name, read as an order.
+ghost use Rattle.std.specs.Prelude.{◌≡◌, ◌≢◌, IfOk, IfErr, IfSome, IfNone, IsSomeAnd};
+ghost use Rattle.clap.specs.Walk.{texts};
+ghost use Rattle.clap.specs.Words.{found_of, kind_of, rows_of, subcommand_rows_of};
+ghost use Rattle.command_line.specs.Order.{Order, order_of};
+ghost use Rattle.command_line.specs.ClapLine.{IsFaultOf, StandsFor};
+ghost use Rattle.command_line.specs.CommandLine.{Allows, AreWrong, AsksHelp, GivesHelp, GivesOrder, GivesWrong, Names};
+
+use crate::asked::{Word, WordsFault};
+use crate::command::matches_of;
+use clap::error::ErrorKind;
+use clap::{ArgMatches, Error};
+use std::alloc::{AllocError, Global};
+
+/// Reads the words that follow the program's name, which is not among them.
+///
+/// An `Err` is help that was asked for, wrong words, or want of memory, which may come at any words. Of help's text no
+/// clause says more than that it is there: clap promises nothing of it.
+pub fn read_words<'a>(alloc: Global, words: &'a [&'a str]) -> Result<Word<'a>, WordsFault>
+    ensures ok { IfOk result (λ word. Names (texts words.entry.now) (order_of word)) }
+    ensures fault { IfErr result (Allows (texts words.entry.now)) }
+    ensures named { (o : Order) → Names (texts words.entry.now) o → GivesOrder o result }
+    ensures help { AsksHelp (texts words.entry.now) → GivesHelp result }
+    ensures wrong { AreWrong (texts words.entry.now) → GivesWrong result }
+{
+    match matches_of(alloc, words) {
+        Ok(matches) => word_of(&matches).ok_or(WordsFault::Wrong),
+        Err(error) => Err(fault_of_error(alloc, &error)),
+    }
+}
+
+/// The order that the matches' subcommand stands for, if it stands for one.
+fn word_of<'a>(matches: &ArgMatches<'a>) -> Option<Word<'a>>
+    ensures some { IfSome result (λ w.
+        IsSomeAnd (subcommand_rows_of matches.now) (StandsFor (order_of w))) }
+    ensures none { IfNone result ((o : Order)
+        → IsSomeAnd (subcommand_rows_of matches.now) (StandsFor o) → ⊥) }
+{
+    let (name, inner) = matches.subcommand()?;
+    word_named(name, inner)
+}
+
+#[tactic(auto, using(crate::proofs::CommandLemmas::value_in_rows))]
+fn word_named<'a>(name: &str, inner: &ArgMatches<'a>) -> Option<Word<'a>>
+    ensures some { IfSome result (λ w. StandsFor (order_of w) (name.now, rows_of (found_of inner.now))) }
+    ensures none { IfNone result ((o : Order) → StandsFor o (name.now, rows_of (found_of inner.now)) → ⊥) }
+{
+    match name {
+        "one" => Some(Word::One),
+        "check" => Some(Word::Check),
+        "run" => Some(Word::Run),
+        "threads" => Some(Word::Threads),
+        "capture" => Some(Word::Capture),
+        "serve" => Some(Word::Serve),
+        "trace" => Some(Word::Trace),
+        "history" => {
+            let operator = inner.get_str("operator")?;
+            Some(Word::History { operator })
+        }
+        _ => None,
+    }
+}
+
+/// What a failed parse says of the words. The text of help is clap's own, of which clap promises nothing.
+fn fault_of_error(alloc: Global, error: &Error) -> WordsFault
+    ensures { IsFaultOf (kind_of error.now) result }
+{
+    match error.kind() {
+        ErrorKind::OutOfMemory => WordsFault::NoMemory,
+        ErrorKind::DisplayHelp => match format!(in alloc; "{error}") {
+            Ok(text) => WordsFault::Help { text },
+            Err(_error) => WordsFault::NoMemory,
+        },
+        _ => WordsFault::Wrong,
+    }
+}
+
+/// What clap says of words that give no order: its message and the usage. Of the text no clause says anything: clap
+/// promises nothing of it. Empty where the words give an order.
+pub fn text_of_wrong<'a>(alloc: Global, words: &'a [&'a str]) -> Result<String, AllocError> {
+    match matches_of(alloc, words) {
+        Ok(_matches) => Ok(String::new(alloc)),
+        Err(error) => format!(in alloc; "{error}"),
+    }
+}

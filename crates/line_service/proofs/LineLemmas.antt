@@ -1,0 +1,104 @@
+-- What a line is answered.
+use Rattle.run_model.specs.Starts.{Start}
+use Rattle.std.proofs.Common.{◌≡◌, ℕ, List, [], ◌++◌, take, length, arith, ◌<◌, ◌≤◌, Bool, true, false, nat_le, Option, Some, None, Ok, Err, refl, sym, subst, append-nil}
+use Rattle.std.proofs.lemmas.Bool.Decides.{nat_tests}
+use Rattle.std.specs.Prelude.{slice_get}
+use Rattle.std.specs.Io.KnownBytes.{Appends}
+use Rattle.std.proofs.KnownBytes.{Appends-nil, Appends-trans}
+use Rattle.plant.specs.declared.plant.PlantFields.{PlantFields}
+use Rattle.run_model.specs.declared.step.Step.{Step}
+use Rattle.run_model.specs.declared.step.Out.{Out}
+use Rattle.run_model.specs.IsStateAfter.{CoreView}
+use Rattle.live_core.specs.After.{IsAfterFrom}
+use Rattle.script_format.specs.declared.fields.FieldFault.{FieldFault}
+use Rattle.script_format.specs.declared.script.LineStep.{LineStep}
+use Rattle.script_format.specs.declared.fields.FieldFault.TheVariants.{Shape}
+use Rattle.script_format.specs.Fields.{Read}
+use Rattle.script_format.specs.Script.{unnumbered}
+use Rattle.script_format.specs.Text.{outs_text}
+use Rattle.line_service.specs.declared.line_outcome.LineOutcome.{LineOutcome}
+use Rattle.line_service.specs.declared.line_outcome.LineOutcome.TheVariants.{AtFault, NoMemory}
+use Rattle.line_service.specs.declared.steps_end.StepsEnd.{StepsEnd}
+use Rattle.line_service.specs.declared.steps_end.StepsEnd.TheVariants as ends
+use Rattle.line_service.specs.Ends.{line_outcome}
+use Rattle.line_service.specs.Service.{Answered, steps_said, end_text, IsEndAt, EndsAs}
+use Rattle.line_service.specs.Steps.{IsStepsEndAt, HasDone}
+use Rattle.line_service.specs.SoFar.{IsHeld, HasAnswered, IsAnswered}
+
+-- a line ends as its steps do
+ends_so : (live : CoreView) (next : Option LineStep) (end : StepsEnd) → IsStepsEndAt live next end → IsEndAt live next (line_outcome end)
+ends_so live None ends.Done is = tt
+ends_so live None (ends.Refused number) is = is
+ends_so live None ends.NoMemory is = tt
+ends_so live (Some line) ends.Done is = is
+ends_so live (Some line) (ends.Refused number) is = is.1
+ends_so live (Some line) ends.NoMemory is = tt
+
+-- a line that says steps
+pub steps_answered : (plant : PlantFields) (start : Start) (before : List Step) (shown : List Out) (number : ℕ) (line : List ℕ) (steps : List LineStep) (live : CoreView) (end : StepsEnd) (w0 w1 : Option (List ℕ))
+    → steps_said plant number line ≡ Ok steps → HasDone plant start before shown steps live end w0 w1 → HasAnswered plant start before shown number line live (line_outcome end) w0 w1
+steps_answered plant start before shown number line steps live end w0 w1 said has = record {
+  answered = record { done = unnumbered (take has.at steps); told = has.told; end = line_outcome end };
+  is = record {
+    after = has.after;
+    ends = subst (λ (r : Read (List LineStep)). EndsAs r live (record { done = unnumbered (take has.at steps); told = has.told; end = line_outcome end })) (sym said)
+        (has.at, refl, ends_so live (slice_get steps has.at) end has.ends);
+  };
+  end_is = refl;
+  written = has.written;
+}
+
+unchanged : (plant : PlantFields) (start : Start) (before : List Step) (shown : List Out) (live : CoreView) → IsAfterFrom plant start before shown live → IsAfterFrom plant start (before ++ []) (shown ++ []) live
+unchanged plant start before shown live after =
+    subst (λ (s : List Step). IsAfterFrom plant start s (shown ++ []) live) (sym (append-nil before)) (subst (λ (o : List Out). IsAfterFrom plant start before o live) (sym (append-nil shown)) after)
+
+abbrev nothing : LineOutcome → Answered
+nothing end = record { done = []; told = []; end = end }
+
+-- a line that says none
+pub none_answered : (plant : PlantFields) (start : Start) (before : List Step) (shown : List Out) (number : ℕ) (line : List ℕ) (fault : FieldFault) (live : CoreView) (known : Option (List ℕ))
+    → IsAfterFrom plant start before shown live → steps_said plant number line ≡ Err fault → HasAnswered plant start before shown number line live AtFault known known
+none_answered plant start before shown number line fault live known after said = record {
+  answered = nothing AtFault;
+  is = record { after = unchanged plant start before shown live after; ends = subst (λ (r : Read (List LineStep)). EndsAs r live (nothing AtFault)) (sym said) (refl, refl, tt) };
+  end_is = refl;
+  written = Appends-nil known;
+}
+
+ends_wanting : (said : Read (List LineStep)) (live : CoreView) → EndsAs said live (nothing NoMemory)
+ends_wanting (Ok steps) live = (0, refl, tt)
+ends_wanting (Err fault) live = (refl, refl, tt)
+
+-- memory is wanting for the line itself
+pub memory_answered : (plant : PlantFields) (start : Start) (before : List Step) (shown : List Out) (number : ℕ) (line : List ℕ) (live : CoreView) (known : Option (List ℕ))
+    → IsAfterFrom plant start before shown live → HasAnswered plant start before shown number line live NoMemory known known
+memory_answered plant start before shown number line live known after = record {
+  answered = nothing NoMemory;
+  is = record { after = unchanged plant start before shown live after; ends = ends_wanting (steps_said plant number line) live };
+  end_is = refl;
+  written = Appends-nil known;
+}
+
+-- the end is written too
+pub end_written : (plant : PlantFields) (start : Start) (before : List Step) (shown : List Out) (number : ℕ) (line : List ℕ) (live : CoreView) (end : LineOutcome) (w0 w1 w2 : Option (List ℕ))
+    → HasAnswered plant start before shown number line live end w0 w1 → Appends w1 w2 (end_text number end) → IsAnswered plant start before shown number line live w0 w2
+end_written plant start before shown number line live end w0 w1 w2 has wrote = record {
+  answered = has.answered;
+  is = has.is;
+  written =
+      Appends-trans w0 w1 w2 (outs_text plant has.answered.told) (end_text number has.answered.end) has.written
+      (subst (λ (e : LineOutcome). Appends w1 w2 (end_text number e)) (sym has.end_is) wrote);
+}
+
+-- a line that is too long says nothing
+pub long_said : (plant : PlantFields) (number : ℕ) (bytes line : List ℕ) (is_long : Bool) → is_long ≡ true → IsHeld bytes is_long line → steps_said plant number line ≡ Err Shape
+long_said plant number bytes line is_long is held =
+    let long : 4096 < length line = subst (λ (b : Bool). IsHeld bytes b line) is held in
+    let over : nat_le (length line) 4096 ≡ false = grind (arith, nat_tests, long) in
+    rw over refl
+
+-- a line that is held whole
+pub whole_held : (bytes line : List ℕ) (is_long : Bool) → is_long ≡ false → IsHeld bytes is_long line → bytes ≡ line
+whole_held bytes line is_long is held =
+    let whole : (bytes ≡ line) × (length line ≤ 4096) = subst (λ (b : Bool). IsHeld bytes b line) is held in
+    whole.0

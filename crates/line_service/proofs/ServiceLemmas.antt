@@ -1,0 +1,177 @@
+-- The lines of a service, one after the other.
+use Rattle.run_model.specs.Starts.{Start}
+use Rattle.std.proofs.Common.{◌≡◌, ℕ, suc, ◌+◌, length, arith, ◌==◌, Bool, true, false, List, [], ◌∷◌, ◌++◌, Option, Some, None, IfSome, refl, sym, ap, subst, ◌∙◌, append_assoc, append-nil, length-append}
+use Rattle.std.specs.Io.KnownBytes.{Appends}
+use Rattle.std.proofs.KnownBytes.{Appends-nil, Appends-trans}
+use Rattle.std.proofs.lemmas.Grind.{flat_map-append}
+use Rattle.plant.specs.declared.plant.PlantFields.{PlantFields}
+use Rattle.run_model.specs.declared.step.Step.{Step}
+use Rattle.run_model.specs.declared.step.Out.{Out}
+use Rattle.run_model.specs.IsStateAfter.{CoreView}
+use Rattle.live_core.specs.After.{IsAfterFrom}
+use Rattle.live_core.proofs.LawLemmas.{live_shown, live_ordered}
+use Rattle.script_format.specs.Lines.{parts_of, parts_from}
+use Rattle.line_service.specs.Bytes.{Takes, WhereKnown}
+use Rattle.line_service.specs.Service.{Answered, answer_text, IsAnswer, AreAnswered, service_text, all_done, all_told, IsServiceOf, ServiceIsShown}
+use Rattle.line_service.specs.SoFar.{IsHeld, IsAnswered, IsServedSoFar}
+
+-- ---- one line more
+
+moved : (plant : PlantFields) (start : Start) (b b' : List Step) (o o' : List Out) (n n' : ℕ) (line : List ℕ) (live : CoreView) (a : Answered) → b ≡ b' → o ≡ o' → n ≡ n' → IsAnswer plant start b o n line live a → IsAnswer plant start b' o' n' line live a
+moved plant start b b' o o' n n' line live a eb eo en is =
+    subst (λ (x : List Step). IsAnswer plant start x o' n' line live a) eb
+    (subst (λ (x : List Out). IsAnswer plant start b x n' line live a) eo (subst (λ (x : ℕ). IsAnswer plant start b o x line live a) en is))
+
+answered_more : (plant : PlantFields) (start : Start) (before : List Step) (shown : List Out) (number : ℕ) (lines : List (List ℕ)) (answers : List Answered) (line : List ℕ) (live : CoreView) (a : Answered)
+    → AreAnswered plant start before shown number lines answers → IsAnswer plant start (before ++ all_done answers) (shown ++ all_told answers) (number + length lines) line live a
+    → AreAnswered plant start before shown number (lines ++ line ∷ []) (answers ++ a ∷ [])
+answered_more plant start before shown number [] [] line live a h is =
+    (live, moved plant start _ before _ shown _ number line live a (append-nil before) (append-nil shown) (omega arith) is, tt)
+answered_more plant start before shown number [] (b ∷ bs) line live a h is = absurd h
+answered_more plant start before shown number (l ∷ ls) [] line live a h is = absurd h
+answered_more plant start before shown number (l ∷ ls) (b ∷ bs) line live a h is = (
+  h.0,
+  h.1,
+  answered_more plant start (before ++ b.done) (shown ++ b.told) (number + 1) ls bs line live a h.2
+      (moved plant start _ _ _ _ _ _ line live a (sym (append_assoc before b.done (all_done bs))) (sym (append_assoc shown b.told (all_told bs))) (omega arith) is),
+)
+
+as_many : (plant : PlantFields) (start : Start) (before : List Step) (shown : List Out) (number : ℕ) (lines : List (List ℕ)) (answers : List Answered) → AreAnswered plant start before shown number lines answers → length answers ≡ length lines
+as_many plant start before shown number [] [] h = refl
+as_many plant start before shown number [] (b ∷ bs) h = absurd h
+as_many plant start before shown number (l ∷ ls) [] h = absurd h
+as_many plant start before shown number (l ∷ ls) (b ∷ bs) h = ap suc (as_many plant start (before ++ b.done) (shown ++ b.told) (number + 1) ls bs h.2)
+
+text_more : (plant : PlantFields) (number : ℕ) (answers : List Answered) (a : Answered) → service_text plant number (answers ++ a ∷ []) ≡ service_text plant number answers ++ answer_text plant (number + length answers) a
+text_more plant number [] a = append-nil (answer_text plant number a) ∙ ap (λ (n : ℕ). answer_text plant n a) (omega arith)
+text_more plant number (b ∷ bs) a =
+    ap (λ (t : List ℕ). answer_text plant number b ++ t) (text_more plant (number + 1) bs a)
+    ∙ sym (append_assoc (answer_text plant number b) (service_text plant (number + 1) bs) (answer_text plant (number + 1 + length bs) a))
+    ∙ ap (λ (n : ℕ). service_text plant number (b ∷ bs) ++ answer_text plant n a) (omega arith)
+
+-- ---- what is done so far
+
+module _ (plant : PlantFields) (start : Start) (before : List Step) (shown : List Out) where
+  -- nothing is read yet
+  pub begun : (input : List ℕ) (bytes : List ℕ) (is_long : Bool) (live : CoreView) (known : Option (List ℕ)) → IsHeld bytes is_long [] → IsAfterFrom plant start before shown live
+      → IsServedSoFar plant start before shown input input bytes is_long 1 live known known
+  unfolding parts_of
+  begun input bytes is_long live known held after = record {
+    lines = [];
+    part = [];
+    answers = [];
+    lines_are = refl;
+    is_held = held;
+    number_is = refl;
+    answered = tt;
+    after = subst (λ (s : List Step). IsAfterFrom plant start s (shown ++ []) live) (sym (append-nil before)) (subst (λ (o : List Out). IsAfterFrom plant start before o live) (sym (append-nil shown)) after);
+    written = Appends-nil known;
+  }
+
+  -- the byte within a line
+  within : (byte : ℕ) (part rest : List ℕ) → (byte == 10) ≡ false → parts_from 10 part (byte ∷ rest) ≡ parts_from 10 (part ++ byte ∷ []) rest
+  within byte part rest other =
+      ap (λ (t : Bool). elim t [ true ↦ part ∷ parts_from 10 [] rest | false ↦ parts_from 10 (part ++ byte ∷ []) rest ]) other
+
+  pub byte_read : (input rest : List ℕ) (bytes new_bytes : List ℕ) (is_long new_long : Bool) (number byte : ℕ) (live : CoreView) (w0 w1 : Option (List ℕ)) → (byte == 10) ≡ false
+      → IsServedSoFar plant start before shown input (byte ∷ rest) bytes is_long number live w0 w1
+      → ((part : List ℕ) → IsHeld bytes is_long part → IsHeld new_bytes new_long (part ++ byte ∷ []))
+      → IsServedSoFar plant start before shown input rest new_bytes new_long number live w0 w1
+  unfolding within
+  byte_read input rest bytes new_bytes is_long new_long number byte live w0 w1 other so_far held = record {
+    lines = so_far.lines;
+    part = so_far.part ++ byte ∷ [];
+    answers = so_far.answers;
+    lines_are = so_far.lines_are ∙ ap (λ (ls : List (List ℕ)). so_far.lines ++ ls) (within byte so_far.part rest other);
+    is_held = held so_far.part so_far.is_held;
+    number_is = so_far.number_is;
+    answered = so_far.answered;
+    after = so_far.after;
+    written = so_far.written;
+  }
+
+  -- all that is answered with a line more
+  module _ (input rest : List ℕ) (bytes : List ℕ) (is_long : Bool) (number : ℕ) (old live : CoreView) (w0 w1 w2 : Option (List ℕ))
+      (so_far : IsServedSoFar plant start before shown input rest bytes is_long number old w0 w1)
+      (new : IsAnswered plant start (before ++ all_done so_far.answers) (shown ++ all_told so_far.answers) number so_far.part live w1 w2) where
+    all : List Answered
+    all = so_far.answers ++ new.answered ∷ []
+
+    are_answered : AreAnswered plant start before shown 1 (so_far.lines ++ so_far.part ∷ []) all
+    unfolding all
+    are_answered =
+        answered_more plant start before shown 1 so_far.lines so_far.answers so_far.part live new.answered so_far.answered
+        (subst (λ (n : ℕ). IsAnswer plant start (before ++ all_done so_far.answers) (shown ++ all_told so_far.answers) n so_far.part live new.answered) so_far.number_is new.is)
+
+    run_is : IsAfterFrom plant start (before ++ all_done all) (shown ++ all_told all) live
+    unfolding all
+    run_is =
+        let a = new.answered in
+        let done : (before ++ all_done so_far.answers) ++ a.done ≡ before ++ all_done (so_far.answers ++ a ∷ []) =
+        append_assoc before (all_done so_far.answers) a.done
+        ∙ ap (λ (s : List Step). before ++ s) (ap (λ (s : List Step). all_done so_far.answers ++ s) (sym (append-nil a.done)) ∙ sym (flat_map-append (λ (x : Answered). x.done) so_far.answers (a ∷ []))) in
+        let told : (shown ++ all_told so_far.answers) ++ a.told ≡ shown ++ all_told (so_far.answers ++ a ∷ []) =
+        append_assoc shown (all_told so_far.answers) a.told
+        ∙ ap (λ (s : List Out). shown ++ s) (ap (λ (s : List Out). all_told so_far.answers ++ s) (sym (append-nil a.told)) ∙ sym (flat_map-append (λ (x : Answered). x.told) so_far.answers (a ∷ []))) in
+        subst (λ (s : List Step). IsAfterFrom plant start s (shown ++ all_told (so_far.answers ++ a ∷ [])) live) done
+        (subst (λ (o : List Out). IsAfterFrom plant start ((before ++ all_done so_far.answers) ++ a.done) o live) told new.is.after)
+
+    is_written : Appends w0 w2 (service_text plant 1 all)
+    unfolding all
+    is_written =
+        let count : 1 + length so_far.answers ≡ number = ap (λ (n : ℕ). 1 + n) (as_many plant start before shown 1 so_far.lines so_far.answers so_far.answered) ∙ sym so_far.number_is in
+        subst (λ (t : List ℕ). Appends w0 w2 t) (sym (text_more plant 1 so_far.answers new.answered))
+        (Appends-trans w0 w1 w2 _ _ so_far.written (subst (λ (n : ℕ). Appends w1 w2 (answer_text plant n new.answered)) (sym count) new.written))
+
+    -- the line has ended, and the next one begins
+    pub line_ended : (new_bytes : List ℕ) (new_long : Bool) (next : ℕ) (left : List ℕ) → rest ≡ 10 ∷ left → next ≡ number + 1 → IsHeld new_bytes new_long []
+        → IsServedSoFar plant start before shown input left new_bytes new_long next live w0 w2
+    unfolding all are_answered run_is is_written
+    line_ended new_bytes new_long next left ends next_is held = record {
+      lines = so_far.lines ++ so_far.part ∷ [];
+      part = [];
+      answers = all;
+      lines_are =
+          so_far.lines_are
+          ∙ ap (λ (bs : List ℕ). so_far.lines ++ parts_from 10 so_far.part bs) ends
+          ∙ sym (append_assoc so_far.lines (so_far.part ∷ []) (parts_from 10 [] left));
+      is_held = held;
+      number_is = let n : number ≡ 1 + length so_far.lines = so_far.number_is in next_is ∙ ap (λ (k : ℕ). k + 1) n ∙ counted so_far.lines so_far.part;
+      answered = are_answered;
+      after = run_is;
+      written = is_written;
+    }
+      where
+        counted : (xs : List (List ℕ)) (x : List ℕ) → 1 + length xs + 1 ≡ 1 + length (xs ++ x ∷ [])
+        counted xs x = let long = length-append xs (x ∷ []) in omega (arith, long)
+
+    -- the input has ended
+    pub input_ended : rest ≡ [] → IsServiceOf plant start before shown input live w0 w2
+    unfolding all are_answered run_is is_written
+    input_ended ends = record {
+      answers = all;
+      answered = subst (λ (ls : List (List ℕ)). AreAnswered plant start before shown 1 ls all) (sym (so_far.lines_are ∙ ap (λ (bs : List ℕ). so_far.lines ++ parts_from 10 so_far.part bs) ends)) are_answered;
+      after = run_is;
+      written = is_written;
+    }
+
+-- ---- where the reader's bytes are known
+
+pub known_same : (known : Option (List ℕ)) (P : List ℕ → List ℕ → Type 0) → ((input : List ℕ) → P input input) → WhereKnown known known P
+known_same None P h = tt
+known_same (Some input) P h = h input
+
+pub known_ended : (a b d : Option (List ℕ)) (G : PlantFields → Start → List Step → List Out → Type 0) (P : PlantFields → Start → List Step → List Out → List ℕ → List ℕ → Type 0) (Q : PlantFields → Start → List Step → List Out → List ℕ → Type 0)
+    → ((plant : PlantFields) (start : Start) (before : List Step) (shown : List Out) → G plant start before shown → WhereKnown a b (P plant start before shown)) → Takes b d None
+    → ((plant : PlantFields) (start : Start) (before : List Step) (shown : List Out) (input : List ℕ) → G plant start before shown → P plant start before shown input [] → Q plant start before shown input)
+    → IfSome a (λ input. (plant : PlantFields) (start : Start) (before : List Step) (shown : List Out) → G plant start before shown → Q plant start before shown input)
+known_ended None b d G P Q h took on = tt
+known_ended (Some input) None d G P Q h took on = λ plant start before shown is. absurd (h plant start before shown is)
+known_ended (Some input) (Some rest) None G P Q h took on = absurd took
+known_ended (Some input) (Some rest) (Some left) G P Q h took on = λ plant start before shown is.
+    on plant start before shown input is (subst (λ (l : List ℕ). P plant start before shown input l) took.0 (h plant start before shown is))
+
+-- ---- the law
+
+pub service_shown : ServiceIsShown
+service_shown plant start input live old new service = (live_shown plant start _ _ live service.after, live_ordered plant start _ _ live service.after)

@@ -1,0 +1,140 @@
+-- The steps of a line, one after the other.
+use Rattle.run_model.specs.Starts.{Start}
+use Rattle.std.proofs.Common.{◌≡◌, ◌≢◌, ◌⊎◌, inl, inr, Result, Ok, OnOk, ℕ, zero, suc, List, [], ◌∷◌, ◌++◌, take, Option, Some, IsSome, Err, refl, sym, ap, subst, ◌∙◌, append_assoc, append-nil}
+use Rattle.std.specs.Io.KnownBytes.{Appends}
+use Rattle.std.proofs.KnownBytes.{Appends-nil, Appends-trans}
+use Rattle.std.proofs.lemmas.List.{map-append}
+use Rattle.std.proofs.lemmas.Grind.{flat_map-append}
+use Rattle.plant.specs.declared.plant.PlantFields.{PlantFields}
+use Rattle.run_model.specs.declared.step.Step.{Step}
+use Rattle.run_model.specs.declared.step.Out.{Out}
+use Rattle.run_model.specs.IsStateAfter.{CoreView}
+use Rattle.plant_core.specs.declared.core_fault.CoreFault.{CoreFault}
+use Rattle.plant_core.specs.declared.core_fault.CoreFault.TheVariants.{UnknownModem, UnknownOperator, Book, Gather, NothingToCollect, NoMemory, Reslice}
+use Rattle.plant_core.specs.Faults.{step_fault, IsTold}
+use Rattle.live_core.specs.After.{IsAfterFrom, IsReachable}
+use Rattle.script_format.specs.declared.script.LineStep.{LineStep}
+use Rattle.script_format.specs.Script.{unnumbered}
+use Rattle.script_format.specs.Text.{out_line, outs_text}
+use Rattle.line_service.specs.declared.steps_end.StepsEnd.{StepsEnd}
+use Rattle.line_service.specs.declared.steps_end.StepsEnd.TheVariants as ends
+use Rattle.line_service.specs.SoFar.{IsHalfDone}
+use Rattle.line_service.specs.Steps.{HasDone}
+use Rattle.line_service.proofs.LeftLemmas.{first_left, none_left, take_next, drop_next}
+
+-- ---- one step more
+
+-- what a run leads to is of its plant
+pub after_plant : (plant : PlantFields) (start : Start) (steps : List Step) (outs : List Out) (live : CoreView) → IsAfterFrom plant start steps outs live → live.plant ≡ plant
+after_plant plant start steps outs live after = sym after.is_of.plant_is ∙ after.reached.plant_is
+
+-- nothing is done yet
+pub none_done : (plant : PlantFields) (start : Start) (before : List Step) (shown : List Out) (steps : List LineStep) (live : CoreView) (known : Option (List ℕ))
+    → IsAfterFrom plant start before shown live → IsHalfDone plant start before shown steps live known known steps
+none_done plant start before shown steps live known after = record {
+  at = zero;
+  told = [];
+  after = subst (λ (s : List Step). IsAfterFrom plant start s (shown ++ []) live) (sym (append-nil before)) (subst (λ (o : List Out). IsAfterFrom plant start before o live) (sym (append-nil shown)) after);
+  written = Appends-nil known;
+  left_are = refl;
+}
+
+module _ (plant : PlantFields) (start : Start) (before : List Step) (shown : List Out) (steps : List LineStep) (old new : CoreView) (w0 w1 w2 : Option (List ℕ)) (line : LineStep) (rest : List LineStep) (now : List Out)
+    (half : IsHalfDone plant start before shown steps old w0 w1 (line ∷ rest))
+    (reached : (b : List Step) (t : List Out) → IsAfterFrom old.plant start b t old → IsAfterFrom old.plant start (b ++ line.step ∷ []) (t ++ now) new) where
+  done : List Step
+  done = unnumbered (take half.at steps)
+
+  steps_more : done ++ line.step ∷ [] ≡ unnumbered (take (suc half.at) steps)
+  unfolding done
+  steps_more =
+      sym (map-append (λ (l : LineStep). l.step) (take half.at steps) (line ∷ []))
+      ∙ ap unnumbered (sym (take_next steps half.at line rest half.left_are))
+
+  after_more : IsAfterFrom plant start (before ++ unnumbered (take (suc half.at) steps)) (shown ++ (half.told ++ now)) new
+  unfolding done steps_more
+  after_more =
+      let same : old.plant ≡ plant = after_plant plant start (before ++ done) (shown ++ half.told) old half.after in
+      let then_new = reached (before ++ done) (shown ++ half.told) (subst (λ (p : PlantFields). IsAfterFrom p start (before ++ done) (shown ++ half.told) old) (sym same) half.after) in
+      let of_plant : IsAfterFrom plant start ((before ++ done) ++ line.step ∷ []) ((shown ++ half.told) ++ now) new =
+      subst (λ (p : PlantFields). IsAfterFrom p start ((before ++ done) ++ line.step ∷ []) ((shown ++ half.told) ++ now) new) same then_new in
+      subst (λ (o : List Out). IsAfterFrom plant start (before ++ unnumbered (take (suc half.at) steps)) o new) (append_assoc shown half.told now)
+      (subst (λ (s : List Step). IsAfterFrom plant start s ((shown ++ half.told) ++ now) new) (append_assoc before done (line.step ∷ []) ∙ ap (λ (s : List Step). before ++ s) steps_more) of_plant)
+
+  -- what the step puts out is written too
+  pub half_more : Appends w1 w2 (outs_text new.plant now) → IsHalfDone plant start before shown steps new w0 w2 rest
+  unfolding after_more
+  half_more wrote =
+      let same : new.plant ≡ plant = after_plant plant start _ _ new after_more in
+      record {
+        at = suc half.at;
+        told = half.told ++ now;
+        after = after_more;
+        written =
+            subst (λ (t : List ℕ). Appends w0 w2 t) (sym (flat_map-append (out_line plant) half.told now))
+            (Appends-trans w0 w1 w2 (outs_text plant half.told) (outs_text plant now) half.written (subst (λ (p : PlantFields). Appends w1 w2 (outs_text p now)) same wrote));
+        left_are = drop_next steps half.at line rest half.left_are;
+      }
+
+-- ---- how steps end
+
+pub all_are_done : (plant : PlantFields) (start : Start) (before : List Step) (shown : List Out) (steps : List LineStep) (live : CoreView) (w0 w1 : Option (List ℕ)) (left : List LineStep)
+    → IsHalfDone plant start before shown steps live w0 w1 left → left ≡ [] → HasDone plant start before shown steps live ends.Done w0 w1
+all_are_done plant start before shown steps live w0 w1 left half none = record {
+  at = half.at;
+  told = half.told;
+  after = half.after;
+  ends = rw (none_left steps half.at (half.left_are ∙ none)) tt;
+  written = half.written;
+}
+
+memory_wants : (plant : PlantFields) (start : Start) (before : List Step) (shown : List Out) (steps : List LineStep) (old live : CoreView) (w0 w1 : Option (List ℕ)) (left : List LineStep)
+    → IsHalfDone plant start before shown steps old w0 w1 left → live ≡ old → HasDone plant start before shown steps live ends.NoMemory w0 w1
+memory_wants plant start before shown steps old live w0 w1 left half same =
+    subst (λ (c : CoreView). HasDone plant start before shown steps c ends.NoMemory w0 w1) (sym same)
+    (record { at = half.at; told = half.told; after = half.after; ends = tt; written = half.written })
+
+-- a fault that is told, other than want of memory
+pub fault_is_told : (A : Type 0) (fault : CoreFault) (reason : Option CoreFault) → IsTold {A = A} (Err fault) reason → fault ≢ NoMemory → reason ≡ Some fault
+fault_is_told A (UnknownModem modem) reason told other = told
+fault_is_told A (UnknownOperator op) reason told other = told
+fault_is_told A (Book refused) reason told other = told
+fault_is_told A (Gather refused) reason told other = told
+fault_is_told A (NothingToCollect op) reason told other = told
+fault_is_told A NoMemory reason told other = absurd (other refl)
+fault_is_told A (Reslice refused) reason told other = told
+
+step_is_refused : (plant : PlantFields) (start : Start) (before : List Step) (shown : List Out) (steps : List LineStep) (old live : CoreView) (w0 w1 : Option (List ℕ)) (line : LineStep) (rest : List LineStep)
+    (A : Type 0) (fault : CoreFault) → IsHalfDone plant start before shown steps old w0 w1 (line ∷ rest) → live ≡ old → IsTold {A = A} (Err fault) (step_fault old line.step) → fault ≢ NoMemory
+    → HasDone plant start before shown steps live (ends.Refused line.number) w0 w1
+step_is_refused plant start before shown steps old live w0 w1 line rest A fault half same told other =
+    let refused : step_fault old line.step ≡ Some fault = fault_is_told A fault (step_fault old line.step) told other in
+    let some : IsSome (step_fault old line.step) = rw refused refl in
+    subst (λ (c : CoreView). HasDone plant start before shown steps c (ends.Refused line.number) w0 w1) (sym same)
+    (record { at = half.at; told = half.told; after = half.after; ends = rw (first_left steps half.at line rest half.left_are) (refl, some); written = half.written })
+
+-- steps end where one is not done
+pub step_not_done : (plant : PlantFields) (start : Start) (before : List Step) (shown : List Out) (steps : List LineStep) (old live : CoreView) (w0 w1 : Option (List ℕ)) (line : LineStep) (rest : List LineStep)
+    (A : Type 0) (fault : CoreFault) (end : StepsEnd) → IsHalfDone plant start before shown steps old w0 w1 (line ∷ rest) → live ≡ old → IsTold {A = A} (Err fault) (step_fault old line.step)
+    → (end ≡ ends.NoMemory) ⊎ ((end ≡ ends.Refused line.number) × (fault ≢ NoMemory)) → HasDone plant start before shown steps live end w0 w1
+step_not_done plant start before shown steps old live w0 w1 line rest A fault end half same told (inl wants) =
+    subst (λ (e : StepsEnd). HasDone plant start before shown steps live e w0 w1) (sym wants) (memory_wants plant start before shown steps old live w0 w1 (line ∷ rest) half same)
+step_not_done plant start before shown steps old live w0 w1 line rest A fault end half same told (inr refused) =
+    subst (λ (e : StepsEnd). HasDone plant start before shown steps live e w0 w1) (sym refused.0) (step_is_refused plant start before shown steps old live w0 w1 line rest A fault half same told refused.1)
+
+-- what holds whatever is answered
+pub on_ok : {A E : Type 0} (r : Result A E) (P : Type 0) → P → OnOk r P
+on_ok (Ok x) P p = p
+on_ok (Err e) P p = tt
+
+-- whatever a call leads to from a run is reachable, where the old core was
+pub reachable_on : (old new : CoreView) → IsReachable old
+    → ((plant : PlantFields) (start : Start) (before : List Step) (shown : List Out) → IsAfterFrom plant start before shown old → (steps : List Step) × (outs : List Out) × IsAfterFrom plant start steps outs new) → IsReachable new
+reachable_on old new was on =
+    let then_new = on old.plant was.0 was.1 was.2 was.3 in
+    let same : new.plant ≡ old.plant = after_plant old.plant was.0 then_new.0 then_new.1 new then_new.2 in
+    (was.0, then_new.0, then_new.1, subst (λ (p : PlantFields). IsAfterFrom p was.0 then_new.0 then_new.1 new) (sym same) then_new.2)
+
+pub on_ok_map : {A E : Type 0} (r : Result A E) (P Q : Type 0) → (P → Q) → OnOk r P → OnOk r Q
+on_ok_map (Ok x) P Q f p = f p
+on_ok_map (Err e) P Q f p = tt

@@ -1,0 +1,106 @@
+-- A plant in service: lines of a script are answered one after the other, and a line at fault ends nothing (own).
+use Rattle.run_model.specs.Starts.{Start}
+use Rattle.std.specs.Prelude.{◌≡◌, ℕ, ◌+◌, List, [], ◌∷◌, ◌++◌, nat_le, take, length, slice_get, Option, Some, None, IsSome, Ok, Err, ⊤, if◌then◌else◌, codes}
+use Rattle.std.specs.Fmt.{decimal}
+use Rattle.std.specs.Io.KnownBytes.{Appends}
+use Rattle.std.specs.List.{flat_map}
+use Rattle.plant.specs.declared.plant.PlantFields.{PlantFields}
+use Rattle.run_model.specs.declared.step.Step.{Step}
+use Rattle.run_model.specs.declared.step.Out.{Out}
+use Rattle.run_model.specs.IsStateAfter.{CoreView}
+use Rattle.run_model.specs.IsTraceOf.{IsTraceFrom}
+use Rattle.run_model.specs.Ordered.{OrderedFrom}
+use Rattle.plant_core.specs.Faults.{step_fault}
+use Rattle.live_core.specs.After.{IsAfterFrom}
+use Rattle.script_format.specs.declared.fields.FieldFault.TheVariants.{Shape}
+use Rattle.script_format.specs.declared.script.LineStep.{LineStep}
+use Rattle.script_format.specs.Fields.{Read}
+use Rattle.script_format.specs.Lines.{lines_of}
+use Rattle.script_format.specs.Script.{line_steps, unnumbered}
+use Rattle.script_format.specs.Text.{outs_text}
+use Rattle.line_service.specs.declared.line_outcome.LineOutcome.{LineOutcome}
+use Rattle.line_service.specs.declared.line_outcome.LineOutcome.TheVariants.{Done, AtFault, NoMemory}
+
+-- ---- what a line says
+
+-- a line of more than 4,096 bytes says nothing
+abbrev pub steps_said : PlantFields → ℕ → List ℕ → Read (List LineStep)
+steps_said plant number line = if nat_le (length line) 4096 then line_steps plant number line else Err Shape
+
+-- ---- what is answered to a line
+
+-- the steps that were done, what they put out, and how the line ended
+pub record Answered : Type 0 where
+  pub done : List Step
+  pub told : List Out
+  pub end : LineOutcome
+
+abbrev pub end_text : ℕ → LineOutcome → List ℕ
+end_text number Done = []
+end_text number AtFault = codes "fault: line " ++ (decimal number ++ 10 ∷ [])
+end_text number NoMemory = codes "fault: memory" ++ 10 ∷ []
+
+-- all that was put out, and behind it the line's number, where it is at fault
+abbrev pub answer_text : PlantFields → ℕ → Answered → List ℕ
+answer_text plant number answered = outs_text plant answered.told ++ end_text number answered.end
+
+-- all steps are done; or the next one is refused; or memory was wanting, which may be at any time
+abbrev pub IsEndAt : CoreView → Option LineStep → LineOutcome → Type 0
+IsEndAt live next NoMemory = ⊤
+IsEndAt live None Done = ⊤
+IsEndAt live None AtFault = ⊥
+IsEndAt live (Some line) Done = ⊥
+IsEndAt live (Some line) AtFault = IsSome (step_fault live line.step)
+
+-- a line that says no step is at fault
+abbrev pub IsFault : LineOutcome → Type 0
+IsFault Done = ⊥
+IsFault AtFault = ⊤
+IsFault NoMemory = ⊤
+
+-- the line's steps are done in order, up to the end or to the first that is refused; where it says no step none is done
+abbrev pub EndsAs : Read (List LineStep) → CoreView → Answered → Type 0
+EndsAs (Ok steps) live answered = (at : ℕ) × (answered.done ≡ unnumbered (take at steps)) × IsEndAt live (slice_get steps at) answered.end
+EndsAs (Err fault) live answered = (answered.done ≡ []) × (answered.told ≡ []) × IsFault answered.end
+
+-- the line is answered so, behind these steps and outputs, and this is the core behind it
+pub record IsAnswer (plant : PlantFields) (start : Start) (before : List Step) (shown : List Out) (number : ℕ) (line : List ℕ) (live : CoreView) (answered : Answered) : Type 0 where
+  pub after : IsAfterFrom plant start (before ++ answered.done) (shown ++ answered.told) live
+  pub ends : EndsAs (steps_said plant number line) live answered
+
+-- ---- the whole service
+
+-- each line is answered, in order, by its number
+abbrev pub AreAnswered : PlantFields → Start → List Step → List Out → ℕ → List (List ℕ) → List Answered → Type 0
+AreAnswered plant start before shown number [] [] = ⊤
+AreAnswered plant start before shown number [] (answered ∷ more) = ⊥
+AreAnswered plant start before shown number (line ∷ lines) [] = ⊥
+AreAnswered plant start before shown number (line ∷ lines) (answered ∷ more) =
+    (live : CoreView) × IsAnswer plant start before shown number line live answered
+    × AreAnswered plant start (before ++ answered.done) (shown ++ answered.told) (number + 1) lines more
+
+-- all answers, each behind the one before it
+abbrev pub service_text : PlantFields → ℕ → List Answered → List ℕ
+service_text plant number [] = []
+service_text plant number (answered ∷ more) = answer_text plant number answered ++ service_text plant (number + 1) more
+
+-- the steps that were done, and what they put out
+abbrev pub all_done : List Answered → List Step
+all_done answers = flat_map (λ answered. answered.done) answers
+
+abbrev pub all_told : List Answered → List Out
+all_told answers = flat_map (λ answered. answered.told) answers
+
+-- behind these steps and outputs, all lines of the input are answered, their answers are written, and this is the core then
+pub record IsServiceOf (plant : PlantFields) (start : Start) (before : List Step) (shown : List Out) (input : List ℕ) (live : CoreView) (old new : Option (List ℕ)) : Type 0 where
+  pub answers : List Answered
+  pub answered : AreAnswered plant start before shown 1 (lines_of input) answers
+  pub after : IsAfterFrom plant start (before ++ all_done answers) (shown ++ all_told answers) live
+  pub written : Appends old new (service_text plant 1 answers)
+
+-- ---- the law
+
+-- what a service has put out is shown to each operator as its own machine run alone has it, and in order
+abbrev pub ServiceIsShown : Type 0
+ServiceIsShown = (plant : PlantFields) (start : Start) (input : List ℕ) (live : CoreView) (old new : Option (List ℕ)) (service : IsServiceOf plant start [] [] input live old new)
+    → IsTraceFrom plant start (all_done service.answers) (all_told service.answers) × OrderedFrom plant start (all_done service.answers) (all_told service.answers)

@@ -1,0 +1,131 @@
+//! Steps that are done one after the other, and the answer to one line.
+
+ghost use Rattle.std.specs.Prelude.{◌≡◌, IfOk, OnOk};
+ghost use Rattle.std.specs.Io.KnownBytes.{Appends};
+ghost use Rattle.live_core.specs.After.{BehindEachRun, IsReachable};
+ghost use Rattle.live_core.specs.LiveView.{live_view};
+ghost use Rattle.script_format.specs.Fields.{Gives};
+ghost use Rattle.line_service.specs.Service.{steps_said, end_text};
+ghost use Rattle.line_service.specs.Ends.{line_outcome};
+ghost use Rattle.line_service.specs.SoFar.{HasAnswered, IsAnswered};
+ghost use Rattle.line_service.specs.Steps.{HasDone};
+
+use crate::line_buffer::MOST_BYTES;
+use crate::line_outcome::LineOutcome;
+use crate::steps_end::{StepsEnd, end_of};
+use live_core::LiveCore;
+use plant::Plant;
+use script_format::{FieldFault, LineStep, put_line, write_outs};
+use std::alloc::Global;
+use std::io;
+use std::io::Write;
+
+/// The steps that a line says.
+fn steps_said(
+    alloc: Global,
+    plant: &Plant,
+    number: u64,
+    line: &[u8],
+) -> Result<Vec<LineStep>, FieldFault>
+    ensures { Gives (λ steps. steps.items) result (steps_said plant.now number line.now) }
+{
+    if line.len() > MOST_BYTES {
+        return Err(FieldFault::Shape);
+    }
+    let mut fields = Vec::new(alloc);
+    let mut steps = Vec::new(alloc);
+    match put_line(alloc, plant, number, line, &mut fields, &mut steps) {
+        Ok(()) => Ok(steps),
+        Err(fault) => Err(fault),
+    }
+}
+
+/// Does steps up to the first that is refused, and writes what each puts out. Answers how that ended. A step that is refused, or for
+/// which memory was wanting, has changed nothing; those before it stand. An error is one of the writer's; then no clause says how
+/// much was done.
+pub fn run_steps<W: Write>(
+    alloc: Global,
+    core: &mut LiveCore,
+    steps: Vec<LineStep>,
+    writer: &mut W,
+) -> io::Result<StepsEnd>
+    requires reached { IsReachable (live_view core.old) }
+    // Behind whatever run led to the core, so many steps are done, and what they put out is written.
+    ensures { IfOk result (λ end. BehindEachRun (live_view core.old) (λ plant start before shown. HasDone plant start before shown
+        steps.items (live_view core.new) end (W.contents writer.old) (W.contents writer.new))) }
+{
+    let mut outs = Vec::new(alloc);
+    for LineStep { number, step } in steps {
+        match core.step_over(alloc, step, &mut outs) {
+            Ok(()) => write_outs(writer, core.plant(), outs.as_slice())?,
+            Err(fault) => return Ok(end_of(number, fault)),
+        }
+    }
+    Ok(StepsEnd::Done)
+}
+
+/// How a line ends whose steps ended so.
+fn line_outcome(end: StepsEnd) -> LineOutcome
+    ensures { result ≡ line_outcome end }
+{
+    match end {
+        StepsEnd::Done => LineOutcome::Done,
+        StepsEnd::Refused { number: _ } => LineOutcome::AtFault,
+        StepsEnd::NoMemory => LineOutcome::NoMemory,
+    }
+}
+
+/// Does what a line says, and writes what that puts out. Answers how the line ended.
+#[tactic(auto, using(crate::proofs::LineLemmas::steps_answered, crate::proofs::LineLemmas::none_answered, crate::proofs::LineLemmas::memory_answered))]
+fn do_line<W: Write>(
+    alloc: Global,
+    core: &mut LiveCore,
+    number: u64,
+    line: &[u8],
+    writer: &mut W,
+) -> io::Result<LineOutcome>
+    requires reached { IsReachable (live_view core.old) }
+    ensures { IfOk result (λ end. BehindEachRun (live_view core.old) (λ plant start before shown. HasAnswered plant start before shown
+        number line.now (live_view core.new) end (W.contents writer.old) (W.contents writer.new))) }
+{
+    match steps_said(alloc, core.plant(), number, line) {
+        Ok(steps) => {
+            let end = run_steps(alloc, core, steps, writer)?;
+            Ok(line_outcome(end))
+        }
+        Err(FieldFault::Shape) => Ok(LineOutcome::AtFault),
+        Err(FieldFault::NoMemory) => Ok(LineOutcome::NoMemory),
+    }
+}
+
+/// Writes how a line ended.
+pub(crate) fn write_end<W: Write>(writer: &mut W, number: u64, end: LineOutcome) -> io::Result<()>
+    ensures { OnOk result (Appends (W.contents writer.old) (W.contents writer.new) (end_text number end)) }
+{
+    match end {
+        LineOutcome::Done => Ok(()),
+        LineOutcome::AtFault => write!(writer, "fault: line {number}\n"),
+        LineOutcome::NoMemory => writer.write_all(b"fault: memory\n"),
+    }
+}
+
+/// Answers a line: does its steps up to the first that is refused, writes what each puts out, and behind it the line's number,
+/// where it is at fault. What stands before a step that is refused is done and told. Of a line of more than 4,096 bytes nothing
+/// is done. Want of memory for a step is told in the fault's place, and the plant is as before that step. An error is one of the
+/// writer's; then no clause says how much was done.
+pub fn answer_line<W: Write>(
+    alloc: Global,
+    core: &mut LiveCore,
+    number: u64,
+    line: &[u8],
+    writer: &mut W,
+) -> io::Result<()>
+    requires reached { IsReachable (live_view core.old) }
+    // Behind whatever run led to the core, the line has such an answer, and it is written.
+    ensures { OnOk result (BehindEachRun (live_view core.old) (λ plant start before shown. IsAnswered plant start before shown number
+        line.now (live_view core.new) (W.contents writer.old) (W.contents writer.new))) }
+{
+    let end = do_line(alloc, core, number, line, writer)?;
+    write_end(writer, number, end)?;
+    writer.flush()
+}

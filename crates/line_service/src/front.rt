@@ -1,0 +1,76 @@
+//! Reading a plant's text, up to the line of three dashes.
+
+ghost use Rattle.std.specs.Prelude.{◌≡◌, ◌++◌, ◌∷◌, [], List, ℕ, Some, IfOk, OnOk, IfSome};
+ghost use Rattle.script_format.specs.Input.{plant_text, script_text};
+ghost use Rattle.line_service.specs.Front.{IsReadSoFar, IsFront, ReadsOn};
+
+use crate::bytes::next_byte;
+use std::alloc::{AllocError, Global};
+use std::io;
+use std::io::Read;
+
+/// The most bytes of a plant's text.
+const MOST_BYTES: usize = 1_048_576;
+
+/// The bytes of the line behind it, with its end.
+const BAR_BYTES: usize = 4;
+
+/// A line has ended: it joins the text, and the next begins.
+fn end_line(text: &mut Vec<u8>, line: &mut Vec<u8>) -> Result<(), AllocError>
+    ensures text { OnOk result (text.new.items ≡ text.old.items ++ (line.old.items ++ 10 ∷ [])) }
+    ensures line { OnOk result (line.new.items ≡ []) }
+{
+    line.push(b'\n')?;
+    text.extend_from_slice(line.as_slice())?;
+    line.clear();
+    Ok(())
+}
+
+/// Takes a byte more of a plant file, and answers whether it ends the line of three dashes.
+fn take_byte(text: &mut Vec<u8>, line: &mut Vec<u8>, byte: u8) -> Result<bool, AllocError>
+    ensures { IfOk result (λ is_bar. (input rest : List ℕ)
+        → IsReadSoFar input (byte ∷ rest) text.old.items line.old.items
+        → ReadsOn is_bar input rest text.new.items line.new.items) }
+{
+    if byte != b'\n' {
+        line.push(byte)?;
+        return Ok(false);
+    }
+    if line.as_slice() == b"---".as_slice() {
+        return Ok(true);
+    }
+    end_line(text, line)?;
+    Ok(false)
+}
+
+/// The whole text where the input has ended behind a line.
+fn with_last_line(mut text: Vec<u8>, line: &[u8]) -> Result<Vec<u8>, AllocError>
+    ensures { IfOk result (λ whole. (input : List ℕ) → IsReadSoFar input [] text.items line.now → IsFront whole.items input []) }
+{
+    if line != b"---".as_slice() {
+        text.extend_from_slice(line)?;
+    }
+    Ok(text)
+}
+
+/// Reads a plant's text, up to the first line of three dashes and that line too, and answers what stands before it. The reader is
+/// left where the script begins. Where there is no such line, all is the plant's text. An error is one of the reader's, want of
+/// memory, or a text of more than 1,048,576 bytes.
+pub fn read_plant_text<R: Read>(alloc: Global, reader: &mut R) -> io::Result<Vec<u8>>
+    ensures text { IfOk result (λ text. IfSome (R.remaining reader.old) (λ input. text.items ≡ plant_text input)) }
+    ensures script { OnOk result (IfSome (R.remaining reader.old) (λ input. R.remaining reader.new ≡ Some (script_text input))) }
+{
+    let mut text = Vec::new(alloc);
+    let mut line = Vec::new(alloc);
+    for _ in 0..=MOST_BYTES + BAR_BYTES {
+        match next_byte(reader)? {
+            None => return Ok(with_last_line(text, line.as_slice())?),
+            Some(byte) => {
+                if take_byte(&mut text, &mut line, byte)? {
+                    return Ok(text);
+                }
+            }
+        }
+    }
+    Err(io::Error::from(io::ErrorKind::FileTooLarge))
+}

@@ -1,0 +1,12 @@
+//! How a line ended.
+
+/// How the answer to a line ended.
+#[derive(Clone, Copy, Debug, PartialEq, Eq)]
+pub enum LineOutcome {
+    /// All its steps are done.
+    Done,
+    /// It says no step, or its next step is refused.
+    AtFault,
+    /// Memory was wanting for its next step.
+    NoMemory,
+}

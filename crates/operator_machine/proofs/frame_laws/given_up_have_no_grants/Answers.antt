@@ -1,5 +1,0 @@
-use Rattle.operator_machine.proofs.UndoLemmas.{flows_left_same}
-use Rattle.operator_machine.proofs.frame_laws.given_up_have_no_grants.Goals as goal
-
-pub returns : goal.returns
-returns c = flows_left_same

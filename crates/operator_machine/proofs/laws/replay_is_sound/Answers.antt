@@ -1,5 +1,0 @@
-use Rattle.operator_machine.proofs.StepLemmas.{replay_sound}
-use Rattle.operator_machine.proofs.laws.replay_is_sound.Goals as goal
-
-pub returns : goal.returns
-returns c = λ consts row history state is some replay. replay_sound consts row history state is some replay

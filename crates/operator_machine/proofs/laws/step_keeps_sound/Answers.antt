@@ -1,5 +1,0 @@
-use Rattle.operator_machine.proofs.StepLemmas.{step_sound}
-use Rattle.operator_machine.proofs.laws.step_keeps_sound.Goals as goal
-
-pub returns : goal.returns
-returns c = λ op action sound allowed. step_sound op sound action allowed

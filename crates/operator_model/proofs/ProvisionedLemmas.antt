@@ -1,0 +1,78 @@
+-- Provisioned flows: their sets are nested and of their kinds, and how they stand as flows.
+use Rattle.std.proofs.Common.{◌≡◌, ℕ, ◌==◌, List, [], ◌∷◌, Option, Some, None, Result, Ok, Err, IfOk, IfSome, map, refl, ap}
+use Rattle.std.specs.List.{cons_option}
+use Rattle.std.specs.declared.cmp.Ordering.{Ordering}
+use Rattle.std.specs.declared.cmp.Ordering.TheVariants.{Less, Equal, Greater}
+use Rattle.std.specs.Ordering.{nat_cmp, match_ordering}
+use Rattle.std.specs.BTreeMap.{insert_entry}
+use Rattle.std.proofs.lemmas.Bool.{cond_both}
+use Rattle.tlv24.specs.declared.fields.FlowFields.{FlowFields}
+use Rattle.tlv24.specs.declared.fault.FlowFault.{FlowFault}
+use Rattle.param_sets.specs.Units.{UnitSizes}
+use Rattle.param_sets.specs.Reading.{parameter_set_of}
+use Rattle.param_sets.specs.Sets.{AreNested}
+use Rattle.param_sets.specs.declared.param_set.ParamFields.{ParamFields}
+use Rattle.param_sets.specs.declared.refusal.Refusal.{Refusal}
+use Rattle.param_sets.specs.declared.sets.SetsFields.{SetsFields}
+use Rattle.param_sets.proofs.WithinLemmas.{within_self}
+use Rattle.plant.specs.declared.consts.ConstsFields.{ConstsFields}
+use Rattle.plant.specs.Classes.{asked_of}
+use Rattle.plant.specs.Provisioned.{sets_of_type, sets_of_set, sets_over_class, sets_of_flow, Opened, opened_sfids, opened_sids}
+use Rattle.flow_table.specs.declared.flow.Flow.{Flow}
+use Rattle.flow_table.specs.Table.{sfids_of, sids_of, with_flow}
+use Rattle.operator_model.specs.State.{opened_flow}
+use Rattle.operator_model.specs.Sound.{KeepsItsKind, AreOfTheirKinds}
+use Rattle.operator_model.proofs.KindLemmas.{read_kind}
+
+-- ---- what is provisioned is nested, and of its kind
+
+pub record AreFit (sets : SetsFields) : Type 0 where
+  pub nested : AreNested sets
+  pub kinds : AreOfTheirKinds sets
+
+by_type : (n : ℕ) (set : ParamFields) → KeepsItsKind set → IfSome (sets_of_type n set) AreFit
+by_type n set kind =
+    cond_both (n == 1) _ _ (λ o. IfSome o AreFit) (λ _. record { nested = record { active = tt; admitted = tt }; kinds = record { admitted = tt; active = tt } })
+    (λ _. cond_both (n == 3) _ _ (λ o. IfSome o AreFit) (λ _. record { nested = record { active = tt; admitted = within_self set }; kinds = record { admitted = kind; active = tt } })
+    (λ _. cond_both (n == 7) _ _ (λ o. IfSome o AreFit) (λ _. record { nested = record { active = within_self set; admitted = within_self set }; kinds = record { admitted = kind; active = kind } }) (λ _. tt)))
+
+by_set : (set_type : Option ℕ) (set : Result ParamFields Refusal) → IfOk set KeepsItsKind → IfSome (sets_of_set set_type set) AreFit
+by_set (Some n) (Ok set) kind = by_type n set kind
+by_set (Some n) (Err refusal) kind = tt
+by_set None set kind = tt
+
+by_class : (units : UnitSizes) (set_type : Option ℕ) (asked : Option FlowFields) → IfSome (sets_over_class units set_type asked) AreFit
+by_class units set_type None = tt
+by_class units set_type (Some asked) = by_set set_type (parameter_set_of asked units) (read_kind asked units)
+
+pub by_flow : (consts : ConstsFields) (stated : Result FlowFields FlowFault) → IfSome (sets_of_flow consts stated) AreFit
+by_flow consts (Err fault) = tt
+by_flow consts (Ok stated) = by_class consts.units stated.set_type (asked_of consts.classes stated)
+
+-- ---- as flows
+
+module _ (frame : ℕ) where
+  abbrev pub as_flow : ℕ × Opened → ℕ × Flow
+  as_flow entry = (entry.0, opened_flow frame entry.1)
+
+  abbrev pub as_flows : List (ℕ × Opened) → List (ℕ × Flow)
+  as_flows entries = map as_flow entries
+
+  pub same_sfids : (entries : List (ℕ × Opened)) → sfids_of (as_flows entries) ≡ opened_sfids entries
+  same_sfids [] = refl
+  same_sfids (e ∷ entries) = ap (λ (ns : List ℕ). e.0 ∷ ns) (same_sfids entries)
+
+  pub same_sids : (entries : List (ℕ × Opened)) → sids_of (as_flows entries) ≡ opened_sids entries
+  same_sids [] = refl
+  same_sids (e ∷ entries) = ap (λ (ns : List ℕ). cons_option e.1.sid ns) (same_sids entries)
+
+  pub flows-insert : (entries : List (ℕ × Opened)) (k : ℕ) (v : Opened) → as_flows (insert_entry nat_cmp entries k v) ≡ with_flow k (opened_flow frame v) (as_flows entries)
+  flows-insert [] k v = refl
+  flows-insert (e ∷ entries) k v = by (nat_cmp k e.0) (flows-insert entries k v)
+    where
+      by : (o : Ordering) → as_flows (insert_entry nat_cmp entries k v) ≡ with_flow k (opened_flow frame v) (as_flows entries)
+          → as_flows (match_ordering o ((k, v) ∷ e ∷ entries) ((e.0, v) ∷ entries) (e ∷ insert_entry nat_cmp entries k v))
+          ≡ match_ordering o ((k, opened_flow frame v) ∷ as_flow e ∷ as_flows entries) ((e.0, opened_flow frame v) ∷ as_flows entries) (as_flow e ∷ with_flow k (opened_flow frame v) (as_flows entries))
+      by Less more = refl
+      by Equal more = refl
+      by Greater more = ap (λ (fs : List (ℕ × Flow)). as_flow e ∷ fs) more

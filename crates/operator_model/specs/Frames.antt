@@ -1,0 +1,34 @@
+-- The frames that are put out, by their numbers (own).
+use Rattle.std.specs.Prelude.{◌≡◌, ◌+◌, ℕ, Bool, true, false, List, filter_map, count_by, Option, Some, None}
+use Rattle.std.specs.List.{range_with_len}
+use Rattle.operator_model.specs.declared.action.Action.{Action}
+use Rattle.operator_model.specs.declared.action.Action.TheVariants.{Arrive, Work, Tick, Reslice}
+use Rattle.operator_model.specs.declared.output.Output.{Output}
+use Rattle.operator_model.specs.declared.output.Output.TheVariants as outputs
+use Rattle.operator_model.specs.State.{Operator}
+use Rattle.operator_model.specs.Machine.{own_run}
+
+-- the number of a frame
+abbrev pub frame_of : Output → Option ℕ
+frame_of (outputs.Reply modem bytes) = None
+frame_of (outputs.Silent modem cause) = None
+frame_of (outputs.Frame number elements) = Some number
+
+-- the numbers of the frames that are put out, in order
+abbrev pub frames_in : List Output → List ℕ
+frames_in outputs = filter_map frame_of outputs
+
+abbrev pub is_tick : Action → Bool
+is_tick (Arrive modem heard) = false
+is_tick Work = false
+is_tick Tick = true
+is_tick (Reslice from slice_row) = false
+
+-- a run puts out a frame for each tick, numbered from the state's frame number on, in order and with no gap
+abbrev pub FramesHaveNoGap : Type 0
+FramesHaveNoGap = (op : Operator) (actions : List Action)
+    → frames_in (own_run op actions).outputs ≡ range_with_len op.state.frame (count_by is_tick actions)
+
+-- the next frame follows them
+abbrev pub NextFrameFollows : Type 0
+NextFrameFollows = (op : Operator) (actions : List Action) → (own_run op actions).state.frame ≡ op.state.frame + count_by is_tick actions

@@ -1,0 +1,188 @@
+-- How what was heard is handled (CM-SP-MULPIv3.1, 7.2 and 11.2; the kept responses are own).
+use Rattle.std.specs.Prelude.{◌==◌, ℕ, Bool, true, false, not, List, [], ◌∷◌, ◌++◌, map, length, find, nat_le, Option, Some, None, Result, Ok, Err, if◌then◌else◌}
+use Rattle.std.specs.Option.{option_map}
+use Rattle.std.specs.Ordering.{nat_cmp}
+use Rattle.std.specs.Map.{remove_entry}
+use Rattle.std.specs.BTreeMap.{is_at}
+use Rattle.dsx_messages.specs.declared.modem.Modem.{Modem}
+use Rattle.dsx_messages.specs.declared.kind.Kind.{Kind}
+use Rattle.dsx_messages.specs.declared.kind.Kind.TheVariants.{Dsa, Dsc, Dsd}
+use Rattle.dsx_messages.specs.declared.code.Code.TheVariants as codes
+use Rattle.dsx_messages.specs.declared.reply.ReplyFields.{ReplyFields}
+use Rattle.dsx_messages.specs.declared.message.Request.{Request}
+use Rattle.dsx_messages.specs.declared.message.Request.TheVariants as requests
+use Rattle.dsx_messages.specs.declared.message.Message.{Message}
+use Rattle.dsx_messages.specs.declared.message.Message.TheVariants as messages
+use Rattle.dsx_messages.specs.declared.fault.MessageFault.{MessageFault}
+use Rattle.dsx_messages.specs.declared.fault.MessageFault.TheVariants as faults
+use Rattle.dsx_messages.specs.Reading.{message_of}
+use Rattle.dsx_messages.specs.Spelling.{spell_reply}
+use Rattle.transactions.specs.declared.entry.KeptEntry.{KeptEntry}
+use Rattle.transactions.specs.Entry.{same_kind, is_of, waits_for}
+use Rattle.transactions.specs.Keeping.{begun}
+use Rattle.transactions.specs.Keeping as keeping
+use Rattle.plant.specs.declared.consts.ConstsFields.{ConstsFields}
+use Rattle.plant.specs.Row.{same_modem}
+use Rattle.flow_table.specs.declared.flow.Flow.{Flow}
+use Rattle.flow_table.specs.Flow.{asks_for_grants, acknowledged, taken_back, requested}
+use Rattle.flow_table.specs.Table.{flow_at, flow_with, with_flow}
+use Rattle.operator_model.specs.declared.heard.Heard.{Heard}
+use Rattle.operator_model.specs.declared.heard.Heard.TheVariants as heards
+use Rattle.operator_model.specs.declared.output.Cause.{Cause}
+use Rattle.operator_model.specs.declared.output.Cause.TheVariants as causes
+use Rattle.operator_model.specs.declared.output.Output.{Output}
+use Rattle.operator_model.specs.declared.output.Output.TheVariants as outputs
+use Rattle.operator_model.specs.declared.verdict.Verdict.{Verdict}
+use Rattle.operator_model.specs.declared.verdict.Verdict.TheVariants.{Refused, Put, Deleted}
+use Rattle.operator_model.specs.State.{OperatorState, Operator}
+use Rattle.operator_model.specs.Asked.{refusal}
+use Rattle.operator_model.specs.Verdict.{verdict, errored}
+
+-- a state, and what was put out on the way to it
+pub record StepResult : Type 0 where
+  pub state : OperatorState
+  pub outputs : List Output
+
+-- nothing changes, and nothing is answered
+abbrev pub silent : OperatorState → Modem → Cause → StepResult
+silent state modem cause = record { state = state; outputs = outputs.Silent (Some modem) cause ∷ [] }
+
+-- nothing changes, and these bytes are answered
+abbrev pub told : OperatorState → Modem → List ℕ → StepResult
+told state modem bytes = record { state = state; outputs = outputs.Reply modem bytes ∷ [] }
+
+-- ---- flows that change
+
+-- the flow of an SFID is changed so, if there is one
+abbrev pub put_if : ℕ → (Flow → Flow) → List (ℕ × Flow) → Option Flow → List (ℕ × Flow)
+put_if sfid change flows None = flows
+put_if sfid change flows (Some flow) = with_flow sfid (change flow) flows
+
+abbrev pub change_at : ℕ → (Flow → Flow) → List (ℕ × Flow) → List (ℕ × Flow)
+change_at sfid change flows = put_if sfid change flows (flow_at sfid flows)
+
+abbrev pub without_flow : ℕ → List (ℕ × Flow) → List (ℕ × Flow)
+without_flow sfid flows = remove_entry (is_at (nat_cmp sfid)) flows
+
+-- what a transaction asked for is undone: an added flow goes, a change is taken back
+abbrev pub undone : Kind → ℕ → List (ℕ × Flow) → List (ℕ × Flow)
+undone Dsa sfid flows = without_flow sfid flows
+undone Dsc sfid flows = change_at sfid taken_back flows
+undone Dsd sfid flows = flows
+
+-- ---- a transaction
+
+-- what a verdict makes of the flows
+abbrev pub flows_after : Verdict → List (ℕ × Flow) → List (ℕ × Flow)
+flows_after (Refused reply) flows = flows
+flows_after (Put sfid flow reply) flows = with_flow sfid flow flows
+flows_after (Deleted sfid reply) flows = without_flow sfid flows
+
+abbrev pub reply_of : Verdict → ReplyFields
+reply_of (Refused reply) = reply
+reply_of (Put sfid flow reply) = reply
+reply_of (Deleted sfid reply) = reply
+
+-- the SFID that is kept with the reply: none with a refusal
+abbrev pub sfid_of : Verdict → ℕ
+sfid_of (Refused reply) = 0
+sfid_of (Put sfid flow reply) = sfid
+sfid_of (Deleted sfid reply) = sfid
+
+-- only a flow that was added or changed waits for an acknowledgement
+abbrev pub does_wait : Verdict → Bool
+does_wait (Refused reply) = false
+does_wait (Put sfid flow reply) = true
+does_wait (Deleted sfid reply) = false
+
+-- the verdict is carried out, and its reply is told and kept
+abbrev pub carried_out : ConstsFields → OperatorState → Modem → Kind → ℕ → Verdict → StepResult
+carried_out consts state modem kind tid v = record {
+  state = record state {
+    flows = flows_after v state.flows;
+    kept = state.kept ++ begun consts.timers modem tid kind (spell_reply (reply_of v)) (sfid_of v) (does_wait v) ∷ [];
+  };
+  outputs = outputs.Reply modem (spell_reply (reply_of v)) ∷ [];
+}
+
+-- transaction IDs from 0x8000 on are the CMTS's
+abbrev pub is_of_cmts : ℕ → Bool
+is_of_cmts tid = nat_le 32768 tid
+
+-- a request that is repeated gets the kept reply again; another kind under its transaction ID gets no answer
+abbrev pub repeated : OperatorState → Modem → Kind → KeptEntry → StepResult
+repeated state modem kind entry = if same_kind entry.kind kind then told state modem entry.reply else silent state modem causes.TidInUse
+
+-- checks 2 and 3: the transaction is kept already; as many are kept as the row allows
+abbrev pub new_unless : Operator → Modem → Kind → ℕ → Verdict → Option KeptEntry → StepResult
+new_unless op modem kind tid v (Some entry) = repeated op.state modem kind entry
+new_unless op modem kind tid v None =
+    if nat_le op.row.transactions (length op.state.kept) then told op.state modem (spell_reply (refusal kind tid codes.RejectTemporary)) else
+    carried_out op.consts op.state modem kind tid v
+
+-- checks 1 to 3, which do not ask what the request says further; then the verdict
+abbrev pub transacted : Operator → Modem → Kind → ℕ → Verdict → StepResult
+transacted op modem kind tid v =
+    if is_of_cmts tid then told op.state modem (spell_reply (refusal kind tid codes.RejectUnknownTransaction)) else
+    new_unless op modem kind tid v (find (is_of modem tid) op.state.kept)
+
+-- ---- an acknowledgement
+
+-- code 0 commits the pending sets, another code takes them back
+abbrev pub flows_acked : Kind → ℕ → ℕ → ℕ → List (ℕ × Flow) → List (ℕ × Flow)
+flows_acked kind code frame sfid flows = if code == 0 then change_at sfid (acknowledged frame) flows else undone kind sfid flows
+
+-- nothing waits for it; else the entry that did is held from now on
+abbrev pub acked_if : ConstsFields → OperatorState → Modem → ℕ → Kind → ℕ → Option ℕ → StepResult
+acked_if consts state modem tid kind code None = silent state modem causes.UnknownAck
+acked_if consts state modem tid kind code (Some sfid) = record {
+  state = record state {
+    flows = flows_acked kind code state.frame sfid state.flows;
+    kept = map (keeping.acknowledged consts.timers modem tid kind) state.kept;
+  };
+  outputs = [];
+}
+
+abbrev pub acked : ConstsFields → OperatorState → Modem → ℕ → Kind → ℕ → StepResult
+acked consts state modem tid kind code =
+    acked_if consts state modem tid kind code (option_map (λ entry. entry.sfid) (find (waits_for modem tid kind) state.kept))
+
+-- ---- a message
+
+abbrev pub tid_of : Request → ℕ
+tid_of (requests.Dsa tid encodings) = tid
+tid_of (requests.Dsc tid encodings) = tid
+tid_of (requests.Dsd tid sfid) = tid
+
+abbrev pub kind_of : Request → Kind
+kind_of (requests.Dsa tid encodings) = Dsa
+kind_of (requests.Dsc tid encodings) = Dsc
+kind_of (requests.Dsd tid sfid) = Dsd
+
+-- by what it says, or by its fault
+abbrev pub message_handled : Operator → Modem → Result Message MessageFault → StepResult
+message_handled op modem (Err faults.Empty) = silent op.state modem causes.Empty
+message_handled op modem (Err (faults.NotOurs mtype)) = silent op.state modem causes.NotOurs
+message_handled op modem (Err faults.Short) = silent op.state modem causes.Short
+message_handled op modem (Err (faults.Tlv tid kind id fault)) = transacted op modem kind tid (Refused (errored kind tid id fault))
+message_handled op modem (Err (faults.LeftOut tid kind found)) = transacted op modem kind tid (Refused (refusal kind tid codes.RejectUnrecognizedSetting))
+message_handled op modem (Err faults.NoMemory) = silent op.state modem causes.NotOurs
+message_handled op modem (Ok (messages.Ack kind tid code)) = acked op.consts op.state modem tid kind code
+message_handled op modem (Ok (messages.Request request)) =
+    transacted op modem (kind_of request) (tid_of request) (verdict op modem request)
+
+-- ---- a request for minislots
+
+-- no flow has the SID; it is another modem's; the flow may not ask; else its backlog is what is asked for
+abbrev pub asked_of_flow : OperatorState → Modem → ℕ → Option (ℕ × Flow) → StepResult
+asked_of_flow state modem minislots None = silent state modem causes.NoSuchSid
+asked_of_flow state modem minislots (Some entry) =
+    if not (same_modem entry.1.modem modem) then silent state modem causes.NoSuchSid else
+    if not (asks_for_grants entry.1.sets.active) then silent state modem causes.NotRequesting else
+    record { state = record state { flows = with_flow entry.0 (requested minislots state.frame entry.1) state.flows }; outputs = [] }
+
+-- ---- what was heard
+
+abbrev pub handle : Operator → Modem → Heard → StepResult
+handle op modem (heards.Message bytes) = message_handled op modem (message_of bytes)
+handle op modem (heards.Request sid minislots) = asked_of_flow op.state modem minislots (flow_with sid op.state.flows)

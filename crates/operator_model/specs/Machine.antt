@@ -1,0 +1,107 @@
+-- One operator's own machine: what each action makes of its state, what it puts out, and which actions are refused (own).
+use Rattle.std.specs.Prelude.{◌≡◌, ◌==◌, ◌||◌, ◌+◌, ℕ, Bool, false, List, [], ◌∷◌, ◌++◌, length, nat_le, nat_lt, is_some, Option, Some, None, if◌then◌else◌}
+use Rattle.dsx_messages.specs.declared.modem.Modem.{Modem}
+use Rattle.plant.specs.declared.consts.ConstsFields.{ConstsFields}
+use Rattle.plant.specs.declared.operator_row.RowFields.{RowFields}
+use Rattle.plant.specs.Row.{is_listed}
+use Rattle.flow_table.specs.Table.{committed_minislots}
+use Rattle.operator_model.specs.declared.heard.Heard.{Heard}
+use Rattle.operator_model.specs.declared.heard.Arrival.{Arrival}
+use Rattle.operator_model.specs.declared.action.SliceRow.{SliceRow}
+use Rattle.operator_model.specs.declared.action.Action.{Action}
+use Rattle.operator_model.specs.declared.action.Action.TheVariants.{Arrive, Work, Tick, Reslice}
+use Rattle.operator_model.specs.declared.action.Unfit.{Unfit}
+use Rattle.operator_model.specs.declared.action.Unfit.TheVariants.{NotPast, Unfinished, OffFrame, BudgetOverSlice, OverBudget}
+use Rattle.operator_model.specs.declared.output.Cause.TheVariants.{InboxFull, Idle}
+use Rattle.operator_model.specs.declared.output.Output.TheVariants as outputs
+use Rattle.operator_model.specs.State.{OperatorState, Operator}
+use Rattle.operator_model.specs.Handle.{StepResult, handle}
+use Rattle.operator_model.specs.Frame.{ticked}
+
+-- ---- the actions
+
+-- to the end of the inbox; a full inbox drops it
+abbrev pub arrived : RowFields → OperatorState → Modem → Heard → StepResult
+arrived row state modem heard =
+    if nat_le row.inbox (length state.inbox) then record { state = state; outputs = outputs.Silent (Some modem) InboxFull ∷ [] }
+    else record { state = record state { inbox = state.inbox ++ record { modem = modem; heard = heard } ∷ [] }; outputs = [] }
+
+-- what was handled is taken out of the inbox
+abbrev pub taken_out : List Arrival → StepResult → StepResult
+taken_out others ran = record { state = record ran.state { inbox = others }; outputs = ran.outputs }
+
+-- the first of the inbox is handled and taken out; no handling looks at the inbox
+abbrev pub worked : Operator → List Arrival → StepResult
+worked op [] = record { state = op.state; outputs = outputs.Silent None Idle ∷ [] }
+worked op (first ∷ others) = taken_out others (handle op first.modem first.heard)
+
+-- the share that waits for its frame
+abbrev pub resliced : OperatorState → ℕ → SliceRow → StepResult
+resliced state from row = record {
+  state = record state {
+    next = Some (record { from = from; share = record { slice = record { start = row.start; length = row.length }; budget = row.budget } });
+  };
+  outputs = [];
+}
+
+unfoldable pub own_step : Operator → Action → StepResult
+own_step o (Arrive modem heard) = arrived o.row o.state modem heard
+own_step o Work = worked o o.state.inbox
+own_step o Tick = ticked o
+own_step o (Reslice from slice_row) = resliced o.state from slice_row
+
+-- ---- what is refused
+
+-- the modem of an Arrive that is not of this row
+abbrev pub stranger_of : RowFields → Action → Option Modem
+stranger_of row (Arrive modem heard) = if is_listed modem row.modems then None else Some modem
+stranger_of row Work = None
+stranger_of row Tick = None
+stranger_of row (Reslice from slice_row) = None
+
+-- the last frame number has no tick
+abbrev pub is_spent : OperatorState → Action → Bool
+is_spent state (Arrive modem heard) = false
+is_spent state Work = false
+is_spent state Tick = state.frame == 4294967295
+is_spent state (Reslice from slice_row) = false
+
+-- a slice has no minislot, begins within the head, or ends behind the frame
+abbrev pub is_off_frame : ConstsFields → SliceRow → Bool
+is_off_frame consts row = (row.length == 0) || nat_lt row.start consts.channel.head || nat_lt consts.channel.frame_minislots (row.start + row.length)
+
+-- why a slice cannot be taken from this frame on
+abbrev pub unfit_from : ConstsFields → OperatorState → ℕ → SliceRow → Option Unfit
+unfit_from consts state from row =
+    if nat_le from state.frame then Some NotPast else
+    if is_some state.next then Some Unfinished else
+    if is_off_frame consts row then Some OffFrame else
+    if nat_lt row.length row.budget then Some BudgetOverSlice else
+    if nat_lt row.budget (committed_minislots consts.units state.flows) then Some OverBudget else
+    None
+
+abbrev pub unfit_of : ConstsFields → OperatorState → Action → Option Unfit
+unfit_of consts state (Arrive modem heard) = None
+unfit_of consts state Work = None
+unfit_of consts state Tick = None
+unfit_of consts state (Reslice from row) = unfit_from consts state from row
+
+-- an action that is not refused
+pub record IsAllowed (o : Operator) (action : Action) : Type 0 where
+  pub mine : stranger_of o.row action ≡ None
+  pub not_spent : is_spent o.state action ≡ false
+  pub fit : unfit_of o.consts o.state action ≡ None
+
+-- ---- runs
+
+-- the operator once the action is done
+abbrev pub after_step : Operator → Action → Operator
+after_step o action = record o { state = (own_step o action).state }
+
+-- the actions one after the other, and all their outputs in order
+abbrev pub own_run : Operator → List Action → StepResult
+own_run o [] = record { state = o.state; outputs = [] }
+own_run o (action ∷ actions) = record {
+  state = (own_run (after_step o action) actions).state;
+  outputs = (own_step o action).outputs ++ (own_run (after_step o action) actions).outputs;
+}

@@ -1,0 +1,45 @@
+-- A history, and the state that it is the replay of (own).
+use Rattle.std.specs.Prelude.{◌≡◌, List, [], ◌∷◌, ◌++◌, map}
+use Rattle.plant.specs.declared.consts.ConstsFields.{ConstsFields}
+use Rattle.plant.specs.declared.operator_row.RowFields.{RowFields}
+use Rattle.operator_model.specs.declared.action.Action.{Action}
+use Rattle.operator_model.specs.declared.action.Entry.{Entry}
+use Rattle.operator_model.specs.State.{OperatorState, Operator, operator, opened}
+use Rattle.operator_model.specs.Machine.{own_step, after_step, own_run, IsAllowed}
+
+-- the actions of a history
+abbrev pub actions_of : List Entry → List Action
+actions_of history = map (λ entry. entry.action) history
+
+-- each entry was allowed at its place in the run, and its outputs are the run's
+abbrev pub AreTold : Operator → List Entry → Type 0
+AreTold o [] = Unit {0}
+AreTold o (entry ∷ history) =
+    IsAllowed o entry.action
+    × (entry.outputs ≡ (own_step o entry.action).outputs)
+    × AreTold (after_step o entry.action) history
+
+-- the state is the run of the history from this first state, and the outputs are the run's
+pub record IsReplayFrom (consts : ConstsFields) (row : RowFields) (first : OperatorState) (history : List Entry) (state : OperatorState) : Type 0 where
+  pub state_is : state ≡ (own_run (operator consts row first) (actions_of history)).state
+  pub told : AreTold (operator consts row first) history
+
+-- the same from the opened state
+abbrev pub IsReplay : ConstsFields → RowFields → List Entry → OperatorState → Type 0
+IsReplay consts row history state = IsReplayFrom consts row (opened consts row) history state
+
+-- what contracts see of a book
+pub record BookView : Type 0 where
+  pub row : RowFields
+  pub consts : ConstsFields
+  pub state : OperatorState
+  pub history : List Entry
+
+-- all that an action changes: the state by the machine, and one more entry
+abbrev pub acted : BookView → Action → BookView
+acted b action = record {
+  row = b.row;
+  consts = b.consts;
+  state = (own_step (operator b.consts b.row b.state) action).state;
+  history = b.history ++ record { action = action; outputs = (own_step (operator b.consts b.row b.state) action).outputs } ∷ [];
+}

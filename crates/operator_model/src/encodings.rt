@@ -1,0 +1,52 @@
+//! What the flow encodings of a request say, looked at together.
+
+ghost use Rattle.std.specs.Prelude.{◌≡◌};
+ghost use Rattle.operator_model.specs.Asked.{number_in, is_same, has_set_type, stand_together};
+
+use dsx_messages::Kind;
+use tlv24::FlowTlv;
+
+/// The identifier of an encoding as a number: the reference in an addition, the SFID in a change.
+pub fn number_in(kind: Kind, flow: &FlowTlv) -> Option<u32>
+    ensures { result ≡ number_in kind flow.now }
+{
+    match kind {
+        Kind::Dsa => Some(u32::from(flow.get_reference()?)),
+        Kind::Dsc => flow.get_sfid(),
+        Kind::Dsd => None,
+    }
+}
+
+/// Whether two numbers are the same: two absent ones are.
+pub fn is_same(a: Option<u32>, b: Option<u32>) -> bool
+    ensures { result ≡ is_same a b }
+{
+    match (a, b) {
+        (None, None) => true,
+        (Some(a), Some(b)) => a == b,
+        _ => false,
+    }
+}
+
+/// Whether an encoding has this set type (CM-SP-MULPIv3.1, Annex C, subtype 6).
+pub fn has_set_type(number: u8, flow: &FlowTlv) -> bool
+    ensures { result ≡ has_set_type number flow.now }
+{
+    match flow.get_set_type() {
+        None => false,
+        Some(set_type) => set_type == number,
+    }
+}
+
+/// Whether encodings may stand in one request: one alone, or two of which one admits and the other activates.
+pub fn stand_together(encodings: &[FlowTlv]) -> bool
+    ensures { result ≡ stand_together encodings.now }
+{
+    match encodings {
+        [_] => true,
+        [a, b] => {
+            has_set_type(2, a) && has_set_type(4, b) || has_set_type(4, a) && has_set_type(2, b)
+        }
+        _ => false,
+    }
+}

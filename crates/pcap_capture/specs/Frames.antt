@@ -1,0 +1,13 @@
+-- The frame of a packet.
+use Rattle.std.specs.Prelude.{ℕ, List, Option, Some, None}
+use Rattle.pcap_capture.specs.declared.packet.Packet.{Packet}
+use Rattle.pcap_capture.specs.Management.{Managed, framed}
+use Rattle.pcap_capture.specs.Packets.{managed_of}
+
+abbrev pub frame_of_managed : Option Managed → Option (List ℕ)
+frame_of_managed None = None
+frame_of_managed (Some m) = Some (framed m)
+
+-- none for a message without a type, or too long for a MAC header
+abbrev pub frame_of : Packet → Option (List ℕ)
+frame_of packet = frame_of_managed (managed_of packet)

@@ -1,0 +1,33 @@
+-- That the check sequences are those of X.25 and of Ethernet, and that a frame holds its message (own).
+use Rattle.std.specs.Prelude.{◌≡◌, ℕ, ◌+◌, List, take, drop, slice_index, length, codes, Some}
+use Rattle.pcap_capture.specs.declared.packet.Packet.{Packet}
+use Rattle.pcap_capture.specs.declared.packet.Packet.TheVariants.{Sent, Reply, Map}
+use Rattle.pcap_capture.specs.Checks.{crc_x25, crc_32}
+use Rattle.pcap_capture.specs.Management.{Managed}
+use Rattle.pcap_capture.specs.Packets.{managed_of}
+
+-- the check values of both: what they make of the digits 1 to 9
+pub record AreCheckValues : Type 0 where
+  pub x25 : crc_x25 (codes "123456789") ≡ 36974
+  pub ethernet : crc_32 (codes "123456789") ≡ 3421780262
+
+-- an address has six bytes
+abbrev pub IsAddressed : Packet → Type 0
+IsAddressed (Sent modem bytes) = length modem.0 ≡ 6
+IsAddressed (Reply modem bytes) = length modem.0 ≡ 6
+IsAddressed (Map frame bytes) = Unit {0}
+
+-- a reader finds each part of a message in its frame, by its place
+pub record Holds (frame : List ℕ) (m : Managed) : Type 0 where
+  pub to : take 6 (drop 6 frame) ≡ m.to
+  pub from : take 6 (drop 12 frame) ≡ m.from
+  pub version : slice_index frame 23 ≡ m.version
+  pub kind : slice_index frame 24 ≡ m.kind
+  pub payload : take (length m.payload) (drop 26 frame) ≡ m.payload
+  pub whole : length frame ≡ 30 + length m.payload
+
+-- the frame holds the packet's management message
+pub record HoldsPacket (frame : List ℕ) (packet : Packet) : Type 0 where
+  pub message : Managed
+  pub message_is : managed_of packet ≡ Some message
+  pub held : Holds frame message

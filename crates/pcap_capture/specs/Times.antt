@@ -1,0 +1,18 @@
+-- Times by counting MAPs: where MAPs come from the first frame on, each once and in order, a packet stands at the begin of the
+-- frame behind as many frames as there were MAPs before it (own).
+use Rattle.std.specs.Prelude.{ℕ, ◌+◌, ◌*◌, List, [], ◌∷◌, ◌++◌}
+use Rattle.pcap_capture.specs.declared.packet.Packet.{Packet}
+use Rattle.pcap_capture.specs.declared.packet.Packet.TheVariants.{Map}
+use Rattle.pcap_capture.specs.Frames.{frame_of}
+use Rattle.pcap_capture.specs.File.{record_of}
+
+-- how many MAPs have come behind a packet, of which so many came before it
+abbrev pub count_after : ℕ → Packet → ℕ
+count_after count (Map frame bytes) = count + 1
+count_after count packet = count
+
+-- the records of packets, so many MAPs having come before them
+abbrev pub counted_from : ℕ → ℕ → ℕ → List Packet → List ℕ
+counted_from frame_us first_frame count [] = []
+counted_from frame_us first_frame count (packet ∷ packets) =
+    record_of ((first_frame + count) * frame_us) (frame_of packet) ++ counted_from frame_us first_frame (count_after count packet) packets

@@ -1,0 +1,127 @@
+//! The capture of a run.
+
+ghost use Rattle.std.specs.Prelude.{◌≡◌, ◌++◌, List, IfOk, OnOk, OnErr};
+ghost use Rattle.std.specs.List.{flat_map};
+ghost use Rattle.plant.specs.declared.plant.PlantFields.{PlantFields};
+ghost use Rattle.run_model.specs.declared.step.Step.{Step};
+ghost use Rattle.run_model.specs.declared.step.Out.{Out};
+ghost use Rattle.pcap_capture.specs.File.{file_of};
+ghost use Rattle.pcap_capture.specs.Capture.{opened_capture, with_packets, sent_in, told_in, IsOfRun, IsCaptureOf};
+
+use crate::clock::Clock;
+use crate::packet::Packet;
+use crate::recording::file_of;
+use operator_model::{Heard, Output};
+use plant::Consts;
+use run_model::{Out, Step};
+use std::alloc::{AllocError, Global};
+use std::marker::Model;
+
+/// A capture so far. Contracts see its clock and its packets.
+#[derive(Debug, Drop)]
+pub struct Capture {
+    clock: Clock,
+    packets: Vec<Packet>,
+}
+
+impl Model for Capture {
+    ghost use Rattle.pcap_capture.specs.Capture.{Captured};
+
+    ghost Value = { Captured };
+
+    ghost view = { λ c. record { clock = c.clock; packets = c.packets.items } };
+}
+
+/// Adds the packet of a reply or of a MAP.
+fn put_told(alloc: Global, packets: &mut Vec<Packet>, out: &Out) -> Result<(), AllocError>
+    ensures { OnOk result (packets.new.items ≡ packets.old.items ++ told_in out.now) }
+{
+    match out {
+        Out::Of {
+            op: _,
+            output: Output::Reply { modem, bytes },
+        } => {
+            let bytes = bytes.copy(alloc)?;
+            packets.push(Packet::Reply {
+                modem: *modem,
+                bytes,
+            })?;
+            Ok(())
+        }
+        Out::Of { op: _, output: _ } => Ok(()),
+        Out::Map(made) => {
+            let bytes = made.bytes.copy(alloc)?;
+            packets.push(Packet::Map {
+                frame: made.frame,
+                bytes,
+            })?;
+            Ok(())
+        }
+    }
+}
+
+/// The packets of replies and MAPs, in order.
+fn told_in(alloc: Global, outs: &[Out]) -> Result<Vec<Packet>, AllocError>
+    ensures { IfOk result (λ packets. packets.items ≡ flat_map told_in outs.now) }
+{
+    let mut packets = Vec::with_capacity(alloc, outs.len())?;
+    for out in outs {
+        put_told(alloc, &mut packets, out)?;
+    }
+    Ok(packets)
+}
+
+impl Capture {
+    /// A capture of a plant without a packet.
+    pub fn open(alloc: Global, consts: &Consts) -> Capture
+        ensures { result ≡ opened_capture consts.now }
+    {
+        let fields = consts.get_fields();
+        Capture {
+            clock: Clock {
+                first_frame: fields.channel.first_frame,
+                frame_us: fields.units.get_frame_us(),
+            },
+            packets: Vec::new(alloc),
+        }
+    }
+
+    /// Adds what a modem sends, where the step is that. Requests for minislots are no management messages and leave nothing.
+    pub fn sent(&mut self, alloc: Global, step: &Step) -> Result<(), AllocError>
+        ensures ok { OnOk result (self.new ≡ with_packets self.old (sent_in step.now)) }
+        ensures err { OnErr result (self.new ≡ self.old) }
+    {
+        if let Step::Arrive {
+            modem,
+            heard: Heard::Message(bytes),
+        } = step
+        {
+            let bytes = bytes.copy(alloc)?;
+            self.packets.push(Packet::Sent {
+                modem: *modem,
+                bytes,
+            })?;
+        }
+        Ok(())
+    }
+
+    /// Adds the replies and MAPs among outputs, in order.
+    pub fn told(&mut self, alloc: Global, outs: &[Out]) -> Result<(), AllocError>
+        ensures ok { OnOk result (self.new ≡ with_packets self.old (flat_map told_in outs.now)) }
+        ensures err { OnErr result (self.new ≡ self.old) }
+    {
+        let mut packets = told_in(alloc, outs)?;
+        self.packets.append(&mut packets)?;
+        Ok(())
+    }
+
+    /// The capture as a file. A message of no byte has no frame and stands in no record, nor does one of more than 65,511 bytes
+    /// of payload.
+    pub fn to_bytes(&self, alloc: Global) -> Result<Vec<u8>, AllocError>
+        ensures value { IfOk result (λ bytes. bytes.items ≡ file_of self.now.clock self.now.packets) }
+        ensures of_run { IfOk result (λ bytes. (plant : PlantFields) (steps : List Step) (outs : List Out)
+            → IsOfRun plant steps outs self.now → IsCaptureOf plant steps outs bytes.items) }
+    {
+        file_of(alloc, self.clock, self.packets.as_slice())
+    }
+}

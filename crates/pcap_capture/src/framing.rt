@@ -1,0 +1,45 @@
+//! Frames.
+
+ghost use Rattle.std.specs.Prelude.{◌≡◌, ◌≤◌, length, IfOk, IfSome};
+ghost use Rattle.std.specs.Option.{option_map};
+ghost use Rattle.pcap_capture.specs.Management.{mac_header, framed};
+ghost use Rattle.pcap_capture.specs.Frames.{frame_of};
+
+use crate::checks::{frame_check, header_check};
+use crate::managed::{Management, managed_of};
+use crate::packet::Packet;
+use std::alloc::{AllocError, Global};
+
+/// The MAC header before its check.
+fn mac_header(count: u16) -> [u8; 4]
+    ensures { result ≡ mac_header count }
+{
+    let [high, low] = count.to_be_bytes();
+    [0xC2, 0x00, high, low]
+}
+
+/// The frame of a management message.
+fn framed(alloc: Global, message: &Management<'_>) -> Result<Vec<u8>, AllocError>
+    ensures value { IfOk result (λ frame. frame.items ≡ framed message.now) }
+    ensures short { IfOk result (λ frame. length frame.items ≤ 65541) }
+{
+    let header = mac_header(message.count());
+    let body = message.body(alloc)?;
+    let mut frame = Vec::with_capacity(alloc, 10 + body.len())?;
+    frame.extend_from_slice(&header)?;
+    frame.extend_from_slice(&header_check(&header))?;
+    frame.extend_from_slice(body.as_slice())?;
+    frame.extend_from_slice(&frame_check(body.as_slice()))?;
+    Ok(frame)
+}
+
+/// The frame of a packet, if it can have one.
+pub(crate) fn frame_of(alloc: Global, packet: &Packet) -> Result<Option<Vec<u8>>, AllocError>
+    ensures value { IfOk result (λ frame. option_map (λ f. f.items) frame ≡ frame_of packet.now) }
+    ensures short { IfOk result (λ frame. IfSome frame (λ f. length f.items ≤ 65541)) }
+{
+    match managed_of(packet) {
+        Some(message) => Ok(Some(framed(alloc, &message)?)),
+        None => Ok(None),
+    }
+}

@@ -1,7 +1,0 @@
-use Rattle.std.proofs.Common.{◌≡◌, take}
-use Rattle.std.specs.List.{fold}
-use Rattle.plant_capture.specs.Checks.{with_byte}
-use Rattle.plant_capture.proofs.checks.rest_of.Given as goal
-
-abbrev pub invariant-loop-byte : goal.invariant-loop-byte
-invariant-loop-byte l = l.rest ≡ fold (with_byte l.polynomial) l.start (take l.byte-index l.bytes)

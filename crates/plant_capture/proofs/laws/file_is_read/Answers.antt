@@ -1,5 +1,0 @@
-use Rattle.plant_capture.proofs.ReadLemmas.{file_read}
-use Rattle.plant_capture.proofs.laws.file_is_read.Goals as goal
-
-pub returns : goal.returns
-returns c = file_read

@@ -1,5 +1,0 @@
-use Rattle.plant_capture.proofs.HeldLemmas.{frame_holds}
-use Rattle.plant_capture.proofs.laws.frame_is_read.Goals as goal
-
-pub returns : goal.returns
-returns c = frame_holds

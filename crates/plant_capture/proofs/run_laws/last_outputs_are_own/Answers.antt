@@ -1,5 +1,0 @@
-use Rattle.plant_capture.proofs.OneCapture.{last_told}
-use Rattle.plant_capture.proofs.run_laws.last_outputs_are_own.Goals as goal
-
-pub returns : goal.returns
-returns c = last_told

@@ -1,5 +1,0 @@
-use Rattle.plant_capture.proofs.OneCapture.{some_capture, one_capture}
-use Rattle.plant_capture.proofs.run_laws.run_has_one_capture.Goals as goal
-
-pub returns : goal.returns
-returns c = record { exists = some_capture; unique = one_capture }

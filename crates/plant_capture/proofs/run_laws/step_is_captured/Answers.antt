@@ -1,5 +1,0 @@
-use Rattle.plant_capture.proofs.RunLemmas.{step_run}
-use Rattle.plant_capture.proofs.run_laws.step_is_captured.Goals as goal
-
-pub returns : goal.returns
-returns c = step_run

@@ -1,9 +1,0 @@
-use Rattle.std.proofs.Common.{ap}
-use Rattle.plant_lines.specs.Fields.{behind}
-use Rattle.plant_lines.specs.Lines.{fields_of}
-use Rattle.plant_lines.proofs.Scripts.{ticked_more}
-use Rattle.plant_lines.proofs.script.put_ticked.Goals as goal
-
-pub returns-in-Some-clause-said : goal.returns-in-Some-clause-said
-returns-in-Some-clause-said c =
-    ap (behind c.args.steps.now.items) (ticked_more c.args.plant.now c.args.number _ _ (fields_of c.args.line.now) c.in-Some.ensures)

@@ -1,6 +1,0 @@
-use Rattle.std.proofs.Common.{map}
-use Rattle.plant_lines.proofs.StepsSoFar.{AreStepsSoFar}
-use Rattle.plant_lines.proofs.script.steps_of_lines.Given as goal
-
-abbrev pub invariant-loop-line : goal.invariant-loop-line
-invariant-loop-line l = AreStepsSoFar l.plant (map (λ line. line.now) l.lines) l.steps.items l.number l.line-index

@@ -1,5 +1,0 @@
-use Rattle.plant_lines.proofs.Unhexed.{IsDecodedSoFar}
-use Rattle.plant_lines.proofs.unhex.decode_into.Given as goal
-
-abbrev pub invariant-loop-i : goal.invariant-loop-i
-invariant-loop-i l = IsDecodedSoFar l.digits l.room l.i l.wrong

@@ -1,7 +1,0 @@
-use Rattle.std.proofs.Common.{◌≡◌, take}
-use Rattle.std.specs.Prelude.{min}
-use Rattle.plant_receipts.specs.Merge.{times}
-use Rattle.plant_receipts.proofs.counting.is_told_once.Given as goal
-
-abbrev pub invariant-loop-receipts : goal.invariant-loop-receipts
-invariant-loop-receipts l = l.told ≡ min (times l.index (take l.receipts-index l.callers)) 2

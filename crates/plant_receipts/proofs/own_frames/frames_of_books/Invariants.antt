@@ -1,8 +1,0 @@
-use Rattle.std.proofs.Common.{take, map}
-use Rattle.std.specs.List.{AllZip}
-use Rattle.operator_book.specs.ViewOf.{view_of}
-use Rattle.plant_receipts.specs.Framing.{AreFramesOf}
-use Rattle.plant_receipts.proofs.own_frames.frames_of_books.Given as goal
-
-abbrev pub invariant-loop-book : goal.invariant-loop-book
-invariant-loop-book g l = AllZip AreFramesOf l.own.items (map view_of (take l.book-index l.books))

@@ -1,7 +1,0 @@
-use Rattle.plant_service.specs.Bytes.{WhereKnown}
-use Rattle.plant_service.specs.Front.{IsReadSoFar}
-use Rattle.plant_service.proofs.front.read_plant_text.Given as goal
-
-abbrev pub invariant-loop : goal.invariant-loop
-invariant-loop g l =
-    WhereKnown (g.R.Read.remaining l.fn.reader) (g.R.Read.remaining l.reader) (λ input rest. IsReadSoFar input rest l.text.items l.line.items)

@@ -1,6 +1,0 @@
-use Rattle.plant_turns.specs.HeldView.{book_of, waiting_of, room_of}
-use Rattle.plant_core.proofs.GiveLemmas.{HaveRoomSoFar}
-use Rattle.plant_turns.proofs.giving.make_room.Given as goal
-
-abbrev pub invariant-loop-op : goal.invariant-loop-op
-invariant-loop-op g l = HaveRoomSoFar book_of waiting_of room_of l.initial.helds.items l.helds.items l.op

@@ -1,5 +1,0 @@
-use Rattle.plant_walks.proofs.Turned.{AreTurnsOf}
-use Rattle.plant_walks.proofs.turns.turns_of.Given as goal
-
-abbrev pub invariant-loop-op : goal.invariant-loop-op
-invariant-loop-op l = AreTurnsOf l.plant l.steps l.op l.turns.items

@@ -1,5 +1,0 @@
-use Rattle.plant_words.proofs.WordLemmas.{long_asks, operand_asks, short_asks, word_asks}
-use Rattle.plant_words.proofs.laws_of_words.help_is_asked.Goals as goal
-
-pub returns : goal.returns
-returns c = record { long = long_asks; short = short_asks; word = word_asks; operand = operand_asks }

@@ -1,6 +1,0 @@
-use Rattle.std.proofs.Common.{inl, refl}
-use Rattle.plant_words.proofs.WordLemmas.{history_named, operand_named}
-use Rattle.plant_words.proofs.laws_of_words.orders_are_named.Goals as goal
-
-pub returns : goal.returns
-returns c = record { one = inl refl; check = inl refl; run = inl refl; threads = inl refl; capture = inl refl; serve = inl refl; trace = inl refl; history = history_named; operand = operand_named }

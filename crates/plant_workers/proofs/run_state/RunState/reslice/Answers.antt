@@ -1,0 +1,18 @@
+use Rattle.std.proofs.Common.{List, sym, ap, ◌∙◌, subst, map}
+use Rattle.operator_model.specs.Replay.{BookView}
+use Rattle.plant_core.specs.Reslicing.{reslice_fault}
+use Rattle.cell_state.specs.HeldView.{book_of}
+use Rattle.plant_workers.specs.Faulting.{IsResliceTold}
+use Rattle.plant_workers.proofs.FaultLemmas.{told_of}
+use Rattle.plant_workers.proofs.run_state.RunState.reslice.Goals as goal
+
+pub fault_of_reslice-requires : goal.fault_of_reslice-requires
+fault_of_reslice-requires g c = record {
+  from = c.args.from;
+  rows = c.args.rows.now;
+  step_is = c.requires;
+  told =
+      subst (λ (books : List BookView). IsResliceTold c.in-Err.fault (reslice_fault c.args.from books c.args.rows.now))
+      (sym (ap (λ helds. map book_of helds) c.as_slice-helds.ensures.value ∙ c.in-Err.ensures.same))
+      (told_of c.in-Err.fault _ c.in-Err.ensures.fault);
+}

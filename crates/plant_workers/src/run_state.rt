@@ -1,0 +1,187 @@
+//! A run between its pieces: no thread is there.
+
+ghost use Rattle.std.specs.Prelude.{◌≡◌, List, Some, slice_get, IfErr};
+ghost use Rattle.plant.specs.declared.plant.PlantFields.{PlantFields};
+ghost use Rattle.run_model.specs.declared.step.Step.{Step};
+ghost use Rattle.run_model.specs.declared.step.Step.TheVariants as steps_of;
+ghost use Rattle.plant_workers.specs.Faulting.{IsOfRun};
+
+use crate::following::fault_of_reslice;
+use crate::gate::Gate;
+use crate::job::Job;
+use crate::part::parts_of;
+use crate::receipt_lists::{Lists, add_tales, add_told, no_lists};
+use crate::shared::run_shared;
+use crate::thread_report::{ThreadReport, first_fault};
+use cell_state::{Held, reslice};
+use operator_model::SliceRow;
+use plant::Plant;
+use run_audit::Assembly;
+use run_model::Step;
+use run_receipts::RunFault;
+use std::alloc::{AllocError, Global};
+use std::sync::{Condvar, Mutex, Wait};
+use std::thread::Threads;
+
+/// A run between its pieces: what stands behind each operator's lock, the assembly, and the receipts so far.
+#[derive(Drop)]
+pub(crate) struct RunState {
+    pub helds: Vec<Held>,
+    pub assembly: Assembly,
+    pub lists: Vec<Lists>,
+}
+
+/// Each behind a lock.
+fn locked(alloc: Global, helds: Vec<Held>) -> Result<Vec<Mutex<Held>>, AllocError> {
+    let mut locks = Vec::with_capacity(alloc, helds.len())?;
+    for held in helds {
+        locks.push(Mutex::new(held))?;
+    }
+    Ok(locks)
+}
+
+/// Each taken from behind its lock.
+fn unlocked(alloc: Global, locks: Vec<Mutex<Held>>) -> Result<Vec<Held>, AllocError> {
+    let mut helds = Vec::with_capacity(alloc, locks.len())?;
+    for lock in locks {
+        helds.push(lock.into_inner())?;
+    }
+    Ok(helds)
+}
+
+/// What tells that an operator's book has changed, for each operator.
+fn signals(alloc: Global, operators: usize) -> Result<Vec<Condvar>, AllocError> {
+    let mut signals = Vec::with_capacity(alloc, operators)?;
+    for _ in 0..operators {
+        signals.push(Condvar::new())?;
+    }
+    Ok(signals)
+}
+
+/// Does these jobs in threads, and joins them all: what each tells, or the first fault that one tells.
+fn thread_reports_of<R: Threads + Wait + Sync, G: Gate<R> + Sync>(
+    rt: &R,
+    alloc: Global,
+    locks: &[Mutex<Held>],
+    assembly: &Mutex<Assembly>,
+    jobs: &[Job],
+    gate: &G,
+    stacks: &[usize],
+) -> Result<Vec<ThreadReport>, RunFault>
+    ensures { IfErr result (λ fault. (plant : PlantFields) (steps : List Step) → IsOfRun plant steps fault) }
+{
+    let parts = parts_of(alloc, locks.len())?;
+    let changed = signals(alloc, locks.len())?;
+    let changed = changed.as_slice();
+    let of_all = parts.as_slice();
+    let thread_reports = run_shared(
+        rt, alloc, locks, changed, assembly, jobs, gate, of_all, stacks,
+    )?;
+    if let Some(fault) = first_fault(thread_reports.as_slice()) {
+        return Err(fault);
+    }
+    if thread_reports.len() != parts.len() {
+        return Err(RunFault::NoMemory);
+    }
+    Ok(thread_reports)
+}
+
+impl RunState {
+    /// A run with nothing done.
+    pub(crate) fn new(
+        alloc: Global,
+        plant: &Plant,
+        helds: Vec<Held>,
+    ) -> Result<RunState, AllocError> {
+        let lists = no_lists(alloc, helds.len())?;
+        let assembly = Assembly::new(alloc, plant)?;
+        Ok(RunState {
+            helds,
+            assembly,
+            lists,
+        })
+    }
+
+    /// Does these jobs, none of which is of a Reslice, in threads that have all ended when this answers.
+    pub(crate) fn run_piece<R: Threads + Wait + Sync, G: Gate<R> + Sync>(
+        self,
+        rt: &R,
+        alloc: Global,
+        jobs: &[Job],
+        gate: &G,
+        stacks: &[usize],
+    ) -> Result<RunState, RunFault>
+        ensures { IfErr result (λ fault. (plant : PlantFields) (steps : List Step) → IsOfRun plant steps fault) }
+    {
+        if jobs.is_empty() {
+            return Ok(self);
+        }
+        let RunState {
+            helds,
+            assembly,
+            mut lists,
+        } = self;
+        let locks = locked(alloc, helds)?;
+        let assembly = Mutex::new(assembly);
+        let thread_reports = thread_reports_of(
+            rt,
+            alloc,
+            locks.as_slice(),
+            &assembly,
+            jobs,
+            gate,
+            stacks,
+        )?;
+        add_tales(&mut lists, thread_reports)?;
+        Ok(RunState {
+            helds: unlocked(alloc, locks)?,
+            assembly: assembly.into_inner(),
+            lists,
+        })
+    }
+
+    /// Does the step of this place, where it is a Reslice.
+    pub(crate) fn reslice_at(
+        &mut self,
+        alloc: Global,
+        plant: &Plant,
+        steps: &[Step],
+        at: usize,
+    ) -> Result<(), RunFault>
+        ensures { IfErr result (IsOfRun plant.now steps.now) }
+    {
+        match steps.get(at) {
+            Some(Step::Reslice { from, rows }) => {
+                self.reslice(alloc, plant, steps, at, *from, rows.as_slice())
+            }
+            _ => Ok(()),
+        }
+    }
+
+    /// Gives the operators other slices, as the step of this place says.
+    fn reslice(
+        &mut self,
+        alloc: Global,
+        plant: &Plant,
+        steps: &[Step],
+        at: usize,
+        from: u32,
+        rows: &[SliceRow],
+    ) -> Result<(), RunFault>
+        requires { slice_get steps.now at ≡ Some (steps_of.Reslice from rows.now) }
+        ensures { IfErr result (IsOfRun plant.now steps.now) }
+    {
+        match reslice(alloc, &mut self.helds, from, rows) {
+            Ok(told) => add_told(&mut self.lists, told)?,
+            Err(fault) => {
+                let helds = self.helds.as_slice();
+                return Err(fault_of_reslice(plant, helds, steps, at, fault));
+            }
+        }
+        if self.assembly.reslice(alloc, from, rows)? {
+            Ok(())
+        } else {
+            Err(RunFault::MapStrayed { frame: from })
+        }
+    }
+}

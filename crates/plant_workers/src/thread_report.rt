@@ -1,0 +1,125 @@
+//! What a thread of a run tells when it has ended.
+
+ghost use Rattle.std.specs.Prelude.{◌≡◌, List, map, IfSome};
+ghost use Rattle.plant.specs.declared.plant.PlantFields.{PlantFields};
+ghost use Rattle.run_model.specs.declared.step.Step.{Step};
+ghost use Rattle.plant_workers.specs.Faulting.{IsOfRun};
+ghost use Rattle.plant_workers.specs.Refusing.{own_turn, lesser, IsLeastTurn};
+
+use cell_state::{CellFault, Told};
+use map_assembly::GatherFault;
+use operator_book::BookFault;
+use plant::Op;
+use plant_core::CoreFault;
+use run_receipts::RunFault;
+
+/// Why a thread ended before its last job.
+#[derive(Clone, Copy)]
+pub(crate) enum Refusal {
+    /// An operator refused a turn.
+    Turn { op: Op, fault: CellFault },
+    /// The assembly refused a frame.
+    Assembly(GatherFault),
+}
+
+/// What a thread of a run tells when it has ended.
+#[derive(Drop)]
+pub(crate) struct ThreadReport {
+    pub told: Vec<Told>,
+    pub refused: Option<Refusal>,
+}
+
+/// The fault of a run of which an operator refused a turn.
+fn fault_of_turn(op: Op, fault: CellFault) -> RunFault
+    ensures { (plant : PlantFields) (steps : List Step) → IsOfRun plant steps result }
+{
+    match fault {
+        CellFault::Book(BookFault::NoMemory) => RunFault::NoMemory,
+        CellFault::Book(refused) => RunFault::Core(CoreFault::Book(refused)),
+        CellFault::Passed { op: _, index } => RunFault::Strayed { op, index },
+        CellFault::Stopped { op: _ } | CellFault::Closed => RunFault::NoMemory,
+    }
+}
+
+/// The fault of a run of which the assembly refused a frame.
+fn fault_of_assembly(fault: GatherFault) -> RunFault
+    ensures { (plant : PlantFields) (steps : List Step) → IsOfRun plant steps result }
+{
+    match fault {
+        GatherFault::NoMemory => RunFault::NoMemory,
+        _ => RunFault::Core(CoreFault::Gather(fault)),
+    }
+}
+
+/// Returns the turn on which a thread ended, if the operator refused it for itself, and was not stopped for another's sake.
+fn own_turn(refused: Option<Refusal>) -> Option<(Op, CellFault)>
+    ensures { result ≡ own_turn refused }
+{
+    match refused {
+        None
+        | Some(Refusal::Assembly(_))
+        | Some(
+            Refusal::Turn {
+                op: _,
+                fault: CellFault::Stopped { op: _ } | CellFault::Closed,
+            },
+        ) => None,
+        Some(Refusal::Turn { op, fault }) => Some((op, fault)),
+    }
+}
+
+/// Returns the turn of the lesser operator, where there are two.
+fn lesser(a: Option<(Op, CellFault)>, b: Option<(Op, CellFault)>) -> Option<(Op, CellFault)>
+    ensures { result ≡ lesser a b }
+{
+    match (a, b) {
+        (Some(a), Some(b)) => { if b.0 < a.0 { Some(b) } else { Some(a) } }
+        (Some(a), None) => Some(a),
+        (None, b) => b,
+    }
+}
+
+/// Returns the turn that the least operator refused for itself.
+fn least_turn(thread_reports: &[ThreadReport]) -> Option<(Op, CellFault)>
+    ensures { IsLeastTurn (map (λ thread_report. thread_report.refused) thread_reports.now) result }
+{
+    let mut least = None;
+    for thread_report in thread_reports {
+        least = lesser(least, own_turn(thread_report.refused));
+    }
+    least
+}
+
+/// What the assembly refused.
+fn of_assembly(thread_reports: &[ThreadReport]) -> Option<GatherFault> {
+    for thread_report in thread_reports {
+        if let Some(Refusal::Assembly(fault)) = thread_report.refused {
+            return Some(fault);
+        }
+    }
+    None
+}
+
+/// Whether a thread ended before its last job.
+fn is_any_refused(thread_reports: &[ThreadReport]) -> bool {
+    thread_reports
+        .iter()
+        .any(|thread_report| thread_report.refused.is_some())
+}
+
+/// Why the threads ended before their last jobs: the fault of the least operator that refused a turn for itself, else that
+/// of the assembly.
+pub(crate) fn first_fault(thread_reports: &[ThreadReport]) -> Option<RunFault>
+    ensures { IfSome result (λ fault. (plant : PlantFields) (steps : List Step) → IsOfRun plant steps fault) }
+{
+    if let Some((op, fault)) = least_turn(thread_reports) {
+        return Some(fault_of_turn(op, fault));
+    }
+    if let Some(fault) = of_assembly(thread_reports) {
+        return Some(fault_of_assembly(fault));
+    }
+    if is_any_refused(thread_reports) {
+        return Some(RunFault::NoMemory);
+    }
+    None
+}

@@ -1,0 +1,78 @@
+-- One placing more.
+use Rattle.std.proofs.Common.{◌≡◌, ℕ, List, [], ◌∷◌, ◌++◌, map, append_assoc, append-nil, Option, None, refl, sym, ap, ◌∙◌, subst, arith}
+use Rattle.std.specs.Prelude.{All}
+use Rattle.std.specs.List.{AllByRecursion}
+use Rattle.std.proofs.lemmas.List.Elements.{All-from_recursion, recursion_from_All}
+use Rattle.slice_scheduler.specs.Minislots.{IsSlice}
+use Rattle.map_assembly.specs.Plan.{IsInFrame}
+use Rattle.slice_scheduler.specs.declared.elements.ElementsFields.{ElementsFields}
+use Rattle.operator_model.specs.declared.action.SliceRow.{SliceRow}
+use Rattle.map_assembly.specs.declared.map_bytes.MapBytes.{MapBytes}
+use Rattle.map_assembly.specs.Gathering.{Gathering, put_fault, after_put, MayReslice, resliced, IsGathering}
+use Rattle.map_assembly.specs.Assembled.{IsAnswer}
+use Rattle.run_model.specs.OwnSteps.{slice_of}
+use Rattle.run_audit.specs.declared.placing.Placing.{Placing}
+use Rattle.run_audit.specs.declared.placing.Placing.TheVariants.{Put, Reslice}
+use Rattle.run_audit.specs.Placings.{listed, HaveMade}
+
+-- a part more is put
+pub put_more : (g after : Gathering) (placings : List Placing) (maps : List MapBytes) (op frame : ℕ) (part : ElementsFields) (made : Option MapBytes)
+    → HaveMade g placings maps after → IsGathering after → put_fault after op frame part ≡ None → IsAnswer after op frame part made
+    → HaveMade g (placings ++ Put op frame part ∷ []) (maps ++ listed made) (after_put after op part)
+put_more g after [] maps op frame part made h is fits answer =
+    let here : IsGathering g = subst IsGathering h.1 is in (
+      made,
+      [],
+      here,
+      subst (λ (x : Gathering). put_fault x op frame part ≡ None) h.1 fits,
+      subst (λ (x : Gathering). IsAnswer x op frame part made) h.1 answer,
+      ap (λ (ms : List MapBytes). ms ++ listed made) h.0 ∙ sym (append-nil (listed made)),
+      (refl, ap (λ (x : Gathering). after_put x op part) h.1),
+    )
+put_more g after (Put k n p ∷ later) maps op frame part made h is fits answer = (
+  h.0,
+  h.1 ++ listed made,
+  h.2,
+  h.3,
+  h.4,
+  ap (λ (ms : List MapBytes). ms ++ listed made) h.5 ∙ append_assoc (listed h.0) h.1 (listed made),
+  put_more (after_put g k p) after later h.1 op frame part made h.6 is fits answer,
+)
+put_more g after (Reslice from rows ∷ later) maps op frame part made h is fits answer = (
+  h.0,
+  h.1,
+  put_more (resliced g from (map slice_of rows)) after later maps op frame part made h.2 is fits answer,
+)
+
+-- other slices are given
+pub reslice_more : (g after : Gathering) (placings : List Placing) (maps : List MapBytes) (from : ℕ) (rows : List SliceRow)
+    → HaveMade g placings maps after → IsGathering after → MayReslice after from (map slice_of rows)
+    → HaveMade g (placings ++ Reslice from rows ∷ []) maps (resliced after from (map slice_of rows))
+reslice_more g after [] maps from rows h is may = (
+  subst IsGathering h.1 is,
+  subst (λ (x : Gathering). MayReslice x from (map slice_of rows)) h.1 may,
+  (h.0, ap (λ (x : Gathering). resliced x from (map slice_of rows)) h.1),
+)
+reslice_more g after (Put k n p ∷ later) maps from rows h is may = (
+  h.0,
+  h.1,
+  h.2,
+  h.3,
+  h.4,
+  h.5,
+  reslice_more (after_put g k p) after later h.1 from rows h.6 is may,
+)
+reslice_more g after (Reslice n others ∷ later) maps from rows h is may = (
+  h.0,
+  h.1,
+  reslice_more (resliced g n (map slice_of others)) after later maps from rows h.2 is may,
+)
+
+-- what may be given are slices
+pub are_slices : (g : Gathering) (from : ℕ) (rows : List SliceRow) → IsGathering g → MayReslice g from (map slice_of rows) → All (λ row. IsSlice (slice_of row)) rows
+are_slices g from rows is may =
+    All-from_recursion (λ row. IsSlice (slice_of row)) rows (each rows (recursion_from_All (IsInFrame g.channel) (map slice_of rows) may.slices_are.each))
+  where
+    each : (rs : List SliceRow) → AllByRecursion (IsInFrame g.channel) (map slice_of rs) → AllByRecursion (λ row. IsSlice (slice_of row)) rs
+    each [] h = tt
+    each (r ∷ rs) h = (record { some = h.0.some; in_range = let e = h.0.within_frame in let f = is.channel_is.frame in omega (arith, e, f) }, each rs h.1)

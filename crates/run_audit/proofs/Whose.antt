@@ -1,0 +1,80 @@
+-- Whose modem a modem is, and whose step a step.
+use Rattle.std.proofs.Common.{◌≡◌, ℕ, true, false, Bool, Option, Some, None, is_some, if◌then◌else◌, ◌⊎◌, inl, inr, refl, sym, ap, ◌∙◌, subst, arith}
+use Rattle.std.specs.Prelude.{◌==◌, slice_get}
+use Rattle.std.proofs.lemmas.Bool.{cases_eq, eq-eqb, ne_eqb, false_from_ne_true, false≢true}
+use Rattle.std.proofs.lemmas.Option.{none-some}
+use Rattle.dsx_messages.specs.declared.modem.Modem.{Modem}
+use Rattle.plant.specs.declared.operator_row.RowFields.{RowFields}
+use Rattle.plant.specs.declared.plant.PlantFields.{PlantFields}
+use Rattle.plant.specs.Row.{is_listed}
+use Rattle.plant.specs.Plant.{IsPlant}
+use Rattle.plant.specs.Roster.{holder, Holds}
+use Rattle.plant.proofs.Holders.{holder_holds, holder_is, one_lists}
+use Rattle.operator_model.specs.declared.action.Action.{Action}
+use Rattle.operator_model.specs.declared.action.Action.TheVariants as actions
+use Rattle.run_model.specs.declared.step.Step.{Step}
+use Rattle.run_model.specs.declared.step.Step.TheVariants as steps
+use Rattle.run_model.specs.OwnSteps.{action_of}
+use Rattle.run_model.proofs.Entries.{same_at}
+use Rattle.run_audit.specs.Taken.{taken_by}
+
+module _ (plant : PlantFields) (modem : Modem) (op : ℕ) (row : RowFields) (is : IsPlant plant) (here : slice_get plant.rows op ≡ Some row) where
+  pub held_by : (k : ℕ) → holder plant.rows modem ≡ Some k → (k == op) ≡ is_listed modem row.modems
+  held_by k held = by (cases_eq k op)
+    where
+      holds : Holds plant.rows modem k
+      holds = holder_holds plant.rows modem k held
+
+      by : (k ≡ op) ⊎ (k ≡ op → ⊥) → (k == op) ≡ is_listed modem row.modems
+      by (inl same) =
+          let row_is : holds.row ≡ row = same_at plant.rows k holds.row row holds.here (ap (slice_get plant.rows) same ∙ here) in
+          eq-eqb k op same ∙ sym (subst (λ (r : RowFields). is_listed modem r.modems ≡ true) row_is holds.listed)
+      by (inr other) =
+          ne_eqb k op other
+          ∙ sym (false_from_ne_true (is_listed modem row.modems) (λ listed. other (one_lists plant.rows modem k op holds.row row is.modems holds.here here holds.listed listed)))
+
+  pub held_by_none : holder plant.rows modem ≡ None → false ≡ is_listed modem row.modems
+  held_by_none none = sym (false_from_ne_true (is_listed modem row.modems) (λ listed.
+      let holds : Holds plant.rows modem op = record {
+        row = row;
+        here = here;
+        listed = listed;
+        first = λ i other e l. let same = one_lists plant.rows modem op i row other is.modems here e listed l in omega (arith, same);
+      } in
+      none-some op (sym none ∙ (holder_is plant.rows modem op).1 holds)))
+
+-- an operator's own step is the action that it is taken as
+pub own_is_taken : (row : RowFields) (i : ℕ) (step : Step) → is_some (action_of row i step) ≡ true → action_of row i step ≡ taken_by i step
+own_is_taken row i (steps.Arrive modem heard) own = by (is_listed modem row.modems) own
+  where
+    by : (b : Bool) → is_some (if b then Some (actions.Arrive modem heard) else None) ≡ true → (if b then Some (actions.Arrive modem heard) else None) ≡ Some (actions.Arrive modem heard)
+    by true own = refl
+    by false own = absurd (false≢true own)
+own_is_taken row i (steps.Work op) own = by (op == i) own
+  where
+    by : (b : Bool) → is_some (if b then Some actions.Work else None) ≡ true → (if b then Some actions.Work else None) ≡ Some actions.Work
+    by true own = refl
+    by false own = absurd (false≢true own)
+own_is_taken row i (steps.Tick op) own = by (op == i) own
+  where
+    by : (b : Bool) → is_some (if b then Some actions.Tick else None) ≡ true → (if b then Some actions.Tick else None) ≡ Some actions.Tick
+    by true own = refl
+    by false own = absurd (false≢true own)
+own_is_taken row i (steps.Collect op) own = refl
+own_is_taken row i (steps.Reslice from rows) own = refl
+
+some_is : {A : Type 0} (o : Option A) → is_some o ≡ true → (x : A) × (o ≡ Some x)
+some_is None h = absurd (false≢true h)
+some_is (Some x) h = (x, refl)
+
+none_is : {A : Type 0} (o : Option A) → is_some o ≡ false → o ≡ None
+none_is None h = refl
+none_is (Some x) h = absurd (false≢true (sym h))
+
+pub own_action : (row : RowFields) (i : ℕ) (step : Step) → is_some (action_of row i step) ≡ true → (action : Action) × (action_of row i step ≡ Some action) × (taken_by i step ≡ Some action)
+own_action row i step own =
+    let found = some_is (action_of row i step) own in
+    (found.0, found.1, sym (own_is_taken row i step own) ∙ found.1)
+
+pub no_action : (row : RowFields) (i : ℕ) (step : Step) → is_some (action_of row i step) ≡ false → action_of row i step ≡ None
+no_action row i step other = none_is (action_of row i step) other

@@ -1,0 +1,11 @@
+use Rattle.std.proofs.Common.{◌≡◌, ℕ, ◌<◌, map, Some}
+use Rattle.std.specs.Prelude.{slice_get}
+use Rattle.plant.specs.declared.operator_row.RowFields.{RowFields}
+use Rattle.operator_model.specs.Replay.{BookView}
+use Rattle.operator_book.specs.ViewOf.{view_of}
+use Rattle.run_model.specs.IsStateAfter.{IsBookAfter}
+use Rattle.run_audit.proofs.following.first_stray.Given as goal
+
+abbrev pub invariant-loop-op : goal.invariant-loop-op
+invariant-loop-op g l =
+    (i : ℕ) (row : RowFields) (book : BookView) → i < l.op → slice_get l.plant.rows i ≡ Some row → slice_get (map view_of l.books) i ≡ Some book → IsBookAfter l.plant l.steps i row book

@@ -1,0 +1,232 @@
+//! The assembly that the workers of a plant share.
+
+ghost use Rattle.std.specs.Prelude.{◌≡◌, ◌≢◌, ◌↔◌, [], ◌∷◌, ◌++◌, map, All, IsTrue, Option, Some, Result, Ok, Err, IfOk, OnOk, OnErr, ◌<◌, vec_len, vec_capacity, true, false};
+ghost use Rattle.slice_scheduler.specs.Minislots.{IsSlice};
+ghost use Rattle.plant.specs.Plant.{IsPlant};
+ghost use Rattle.operator_model.specs.declared.action.SliceRow.{SliceRow};
+ghost use Rattle.map_assembly.specs.declared.map_bytes.MapBytes.{MapBytes};
+ghost use Rattle.map_assembly.specs.declared.refused.GatherFault.{GatherFault};
+ghost use Rattle.map_assembly.specs.declared.refused.GatherFault.TheVariants.{NoMemory};
+ghost use Rattle.map_assembly.specs.Gathering.{gathering_of, put_fault, MayReslice, IsGathering};
+ghost use Rattle.run_model.specs.OwnSteps.{slice_of};
+ghost use Rattle.run_audit.specs.Placings.{new_assembly, listed, HasPut, HasResliced, HaveMade};
+
+use crate::placing::Placing;
+use map_assembly::{Gather, GatherFault, MapBytes};
+use operator_model::SliceRow;
+use plant::{Op, Plant};
+use run_model::SliceRows;
+use slice_scheduler::{Elements, Slice};
+use std::alloc::{AllocError, Global};
+use std::marker::Model;
+
+/// The assembly that the workers of a plant share: the plant, what is gathered, all that was placed in it, in order,
+/// and the MAPs that it gave. Contracts see these four. The type keeps that the MAPs are what the placings give, one
+/// after the other, on a new assembly of that plant.
+#[derive(Drop)]
+pub struct Assembly {
+    plant: Plant,
+    gather: Gather,
+    placings: Vec<Placing>,
+    maps: Vec<MapBytes>,
+}
+
+impl Model for Assembly {
+    ghost use Rattle.map_assembly.specs.Gathering.{gathering_of};
+    ghost use Rattle.run_audit.specs.Placings.{AssemblyView, HaveMade};
+
+    ghost Value = { AssemblyView };
+
+    ghost view = { λ a. record {
+      plant = a.plant;
+      gathering = a.gather;
+      placings = a.placings.items;
+      maps = a.maps.items;
+    } };
+
+    ghost invariant = { λ a. HaveMade (gathering_of a.plant) a.placings.items a.maps.items a.gather };
+}
+
+/// Whether a row's slice is one: it has a minislot, and none past the 4,096 of a frame.
+fn is_slice(row: SliceRow) -> bool
+    ensures { IsTrue result ↔ IsSlice (slice_of row) }
+{
+    1 <= row.length && u32::from(row.start) + u32::from(row.length) <= 4096
+}
+
+/// Whether each row's slice is one.
+fn are_slices(rows: &[SliceRow]) -> bool
+    ensures { IsTrue result ↔ All (λ row. IsSlice (slice_of row)) rows.now }
+{
+    rows.iter().all(|row| is_slice(*row))
+}
+
+/// The slices of rows.
+fn slices_of(alloc: Global, rows: &[SliceRow]) -> Result<Vec<Slice>, AllocError>
+    requires { All (λ row. IsSlice (slice_of row)) rows.now }
+    ensures { IfOk result (λ slices. slices.items ≡ map slice_of rows.now) }
+{
+    let mut slices = Vec::with_capacity(alloc, rows.len())?;
+    for row in rows {
+        slices.push(Slice::new(row.start, row.length))?;
+    }
+    Ok(slices)
+}
+
+/// Room for one more placing and one more MAP.
+fn make_room(placings: &mut Vec<Placing>, maps: &mut Vec<MapBytes>) -> Result<(), AllocError>
+    ensures placings { placings.new.items ≡ placings.old.items }
+    ensures maps { maps.new.items ≡ maps.old.items }
+    ensures for_placing { OnOk result (vec_len placings.new < vec_capacity placings.new) }
+    ensures for_map { OnOk result (vec_len maps.new < vec_capacity maps.new) }
+{
+    placings.reserve(1)?;
+    maps.reserve(1)
+}
+
+/// Notes what was placed, in the room that is there.
+fn note(placings: &mut Vec<Placing>, placing: Placing)
+    requires { vec_len placings.old < vec_capacity placings.old }
+    ensures { placings.new.items ≡ placings.old.items ++ placing ∷ [] }
+{
+    placings.push_reserved(placing);
+}
+
+/// Keeps the MAP that a part gave, if it gave one, in the room that is there.
+fn note_map(maps: &mut Vec<MapBytes>, made: Option<MapBytes>)
+    requires { vec_len maps.old < vec_capacity maps.old }
+    ensures { maps.new.items ≡ maps.old.items ++ listed made }
+{
+    if let Some(map) = made {
+        maps.push_reserved(map);
+    }
+}
+
+impl Assembly {
+    /// The assembly of a plant in which nothing is placed.
+    pub fn new(alloc: Global, plant: &Plant) -> Result<Assembly, AllocError>
+        ensures { IfOk result (λ made. made ≡ new_assembly plant.now) }
+    {
+        let plant = plant.copy(alloc)?;
+        let gather = Gather::new(alloc, &plant)?;
+        Ok(Assembly {
+            plant,
+            gather,
+            placings: Vec::new(alloc),
+            maps: Vec::new(alloc),
+        })
+    }
+
+    /// Puts an operator's part of a frame, and keeps the MAP where it is the last one of its frame. All memory is taken
+    /// first.
+    ///
+    /// Faults: those of `Gather::put`. Nothing has changed then, and the elements are dropped.
+    pub fn put(
+        &mut self,
+        alloc: Global,
+        op: Op,
+        frame: u32,
+        elements: Elements,
+    ) -> Result<(), GatherFault>
+        ensures ok { OnOk result (HasPut op frame elements self.old self.new) }
+        ensures fault { (fault : GatherFault) → fault ≢ NoMemory → result ≡ Err fault
+            → put_fault self.old.gathering op frame elements ≡ Some fault }
+        ensures err { OnErr result (self.new ≡ self.old) }
+    {
+        let Ok(kept) = elements.copy(alloc) else {
+            return Err(GatherFault::NoMemory);
+        };
+        self.gather.always();
+        if make_room(&mut self.placings, &mut self.maps).is_err() {
+            return Err(GatherFault::NoMemory);
+        }
+        match self.gather.put(alloc, op, frame, elements) {
+            Ok(made) => {
+                let elements = kept;
+                note(
+                    &mut self.placings,
+                    Placing::Put {
+                        op,
+                        frame,
+                        elements,
+                    },
+                );
+                note_map(&mut self.maps, made);
+                Ok(())
+            }
+            Err(refused) => Err(refused.fault),
+        }
+    }
+
+    /// Gives the operators other slices from a frame on, where `Gather::may_reslice` allows it; false where not, and
+    /// nothing has changed then.
+    pub fn reslice(
+        &mut self,
+        alloc: Global,
+        from: u32,
+        rows: &[SliceRow],
+    ) -> Result<bool, AllocError>
+        ensures given { result ≡ Ok true → HasResliced from rows.now self.old self.new }
+        ensures refused { result ≡ Ok false → MayReslice self.old.gathering from (map slice_of rows.now) → ⊥ }
+        ensures same { result ≡ Ok false → self.new ≡ self.old }
+        ensures err { OnErr result (self.new ≡ self.old) }
+    {
+        self.gather.always();
+        if !are_slices(rows) {
+            return Ok(false);
+        }
+        let slices = slices_of(alloc, rows)?;
+        if !self.gather.may_reslice(from, slices.as_slice()) {
+            return Ok(false);
+        }
+        let kept = SliceRows::from_vec(Vec::from_slice(alloc, rows)?);
+        self.placings.reserve(1)?;
+        self.gather.reslice(alloc, from, slices)?;
+        note(&mut self.placings, Placing::Reslice { from, rows: kept });
+        Ok(true)
+    }
+
+    /// The plant.
+    pub fn plant(&self) -> &Plant
+        ensures { result.now ≡ self.now.plant }
+    {
+        &self.plant
+    }
+
+    /// All that was placed, in order.
+    pub fn placings(&self) -> &[Placing]
+        ensures { result.now ≡ self.now.placings }
+    {
+        self.placings.as_slice()
+    }
+
+    /// The MAPs, in the order in which they were made.
+    pub fn maps(&self) -> &[MapBytes]
+        ensures { result.now ≡ self.now.maps }
+    {
+        self.maps.as_slice()
+    }
+
+    /// The MAPs, in the order in which they were made, without a copy.
+    pub fn into_maps(self) -> Vec<MapBytes>
+        ensures { result.items ≡ self.maps }
+    {
+        let Assembly {
+            plant: _,
+            gather: _,
+            placings: _,
+            maps,
+        } = self;
+        maps
+    }
+
+    /// What always holds, for a caller's proof. Does nothing.
+    pub fn always(&self)
+        ensures plant { IsPlant self.now.plant }
+        ensures gathering { IsGathering self.now.gathering }
+        ensures made { HaveMade (gathering_of self.now.plant) self.now.placings self.now.maps self.now.gathering }
+    {
+        let _ = self.plant.rows();
+        self.gather.always();
+    }
+}

@@ -1,0 +1,236 @@
+//! Whether two values are the same.
+
+ghost use Rattle.std.specs.Prelude.{◌≡◌, ◌↔◌, IsTrue};
+ghost use Rattle.run_audit.specs.Same.{HaveSameLimits, HaveSameRanges, AreOfSameFlow, HaveSameRates, HaveSameIntervals};
+
+use admission::IdRange;
+use dsx_messages::Modem;
+use plant::{Channel, Class, Consts, OperatorName, OperatorRow, Plant, Provision, RowFields};
+use slice_scheduler::Slice;
+use tlv24::{ClassName, ErrorEncodings, FlowFields, FlowTlv};
+
+/// Whether two flows are provisioned alike.
+fn is_same_provision(a: &Provision, b: &Provision) -> bool
+    ensures { IsTrue result ↔ (a.now ≡ b.now) }
+{
+    a.modem == b.modem && a.encoding.as_slice() == b.encoding.as_slice()
+}
+
+/// Whether the same flows are provisioned, in the same order.
+fn are_same_provisions(a: &[Provision], b: &[Provision]) -> bool
+    ensures { IsTrue result ↔ (a.now ≡ b.now) }
+{
+    if a.len() != b.len() {
+        return false;
+    }
+    for (place, provision) in a.iter().enumerate() {
+        if !is_same_provision(provision, &b[place]) {
+            return false;
+        }
+    }
+    true
+}
+
+/// Whether the limits of two rows are the same.
+fn have_same_limits(a: &RowFields, b: &RowFields) -> bool
+    ensures { IsTrue result ↔ HaveSameLimits a.now b.now }
+{
+    a.flows == b.flows
+        && a.transactions == b.transactions
+        && a.inbox == b.inbox
+        && a.budget == b.budget
+        && a.elements == b.elements
+        && a.policy == b.policy
+}
+
+/// Whether two ranges are the same.
+fn is_same_range(a: IdRange, b: IdRange) -> bool
+    ensures { IsTrue result ↔ (a ≡ b) }
+{
+    a == b
+}
+
+/// Whether two modems are the same.
+fn is_same_modem(a: Modem, b: Modem) -> bool
+    ensures { IsTrue result ↔ (a ≡ b) }
+{
+    a == b
+}
+
+/// Whether two names are the same.
+fn is_same_name(a: OperatorName, b: OperatorName) -> bool
+    ensures { IsTrue result ↔ (a ≡ b) }
+{
+    a == b
+}
+
+/// Whether two slices are the same.
+fn is_same_slice(a: Slice, b: Slice) -> bool
+    ensures { IsTrue result ↔ (a ≡ b) }
+{
+    a == b
+}
+
+/// Whether the modems are the same, in the same order.
+fn are_same_modems(a: &[Modem], b: &[Modem]) -> bool
+    ensures { IsTrue result ↔ (a.now ≡ b.now) }
+{
+    if a.len() != b.len() {
+        return false;
+    }
+    for (place, modem) in a.iter().enumerate() {
+        if !is_same_modem(*modem, b[place]) {
+            return false;
+        }
+    }
+    true
+}
+
+/// Whether the names and the ranges of two rows are the same.
+fn have_same_ranges(a: &RowFields, b: &RowFields) -> bool
+    ensures { IsTrue result ↔ HaveSameRanges a.now b.now }
+{
+    is_same_name(a.name, b.name)
+        && is_same_slice(a.slice, b.slice)
+        && is_same_range(a.sfids, b.sfids)
+        && is_same_range(a.sids, b.sids)
+}
+
+/// Whether two rows are the same.
+pub(crate) fn is_same_row(a: &OperatorRow, b: &OperatorRow) -> bool
+    ensures { IsTrue result ↔ (a.now ≡ b.now) }
+{
+    let (a, b) = (a.get_fields(), b.get_fields());
+    have_same_limits(a, b)
+        && have_same_ranges(a, b)
+        && are_same_modems(a.modems.as_slice(), b.modems.as_slice())
+        && are_same_provisions(a.provisions.as_slice(), b.provisions.as_slice())
+}
+
+/// Whether the rows are the same, in the same order.
+fn are_same_rows(a: &[OperatorRow], b: &[OperatorRow]) -> bool
+    ensures { IsTrue result ↔ (a.now ≡ b.now) }
+{
+    if a.len() != b.len() {
+        return false;
+    }
+    for (place, row) in a.iter().enumerate() {
+        if !is_same_row(row, &b[place]) {
+            return false;
+        }
+    }
+    true
+}
+
+/// Whether two channels are the same.
+fn is_same_channel(a: Channel, b: Channel) -> bool
+    ensures { IsTrue result ↔ (a ≡ b) }
+{
+    a == b
+}
+
+/// Whether two classes have one name.
+fn is_same_class_name(a: ClassName, b: ClassName) -> bool
+    ensures { IsTrue result ↔ (a ≡ b) }
+{
+    a == b
+}
+
+/// Whether two encodings name the same class, or none.
+fn is_same_named_class(a: Option<ClassName>, b: Option<ClassName>) -> bool
+    ensures { IsTrue result ↔ (a ≡ b) }
+{
+    a == b
+}
+
+/// Whether two encodings tell of the same error, or of none.
+fn is_same_error(a: Option<ErrorEncodings>, b: Option<ErrorEncodings>) -> bool
+    ensures { IsTrue result ↔ (a ≡ b) }
+{
+    a == b
+}
+
+/// Whether two encodings are of the same flow and ask for the same kinds of sets.
+fn are_of_same_flow(a: &FlowFields, b: &FlowFields) -> bool
+    ensures { IsTrue result ↔ AreOfSameFlow a.now b.now }
+{
+    a.reference == b.reference
+        && a.sfid == b.sfid
+        && a.sid == b.sid
+        && is_same_named_class(a.class_name, b.class_name)
+        && is_same_error(a.errored, b.errored)
+        && a.set_type == b.set_type
+}
+
+/// Whether two encodings ask for the same rates.
+fn have_same_rates(a: &FlowFields, b: &FlowFields) -> bool
+    ensures { IsTrue result ↔ HaveSameRates a.now b.now }
+{
+    a.traffic_priority == b.traffic_priority
+        && a.max_sustained_rate == b.max_sustained_rate
+        && a.max_burst == b.max_burst
+        && a.min_reserved_rate == b.min_reserved_rate
+        && a.scheduling_type == b.scheduling_type
+        && a.request_policy == b.request_policy
+}
+
+/// Whether two encodings ask for the same intervals.
+fn have_same_intervals(a: &FlowFields, b: &FlowFields) -> bool
+    ensures { IsTrue result ↔ HaveSameIntervals a.now b.now }
+{
+    a.polling_interval == b.polling_interval
+        && a.poll_jitter == b.poll_jitter
+        && a.grant_size == b.grant_size
+        && a.grant_interval == b.grant_interval
+        && a.grant_jitter == b.grant_jitter
+        && a.grants_per_interval == b.grants_per_interval
+}
+
+/// Whether two encodings are the same.
+fn is_same_encoding(a: &FlowTlv, b: &FlowTlv) -> bool
+    ensures { IsTrue result ↔ (a.now ≡ b.now) }
+{
+    let (a, b) = (a.get_fields(), b.get_fields());
+    are_of_same_flow(&a, &b) && have_same_rates(&a, &b) && have_same_intervals(&a, &b)
+}
+
+/// Whether two classes are the same.
+fn is_same_class(a: &Class, b: &Class) -> bool
+    ensures { IsTrue result ↔ (a.now ≡ b.now) }
+{
+    is_same_class_name(a.name, b.name) && is_same_encoding(&a.encoding, &b.encoding)
+}
+
+/// Whether the classes are the same, in the same order.
+fn are_same_classes(a: &[Class], b: &[Class]) -> bool
+    ensures { IsTrue result ↔ (a.now ≡ b.now) }
+{
+    if a.len() != b.len() {
+        return false;
+    }
+    for (place, class) in a.iter().enumerate() {
+        if !is_same_class(class, &b[place]) {
+            return false;
+        }
+    }
+    true
+}
+
+/// Whether two plants' operators share the same.
+pub(crate) fn are_same_consts(a: &Consts, b: &Consts) -> bool
+    ensures { IsTrue result ↔ (a.now ≡ b.now) }
+{
+    let (a, b) = (a.get_fields(), b.get_fields());
+    is_same_channel(a.channel, b.channel)
+        && a.units == b.units
+        && a.short_max == b.short_max
+        && a.timers == b.timers
+        && are_same_classes(a.classes.as_slice(), b.classes.as_slice())
+}
+
+/// Whether two plants are the same.
+pub(crate) fn is_same_plant(a: &Plant, b: &Plant) -> bool
+    ensures { IsTrue result ↔ (a.now ≡ b.now) }
+{
+    are_same_consts(a.consts(), b.consts()) && are_same_rows(a.rows(), b.rows())
+}

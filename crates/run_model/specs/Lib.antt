@@ -1,0 +1,13 @@
+pub mod OwnSteps
+pub mod Starts
+pub mod IsTraceOf
+pub mod Ordered
+pub mod IsStateAfter
+pub mod NonInterference
+pub mod TwoCores
+pub mod Steps
+pub mod Opened
+pub mod Run
+pub mod SharedOut
+pub mod Periods
+pub mod Changing

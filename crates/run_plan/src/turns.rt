@@ -1,0 +1,164 @@
+//! Where in its operator's history each step of a run is due.
+
+ghost use Rattle.std.specs.Prelude.{◌≡◌, ◌+◌, ◌<◌, ◌++◌, [], ◌∷◌, length, take, slice_get, unwrap_or, Some, ◌↔◌, IsTrue, OnOk, IfOk};
+ghost use Rattle.plant.specs.Roster.{holder};
+ghost use Rattle.plant.specs.declared.operator_row.RowFields.{RowFields};
+ghost use Rattle.run_model.specs.declared.step.Step.{Step};
+ghost use Rattle.run_plan.specs.Turns.{AreTurns};
+ghost use Rattle.run_plan.specs.Courses.{IsCourse, IsOwnTurn, AreWritten};
+
+use dsx_messages::Modem;
+use plant::{Op, Plant};
+use run_model::Step;
+use std::alloc::{AllocError, Global};
+
+/// How far an operator has come.
+#[derive(Drop)]
+struct Course {
+    /// How many actions of its own there were.
+    pub actions: usize,
+    /// How many there were right behind each of its Ticks.
+    pub behind: Vec<usize>,
+    /// How many of its frames were collected.
+    pub collects: usize,
+}
+
+impl Course {
+    /// Goes on by an action that is no Tick: its place.
+    fn act(&mut self) -> usize
+        requires { self.old.actions < usize.MAX }
+        ensures place { result ≡ self.old.actions }
+        ensures course { self.new ≡ record self.old { actions = self.old.actions + 1 } }
+    {
+        let place = self.actions;
+        self.actions += 1;
+        place
+    }
+
+    /// Goes on by a Tick: its place.
+    fn tick(&mut self) -> Result<usize, AllocError>
+        requires { self.old.actions < usize.MAX }
+        ensures place { IfOk result (λ place. place ≡ self.old.actions) }
+        ensures actions { OnOk result (self.new.actions ≡ self.old.actions + 1) }
+        ensures collects { OnOk result (self.new.collects ≡ self.old.collects) }
+        ensures behind { OnOk result
+            (self.new.behind.items ≡ self.old.behind.items ++ (self.old.actions + 1) ∷ []) }
+    {
+        self.behind.push(self.actions + 1)?;
+        Ok(self.act())
+    }
+
+    /// Goes on by a collection: behind which action it is due, or 0 where there is no Tick for it.
+    fn collect(&mut self) -> usize
+        requires { self.old.collects < usize.MAX }
+        ensures turn { result ≡ unwrap_or (slice_get self.old.behind.items self.old.collects) 0 }
+        ensures course { self.new ≡ record self.old { collects = self.old.collects + 1 } }
+    {
+        let turn = self.behind.get(self.collects).copied().unwrap_or(0);
+        self.collects += 1;
+        turn
+    }
+}
+
+/// Whether a modem is of this operator.
+fn is_of(plant: &Plant, modem: Modem, op: Op) -> bool
+    ensures { IsTrue result ↔ (holder plant.now.rows modem ≡ Some op) }
+{
+    plant.operator_of(modem) == Some(op)
+}
+
+/// The turn of the step at a place, if it is one of this operator's; the operator goes on by it.
+fn turn_of(
+    plant: &Plant,
+    op: Op,
+    course: &mut Course,
+    steps: &[Step],
+    at: usize,
+) -> Result<Option<usize>, AllocError>
+    requires within { at < length steps.now }
+    requires room { at < usize.MAX }
+    requires known { op < length plant.now.rows }
+    requires course { (row : RowFields) → slice_get plant.now.rows op ≡ Some row
+        → IsCourse row op (take at steps.now) course.old }
+    ensures turn { IfOk result (λ turn. (row : RowFields) (step : Step) → slice_get plant.now.rows op ≡ Some row
+        → slice_get steps.now at ≡ Some step → IsOwnTurn plant.now row op (take at steps.now) step turn) }
+    ensures course { OnOk result ((row : RowFields) → slice_get plant.now.rows op ≡ Some row
+        → IsCourse row op (take (at + 1) steps.now) course.new) }
+{
+    let _rows = plant.rows();
+    match &steps[at] {
+        Step::Arrive { modem, heard: _ } => {
+            if is_of(plant, *modem, op) {
+                Ok(Some(course.act()))
+            } else {
+                Ok(None)
+            }
+        }
+        Step::Work { op: other } => {
+            if *other == op {
+                Ok(Some(course.act()))
+            } else {
+                Ok(None)
+            }
+        }
+        Step::Tick { op: other } => {
+            if *other == op {
+                Ok(Some(course.tick()?))
+            } else {
+                Ok(None)
+            }
+        }
+        Step::Collect { op: other } => {
+            if *other == op {
+                Ok(Some(course.collect()))
+            } else {
+                Ok(None)
+            }
+        }
+        Step::Reslice { from: _, rows } => {
+            if op < rows.as_slice().len() {
+                course.act();
+            }
+            Ok(None)
+        }
+    }
+}
+
+/// Writes the turns of an operator's own steps.
+fn write_own(
+    alloc: Global,
+    plant: &Plant,
+    op: Op,
+    steps: &[Step],
+    turns: &mut [usize],
+) -> Result<(), AllocError>
+    requires known { op < length plant.now.rows }
+    requires one_each { length turns.old ≡ length steps.now }
+    ensures { OnOk result ((row : RowFields) → slice_get plant.now.rows op ≡ Some row
+        → AreWritten plant.now row op steps.now (length steps.now) turns.old turns.new) }
+{
+    let mut course = Course {
+        actions: 0,
+        behind: Vec::new(alloc),
+        collects: 0,
+    };
+    for at in 0..steps.len() {
+        if let Some(turn) = turn_of(plant, op, &mut course, steps, at)? {
+            turns[at] = turn;
+        }
+    }
+    Ok(())
+}
+
+/// At which place of its operator's history each step is due: an Arrive, a Work or a Tick behind all of the operator's own
+/// actions before it, re-slicings among them, and a Collect behind the Tick whose frame it takes. 0 for a Reslice, which is
+/// of all operators. Takes time in proportion to the steps and the operators, of which there are at most 32.
+pub fn turns_of(alloc: Global, plant: &Plant, steps: &[Step]) -> Result<Vec<usize>, AllocError>
+    ensures { IfOk result (λ turns. AreTurns plant.now steps.now turns.items) }
+{
+    let mut turns = vec![in alloc; 0; steps.len()]?;
+    for op in 0..plant.rows().len() {
+        write_own(alloc, plant, op, steps, turns.as_mut_slice())?;
+    }
+    Ok(turns)
+}

@@ -1,0 +1,13 @@
+use Rattle.std.proofs.Common.{rules}
+use Rattle.std.proofs.Common.{◌≡◌}
+use Rattle.std.specs.Bool.{Decides}
+use Rattle.std.proofs.lemmas.Slice.Eq.{slice_eq-Decides}
+use Rattle.map_assembly.specs.declared.view.MapSpan.{MapSpan}
+use Rattle.map_assembly.specs.contracts.view.MapSpanPartialEq.TheImpl.{eq-value}
+use Rattle.run_receipts.proofs.own_part.are_same_spans.Goals as goal
+
+each : (a b : MapSpan) → Decides (eq-value.it a b) (a ≡ b)
+each a b = search rules
+
+pub returns : goal.returns
+returns c = slice_eq-Decides each c.args.a.now c.args.b.now c.eq.result c.eq.ensures

@@ -1,0 +1,12 @@
+use Rattle.std.proofs.Common.{◌≡◌, rules}
+use Rattle.std.specs.Bool.{Decides}
+use Rattle.std.proofs.lemmas.Slice.Eq.{slice_eq-Decides}
+use Rattle.slice_scheduler.specs.declared.span.Span.{Span}
+use Rattle.slice_scheduler.specs.contracts.span.SpanPartialEq.TheImpl.{eq-value}
+use Rattle.run_receipts.proofs.same.are_same_spans.Goals as goal
+
+each : (a b : Span) → Decides (eq-value.it a b) (a ≡ b)
+each a b = search rules
+
+pub returns : goal.returns
+returns c = slice_eq-Decides each c.args.a.now c.args.b.now c.eq.result c.eq.ensures

@@ -1,0 +1,28 @@
+-- That a MAP gives each operator its own frame (own).
+use Rattle.std.specs.Prelude.{◌≡◌, List, [], ◌∷◌, All}
+use Rattle.std.specs.List.{flat_map}
+use Rattle.slice_scheduler.specs.declared.elements.ElementsFields.{ElementsFields}
+use Rattle.operator_model.specs.declared.action.Entry.{Entry}
+use Rattle.operator_model.specs.declared.output.Output.{Output}
+use Rattle.operator_model.specs.Replay.{BookView}
+use Rattle.map_assembly.specs.declared.map_bytes.MapBytes.{MapBytes}
+use Rattle.map_assembly.specs.declared.view.MapView.{MapView}
+use Rattle.map_assembly.specs.Reading.{MapReads}
+use Rattle.map_assembly.specs.Tiled.{part_of, own_part}
+use Rattle.run_model.specs.IsTraceOf.{elements_in}
+
+-- all that a history put out, in order
+abbrev pub outputs_of : List Entry → List Output
+outputs_of history = flat_map (λ entry. entry.outputs) history
+
+-- what a MAP says to an operator is the one frame of the MAP's number in the operator's history
+pub record IsOwnPart (made : MapBytes) (view : MapView) (book : BookView) : Type 0 where
+  pub part : ElementsFields
+  pub put : elements_in made.frame (outputs_of book.history) ≡ part ∷ []
+  pub part_is : part_of book.row.sids view ≡ own_part part
+
+-- the bytes of a MAP can be read, and what they say to each operator is its own frame
+pub record HasOwnParts (books : List BookView) (made : MapBytes) : Type 0 where
+  pub view : MapView
+  pub reads : MapReads made.bytes view
+  pub own : All (IsOwnPart made view) books

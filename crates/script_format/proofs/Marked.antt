@@ -1,0 +1,70 @@
+-- Numbers behind marks, and pairs of digits.
+use Rattle.std.proofs.Common.{◌≡◌, ℕ, ◌+◌, ◌-◌, ◌^◌, ◌<◌, ◌≤◌, List, [], ◌∷◌, ◌++◌, length, drop, set, arith, ap, ◌∙◌, refl, sym, subst, length-set, append_assoc}
+use Rattle.std.specs.Fmt.{decimal}
+use Rattle.std.specs.Str.{IsAscii}
+use Rattle.std.proofs.lemmas.Fmt.{length-decimal-le, IsAscii-decimal}
+use Rattle.std.proofs.lemmas.Str.{IsAscii-append}
+use Rattle.std.proofs.lemmas.Str.Ascii.{IsAscii-cons, IsAscii-nil}
+use Rattle.std.proofs.lemmas.List.{drop-set}
+use Rattle.slice_scheduler.specs.declared.span.Span.{Span}
+use Rattle.slice_scheduler.specs.Iuc.{number_of}
+use Rattle.script_format.specs.Text.{spaced, span_text, pending_text}
+
+-- a number of 16 bits has at most 5 digits
+pub few_digits : (n : ℕ) → n < 2 ^ 16 → length (decimal n) ≤ 5
+few_digits n h = length-decimal-le 5 n (omega arith) (omega arith) (omega arith)
+
+-- a mark before what stands from a place on
+pub marked : (xs rest : List ℕ) (s m : ℕ) → 1 ≤ s → s ≤ length xs → drop s xs ≡ rest → drop (s - 1) (set xs (s - 1) m) ≡ m ∷ rest
+marked xs rest s m some within e =
+    let lt : s - 1 < length xs = omega arith in
+    let back : s - 1 + 1 ≡ s = omega arith in
+    drop-set xs (s - 1) m lt ∙ ap (λ (ys : List ℕ). m ∷ ys) (ap (λ (i : ℕ). drop i xs) back ∙ e)
+
+-- a number behind a mark is ASCII
+pub marked_ascii : (m n : ℕ) (rest : List ℕ) → m < 128 → n < 2 ^ 16 → IsAscii rest → IsAscii (m ∷ (decimal n ++ rest))
+marked_ascii m n rest lt h ascii = IsAscii-cons m _ lt (IsAscii-append (decimal n) rest (IsAscii-decimal n (omega arith)) ascii)
+
+-- four numbers, each behind a mark
+abbrev pub in_marks : List ℕ → List ℕ → List ℕ → List ℕ → List ℕ
+in_marks sid iuc start len = 32 ∷ (sid ++ 47 ∷ (iuc ++ 47 ∷ (start ++ 47 ∷ len)))
+
+-- the same before what stands behind them
+marks_before : (sid iuc start len rest : List ℕ) → 32 ∷ (sid ++ 47 ∷ (iuc ++ 47 ∷ (start ++ 47 ∷ (len ++ rest)))) ≡ in_marks sid iuc start len ++ rest
+marks_before sid iuc start len rest =
+    ap (λ (t : List ℕ). 32 ∷ t)
+    (sym (append_assoc sid (47 ∷ (iuc ++ 47 ∷ (start ++ 47 ∷ len))) rest
+    ∙ ap (λ (t : List ℕ). sid ++ 47 ∷ t) (append_assoc iuc (47 ∷ (start ++ 47 ∷ len)) rest
+    ∙ ap (λ (t : List ℕ). iuc ++ 47 ∷ t) (append_assoc start (47 ∷ len) rest))))
+
+pub pending_ascii : IsAscii (47 ∷ 80 ∷ [])
+pending_ascii = IsAscii-cons 47 (80 ∷ []) (omega arith) (IsAscii-cons 80 [] (omega arith) IsAscii-nil)
+
+-- four numbers written one before the other
+pub marks_written : (span : Span) (d4 d3 d2 d1 d0 : List ℕ) → d4 ≡ 32 ∷ (decimal span.sid ++ d3) → d3 ≡ 47 ∷ (decimal (number_of span.iuc) ++ d2)
+    → d2 ≡ 47 ∷ (decimal span.start ++ d1) → d1 ≡ 47 ∷ (decimal span.len ++ d0) → d4 ≡ spaced (span_text span) ++ d0
+marks_written span d4 d3 d2 d1 d0 e4 e3 e2 e1 =
+    rw (e4, e3, e2, e1) (marks_before (decimal span.sid) (decimal (number_of span.iuc)) (decimal span.start) (decimal span.len) d0)
+
+-- two characters before others
+pub pair_ascii : (a b : ℕ) (rest : List ℕ) → (a < 128) × (b < 128) → IsAscii rest → IsAscii (a ∷ b ∷ rest)
+pair_ascii a b rest small ascii = IsAscii-cons a (b ∷ rest) small.0 (IsAscii-cons b rest small.1 ascii)
+
+-- three texts, one behind the other
+pub headed : (old one two new head name rest : List ℕ) → one ≡ old ++ head → two ≡ one ++ name → new ≡ two ++ rest
+    → new ≡ old ++ (head ++ (name ++ rest))
+headed old one two new head name rest first second third =
+    third
+    ∙ (ap (λ (t : List ℕ). t ++ rest) (second ∙ ap (λ (t : List ℕ). t ++ name) first)
+    ∙ (append_assoc (old ++ head) name rest ∙ append_assoc old head (name ++ rest)))
+
+-- the mark of a grant pending, written before what stands from a place on
+pub pending_marks : (xs : List ℕ) (end : ℕ) → 2 ≤ end → end ≤ length xs → drop (end - 2) (set (set xs (end - 1) 80) (end - 2) 47) ≡ 47 ∷ 80 ∷ drop end xs
+pending_marks xs end some within =
+    let len : length (set xs (end - 1) 80) ≡ length xs = length-set xs (end - 1) 80 in
+    let back : end - 1 - 1 ≡ end - 2 = omega arith in
+    subst (λ (i : ℕ). drop i (set (set xs (end - 1) 80) i 47) ≡ 47 ∷ 80 ∷ drop end xs) back
+    (marked (set xs (end - 1) 80) (80 ∷ drop end xs) (end - 1) 47 (omega arith) (omega (arith, len)) (marked xs (drop end xs) end 80 (omega arith) within refl))
+
+pub pending_before : (sid : ℕ) (d2 d1 d0 : List ℕ) → d2 ≡ 32 ∷ (decimal sid ++ d1) → d1 ≡ 47 ∷ 80 ∷ d0 → d2 ≡ spaced (pending_text sid) ++ d0
+pending_before sid d2 d1 d0 e2 e1 = rw (e2, e1) (ap (λ (t : List ℕ). 32 ∷ t) (sym (append_assoc (decimal sid) (47 ∷ 80 ∷ []) d0)))

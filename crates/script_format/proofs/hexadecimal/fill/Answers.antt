@@ -1,0 +1,12 @@
+use Rattle.std.proofs.Common.{arith}
+use Rattle.hex.specs.Hex.{upper_digits}
+use Rattle.hex.proofs.Pairs.{encode_step}
+use Rattle.script_format.proofs.Encoded.{encode_all}
+use Rattle.script_format.proofs.hexadecimal.fill.Goals as goal
+
+pub loop-i-preserved : goal.loop-i-preserved
+loop-i-preserved c =
+    encode_step upper_digits c.args.bytes.now c.loop-i.room c.loop-i.i _ _ (omega arith) (omega arith) c.digit.ensures c.digit-in-loop-i.ensures c.loop-i.invariant
+
+pub returns : goal.returns
+returns c = encode_all c.args.bytes.now c.loop-i.room c.loop-i.i (omega arith) c.loop-i.invariant

@@ -1,0 +1,43 @@
+use Rattle.std.proofs.Common.{◌≡◌, ℕ, ◌+◌, List, [], map, drop, get_or, refl, sym, ap, subst, ◌∙◌, arith}
+use Rattle.std.specs.Borrow.{Bor}
+use Rattle.script_format.specs.declared.fields.FieldFault.{FieldFault}
+use Rattle.script_format.specs.declared.fields.FieldFault.TheVariants.{Shape}
+use Rattle.script_format.specs.Fields.{Fails, behind}
+use Rattle.script_format.specs.Script.{line_steps, steps_after}
+use Rattle.script_format.proofs.Splits.{line_at}
+use Rattle.script_format.proofs.Scripts.{steps_more, steps_fail}
+use Rattle.script_format.proofs.script.steps_of_lines.Goals as goal
+
+pub returns-in-Err-Shape : goal.returns-in-Err-Shape
+returns-in-Err-Shape c =
+    let none : Bor (List ℕ) = record { ref_ptr = (0, 0); now = [] } in
+    let place = c.loop-line.line-index in
+    let plant = c.args.plant.now in
+    let number = c.loop-line.number in
+    let steps = c.loop-line.steps.items in
+    let line = (get_or c.args.lines.now place none).now in
+    let lines = map (λ (l : Bor (List ℕ)). l.now) c.args.lines.now in
+    let here = line_at c.args.lines.now place none c.loop-line-test.true in
+    let said = line_steps plant number line in
+    let fails : Fails Shape (behind steps said) = subst (λ (f : FieldFault). Fails f (behind steps said)) c.in-Err-Shape.field-0-is c.in-Err-Shape.ensures.said in
+    sym c.loop-line.invariant.goes_on
+    ∙ ap (steps_after plant number steps) here
+    ∙ steps_fail plant number steps line (drop (place + 1) lines) Shape said refl fails
+
+pub loop-line-preserved : goal.loop-line-preserved
+loop-line-preserved c =
+    let none : Bor (List ℕ) = record { ref_ptr = (0, 0); now = [] } in
+    let place = c.loop-line.line-index in
+    let plant = c.args.plant.now in
+    let number = c.loop-line.number in
+    let steps = c.loop-line.steps.items in
+    let line = (get_or c.args.lines.now place none).now in
+    let lines = map (λ (l : Bor (List ℕ)). l.now) c.args.lines.now in
+    let here = line_at c.args.lines.now place none c.loop-line-test.true in
+    record {
+      number_is = let n : number ≡ place + 1 = c.loop-line.invariant.number_is in omega arith;
+      goes_on =
+          sym (steps_more plant number steps c.put_line.new.steps.items line (drop (place + 1) lines) (line_steps plant number line) refl c.in-Ok.ensures.said)
+          ∙ ap (steps_after plant number steps) (sym here)
+          ∙ c.loop-line.invariant.goes_on;
+    }

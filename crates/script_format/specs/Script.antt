@@ -1,0 +1,138 @@
+-- The lines of a script, and the steps that they say (own).
+use Rattle.std.specs.Prelude.{◌==◌, ℕ, ◌+◌, Bool, List, [], ◌∷◌, ◌++◌, length, map, Option, Some, None, Result, Ok, Err, if◌then◌else◌, codes}
+use Rattle.std.specs.List.{position_from}
+use Rattle.std.specs.Str.{bytes_eq}
+use Rattle.hex.specs.Hex.{decode_sized}
+use Rattle.hex.specs.declared.error.FromHexError.{FromHexError}
+use Rattle.dsx_messages.specs.declared.modem.Modem.{Modem}
+use Rattle.plant.specs.declared.operator_row.RowFields.{RowFields}
+use Rattle.plant.specs.declared.plant.PlantFields.{PlantFields}
+use Rattle.plant.specs.Roster.{holder}
+use Rattle.operator_model.specs.declared.action.SliceRow.{SliceRow}
+use Rattle.operator_model.specs.declared.heard.Heard.{Heard}
+use Rattle.operator_model.specs.declared.heard.Heard.TheVariants.{Message, Request}
+use Rattle.run_model.specs.declared.step.Step.{Step}
+use Rattle.run_model.specs.declared.step.Step.TheVariants.{Arrive, Work, Tick, Collect, Reslice}
+use Rattle.script_format.specs.declared.fields.FieldFault.TheVariants.{Shape}
+use Rattle.script_format.specs.declared.script.LineStep.{LineStep}
+use Rattle.script_format.specs.declared.script.Sender.{Sender}
+use Rattle.script_format.specs.Lines.{parts_of, lines_of, fields_of}
+use Rattle.script_format.specs.Fields.{Read, ◌>>=◌, required, two_of, three_of, number_in, short_in, bytes_in}
+
+-- ---- names
+
+abbrev pub sender_of : Modem → Option ℕ → Read Sender
+sender_of modem None = Err Shape
+sender_of modem (Some op) = Ok (record { modem = modem; op = op })
+
+abbrev pub sender_at : List RowFields → Result (List ℕ) FromHexError → Read Sender
+sender_at rows (Ok address) = sender_of (record { 0 = address }) (holder rows (record { 0 = address }))
+sender_at rows (Err fault) = Err Shape
+
+-- a modem of the plant by its address, of 12 hexadecimal digits, and whose it is
+unfoldable pub sender_in : PlantFields → List ℕ → Read Sender
+sender_in plant field = sender_at plant.rows (decode_sized field 6)
+
+abbrev pub is_named : List ℕ → RowFields → Bool
+is_named name row = bytes_eq row.name name
+
+-- an operator by its name
+abbrev pub operator_in : PlantFields → List ℕ → Read ℕ
+operator_in plant field = required (position_from (is_named field) 0 plant.rows)
+
+-- ---- the steps of a line, each with the line's number
+
+-- something is heard of a modem, and its operator handles it
+abbrev pub heard_steps : ℕ → Sender → Heard → List LineStep
+heard_steps number sender heard = record { number = number; step = Arrive sender.modem heard } ∷ record { number = number; step = Work sender.op } ∷ []
+
+-- `M address message`
+unfoldable pub message_steps : PlantFields → ℕ → List (List ℕ) → Read (List LineStep)
+message_steps plant number fields = do
+  two ← two_of fields
+  sender ← sender_in plant two.0
+  bytes ← bytes_in two.1
+  Ok (heard_steps number sender (Message bytes))
+
+-- `Q address sid minislots`
+unfoldable pub request_steps : PlantFields → ℕ → List (List ℕ) → Read (List LineStep)
+request_steps plant number fields = do
+  three ← three_of fields
+  sender ← sender_in plant three.0
+  sid ← short_in three.1
+  minislots ← short_in three.2
+  Ok (heard_steps number sender (Request sid minislots))
+
+-- an operator ticks, and its frame is collected
+abbrev pub tick_steps : ℕ → ℕ → List LineStep
+tick_steps number op = record { number = number; step = Tick op } ∷ record { number = number; step = Collect op } ∷ []
+
+-- the operators from one on, so many of them, in order
+abbrev pub all_ticks : ℕ → List RowFields → ℕ → List LineStep
+all_ticks number [] op = []
+all_ticks number (row ∷ rows) op = tick_steps number op ++ all_ticks number rows (op + 1)
+
+-- `T` or `T operator`
+unfoldable pub ticked_steps : PlantFields → ℕ → List (List ℕ) → Read (List LineStep)
+ticked_steps plant number [] = Ok (all_ticks number plant.rows 0)
+ticked_steps plant number (name ∷ []) = do
+  op ← operator_in plant name
+  Ok (tick_steps number op)
+ticked_steps plant number (name ∷ other ∷ fields) = Err Shape
+
+-- `start/length/budget`
+unfoldable pub share_in : List ℕ → Read SliceRow
+share_in field = do
+  three ← three_of (parts_of 47 field)
+  start ← short_in three.0
+  length ← short_in three.1
+  budget ← short_in three.2
+  Ok (record { start = start; length = length; budget = budget })
+
+abbrev pub shares_after : List SliceRow → List (List ℕ) → Read (List SliceRow)
+shares_after rows [] = Ok rows
+shares_after rows (field ∷ fields) = share_in field >>= λ row. shares_after (rows ++ row ∷ []) fields
+
+-- one for each operator
+abbrev pub shares_in : PlantFields → List (List ℕ) → Read (List SliceRow)
+shares_in plant fields = if length fields == length plant.rows then shares_after [] fields else Err Shape
+
+-- `Z from share share ..`
+unfoldable pub resliced_steps : PlantFields → ℕ → List (List ℕ) → Read (List LineStep)
+resliced_steps plant number [] = Err Shape
+resliced_steps plant number (first ∷ fields) = do
+  from ← number_in 10 4294967295 first
+  rows ← shares_in plant fields
+  Ok (record { number = number; step = Reslice from rows } ∷ [])
+
+-- by the first field
+unfoldable pub steps_in : PlantFields → ℕ → List (List ℕ) → Read (List LineStep)
+steps_in plant number [] = Err Shape
+steps_in plant number (word ∷ fields) =
+    if bytes_eq word (codes "M") then message_steps plant number fields else
+    if bytes_eq word (codes "Q") then request_steps plant number fields else
+    if bytes_eq word (codes "T") then ticked_steps plant number fields else
+    if bytes_eq word (codes "Z") then resliced_steps plant number fields else
+    Err Shape
+
+-- an empty line says nothing
+unfoldable pub line_steps : PlantFields → ℕ → List ℕ → Read (List LineStep)
+line_steps plant number line = if length line == 0 then Ok [] else steps_in plant number (fields_of line)
+
+-- ---- the steps of a script
+
+-- the steps of lines, after those before them; else the number of the first line at fault
+abbrev pub steps_after : PlantFields → ℕ → List LineStep → List (List ℕ) → Result (List LineStep) ℕ
+steps_after plant number steps [] = Ok steps
+steps_after plant number steps (line ∷ lines) = elim (line_steps plant number line) [
+  | Ok more ↦ steps_after plant (number + 1) (steps ++ more) lines
+  | Err fault ↦ Err number
+]
+
+-- lines are counted from 1
+unfoldable pub steps_of : PlantFields → List ℕ → Result (List LineStep) ℕ
+steps_of plant script = steps_after plant 1 [] (lines_of script)
+
+-- the steps alone, without the numbers of their lines
+abbrev pub unnumbered : List LineStep → List Step
+unnumbered lines = map (λ line. line.step) lines

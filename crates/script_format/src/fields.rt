@@ -1,0 +1,113 @@
+//! What stands in a field of a script's line.
+
+ghost use Rattle.std.specs.Prelude.{◌≡◌, ◌≤◌, [], ◌∷◌, map, MatchOption, IfOk};
+ghost use Rattle.script_format.specs.Fields.{Gives, seen, three_of, number_in, short_in, bytes_in};
+ghost use Rattle.script_format.specs.Lines.{fields_of};
+ghost use Rattle.script_format.specs.declared.fields.FieldFault.TheVariants.{NoMemory};
+
+use crate::lines::{message_in, part};
+use memchr::memchr;
+use std::alloc::{AllocError, AllocFailed, Global};
+use tlv24::Bytes;
+
+/// Why a line of a script says no steps.
+#[derive(Clone, Copy, Debug, PartialEq, Eq)]
+pub enum FieldFault {
+    /// It has another shape, or names an operator or a modem that the plant does not have.
+    Shape,
+    /// No memory was left.
+    NoMemory,
+}
+
+impl From<AllocError> for FieldFault {
+    ghost from_gives = { λ _ fault. fault ≡ NoMemory };
+
+    fn from(_error: AllocError) -> FieldFault {
+        FieldFault::NoMemory
+    }
+}
+
+impl<T: Drop> From<AllocFailed<T>> for FieldFault {
+    ghost from_gives = { λ _ fault. fault ≡ NoMemory };
+
+    fn from(_error: AllocFailed<T>) -> FieldFault {
+        FieldFault::NoMemory
+    }
+}
+
+/// A line in two at its first space: what stands before it and what behind it. None where it has none.
+#[tactic(auto, using(crate::proofs::Splits::halves_of, crate::proofs::Splits::whole_of))]
+pub fn halves(line: &[u8]) -> Option<(&[u8], &[u8])>
+    ensures { MatchOption result (fields_of line.now ≡ line.now ∷ [])
+        (λ p. fields_of line.now ≡ p.0.now ∷ fields_of p.1.now) }
+{
+    match memchr(b' ', line) {
+        Some(place) => Some((part(line, 0, place), part(line, place + 1, line.len()))),
+        None => None,
+    }
+}
+
+/// A line in two as by `halves`, with no search where its first field is of one byte, as that of most lines is.
+#[tactic(auto, using(crate::proofs::Splits::word_of))]
+pub fn word_and_rest(line: &[u8]) -> Option<(&[u8], &[u8])>
+    ensures { MatchOption result (fields_of line.now ≡ line.now ∷ [])
+        (λ p. fields_of line.now ≡ p.0.now ∷ fields_of p.1.now) }
+{
+    if line.len() > 1 && line[0] != b' ' && line[1] == b' ' {
+        Some((part(line, 0, 1), part(line, 2, line.len())))
+    } else {
+        halves(line)
+    }
+}
+
+/// Three fields and no more.
+pub fn three_of<'a>(fields: &[&'a [u8]]) -> Result<(&'a [u8], &'a [u8], &'a [u8]), FieldFault>
+    ensures { seen (λ p. (p.0.now, p.1.now, p.2.now)) result ≡ three_of (map (λ field. field.now) fields.now) }
+{
+    match fields {
+        [a, b, c] => Ok((*a, *b, *c)),
+        _ => Err(FieldFault::Shape),
+    }
+}
+
+/// A decimal number of at most so many digits, and at most `most`. Leading zeros are digits.
+pub fn number_in(digits: usize, most: u32, field: &[u8]) -> Result<u32, FieldFault>
+    ensures value { result ≡ number_in digits most field.now }
+    ensures bound { IfOk result (λ number. number ≤ most) }
+{
+    if field.is_empty() || field.len() > digits {
+        return Err(FieldFault::Shape);
+    }
+    let mut number = 0u64;
+    for digit in field {
+        if !digit.is_ascii_digit() {
+            return Err(FieldFault::Shape);
+        }
+        number = number * 10 + (*digit - b'0') as u64;
+        if number > most as u64 {
+            return Err(FieldFault::Shape);
+        }
+    }
+    Ok(number as u32)
+}
+
+/// A decimal number of 1 to 5 digits, at most 65,535.
+pub fn short_in(field: &[u8]) -> Result<u16, FieldFault>
+    ensures { result ≡ short_in field.now }
+{
+    let number = number_in(5, 65535, field)?;
+    Ok(number as u16)
+}
+
+/// The bytes of a message: `-` for none, else hexadecimal.
+pub fn bytes_in(alloc: Global, field: &[u8]) -> Result<Bytes, FieldFault>
+    ensures { Gives (λ bytes. bytes) result (bytes_in field.now) }
+{
+    if field.is_empty() {
+        return Err(FieldFault::Shape);
+    }
+    match message_in(alloc, field)? {
+        Some(bytes) => Ok(bytes),
+        None => Err(FieldFault::Shape),
+    }
+}

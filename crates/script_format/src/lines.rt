@@ -1,0 +1,108 @@
+//! The parts of bytes, and the messages in lines.
+
+ghost use Rattle.std.specs.Prelude.{◌≡◌, ◌≤◌, length, take, drop, map, IfOk, OnOk};
+ghost use Rattle.script_format.specs.Lines.{parts_of};
+ghost use Rattle.script_format.specs.Messages.{message_in, messages_of};
+ghost use Rattle.script_format.specs.LineFault.{Gives};
+ghost use Rattle.script_format.specs.declared.lines.LineFault.TheVariants.{NoMemory};
+
+use crate::unhex::decode_into;
+use memchr::memchr;
+use std::alloc::{AllocError, AllocFailed, Global};
+use tlv24::Bytes;
+
+/// Why lines are no messages.
+#[derive(Clone, Copy, Debug, PartialEq, Eq)]
+pub enum LineFault {
+    /// The line of this number, counted from 1, is no message.
+    Shape { number: u64 },
+    /// No memory was left.
+    NoMemory,
+}
+
+impl From<AllocError> for LineFault {
+    ghost from_gives = { λ _ fault. fault ≡ NoMemory };
+
+    fn from(_error: AllocError) -> LineFault {
+        LineFault::NoMemory
+    }
+}
+
+impl<T: Drop> From<AllocFailed<T>> for LineFault {
+    ghost from_gives = { λ _ fault. fault ≡ NoMemory };
+
+    fn from(_error: AllocFailed<T>) -> LineFault {
+        LineFault::NoMemory
+    }
+}
+
+/// The bytes from a place up to another.
+pub(crate) fn part(input: &[u8], start: usize, end: usize) -> &[u8]
+    requires begun { start ≤ end }
+    requires inside { end ≤ length input.now }
+    ensures { result.now ≡ drop start (take end input.now) }
+{
+    let (front, _rest) = input.split_at(end);
+    let (_before, line) = front.split_at(start);
+    line
+}
+
+/// The parts of bytes: each mark ends one, and the last has none behind it.
+pub fn parts_of(alloc: Global, mark: u8, input: &[u8]) -> Result<Vec<&[u8]>, AllocError>
+    ensures { IfOk result (λ parts. map (λ part. part.now) parts.items ≡ parts_of mark input.now) }
+{
+    let mut parts = Vec::new(alloc);
+    put_parts(mark, input, &mut parts)?;
+    Ok(parts)
+}
+
+/// The parts of bytes, in the place of those that are there.
+pub fn put_parts<'a>(mark: u8, input: &'a [u8], parts: &mut Vec<&'a [u8]>) -> Result<(), AllocError>
+    ensures { OnOk result (map (λ part. part.now) parts.new.items ≡ parts_of mark input.now) }
+{
+    parts.clear();
+    let mut rest = input;
+    while let Some(place) = memchr(mark, rest) {
+        parts.push(part(rest, 0, place))?;
+        rest = part(rest, place + 1, rest.len());
+    }
+    parts.push(rest)?;
+    Ok(())
+}
+
+/// The message in a line that is not empty; none where it is no message.
+#[inline(always)]
+pub fn message_in(alloc: Global, line: &[u8]) -> Result<Option<Bytes>, AllocError>
+    ensures { IfOk result (λ message. message ≡ message_in line.now) }
+{
+    if line == b"-".as_slice() {
+        return Ok(Some(Bytes::from_vec(Vec::new(alloc))));
+    }
+    if line.len() % 2 == 1 {
+        return Ok(None);
+    }
+    let mut bytes = vec![in alloc; 0u8; line.len() / 2]?;
+    if decode_into(line, bytes.as_mut_slice()) {
+        Ok(Some(Bytes::from_vec(bytes)))
+    } else {
+        Ok(None)
+    }
+}
+
+/// The messages in lines; empty lines are counted and say nothing.
+pub fn messages_of(alloc: Global, lines: &[&[u8]]) -> Result<Vec<Bytes>, LineFault>
+    ensures { Gives result (messages_of (map (λ line. line.now) lines.now)) }
+{
+    let mut messages = Vec::new(alloc);
+    let mut number = 1u64;
+    for line in lines {
+        if !line.is_empty() {
+            let Some(message) = message_in(alloc, line)? else {
+                return Err(LineFault::Shape { number });
+            };
+            messages.push(message)?;
+        }
+        number += 1;
+    }
+    Ok(messages)
+}

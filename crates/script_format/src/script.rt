@@ -1,0 +1,358 @@
+//! The lines of a script, and the steps that they say.
+
+ghost use Rattle.std.specs.Prelude.{◌≡◌, [], ◌∷◌, map, Err, IfErr};
+ghost use Rattle.std.specs.List.{position_from};
+ghost use Rattle.script_format.specs.declared.fields.FieldFault.TheVariants.{Shape, NoMemory};
+ghost use Rattle.script_format.specs.Fields.{Gives, seen, behind};
+ghost use Rattle.script_format.specs.Lines.{fields_of};
+ghost use Rattle.script_format.specs.Script.{sender_in, is_named, operator_in, heard_steps, message_steps, request_steps, tick_steps, all_ticks, ticked_steps, share_in, shares_after, shares_in, resliced_steps, steps_in, line_steps, steps_after, steps_of};
+ghost use Rattle.script_format.specs.Senders.{sender_first};
+ghost use Rattle.script_format.specs.GivesSteps.{GivesSteps};
+
+use crate::fields::{FieldFault, bytes_in, halves, number_in, short_in, three_of, word_and_rest};
+use crate::lines::{LineFault, part, parts_of, put_parts};
+use crate::unhex::decode_into;
+use dsx_messages::Modem;
+use operator_model::{Heard, SliceRow};
+use plant::{Op, OperatorRow, Plant};
+use run_model::{SliceRows, Step};
+use std::alloc::{AllocError, Global};
+
+/// A step, and the number of the line that says it; the first line has number 1.
+#[derive(Debug, Drop)]
+pub struct LineStep {
+    pub number: u64,
+    pub step: Step,
+}
+
+/// A modem, and the operator that lists it.
+#[derive(Clone, Copy, Debug, PartialEq, Eq)]
+pub struct Sender {
+    pub modem: Modem,
+    pub op: Op,
+}
+
+/// A modem of the plant by its address.
+#[tactic(auto, unfolding(crate::specs::Script::sender_in))]
+#[inline(always)]
+fn sender_in(plant: &Plant, field: &[u8]) -> Result<Sender, FieldFault>
+    ensures { result ≡ sender_in plant.now field.now }
+{
+    let mut address = [0u8; 6];
+    if field.len() != 12 || !decode_into(field, &mut address) {
+        return Err(FieldFault::Shape);
+    }
+    let modem = Modem(address);
+    match plant.operator_of(modem) {
+        Some(op) => Ok(Sender { modem, op }),
+        None => Err(FieldFault::Shape),
+    }
+}
+
+/// The sender in a line's first field, and what stands behind it. An address has 12 digits: no space is searched for.
+#[tactic(auto, using(crate::proofs::FirstFields::sender_lacks, crate::proofs::FirstFields::sender_unparted))]
+#[inline(always)]
+fn sender_first<'a>(plant: &Plant, line: &'a [u8]) -> Result<(Sender, &'a [u8]), FieldFault>
+    ensures { seen (λ p. (p.0, fields_of p.1.now)) result ≡ sender_first plant.now (fields_of line.now) }
+{
+    if line.len() < 13 || line[12] != b' ' {
+        return Err(FieldFault::Shape);
+    }
+    match sender_in(plant, part(line, 0, 12)) {
+        Ok(sender) => Ok((sender, part(line, 13, line.len()))),
+        Err(_fault) => Err(FieldFault::Shape),
+    }
+}
+
+/// Whether an operator has this name.
+fn is_named(row: &OperatorRow, name: &[u8]) -> bool
+    ensures { result ≡ is_named name.now row.now }
+{
+    row.get_fields().name.as_slice() == name
+}
+
+/// The first operator of this name.
+pub fn place_of(rows: &[OperatorRow], name: &[u8]) -> Option<Op>
+    ensures { result ≡ position_from (is_named name.now) 0 rows.now }
+{
+    rows.iter().position(|row| is_named(row, name))
+}
+
+/// An operator of the plant by its name.
+fn operator_in(plant: &Plant, field: &[u8]) -> Result<Op, FieldFault>
+    ensures { result ≡ operator_in plant.now field.now }
+{
+    match place_of(plant.rows(), field) {
+        Some(op) => Ok(op),
+        None => Err(FieldFault::Shape),
+    }
+}
+
+/// The steps of what is heard of a modem.
+#[inline(always)]
+fn put_heard(
+    number: u64,
+    sender: Sender,
+    heard: Heard,
+    steps: &mut Vec<LineStep>,
+) -> Result<(), FieldFault>
+    ensures said { Gives (λ _. steps.new.items) result (behind steps.old.items (Ok (heard_steps number sender heard))) }
+    ensures memory { IfErr result (λ fault. fault ≡ NoMemory) }
+{
+    steps.reserve(2)?;
+    let modem = sender.modem;
+    let step = Step::Arrive { modem, heard };
+    steps.push_reserved(LineStep { number, step });
+    let step = Step::Work { op: sender.op };
+    steps.push_reserved(LineStep { number, step });
+    Ok(())
+}
+
+/// The steps of a message.
+#[tactic(auto, using(crate::proofs::FirstFields::message_stop, crate::proofs::FirstFields::message_read, crate::proofs::FirstFields::message_unread))]
+#[inline(always)]
+fn put_message(
+    alloc: Global,
+    plant: &Plant,
+    number: u64,
+    line: &[u8],
+    steps: &mut Vec<LineStep>,
+) -> Result<(), FieldFault>
+    ensures said { Gives (λ _. steps.new.items) result
+        (behind steps.old.items (message_steps plant.now number (fields_of line.now))) }
+    ensures unsaid { result ≡ Err Shape → steps.new.items ≡ steps.old.items }
+{
+    let (sender, message) = sender_first(plant, line)?;
+    let bytes = bytes_in(alloc, message)?;
+    put_heard(number, sender, Heard::Message(bytes), steps)
+}
+
+/// The steps of a request for minislots.
+#[tactic(auto, using(crate::proofs::FirstFields::request_stop, crate::proofs::FirstFields::request_alone, crate::proofs::FirstFields::request_sid_unread, crate::proofs::FirstFields::request_unread, crate::proofs::FirstFields::request_read))]
+#[inline(always)]
+fn put_request(
+    plant: &Plant,
+    number: u64,
+    line: &[u8],
+    steps: &mut Vec<LineStep>,
+) -> Result<(), FieldFault>
+    ensures said { Gives (λ _. steps.new.items) result
+        (behind steps.old.items (request_steps plant.now number (fields_of line.now))) }
+    ensures unsaid { result ≡ Err Shape → steps.new.items ≡ steps.old.items }
+{
+    let (sender, numbers) = sender_first(plant, line)?;
+    let Some((sid, minislots)) = halves(numbers) else {
+        return Err(FieldFault::Shape);
+    };
+    let sid = short_in(sid)?;
+    let minislots = short_in(minislots)?;
+    put_heard(number, sender, Heard::Request { sid, minislots }, steps)
+}
+
+/// The steps of one operator's tick.
+fn put_tick(number: u64, op: Op, steps: &mut Vec<LineStep>) -> Result<(), FieldFault>
+    ensures said { Gives (λ _. steps.new.items) result (behind steps.old.items (Ok (tick_steps number op))) }
+    ensures memory { IfErr result (λ fault. fault ≡ NoMemory) }
+{
+    let step = Step::Tick { op };
+    steps.push(LineStep { number, step })?;
+    let step = Step::Collect { op };
+    steps.push(LineStep { number, step })?;
+    Ok(())
+}
+
+/// The steps of a tick of each operator in order.
+fn put_all_ticks(
+    number: u64,
+    rows: &[OperatorRow],
+    steps: &mut Vec<LineStep>,
+) -> Result<(), FieldFault>
+    ensures said { Gives (λ _. steps.new.items) result (behind steps.old.items (Ok (all_ticks number rows.now 0))) }
+    ensures memory { IfErr result (λ fault. fault ≡ NoMemory) }
+{
+    for op in 0..rows.len() {
+        put_tick(number, op, steps)?;
+    }
+    Ok(())
+}
+
+/// The steps of an operator's tick by its name.
+#[tactic(auto, unfolding(crate::specs::Script::ticked_steps))]
+fn put_ticked(
+    plant: &Plant,
+    number: u64,
+    line: &[u8],
+    steps: &mut Vec<LineStep>,
+) -> Result<(), FieldFault>
+    ensures said { Gives (λ _. steps.new.items) result
+        (behind steps.old.items (ticked_steps plant.now number (fields_of line.now))) }
+    ensures unsaid { result ≡ Err Shape → steps.new.items ≡ steps.old.items }
+{
+    match halves(line) {
+        None => {
+            let op = operator_in(plant, line)?;
+            put_tick(number, op, steps)
+        }
+        Some(_more) => Err(FieldFault::Shape),
+    }
+}
+
+/// A slice and a budget.
+#[tactic(auto, unfolding(crate::specs::Script::share_in))]
+fn share_in(alloc: Global, field: &[u8]) -> Result<SliceRow, FieldFault>
+    ensures { Gives (λ row. row) result (share_in field.now) }
+{
+    let parts = parts_of(alloc, b'/', field)?;
+    let (start, length, budget) = three_of(parts.as_slice())?;
+    Ok(SliceRow {
+        start: short_in(start)?,
+        length: short_in(length)?,
+        budget: short_in(budget)?,
+    })
+}
+
+/// The slices and budgets of fields.
+fn shares_of(alloc: Global, fields: &[&[u8]]) -> Result<SliceRows, FieldFault>
+    ensures { Gives (λ rows. rows) result (shares_after [] (map (λ field. field.now) fields.now)) }
+{
+    let mut rows = Vec::new(alloc);
+    for field in fields {
+        match share_in(alloc, field) {
+            Ok(row) => rows.push(row)?,
+            Err(fault) => return Err(fault),
+        }
+    }
+    Ok(SliceRows::from_vec(rows))
+}
+
+/// A slice and a budget for each operator.
+fn shares_in(alloc: Global, plant: &Plant, fields: &[&[u8]]) -> Result<SliceRows, FieldFault>
+    ensures { Gives (λ rows. rows) result (shares_in plant.now (map (λ field. field.now) fields.now)) }
+{
+    if fields.len() == plant.rows().len() {
+        shares_of(alloc, fields)
+    } else {
+        Err(FieldFault::Shape)
+    }
+}
+
+/// The step of a re-slicing.
+#[tactic(auto, unfolding(crate::specs::Script::resliced_steps))]
+fn put_resliced(
+    alloc: Global,
+    plant: &Plant,
+    number: u64,
+    fields: &[&[u8]],
+    steps: &mut Vec<LineStep>,
+) -> Result<(), FieldFault>
+    ensures said { Gives (λ _. steps.new.items) result
+        (behind steps.old.items (resliced_steps plant.now number (map (λ field. field.now) fields.now))) }
+    ensures unsaid { result ≡ Err Shape → steps.new.items ≡ steps.old.items }
+{
+    let [first, fields @ ..] = fields else {
+        return Err(FieldFault::Shape);
+    };
+    let from = number_in(10, u32::MAX, first)?;
+    let rows = shares_in(alloc, plant, fields)?;
+    let step = Step::Reslice { from, rows };
+    steps.push(LineStep { number, step })?;
+    Ok(())
+}
+
+/// The steps of a line of one field.
+fn put_alone(
+    plant: &Plant,
+    number: u64,
+    word: &[u8],
+    steps: &mut Vec<LineStep>,
+) -> Result<(), FieldFault>
+    ensures said { Gives (λ _. steps.new.items) result
+        (behind steps.old.items (steps_in plant.now number (word.now ∷ []))) }
+    ensures unsaid { result ≡ Err Shape → steps.new.items ≡ steps.old.items }
+{
+    if word == b"T".as_slice() {
+        put_all_ticks(number, plant.rows(), steps)
+    } else {
+        Err(FieldFault::Shape)
+    }
+}
+
+/// The steps of a line by its first field, of which the others are these.
+#[tactic(auto, unfolding(crate::specs::Script::steps_in))]
+#[inline(always)]
+fn put_word<'a>(
+    alloc: Global,
+    plant: &Plant,
+    number: u64,
+    word: &[u8],
+    line: &'a [u8],
+    fields: &mut Vec<&'a [u8]>,
+    steps: &mut Vec<LineStep>,
+) -> Result<(), FieldFault>
+    ensures said { Gives (λ _. steps.new.items) result
+        (behind steps.old.items (steps_in plant.now number (word.now ∷ fields_of line.now))) }
+    ensures unsaid { result ≡ Err Shape → steps.new.items ≡ steps.old.items }
+{
+    if word == b"M".as_slice() {
+        put_message(alloc, plant, number, line, steps)
+    } else if word == b"Q".as_slice() {
+        put_request(plant, number, line, steps)
+    } else if word == b"T".as_slice() {
+        put_ticked(plant, number, line, steps)
+    } else if word == b"Z".as_slice() {
+        put_parts(b' ', line, fields)?;
+        put_resliced(alloc, plant, number, fields.as_slice(), steps)
+    } else {
+        Err(FieldFault::Shape)
+    }
+}
+
+/// The steps of a line, behind those that are there; an empty one says nothing. The fields are room for the line's parts, to be
+/// used again for the next line.
+#[tactic(auto, unfolding(crate::specs::Script::line_steps))]
+pub fn put_line<'a>(
+    alloc: Global,
+    plant: &Plant,
+    number: u64,
+    line: &'a [u8],
+    fields: &mut Vec<&'a [u8]>,
+    steps: &mut Vec<LineStep>,
+) -> Result<(), FieldFault>
+    ensures said { Gives (λ _. steps.new.items) result (behind steps.old.items (line_steps plant.now number line.now)) }
+    ensures unsaid { result ≡ Err Shape → steps.new.items ≡ steps.old.items }
+{
+    if line.is_empty() {
+        return Ok(());
+    }
+    match word_and_rest(line) {
+        Some((word, rest)) => put_word(alloc, plant, number, word, rest, fields, steps),
+        None => put_alone(plant, number, line, steps),
+    }
+}
+
+/// The steps of lines, each with its line's number; or the first line at fault.
+fn steps_of_lines(alloc: Global, plant: &Plant, lines: &[&[u8]]) -> Result<Vec<LineStep>, LineFault>
+    ensures { GivesSteps result (steps_after plant.now 1 [] (map (λ line. line.now) lines.now)) }
+{
+    let mut steps = Vec::new(alloc);
+    let mut fields = Vec::new(alloc);
+    let mut number = 1u64;
+    for line in lines {
+        match put_line(alloc, plant, number, line, &mut fields, &mut steps) {
+            Ok(()) => {}
+            Err(FieldFault::Shape) => return Err(LineFault::Shape { number }),
+            Err(FieldFault::NoMemory) => return Err(LineFault::NoMemory),
+        }
+        number += 1;
+    }
+    Ok(steps)
+}
+
+/// The steps of a script, each with its line's number; or the first line at fault.
+#[tactic(auto, unfolding(crate::specs::Script::steps_of))]
+pub fn steps_of(alloc: Global, plant: &Plant, script: &[u8]) -> Result<Vec<LineStep>, LineFault>
+    ensures { GivesSteps result (steps_of plant.now script.now) }
+{
+    let lines = parts_of(alloc, b'\n', script)?;
+    steps_of_lines(alloc, plant, lines.as_slice())
+}

@@ -1,0 +1,185 @@
+//! The text of what is put out, written where it is made: no memory is taken for it.
+
+ghost use Rattle.std.specs.Prelude.{◌≤◌, ◌++◌, ◌∷◌, [], length, codes, slice_get, OnOk};
+ghost use Rattle.std.specs.Io.KnownBytes.{Appends};
+ghost use Rattle.std.specs.List.{flat_map};
+ghost use Rattle.hex.specs.Hex.{encode_upper};
+ghost use Rattle.operator_model.specs.declared.output.Output.TheVariants.{Silent, Frame};
+ghost use Rattle.script_format.specs.Text.{address, spaced, span_text, pending_text, elements_text, named, sender_text, output_line, map_line, out_line, outs_text};
+
+use crate::causes::name_of;
+use crate::digits::{
+    PENDINGS, PENDINGS_ROOM, SPANS, SPANS_ROOM, address_digits, pendings_digits, reply_head,
+    spans_digits,
+};
+use crate::hexadecimal::write_hex_line;
+use dsx_messages::Modem;
+use map_assembly::MapBytes;
+use operator_model::{Cause, Output};
+use plant::{Op, Plant};
+use run_model::Out;
+use slice_scheduler::{Elements, Span};
+use std::io;
+use std::io::Write;
+
+/// The address of a modem.
+fn write_address<W: Write>(writer: &mut W, modem: Modem) -> io::Result<()>
+    ensures { OnOk result (Appends (W.contents writer.old) (W.contents writer.new) (address modem)) }
+{
+    writer.write_all(&address_digits(modem))
+}
+
+/// Few spans, each behind a space.
+fn write_few_spans<W: Write>(writer: &mut W, spans: &[Span]) -> io::Result<()>
+    requires { length spans.now ≤ 32 }
+    ensures { OnOk result (Appends (W.contents writer.old) (W.contents writer.new)
+        (flat_map (λ span. spaced (span_text span)) spans.now)) }
+{
+    let mut room = [0u8; SPANS_ROOM];
+    let place = spans_digits(&mut room, spans);
+    writer.write_all(&room[place..])
+}
+
+/// Spans, each behind a space.
+fn write_spans<W: Write>(writer: &mut W, spans: &[Span]) -> io::Result<()>
+    ensures { OnOk result (Appends (W.contents writer.old) (W.contents writer.new)
+        (flat_map (λ span. spaced (span_text span)) spans.now)) }
+{
+    let mut place = 0;
+    while spans.len() - place > SPANS {
+        write_few_spans(writer, &spans[place..place + SPANS])?;
+        place += SPANS;
+    }
+    write_few_spans(writer, &spans[place..])
+}
+
+/// Few grants pending, each behind a space.
+fn write_few_pending<W: Write>(writer: &mut W, pending: &[u16]) -> io::Result<()>
+    requires { length pending.now ≤ 32 }
+    ensures { OnOk result (Appends (W.contents writer.old) (W.contents writer.new)
+        (flat_map (λ sid. spaced (pending_text sid)) pending.now)) }
+{
+    let mut room = [0u8; PENDINGS_ROOM];
+    let place = pendings_digits(&mut room, pending);
+    writer.write_all(&room[place..])
+}
+
+/// The SIDs of grants pending, each behind a space.
+fn write_pending<W: Write>(writer: &mut W, pending: &[u16]) -> io::Result<()>
+    ensures { OnOk result (Appends (W.contents writer.old) (W.contents writer.new)
+        (flat_map (λ sid. spaced (pending_text sid)) pending.now)) }
+{
+    let mut place = 0;
+    while pending.len() - place > PENDINGS {
+        write_few_pending(writer, &pending[place..place + PENDINGS])?;
+        place += PENDINGS;
+    }
+    write_few_pending(writer, &pending[place..])
+}
+
+/// The elements of a frame, each behind a space.
+fn write_elements<W: Write>(writer: &mut W, elements: &Elements) -> io::Result<()>
+    ensures { OnOk result (Appends (W.contents writer.old) (W.contents writer.new) (elements_text elements.now)) }
+{
+    write_spans(writer, elements.get_spans())?;
+    write_pending(writer, elements.get_pending())
+}
+
+/// The name of an operator.
+fn write_name<W: Write>(writer: &mut W, plant: &Plant, op: Op) -> io::Result<()>
+    ensures { OnOk result (Appends (W.contents writer.old) (W.contents writer.new) (named (slice_get plant.now.rows op))) }
+{
+    match plant.rows().get(op) {
+        Some(row) => writer.write_all(row.get_fields().name.as_slice()),
+        None => Ok(()),
+    }
+}
+
+/// The address of a modem; a dash for none.
+fn write_sender<W: Write>(writer: &mut W, modem: Option<Modem>) -> io::Result<()>
+    ensures { OnOk result (Appends (W.contents writer.old) (W.contents writer.new) (sender_text modem)) }
+{
+    match modem {
+        Some(modem) => write_address(writer, modem),
+        None => writer.write_all(b"-"),
+    }
+}
+
+/// The line of a cause for which nothing is answered.
+fn write_silent<W: Write>(writer: &mut W, modem: Option<Modem>, cause: Cause) -> io::Result<()>
+    ensures { OnOk result (Appends (W.contents writer.old) (W.contents writer.new) (output_line [] (Silent modem cause))) }
+{
+    writer.write_all(b"S ")?;
+    write_sender(writer, modem)?;
+    writer.write_all(b" ")?;
+    writer.write_all(name_of(cause).as_bytes())?;
+    writer.write_all(b"\n")
+}
+
+/// The line of a reply.
+fn write_reply<W: Write>(writer: &mut W, modem: Modem, bytes: &[u8]) -> io::Result<()>
+    ensures { OnOk result (Appends (W.contents writer.old) (W.contents writer.new)
+        (codes "R " ++ (address modem ++ (codes " " ++ (encode_upper bytes.now ++ 10 ∷ []))))) }
+{
+    writer.write_all(&reply_head(modem))?;
+    write_hex_line(writer, bytes)
+}
+
+/// The line of a frame of an operator.
+fn write_frame<W: Write>(
+    writer: &mut W,
+    plant: &Plant,
+    op: Op,
+    number: u32,
+    elements: &Elements,
+) -> io::Result<()>
+    ensures { OnOk result (Appends (W.contents writer.old) (W.contents writer.new)
+        (output_line (named (slice_get plant.now.rows op)) (Frame number elements.now))) }
+{
+    writer.write_all(b"F ")?;
+    write_name(writer, plant, op)?;
+    write!(writer, " {number}")?;
+    write_elements(writer, elements)?;
+    writer.write_all(b"\n")
+}
+
+/// The line of an operator's output.
+fn write_output<W: Write>(writer: &mut W, plant: &Plant, op: Op, output: &Output) -> io::Result<()>
+    ensures { OnOk result (Appends (W.contents writer.old) (W.contents writer.new)
+        (output_line (named (slice_get plant.now.rows op)) output.now)) }
+{
+    match output {
+        Output::Reply { modem, bytes } => write_reply(writer, *modem, bytes.as_slice()),
+        Output::Silent { modem, cause } => write_silent(writer, *modem, *cause),
+        Output::Frame { number, elements } => write_frame(writer, plant, op, *number, elements),
+    }
+}
+
+/// The line of a MAP.
+fn write_map<W: Write>(writer: &mut W, made: &MapBytes) -> io::Result<()>
+    ensures { OnOk result (Appends (W.contents writer.old) (W.contents writer.new) (map_line made.now)) }
+{
+    let frame = made.frame;
+    write!(writer, "MAP {frame} ")?;
+    write_hex_line(writer, made.bytes.as_slice())
+}
+
+/// The line of an output.
+fn write_out<W: Write>(writer: &mut W, plant: &Plant, out: &Out) -> io::Result<()>
+    ensures { OnOk result (Appends (W.contents writer.old) (W.contents writer.new) (out_line plant.now out.now)) }
+{
+    match out {
+        Out::Of { op, output } => write_output(writer, plant, *op, output),
+        Out::Map(made) => write_map(writer, made),
+    }
+}
+
+/// Writes the lines of outputs. Takes no memory of its own, so want of memory loses none of them.
+pub fn write_outs<W: Write>(writer: &mut W, plant: &Plant, outs: &[Out]) -> io::Result<()>
+    ensures { OnOk result (Appends (W.contents writer.old) (W.contents writer.new) (outs_text plant.now outs.now)) }
+{
+    for out in outs {
+        write_out(writer, plant, out)?;
+    }
+    Ok(())
+}

@@ -1,0 +1,65 @@
+-- What decides a message, by what it was read as, and a step, by whose message it handles.
+use Rattle.std.proofs.Common.{◌≡◌, ◌≢◌, ℕ, ◌<◌, ◌≤◌, List, length, map, get_or, Option, Some, None, option_map, Result, Ok, Err, IfOk, refl, sym, ap, ◌∙◌, subst}
+use Rattle.std.specs.Prelude.{slice_get}
+use Rattle.std.specs.declared.alloc.AllocError.{AllocError}
+use Rattle.std.proofs.lemmas.Option.{slice_get-map, slice_get_past}
+use Rattle.dsx_messages.specs.declared.message.Message.{Message}
+use Rattle.dsx_messages.specs.declared.message.Message.TheVariants as messages
+use Rattle.dsx_messages.specs.declared.fault.MessageFault.{MessageFault}
+use Rattle.dsx_messages.specs.declared.fault.MessageFault.TheVariants as faults
+use Rattle.dsx_messages.specs.Reading.{Fails}
+use Rattle.check_table.specs.Messages.{Reading}
+use Rattle.check_explainer.specs.Messages.{HasNoCheck}
+use Rattle.operator_model.specs.Replay.{BookView}
+use Rattle.operator_model.specs.State.{Operator, operator}
+use Rattle.run_model.specs.declared.step.Step.{Step}
+use Rattle.run_model.specs.declared.step.Step.TheVariants as steps
+use Rattle.run_model.specs.IsStateAfter.{CoreView}
+use Rattle.plant_core.proofs.PlaceLemmas.{seen_at}
+use Rattle.trace_report.specs.declared.decision.Decision.{Decision}
+use Rattle.trace_report.specs.Decision.{AtHand, IsAck, IsDecision, IsDecisionOf, first_message, message_handled, message_in}
+
+-- a fault that is read, other than want of memory
+pub fault_is_read : (fault : MessageFault) (said : Reading) → Fails fault said → fault ≢ faults.NoMemory → said ≡ Err fault
+fault_is_read faults.Empty said fails other = fails
+fault_is_read (faults.NotOurs mtype) said fails other = fails
+fault_is_read faults.Short said fails other = fails
+fault_is_read (faults.Tlv tid kind id fault) said fails other = fails
+fault_is_read (faults.LeftOut tid kind found) said fails other = fails
+fault_is_read faults.NoMemory said fails other = absurd (other refl)
+
+-- what has no check is an acknowledgement, where memory was not wanting
+pub ack_has_none : (reading : Reading) → HasNoCheck reading → reading ≢ Err faults.NoMemory → IsAck reading
+ack_has_none (Ok (messages.Ack kind tid code)) none read = (kind, tid, code, refl)
+ack_has_none (Ok (messages.Request request)) none read = absurd none
+ack_has_none (Err faults.NoMemory) none read = absurd (read refl)
+ack_has_none (Err faults.Empty) none read = absurd none
+ack_has_none (Err (faults.NotOurs mtype)) none read = absurd none
+ack_has_none (Err faults.Short) none read = absurd none
+ack_has_none (Err (faults.Tlv tid kind id fault)) none read = absurd none
+ack_has_none (Err (faults.LeftOut tid kind found)) none read = absurd none
+
+-- ---- a step
+
+pub no_work : (core : CoreView) (step : Step) → ((op : ℕ) → step ≡ steps.Work op → ⊥) → IsDecision core step None
+no_work core (steps.Work op) other = absurd (other op refl)
+no_work core (steps.Arrive modem heard) other = refl
+no_work core (steps.Tick op) other = refl
+no_work core (steps.Collect op) other = refl
+no_work core (steps.Reslice from rows) other = refl
+
+-- work of one of a core's books, which are seen through a map
+module _ {X : Type 0} (view : X → BookView) (core : CoreView) (desks : List X) (op : ℕ) (are : core.books ≡ map view desks) (step : Step) (is : step ≡ steps.Work op) where
+  handled : (book : Option BookView) → slice_get (map view desks) op ≡ book → message_handled core step ≡ message_in book
+  handled book there = ap (message_handled core) is ∙ (ap (λ (books : List BookView). message_in (slice_get books op)) are ∙ ap message_in there)
+
+  pub nobody_works : length desks ≤ op → IsDecision core step None
+  nobody_works past =
+      subst (λ (at : Option AtHand). IsDecisionOf at None) (sym (handled None (slice_get-map view desks op ∙ ap (option_map view) (slice_get_past desks op past)))) refl
+
+  pub one_works : (desk : X) (o : Operator) (r : Result (Option Decision) AllocError) → op < length desks → desk ≡ get_or desks op desk → o ≡ operator (view desk).consts (view desk).row (view desk).state
+      → IfOk r (IsDecisionOf (first_message o o.state.inbox)) → IfOk r (IsDecision core step)
+  one_works desk o r lt there same decided =
+      subst (λ (at : Option AtHand). IfOk r (IsDecisionOf at))
+      (ap (λ (x : Operator). first_message x x.state.inbox) same ∙ sym (handled (Some (view desk)) (seen_at view desks (length desks) op desk refl lt there)))
+      decided

@@ -1,0 +1,137 @@
+-- The steps of a script, one after the other.
+use Rattle.std.proofs.Common.{◌≡◌, ◌≢◌, ◌⊎◌, inl, inr, ℕ, zero, suc, List, [], ◌∷◌, ◌++◌, take, Option, Some, IsSome, Err, refl, sym, ap, subst, ◌∙◌, append_assoc}
+use Rattle.std.specs.Prelude.{slice_get}
+use Rattle.std.proofs.KnownBytes.{Appends-nil, Appends-trans}
+use Rattle.std.proofs.lemmas.List.{map-append}
+use Rattle.plant.specs.declared.plant.PlantFields.{PlantFields}
+use Rattle.run_model.specs.declared.step.Step.{Step}
+use Rattle.run_model.specs.declared.step.Out.{Out}
+use Rattle.run_model.specs.IsStateAfter.{CoreView, IsStateAfter}
+use Rattle.plant_core.specs.declared.core_fault.CoreFault.{CoreFault}
+use Rattle.plant_core.specs.declared.core_fault.CoreFault.TheVariants.{NoMemory}
+use Rattle.plant_core.specs.Faults.{step_fault, IsTold}
+use Rattle.script_format.specs.declared.script.LineStep.{LineStep}
+use Rattle.script_format.specs.Script.{unnumbered}
+use Rattle.line_service.specs.declared.steps_end.StepsEnd.{StepsEnd}
+use Rattle.line_service.specs.declared.steps_end.StepsEnd.TheVariants as ends
+use Rattle.line_service.specs.Steps.{IsStepsEndAt}
+use Rattle.trace_report.specs.declared.decision.Decision.{Decision}
+use Rattle.trace_report.specs.Decision.{IsDecision}
+use Rattle.trace_report.specs.Trace.{AreDecided, IsTraceText, HasTraced}
+use Rattle.trace_report.specs.Told.{HasRemarked, HasToldStep}
+use Rattle.trace_report.proofs.TracedSoFar.{IsTracedSoFar}
+use Rattle.line_service.proofs.LeftLemmas.{first_left, none_left, take_next, drop_next}
+use Rattle.line_service.proofs.StepLemmas.{fault_is_told}
+use Rattle.trace_report.proofs.TextLemmas.{text_remark, text_more, decided_more}
+
+module _ (plant : PlantFields) (steps : List LineStep) where
+  abbrev SoFar : CoreView → Option (List ℕ) → Option (List ℕ) → List LineStep → Type 0
+  SoFar core old new left = IsTracedSoFar plant steps core old new left
+
+  -- ---- one step more
+
+  -- nothing is done yet
+  pub none_traced : (core : CoreView) (known : Option (List ℕ)) → IsStateAfter plant [] [] core → SoFar core known known steps
+  none_traced core known reached = record {
+    at = zero;
+    told = [];
+    decisions = [];
+    text = [];
+    reached = reached;
+    decided = tt;
+    is_text = tt;
+    written = Appends-nil known;
+    left_are = refl;
+  }
+
+  -- a remark more
+  pub remark_traced : (core : CoreView) (w0 w1 w2 : Option (List ℕ)) (left : List LineStep) → SoFar core w0 w1 left → HasRemarked w1 w2 → SoFar core w0 w2 left
+  remark_traced core w0 w1 w2 left half remarked = record {
+    at = half.at;
+    told = half.told;
+    decisions = half.decisions;
+    text = half.text ++ remarked.0;
+    reached = half.reached;
+    decided = half.decided;
+    is_text = text_remark half.decisions half.text remarked.0 half.is_text;
+    written = Appends-trans w0 w1 w2 half.text remarked.0 half.written remarked.1;
+    left_are = half.left_are;
+  }
+
+  module _ (old new : CoreView) (w0 w1 w2 : Option (List ℕ)) (line : LineStep) (rest : List LineStep) (now : List Out) (decision : Option Decision)
+      (half : SoFar old w0 w1 (line ∷ rest)) (is : IsDecision old line.step decision)
+      (reached : (b : List Step) (t : List Out) → IsStateAfter old.plant b t old → IsStateAfter old.plant (b ++ line.step ∷ []) (t ++ now) new) where
+    done : List Step
+    done = unnumbered (take half.at steps)
+
+    steps_more : done ++ line.step ∷ [] ≡ unnumbered (take (suc half.at) steps)
+    unfolding done
+    steps_more =
+        sym (map-append (λ (l : LineStep). l.step) (take half.at steps) (line ∷ []))
+        ∙ ap unnumbered (sym (take_next steps half.at line rest half.left_are))
+
+    reached_more : IsStateAfter plant (done ++ line.step ∷ []) (half.told ++ now) new
+    unfolding done
+    reached_more =
+        let same : old.plant ≡ plant = half.reached.plant_is in
+        subst (λ (p : PlantFields). IsStateAfter p (done ++ line.step ∷ []) (half.told ++ now) new) same
+        (reached done half.told (subst (λ (p : PlantFields). IsStateAfter p done half.told old) (sym same) half.reached))
+
+    -- the step is done and told
+    pub step_traced : HasToldStep decision w1 w2 → SoFar new w0 w2 rest
+    unfolding done
+    step_traced told = record {
+      at = suc half.at;
+      told = half.told ++ now;
+      decisions = half.decisions ++ decision ∷ [];
+      text = half.text ++ (told.0 ++ told.1);
+      reached = subst (λ (s : List Step). IsStateAfter plant s (half.told ++ now) new) steps_more reached_more;
+      decided =
+          subst (λ (s : List Step). AreDecided plant [] s (half.decisions ++ decision ∷ [])) steps_more
+          (decided_more plant [] done half.decisions line.step decision half.decided (old, half.told, half.reached, is));
+      is_text =
+          subst (λ (t : List ℕ). IsTraceText (half.decisions ++ decision ∷ []) t) (append_assoc half.text told.0 told.1)
+          (text_remark (half.decisions ++ decision ∷ []) (half.text ++ told.0) told.1 (text_more half.decisions decision half.text told.0 half.is_text told.2));
+      written = Appends-trans w0 w1 w2 half.text (told.0 ++ told.1) half.written told.3;
+      left_are = drop_next steps half.at line rest half.left_are;
+    }
+
+  -- ---- how a trace ends
+
+  ends_so : (core : CoreView) (end : StepsEnd) (w0 w1 : Option (List ℕ)) (left : List LineStep) (half : SoFar core w0 w1 left) → IsStepsEndAt core (slice_get steps half.at) end
+      → HasTraced plant steps core end w0 w1
+  ends_so core end w0 w1 left half ends = record {
+    at = half.at;
+    told = half.told;
+    decisions = half.decisions;
+    text = half.text;
+    reached = half.reached;
+    ends = ends;
+    decided = half.decided;
+    is_text = half.is_text;
+    written = half.written;
+  }
+
+  pub all_traced : (core : CoreView) (w0 w1 : Option (List ℕ)) (left : List LineStep) → SoFar core w0 w1 left → left ≡ [] → HasTraced plant steps core ends.Done w0 w1
+  all_traced core w0 w1 left half none = ends_so core ends.Done w0 w1 left half (rw (none_left steps half.at (half.left_are ∙ none)) tt)
+
+  pub memory_wants : (core : CoreView) (w0 w1 : Option (List ℕ)) (left : List LineStep) → SoFar core w0 w1 left → HasTraced plant steps core ends.NoMemory w0 w1
+  memory_wants core w0 w1 left half = ends_so core ends.NoMemory w0 w1 left half tt
+
+  step_is_refused : (core : CoreView) (w0 w1 : Option (List ℕ)) (line : LineStep) (rest : List LineStep) (A : Type 0) (fault : CoreFault) → SoFar core w0 w1 (line ∷ rest)
+      → IsTold {A = A} (Err fault) (step_fault core line.step) → fault ≢ NoMemory → HasTraced plant steps core (ends.Refused line.number) w0 w1
+  step_is_refused core w0 w1 line rest A fault half told other =
+      let refused : step_fault core line.step ≡ Some fault = fault_is_told A fault (step_fault core line.step) told other in
+      let some : IsSome (step_fault core line.step) = rw refused refl in
+      ends_so core (ends.Refused line.number) w0 w1 (line ∷ rest) half (rw (first_left steps half.at line rest half.left_are) (refl, some))
+
+  -- a trace ends where a step is not done
+  pub step_not_done : (old core : CoreView) (w0 w1 : Option (List ℕ)) (line : LineStep) (rest : List LineStep) (A : Type 0) (fault : CoreFault) (end : StepsEnd)
+      → SoFar old w0 w1 (line ∷ rest) → core ≡ old → IsTold {A = A} (Err fault) (step_fault old line.step)
+      → (end ≡ ends.NoMemory) ⊎ ((end ≡ ends.Refused line.number) × (fault ≢ NoMemory)) → HasTraced plant steps core end w0 w1
+  step_not_done old core w0 w1 line rest A fault end half same told (inl wants) =
+      subst (λ (c : CoreView). HasTraced plant steps c end w0 w1) (sym same)
+      (subst (λ (e : StepsEnd). HasTraced plant steps old e w0 w1) (sym wants) (memory_wants old w0 w1 (line ∷ rest) half))
+  step_not_done old core w0 w1 line rest A fault end half same told (inr refused) =
+      subst (λ (c : CoreView). HasTraced plant steps c end w0 w1) (sym same)
+      (subst (λ (e : StepsEnd). HasTraced plant steps old e w0 w1) (sym refused.0) (step_is_refused old w0 w1 line rest A fault half told refused.1))

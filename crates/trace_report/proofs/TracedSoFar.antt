@@ -1,0 +1,22 @@
+-- How much of a trace is written so far.
+use Rattle.std.proofs.Common.{◌≡◌, ℕ, List, [], take, drop, Option}
+use Rattle.std.specs.Io.KnownBytes.{Appends}
+use Rattle.plant.specs.declared.plant.PlantFields.{PlantFields}
+use Rattle.run_model.specs.declared.step.Out.{Out}
+use Rattle.run_model.specs.IsStateAfter.{CoreView, IsStateAfter}
+use Rattle.script_format.specs.declared.script.LineStep.{LineStep}
+use Rattle.script_format.specs.Script.{unnumbered}
+use Rattle.trace_report.specs.declared.decision.Decision.{Decision}
+use Rattle.trace_report.specs.Trace.{AreDecided, IsTraceText}
+
+-- some of the steps are done and told, and these are left
+pub record IsTracedSoFar (plant : PlantFields) (steps : List LineStep) (core : CoreView) (old new : Option (List ℕ)) (left : List LineStep) : Type 0 where
+  pub at : ℕ
+  pub told : List Out
+  pub decisions : List (Option Decision)
+  pub text : List ℕ
+  pub reached : IsStateAfter plant (unnumbered (take at steps)) told core
+  pub decided : AreDecided plant [] (unnumbered (take at steps)) decisions
+  pub is_text : IsTraceText decisions text
+  pub written : Appends old new text
+  pub left_are : drop at steps ≡ left

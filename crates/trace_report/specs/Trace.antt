@@ -1,0 +1,66 @@
+-- What a trace of a script says: for each step that is done, the check that decided what it answered, among remarks (own).
+use Rattle.std.specs.Prelude.{◌≡◌, ℕ, ◌-◌, ◌≤◌, List, [], ◌∷◌, ◌++◌, take, slice_get, Option, Some, None, ⊤, codes}
+use Rattle.std.specs.Fmt.{decimal}
+use Rattle.std.specs.Io.KnownBytes.{Appends}
+use Rattle.plant.specs.declared.plant.PlantFields.{PlantFields}
+use Rattle.check_table.specs.Table.{table}
+use Rattle.check_table.specs.Messages.{message_table}
+use Rattle.run_model.specs.declared.step.Step.{Step}
+use Rattle.run_model.specs.declared.step.Out.{Out}
+use Rattle.run_model.specs.IsStateAfter.{CoreView, IsStateAfter}
+use Rattle.script_format.specs.declared.script.LineStep.{LineStep}
+use Rattle.script_format.specs.Script.{unnumbered}
+use Rattle.line_service.specs.declared.steps_end.StepsEnd.{StepsEnd}
+use Rattle.line_service.specs.Steps.{IsStepsEndAt}
+use Rattle.trace_report.specs.declared.decision.Decision.{Decision}
+use Rattle.trace_report.specs.declared.decision.Decision.TheVariants as decisions
+use Rattle.trace_report.specs.Decision.{IsDecision}
+use Rattle.trace_report.specs.Names.{message_check_name, check_name}
+
+-- ---- what is decided
+
+-- this decides what the step answers behind these steps, which lead to some core
+abbrev pub IsDecisionAfter : PlantFields → List Step → Step → Option Decision → Type 0
+IsDecisionAfter plant before step decision = (core : CoreView) × (told : List Out) × IsStateAfter plant before told core × IsDecision core step decision
+
+-- each step, behind those before it, has its decision
+abbrev pub AreDecided : PlantFields → List Step → List Step → List (Option Decision) → Type 0
+AreDecided plant before [] [] = ⊤
+AreDecided plant before [] (decision ∷ more) = ⊥
+AreDecided plant before (step ∷ steps) [] = ⊥
+AreDecided plant before (step ∷ steps) (decision ∷ more) =
+    IsDecisionAfter plant before step decision × AreDecided plant (before ++ step ∷ []) steps more
+
+-- ---- what is written
+
+-- a check, by its number in the table of docs/RULES.md and its name
+abbrev pub check_line : ℕ → List ℕ → List ℕ
+check_line number name = codes "  check " ++ (decimal number ++ (codes ", " ++ (name ++ 10 ∷ [])))
+
+-- the number of a check of a message is its place in their table; those of a request are numbered behind them
+abbrev pub IsDecisionText : Option Decision → List ℕ → Type 0
+IsDecisionText None text = text ≡ []
+IsDecisionText (Some (decisions.Message check)) text =
+    (number : ℕ) × (slice_get message_table number ≡ Some check) × (text ≡ check_line number (message_check_name check))
+IsDecisionText (Some (decisions.Request check)) text =
+    (number : ℕ) × (5 ≤ number) × (slice_get table (number - 5) ≡ Some check) × (text ≡ check_line number (check_name check))
+
+-- the texts of these decisions in order, with remarks before, between and behind them
+abbrev pub IsTraceText : List (Option Decision) → List ℕ → Type 0
+IsTraceText [] text = ⊤
+IsTraceText (decision ∷ more) text =
+    (remark line rest : List ℕ) × (text ≡ remark ++ (line ++ rest)) × IsDecisionText decision line × IsTraceText more rest
+
+-- ---- the whole trace
+
+-- so many of these steps are done on the plant as it is opened, and it ended so; what decided each is written, in order
+pub record HasTraced (plant : PlantFields) (steps : List LineStep) (core : CoreView) (end : StepsEnd) (old new : Option (List ℕ)) : Type 0 where
+  pub at : ℕ
+  pub told : List Out
+  pub decisions : List (Option Decision)
+  pub text : List ℕ
+  pub reached : IsStateAfter plant (unnumbered (take at steps)) told core
+  pub ends : IsStepsEndAt core (slice_get steps at) end
+  pub decided : AreDecided plant [] (unnumbered (take at steps)) decisions
+  pub is_text : IsTraceText decisions text
+  pub written : Appends old new text

@@ -1,4 +1,0 @@
-use Rattle.worked_runs.proofs.passes.cells.opened.Goals as goal
-
-pub returns : goal.returns
-returns g c = c.in-Ok.ensures.of
