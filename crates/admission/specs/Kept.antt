@@ -1,10 +1,10 @@
--- Own: what a ledger keeps inside, beside its rows.
+-- what a ledger keeps inside, next to its rows.
 use Rattle.std.specs.Prelude.{◌≡◌, ℕ, ◌+◌, ◌<◌, ◌≤◌, ◌^◌, List, length, All}
 use Rattle.std.specs.Map.{values_of}
 use Rattle.admission.specs.declared.budget.Budget.{Budget}
 use Rattle.admission.specs.Ledger.{IsAscending, FitsU32, minislots_of, elements_of}
 
--- own: what a ledger keeps of its room, its rows, the places that are reserved for them, and its totals
+-- what a ledger keeps of its room, its rows, the places that are reserved for them, and its totals
 pub record IsLedger (room : ℕ) (rows : List (ℕ × Budget)) (capacity minislots elements : ℕ) : Type 0 where
   pub small : room < 2 ^ 32
   pub ascending : IsAscending rows
@@ -14,7 +14,7 @@ pub record IsLedger (room : ℕ) (rows : List (ℕ × Budget)) (capacity minislo
   pub minislots_are : minislots ≡ minislots_of rows
   pub elements_are : elements ≡ elements_of rows
 
--- own: the totals have the old budget in them, and another one fits
+-- the totals have the old budget in them, and another one fits
 pub record CanReplace (minislots elements : ℕ) (old : Budget) : Type 0 where
   pub minislots_in : old.minislots ≤ minislots
   pub elements_in : old.elements ≤ elements

@@ -27,7 +27,7 @@ impl Model for IdRange {
 }
 
 impl IdRange {
-    /// The numbers from `first` to `last`.
+    /// Returns the numbers from `first` to `last`.
     pub fn new(first: u32, last: u32) -> IdRange
         requires { first ≤ last }
         ensures { result ≡ record { first = first; last = last } }
@@ -35,7 +35,7 @@ impl IdRange {
         IdRange { first, last }
     }
 
-    /// The first number of the range.
+    /// Returns the first number of the range.
     pub fn get_first(&self) -> u32
         ensures value { result ≡ self.now.first }
         ensures ordered { result ≤ self.now.last }
@@ -43,7 +43,7 @@ impl IdRange {
         self.first
     }
 
-    /// The last number of the range.
+    /// Returns the last number of the range.
     pub fn get_last(&self) -> u32
         ensures value { result ≡ self.now.last }
         ensures ordered { self.now.first ≤ result }
@@ -51,17 +51,17 @@ impl IdRange {
         self.last
     }
 
-    /// Whether the number is one of the range.
+    /// Returns whether the number is one of the range.
     pub fn contains(&self, number: u32) -> bool
         ensures { IsTrue result ↔ IsIn self.now number }
     {
         self.first <= number && number <= self.last
     }
 
-    /// The least number of the range that is not used; none where each is.
+    /// Returns the least number of the range that is not used; none where each is.
     ///
-    /// The used numbers come in any order; one may stand twice, or outside the range. Takes no
-    /// memory, and looks at the used numbers once for each 128 numbers that it tries.
+    /// The used numbers come in any order; one may be twice, or outside the range. Takes no memory,
+    /// and looks at the used numbers once for each 128 numbers that it tries.
     pub fn least_free(&self, used: &[u32]) -> Option<u32>
         ensures exact { result ≡ least_free_of self.now used.now }
         ensures found { IfSome result (IsLeastFree self.now used.now) }
@@ -83,7 +83,8 @@ impl IdRange {
     }
 }
 
-/// Which of the numbers from `base` on are used: the mark at a place is that of the number there.
+/// Returns which of the numbers from `base` on are used: the mark at a place is that of the number
+/// there.
 fn taken_in(used: &[u32], base: u32) -> [bool; WINDOW]
     ensures { IsWindow used.now base result }
 {
@@ -96,26 +97,26 @@ fn taken_in(used: &[u32], base: u32) -> [bool; WINDOW]
     taken
 }
 
-/// The first place with no mark.
+/// Returns the first place with no mark.
 fn first_unmarked(taken: &[bool]) -> Option<usize>
     ensures { result ≡ position not taken.now }
 {
     taken.iter().position(|mark| !*mark)
 }
 
-/// One number at most is the least free one.
+/// States that one number at most is the least free one.
 pub fn least_free_is_one()
     ensures { (range : Numbers) (used : List ℕ) (a b : ℕ) → IsLeastFree range used a → IsLeastFree range used b
         → a ≡ b }
 {}
 
-/// The function gives a number exactly where it is the least free one.
+/// States that the function gives a number exactly where it is the least free one.
 pub fn least_free_is_given()
     ensures { (range : Numbers) (used : List ℕ) (number : ℕ) → (least_free_of range used ≡ Some number)
         ↔ IsLeastFree range used number }
 {}
 
-/// A number that is no longer used can be given again.
+/// States that a number that is no longer used can be given again.
 pub fn unused_is_given()
     ensures { (range : Numbers) (used : List ℕ) (number : ℕ) → IsIn range number → ¬ Contains used number
         → IsSome (least_free_of range used) }

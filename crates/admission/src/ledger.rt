@@ -15,11 +15,11 @@ use std::marker::Model;
 /// Why a row was not taken, changed or removed.
 #[derive(Clone, Copy, Debug, PartialEq, Eq)]
 pub enum LedgerFault {
-    /// As many rows stand as there is room for.
+    /// There is no room for more rows.
     Full,
-    /// A row of this SFID stands.
+    /// There is a row with this SFID.
     Twice,
-    /// No row of this SFID stands.
+    /// There is no row with this SFID.
     NotThere,
 }
 
@@ -40,7 +40,7 @@ struct Totals {
 }
 
 impl Totals {
-    /// The totals with the row `new` in place of the row `old`.
+    /// Returns the totals with the row `new` in place of the row `old`.
     fn replaced(self, old: Budget, new: Budget) -> Totals
         requires { CanReplace self.minislots self.elements old }
         ensures minislots { result.minislots + old.minislots ≡ self.minislots + new.minislots }
@@ -53,7 +53,7 @@ impl Totals {
         }
     }
 
-    /// Whether the totals stay within a limit.
+    /// Returns whether the totals stay within a limit.
     fn within(self, limit: Budget) -> Result<(), Over>
         ensures elements { (result ≡ Err Over.Elements) ↔ (limit.elements < self.elements) }
         ensures minislots { (result ≡ Err Over.Minislots)
@@ -91,7 +91,7 @@ impl Model for Ledger {
 }
 
 impl Ledger {
-    /// An empty ledger with room for `rows` rows. No other call takes memory.
+    /// Returns an empty ledger with room for `rows` rows. No other call takes memory.
     pub fn new(alloc: Global, rows: u32) -> Result<Ledger, AllocError>
         ensures { IfOk result (λ ledger. ledger ≡ record { room = rows; rows = [] }) }
     {
@@ -172,7 +172,8 @@ impl Ledger {
         Ok(())
     }
 
-    /// Whether the totals, with this row in place of the one of `sfid`, if any, stay within `limit`.
+    /// Returns whether the totals, with this row in place of the one of `sfid`, if any, stay within
+    /// `limit`.
     pub fn fits(&self, limit: Budget, sfid: u32, budget: Budget) -> Result<(), Over>
         ensures elements { let after = insert_entry nat_cmp self.now.rows sfid budget in (result ≡ Err Over.Elements)
             ↔ (limit.elements < elements_of after) }
@@ -185,42 +186,42 @@ impl Ledger {
         self.totals.replaced(old, budget).within(limit)
     }
 
-    /// The sum of all rows' minislots.
+    /// Returns the sum of all rows' minislots.
     pub fn total_minislots(&self) -> u64
         ensures { result ≡ minislots_of self.now.rows }
     {
         self.totals.minislots
     }
 
-    /// The sum of all rows' elements.
+    /// Returns the sum of all rows' elements.
     pub fn total_elements(&self) -> u64
         ensures { result ≡ elements_of self.now.rows }
     {
         self.totals.elements
     }
 
-    /// How many rows stand.
+    /// Returns the number of rows.
     pub fn len(&self) -> u32
         ensures { result ≡ length self.now.rows }
     {
         self.rows.len() as u32
     }
 
-    /// Whether no row stands.
+    /// Returns whether there is no row.
     pub fn is_empty(&self) -> bool
         ensures { IsTrue result ↔ (self.now.rows ≡ []) }
     {
         self.rows.is_empty()
     }
 
-    /// Whether as many rows stand as there is room for.
+    /// Returns whether there is no room for more rows.
     pub fn is_full(&self) -> bool
         ensures { IsTrue result ↔ (length self.now.rows ≡ self.now.room) }
     {
         self.len() == self.room
     }
 
-    /// The budget of a flow, if it has a row.
+    /// Returns the budget of a flow, if it has a row.
     pub fn get(&self, sfid: u32) -> Option<Budget>
         ensures { result ≡ lookup (is_at (nat_cmp sfid)) self.now.rows }
     {
@@ -230,8 +231,8 @@ impl Ledger {
         }
     }
 
-    /// What every ledger keeps, for a caller's proof: the rows ascend by SFID, there is room for
-    /// each, and their numbers are those of a `u32`. Does nothing.
+    /// States what every ledger keeps, for a caller's proof: the rows ascend by SFID, there is room
+    /// for each, and their numbers are those of a `u32`. Does nothing.
     pub fn always(&self)
         ensures ascending { IsAscending self.now.rows }
         ensures within { length self.now.rows ≤ self.now.room }
@@ -240,7 +241,7 @@ impl Ledger {
         let _ = &self.rows;
     }
 
-    /// Where the row of this SFID stands, or where a new one would go.
+    /// Returns where the row of this SFID exists, or where a new one would go.
     fn place(&self, sfid: u32) -> Result<usize, usize>
         ensures found { IfOk result (StandsAt self.now.rows sfid) }
         ensures absent { IfErr result (IsGap self.now.rows sfid) }

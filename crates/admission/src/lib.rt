@@ -1,4 +1,4 @@
-//! Which identifiers are free, and what the flows of one operator have committed.
+//! Free identifiers of a range, and the ledger of what the flows of one operator have committed.
 #![tactic(auto)]
 
 mod budget;

@@ -13,3 +13,6 @@ pub mod OnceLemmas
 pub mod MessageLemmas
 pub mod ExampleLemmas
 pub mod HandledLemmas
+pub mod WaitLemmas
+pub mod PendingFlowLemmas
+pub mod StepLemmas

@@ -1,4 +1,4 @@
--- What each check of the table answers (which case gets which code is own).
+-- What each check of the table answers (which case gets which code is implementation-specific).
 use Rattle.std.specs.Prelude.{◌≡◌, ℕ, Bool, true, false, [], ◌∷◌, Any, Contains, Option, Some, None}
 use Rattle.tlv24.specs.Subtype.{class_name_subtype, set_type_subtype}
 use Rattle.tlv24.specs.declared.fields.FlowFields.{FlowFields}
@@ -29,7 +29,7 @@ use Rattle.check_table.specs.declared.check.Check.TheVariants.{UnknownClass, NoE
 abbrev pub refused : Said → Code → Detail → Verdict
 refused said code detail = Refused (record { kind = said.kind; tid = said.tid; code = code; detail = detail })
 
--- the encoding at fault, by its identifier, and a subtype
+-- the invalid encoding, by its identifier, and a subtype
 abbrev pub naming : Said → FlowFields → ℕ → Detail
 naming said encoding subtype = Errored (told_identifier said.kind encoding) subtype
 
@@ -75,7 +75,7 @@ GetsSid op None None sid is_new = (sid ≡ None) × (is_new ≡ false)
 GetsSid op None (Some set) sid is_new =
     (n : ℕ) × IsLeastFree op.row.sids (sids_of op.state.flows) n × (sid ≡ Some n) × (is_new ≡ true)
 
--- the SID is told where a set is to be admitted
+-- the SID is reported where a set is to be admitted
 abbrev pub told_sid : Option ParamFields → Option ℕ → Option ℕ
 told_sid None sid = None
 told_sid (Some set) sid = sid

@@ -1,4 +1,4 @@
--- A request worked through by the table (own).
+-- A request worked through by the table (implementation-specific).
 use Rattle.std.specs.Prelude.{codes, ◌≡◌, ℕ, List, [], ◌∷◌, ◌++◌, Result, Ok}
 use Rattle.dsx_messages.specs.declared.modem.Modem.{Modem}
 use Rattle.dsx_messages.specs.declared.message.Message.{Message}
@@ -45,7 +45,7 @@ abbrev pub provisioned_row : RowFields
 provisioned_row =
     record worked_row { provisions = record { modem = first_modem; encoding = hex (codes "0601010F01020A0400000064") } ∷ [] }
 
--- the message of this text of a modem is decided by this check, and this is put out
+-- the message of this text of a modem is decided by this check, and this is output
 abbrev pub HandlesAs : Operator → Modem → List ℕ → MessageCheck → List Output → Type 0
 HandlesAs op modem text check outputs =
     (ran : StepResult) × IsHandledBy op modem (message_of (hex text)) check ran × (ran.outputs ≡ outputs)

@@ -1,4 +1,4 @@
--- When each check of the table holds, by itself (CM-SP-MULPIv3.1, 11.2.2 and 11.2.3; which checks there are is own).
+-- When each check of the table holds, by itself (CM-SP-MULPIv3.1, 11.2.2 and 11.2.3; which checks there are is implementation-specific).
 use Rattle.std.specs.Prelude.{◌≡◌, ◌≢◌, ℕ, ◌+◌, ◌-◌, ◌<◌, ◌≤◌, max, List, [], ◌∷◌, length, map, sum_by, All, Any, Contains, Option, Some, None, IsSome, ◌⊎◌}
 use Rattle.tlv24.specs.declared.fields.FlowFields.{FlowFields}
 use Rattle.dsx_messages.specs.declared.modem.Modem.{Modem}

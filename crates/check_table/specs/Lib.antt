@@ -5,3 +5,4 @@ pub mod Answering
 pub mod Table
 pub mod Messages
 pub mod Examples
+pub mod Awaited

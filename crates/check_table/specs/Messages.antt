@@ -1,5 +1,5 @@
--- The checks of a message that is no acknowledgement (CM-SP-MULPIv3.1, 11.2; which checks there are, their order and
--- what is kept are own).
+-- The checks of a message that is not an acknowledgement (CM-SP-MULPIv3.1, 11.2; which checks there are, their order and
+-- what is kept are implementation-specific).
 use Rattle.std.specs.Prelude.{◌≡◌, ◌≢◌, ℕ, ◌≤◌, ◌⊎◌, List, [], ◌∷◌, length, Result, Ok, Err}
 use Rattle.tlv24.specs.declared.tlv.TlvFault.TheVariants as tlv_faults
 use Rattle.dsx_messages.specs.declared.modem.Modem.{Modem}
@@ -32,11 +32,11 @@ use Rattle.check_table.specs.Table.{IsDecidedBy}
 abbrev pub Reading : Type 0
 Reading = Result Message MessageFault
 
--- it is no acknowledgement
+-- it is not an acknowledgement
 abbrev pub IsNoAck : Reading → Type 0
 IsNoAck reading = (kind : Kind) (tid code : ℕ) → reading ≢ Ok (messages.Ack kind tid code)
 
--- a request of this kind under this transaction ID, whose rest was read or is at fault
+-- a request of this kind under this transaction ID, whose rest was read or is invalid
 abbrev pub IsRequest : Reading → Kind → ℕ → Type 0
 IsRequest (Ok (messages.Request request)) kind tid = ((said_by request).kind ≡ kind) × ((said_by request).tid ≡ tid)
 IsRequest (Err (faults.Tlv of_tid of_kind id fault)) kind tid = (of_kind ≡ kind) × (of_tid ≡ tid)
@@ -55,7 +55,7 @@ IsUnread reading cause =
     ((reading ≡ Err faults.Empty) × (cause ≡ causes.Empty)) ⊎ (((reading ≡ Err faults.Short) × (cause ≡ causes.Short))
     ⊎ ((mtype : ℕ) × (reading ≡ Err (faults.NotOurs mtype)) × (cause ≡ causes.NotOurs)))
 
--- a cut / a subtype of a wrong length / one that stands twice or is out of range / a type that is left out
+-- a cut / a subtype of a wrong length / one that is repeated or is out of range / a type that is left out
 abbrev pub IsRefusedFor : MessageFault → Code → Detail → Type 0
 IsRefusedFor (faults.Tlv tid kind id (tlv_faults.Cut place)) code detail = (code ≡ RejectOther) × (detail ≡ Nothing)
 IsRefusedFor (faults.Tlv tid kind id (tlv_faults.WrongLength subtype)) code detail =
@@ -67,7 +67,7 @@ IsRefusedFor (faults.Tlv tid kind id (tlv_faults.Range subtype)) code detail =
 IsRefusedFor (faults.LeftOut tid kind found) code detail = (code ≡ RejectUnrecognizedSetting) × (detail ≡ Nothing)
 IsRefusedFor fault code detail = ⊥
 
--- a refusal is told, and nothing is kept
+-- a refusal is reported, and nothing is kept
 abbrev pub IsTurnedAway : Operator → Modem → Kind → ℕ → Code → StepResult → Type 0
 IsTurnedAway op modem kind tid code ran =
     ran ≡ told op.state modem (spell_reply (record { kind = kind; tid = tid; code = code; detail = Nothing }))
@@ -116,7 +116,7 @@ AnswersOf Judged op modem reading ran =
 abbrev pub message_table : List MessageCheck
 message_table = Unread ∷ OfCmts ∷ Repeated ∷ KeptFull ∷ Faulty ∷ Judged ∷ []
 
--- this check decides a message of a modem, and this is what handling it comes to
+-- this check decides a message of a modem, and this is what handling it results in
 pub record IsHandledBy (op : Operator) (modem : Modem) (reading : Reading) (check : MessageCheck) (ran : StepResult) : Type 0 where
   pub first : IsFirst (λ c. HoldsOf c op modem reading) message_table check
   pub answers : AnswersOf check op modem reading ran

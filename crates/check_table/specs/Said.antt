@@ -39,7 +39,7 @@ identifier Dsa encoding = encoding.reference
 identifier Dsc encoding = encoding.sfid
 identifier Dsd encoding = None
 
--- the same, as a reply tells it
+-- the same, as a reply reports it
 abbrev pub told_identifier : Kind → FlowFields → Option FlowId
 told_identifier Dsa encoding = option_map ids.Reference encoding.reference
 told_identifier Dsc encoding = option_map ids.Sfid encoding.sfid
@@ -62,7 +62,7 @@ Names Dsd encodings fixed sfid = fixed ≡ Some sfid
 abbrev pub IsOfFlow : Operator → Said → ℕ → Flow → Type 0
 IsOfFlow op said sfid flow = Names said.kind said.encodings said.sfid sfid × Contains op.state.flows (sfid, flow)
 
--- the flow that a request is about, where it stands already: an addition is about none that stands
+-- the flow that a request is about, where it is already: an addition is about none that is present
 abbrev pub IsAbout : Operator → Said → Option Flow → Type 0
 IsAbout op said None = said.kind ≡ Dsa
 IsAbout op said (Some flow) = (sfid : ℕ) × IsOfFlow op said sfid flow

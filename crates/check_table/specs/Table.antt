@@ -1,4 +1,4 @@
--- The table of checks: the first that holds decides (CM-SP-MULPIv3.1, 11.2.2 and 11.2.3; the order is own).
+-- The table of checks: the first that holds decides (CM-SP-MULPIv3.1, 11.2.2 and 11.2.3; the order is implementation-specific).
 use Rattle.std.specs.Prelude.{List, [], ◌∷◌}
 use Rattle.dsx_messages.specs.declared.modem.Modem.{Modem}
 use Rattle.operator_model.specs.declared.verdict.Verdict.{Verdict}

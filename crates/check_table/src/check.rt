@@ -59,7 +59,7 @@ pub enum Check {
     ActiveNotWithin,
     /// The admitted set is not within the flow's provisioned one.
     AdmittedNotWithin,
-    /// As many flows stand as the row allows.
+    /// The operator has as many flows as its row allows.
     FlowsFull,
     /// No SFID is free for a new flow.
     NoSfidFree,
@@ -74,7 +74,8 @@ pub enum Check {
 }
 
 impl MessageCheck {
-    /// Its number in the table of docs/RULES.md; 5, the first of those of a request, where these decide.
+    /// Returns its number in the table of docs/RULES.md; 5, the first of those of a request, where
+    /// these decide.
     pub fn number(self) -> u8
         ensures { slice_get message_table result ≡ Some self }
     {
@@ -90,7 +91,7 @@ impl MessageCheck {
 }
 
 impl Check {
-    /// Its number in the table of docs/RULES.md.
+    /// Returns its number in the table of docs/RULES.md.
     pub fn number(self) -> u8
         ensures { (5 ≤ result) × (slice_get table (result - 5) ≡ Some self) }
     {
@@ -116,7 +117,7 @@ impl Check {
         }
     }
 
-    /// The code of each of its answers; none where that depends on the encoding at fault.
+    /// Returns the code of each of its answers; none where that depends on the invalid encoding.
     pub fn code(self) -> Option<Code>
         ensures answered { (op : Operator) (modem : Modem) (said : Said) (answer : Verdict) → Answers self op modem said answer
             → IfSome result (λ code. (reply_of answer).code ≡ code) }

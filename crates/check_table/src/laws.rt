@@ -11,14 +11,14 @@ ghost use Rattle.check_table.specs.declared.check.Check.{Check};
 ghost use Rattle.check_table.specs.Said.{Said, said_by};
 ghost use Rattle.check_table.specs.Table.{IsDecidedBy};
 
-/// Whatever the state that a machine can have, the modem and the request: a check of the table decides, the first
-/// that holds, and the machine's verdict is what that check answers.
+/// States that whatever the state that a machine can have, the modem and the request: a check of
+/// the table decides, the first that holds, and the machine's verdict is what that check answers.
 pub fn verdict_is_decided()
     ensures { (op : Operator) (modem : Modem) (request : Request) → IsSound op
         → (check : Check) × IsDecidedBy op modem (said_by request) check (verdict op modem request) }
 {}
 
-/// Just one check decides a request, with just one answer.
+/// States that just one check decides a request, with just one answer.
 pub fn decided_once()
     ensures { (op : Operator) (modem : Modem) (said : Said) (a b : Check) (v w : Verdict) → IsSound op
         → IsDecidedBy op modem said a v → IsDecidedBy op modem said b w → (a ≡ b) × (v ≡ w) }

@@ -11,16 +11,16 @@ ghost use Rattle.operator_model.specs.Handle.{StepResult, handle};
 ghost use Rattle.check_table.specs.declared.check.MessageCheck.{MessageCheck};
 ghost use Rattle.check_table.specs.Messages.{Reading, IsNoAck, IsHandledBy};
 
-/// Whatever the state that a machine can have, the modem and the bytes of a message that is no acknowledgement: a
-/// check of the table decides, the first that holds, and what handling the message comes to is what that check
-/// answers.
+/// States that whatever the state that a machine can have, the modem and the bytes of a message
+/// that is not an acknowledgement: a check of the table decides, the first that holds, and what
+/// handling the message results in is what that check answers.
 pub fn message_is_decided()
     ensures { (op : Operator) (modem : Modem) (bytes : List ℕ) → IsSound op → AreBytes bytes
         → IsNoAck (message_of bytes) → (check : MessageCheck)
         × IsHandledBy op modem (message_of bytes) check (handle op modem (heards.Message bytes)) }
 {}
 
-/// Just one check decides a message, and handling it comes to just one thing.
+/// States that just one check decides a message, and handling it results in just one thing.
 pub fn handled_once()
     ensures { (op : Operator) (modem : Modem) (reading : Reading) (a b : MessageCheck) (v w : StepResult) → IsSound op
         → IsHandledBy op modem reading a v → IsHandledBy op modem reading b w → (a ≡ b) × (v ≡ w) }

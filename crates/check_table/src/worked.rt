@@ -6,7 +6,7 @@ ghost use Rattle.check_table.specs.declared.check.MessageCheck.TheVariants.{Faul
 ghost use Rattle.check_table.specs.Examples.{worked, one_added, full_added, provisioned_row, Decides, HandlesAs};
 ghost use Rattle.operator_model.specs.Worked.{worked_row, first_modem, second_modem, sent, addition, told};
 
-/// Which check of the encodings decides.
+/// States which check of the encodings decides.
 pub fn worked_encodings()
     ensures no_encoding { Decides (worked worked_row []) first_modem
         (codes "0F00021B00") NoEncoding (codes "10000208") }
@@ -25,7 +25,7 @@ pub fn worked_encodings()
         NoParameterSet (codes "10000117180C010200010506010114020117") }
 {}
 
-/// Which check of the flow decides.
+/// States which check of the flow decides.
 pub fn worked_flows()
     ensures unknown { Decides (worked worked_row []) first_modem
         (codes "150001000000000009") UnknownFlow (codes "1600010600") }
@@ -35,7 +35,7 @@ pub fn worked_flows()
         FlowWaits (codes "1600020300") }
 {}
 
-/// Which check of the room decides, where a flow stands and another is asked for.
+/// States which check of the room decides, where a flow is and another is asked for.
 pub fn worked_room()
     ensures flows { Decides (worked (record worked_row { flows = 1 }) one_added) first_modem
         (codes "0F0002180A010200020601060F0102") FlowsFull (codes "10000203") }
@@ -49,8 +49,8 @@ pub fn worked_room()
         (codes "0F00021810010200020601060F01020A0400000001") MinislotsOver (codes "10000203") }
 {}
 
-/// Which check of the sets decides: of an active set that asks for more than the admitted one, and of an admitted set
-/// that asks for more than the flow was provisioned with.
+/// States which check of the sets decides: of an active set that asks for more than the admitted
+/// one, and of an admitted set that asks for more than the flow was provisioned with.
 pub fn worked_sets()
     ensures active { Decides (worked worked_row []) first_modem
         (codes "0F00021810010200010601020F01020A04000000641810010200010601040F01020A0400000065")
@@ -60,7 +60,7 @@ pub fn worked_sets()
         AdmittedNotWithin (codes "13000218180E020400000101050601010A020118") }
 {}
 
-/// A request with a type that is left out is refused before its request is judged.
+/// States that a request with a type that is left out is refused before its request is judged.
 pub fn worked_messages()
     ensures left_out { HandlesAs (worked worked_row []) first_modem
         (codes "0F00011900") Faulty (told first_modem (codes "10000102") ∷ []) }

@@ -1,4 +1,4 @@
--- Confirmation codes: which number stands for which code is this profile's (own).
+-- Confirmation codes: which number means which code is this profile's (implementation-specific).
 use Rattle.std.specs.Prelude.{ℕ}
 use Rattle.dsx_messages.specs.declared.code.Code.{Code}
 use Rattle.dsx_messages.specs.declared.code.Code.TheVariants.{Okay, RejectOther, RejectUnrecognizedSetting, RejectTemporary, RejectPermanent, RejectNotOwner, RejectFlowNotFound, RejectRequiredParameterNotPresent, RejectUnknownTransaction, RejectDuplicateReference, RejectMultipleUpstreamFlows, RejectInvalidForContext, RejectAuthorizationFailure}

@@ -87,14 +87,14 @@ pub record IsRequest (bytes : List ℕ) (tid : ℕ) (kind : Kind) (list : List �
   pub typed : HasType kind mtype
   pub headed : IsHeaded bytes mtype tid list
 
--- the list is cut at the fault's place, and no identifier is told
+-- the list is cut at the fault's place, and no identifier is reported
 pub record IsCutList (list : List ℕ) (id : Option FlowId) (fault : TlvFault) : Type 0 where
   pub place : ℕ
   pub fault_is : fault ≡ Cut place
   pub cut : IsCutAt list place
   pub id_is : id ≡ None
 
--- the first flow encoding at fault, behind some that say flows, in a list of TLVs of which none is left out
+-- the first invalid flow encoding, after some that say flows, in a list of TLVs of which none is left out
 pub record IsFaultyFlow (list : List ℕ) (kind : Kind) (id : Option FlowId) (fault : TlvFault) : Type 0 where
   pub tlvs : List Tlv
   pub spelling : IsTlvList list tlvs
@@ -119,7 +119,7 @@ pub record IsLeftOutIn (list : List ℕ) (found : ℕ) : Type 0 where
   pub found_is : found ≡ t.kind
 
 -- The first fault: no byte, a type that is not ours, a fixed part cut short, a cut list, a type that is left out, a flow
--- encoding at fault.
+-- invalid encoding.
 abbrev pub IsFirstMessageFault : List ℕ → MessageFault → Type 0
 IsFirstMessageFault bytes faults.Empty = bytes ≡ []
 IsFirstMessageFault bytes (faults.NotOurs mtype) = (body : List ℕ) × (bytes ≡ mtype ∷ body) × IsForeign mtype

@@ -60,7 +60,7 @@ abbrev pub flows_after : ℕ → Kind → List FlowFields → List (List ℕ) �
 flows_after tid kind flows [] = Ok flows
 flows_after tid kind flows (value ∷ values) = flow_in tid kind value >>= λ flow. flows_after tid kind (flows ++ flow ∷ []) values
 
--- what the TLVs of a request say: first a cut, then a type that is left out, then the first flow encoding at fault
+-- what the TLVs of a request say: first a cut, then a type that is left out, then the first invalid flow encoding
 abbrev pub flows_unless : ℕ → Kind → Option ℕ → List (List ℕ) → Result (List FlowFields) MessageFault
 flows_unless tid kind None values = flows_after tid kind [] values
 flows_unless tid kind (Some found) values = Err (faults.LeftOut tid kind found)
@@ -76,7 +76,7 @@ flows_in_front tid kind list front =
 unfoldable pub flows_in : ℕ → Kind → List ℕ → Result (List FlowFields) MessageFault
 flows_in tid kind list = flows_in_front tid kind list (front_of list)
 
--- the fixed parts behind the type byte, and what follows them
+-- the fixed parts after the type byte, and what follows them
 
 -- the request that holds flow encodings: an addition, or else a change (a deletion holds none)
 abbrev pub with_flows : Kind → ℕ → List FlowFields → Request

@@ -1,4 +1,4 @@
--- The one spelling of each reply (own layout).
+-- The one spelling of each reply (implementation-specific layout).
 use Rattle.std.specs.Prelude.{ℕ, List, [], ◌∷◌, ◌++◌, Option, Some, None}
 use Rattle.std.specs.Option.{option_map}
 use Rattle.std.specs.Int.{w16, w32, to_be_bytes}
@@ -29,14 +29,14 @@ id_tlv None = []
 id_tlv (Some (Reference reference)) = tlv reference_subtype (to_be_bytes w16 reference) ∷ []
 id_tlv (Some (Sfid sfid)) = tlv sfid_subtype (to_be_bytes w32 sfid) ∷ []
 
--- what stands under type 24: the flow that was added or changed
+-- what is under type 24: the flow that was added or changed
 abbrev pub given_tlvs : Option ℕ → ℕ → Option ℕ → List Tlv
 given_tlvs reference sfid sid =
     under reference_subtype (option_map (to_be_bytes w16) reference) ++
     tlv sfid_subtype (to_be_bytes w32 sfid) ∷
     under sid_subtype (option_map (to_be_bytes w16) sid)
 
--- or the encoding at fault, and its error encodings: the subtype, and the reply's code again
+-- or the invalid encoding, and its error encodings: the subtype, and the reply's code again
 abbrev pub errored_tlvs : Code → Option FlowId → ℕ → List Tlv
 errored_tlvs code id subtype =
     id_tlv id ++

@@ -1,4 +1,4 @@
--- What the bytes behind the confirmation code of a reply tell.
+-- What the bytes after the confirmation code of a reply tell.
 use Rattle.std.specs.Prelude.{◌≡◌, ℕ, List}
 use Rattle.dsx_messages.specs.declared.kind.Kind.{Kind}
 use Rattle.dsx_messages.specs.declared.code.Code.{Code}

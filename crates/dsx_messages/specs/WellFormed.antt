@@ -1,4 +1,4 @@
--- Which detail goes with a reply's kind and code (own layout of DSA-RSP, DSC-RSP and DSD-RSP).
+-- Which detail goes with a reply's kind and code (implementation-specific layout of DSA-RSP, DSC-RSP and DSD-RSP).
 use Rattle.std.specs.Prelude.{◌≡◌, ◌≢◌, ◌<◌, Some, None, IfSome}
 use Rattle.dsx_messages.specs.declared.kind.Kind.{Kind}
 use Rattle.dsx_messages.specs.declared.kind.Kind.TheVariants.{Dsa, Dsc, Dsd}

@@ -36,7 +36,7 @@ pub enum Code {
 }
 
 impl Code {
-    /// The number on the wire.
+    /// Returns the number on the wire.
     pub fn number(self) -> u8
         ensures { result ≡ number_of self }
     {
@@ -57,7 +57,8 @@ impl Code {
         }
     }
 
-    /// The code of a number on the wire; none for a number that this profile gives to no code.
+    /// Returns the code of a number on the wire; none for a number that this profile gives to no
+    /// code.
     pub fn from_number(number: u8) -> Option<Code>
         ensures found { IfSome result (λ code. number_of code ≡ number) }
         ensures every { (code : Code) → number_of code ≡ number → result ≡ Some code }

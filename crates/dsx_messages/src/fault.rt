@@ -19,8 +19,8 @@ pub enum MessageFault {
     },
     /// It ends within its fixed part.
     Short,
-    /// Its TLVs are cut, or one of its flow encodings is at fault: `id` is the identifier of that encoding, where it
-    /// stood before the fault.
+    /// Its TLVs are cut, or one of its flow encodings is invalid: `id` is the identifier of that
+    /// encoding, where it was before the fault.
     Tlv {
         tid: u16,
         kind: Kind,
@@ -34,7 +34,7 @@ pub enum MessageFault {
         kind: Kind,
         found: u8,
     },
-    /// No memory was left.
+    /// Memory ran out before any effect.
     NoMemory,
 }
 

@@ -8,8 +8,8 @@ ghost use Rattle.dsx_messages.specs.declared.message.Message.{Message};
 ghost use Rattle.dsx_messages.specs.declared.fault.MessageFault.{MessageFault};
 ghost use Rattle.dsx_messages.specs.declared.fault.MessageFault.TheVariants.{NoMemory};
 
-/// A law: `message_of`, by which contracts read a message as a function, answers what the bytes say, and what they say it
-/// answers; else it answers their first fault. It never wants memory.
+/// States that `message_of`, by which contracts read a message as a function, answers what the
+/// bytes say, and what they say it answers; else it answers their first fault. It takes no memory.
 pub fn message_is_read()
     ensures found { (bytes : List ℕ) (m : Message) → AreBytes bytes → message_of bytes ≡ Ok m → Says bytes m }
     ensures only { (bytes : List ℕ) (m : Message) → AreBytes bytes → Says bytes m → message_of bytes ≡ Ok m }

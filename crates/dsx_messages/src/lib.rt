@@ -1,5 +1,4 @@
-//! Dynamic service messages of the upstream (CM-SP-MULPIv3.1, 6.4.12 to 6.4.22): DSA, DSC and DSD read by their grammar,
-//! replies written in their one spelling and read back.
+//! DSA, DSC and DSD messages (CM-SP-MULPIv3.1, 6.4.12 to 6.4.22): the reader of messages, and the writer and reader of replies.
 #![tactic(auto)]
 
 mod code;

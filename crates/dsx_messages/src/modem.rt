@@ -16,7 +16,7 @@ impl PartialEq for Modem {
 
     ghost laws = { on_per (λ m. m.0) (partial_equiv_from_equiv nat_list_eq_equiv) };
 
-    /// Byte by byte, with no loop over them.
+    /// Returns whether both addresses are equal, byte by byte and with no loop.
     fn eq(&self, other: &Modem) -> bool {
         let [a, b, c, d, e, f] = self.0;
         let [g, h, i, j, k, l] = other.0;

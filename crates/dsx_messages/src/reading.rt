@@ -25,7 +25,8 @@ struct Survey {
     flows: usize,
 }
 
-/// A type that is left out of this product: classifiers, downstream flows, payload header suppression.
+/// Returns a type that is left out of this product: classifiers, downstream flows, payload header
+/// suppression.
 fn left_out_kind(kind: u8) -> Option<u8>
     ensures { result ≡ left_out_kind kind }
 {
@@ -42,7 +43,7 @@ fn left_out_kind(kind: u8) -> Option<u8>
     }
 }
 
-/// The first of two, where it is there.
+/// Returns the first of two, where it is there.
 fn first_some(first: Option<u8>, second: Option<u8>) -> Option<u8>
     ensures { result ≡ first_some first second }
 {
@@ -52,7 +53,7 @@ fn first_some(first: Option<u8>, second: Option<u8>) -> Option<u8>
     }
 }
 
-/// One for a flow encoding, else nothing.
+/// Returns one for a flow encoding, else nothing.
 fn flow_count(kind: u8) -> usize
     ensures { result ≡ flow_count kind }
 {
@@ -82,7 +83,7 @@ fn survey_of(list: &[u8]) -> Result<Survey, usize>
     }
 }
 
-/// The identifier of an encoding at fault.
+/// Returns the identifier of an invalid encoding.
 fn id_of(kind: Kind, fault: &FlowFault) -> Option<FlowId>
     ensures { result ≡ id_of kind fault.now }
 {
@@ -93,7 +94,7 @@ fn id_of(kind: Kind, fault: &FlowFault) -> Option<FlowId>
     }
 }
 
-/// What one flow encoding says.
+/// Returns what one flow encoding says.
 #[tactic(auto, unfolding(crate::specs::Reading::flow_in))]
 fn flow_in(tid: u16, kind: Kind, value: &[u8]) -> Result<FlowTlv, MessageFault>
     ensures { result ≡ flow_in tid kind value.now }
@@ -109,7 +110,7 @@ fn flow_in(tid: u16, kind: Kind, value: &[u8]) -> Result<FlowTlv, MessageFault>
     }
 }
 
-/// What the flow encodings of a list say, `count` of them.
+/// Returns what the flow encodings of a list say, `count` of them.
 fn flows_of(
     alloc: Global,
     tid: u16,
@@ -132,7 +133,7 @@ fn flows_of(
     Ok(flows)
 }
 
-/// What the TLVs of a request say.
+/// Returns what the TLVs of a request say.
 #[tactic(auto, unfolding(crate::specs::Reading::flows_in))]
 fn flows_in(alloc: Global, tid: u16, kind: Kind, list: &[u8]) -> Result<FlowEncodings, MessageFault>
     ensures exact { Gives (λ flows. flows) result (flows_in tid kind list.now) }
@@ -166,7 +167,7 @@ fn flows_in(alloc: Global, tid: u16, kind: Kind, list: &[u8]) -> Result<FlowEnco
     }
 }
 
-/// The request that holds flow encodings: an addition or a change.
+/// Returns the request that holds flow encodings: an addition or a change.
 fn with_flows(kind: Kind, tid: u16, flows: FlowEncodings) -> Request
     requires { kind ≢ Dsd }
     ensures { result ≡ with_flows kind tid flows }
@@ -178,7 +179,7 @@ fn with_flows(kind: Kind, tid: u16, flows: FlowEncodings) -> Request
     }
 }
 
-/// What the body of a request with flow encodings says: of an addition or a change.
+/// Returns what the body of a request with flow encodings says: of an addition or a change.
 #[inline(always)]
 fn flows_request_of(alloc: Global, kind: Kind, body: &[u8]) -> Result<Message, MessageFault>
     requires { kind ≢ Dsd }
@@ -240,8 +241,9 @@ fn message_of(alloc: Global, bytes: &[u8]) -> Result<Message, MessageFault>
 
 /// Reads a message of a modem: one byte of message type and the payload.
 ///
-/// The first fault is told in this order: no byte; a type that is not ours; a fixed part that is cut short; a list of TLVs
-/// that is cut; the first TLV of a type that is left out; the first flow encoding at fault.
+/// The first fault is reported in this order: no byte; a type that is not ours; a fixed part that
+/// is cut short; a list of TLVs that is cut; the first TLV of a type that is left out; the first
+/// invalid flow encoding.
 pub fn read(alloc: Global, bytes: &[u8]) -> Result<Message, MessageFault>
     // What is read is what the bytes say, and what they say is read, unless memory runs out.
     ensures found { IfOk result (Says bytes.now) }

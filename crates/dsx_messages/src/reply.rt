@@ -9,14 +9,15 @@ use crate::code::Code;
 use crate::kind::Kind;
 use std::marker::Model;
 
-/// The identifier of a flow encoding at fault: its Service Flow Reference in a DSA, its SFID in a DSC.
+/// The identifier of an invalid flow encoding: its Service Flow Reference in a DSA, its SFID in a
+/// DSC.
 #[derive(Clone, Copy, Debug, PartialEq, Eq)]
 pub enum FlowId {
     Reference(u16),
     Sfid(u32),
 }
 
-/// What a reply says beside its code.
+/// What a reply says besides its code.
 #[derive(Clone, Copy, Debug, PartialEq, Eq)]
 pub enum Detail {
     Nothing,
@@ -26,7 +27,7 @@ pub enum Detail {
         sfid: u32,
         sid: Option<u16>,
     },
-    /// The encoding at fault, where it is known, and the subtype that is wrong or missing.
+    /// The invalid encoding, where it is known, and the subtype that is wrong or missing.
     Errored {
         id: Option<FlowId>,
         subtype: u8,
@@ -59,7 +60,8 @@ impl Model for Reply {
 }
 
 impl Reply {
-    /// The reply of these parts. The caller knows that its detail goes with its kind and its code.
+    /// Returns the reply of these parts. The caller knows that its detail goes with its kind and
+    /// its code.
     pub fn new(fields: ReplyFields) -> Reply
         requires { IsWellFormed fields }
         ensures { result ≡ fields }
@@ -67,28 +69,28 @@ impl Reply {
         Reply { fields }
     }
 
-    /// What it answers to.
+    /// Returns the kind of transaction that the reply belongs to.
     pub fn get_kind(&self) -> Kind
         ensures { result ≡ self.now.kind }
     {
         self.fields.kind
     }
 
-    /// The transaction ID.
+    /// Returns the transaction ID of the reply.
     pub fn get_tid(&self) -> u16
         ensures { result ≡ self.now.tid }
     {
         self.fields.tid
     }
 
-    /// The confirmation code.
+    /// Returns the confirmation code of the reply.
     pub fn get_code(&self) -> Code
         ensures { result ≡ self.now.code }
     {
         self.fields.code
     }
 
-    /// What it says beside the code.
+    /// Returns what the reply says besides its code.
     pub fn get_detail(&self) -> Detail
         ensures value { result ≡ self.now.detail }
         ensures fits { IsWellFormed self.now }
@@ -96,7 +98,8 @@ impl Reply {
         self.fields.detail
     }
 
-    /// A law: the detail of a reply goes with its kind and its code, and its numbers have the widths of their fields.
+    /// States that the detail of a reply goes with its kind and its code, and its numbers have the
+    /// widths of their fields.
     pub fn fits(&self)
         ensures well_formed { IsWellFormed self.now }
         ensures widths { FitsReply self.now }

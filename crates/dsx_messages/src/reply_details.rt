@@ -1,4 +1,5 @@
-//! What a response tells behind its transaction and code: read by the kind of response, and by whether it accepts.
+//! What a response says after its transaction ID and code: read by the kind of response, and by
+//! whether it accepts.
 
 ghost use Rattle.std.specs.Prelude.{◌≡◌, ◌≢◌, ◌==◌, ℕ, ◌<◌, ◌^◌, Option, Some, None, IfSome, if◌then◌else◌};
 ghost use Rattle.tlv24.specs.Tlv.{spelled};
@@ -17,7 +18,7 @@ use crate::reply::{Detail, FlowId};
 use crate::tlv_type::UPSTREAM_SERVICE_FLOW as FLOW;
 use tlv24::subtype::{ERROR_CODE, ERRORED, ERRORED_PARAMETER, REFERENCE, SFID, SID};
 
-/// An accepted addition: the reference, the SFID and the SID of its flow, in this order.
+/// Returns an accepted addition: the reference, the SFID and the SID of its flow, in this order.
 fn added(tail: &[u8]) -> Option<(u16, u32, u16)>
     ensures spelled { IfSome result (λ n. tail.now ≡ tail_of Dsa Okay (Given (Some n.0) n.1 (Some n.2))) }
     ensures every { (reference sfid sid : ℕ) → reference < 2 ^ 16 → sfid < 2 ^ 32 → sid < 2 ^ 16
@@ -51,7 +52,7 @@ fn added(tail: &[u8]) -> Option<(u16, u32, u16)>
     }
 }
 
-/// An accepted change of a flow that has no SID: its SFID.
+/// Returns an accepted change of a flow that has no SID: its SFID.
 fn changed(tail: &[u8]) -> Option<u32>
     ensures spelled { IfSome result (λ sfid. tail.now ≡ tail_of Dsc Okay (Given None sfid None)) }
     ensures every { (sfid : ℕ) → sfid < 2 ^ 32 → tail.now ≡ tail_of Dsc Okay (Given None sfid None)
@@ -63,7 +64,7 @@ fn changed(tail: &[u8]) -> Option<u32>
     }
 }
 
-/// An accepted change of a flow that has a SID: its SFID and its SID, in this order.
+/// Returns an accepted change of a flow that has a SID: its SFID and its SID, in this order.
 fn changed_with_sid(tail: &[u8]) -> Option<(u32, u16)>
     ensures spelled { IfSome result (λ n. tail.now ≡ tail_of Dsc Okay (Given None n.0 (Some n.1))) }
     ensures every { (sfid sid : ℕ) → sfid < 2 ^ 32 → sid < 2 ^ 16
@@ -78,7 +79,8 @@ fn changed_with_sid(tail: &[u8]) -> Option<(u32, u16)>
     }
 }
 
-/// What a refusal says of the encoding at fault, if its error encodings repeat the reply's code.
+/// Returns what a refusal says of the invalid encoding, if its error encodings repeat the reply's
+/// code.
 fn repeated(code: Code, number: u8, id: Option<FlowId>, subtype: u8) -> Option<(Option<FlowId>, u8)>
     ensures { result ≡ if number == number_of code then Some (id, subtype) else None }
 {
@@ -89,7 +91,7 @@ fn repeated(code: Code, number: u8, id: Option<FlowId>, subtype: u8) -> Option<(
     }
 }
 
-/// A refusal that names a flow by its SFID, and the subtype at fault.
+/// Returns a refusal that names a flow by its SFID, and the invalid subtype.
 fn errored_sfid(code: Code, tail: &[u8]) -> Option<(Option<FlowId>, u8)>
     ensures spelled { IfSome result (λ n. tail.now ≡ spelled (tlvs_in code (Errored n.0 n.1))) }
     ensures every { (sfid subtype : ℕ) → sfid < 2 ^ 32
@@ -121,7 +123,8 @@ fn errored_sfid(code: Code, tail: &[u8]) -> Option<(Option<FlowId>, u8)>
     repeated(code, *number, Some(FlowId::Sfid(sfid)), *subtype)
 }
 
-/// A refusal that names a subtype: the identifier of its flow, where it has one, and the subtype at fault.
+/// Returns a refusal that names a subtype: the identifier of its flow, where it has one, and the
+/// invalid subtype.
 fn errored(code: Code, tail: &[u8]) -> Option<(Option<FlowId>, u8)>
     ensures spelled { IfSome result (λ n. tail.now ≡ spelled (tlvs_in code (Errored n.0 n.1))) }
     ensures every { (subtype : ℕ) → tail.now ≡ spelled (tlvs_in code (Errored None subtype))
@@ -169,7 +172,7 @@ fn errored(code: Code, tail: &[u8]) -> Option<(Option<FlowId>, u8)>
     }
 }
 
-/// What an accepted addition says.
+/// Returns what an accepted addition says.
 pub(crate) fn accepted_addition(tail: &[u8]) -> Option<Detail>
     ensures spelled { IfSome result (IsTold Dsa Okay tail.now) }
     ensures every { (reference sfid sid : ℕ) → reference < 2 ^ 16 → sfid < 2 ^ 32 → sid < 16384
@@ -188,7 +191,7 @@ pub(crate) fn accepted_addition(tail: &[u8]) -> Option<Detail>
     }
 }
 
-/// What an accepted change says.
+/// Returns what an accepted change says.
 pub(crate) fn accepted_change(tail: &[u8]) -> Option<Detail>
     ensures spelled { IfSome result (IsTold Dsc Okay tail.now) }
     ensures every { (sfid : ℕ) → sfid < 2 ^ 32 → tail.now ≡ tail_of Dsc Okay (Given None sfid None)
@@ -215,7 +218,7 @@ pub(crate) fn accepted_change(tail: &[u8]) -> Option<Detail>
     }
 }
 
-/// What a refused addition says.
+/// Returns what a refused addition says.
 pub(crate) fn refused_addition(code: Code, tail: &[u8]) -> Option<Detail>
     ensures spelled { code ≢ Okay → IfSome result (IsTold Dsa code tail.now) }
     ensures every { tail.now ≡ tail_of Dsa code Nothing → result ≡ Some Nothing }
@@ -234,7 +237,7 @@ pub(crate) fn refused_addition(code: Code, tail: &[u8]) -> Option<Detail>
     }
 }
 
-/// What a refused change says.
+/// Returns what a refused change says.
 pub(crate) fn refused_change(code: Code, tail: &[u8]) -> Option<Detail>
     ensures spelled { code ≢ Okay → IfSome result (IsTold Dsc code tail.now) }
     ensures every { tail.now ≡ tail_of Dsc code Nothing → result ≡ Some Nothing }

@@ -21,7 +21,7 @@ use crate::reply_details::{accepted_addition, accepted_change, refused_addition,
 use crate::spell::write_reply;
 use std::alloc::{AllocError, Global};
 
-/// What a response answers to, by its message type.
+/// Returns what a response answers to, by its message type.
 fn kind_of(mtype: u8) -> Option<Kind>
     ensures found { IfSome result (λ kind. response_type kind ≡ mtype) }
     ensures every { (kind : Kind) → response_type kind ≡ mtype → result ≡ Some kind }
@@ -34,7 +34,7 @@ fn kind_of(mtype: u8) -> Option<Kind>
     }
 }
 
-/// What a deletion says: nothing, in a reserved byte, which is 0.
+/// Returns what a deletion says: nothing, in a reserved byte, which is 0.
 fn deleted(tail: &[u8]) -> Option<Detail>
     ensures spelled { (code : Code) → IfSome result (IsTold Dsd code tail.now) }
     ensures every { tail.now ≡ 0 ∷ [] → result ≡ Some Nothing }
@@ -45,7 +45,7 @@ fn deleted(tail: &[u8]) -> Option<Detail>
     }
 }
 
-/// What follows the confirmation code.
+/// Returns what follows the confirmation code.
 fn detail_of(kind: Kind, code: Code, tail: &[u8]) -> Option<Detail>
     ensures spelled { IfSome result (IsTold kind code tail.now) }
     ensures every { (detail : Detail) → IsTold kind code tail.now detail → FitsDetail detail → result ≡ Some detail }
@@ -83,7 +83,7 @@ pub fn read_reply(bytes: &[u8]) -> Option<Reply>
     }))
 }
 
-/// A law: what is written of a reply is read as that reply.
+/// States that what is written of a reply is read as that reply.
 pub fn read_back(alloc: Global, reply: &Reply) -> Result<Reply, AllocError>
     ensures { IfOk result (λ again. again ≡ reply.now) }
 {

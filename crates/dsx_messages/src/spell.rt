@@ -39,7 +39,7 @@ fn put_id(out: &mut Vec<u8>, id: Option<FlowId>) -> Result<(), AllocError>
     }
 }
 
-/// How many bytes an identifier takes.
+/// Returns how many bytes an identifier takes.
 fn id_len(id: Option<FlowId>) -> u8
     ensures { result ≡ length (spelled (id_tlv id)) }
 {
@@ -50,7 +50,7 @@ fn id_len(id: Option<FlowId>) -> u8
     }
 }
 
-/// How many bytes a reference or a SID takes.
+/// Returns how many bytes a reference or a SID takes.
 fn word_len(value: Option<u16>) -> u8
     ensures exact { (subtype : ℕ) → result ≡ length (spelled (under subtype (option_map (to_be_bytes w16) value))) }
     ensures few { result ≤ 4 }
@@ -78,7 +78,7 @@ fn put_given(
     put_word(out, subtype::SID, sid)
 }
 
-/// Writes the encoding at fault and its subtype.
+/// Writes the invalid encoding and its subtype.
 fn put_errored(
     out: &mut Vec<u8>,
     code: Code,
@@ -117,7 +117,7 @@ fn put_detail(out: &mut Vec<u8>, code: Code, detail: Detail) -> Result<(), Alloc
     }
 }
 
-/// What follows the confirmation code.
+/// Returns what follows the confirmation code.
 fn put_tail(out: &mut Vec<u8>, kind: Kind, code: Code, detail: Detail) -> Result<(), AllocError>
     ensures { OnOk result (out.new.items ≡ out.old.items ++ tail_of kind code detail) }
 {
@@ -130,7 +130,7 @@ fn put_tail(out: &mut Vec<u8>, kind: Kind, code: Code, detail: Detail) -> Result
     }
 }
 
-/// The bytes of a reply: its one spelling.
+/// Returns the bytes of a reply: its one spelling.
 pub fn write_reply(alloc: Global, reply: &Reply) -> Result<Vec<u8>, AllocError>
     ensures { IfOk result (λ bytes. bytes.items ≡ spell_reply reply.now) }
 {

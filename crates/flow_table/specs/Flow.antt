@@ -1,4 +1,4 @@
--- What becomes of a service flow (CM-SP-MULPIv3.1, 7.5 and 11.2; the counting in frames is own).
+-- What becomes of a service flow (CM-SP-MULPIv3.1, 7.5 and 11.2; the counting in frames is implementation-specific).
 use Rattle.std.specs.Prelude.{◌==◌, ℕ, ◌+◌, ◌-◌, max, Bool, true, false, Option, Some, None, is_some, if◌then◌else◌}
 use Rattle.admission.specs.declared.budget.Budget.{Budget}
 use Rattle.param_sets.specs.Units.{UnitSizes}

@@ -1,4 +1,4 @@
--- The first number that ascending numbers leave out (own).
+-- The first number that ascending numbers leave out (implementation-specific).
 use Rattle.std.specs.Prelude.{ℕ, suc, cond, nat_lt, nat_eq, List, [], ◌∷◌}
 
 -- the first number from n on that ascending numbers leave out

@@ -1,4 +1,4 @@
--- What the flows of one operator keep inside: the index by SID, and the rows of the ledger (own).
+-- What the flows of one operator keep inside: the index by SID, and the rows of the ledger (implementation-specific).
 use Rattle.std.specs.Prelude.{◌≡◌, ℕ, ◌≤◌, ◌↔◌, cond, List, length, map, Option, Some, None}
 use Rattle.std.specs.List.Sorted.{IsStrictlySortedBy}
 use Rattle.std.specs.Ordering.{nat_cmp}

@@ -1,4 +1,4 @@
--- What a request and a grant make of the flows (own).
+-- What a request and a grant make of the flows (implementation-specific).
 use Rattle.std.specs.Prelude.{ℕ, Bool, List, Option, Some, None}
 use Rattle.dsx_messages.specs.declared.modem.Modem.{Modem}
 use Rattle.flow_table.specs.declared.flow.Flow.{Flow}

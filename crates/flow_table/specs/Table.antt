@@ -1,4 +1,4 @@
--- The flows of one operator by SFID, and what all of them have committed (own).
+-- The flows of one operator by SFID, and what all of them have committed (implementation-specific).
 use Rattle.std.specs.Prelude.{◌≡◌, ◌==◌, ℕ, ◌≤◌, ◌⊎◌, Bool, false, List, length, map, filter_map, find, sum_by, Option, Some, None, IfSome, unwrap_or}
 use Rattle.std.specs.List.{Contains}
 use Rattle.std.specs.Ordering.{nat_cmp}
@@ -52,7 +52,7 @@ committed_elements units flows = sum_by (λ entry. (committed_of units entry.1).
 abbrev pub with_flow : ℕ → Flow → List (ℕ × Flow) → List (ℕ × Flow)
 with_flow sfid flow flows = insert_entry nat_cmp flows sfid flow
 
--- a flow may stand under an SFID: its SID is nobody's or is that flow's already, and there is room for it
+-- a flow may be under an SFID: its SID is nobody's or is that flow's already, and there is room for it
 pub record MayStand (table : FlowTable) (sfid : ℕ) (flow : Flow) : Type 0 where
   pub sid : IfSome flow.sid (λ sid. (¬ Contains (sids_of table.flows) sid) ⊎ (sid_if (flow_at sfid table.flows) ≡ Some sid))
   pub room : length (with_flow sfid flow table.flows) ≤ table.capacity

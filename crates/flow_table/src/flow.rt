@@ -46,7 +46,8 @@ pub struct Asker {
     pub may_ask: bool,
 }
 
-/// Whether a flow with this active set asks for its grants: it has one, and its grants are not unsolicited.
+/// Returns whether a flow with this active set asks for its grants: it has one, and its grants are
+/// not unsolicited.
 fn asks_for_grants(active: Option<ParamSet>) -> bool
     ensures { result ≡ asks_for_grants active }
 {
@@ -57,8 +58,8 @@ fn asks_for_grants(active: Option<ParamSet>) -> bool
 }
 
 impl Flow {
-    /// What it has committed: of minislots and of elements the greater of what its admitted set needs and of what the one
-    /// that is pending needs.
+    /// Returns what it has committed: of minislots and of elements the greater of what its admitted
+    /// set needs and of what the one that is pending needs.
     #[inline(always)]
     pub fn committed(&self, units: Units) -> Budget
         ensures { result ≡ committed_of units self.now }
@@ -74,7 +75,8 @@ impl Flow {
         }
     }
 
-    /// Whether it may ask for grants: it has an active set, and its grants are not unsolicited.
+    /// Returns whether it may ask for grants: it has an active set, and its grants are not
+    /// unsolicited.
     pub fn asks_for_grants(&self) -> bool
         ensures { result ≡ asks_for_grants self.now.sets.active }
     {
@@ -107,8 +109,8 @@ impl Flow {
         }
     }
 
-    /// Takes it that the modem asks for so many minislots in this frame: they are the backlog from now on, which waits since
-    /// this frame where there was none.
+    /// Takes the minislots that the modem requests in this frame as the backlog. It waits since
+    /// this frame if there was none before.
     pub fn request(&mut self, minislots: u16, frame: u32)
         ensures value { self.new ≡ requested minislots frame self.old }
         ensures sid { self.new.sid ≡ self.old.sid }
@@ -117,7 +119,8 @@ impl Flow {
         self.backlog = minislots;
     }
 
-    /// Grants so many minislots in this frame: the backlog falls by them, and what is left waits since the next frame.
+    /// Takes so many granted minislots of this frame off the backlog. The rest waits since the next
+    /// frame.
     pub fn grant(&mut self, minislots: u16, frame: u32)
         requires { frame < 4294967295 }
         ensures value { self.new ≡ granted minislots frame self.old }
@@ -129,7 +132,7 @@ impl Flow {
     }
 }
 
-/// The SID of a flow whose sets these become: none where none is admitted.
+/// Returns the SID of a flow whose sets these become: none where none is admitted.
 fn sid_under(sets: &Sets, sid: Option<u16>) -> Option<u16>
     ensures { result ≡ if is_some sets.now.admitted then sid else None }
 {
@@ -140,7 +143,7 @@ fn sid_under(sets: &Sets, sid: Option<u16>) -> Option<u16>
     }
 }
 
-/// The backlog of a flow whose sets these become: none where it may not ask.
+/// Returns the backlog of a flow whose sets these become: none where it may not ask.
 fn backlog_under(sets: &Sets, backlog: u16) -> u16
     ensures { result ≡ if asks_for_grants sets.now.active then backlog else 0 }
 {
@@ -151,21 +154,21 @@ fn backlog_under(sets: &Sets, backlog: u16) -> u16
     }
 }
 
-/// The SID of a flow of which this is taken back.
+/// Returns the SID of a flow of which this is taken back.
 fn sid_without(pending: &Pending, sid: Option<u16>) -> Option<u16>
     ensures { result ≡ if pending.now.sid_is_new then None else sid }
 {
     if pending.sid_is_new { None } else { sid }
 }
 
-/// Since when a backlog waits that was asked for in this frame.
+/// Returns the frame since which a backlog waits that was requested in this frame.
 fn since_asked(backlog: u16, since: u32, frame: u32) -> u32
     ensures { result ≡ if backlog == 0 then frame else since }
 {
     if backlog == 0 { frame } else { since }
 }
 
-/// Since when waits what is left of a backlog after a grant of this frame.
+/// Returns the frame since which the rest of a backlog waits after a grant of this frame.
 fn since_granted(left: u16, since: u32, frame: u32) -> u32
     requires { frame < 4294967295 }
     ensures { result ≡ if left == 0 then since else frame + 1 }

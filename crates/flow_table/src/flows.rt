@@ -45,7 +45,7 @@ impl Model for Flows {
 }
 
 impl Flows {
-    /// No flows, and room for `capacity` of them.
+    /// Returns no flows, and room for `capacity` of them.
     pub fn new(alloc: Global, capacity: u32, units: Units) -> Result<Flows, AllocError>
         ensures { IfOk result (λ flows. flows ≡ record { capacity = capacity; units = units; flows = [] }) }
     {
@@ -59,21 +59,21 @@ impl Flows {
         })
     }
 
-    /// How many flows there are.
+    /// Returns how many flows there are.
     pub fn len(&self) -> usize
         ensures { result ≡ length self.now.flows }
     {
         self.by_sfid.len()
     }
 
-    /// The flow of an SFID. Takes no memory.
+    /// Returns the flow of an SFID. Takes no memory.
     pub fn get(&self, sfid: u32) -> Option<&Flow>
         ensures { option_copied result ≡ flow_at sfid self.now.flows }
     {
         self.by_sfid.get(&sfid)
     }
 
-    /// The flow that has this SID, with its SFID. Takes no memory.
+    /// Returns the flow that has this SID, with its SFID. Takes no memory.
     pub fn with_sid(&self, sid: u16) -> Option<(u32, Flow)>
         ensures value { result ≡ flow_with sid self.now.flows }
         ensures there { IfSome result (λ entry. flow_at entry.0 self.now.flows ≡ Some entry.1) }
@@ -83,7 +83,8 @@ impl Flows {
         Some((sfid, flow))
     }
 
-    /// Whose the flow is that has this SID, and whether it may ask. Takes no memory, and copies no flow.
+    /// Returns whose the flow is that has this SID, and whether it may ask. Takes no memory, and
+    /// copies no flow.
     pub fn asker(&self, sid: u16) -> Option<Asker>
         ensures value { result ≡ asker_of (flow_with sid self.now.flows) }
         ensures there { IfSome (flow_with sid self.now.flows) (λ entry. flow_at entry.0 self.now.flows ≡ Some entry.1) }
@@ -97,7 +98,7 @@ impl Flows {
         })
     }
 
-    /// The least SFID of a range that no flow has. Takes no memory.
+    /// Returns the least SFID of a range that no flow has. Takes no memory.
     pub fn free_sfid(&self, range: &IdRange) -> Option<u32>
         ensures exact { result ≡ least_free_of range.now (sfids_of self.now.flows) }
         ensures found { IfSome result (IsLeastFree range.now (sfids_of self.now.flows)) }
@@ -105,7 +106,7 @@ impl Flows {
         least_free_sfid(&self.by_sfid, range)
     }
 
-    /// The least SID of a range that no flow has. Takes no memory.
+    /// Returns the least SID of a range that no flow has. Takes no memory.
     pub fn free_sid(&self, range: &IdRange) -> Option<u32>
         ensures exact { result ≡ least_free_of range.now (sids_of self.now.flows) }
         ensures found { IfSome result (IsLeastFree range.now (sids_of self.now.flows)) }
@@ -113,8 +114,8 @@ impl Flows {
         least_free_sid(&self.by_sid, range)
     }
 
-    /// Whether the totals of what is committed, with this flow under this SFID, stay within a limit; elements are tried
-    /// first. Takes no memory.
+    /// Returns whether the totals of what is committed, with this flow under this SFID, stay within
+    /// a limit; elements are tried first. Takes no memory.
     pub fn fits(&self, limit: Budget, sfid: u32, flow: &Flow) -> Result<(), Over>
         ensures elements { (result ≡ Err Over.Elements)
             ↔ (limit.elements < committed_elements self.now.units (with_flow sfid flow.now self.now.flows)) }
@@ -128,7 +129,7 @@ impl Flows {
         self.ledger.fits(limit, sfid, flow.committed(self.units))
     }
 
-    /// What all flows have committed, in minislots of a frame.
+    /// Returns what all flows have committed, in minislots of a frame.
     pub fn committed_minislots(&self) -> u64
         ensures { result ≡ committed_minislots self.now.units self.now.flows }
     {
@@ -169,14 +170,16 @@ impl Flows {
         }
     }
 
-    /// Makes what the modem of a flow asks for in a frame its backlog, in place. Takes no memory.
+    /// Takes the minislots that the modem requests in this frame as the backlog. It waits since
+    /// this frame if there was none before.
     pub fn request(&mut self, sfid: u32, minislots: u16, frame: u32)
         ensures { self.new ≡ record self.old { flows = moved_at sfid (requested minislots frame) self.old.flows } }
     {
         request_in(&mut self.by_sfid, sfid, minislots, frame);
     }
 
-    /// Lowers the backlog of a flow by what it is granted in a frame, in place. Takes no memory.
+    /// Takes so many granted minislots of this frame off the backlog. The rest waits since the next
+    /// frame.
     pub fn grant(&mut self, sfid: u32, minislots: u16, frame: u32)
         requires { frame < 4294967295 }
         ensures { self.new ≡ record self.old { flows = moved_at sfid (granted minislots frame) self.old.flows } }
@@ -194,7 +197,7 @@ impl Flows {
         release(&mut self.ledger, sfid);
     }
 
-    /// The flows with an active set, by SFID, as they are scheduled.
+    /// Returns the flows with an active set, by SFID, as they are scheduled.
     pub fn flowing(&self, alloc: Global) -> Result<Vec<Flowing>, AllocError>
         ensures { IfOk result (λ flowing. flowing.items ≡ flowing_in self.now.flows) }
     {
@@ -207,7 +210,7 @@ impl Flows {
         Ok(all)
     }
 
-    /// The flows under their SFIDs, ascending: a copy.
+    /// Returns the flows under their SFIDs, ascending: a copy.
     pub fn to_vec(&self, alloc: Global) -> Result<Vec<(u32, Flow)>, AllocError>
         ensures { IfOk result (λ flows. flows.items ≡ self.now.flows) }
     {
@@ -218,7 +221,7 @@ impl Flows {
         Ok(flows)
     }
 
-    /// What every table keeps, for a caller's proof. Does nothing.
+    /// States what every table keeps, for a caller's proof. Does nothing.
     pub fn always(&self)
         ensures ascending { IsStrictlySortedBy nat_cmp (keys_of self.now.flows) }
         ensures within { length self.now.flows ≤ self.now.capacity }
@@ -240,7 +243,8 @@ fn remove_in(by_sfid: &mut BTreeMap<u32, Flow>, sfid: u32) -> Option<u16>
     }
 }
 
-/// The least number of a range that is no SFID, by one walk over the SFIDs in their order.
+/// Returns the least number of a range that is not a SFID, by one walk over the SFIDs in their
+/// order.
 #[tactic(auto, using(crate::proofs::GapLemmas::gap_answer_here, crate::proofs::GapLemmas::gap_answer_end, crate::proofs::GapLemmas::gap_answer))]
 fn least_free_sfid(flows: &BTreeMap<u32, Flow>, range: &IdRange) -> Option<u32>
     requires { IsStrictlySortedBy nat_cmp (keys_of flows.now.entries) }
@@ -262,7 +266,8 @@ fn least_free_sfid(flows: &BTreeMap<u32, Flow>, range: &IdRange) -> Option<u32>
     within(next, range)
 }
 
-/// The number behind all SFIDs, where they are the numbers from `first` on with none left out. Looks at the ends alone.
+/// Returns the number after all SFIDs, where they are the numbers from `first` on with none left
+/// out. Looks at the ends alone.
 #[tactic(auto, using(crate::proofs::GapLemmas::packed_end))]
 fn end_of_packed(flows: &BTreeMap<u32, Flow>, first: u32) -> Option<u64>
     requires { IsStrictlySortedBy nat_cmp (keys_of flows.now.entries) }
@@ -281,7 +286,7 @@ fn end_of_packed(flows: &BTreeMap<u32, Flow>, first: u32) -> Option<u64>
     }
 }
 
-/// A number from the first of a range on, where it is one of the range.
+/// Returns a number from the first of a range on, where it is one of the range.
 fn within(number: u64, range: &IdRange) -> Option<u32>
     requires { range.now.first ≤ number }
     ensures { result ≡ if nat_le number range.now.last then Some number else None }
@@ -293,7 +298,7 @@ fn within(number: u64, range: &IdRange) -> Option<u32>
     }
 }
 
-/// The least number of a range that is no SID, by one walk over the SIDs in their order.
+/// Returns the least number of a range that is not a SID, by one walk over the SIDs in their order.
 #[tactic(auto, using(crate::proofs::GapLemmas::gap_answer_here, crate::proofs::GapLemmas::gap_answer_end, crate::proofs::GapLemmas::gap_answer))]
 fn least_free_sid(index: &BTreeMap<u16, u32>, range: &IdRange) -> Option<u32>
     requires { IsStrictlySortedBy nat_cmp (keys_of index.now.entries) }
@@ -315,7 +320,8 @@ fn least_free_sid(index: &BTreeMap<u16, u32>, range: &IdRange) -> Option<u32>
     within(next, range)
 }
 
-/// The number behind all SIDs, where they are the numbers from `first` on with none left out. Looks at the ends alone.
+/// Returns the number after all SIDs, where they are the numbers from `first` on with none left
+/// out. Looks at the ends alone.
 #[tactic(auto, using(crate::proofs::GapLemmas::packed_keys))]
 fn end_of_packed_sids(index: &BTreeMap<u16, u32>, first: u32) -> Option<u64>
     requires { IsStrictlySortedBy nat_cmp (keys_of index.now.entries) }
@@ -336,7 +342,7 @@ fn end_of_packed_sids(index: &BTreeMap<u16, u32>, first: u32) -> Option<u64>
     }
 }
 
-/// A flow as it is scheduled, where it has an active set.
+/// Returns a flow as it is scheduled, where it has an active set.
 fn flowing_of(sfid: u32, flow: &Flow) -> Option<Flowing>
     ensures { result ≡ flowing_of_set sfid flow.now flow.now.sets.active }
 {
@@ -351,8 +357,8 @@ fn flowing_of(sfid: u32, flow: &Flow) -> Option<Flowing>
     })
 }
 
-/// Puts a flow under its SFID and, where it has a SID, its SFID under that: both or neither. Answers the SID that the flow had that
-/// was there.
+/// Puts a flow under its SFID and, where it has a SID, its SFID under that: both or neither.
+/// Returns the SID that the flow had that was there.
 #[inline(always)]
 fn grow(
     by_sfid: &mut BTreeMap<u32, Flow>,
@@ -464,7 +470,7 @@ fn request_in(by_sfid: &mut BTreeMap<u32, Flow>, sfid: u32, minislots: u16, fram
     }
 }
 
-/// Grants the flow of an SFID so many minislots, where there is one.
+/// Takes so many granted minislots off the backlog of the flow of an SFID, if there is one.
 fn grant_in(by_sfid: &mut BTreeMap<u32, Flow>, sfid: u32, minislots: u16, frame: u32)
     requires { frame < 4294967295 }
     ensures { by_sfid.new.entries ≡ moved_at sfid (granted minislots frame) by_sfid.old.entries }
@@ -505,7 +511,7 @@ fn release(ledger: &mut Ledger, sfid: u32)
 {
     match ledger.remove(sfid) {
         Ok(()) => {}
-        // No row stands.
+        // No row exists.
         Err(_) => {}
     }
 }

@@ -8,7 +8,8 @@ ghost use Rattle.admission.specs.Free.{Numbers, least_free_of};
 ghost use Rattle.flow_table.specs.declared.flow.Flow.{Flow};
 ghost use Rattle.flow_table.specs.Table.{FlowTable, MayStand, HaveOwnSids, flow_at, flow_with, sid_if, sids_of, with_flow};
 
-/// Where there is room for one more flow, it may stand under any SFID with the least free SID, or with none.
+/// States that where there is room for one more flow, it may be under any SFID with the least free
+/// SID, or with none.
 pub fn new_flow_may_stand()
     ensures { (table : FlowTable) (sids : Numbers) (sfid : ℕ) (flow : Flow)
         → length table.flows < table.capacity
@@ -16,7 +17,7 @@ pub fn new_flow_may_stand()
         → MayStand table sfid flow }
 {}
 
-/// A flow may stand in place of another with the SID of that one, or with none.
+/// States that a flow may be in place of another with the SID of that one, or with none.
 #[tactic(auto, using(crate::proofs::StandLemmas::known_may_stand))]
 pub fn known_flow_may_stand()
     ensures { (table : FlowTable) (sfid : ℕ) (flow : Flow)
@@ -27,7 +28,7 @@ pub fn known_flow_may_stand()
         → MayStand table sfid flow }
 {}
 
-/// A flow may stand in place of another with the least free SID, or with none.
+/// States that a flow may be in place of another with the least free SID, or with none.
 pub fn known_flow_may_stand_anew()
     ensures { (table : FlowTable) (sids : Numbers) (sfid : ℕ) (flow : Flow)
         → IsStrictlySortedBy nat_cmp (keys_of table.flows)
@@ -37,7 +38,8 @@ pub fn known_flow_may_stand_anew()
         → MayStand table sfid flow }
 {}
 
-/// A flow that is put under an SFID is the flow there, and the flows of the other SFIDs stay.
+/// States that a flow that is put under an SFID is the flow there, and the flows of the other SFIDs
+/// stay.
 #[tactic(auto, using(crate::proofs::StandLemmas::flow_put, crate::proofs::StandLemmas::flow_elsewhere))]
 pub fn put_flow_is_there()
     ensures there { (flows : List (ℕ × Flow)) (sfid : ℕ) (flow : Flow)
@@ -46,7 +48,7 @@ pub fn put_flow_is_there()
         → flow_at other (with_flow sfid flow flows) ≡ flow_at other flows }
 {}
 
-/// What is found by a SID is the flow that has this SID, with its SFID.
+/// States that what is found by a SID is the flow that has this SID, with its SFID.
 pub fn sid_finds_its_flow()
     ensures { (flows : List (ℕ × Flow)) (sid sfid : ℕ) (flow : Flow)
         → IsStrictlySortedBy nat_cmp (keys_of flows)

@@ -1,4 +1,4 @@
-//! The service flows of one operator: found by SFID and by SID, with what they have committed.
+//! The service flows of one operator, found by SFID and by SID, with what they have committed.
 #![tactic(auto)]
 
 mod flow;

@@ -1,4 +1,4 @@
-//! In which order an operator's flows are served: a policy gives each flow a rank of 0 to 63, and the greater rank goes first.
+//! Policies: the rank of 0 to 63 by which the flows of an operator are served, the greater first.
 #![tactic(auto)]
 
 mod policy;

@@ -21,7 +21,7 @@ impl Model for AgingStep {
 }
 
 impl AgingStep {
-    /// The frames of waiting that raise a rank by one, 1 to 255.
+    /// Returns the frames of waiting that raise a rank by one, 1 to 255.
     pub fn get(self) -> u8
         ensures value { result ≡ self }
         ensures positive { 0 < self }
@@ -42,7 +42,8 @@ pub enum Policy {
 }
 
 impl Policy {
-    /// The policy that raises a rank by one for each `step` frames waited; none for a step of 0.
+    /// Returns the policy that raises a rank by one for each `step` frames waited; none for a step
+    /// of 0.
     pub fn aged(step: u8) -> Option<Self>
         ensures refused { (result ≡ None) ↔ (step ≡ 0) }
         ensures kept { IfSome result (λ policy. policy ≡ Policy.Aged step) }

@@ -25,8 +25,8 @@ impl Model for RankInput {
 }
 
 impl RankInput {
-    /// The facts of a flow: its traffic priority of 0 to 7, the frames that it has waited
-    /// (255 stands for all longer waits), and the minislots asked for and not yet granted.
+    /// Returns the facts of a flow: its traffic priority of 0 to 7, the frames that it has waited
+    /// (255 means all longer waits), and the minislots asked for and not yet granted.
     pub fn new(priority: u8, age: u8, backlog: u16) -> Self
         requires { priority ≤ 7 }
         ensures { result ≡ record { priority = priority; age = age; backlog = backlog } }
@@ -38,7 +38,7 @@ impl RankInput {
         }
     }
 
-    /// The traffic priority, 0 to 7.
+    /// Returns the traffic priority, 0 to 7.
     pub fn get_priority(&self) -> u8
         ensures value { result ≡ self.now.priority }
         ensures at_most_seven { self.now.priority ≤ 7 }
@@ -46,21 +46,22 @@ impl RankInput {
         self.priority
     }
 
-    /// The frames waited, held at 255.
+    /// Returns the frames waited, held at 255.
     pub fn get_age(&self) -> u8
         ensures { result ≡ self.now.age }
     {
         self.age
     }
 
-    /// The minislots asked for and not yet granted.
+    /// Returns the minislots asked for and not yet granted.
     pub fn get_backlog(&self) -> u16
         ensures { result ≡ self.now.backlog }
     {
         self.backlog
     }
 
-    /// The ranges that every input keeps: a priority of at most 7, an age of one byte, a backlog of two.
+    /// States the ranges that every input keeps: a priority of at most 7, an age of one byte, a
+    /// backlog of two.
     pub(crate) fn ranges(&self)
         ensures { IsRankInput self.now }
     {

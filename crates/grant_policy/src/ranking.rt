@@ -7,7 +7,8 @@ use crate::{Policy, RankInput};
 /// A closure that ranks a flow, 0 to 63; it is made by the program that calls `Ranking::new`.
 pub type Ranker = Box<dyn Fn(RankInput) -> u8 + Send>;
 
-/// A policy beside the closure that ranks flows by it: whatever the closure is, it answers this policy's ranks.
+/// A policy with the closure that ranks flows by it: whatever the closure is, it answers this
+/// policy's ranks.
 #[derive(Drop)]
 pub struct Ranking {
     /// The policy that the ranks follow: what contracts say of a ranking, they say of this field.
@@ -18,7 +19,8 @@ pub struct Ranking {
 }
 
 impl Ranking {
-    /// The ranking by this policy, over a closure that may be called on every input and answers the policy's rank.
+    /// Returns the ranking by this policy, over a closure that may be called on every input and
+    /// answers the policy's rank.
     pub fn new(policy: Policy, rank: Ranker) -> Self
         requires callable { (i : _) → IsRankInput i → Ranker.pre rank i }
         requires answers { (i : _) (n : ℕ) → IsRankInput i → Ranker.post rank i n → n ≡ rank_of policy i }
@@ -27,14 +29,14 @@ impl Ranking {
         Ranking { policy, rank }
     }
 
-    /// The policy that the ranks follow.
+    /// Returns the policy that the ranks follow.
     pub fn policy(&self) -> Policy
         ensures { result ≡ self.now.policy }
     {
         self.policy
     }
 
-    /// The rank of a flow, 0 to 63: the greater goes first.
+    /// Returns the rank of a flow, 0 to 63: the greater goes first.
     pub fn rank(&self, input: &RankInput) -> u8
         ensures value { result ≡ rank_of self.now.policy input.now }
         ensures bound { result ≤ 63 }
@@ -44,7 +46,8 @@ impl Ranking {
     }
 }
 
-/// The rank that a policy gives an input, 0 to 63: what a closure for `Ranking::new` has to answer.
+/// Returns the rank that a policy gives an input, 0 to 63: what a closure for `Ranking::new` has to
+/// answer.
 pub fn rank_by(policy: Policy, input: &RankInput) -> u8
     ensures value { result ≡ rank_of policy input.now }
     ensures bound { result ≤ 63 }
@@ -57,7 +60,7 @@ pub fn rank_by(policy: Policy, input: &RankInput) -> u8
     }
 }
 
-/// No policy ranks above 63.
+/// States that no policy ranks above 63.
 pub fn rank_at_most_63()
     ensures { (policy : Policy) (facts : RankFacts) → facts.priority ≤ 7 → rank_of policy facts ≤ 63 }
 {}

@@ -5,7 +5,8 @@ ghost use Rattle.std.specs.Prelude.{◌≡◌, ◌==◌, ◌++◌, ◌∷◌, []
 use std::alloc::{AllocError, Global};
 use std::marker::Model;
 
-/// Items one after the other. Contracts see their list, so two are equal where their items are, wherever those stand in memory.
+/// Items one after the other. Contracts see their list, so two are equal where their items are,
+/// wherever those are in memory.
 #[derive(Debug, Drop)]
 pub struct Listed<T> {
     items: Vec<T>,
@@ -51,14 +52,14 @@ impl<T> Listed<T> {
         self.items.as_slice()
     }
 
-    /// Counts the items.
+    /// Returns the number of items in the list.
     pub fn len(&self) -> usize
         ensures { result ≡ length self.now }
     {
         self.items.len()
     }
 
-    /// Tells whether there is no item.
+    /// Returns whether the list has no items.
     pub fn is_empty(&self) -> bool
         ensures { result ≡ (length self.now == 0) }
     {
@@ -67,7 +68,7 @@ impl<T> Listed<T> {
 }
 
 impl<T: Drop> Listed<T> {
-    /// Adds an item behind the others. Where memory is wanting the item is lost.
+    /// Adds an item after the others. If memory runs out the item is lost.
     pub fn push(&mut self, item: T) -> Result<(), AllocError>
         ensures ok { OnOk result (self.new ≡ self.old ++ item ∷ []) }
         ensures err { OnErr result (self.new ≡ self.old) }

@@ -1,4 +1,4 @@
--- Tests of slices (own).
+-- Tests of slices (implementation-specific).
 use Rattle.std.specs.Prelude.{not, ◌&&◌, Bool, true, List, [], ◌∷◌}
 use Rattle.std.specs.List.{list_all}
 use Rattle.slice_scheduler.specs.Minislots.{Minislots, slices_overlap}

@@ -1,4 +1,4 @@
--- The MAP that the last part of a frame gives (own).
+-- The MAP that the last part of a frame gives (implementation-specific).
 use Rattle.std.specs.Prelude.{◌≡◌, ℕ, true, false, List, length, slice_get, Option, Some, None, map}
 use Rattle.slice_scheduler.specs.Minislots.{Minislots}
 use Rattle.slice_scheduler.specs.declared.elements.ElementsFields.{ElementsFields}

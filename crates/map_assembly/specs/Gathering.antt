@@ -1,4 +1,4 @@
--- Parts gathered to MAPs (own).
+-- Parts gathered to MAPs (implementation-specific).
 use Rattle.std.specs.Prelude.{◌≡◌, ℕ, ◌+◌, ◌<◌, ◌≤◌, ◌==◌, nat_lt, nat_le, if◌then◌else◌, Bool, false, List, [], ◌∷◌, ◌++◌, length, map, drop, reverse, replicate, filter_map, find, All, slice_get, slice_index_or, slice_set, Option, Some, None}
 use Rattle.std.specs.List.{list_all}
 use Rattle.slice_scheduler.specs.Minislots.{Minislots}
@@ -47,12 +47,12 @@ gathering_at plant frame slices = record {
 
 -- ---- the slices of a frame
 
--- the slices of a re-slicing, else these
+-- the slices of a slice change, else these
 abbrev pub slices_or : List Minislots → Option Reslicing → List Minislots
 slices_or first None = first
 slices_or first (Some reslicing) = reslicing.slicing
 
--- the slices of a frame: those of the newest re-slicing that is not from a later frame on, at first the plant's
+-- the slices of a frame: those of the newest slice change that is not from a later frame on, at first the plant's
 abbrev pub slices_at : List Minislots → List Reslicing → ℕ → List Minislots
 slices_at first reslicings frame = slices_or first (find (λ r. nat_le r.from frame) (reverse reslicings))
 
@@ -80,7 +80,7 @@ abbrev pub is_part : Gathering → ℕ → ℕ → ElementsFields → Bool
 is_part g op frame part = fits_at (slice_get g.quotas op) (slice_get (frame_slices g frame) op) part
 
 -- why a part is refused, in the order in which this is tried: there is no such operator; the frame has its MAP, or is before
--- the first one; the operator has put it; parts of it for earlier frames are missing; it is no part for that frame
+-- the first one; the operator has put it; parts of it for earlier frames are missing; it is not a part for that frame
 abbrev pub put_fault : Gathering → ℕ → ℕ → ElementsFields → Option GatherFault
 put_fault g op frame part =
     if nat_le (length g.quotas) op then Some Stranger else
@@ -152,20 +152,20 @@ pub record IsGathering (g : Gathering) : Type 0 where
   pub started : g.channel.first_frame ≤ g.next
   pub queued : AreAllQueued g.slices g.reslicings g.quotas g.queues g.next
 
--- ---- other slices from a frame on
+-- ---- new slices from a frame on
 
 -- an operator with these parts has put none yet, or none of this frame or a later one
 abbrev pub IsPast : Gathering → ℕ → List ElementsFields → Type 0
 IsPast g from queue = g.channel.first_frame < g.next + length queue → g.next + length queue ≤ from
 
--- other slices may be given from a frame on: they are valid, each earlier re-slicing is from an earlier frame on, and each
+-- new slices may be given from a frame on: they are valid, each earlier slice change is from an earlier frame on, and each
 -- part put is of an earlier frame
 pub record MayReslice (g : Gathering) (from : ℕ) (slices : List Minislots) : Type 0 where
   pub slices_are : AreSlices g.channel (length g.quotas) slices
   pub later : All (λ r. r.from < from) g.reslicings
   pub past : All (IsPast g from) g.queues
 
--- these slices stand beside the earlier ones
+-- these slices are next to the earlier ones
 abbrev pub resliced : Gathering → ℕ → List Minislots → Gathering
 resliced g from slices = record g { reslicings = g.reslicings ++ record { from = from; slicing = slices } ∷ [] }
 

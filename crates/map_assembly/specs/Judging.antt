@@ -1,4 +1,4 @@
--- What the reading of a MAP's elements computes (own).
+-- What the reading of a MAP's elements computes (implementation-specific).
 use Rattle.std.specs.Prelude.{ℕ, ◌+◌, ◌-◌, nat_lt, if◌then◌else◌, List, [], ◌∷◌, map, Result, Ok, Err}
 use Rattle.map_assembly.specs.declared.element.MapElement.{MapElement}
 use Rattle.map_assembly.specs.declared.view.MapSpan.{MapSpan}
@@ -7,12 +7,12 @@ use Rattle.map_assembly.specs.declared.view.MapFault.TheVariants.{Backward, NoNu
 use Rattle.map_assembly.specs.Element.{is_null}
 use Rattle.map_assembly.specs.Reading.{is_pending}
 
--- the elements behind the Null, the first of which is at the place `at`: how many there are, where each is a grant pending
+-- the elements after the Null, the first of which is at the place `at`: how many there are, where each is a grant pending
 abbrev pub judged_behind : ℕ → ℕ → ℕ → List MapElement → Result ℕ MapFault
 judged_behind spans end at [] = Ok spans
 judged_behind spans end at (e ∷ elements) = if is_pending end e then judged_behind spans end (at + 1) elements else Err (AfterNull at)
 
--- the elements from the place `at` on, the first of which is not to be before `least`: how many stand before the Null
+-- the elements from the place `at` on, the first of which is not to be before `least`: how many are before the Null
 abbrev pub judged : ℕ → ℕ → List MapElement → Result ℕ MapFault
 judged at least [] = Err NoNull
 judged at least (e ∷ elements) =
@@ -34,7 +34,7 @@ abbrev pub spans_in : List MapElement → List MapSpan
 spans_in [] = []
 spans_in (e ∷ elements) = if is_null e then [] else span_to (next_offset elements) e ∷ spans_in elements
 
--- the elements behind the Null
+-- the elements after the Null
 abbrev pub behind_null : List MapElement → List MapElement
 behind_null [] = []
 behind_null (e ∷ elements) = if is_null e then elements else behind_null elements

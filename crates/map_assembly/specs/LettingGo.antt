@@ -1,9 +1,9 @@
--- Slices that no frame to come needs are let go (own).
+-- Slices that no frame to come needs are dropped (implementation-specific).
 use Rattle.std.specs.Prelude.{◌≡◌, ℕ, ◌≤◌, Bool, false, nat_le, List, ◌++◌, slice_get, Option, Some, None}
 use Rattle.map_assembly.specs.declared.slicing.Reslicing.{Reslicing}
 use Rattle.map_assembly.specs.Gathering.{Gathering, frame_slices}
 
--- all goes on alike: the same parts wait for the same MAPs, some earlier re-slicings may be gone, and each frame to come has
+-- all goes on alike: the same parts wait for the same MAPs, some earlier slice changes may be gone, and each frame to come has
 -- the same slices
 pub record GoesOnAlike (old new : Gathering) : Type 0 where
   pub channel_is : new.channel ≡ old.channel
@@ -17,6 +17,6 @@ abbrev pub is_from : ℕ → Option Reslicing → Bool
 is_from frame None = false
 is_from frame (Some reslicing) = nat_le reslicing.from frame
 
--- the earliest re-slicing is from the next frame on, or from one before it: no frame to come has the slices before it
+-- the earliest slice change is from the next frame on, or from one before it: no frame to come has the slices before it
 abbrev pub has_begun : Gathering → Bool
 has_begun g = is_from g.next (slice_get g.reslicings 0)

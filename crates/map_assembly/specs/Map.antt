@@ -1,4 +1,4 @@
--- What the MAP of a frame says (own layout, after CM-SP-MULPIv3.1, 6.4.4).
+-- What the MAP of a frame says (implementation-specific layout, after CM-SP-MULPIv3.1, 6.4.4).
 use Rattle.std.specs.Prelude.{ℕ, ◌+◌, ◌-◌, ◌*◌, ◌%◌, ◌^◌, ◌==◌, nat_lt, if◌then◌else◌, List, [], ◌∷◌, ◌++◌, length, map}
 use Rattle.std.specs.List.{flat_map}
 use Rattle.slice_scheduler.specs.Iuc.{number_of}
@@ -29,7 +29,7 @@ abbrev pub map_span : Span → MapSpan
 map_span s = record { sid = s.sid; iuc = number_of s.iuc; start = s.start; len = s.len }
 
 -- the minislots from `from` up to `end`: the spans of these parts, and one idle span for each run of minislots before,
--- between and behind them
+-- between and after them
 abbrev pub filled : ℕ → ℕ → List ElementsFields → List MapSpan
 filled from end [] = idle_span from end
 filled from end (part ∷ parts) =

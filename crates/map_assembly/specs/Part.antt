@@ -1,4 +1,4 @@
--- What an operator may put into a MAP (own).
+-- What an operator may put into a MAP (implementation-specific).
 use Rattle.std.specs.Prelude.{◌≡◌, ℕ, ◌+◌, nat_le, ◌==◌, ◌&&◌, ◌||◌, Bool, true, List, [], ◌∷◌, length}
 use Rattle.std.specs.List.{list_all}
 use Rattle.admission.specs.Free.{Numbers}

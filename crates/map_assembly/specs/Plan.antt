@@ -1,4 +1,4 @@
--- What the assembly of MAPs knows of a plant (own).
+-- What the assembly of MAPs knows of a plant (implementation-specific).
 use Rattle.std.specs.Prelude.{◌≡◌, ℕ, ◌+◌, ◌*◌, ◌<◌, ◌≤◌, false, List, length, take, All, AllPairs, sum_by}
 use Rattle.slice_scheduler.specs.Minislots.{Minislots, slices_overlap}
 use Rattle.plant.specs.Plant.{ranges_overlap}
@@ -11,8 +11,8 @@ pub record IsQuota (quota : Quota) : Type 0 where
   pub low : 1 ≤ quota.sids.first
   pub high : quota.sids.last ≤ last_unicast_sid
 
--- there is an operator, no two share a SID, and a MAP of all their quotas keeps its limit of elements: beside the quotas, two
--- more for each operator (an idle span of its own, and one behind its slice) and three more (the head, the idle span behind it
+-- there is an operator, no two share a SID, and a MAP of all their quotas keeps its limit of elements: next to the quotas, two
+-- more for each operator (an idle span of its own, and one after its slice) and three more (the head, the idle span after it
 -- and the Null)
 pub record AreQuotas (quotas : List Quota) : Type 0 where
   pub some : 1 ≤ length quotas
@@ -20,7 +20,7 @@ pub record AreQuotas (quotas : List Quota) : Type 0 where
   pub apart : AllPairs (λ a b. ranges_overlap a.sids b.sids ≡ false) quotas
   pub few : sum_by (λ quota. quota.elements) quotas + 2 * length quotas + 3 ≤ element_limit
 
--- a slice has a minislot, and lies in the frame, behind the head
+-- a slice has a minislot, and lies in the frame, after the head
 pub record IsInFrame (channel : Channel) (slice : Minislots) : Type 0 where
   pub some : 1 ≤ slice.length
   pub behind_head : channel.head ≤ slice.start

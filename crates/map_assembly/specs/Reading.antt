@@ -1,4 +1,4 @@
--- What the bytes of a MAP say (own layout, after CM-SP-MULPIv3.1, 6.4.4).
+-- What the bytes of a MAP say (implementation-specific layout, after CM-SP-MULPIv3.1, 6.4.4).
 use Rattle.std.specs.Prelude.{◌≡◌, ◌≢◌, ℕ, ◌+◌, ◌*◌, ◌<◌, ◌≤◌, Bool, true, false, ◌==◌, ◌&&◌, ◌||◌, List, [], ◌∷◌, ◌++◌, length, map, drop, slice_index, slice_range, Result, Ok, Err}
 use Rattle.std.specs.List.{AllByRecursion}
 use Rattle.std.specs.Int.{w32, from_be_bytes}
@@ -36,7 +36,7 @@ abbrev pub is_pending : ℕ → MapElement → Bool
 is_pending end e = (e.iuc == short_iuc || e.iuc == long_iuc) && e.offset == end
 
 -- elements say these spans and these SIDs of grants pending: first the spans, none of which is the Null, then the Null at
--- the end of the last, and behind it the grants pending
+-- the end of the last, and after it the grants pending
 pub record ElementsSay (elements : List MapElement) (spans : List MapSpan) (sids : List ℕ) : Type 0 where
   pub end : ℕ
   pub behind : List MapElement
@@ -84,12 +84,12 @@ pub record MapReads (bytes : List ℕ) (view : MapView) : Type 0 where
 
 -- ---- what is wrong with bytes that say nothing
 
--- the elements ascend: the first is not before `least`, each further one behind the one before, and none is the Null
+-- the elements ascend: the first is not before `least`, each further one after the one before, and none is the Null
 abbrev pub AreAscending : ℕ → List MapElement → Type 0
 AreAscending least [] = Unit {0}
 AreAscending least (e ∷ elements) = (least ≤ e.offset) × (is_null e ≡ false) × AreAscending (e.offset + 1) elements
 
--- the least offset of an element behind these
+-- the least offset of an element after these
 abbrev pub least_behind : ℕ → List MapElement → ℕ
 least_behind least [] = least
 least_behind least (e ∷ elements) = least_behind (e.offset + 1) elements
@@ -104,7 +104,7 @@ pub record GoesBackward (least : ℕ) (elements : List MapElement) (at : ℕ) : 
   pub ascending : AreAscending least before
   pub backward : element.offset < least_behind least before
 
--- of the elements behind a Null at `end`, the one at this place is the first that is no grant pending
+-- of the elements behind a Null at `end`, the one at this place is the first that is not a grant pending
 pub record IsNoGrant (end : ℕ) (behind : List MapElement) (at : ℕ) : Type 0 where
   pub before : List MapElement
   pub element : MapElement
@@ -114,7 +114,7 @@ pub record IsNoGrant (end : ℕ) (behind : List MapElement) (at : ℕ) : Type 0 
   pub grants : AllByRecursion (λ e. is_pending end e ≡ true) before
   pub no_grant : is_pending end element ≡ false
 
--- the elements ascend up to the Null, and the element at this place is the first behind it that is no grant pending
+-- the elements ascend up to the Null, and the element at this place is the first after it that is not a grant pending
 pub record FollowsNull (least : ℕ) (elements : List MapElement) (at : ℕ) : Type 0 where
   pub before : List MapElement
   pub null : MapElement

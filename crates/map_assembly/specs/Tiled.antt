@@ -1,4 +1,4 @@
--- That a MAP gives no minislot twice, and each operator its own (own).
+-- That a MAP gives no minislot twice, and each operator its own (implementation-specific).
 use Rattle.std.specs.Prelude.{◌≡◌, ℕ, ◌+◌, ◌<◌, ◌≤◌, nat_lt, nat_le, ◌&&◌, Bool, true, not, ◌==◌, List, map, All, count_by, filter, slice_get, Some}
 use Rattle.admission.specs.Free.{Numbers}
 use Rattle.slice_scheduler.specs.Minislots.{Minislots}

@@ -1,4 +1,4 @@
--- The numbers of a MAP's layout (own layout, after CM-SP-MULPIv3.1, 6.4.4, where no other section is named).
+-- The numbers of a MAP's layout (implementation-specific layout, after CM-SP-MULPIv3.1, 6.4.4, where no other section is named).
 use Rattle.std.specs.Prelude.{ℕ}
 use Rattle.slice_scheduler.specs.Iuc.{number_of}
 use Rattle.slice_scheduler.specs.declared.span.Iuc.TheVariants.{Request, Short, Long}

@@ -1,4 +1,4 @@
--- The bytes of a MAP (own layout, after CM-SP-MULPIv3.1, 6.4.4).
+-- The bytes of a MAP (implementation-specific layout, after CM-SP-MULPIv3.1, 6.4.4).
 use Rattle.std.specs.Prelude.{ℕ, List, [], ◌∷◌, ◌++◌}
 use Rattle.std.specs.Int.{w32, to_be_bytes}
 use Rattle.map_assembly.specs.declared.element.MapElement.{MapElement}

@@ -19,7 +19,8 @@ use plant::{Channel, Op};
 use slice_scheduler::Elements;
 use std::alloc::{AllocError, Global};
 
-/// Adds the spans behind the head: those of each operator in this order, and the minislots that no slice holds.
+/// Adds the spans after the head: those of each operator in this order, and the minislots that no
+/// slice holds.
 fn push_filled(
     list: &mut Vec<MapElement>,
     channel: Channel,
@@ -61,7 +62,8 @@ fn push_all_pending(
     Ok(())
 }
 
-/// The elements of the MAP whose last part is this one of `op`, the operators going in this order.
+/// Returns the elements of the MAP whose last part is this one of `op`, the operators going in this
+/// order.
 fn ordered_elements(
     alloc: Global,
     channel: Channel,
@@ -80,7 +82,8 @@ fn ordered_elements(
     Ok(list)
 }
 
-/// The bytes of a frame's MAP whose last part is this one of `op`, the operators going in this order.
+/// Returns the bytes of a frame's MAP whose last part is this one of `op`, the operators going in
+/// this order.
 pub(crate) fn map_bytes(
     alloc: Global,
     channel: Channel,

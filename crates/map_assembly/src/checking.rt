@@ -9,14 +9,14 @@ ghost use Rattle.map_assembly.specs.Apart.{all_apart};
 use plant::{Channel, Op, Plant};
 use slice_scheduler::Slice;
 
-/// Whether a slice overlaps none of others.
+/// Returns whether a slice overlaps none of others.
 fn is_apart(slice: Slice, others: &[Slice]) -> bool
     ensures { result ≡ list_all (λ other. not (slices_overlap slice other)) others.now }
 {
     others.iter().all(|other| !slice.overlaps(other))
 }
 
-/// Whether no two slices overlap: each pair is looked at, of at most 32 operators.
+/// Returns whether no two slices overlap: each pair is looked at, of at most 32 operators.
 fn all_apart(slices: &[Slice]) -> bool
     ensures { result ≡ all_apart slices.now }
 {
@@ -30,14 +30,14 @@ fn all_apart(slices: &[Slice]) -> bool
     true
 }
 
-/// Whether no two slices overlap.
+/// Returns whether no two slices overlap.
 fn no_two_overlap(slices: &[Slice]) -> bool
     ensures { IsTrue result ↔ AllPairs (λ a b. slices_overlap a b ≡ false) slices.now }
 {
     all_apart(slices)
 }
 
-/// Whether a slice lies in the frame, behind the head.
+/// Returns whether a slice lies in the frame, after the head.
 fn is_in_frame(channel: Channel, slice: Slice) -> bool
     ensures { IsTrue result ↔ IsInFrame channel slice }
 {
@@ -45,14 +45,14 @@ fn is_in_frame(channel: Channel, slice: Slice) -> bool
     channel.head <= slice.get_start() && end <= channel.frame_minislots
 }
 
-/// Whether each slice lies in the frame, behind the head.
+/// Returns whether each slice lies in the frame, after the head.
 fn all_in_frame(channel: Channel, slices: &[Slice]) -> bool
     ensures { IsTrue result ↔ All (IsInFrame channel) slices.now }
 {
     slices.iter().all(|slice| is_in_frame(channel, *slice))
 }
 
-/// Whether these are valid slices of so many operators.
+/// Returns whether these are valid slices of so many operators.
 pub(crate) fn are_slices(channel: Channel, count: usize, slices: &[Slice]) -> bool
     ensures { IsTrue result ↔ AreSlices channel count slices.now }
 {

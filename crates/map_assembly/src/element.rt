@@ -19,7 +19,7 @@ pub struct MapElement {
 }
 
 impl MapElement {
-    /// The element of these 32 bits.
+    /// Returns the element of these 32 bits.
     fn from_word(word: u32) -> MapElement
         ensures value { result ≡ element_of word }
         ensures fits { FitsElement result }
@@ -31,7 +31,7 @@ impl MapElement {
         }
     }
 
-    /// Its 32 bits.
+    /// Returns the 32 bits of the element.
     pub(crate) fn word(self) -> u32
         requires { FitsElement self }
         ensures { result ≡ word_of self }
@@ -39,7 +39,7 @@ impl MapElement {
         self.sid as u32 * (IUCS * OFFSETS) + self.iuc as u32 * OFFSETS + self.offset as u32
     }
 
-    /// Whether it is a Null element: the SID of nobody, and the Null's IUC.
+    /// Returns whether it is a Null element: the SID of nobody, and the Null's IUC.
     pub(crate) fn is_null(self) -> bool
         ensures { result ≡ is_null self }
     {
@@ -54,7 +54,7 @@ pub(crate) struct FirstElement<'a> {
     pub rest: &'a [u8],
 }
 
-/// The element that the bytes begin with; none where there are fewer than four.
+/// Returns the element that the bytes begin with; none where there are fewer than four.
 pub(crate) fn first_element(bytes: &[u8]) -> Option<FirstElement<'_>>
     ensures elements { MatchOption result (elements_in bytes.now ≡ []) (λ first. elements_in bytes.now
         ≡ first.element ∷ elements_in first.rest.now) }

@@ -75,7 +75,7 @@ impl Model for Gather {
     }) };
 }
 
-/// Whether an operator with these quotas may put a part where these are the slices.
+/// Returns whether an operator with these quotas may put a part where these are the slices.
 fn fits_at(quotas: &[Quota], slices: &[Slice], op: Op, part: &Elements) -> bool
     ensures { result ≡ fits_at (slice_get quotas.now op) (slice_get slices.now op) part.now }
 {
@@ -85,7 +85,7 @@ fn fits_at(quotas: &[Quota], slices: &[Slice], op: Op, part: &Elements) -> bool
     }
 }
 
-/// How many parts of an operator are in no MAP yet.
+/// Returns how many parts of an operator are in no MAP yet.
 fn queue_len(queues: &[Queue], op: Op) -> usize
     ensures { result ≡ length (queue_of queues.now op) }
 {
@@ -95,7 +95,7 @@ fn queue_len(queues: &[Queue], op: Op) -> usize
     }
 }
 
-/// Whether a part of `op` is the last one of its frame: each other operator has put one.
+/// Returns whether a part of `op` is the last one of its frame: each other operator has put one.
 fn is_last(queues: &[Queue], op: Op) -> bool
     requires { op < length queues.now }
     ensures { (part : ElementsFields) → result ≡ is_whole (with_part queues.now op part) }
@@ -112,14 +112,14 @@ fn drop_fronts(queues: &mut [Queue])
     }
 }
 
-/// What each operator may put.
+/// Returns what each operator may put.
 fn quotas_of(alloc: Global, rows: &[OperatorRow]) -> Result<Vec<Quota>, AllocError>
     ensures { IfOk result (λ quotas. quotas.items ≡ map quota_of rows.now) }
 {
     rows.iter().map(Quota::of).collect(alloc)
 }
 
-/// The slice of an operator.
+/// Returns the slice of an operator.
 fn slice_of(row: &OperatorRow) -> Slice
     ensures value { result ≡ row.now.slice }
     ensures some { 1 ≤ result.length }
@@ -129,7 +129,7 @@ fn slice_of(row: &OperatorRow) -> Slice
     slice
 }
 
-/// The slice of each operator.
+/// Returns the slice of each operator.
 fn slices_of(alloc: Global, rows: &[OperatorRow]) -> Result<Vec<Slice>, AllocError>
     ensures value { IfOk result (λ slices. slices.items ≡ map (λ row. row.slice) rows.now) }
     ensures some { IfOk result (λ slices. All (λ slice. 1 ≤ slice.length) slices.items) }
@@ -141,7 +141,7 @@ fn slices_of(alloc: Global, rows: &[OperatorRow]) -> Result<Vec<Slice>, AllocErr
     Ok(slices)
 }
 
-/// So many queues without a part.
+/// Returns so many queues without a part.
 fn no_queues(alloc: Global, count: usize) -> Result<Vec<Queue>, AllocError>
     ensures { IfOk result (λ queues. queues.items ≡ replicate count []) }
 {
@@ -152,14 +152,15 @@ fn no_queues(alloc: Global, count: usize) -> Result<Vec<Queue>, AllocError>
     Ok(queues)
 }
 
-/// Whether each of these re-slicings is from an earlier frame on.
+/// Returns whether each of these slice changes is from an earlier frame on.
 fn all_earlier(reslicings: &[Reslicing], from: u32) -> bool
     ensures { IsTrue result ↔ All (λ r. r.from < from) reslicings.now }
 {
     reslicings.iter().all(|reslicing| reslicing.from < from)
 }
 
-/// Whether an operator with so many parts from the frame `next` on has put none yet, or none of the frame `from` or a later one.
+/// Returns whether an operator with so many parts from the frame `next` on has put none yet, or
+/// none of the frame `from` or a later one.
 fn is_past(first: u32, next: u64, parts: usize, from: u32) -> bool
     requires { first ≤ next }
     ensures { IsTrue result ↔ (first < next + parts → next + parts ≤ from) }
@@ -170,7 +171,8 @@ fn is_past(first: u32, next: u64, parts: usize, from: u32) -> bool
     next <= from as u64 && parts as u64 <= from as u64 - next
 }
 
-/// Whether each part put is of a frame before `from`, given the parts from the frame `next` on.
+/// Returns whether each part put is of a frame before `from`, given the parts from the frame `next`
+/// on.
 fn all_past(first: u32, next: u64, queues: &[Queue], from: u32) -> bool
     requires { first ≤ next }
     ensures { IsTrue result ↔ All (λ queue. first < next + length queue → next + length queue ≤ from) queues.now }
@@ -181,7 +183,7 @@ fn all_past(first: u32, next: u64, queues: &[Queue], from: u32) -> bool
 }
 
 impl Gather {
-    /// Nothing is put yet.
+    /// Returns nothing is put yet.
     pub fn new(alloc: Global, plant: &Plant) -> Result<Gather, AllocError>
         ensures { IfOk result (λ gather. gather ≡ gathering_of plant.now) }
     {
@@ -216,7 +218,7 @@ impl Gather {
         })
     }
 
-    /// Why a part is refused, in the order in which this is tried.
+    /// Returns why a part is refused, in the order in which this is tried.
     fn fault_of(&self, op: Op, frame: u32, part: &Elements) -> Option<GatherFault>
         ensures { result ≡ put_fault self.now op frame part.now }
     {
@@ -257,7 +259,7 @@ impl Gather {
         }
     }
 
-    /// The bytes of the MAP whose last part is this one.
+    /// Returns the bytes of the MAP whose last part is this one.
     fn map_of(
         &self,
         alloc: Global,
@@ -296,7 +298,7 @@ impl Gather {
         self.next = frame as u64 + 1;
     }
 
-    /// Whether a part of this operator is the last one of its frame.
+    /// Returns whether a part of this operator is the last one of its frame.
     fn is_last(&self, op: Op) -> bool
         requires { op < length self.now.quotas }
         ensures { (part : ElementsFields) → result ≡ is_last self.now op part }
@@ -354,15 +356,16 @@ impl Gather {
         }
     }
 
-    /// What always holds of what is gathered, for a caller's proof. Does nothing.
+    /// States what always holds of what is gathered, for a caller's proof. Does nothing.
     pub fn always(&self)
         ensures { IsGathering self.now }
     {
         let _ = &self.channel;
     }
 
-    /// Whether other slices may be given from a frame on: they are valid slices, one for each operator in the plant's order,
-    /// and the frame is after each of which a part is put and after that of each earlier re-slicing. Takes no memory.
+    /// Returns whether new slices may be given from a frame on: they are valid slices, one for each
+    /// operator in the plant's order, and the frame is after each of which a part is put and after
+    /// that of each earlier slice change. Takes no memory.
     pub fn may_reslice(&self, from: u32, slices: &[Slice]) -> bool
         ensures { IsTrue result ↔ MayReslice self.now from slices.now }
     {
@@ -376,7 +379,8 @@ impl Gather {
             )
     }
 
-    /// Gives the operators other slices from a frame on, in the plant's order. The caller knows that it may.
+    /// Gives the operators new slices from a frame on, in the plant's order. The caller knows that
+    /// it may.
     pub fn reslice(
         &mut self,
         alloc: Global,
@@ -396,7 +400,7 @@ impl Gather {
         Ok(())
     }
 
-    /// Whether the earliest re-slicing is from the next frame on, or from one before it.
+    /// Returns whether the earliest slice change is from the next frame on, or from one before it.
     fn has_begun(&self) -> bool
         ensures { result ≡ has_begun self.now }
     {
@@ -406,7 +410,7 @@ impl Gather {
         }
     }
 
-    /// Lets go the slices before the earliest re-slicing, which has begun.
+    /// Drops the slices before the earliest slice change, which has begun.
     fn let_go_first(&mut self)
         requires { has_begun self.old ≡ true }
         ensures alike { GoesOnAlike self.old self.new }
@@ -415,8 +419,9 @@ impl Gather {
         self.slices = self.reslicings.remove(0).slicing;
     }
 
-    /// Lets go the slices that no frame to come needs: those of frames whose MAPs are made. What is left of the re-slicings
-    /// is of later frames than that whose MAP comes next. Takes no memory.
+    /// Drops the slices that no frame to come needs: those of frames whose MAPs are made. What is
+    /// left of the slice changes is of later frames than that whose MAP comes next. Takes no
+    /// memory.
     pub fn let_go(&mut self)
         ensures alike { GoesOnAlike self.old self.new }
         ensures begun { has_begun self.new ≡ false }

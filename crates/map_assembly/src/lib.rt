@@ -1,4 +1,5 @@
-//! The MAP of a frame: put together of the operators' parts, and read (CM-SP-MULPIv3.1, 6.4.4; the layout is own).
+//! The assembly of a frame's MAP from the operators' parts, and the reader of MAPs (CM-SP-MULPIv3.1, 6.4.4; the layout is
+//! implementation-specific).
 #![tactic(auto)]
 
 mod assembling;

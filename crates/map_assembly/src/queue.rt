@@ -28,7 +28,7 @@ impl Model for Queue {
 }
 
 impl Queue {
-    /// No part.
+    /// Returns the queue of an operator of which no part is put.
     pub(crate) fn new(alloc: Global) -> Queue
         ensures { result ≡ [] }
     {
@@ -37,14 +37,14 @@ impl Queue {
         }
     }
 
-    /// How many parts there are.
+    /// Returns how many parts there are.
     pub(crate) fn len(&self) -> usize
         ensures { result ≡ length self.now }
     {
         self.parts.len()
     }
 
-    /// The part of the earliest frame, else this one.
+    /// Returns the part of the earliest frame, else this one.
     fn front_or<'a>(&'a self, part: &'a Elements) -> &'a Elements
         ensures { result.now ≡ front_or part.now self.now }
     {
@@ -73,14 +73,14 @@ impl Queue {
     }
 }
 
-/// Whether each of these operators has put a part.
+/// Returns whether each of these operators has put a part.
 pub(crate) fn is_whole(queues: &[Queue]) -> bool
     ensures { result ≡ is_whole queues.now }
 {
     queues.iter().all(|queue| queue.len() > 0)
 }
 
-/// An operator's part of the frame whose last part is this one of `op`.
+/// Returns an operator's part of the frame whose last part is this one of `op`.
 pub(crate) fn part_at<'a>(queues: &'a [Queue], op: Op, part: &'a Elements, k: usize) -> &'a Elements
     ensures { result.now ≡ part_at queues.now op part.now k }
 {

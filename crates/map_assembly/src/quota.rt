@@ -14,12 +14,12 @@ use slice_scheduler::{Elements, Slice, Span};
 pub struct Quota {
     /// Its SIDs: 1 to 8,191.
     pub sids: IdRange,
-    /// How many elements, beside the one for what is idle.
+    /// How many elements, next to the one for what is idle.
     pub elements: u16,
 }
 
 impl Quota {
-    /// The quota of a row's operator.
+    /// Returns the quota of a row's operator.
     pub(crate) fn of(row: &OperatorRow) -> Quota
         ensures { result ≡ quota_of row.now }
     {
@@ -30,7 +30,7 @@ impl Quota {
         }
     }
 
-    /// Whether a SID is nobody's or the operator's own.
+    /// Returns whether a SID is nobody's or the operator's own.
     fn is_mine(&self, sid: u16) -> bool
         ensures { result ≡ is_mine self.now.sids sid }
     {
@@ -38,22 +38,22 @@ impl Quota {
             || self.sids.get_first() <= sid as u32 && sid as u32 <= self.sids.get_last()
     }
 
-    /// Whether each span's SID is nobody's or the operator's own.
+    /// Returns whether each span's SID is nobody's or the operator's own.
     fn has_own_spans(&self, spans: &[Span]) -> bool
         ensures { result ≡ list_all (λ span. is_mine self.now.sids span.sid) spans.now }
     {
         spans.iter().all(|span| self.is_mine(span.sid))
     }
 
-    /// Whether each of these SIDs is nobody's or the operator's own.
+    /// Returns whether each of these SIDs is nobody's or the operator's own.
     fn has_own_sids(&self, sids: &[u16]) -> bool
         ensures { result ≡ list_all (λ sid. is_mine self.now.sids sid) sids.now }
     {
         sids.iter().all(|sid| self.is_mine(*sid))
     }
 
-    /// Whether these elements are of the slice, with SIDs that are nobody's or the operator's own, and are no more than its
-    /// quota and one.
+    /// Returns whether these elements are of the slice, with SIDs that are nobody's or the
+    /// operator's own, and are no more than its quota and one.
     pub(crate) fn fits(&self, slice: Slice, part: &Elements) -> bool
         ensures { result ≡ is_fitting self.now slice part.now }
     {
@@ -66,7 +66,7 @@ impl Quota {
     }
 }
 
-/// Whether two slices are the same.
+/// Returns whether two slices are the same.
 fn is_slice(slice: Slice, other: Slice) -> bool
     ensures { result ≡ is_slice slice other }
 {

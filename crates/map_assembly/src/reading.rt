@@ -21,7 +21,8 @@ use plant::Backoffs;
 use slice_scheduler::{Iuc, Sids};
 use std::alloc::{AllocError, Global};
 
-/// Whether an element is a grant pending: the IUC of a short or of a long grant, at the Null's offset.
+/// Returns whether an element is a grant pending: the IUC of a short or of a long grant, at the
+/// Null's offset.
 fn is_pending(element: MapElement, end: u16) -> bool
     ensures { result ≡ is_pending end element }
 {
@@ -29,7 +30,7 @@ fn is_pending(element: MapElement, end: u16) -> bool
         && element.offset == end
 }
 
-/// How many elements stand before the Null, given those behind it: each is a grant pending.
+/// Returns the number of elements before the Null, given those after it: each is a grant pending.
 fn judge_behind(bytes: &[u8], spans: usize, end: u16) -> Result<usize, MapFault>
     requires few { length bytes.now ≤ element_bytes * u8.MAX }
     requires place { spans ≤ u8.MAX }
@@ -47,7 +48,7 @@ fn judge_behind(bytes: &[u8], spans: usize, end: u16) -> Result<usize, MapFault>
     Ok(spans)
 }
 
-/// How many elements stand before the Null. No more than 255 elements.
+/// Returns the number of elements before the Null. No more than 255 elements.
 fn judge(bytes: &[u8]) -> Result<usize, MapFault>
     requires { length bytes.now ≤ element_bytes * u8.MAX }
     ensures { result ≡ judged 0 0 (elements_in bytes.now) }
@@ -70,7 +71,7 @@ fn judge(bytes: &[u8]) -> Result<usize, MapFault>
     Err(MapFault::NoNull)
 }
 
-/// Where the first of these elements begins.
+/// Returns where the first of these elements begins.
 fn next_offset(bytes: &[u8]) -> u16
     ensures { result ≡ next_offset (elements_in bytes.now) }
 {
@@ -80,7 +81,7 @@ fn next_offset(bytes: &[u8]) -> u16
     }
 }
 
-/// The spans before the Null: `count` of them.
+/// Returns the spans before the Null: `count` of them.
 fn spans_in(alloc: Global, bytes: &[u8], count: usize) -> Result<Vec<MapSpan>, AllocError>
     ensures { IfOk result (λ spans. spans.items ≡ spans_in (elements_in bytes.now)) }
 {
@@ -102,7 +103,7 @@ fn spans_in(alloc: Global, bytes: &[u8], count: usize) -> Result<Vec<MapSpan>, A
     Ok(spans)
 }
 
-/// The elements behind the Null.
+/// Returns the elements after the Null.
 fn behind_null(bytes: &[u8]) -> &[u8]
     ensures { elements_in result.now ≡ behind_null (elements_in bytes.now) }
 {
@@ -116,7 +117,7 @@ fn behind_null(bytes: &[u8]) -> &[u8]
     rest
 }
 
-/// The SIDs of all these elements: `count` of them.
+/// Returns the SIDs of all these elements: `count` of them.
 fn sids_in(alloc: Global, bytes: &[u8], count: usize) -> Result<Vec<u16>, AllocError>
     ensures { IfOk result (λ sids. sids.items ≡ map (λ e. e.sid) (elements_in bytes.now)) }
 {
@@ -129,7 +130,7 @@ fn sids_in(alloc: Global, bytes: &[u8], count: usize) -> Result<Vec<u16>, AllocE
     Ok(sids)
 }
 
-/// The four bytes from this one on, as a number.
+/// Returns the four bytes from this one on, as a number.
 fn long_at(bytes: &[u8], at: usize) -> u32
     requires { at + 4 ≤ length bytes.now }
     ensures { result ≡ from_be_bytes w32 (slice_range bytes.now at (at + 4)) }
@@ -137,7 +138,7 @@ fn long_at(bytes: &[u8], at: usize) -> u32
     u32::from_be_bytes([bytes[at], bytes[at + 1], bytes[at + 2], bytes[at + 3]])
 }
 
-/// The header that the bytes begin with.
+/// Returns the header that the bytes begin with.
 fn header_in(bytes: &[u8]) -> MapHeader
     requires { header_bytes ≤ length bytes.now }
     ensures { result ≡ header_in bytes.now }
@@ -157,7 +158,7 @@ fn header_in(bytes: &[u8]) -> MapHeader
     }
 }
 
-/// The bytes behind the header.
+/// Returns the bytes after the header.
 fn body_of(bytes: &[u8]) -> &[u8]
     requires { header_bytes ≤ length bytes.now }
     ensures { result.now ≡ drop header_bytes bytes.now }
@@ -166,7 +167,7 @@ fn body_of(bytes: &[u8]) -> &[u8]
     body
 }
 
-/// How many spans the bytes of a MAP say.
+/// Returns how many spans the bytes of a MAP say.
 fn count_spans(bytes: &[u8]) -> Result<usize, MapFault>
     ensures counted { IfOk result (λ _. IsCounted bytes.now) }
     ensures judged { IfOk result (λ count. judged 0 0 (elements_behind bytes.now) ≡ Ok count) }
@@ -182,7 +183,7 @@ fn count_spans(bytes: &[u8]) -> Result<usize, MapFault>
     judge(body)
 }
 
-/// What the bytes of a MAP with so many spans say.
+/// Returns what the bytes of a MAP with so many spans say.
 fn view_in(alloc: Global, bytes: &[u8], count: usize) -> Result<MapView, AllocError>
     requires { header_bytes ≤ length bytes.now }
     ensures header { IfOk result (λ view. view.header ≡ header_in bytes.now) }
@@ -202,8 +203,8 @@ fn view_in(alloc: Global, bytes: &[u8], count: usize) -> Result<MapView, AllocEr
 
 /// Reads a MAP of this profile.
 ///
-/// Faults: `Short` and `Count` first; then `Backward` or `AfterNull` at the first element at fault, or `NoNull` where none is
-/// at fault and none is the Null. `NoMemory` comes last.
+/// Faults: `Short` and `Count` first; then `Backward` or `AfterNull` at the first invalid element,
+/// or `NoNull` where all are valid and none is the Null. `NoMemory` comes last.
 pub fn read_map(alloc: Global, bytes: &[u8]) -> Result<MapView, MapFault>
     ensures found { IfOk result (MapReads bytes.now) }
     ensures only { (view : MapView) → MapReads bytes.now view → IsOkUnlessMemory result view }

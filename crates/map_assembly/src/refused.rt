@@ -12,7 +12,7 @@ pub enum GatherFault {
     /// It is of another slice than the operator's in that frame, has a SID that is neither 0 nor the operator's, or has more
     /// elements than the operator's quota and one.
     WrongSlice,
-    /// No memory was left.
+    /// Memory ran out before any effect.
     NoMemory,
     /// The MAP of this frame is there already, or the frame is before the first one.
     Old { frame: u32 },

@@ -15,7 +15,7 @@ pub struct MapHeader {
     pub channel: u8,
     /// The UCD count.
     pub ucd_count: u8,
-    /// How many elements follow: all of them, the Null and those behind it too.
+    /// How many elements follow: all of them, the Null and those after it too.
     pub elements: u8,
     /// When the frame begins, in minislots.
     pub alloc_start: u32,
@@ -38,16 +38,16 @@ pub struct MapSpan {
     pub len: u16,
 }
 
-/// Spans of a MAP.
+/// The spans of a MAP, in order.
 pub type MapSpans = Listed<MapSpan>;
 
-/// What a MAP says.
+/// What the bytes of a MAP say.
 #[derive(Debug, Drop)]
 pub struct MapView {
     pub header: MapHeader,
     /// Who is granted which minislots: the elements before the Null.
     pub spans: MapSpans,
-    /// The SIDs of grants pending: the elements behind the Null.
+    /// The SIDs of grants pending: the elements after the Null.
     pub pending: Sids,
 }
 
@@ -62,9 +62,10 @@ pub enum MapFault {
     Backward { at: usize },
     /// No element is the Null.
     NoNull,
-    /// This element behind the Null is no grant pending: its IUC is not 5 or 6, or its offset is not the Null's.
+    /// This element after the Null is not a grant pending: its IUC is not 5 or 6, or its offset is
+    /// not the Null's.
     AfterNull { at: usize },
-    /// No memory was left.
+    /// Memory ran out before any effect.
     NoMemory,
 }
 

@@ -1,5 +1,6 @@
-//! The numbers of a MAP's layout (own layout, after CM-SP-MULPIv3.1, 6.4.4, where no other section is named). Places are bytes
-//! of the header, from 0. Of the Interval Usage Codes, `slice_scheduler` has those that it uses.
+//! The numbers of a MAP's layout (implementation-specific, after CM-SP-MULPIv3.1, 6.4.4, where no
+//! other section is named). Places are bytes of the header, from 0. Of the Interval Usage Codes,
+//! `slice_scheduler` has those that it uses.
 
 /// Where the upstream channel ID is.
 pub(crate) const CHANNEL_PLACE: usize = 0;

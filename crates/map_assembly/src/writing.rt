@@ -61,7 +61,7 @@ pub(crate) fn push_spans(elements: &mut Vec<MapElement>, part: &Elements) -> Res
     Ok(())
 }
 
-/// Adds the Null.
+/// Adds the Null, which ends the spans.
 pub(crate) fn push_null(elements: &mut Vec<MapElement>, end: u16) -> Result<(), AllocError>
     ensures { OnOk result (elements.new.items ≡ elements.old.items ++ null_at end ∷ []) }
 {
@@ -91,7 +91,7 @@ pub(crate) fn push_pending(
     Ok(())
 }
 
-/// The bytes of a MAP.
+/// Returns the bytes of a MAP.
 pub(crate) fn write_map(
     alloc: Global,
     header: MapHeader,

@@ -1,4 +1,4 @@
--- What an action of a machine does (own).
+-- What an action of a machine does (implementation-specific).
 use Rattle.operator_model.specs.State.{Operator}
 use Rattle.std.specs.Prelude.{◌≡◌, Bool, Result, IfOk, OnOk, OnErr}
 use Rattle.std.specs.declared.alloc.AllocError.{AllocError}
@@ -6,7 +6,7 @@ use Rattle.operator_model.specs.Handle.{StepResult}
 use Rattle.operator_book.specs.declared.machine.Both.{Both}
 use Rattle.operator_book.specs.Held.{with_state}
 
--- the machine has run so and tells so, twice where that is asked for; where memory was wanting nothing has changed
+-- the machine has run so and reports so, twice where that is asked for; if memory ran out nothing has changed
 pub record Does (two : Bool) (old new : Operator) (result : Result Both AllocError) (ran : StepResult) : Type 0 where
   pub state : OnOk result (new ≡ with_state old ran)
   pub outputs : IfOk result (λ both. both.told.items ≡ ran.outputs)

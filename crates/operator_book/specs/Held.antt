@@ -1,4 +1,4 @@
--- What a book's machine holds beside its state (own).
+-- What a book's machine holds next to its state (implementation-specific).
 use Rattle.std.specs.Prelude.{◌≡◌, ◌≢◌, All, IfSome}
 use Rattle.admission.specs.Free.{IsIn}
 use Rattle.dsx_messages.specs.declared.kind.Kind.TheVariants.{Dsd}
@@ -14,7 +14,7 @@ use Rattle.operator_model.specs.declared.verdict.Verdict.TheVariants.{Refused, P
 use Rattle.operator_model.specs.State.{Operator}
 use Rattle.operator_model.specs.Handle.{StepResult}
 
--- the flows and the kept responses have the row's room, the plant's measures and its timers
+-- the flows and the cached responses have the row's room, the plant's measures and its timers
 pub record IsMachine (consts : ConstsFields) (row : RowFields) (flows : FlowTable) (kept : Keeping) : Type 0 where
   pub flows_room : flows.capacity ≡ row.flows
   pub units : flows.units ≡ consts.units
@@ -29,17 +29,17 @@ table_of m = record { capacity = m.row.flows; units = m.consts.units; flows = m.
 abbrev pub HasOwnSids : Operator → Type 0
 HasOwnSids m = All (IsIn m.row.sids) (sids_of m.state.flows)
 
--- a flow that is to be put may stand
+-- a flow that is to be put may be
 abbrev pub MayPut : FlowTable → Verdict → Type 0
 MayPut table (Refused reply) = Unit {0}
 MayPut table (Put sfid flow reply) = MayStand table sfid flow
 MayPut table (Deleted sfid reply) = Unit {0}
 
--- what has run, and what it put out
+-- what has run, and what it output
 abbrev pub with_state : Operator → StepResult → Operator
 with_state m ran = record m { state = ran.state }
 
--- of a request at fault: it is an addition or a change, and the identifier that is told is of its kind
+-- of a request at fault: it is an addition or a change, and the identifier that is reported is of its kind
 abbrev pub HasRightId : MessageFault → Type 0
 HasRightId (faults.Tlv tid kind id fault) = (kind ≢ Dsd) × IfSome id (Names kind)
 HasRightId fault = Unit {0}

@@ -1,4 +1,4 @@
--- What a book always keeps (own).
+-- What a book always keeps (implementation-specific).
 use Rattle.std.specs.Prelude.{◌≤◌, ℕ, List}
 use Rattle.plant.specs.declared.consts.ConstsFields.{ConstsFields}
 use Rattle.plant.specs.declared.operator_row.RowFields.{RowFields}

@@ -1,4 +1,4 @@
--- What contracts say of a book (own). Each word is the definition of `operator_model` at what a book keeps.
+-- What contracts say of a book (implementation-specific). Each word is the definition of `operator_model` at what a book keeps.
 use Rattle.std.specs.Prelude.{ℕ, List, [], Option}
 use Rattle.dsx_messages.specs.declared.modem.Modem.{Modem}
 use Rattle.plant.specs.declared.consts.ConstsFields.{ConstsFields}

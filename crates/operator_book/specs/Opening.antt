@@ -1,4 +1,4 @@
--- Provisioned flows, put one after the other (own).
+-- Provisioned flows, put one after the other (implementation-specific).
 use Rattle.std.specs.Prelude.{ℕ, List, [], ◌∷◌, Option, Some, None, is_some, if◌then◌else◌}
 use Rattle.admission.specs.Free.{least_free_of}
 use Rattle.param_sets.specs.declared.sets.SetsFields.{SetsFields}

@@ -1,4 +1,4 @@
--- The sets of a flow with those that a request asks for (own).
+-- The sets of a flow with those that a request asks for (implementation-specific).
 use Rattle.std.specs.Prelude.{Result}
 use Rattle.dsx_messages.specs.declared.code.Code.TheVariants.{RejectAuthorizationFailure}
 use Rattle.param_sets.specs.Sets.{sets_unless}

@@ -1,4 +1,4 @@
--- What a machine makes of what it is told to do (own). Each word is the definition of `operator_model` at what a machine holds.
+-- What a machine makes of what it is reported to do (implementation-specific). Each word is the definition of `operator_model` at what a machine holds.
 use Rattle.operator_model.specs.State.{Operator}
 use Rattle.std.specs.Prelude.{◌≡◌, ◌<◌, ℕ, Bool, List, [], ◌∷◌, ◌++◌, length, find, IsNone}
 use Rattle.tlv24.specs.declared.fields.FlowFields.{FlowFields}
@@ -46,7 +46,7 @@ keeping m modem tid kind reply sfid waits =
 
 -- ---- what a machine makes of a request
 
--- this reply alone is put out
+-- this reply alone is output
 abbrev pub told : Modem → ReplyFields → List Output
 told modem reply = outputs.Reply modem (spell_reply reply) ∷ []
 
@@ -77,7 +77,7 @@ pub record IsNew (m : Operator) (modem : Modem) (kind : Kind) (tid : ℕ) : Type
   pub free : IsNone (find (is_of modem tid) m.state.kept)
   pub room : length m.state.kept < m.row.transactions
 
--- ---- what a machine makes of what was heard, and of an action
+-- ---- what a machine makes of what was received, and of an action
 
 abbrev pub acked : Operator → Modem → ℕ → Kind → ℕ → StepResult
 acked m modem tid kind code = handling.acked m.consts m.state modem tid kind code
@@ -91,7 +91,7 @@ worked m = machines.worked m m.state.inbox
 abbrev pub arrived : Operator → Modem → Heard → StepResult
 arrived m modem heard = machines.arrived m.row m.state modem heard
 
--- the schedule of the frame, of what flows once what is given up is gone
+-- the schedule of the frame, of what flows once what is abandoned is gone
 abbrev pub elements_in : Operator → ElementsFields
 elements_in m = elements_of m.row.policy (at_frame m.consts m.state) (flowing_in (flows_left m.state))
 

@@ -1,4 +1,4 @@
--- What contracts of crates above say of a book and of its ranking (own).
+-- What contracts of crates above say of a book and of its ranking (implementation-specific).
 use Rattle.grant_policy.specs.declared.policy.Policy.{Policy}
 use Rattle.grant_policy.specs.declared.ranking.Ranking.{Ranking}
 use Rattle.operator_model.specs.Replay.{BookView}

@@ -1,4 +1,4 @@
-//! How a request is answered: its verdict is carried out, and its reply kept and put out.
+//! How a request is answered: its verdict is carried out, and its reply kept and output.
 
 ghost use Rattle.std.specs.Prelude.{◌≡◌, ◌≢◌, ◌<◌, None, IsNone, Result, Ok, IfOk, IfSome, IfNone, length, find};
 ghost use Rattle.dsx_messages.specs.declared.code.Code.TheVariants.{Okay};
@@ -41,7 +41,7 @@ fn tid_of(request: &Request) -> u16
     }
 }
 
-/// A refusal that is not kept.
+/// Returns a refusal that is not kept.
 fn unkept(
     alloc: Global,
     twice: bool,
@@ -59,7 +59,7 @@ fn unkept(
 }
 
 impl Machine {
-    /// Keeps a reply.
+    /// Caches a reply under its modem and transaction ID.
     fn keep(&mut self, modem: Modem, kind: Kind, tid: u16, reply: Bytes, sfid: u32, waits: bool)
         requires free { IsNone (find (is_of modem tid) self.old.state.kept) }
         requires room { length self.old.state.kept < self.old.row.transactions }
@@ -68,7 +68,7 @@ impl Machine {
         self.kept.begin_new(modem, tid, kind, reply, sfid, waits);
     }
 
-    /// Tells a refusal, and keeps it.
+    /// Returns the output of a refusal, and caches it.
     pub(crate) fn refused_out(
         &mut self,
         alloc: Global,
@@ -88,7 +88,7 @@ impl Machine {
         Ok(both)
     }
 
-    /// Puts a flow under its SFID; tells the reply, and keeps it.
+    /// Puts a flow under its SFID; outputs the reply, and keeps it.
     #[inline(always)]
     fn put_out(
         &mut self,
@@ -113,7 +113,7 @@ impl Machine {
         Ok(both)
     }
 
-    /// Removes a flow; tells the reply, and keeps it.
+    /// Removes a flow; outputs the reply, and keeps it.
     #[inline(always)]
     fn deleted_out(
         &mut self,
@@ -136,7 +136,7 @@ impl Machine {
         Ok(both)
     }
 
-    /// Carries out a verdict; tells its reply, and keeps it.
+    /// Carries out a verdict; outputs its reply, and keeps it.
     #[inline(always)]
     fn carried_out(
         &mut self,
@@ -163,8 +163,9 @@ impl Machine {
         }
     }
 
-    /// The answer to a request that is not judged: its transaction ID is of the CMTS's half, it is kept already, or as many
-    /// are kept as the row allows. None where its transaction is new.
+    /// Returns the answer to a request that is not judged: its transaction ID is of the CMTS's
+    /// half, it is kept already, or as many are kept as the row allows. None where its transaction
+    /// is new.
     #[inline(always)]
     pub(crate) fn early_answer(
         &self,

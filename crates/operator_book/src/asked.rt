@@ -18,7 +18,7 @@ use param_sets::{ParamSet, Refusal, Sets, from_tlv, within};
 use plant::Consts;
 use tlv24::{FlowTlv, subtype};
 
-/// Whether each encoding has the identifier of this one.
+/// Returns whether each encoding has the identifier of this one.
 fn all_name(kind: Kind, first: &FlowTlv, others: &[FlowTlv]) -> bool
     ensures { result ≡ list_all (λ other. is_same (number_in kind first.now) (number_in kind other)) others.now }
 {
@@ -28,7 +28,7 @@ fn all_name(kind: Kind, first: &FlowTlv, others: &[FlowTlv]) -> bool
         .all(|other| is_same(number, number_in(kind, other)))
 }
 
-/// The first of the encodings, where they stand together.
+/// Returns the first of the encodings, where they are together.
 #[inline(always)]
 fn first_of(t: Transaction, encodings: &[FlowTlv]) -> Result<&FlowTlv, Reply>
     ensures { MatchResult result (λ first. first_of t encodings.now ≡ Ok first.now)
@@ -46,7 +46,7 @@ fn first_of(t: Transaction, encodings: &[FlowTlv]) -> Result<&FlowTlv, Reply>
     Ok(first)
 }
 
-/// Whether an encoding names a class that the plant has not.
+/// Returns whether an encoding names a class that the plant has not.
 fn is_unclassed(consts: &Consts, flow: &FlowTlv) -> bool
     ensures { result ≡ is_unclassed consts.now.classes flow.now }
 {
@@ -56,14 +56,15 @@ fn is_unclassed(consts: &Consts, flow: &FlowTlv) -> bool
     }
 }
 
-/// The first encoding that names a class that the plant has not.
+/// Returns the first encoding that names a class that the plant has not.
 fn first_unclassed<'a>(consts: &Consts, encodings: &'a [FlowTlv]) -> Option<&'a FlowTlv>
     ensures { option_copied result ≡ find (is_unclassed consts.now.classes) encodings.now }
 {
     encodings.iter().find(|flow| is_unclassed(consts, flow))
 }
 
-/// The first of the encodings, where they stand together and none names a class that the plant has not.
+/// Returns the first of the encodings, where they are together and none names a class that the
+/// plant has not.
 #[tactic(auto, unfolding(operator_model::specs::Asked::first_encoding))]
 #[inline(always)]
 fn first_encoding<'a>(
@@ -81,7 +82,7 @@ fn first_encoding<'a>(
     }
 }
 
-/// The flow of an SFID, where this modem may change or delete it now.
+/// Returns the flow of an SFID, where this modem may change or delete it now.
 pub(crate) fn free_flow(t: Transaction, flow: Option<&Flow>) -> Result<&Flow, Reply>
     ensures { MatchResult result (λ free. free_flow t (option_copied flow.entry) ≡ Ok free.now)
         (λ reply. free_flow t (option_copied flow.entry) ≡ Err reply) }
@@ -98,7 +99,7 @@ pub(crate) fn free_flow(t: Transaction, flow: Option<&Flow>) -> Result<&Flow, Re
     Ok(flow)
 }
 
-/// The parameter set of what an encoding asks for.
+/// Returns the parameter set of what an encoding asks for.
 #[tactic(auto, using(crate::proofs::Replies::set_is_refused))]
 #[inline(always)]
 fn set_from(
@@ -116,7 +117,7 @@ fn set_from(
     }
 }
 
-/// The parameter set of an encoding, over its class. One that names no class is not copied.
+/// Returns the parameter set of an encoding, over its class. One that names no class is not copied.
 #[tactic(auto, unfolding(operator_model::specs::Asked::set_of))]
 #[inline(always)]
 fn set_of(t: Transaction, consts: &Consts, flow: &FlowTlv) -> Result<ParamSet, Reply>
@@ -138,7 +139,7 @@ fn is_change(kind: Kind) -> bool
     kind == Kind::Dsc
 }
 
-/// The sets that one encoding of this set type asks for.
+/// Returns the sets that one encoding of this set type asks for.
 #[inline(always)]
 fn asked_by_type(
     t: Transaction,
@@ -172,7 +173,7 @@ fn asked_by_type(
     }
 }
 
-/// The sets that one encoding asks for.
+/// Returns the sets that one encoding asks for.
 #[inline(always)]
 fn asked_by_one(t: Transaction, consts: &Consts, flow: &FlowTlv) -> Result<AskedSets, Reply>
     requires { t.kind ≢ Dsd }
@@ -189,7 +190,7 @@ fn asked_by_one(t: Transaction, consts: &Consts, flow: &FlowTlv) -> Result<Asked
     }
 }
 
-/// Two sets, of which one is admitted and the other active.
+/// Returns two sets, of which one is admitted and the other active.
 fn in_order(first: &FlowTlv, a: ParamSet, b: ParamSet) -> AskedSets
     ensures { result ≡ in_order first.now a b }
 {
@@ -206,7 +207,7 @@ fn in_order(first: &FlowTlv, a: ParamSet, b: ParamSet) -> AskedSets
     }
 }
 
-/// The sets that two encodings ask for.
+/// Returns the sets that two encodings ask for.
 fn asked_by_two(
     t: Transaction,
     consts: &Consts,
@@ -221,7 +222,7 @@ fn asked_by_two(
     Ok(in_order(first, a, b))
 }
 
-/// The sets that the encodings of a request ask for.
+/// Returns the sets that the encodings of a request ask for.
 #[tactic(auto, unfolding(operator_model::specs::Asked::asked_sets))]
 #[inline(always)]
 fn asked_sets(t: Transaction, consts: &Consts, encodings: &[FlowTlv]) -> Result<AskedSets, Reply>
@@ -235,7 +236,7 @@ fn asked_sets(t: Transaction, consts: &Consts, encodings: &[FlowTlv]) -> Result<
     }
 }
 
-/// The first subtype in which the active set is not within the admitted one.
+/// Returns the first subtype in which the active set is not within the admitted one.
 fn failing_active(asked: &AskedSets) -> Option<u8>
     ensures { result ≡ failing_active asked.now.active asked.now.admitted }
 {
@@ -246,7 +247,7 @@ fn failing_active(asked: &AskedSets) -> Option<u8>
     }
 }
 
-/// The flow's sets with those that are asked for.
+/// Returns the flow's sets with those that are asked for.
 #[tactic(auto, unfolding(operator_model::specs::Asked::nested_sets))]
 #[inline(always)]
 fn nested_sets(
@@ -272,7 +273,7 @@ fn nested_sets(
     }
 }
 
-/// These sets with those that are asked for.
+/// Returns these sets with those that are asked for.
 #[inline(always)]
 fn with_asked(sets: Sets, asked: &AskedSets) -> Result<Sets, Refusal>
     requires { failing_active asked.now.active asked.now.admitted ≡ None }
@@ -288,7 +289,7 @@ fn with_asked(sets: Sets, asked: &AskedSets) -> Result<Sets, Refusal>
     }
 }
 
-/// What an addition asks for.
+/// Returns what an addition asks for.
 #[tactic(auto, unfolding(operator_model::specs::Asked::addition_of))]
 #[inline(always)]
 pub(crate) fn addition_of(
@@ -313,7 +314,7 @@ pub(crate) fn addition_of(
     Ok(Addition { reference, sets })
 }
 
-/// What a change asks for of the flow of its SFID.
+/// Returns what a change asks for of the flow of its SFID.
 #[tactic(auto, unfolding(operator_model::specs::Asked::change_of))]
 pub(crate) fn change_of(
     consts: &Consts,

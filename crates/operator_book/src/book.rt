@@ -26,7 +26,7 @@ use std::alloc::{AllocError, Global};
 pub enum OpenFault {
     /// The ranking follows another policy than the row's.
     PolicyMismatch,
-    /// No memory was left.
+    /// Memory ran out before any effect.
     NoMemory,
 }
 
@@ -38,17 +38,17 @@ impl From<AllocError> for OpenFault {
     }
 }
 
-/// Why an action was refused, in the order tried.
+/// Says why an action was refused. `NotMine` is tried first, then `FramesSpent`, then `Unfit`, and `NoMemory` last.
 #[derive(Clone, Copy, Debug, PartialEq, Eq)]
 pub enum BookFault {
-    /// The modem is not of this operator.
-    NotMine { modem: Modem },
     /// The frame number is the last one: no tick follows it.
     FramesSpent,
+    /// Memory ran out before any effect.
+    NoMemory,
+    /// The modem is not of this operator.
+    NotMine { modem: Modem },
     /// A slice that was offered cannot be taken.
     Unfit(Unfit),
-    /// No memory was left.
-    NoMemory,
 }
 
 impl From<AllocError> for BookFault {
@@ -80,8 +80,8 @@ impl Drop for Book {
 }
 
 impl Book {
-    /// The book of an operator with nothing done: its provisioned flows stand, and nothing else. The caller knows that the
-    /// row is one of a plant with these constants.
+    /// Returns the book of an operator with nothing done: its provisioned flows exist, and nothing
+    /// else. The caller knows that the row is one of a plant with these constants.
     pub fn open(
         alloc: Global,
         row: &OperatorRow,
@@ -99,7 +99,8 @@ impl Book {
         Ok(Book { kept, ranking })
     }
 
-    /// Does an action, and tells what it puts out. A refused action changes nothing but that there may be more spare room.
+    /// Does an action, and reports what it outputs. A refused action changes nothing but that there
+    /// may be more spare room.
     pub fn act(&mut self, alloc: Global, action: Action) -> Result<Vec<Output>, BookFault>
         ensures state { OnOk result (self.new.kept.book ≡ acted self.old.kept.book action) }
         ensures outputs { IfOk result (λ outputs. outputs.items ≡ outputs_of self.old.kept.book action) }
@@ -121,7 +122,7 @@ impl Book {
         Ok(self.kept.act(alloc, &self.ranking, action)?)
     }
 
-    /// Whether a slice and a budget can be taken from this frame on. Takes no memory.
+    /// Returns whether a slice and a budget can be taken from this frame on. Takes no memory.
     pub fn offer(&self, from: u32, row: SliceRow) -> Result<(), Unfit>
         ensures unfit { (u : Unfit) → (result ≡ Err u) ↔ (unfit_from self.now.kept.book from row ≡ Some u) }
         ensures fit { OnOk result (unfit_from self.now.kept.book from row ≡ None) }
@@ -132,7 +133,7 @@ impl Book {
         }
     }
 
-    /// Room for a re-slicing.
+    /// Makes room for one entry more, which a slice change will take.
     pub fn make_room(&mut self) -> Result<(), AllocError>
         ensures ok { OnOk result (0 < self.new.kept.spare) }
         ensures book { self.new.kept.book ≡ self.old.kept.book }
@@ -149,8 +150,8 @@ impl Book {
         self.kept.reslice(from, row);
     }
 
-    /// How many outputs an action has at most, if it is done next: a tick what it sends again and its frame, any other action one.
-    /// At most 65,537.
+    /// Returns how many outputs an action has at most, if it is done next: a tick what it
+    /// retransmits and its frame, any other action one. At most 65,537.
     pub fn most_outputs(&self, action: &Action) -> usize
         ensures value { result ≡ most_outputs_of self.now.kept.book.state action.now }
         ensures bound { length (outputs_of self.now.kept.book action.now) ≤ result }
@@ -159,42 +160,43 @@ impl Book {
         self.kept.machine.most_outputs(action)
     }
 
-    /// Whether this is a tick past the last frame.
+    /// Returns whether this is a tick past the last frame.
     pub fn is_spent(&self, action: &Action) -> bool
         ensures { result ≡ is_spent self.now.kept.book.state action.now }
     {
         self.kept.machine.is_spent(action)
     }
 
-    /// A copy of the state.
+    /// Returns a copy of the state.
     pub fn state_view(&self, alloc: Global) -> Result<StateView, AllocError>
         ensures { IfOk result (λ view. view ≡ self.now.kept.book.state) }
     {
         self.kept.machine.state_view(alloc)
     }
 
-    /// All that was done, in order.
+    /// Returns all that was done, in order.
     pub fn history(&self) -> &[Entry]
         ensures { result.now ≡ self.now.kept.book.history }
     {
         self.kept.history.as_slice()
     }
 
-    /// The operator's row, as the book was opened with it.
+    /// Returns the operator's row, as the book was opened with it.
     pub fn row(&self) -> &OperatorRow
         ensures { result.now ≡ self.now.kept.book.row }
     {
         &self.kept.machine.row
     }
 
-    /// What all operators of the plant share.
+    /// Returns what all operators of the plant share.
     pub fn consts(&self) -> &Consts
         ensures { result.now ≡ self.now.kept.book.consts }
     {
         &self.kept.machine.consts
     }
 
-    /// The book taken apart: its machine with its history, and its ranking, which follows the row's policy.
+    /// Returns the book taken apart: its machine with its history, and its ranking, which follows
+    /// the row's policy.
     pub fn into_parts(self) -> (Logged, Ranking)
         requires { self.ranking.policy ≡ self.kept.book.row.policy }
         ensures { (result.0 ≡ self.kept) × (result.1 ≡ self.ranking) × (result.1.policy ≡ result.0.book.row.policy) }
@@ -203,7 +205,7 @@ impl Book {
         (kept, ranking)
     }
 
-    /// The book of these parts.
+    /// Returns the book of these parts.
     pub fn of_parts(kept: Logged, ranking: Ranking) -> Book
         requires { ranking.policy ≡ kept.book.row.policy }
         ensures { (result.kept ≡ kept) × (result.ranking ≡ ranking) }
@@ -211,16 +213,16 @@ impl Book {
         Book { kept, ranking }
     }
 
-    /// A law: the state is the replay of the history, and each entry's outputs are the run's.
+    /// States that the state is the replay of the history, and each entry's outputs are the run's.
     pub fn always_replayed(&self)
         ensures { IsReplayed self.now.kept.book }
     {
         self.kept.always();
     }
 
-    /// A law: the state is sound. A flow's SFID and SID lie in the row's ranges and are its own; flows, kept responses and
-    /// inbox never pass the row's limits; what is committed never passes the quota, nor the budget in force, nor one that
-    /// waits for its frame.
+    /// States that the state is sound. A flow's SFID and SID lie in the row's ranges and are its
+    /// own; flows, cached responses and inbox never pass the row's limits; what is committed never
+    /// passes the quota, nor the budget in force, nor one that waits for its frame.
     pub fn always_sound(&self)
         ensures { IsSound self.now.kept.book }
     {

@@ -1,4 +1,4 @@
-//! How what was heard is handled.
+//! How what was received is handled.
 
 ghost use Rattle.std.specs.Prelude.{◌≡◌, ◌<◌, None, Result, Ok, Err, IfErr, OnOk, OnErr, drop};
 ghost use Rattle.dsx_messages.specs.declared.message.Message.{Message};
@@ -182,14 +182,14 @@ impl Machine {
         }
     }
 
-    /// Takes what was heard first out of the inbox.
+    /// Takes what was received first out of the inbox.
     fn take_first(&mut self)
         ensures { self.new ≡ with_inbox self.old (drop 1 self.old.state.inbox) }
     {
         let _first = self.inbox.pop_front();
     }
 
-    /// Handles what was heard first, and takes it out of the inbox.
+    /// Handles what was received first, and takes it out of the inbox.
     #[inline(always)]
     pub(crate) fn work(&mut self, alloc: Global, twice: bool) -> Result<Both, AllocError>
         requires { HasOwnSids self.old }
@@ -215,7 +215,7 @@ impl Machine {
         }
     }
 
-    /// Puts what was heard at the end of the inbox, without a copy.
+    /// Puts what was received at the end of the inbox, without a copy.
     #[inline(always)]
     pub(crate) fn take_in(
         &mut self,
@@ -233,7 +233,7 @@ impl Machine {
         Ok(nothing(alloc, twice))
     }
 
-    /// Puts a copy of what was heard at the end of the inbox.
+    /// Puts a copy of what was received at the end of the inbox.
     pub(crate) fn arrive(
         &mut self,
         alloc: Global,

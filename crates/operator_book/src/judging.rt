@@ -12,7 +12,7 @@ use operator_model::Action;
 use plant::is_listed;
 
 impl Machine {
-    /// Whether this is a tick past the last frame.
+    /// Returns whether this is a tick past the last frame.
     #[inline(always)]
     pub(crate) fn is_spent(&self, action: &Action) -> bool
         ensures { result ≡ is_spent self.now.state action.now }
@@ -25,7 +25,8 @@ impl Machine {
         }
     }
 
-    /// Why an action is refused: a stranger first, then a tick past the last frame, then a slice that does not fit.
+    /// Returns why an action is refused: a stranger first, then a tick past the last frame, then a
+    /// slice that does not fit.
     #[inline(always)]
     pub(crate) fn judge(&self, action: &Action) -> Result<(), BookFault>
         ensures not_mine { (modem : Modem) → (result ≡ Err (BookFault.NotMine modem))
@@ -59,7 +60,8 @@ impl Machine {
         }
     }
 
-    /// How many outputs an action has at most, if it is done next: a tick what it sends again and its frame, any other action one.
+    /// Returns how many outputs an action has at most, if it is done next: a tick what it
+    /// retransmits and its frame, any other action one.
     #[tactic(auto, using(crate::proofs::Few::few_outputs))]
     #[inline(always)]
     pub(crate) fn most_outputs(&self, action: &Action) -> usize

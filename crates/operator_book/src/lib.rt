@@ -1,5 +1,5 @@
-//! One operator's book: its machine beside the history of all that was done. The state is the replay of the history. And the
-//! machine alone, at work with no history.
+//! One operator's machine as code: a book, which keeps its history, or the machine alone, which keeps none. The state of a book
+//! is the replay of its history.
 #![tactic(auto)]
 
 mod answering;

@@ -37,9 +37,10 @@ impl Model for SoundMachine {
     ghost invariant = { λ s. IsSound s.machine };
 }
 
-/// One operator's machine at work, with the ranking of its flows and no history: what a `Book` is but for what it remembers, so
-/// that its memory does not grow with what is done. What contracts say of it they say of `sound`: what all operators share,
-/// the row and the state, which is sound. The type keeps that the ranking follows the row's policy.
+/// One operator's machine at work, with the ranking of its flows and no history: what a `Book` is
+/// except what it remembers, so that its memory does not grow with what is done. What contracts say
+/// of it they say of `sound`: what all operators share, the row and the state, which is sound. The
+/// type keeps that the ranking follows the row's policy.
 pub struct Live {
     sound: SoundMachine,
     ranking: Ranking,
@@ -57,7 +58,7 @@ impl Drop for Live {
 }
 
 impl SoundMachine {
-    /// The machine of an operator as it is opened.
+    /// Returns the machine of an operator as it is opened.
     fn open(alloc: Global, row: &OperatorRow, consts: &Consts) -> Result<SoundMachine, AllocError>
         requires { IsRowOf consts.now row.now }
         ensures { IfOk result (λ sound. sound ≡ operator consts.now row.now (opened consts.now row.now)) }
@@ -68,14 +69,14 @@ impl SoundMachine {
         Ok(SoundMachine { machine })
     }
 
-    /// A law: the state is sound. Does nothing.
+    /// States that the state is sound. Does nothing.
     fn always(&self)
         ensures { IsSound self.now }
     {
         let _ = &self.machine;
     }
 
-    /// Does an action that is not refused, and tells what it puts out, maybe twice.
+    /// Does an action that is not refused, and reports what it outputs, maybe twice.
     #[inline(always)]
     fn act(
         &mut self,
@@ -107,8 +108,8 @@ impl SoundMachine {
 }
 
 impl Live {
-    /// The machine of an operator with nothing done: its provisioned flows stand, and nothing else. The caller knows that the
-    /// row is one of a plant with these constants.
+    /// Returns the machine of an operator with nothing done: its provisioned flows exist, and
+    /// nothing else. The caller knows that the row is one of a plant with these constants.
     pub fn open(
         alloc: Global,
         row: &OperatorRow,
@@ -126,8 +127,8 @@ impl Live {
         Ok(Live { sound, ranking })
     }
 
-    /// Does an action, and tells what it puts out, and where `twice` once more: for what the caller keeps of it. A refused action changes
-    /// nothing.
+    /// Does an action, and reports what it outputs, and where `twice` once more: for what the
+    /// caller keeps of it. A refused action changes nothing.
     #[inline(always)]
     pub fn act(
         &mut self,
@@ -156,7 +157,7 @@ impl Live {
         Ok((both.told, both.kept))
     }
 
-    /// Whether a slice and a budget can be taken from this frame on. Takes no memory.
+    /// Returns whether a slice and a budget can be taken from this frame on. Takes no memory.
     pub fn offer(&self, from: u32, row: SliceRow) -> Result<(), Unfit>
         ensures unfit { (u : Unfit) → (result ≡ Err u)
             ↔ (unfit_from self.now.sound.consts self.now.sound.state from row ≡ Some u) }
@@ -176,35 +177,35 @@ impl Live {
         self.sound.reslice(from, row);
     }
 
-    /// A law: the state is sound. Does nothing.
+    /// States that the state is sound. Does nothing.
     pub fn always(&self)
         ensures { IsSound self.now.sound }
     {
         self.sound.always();
     }
 
-    /// The number of the next frame.
+    /// Returns the number of the next frame.
     pub fn frame(&self) -> u32
         ensures { result ≡ self.now.sound.state.frame }
     {
         self.sound.machine.frame
     }
 
-    /// The slice and the budget in force.
+    /// Returns the slice and the budget in force.
     pub fn share(&self) -> Share
         ensures { result ≡ self.now.sound.state.share }
     {
         self.sound.machine.share
     }
 
-    /// Those that wait for their frame.
+    /// Returns those that wait for their frame.
     pub fn next(&self) -> Option<NextShare>
         ensures { result ≡ self.now.sound.state.next }
     {
         self.sound.machine.next
     }
 
-    /// How many outputs an action has at most, if it is done next. At most 65,537.
+    /// Returns how many outputs an action has at most, if it is done next. At most 65,537.
     pub fn most_outputs(&self, action: &Action) -> usize
         ensures value { result ≡ most_outputs_of self.now.sound.state action.now }
         ensures bound { length (own_step self.now.sound action.now).outputs ≤ result }
@@ -213,7 +214,7 @@ impl Live {
         self.sound.machine.most_outputs(action)
     }
 
-    /// Whether this is a tick past the last frame.
+    /// Returns whether this is a tick past the last frame.
     pub fn is_spent(&self, action: &Action) -> bool
         ensures { result ≡ is_spent self.now.sound.state action.now }
     {

@@ -1,4 +1,4 @@
-//! A machine beside the history of all that was done.
+//! A machine next to the history of all that was done.
 
 ghost use Rattle.std.specs.Prelude.{◌≡◌, ◌<◌, None, IfOk, OnOk, OnErr, vec_len, vec_capacity};
 ghost use Rattle.plant.specs.Row.{IsRowOf};
@@ -13,9 +13,9 @@ use plant::{Consts, OperatorRow};
 use std::alloc::{AllocError, Global};
 use std::marker::Model;
 
-/// A machine beside the history of all that was done. Contracts see `book`: the row, what all operators share, the state and
-/// the history; and `spare`: how many entries more the history takes without memory. The type keeps that the state is the
-/// replay of the history.
+/// A machine next to the history of all that was done. Contracts see `book`: the row, what all
+/// operators share, the state and the history; and `spare`: how many entries more the history takes
+/// without memory. The type keeps that the state is the replay of the history.
 #[derive(Drop)]
 pub struct Logged {
     pub(crate) machine: Machine,
@@ -36,8 +36,8 @@ impl Model for Logged {
     ghost invariant = { λ b. IsBook b.machine.consts b.machine.row b.history.items b.machine.state };
 }
 
-/// Room for one entry more. A history that is full takes room for three times as many as it has, so that a long one is seldom
-/// moved.
+/// Makes room for one entry more. A full history takes room for three times as many as it has, so
+/// that a long one is seldom moved.
 fn room_for_one(history: &mut Vec<Entry>) -> Result<(), AllocError>
     ensures room { OnOk result (vec_len history.new < vec_capacity history.new) }
     ensures items { history.new.items ≡ history.old.items }
@@ -49,7 +49,7 @@ fn room_for_one(history: &mut Vec<Entry>) -> Result<(), AllocError>
 }
 
 impl Logged {
-    /// The machine of an operator as it is opened, with nothing done.
+    /// Returns the machine of an operator as it is opened, with nothing done.
     pub(crate) fn open(
         alloc: Global,
         row: &OperatorRow,
@@ -65,7 +65,7 @@ impl Logged {
         })
     }
 
-    /// Does an action that is not refused, and tells what it puts out.
+    /// Does an action that is not refused, and reports what it outputs.
     pub(crate) fn act(
         &mut self,
         alloc: Global,
@@ -88,7 +88,7 @@ impl Logged {
         Ok(both.told)
     }
 
-    /// Room for one entry more.
+    /// Makes room for one entry more, which a slice change will take.
     pub(crate) fn make_room(&mut self) -> Result<(), AllocError>
         ensures ok { OnOk result (0 < self.new.spare) }
         ensures book { self.new.book ≡ self.old.book }
@@ -110,7 +110,7 @@ impl Logged {
         });
     }
 
-    /// What always holds, for a caller's proof. Does nothing.
+    /// States what always holds, for a caller's proof. Does nothing.
     pub(crate) fn always(&self)
         ensures replay { IsReplayed self.now.book }
         ensures sound { IsSound self.now.book }

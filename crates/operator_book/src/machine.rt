@@ -41,7 +41,8 @@ impl Model for Machine {
     ghost invariant = { λ m. IsMachine m.consts m.row m.flows m.kept };
 }
 
-/// The outputs of an action for the caller and, where they are told twice, once more: for the history.
+/// The outputs of an action for the caller and, where they are reported twice, once more: for the
+/// history.
 #[derive(Drop)]
 pub(crate) struct Both {
     pub kept: Vec<Output>,
@@ -50,7 +51,7 @@ pub(crate) struct Both {
     pub ghost same: { twice ≡ true → kept.items ≡ told.items },
 }
 
-/// Nothing is put out.
+/// Returns the outputs of an action that outputs nothing.
 pub(crate) fn nothing(alloc: Global, twice: bool) -> Both
     ensures told { result.told.items ≡ [] }
     ensures twice { result.twice ≡ twice }
@@ -62,7 +63,7 @@ pub(crate) fn nothing(alloc: Global, twice: bool) -> Both
     }
 }
 
-/// One output.
+/// Returns a list of one output.
 #[inline(always)]
 fn single(alloc: Global, output: Output) -> Result<Vec<Output>, AllocError>
     ensures { IfOk result (λ outputs. outputs.items ≡ output ∷ []) }
@@ -72,7 +73,7 @@ fn single(alloc: Global, output: Output) -> Result<Vec<Output>, AllocError>
     Ok(outputs)
 }
 
-/// No answer, where it is wanted.
+/// Returns no answer, where it is wanted.
 fn silence_if(
     alloc: Global,
     wanted: bool,
@@ -88,7 +89,7 @@ fn silence_if(
     }
 }
 
-/// No answer.
+/// Returns the output that says why there is no reply.
 #[inline(always)]
 pub(crate) fn silent(
     alloc: Global,
@@ -104,7 +105,7 @@ pub(crate) fn silent(
     Ok(Both { kept, told, twice })
 }
 
-/// A reply of these bytes.
+/// Returns a reply of these bytes.
 #[inline(always)]
 fn reply_of(alloc: Global, modem: Modem, reply: &Bytes) -> Result<Vec<Output>, AllocError>
     ensures { IfOk result (λ told. told.items ≡ outputs.Reply modem reply.now ∷ []) }
@@ -113,7 +114,7 @@ fn reply_of(alloc: Global, modem: Modem, reply: &Bytes) -> Result<Vec<Output>, A
     single(alloc, Output::Reply { modem, bytes })
 }
 
-/// A reply of these bytes, where it is wanted.
+/// Returns a reply of these bytes, where it is wanted.
 #[inline(always)]
 fn reply_if(
     alloc: Global,
@@ -130,7 +131,7 @@ fn reply_if(
     }
 }
 
-/// Tells a reply of these bytes.
+/// Returns the output of a reply of these bytes.
 #[inline(always)]
 pub(crate) fn answer(
     alloc: Global,

@@ -17,7 +17,8 @@ use std::alloc::{AllocError, Global};
 use std::collections::VecDeque;
 use transactions::Kept;
 
-/// The SID of a flow that is opened with these sets: the least free one where a set is admitted.
+/// Returns the SID of a flow that is opened with these sets: the least free one where a set is
+/// admitted.
 fn sid_for(row: &OperatorRow, flows: &Flows, sets: Sets) -> Option<u16>
     ensures value { result ≡ sid_for row.now flows.now.flows sets }
     ensures free { IfSome result (IsLeastFree row.now.sids (sids_of flows.now.flows)) }
@@ -31,7 +32,7 @@ fn sid_for(row: &OperatorRow, flows: &Flows, sets: Sets) -> Option<u16>
     }
 }
 
-/// A provisioned flow as it is opened in this frame.
+/// Returns a provisioned flow as it is opened in this frame.
 fn opened_flow(frame: u32, modem: Modem, sid: Option<u16>, sets: Sets) -> Flow
     ensures { result ≡ opened_flow frame (record { modem = modem; sid = sid; sets = sets }) }
 {
@@ -46,7 +47,7 @@ fn opened_flow(frame: u32, modem: Modem, sid: Option<u16>, sets: Sets) -> Flow
     }
 }
 
-/// One provisioned flow more, under the least free SFID.
+/// Returns one provisioned flow more, under the least free SFID.
 #[tactic(auto, using(crate::proofs::Room::longer), unfolding(crate::specs::Opening::put_provision))]
 fn put_provision(
     consts: &Consts,
@@ -77,7 +78,7 @@ fn put_provision(
     Ok(())
 }
 
-/// The provisioned flows, in the file's order.
+/// Returns the provisioned flows, in the file's order.
 fn put_provisions(consts: &Consts, row: &OperatorRow, flows: &mut Flows) -> Result<(), AllocError>
     requires none { flows.old.flows ≡ [] }
     requires fits { length row.now.provisions ≤ flows.old.capacity }
@@ -90,7 +91,7 @@ fn put_provisions(consts: &Consts, row: &OperatorRow, flows: &mut Flows) -> Resu
     Ok(())
 }
 
-/// The flows of an operator as it is opened: its provisioned ones.
+/// Returns the flows of an operator as it is opened: its provisioned ones.
 fn flows_of(alloc: Global, row: &OperatorRow, consts: &Consts) -> Result<Flows, AllocError>
     requires { IsRowOf consts.now row.now }
     ensures { IfOk result (λ flows. flows ≡ record {
@@ -109,7 +110,7 @@ fn flows_of(alloc: Global, row: &OperatorRow, consts: &Consts) -> Result<Flows, 
 }
 
 impl Machine {
-    /// The machine of an operator as it is opened: its provisioned flows, and nothing else.
+    /// Returns the machine of an operator as it is opened: its provisioned flows, and nothing else.
     #[tactic(auto, using(crate::proofs::Opens::provisions_open))]
     pub(crate) fn open(
         alloc: Global,

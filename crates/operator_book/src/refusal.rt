@@ -12,7 +12,7 @@ use dsx_messages::{Code, Detail, FlowId, Kind, Reply, ReplyFields};
 use operator_model::Transaction;
 use tlv24::{FlowTlv, TlvFault};
 
-/// A refusal that names nothing.
+/// Returns a refusal that names nothing.
 #[tactic(auto, using(crate::proofs::Replies::refuses))]
 pub(crate) fn refusal(kind: Kind, tid: u16, code: Code) -> Reply
     requires { code ≢ Okay }
@@ -26,7 +26,7 @@ pub(crate) fn refusal(kind: Kind, tid: u16, code: Code) -> Reply
     })
 }
 
-/// How a request of this kind names the flow of an encoding.
+/// Returns how a request of this kind names the flow of an encoding.
 fn id_of(kind: Kind, flow: &FlowTlv) -> Option<FlowId>
     ensures value { result ≡ id_of kind flow.now }
     ensures names { IfSome result (Names kind) }
@@ -38,7 +38,7 @@ fn id_of(kind: Kind, flow: &FlowTlv) -> Option<FlowId>
     }
 }
 
-/// A refusal that names an identifier and a subtype.
+/// Returns a refusal that names an identifier and a subtype.
 #[tactic(auto, using(crate::proofs::Replies::refuses_naming))]
 pub(crate) fn naming(kind: Kind, tid: u16, code: Code, id: Option<FlowId>, subtype: u8) -> Reply
     requires kind { kind ≢ Dsd }
@@ -54,7 +54,7 @@ pub(crate) fn naming(kind: Kind, tid: u16, code: Code, id: Option<FlowId>, subty
     })
 }
 
-/// A refusal that names an encoding and one of its subtypes.
+/// Returns a refusal that names an encoding and one of its subtypes.
 pub(crate) fn refusal_naming(t: Transaction, code: Code, flow: &FlowTlv, subtype: u8) -> Reply
     requires kind { t.kind ≢ Dsd }
     requires code { code ≢ Okay }
@@ -63,7 +63,7 @@ pub(crate) fn refusal_naming(t: Transaction, code: Code, flow: &FlowTlv, subtype
     naming(t.kind, t.tid, code, id_of(t.kind, flow), subtype)
 }
 
-/// A refusal of what could not be read.
+/// Returns a refusal of what could not be read.
 pub(crate) fn errored(kind: Kind, tid: u16, id: Option<FlowId>, fault: TlvFault) -> Reply
     requires kind { kind ≢ Dsd }
     requires names { IfSome id (Names kind) }

@@ -9,7 +9,8 @@ use operator_model::{NextShare, Share, SliceRow, Unfit};
 use slice_scheduler::Slice;
 
 impl Machine {
-    /// Whether an offered slice has no minislot, begins within the head, or ends behind the frame.
+    /// Returns whether an offered slice has no minislot, begins within the head, or ends after the
+    /// frame.
     fn is_off_frame(&self, row: SliceRow) -> bool
         ensures { result ≡ is_off_frame self.now.consts row }
     {
@@ -19,7 +20,7 @@ impl Machine {
             || u32::from(row.start) + u32::from(row.length) > u32::from(channel.frame_minislots)
     }
 
-    /// Why an offered slice cannot be taken from this frame on.
+    /// Returns why an offered slice cannot be taken from this frame on.
     pub(crate) fn unfit_from(&self, from: u32, row: SliceRow) -> Option<Unfit>
         ensures { result ≡ unfit_from self.now.consts self.now.state from row }
     {

@@ -29,7 +29,7 @@ impl Model for StateView {
     ghost view = { λ s. record { flows = s.flows.items; kept = s.kept.items; inbox = s.inbox.items; frame = s.frame; share = s.share; next = s.next } };
 }
 
-/// A copy of what is kept.
+/// Returns a copy of what is kept.
 fn kept_copy(alloc: Global, kept: &[KeptEntry]) -> Result<Vec<KeptEntry>, AllocError>
     ensures { IfOk result (λ copies. copies.items ≡ kept.now) }
 {
@@ -40,7 +40,7 @@ fn kept_copy(alloc: Global, kept: &[KeptEntry]) -> Result<Vec<KeptEntry>, AllocE
     Ok(copies)
 }
 
-/// A copy of what was heard.
+/// Returns a copy of what was received.
 fn inbox_copy(alloc: Global, inbox: &VecDeque<Arrival>) -> Result<Vec<Arrival>, AllocError>
     ensures { IfOk result (λ copies. copies.items ≡ inbox.now.items) }
 {
@@ -52,7 +52,7 @@ fn inbox_copy(alloc: Global, inbox: &VecDeque<Arrival>) -> Result<Vec<Arrival>, 
 }
 
 impl Machine {
-    /// A copy of the state.
+    /// Returns a copy of the state.
     pub(crate) fn state_view(&self, alloc: Global) -> Result<StateView, AllocError>
         ensures { IfOk result (λ view. view ≡ self.now.state) }
     {
@@ -71,42 +71,42 @@ impl Machine {
 }
 
 impl StateView {
-    /// The flows under their SFIDs, ascending.
+    /// Returns the flows under their SFIDs, ascending.
     pub fn flows(&self) -> &[(u32, Flow)]
         ensures { result.now ≡ self.now.flows }
     {
         self.flows.as_slice()
     }
 
-    /// The responses that are kept, in the order in which their transactions began.
+    /// Returns the responses that are kept, in the order in which their transactions began.
     pub fn kept(&self) -> &[KeptEntry]
         ensures { result.now ≡ self.now.kept }
     {
         self.kept.as_slice()
     }
 
-    /// What was heard and not handled, in order.
+    /// Returns what was received and not handled, in order.
     pub fn inbox(&self) -> &[Arrival]
         ensures { result.now ≡ self.now.inbox }
     {
         self.inbox.as_slice()
     }
 
-    /// The number of the next frame.
+    /// Returns the number of the next frame.
     pub fn frame(&self) -> u32
         ensures { result ≡ self.now.frame }
     {
         self.frame
     }
 
-    /// The slice and the budget in force.
+    /// Returns the slice and the budget in force.
     pub fn share(&self) -> Share
         ensures { result ≡ self.now.share }
     {
         self.share
     }
 
-    /// Those that wait for their frame.
+    /// Returns those that wait for their frame.
     pub fn next(&self) -> Option<NextShare>
         ensures { result ≡ self.now.next }
     {

@@ -40,7 +40,7 @@ impl Machine {
         }
     }
 
-    /// Does an action that is not refused, of which what was heard is not copied.
+    /// Does an action that is not refused, of which what was received is not copied.
     #[tactic(auto, unfolding(operator_model::specs::Machine::own_step))]
     #[inline(always)]
     pub(crate) fn step_with(

@@ -11,7 +11,7 @@ ghost use Rattle.operator_book.specs.Running.{with_flows, with_change, elements_
 use crate::machine::{Both, Machine};
 use grant_policy::Ranking;
 use operator_model::{Output, given_up_have_no_grants, schedule_can_serve};
-use slice_scheduler::{At, Elements, Grants, Served, schedule};
+use slice_scheduler::{At, AtFields, Elements, Grants, Served, schedule};
 use std::alloc::{AllocError, Global};
 use transactions::{GivenUp, GivenUps, Resends, Ticked};
 
@@ -26,14 +26,14 @@ struct FramePlan {
     granted: Grants,
 }
 
-/// Room for the outputs of a tick, told twice.
+/// Room for the outputs of a tick, for two copies.
 #[derive(Drop)]
 struct Rooms {
     kept: Vec<Output>,
     told: Vec<Output>,
 }
 
-/// Room for so many outputs and one more, twice.
+/// Makes room for so many outputs and one more, twice.
 fn rooms_for(alloc: Global, count: usize) -> Result<Rooms, AllocError>
     requires { count ≤ 4294967295 }
     ensures kept { IfOk result (λ rooms. (rooms.kept.items ≡ []) × (count + 1 ≤ vec_capacity rooms.kept)) }
@@ -44,7 +44,7 @@ fn rooms_for(alloc: Global, count: usize) -> Result<Rooms, AllocError>
     Ok(Rooms { kept, told })
 }
 
-/// The outputs of a tick, in room that is there: what is sent again, then the frame.
+/// Returns the outputs of a tick, in room that is there: what is retransmitted, then the frame.
 fn frame_outputs(
     room: Vec<Output>,
     resends: Resends,
@@ -67,7 +67,8 @@ fn frame_outputs(
 }
 
 impl Machine {
-    /// The schedule of the frame. What is given up has no grants, so that it may be scheduled before anything is undone.
+    /// Returns the schedule of the frame. What is abandoned has no grants, so that it may be
+    /// scheduled before anything is undone.
     fn served(&self, alloc: Global, ranking: &Ranking) -> Result<Served, AllocError>
         requires sound { IsSound self.now }
         requires policy { ranking.now.policy ≡ self.now.row.policy }
@@ -78,17 +79,17 @@ impl Machine {
         given_up_have_no_grants();
         let consts = self.consts.get_fields();
         let flowing = self.flows.flowing(alloc)?;
-        let at = At {
+        let at = At::new(AtFields {
             slice: self.share.slice,
             frame: self.frame,
             short_max: consts.short_max,
             units: consts.units,
-        };
+        });
         let served = schedule(alloc, flowing.as_slice(), &at, ranking)?;
         Ok(served)
     }
 
-    /// Undoes what is given up, in order.
+    /// Undoes what is abandoned, in order.
     fn undo_all(&mut self, given_up: &[GivenUp])
         ensures { self.new ≡ with_flows self.old (all_undone given_up.now self.old.state.flows) }
     {
@@ -135,7 +136,7 @@ impl Machine {
         }
     }
 
-    /// What the frame gives out, its elements twice.
+    /// Returns what the frame gives out, its elements twice.
     fn frame_plan(&self, alloc: Global, ranking: &Ranking) -> Result<FramePlan, AllocError>
         requires sound { IsSound self.now }
         requires policy { ranking.now.policy ≡ self.now.row.policy }
@@ -152,7 +153,7 @@ impl Machine {
         })
     }
 
-    /// Undoes what is given up, takes the grants off the backlogs, and goes on to the next frame.
+    /// Undoes what is abandoned, takes the grants off the backlogs, and goes on to the next frame.
     fn pass_frame(&mut self, given_up: GivenUps, granted: Grants)
         requires { self.old.state.frame < 4294967295 }
         ensures { self.new ≡ record self.old {
@@ -169,7 +170,8 @@ impl Machine {
         self.go_on();
     }
 
-    /// Counts the timers one tick on, gives out the frame, and goes on to the next. What it puts out is told twice in any case.
+    /// Counts the timers one tick on, gives out the frame, and goes on to the next. What it outputs
+    /// is reported twice in any case.
     pub(crate) fn tick(
         &mut self,
         alloc: Global,

@@ -20,7 +20,7 @@ use param_sets::Sets;
 use std::alloc::{AllocError, Global};
 use tlv24::FlowTlv;
 
-/// There is no room for what is asked.
+/// Returns the refusal of a request for which there is no room.
 fn no_room(kind: Kind, tid: u16) -> Verdict
     ensures { result ≡ no_room kind tid }
 {
@@ -29,7 +29,7 @@ fn no_room(kind: Kind, tid: u16) -> Verdict
     }
 }
 
-/// A flow that was added in this frame, and waits.
+/// Returns a flow that was added in this frame, and waits.
 fn new_flow(modem: Modem, frame: u32, sets: Sets, sid: u16) -> Flow
     ensures { result ≡ new_flow modem frame sets sid }
 {
@@ -47,7 +47,7 @@ fn new_flow(modem: Modem, frame: u32, sets: Sets, sid: u16) -> Flow
     }
 }
 
-/// The reply to an addition that is accepted.
+/// Returns the reply to an addition that is accepted.
 fn added_reply(tid: u16, reference: u16, sfid: u32, sid: u16) -> Reply
     requires { sid ≤ 8191 }
     ensures { result ≡ added_reply tid reference sfid sid }
@@ -64,7 +64,7 @@ fn added_reply(tid: u16, reference: u16, sfid: u32, sid: u16) -> Reply
     })
 }
 
-/// A flow of which a change waits.
+/// Returns a flow of which a change waits.
 fn changed_flow(change: &Change, sid: Option<u16>, sid_is_new: bool) -> Flow
     ensures { result ≡ changed_flow change.now sid sid_is_new }
 {
@@ -78,7 +78,7 @@ fn changed_flow(change: &Change, sid: Option<u16>, sid_is_new: bool) -> Flow
     }
 }
 
-/// The reply to a change that is accepted.
+/// Returns the reply to a change that is accepted.
 fn changed_reply(tid: u16, sfid: u32, sets: Sets, sid: Option<u16>) -> Reply
     requires { IfSome sid (λ n. n ≤ 8191) }
     ensures { result ≡ changed_reply tid sfid sets sid }
@@ -100,7 +100,7 @@ fn changed_reply(tid: u16, sfid: u32, sets: Sets, sid: Option<u16>) -> Reply
     })
 }
 
-/// Whether a change needs a SID that the flow has not.
+/// Returns whether a change needs a SID that the flow has not.
 fn wants_sid(change: &Change) -> bool
     ensures { result ≡ wants_sid change.now }
 {
@@ -108,7 +108,8 @@ fn wants_sid(change: &Change) -> bool
 }
 
 impl Machine {
-    /// What may be committed: the budget in force, and while another waits the smaller of the two; and the quota of elements.
+    /// Returns what may be committed: the budget in force, and while another waits the smaller of
+    /// the two; and the quota of elements.
     fn limit(&self) -> Budget
         ensures { result ≡ limit_of self.now.row self.now.state }
     {
@@ -122,7 +123,7 @@ impl Machine {
         }
     }
 
-    /// A number of the row's range as a SID.
+    /// Returns a number of the row's range as a SID.
     fn sid_of(&self, number: u32) -> u16
         requires { number ≤ self.now.row.sids.last }
         ensures value { result ≡ number }
@@ -132,7 +133,8 @@ impl Machine {
         number as u16
     }
 
-    /// A flow that is put under an SFID, unless more would be committed with it than may be.
+    /// Returns a flow that is put under an SFID, unless more would be committed with it than may
+    /// be.
     #[inline(always)]
     fn put_within_limit(
         &self,
@@ -156,7 +158,7 @@ impl Machine {
         }
     }
 
-    /// An addition, where there is room for it.
+    /// Returns an addition, where there is room for it.
     #[tactic(auto, unfolding(operator_model::specs::Verdict::added))]
     #[inline(always)]
     fn added(&self, modem: Modem, tid: u16, addition: &Addition) -> Verdict
@@ -172,7 +174,7 @@ impl Machine {
         self.added_under(modem, tid, addition, sfid, sid)
     }
 
-    /// An addition under identifiers that are free.
+    /// Returns an addition under identifiers that are free.
     #[inline(always)]
     fn added_under(
         &self,
@@ -197,7 +199,7 @@ impl Machine {
         self.put_within_limit(Kind::Dsa, tid, sfid, &flow, reply)
     }
 
-    /// A change of a flow to this SID, where there is room for it.
+    /// Returns a change of a flow to this SID, where there is room for it.
     fn changed_with(&self, tid: u16, change: &Change, sid: Option<u16>, sid_is_new: bool) -> Verdict
         requires stands { MayStand (table_of self.now) change.now.sfid (changed_flow change.now sid sid_is_new) }
         requires range { IfSome sid (λ n. n ≤ 8191) }
@@ -209,7 +211,7 @@ impl Machine {
         self.put_within_limit(Kind::Dsc, tid, change.sfid, &flow, reply)
     }
 
-    /// A change, where there is room for it.
+    /// Returns a change, where there is room for it.
     #[tactic(auto, unfolding(operator_model::specs::Verdict::changed))]
     fn changed(&self, tid: u16, change: &Change) -> Verdict
         requires there { flow_at change.now.sfid self.now.state.flows ≡ Some change.now.flow }
@@ -227,7 +229,7 @@ impl Machine {
         }
     }
 
-    /// What becomes of an addition.
+    /// Returns what becomes of an addition.
     #[inline(always)]
     fn addition_verdict(&self, modem: Modem, tid: u16, encodings: &[FlowTlv]) -> Verdict
         ensures value { result ≡ addition_verdict self.now modem tid encodings.now }
@@ -244,7 +246,7 @@ impl Machine {
         }
     }
 
-    /// What becomes of a change.
+    /// Returns what becomes of a change.
     fn change_verdict(&self, modem: Modem, tid: u16, encodings: &[FlowTlv]) -> Verdict
         requires { HasOwnSids self.now }
         ensures value { result ≡ change_verdict self.now modem tid encodings.now }
@@ -264,7 +266,7 @@ impl Machine {
         }
     }
 
-    /// What becomes of a deletion.
+    /// Returns what becomes of a deletion.
     fn deletion_verdict(&self, modem: Modem, tid: u16, sfid: u32) -> Verdict
         ensures { result ≡ deletion_verdict tid sfid
             (free_flow (transaction modem Dsd tid) (flow_at sfid self.now.state.flows)) }
@@ -288,7 +290,8 @@ impl Machine {
         }
     }
 
-    /// What becomes of a request whose transaction is new: the first check of the table that holds decides.
+    /// Returns what becomes of a request whose transaction is new: the first check of the table
+    /// that holds decides.
     #[tactic(auto, unfolding(operator_model::specs::Verdict::verdict))]
     #[inline(always)]
     pub(crate) fn verdict(&self, modem: Modem, request: &Request) -> Verdict

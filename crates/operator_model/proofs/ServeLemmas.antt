@@ -12,7 +12,7 @@ use Rattle.admission.specs.declared.budget.Budget.{Budget}
 use Rattle.param_sets.specs.Units.{UnitSizes}
 use Rattle.param_sets.specs.Need.{need_of, need_if}
 use Rattle.param_sets.specs.declared.param_set.ParamFields.{ParamFields}
-use Rattle.slice_scheduler.specs.declared.flowing.At.{At}
+use Rattle.slice_scheduler.specs.declared.flowing.AtFields.{AtFields}
 use Rattle.slice_scheduler.specs.declared.flowing.Flowing.{Flowing}
 use Rattle.slice_scheduler.specs.Servable.{SfidsAscend, IsPast, needed, elements_needed}
 use Rattle.flow_table.specs.declared.flow.Flow.{Flow}
@@ -67,7 +67,7 @@ needs_less units frame flow sound =
     record { minislots = omega (arith, less.minislots); elements = omega (arith, less.elements) }
 
 -- of a part of what is needed and committed
-module _ (part : Budget → ℕ) (rises : (a b : Budget) → AtMost a b → part a ≤ part b) (at : At) where
+module _ (part : Budget → ℕ) (rises : (a b : Budget) → AtMost a b → part a ≤ part b) (at : AtFields) where
   part_within : (flows : List (ℕ × Flow)) → All (IsSoundFlow at.frame) (values_of flows) → sum_by (λ (f : Flowing). part (need_of f.set at.units)) (flowing_in flows) ≤ sum_by (λ entry. part (committed_of at.units entry.1)) flows
   part_within [] a = omega arith
   part_within (e ∷ flows) a =
@@ -82,10 +82,10 @@ module _ (part : Budget → ℕ) (rises : (a b : Budget) → AtMost a b → part
       by None = omega arith
       by (Some set) = omega (arith, sum_by-cons (λ (f : Flowing). part (need_of f.set at.units)) (served e set) (flowing_in flows))
 
-within : (at : At) (flows : List (ℕ × Flow)) → All (IsSoundFlow at.frame) (values_of flows) → needed at (flowing_in flows) ≤ committed_minislots at.units flows
+within : (at : AtFields) (flows : List (ℕ × Flow)) → All (IsSoundFlow at.frame) (values_of flows) → needed at (flowing_in flows) ≤ committed_minislots at.units flows
 within at flows each = part_within (λ b. b.minislots) (λ a b h. h.minislots) at flows each
 
-pub elements_within : (at : At) (flows : List (ℕ × Flow)) → All (IsSoundFlow at.frame) (values_of flows) → elements_needed at (flowing_in flows) ≤ committed_elements at.units flows
+pub elements_within : (at : AtFields) (flows : List (ℕ × Flow)) → All (IsSoundFlow at.frame) (values_of flows) → elements_needed at (flowing_in flows) ≤ committed_elements at.units flows
 elements_within at flows each = part_within (λ b. b.elements) (λ a b h. h.elements) at flows each
 
 -- ---- what a schedule asks for

@@ -1,5 +1,5 @@
 -- What the encodings of a request ask for: the checks that ask for no room (CM-SP-MULPIv3.1, 11.2.2 and 11.2.3; which case
--- gets which code is own).
+-- gets which code is implementation-specific).
 use Rattle.std.specs.Prelude.{◌==◌, ◌&&◌, ◌||◌, ℕ, Bool, true, false, not, List, [], ◌∷◌, find, Option, Some, None, Result, Ok, Err, is_some, is_none, if◌then◌else◌}
 use Rattle.std.specs.Option.{option_map}
 use Rattle.std.specs.List.{list_all}
@@ -62,7 +62,7 @@ abbrev pub stated : {X : Type 0} → Option X → ReplyFields → Result X Reply
 stated None reply = Err reply
 stated (Some x) reply = Ok x
 
--- ---- checks 5 to 8: which encodings stand together
+-- ---- checks 5 to 8: which encodings are together
 
 -- the identifier as a number
 abbrev pub number_in : Kind → FlowFields → Option ℕ
@@ -85,7 +85,7 @@ stand_together (flow ∷ []) = true
 stand_together (a ∷ b ∷ []) = (has_set_type 2 a && has_set_type 4 b) || (has_set_type 4 a && has_set_type 2 b)
 stand_together flows = false
 
--- the first of the encodings: there is none; their identifiers differ; they do not stand together
+-- the first of the encodings: there is none; their identifiers differ; they may not be together
 abbrev pub first_of : Transaction → List FlowFields → Result FlowFields ReplyFields
 first_of t [] = Err (refusal t.kind t.tid codes.RejectRequiredParameterNotPresent)
 first_of t (first ∷ others) =

@@ -1,10 +1,10 @@
 -- What a tick does: the timers, the frame, and the share that waits for the next one (CM-SP-MULPIv3.1, 7.2 and 11.2; the
--- schedule and the counting in ticks are own).
+-- schedule and the counting in ticks are implementation-specific).
 use Rattle.std.specs.Prelude.{◌==◌, ℕ, ◌+◌, List, [], ◌∷◌, ◌++◌, map, Option, Some, None, if◌then◌else◌}
 use Rattle.transactions.specs.declared.tick.Resend.{Resend}
 use Rattle.transactions.specs.declared.tick.GivenUp.{GivenUp}
 use Rattle.transactions.specs.Timers.{resent_in, given_up_in, kept_after}
-use Rattle.slice_scheduler.specs.declared.flowing.At.{At}
+use Rattle.slice_scheduler.specs.declared.flowing.AtFields.{AtFields}
 use Rattle.slice_scheduler.specs.declared.elements.ElementsFields.{ElementsFields}
 use Rattle.slice_scheduler.specs.Schedule.{elements_of, granted_of}
 use Rattle.plant.specs.declared.consts.ConstsFields.{ConstsFields}
@@ -23,7 +23,7 @@ use Rattle.operator_model.specs.Handle.{StepResult, change_at, undone}
 abbrev pub resent : Resend → Output
 resent resend = outputs.Reply resend.modem resend.reply
 
--- each transaction that is given up is undone, in order
+-- each transaction that is abandoned is undone, in order
 abbrev pub all_undone : List GivenUp → List (ℕ × Flow) → List (ℕ × Flow)
 all_undone [] flows = flows
 all_undone (g ∷ given_up) flows = all_undone given_up (undone g.kind g.sfid flows)
@@ -31,7 +31,7 @@ all_undone (g ∷ given_up) flows = all_undone given_up (undone g.kind g.sfid fl
 -- ---- the frame
 
 -- the frame that is scheduled, in the slice in force
-abbrev pub at_frame : ConstsFields → OperatorState → At
+abbrev pub at_frame : ConstsFields → OperatorState → AtFields
 at_frame consts state = record { slice = state.share.slice; frame = state.frame; short_max = consts.short_max; units = consts.units }
 
 -- each grant lowers its flow's backlog
@@ -52,11 +52,11 @@ next_at frame (Some next) = if next.from == frame then None else Some next
 
 -- ---- the tick
 
--- the flows once what is given up is undone
+-- the flows once what is abandoned is undone
 abbrev pub flows_left : OperatorState → List (ℕ × Flow)
 flows_left state = all_undone (given_up_in state.kept) state.flows
 
--- the elements that a tick puts out: the frame, scheduled over the flows that are left
+-- the elements that a tick outputs: the frame, scheduled over the flows that are left
 abbrev pub frame_elements : Operator → ElementsFields
 frame_elements op = elements_of op.row.policy (at_frame op.consts op.state) (flowing_in (flows_left op.state))
 

@@ -1,4 +1,4 @@
--- The frames that are put out, by their numbers (own).
+-- The frames that are output, by their numbers (implementation-specific).
 use Rattle.std.specs.Prelude.{◌≡◌, ◌+◌, ℕ, Bool, true, false, List, filter_map, count_by, Option, Some, None}
 use Rattle.std.specs.List.{range_with_len}
 use Rattle.operator_model.specs.declared.action.Action.{Action}
@@ -14,7 +14,7 @@ frame_of (outputs.Reply modem bytes) = None
 frame_of (outputs.Silent modem cause) = None
 frame_of (outputs.Frame number elements) = Some number
 
--- the numbers of the frames that are put out, in order
+-- the numbers of the frames that are output, in order
 abbrev pub frames_in : List Output → List ℕ
 frames_in outputs = filter_map frame_of outputs
 
@@ -24,7 +24,7 @@ is_tick Work = false
 is_tick Tick = true
 is_tick (Reslice from slice_row) = false
 
--- a run puts out a frame for each tick, numbered from the state's frame number on, in order and with no gap
+-- a run outputs a frame for each tick, numbered from the state's frame number on, in order and with no gap
 abbrev pub FramesHaveNoGap : Type 0
 FramesHaveNoGap = (op : Operator) (actions : List Action)
     → frames_in (own_run op actions).outputs ≡ range_with_len op.state.frame (count_by is_tick actions)

@@ -1,4 +1,4 @@
--- How what was heard is handled (CM-SP-MULPIv3.1, 7.2 and 11.2; the kept responses are own).
+-- How what was received is handled (CM-SP-MULPIv3.1, 7.2 and 11.2; the cached responses are implementation-specific).
 use Rattle.std.specs.Prelude.{◌==◌, ℕ, Bool, true, false, not, List, [], ◌∷◌, ◌++◌, map, length, find, nat_le, Option, Some, None, Result, Ok, Err, if◌then◌else◌}
 use Rattle.std.specs.Option.{option_map}
 use Rattle.std.specs.Ordering.{nat_cmp}
@@ -38,7 +38,7 @@ use Rattle.operator_model.specs.State.{OperatorState, Operator}
 use Rattle.operator_model.specs.Asked.{refusal}
 use Rattle.operator_model.specs.Verdict.{verdict, errored}
 
--- a state, and what was put out on the way to it
+-- a state, and what was output on the way to it
 pub record StepResult : Type 0 where
   pub state : OperatorState
   pub outputs : List Output
@@ -95,7 +95,7 @@ does_wait (Refused reply) = false
 does_wait (Put sfid flow reply) = true
 does_wait (Deleted sfid reply) = false
 
--- the verdict is carried out, and its reply is told and kept
+-- the verdict is carried out, and its reply is reported and kept
 abbrev pub carried_out : ConstsFields → OperatorState → Modem → Kind → ℕ → Verdict → StepResult
 carried_out consts state modem kind tid v = record {
   state = record state {
@@ -109,7 +109,7 @@ carried_out consts state modem kind tid v = record {
 abbrev pub is_of_cmts : ℕ → Bool
 is_of_cmts tid = nat_le 32768 tid
 
--- a request that is repeated gets the kept reply again; another kind under its transaction ID gets no answer
+-- a request that is repeated gets the cached reply again; another kind under its transaction ID gets no answer
 abbrev pub repeated : OperatorState → Modem → Kind → KeptEntry → StepResult
 repeated state modem kind entry = if same_kind entry.kind kind then told state modem entry.reply else silent state modem causes.TidInUse
 
@@ -181,7 +181,7 @@ asked_of_flow state modem minislots (Some entry) =
     if not (asks_for_grants entry.1.sets.active) then silent state modem causes.NotRequesting else
     record { state = record state { flows = with_flow entry.0 (requested minislots state.frame entry.1) state.flows }; outputs = [] }
 
--- ---- what was heard
+-- ---- what was received
 
 abbrev pub handle : Operator → Modem → Heard → StepResult
 handle op modem (heards.Message bytes) = message_handled op modem (message_of bytes)

@@ -1,4 +1,4 @@
--- One operator's own machine: what each action makes of its state, what it puts out, and which actions are refused (own).
+-- One operator's own machine: what each action makes of its state, what it outputs, and which actions are refused (implementation-specific).
 use Rattle.std.specs.Prelude.{◌≡◌, ◌==◌, ◌||◌, ◌+◌, ℕ, Bool, false, List, [], ◌∷◌, ◌++◌, length, nat_le, nat_lt, is_some, Option, Some, None, if◌then◌else◌}
 use Rattle.dsx_messages.specs.declared.modem.Modem.{Modem}
 use Rattle.plant.specs.declared.consts.ConstsFields.{ConstsFields}
@@ -66,7 +66,7 @@ is_spent state Work = false
 is_spent state Tick = state.frame == 4294967295
 is_spent state (Reslice from slice_row) = false
 
--- a slice has no minislot, begins within the head, or ends behind the frame
+-- a slice has no minislot, begins within the head, or ends after the frame
 abbrev pub is_off_frame : ConstsFields → SliceRow → Bool
 is_off_frame consts row = (row.length == 0) || nat_lt row.start consts.channel.head || nat_lt consts.channel.frame_minislots (row.start + row.length)
 

@@ -1,4 +1,4 @@
--- What an operator puts into a frame's MAP (own).
+-- What an operator puts into a frame's MAP (implementation-specific).
 use Rattle.std.specs.Prelude.{ℕ, ◌==◌, ◌&&◌, ◌||◌, nat_le, Bool}
 use Rattle.admission.specs.Free.{Numbers}
 

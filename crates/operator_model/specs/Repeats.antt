@@ -8,7 +8,7 @@ use Rattle.operator_model.specs.State.{Operator}
 use Rattle.operator_model.specs.declared.verdict.Verdict.{Verdict}
 use Rattle.operator_model.specs.Handle.{transacted, told}
 
--- where a response is kept of a modem's transaction, another request of that kind under its ID gets the kept reply, and leaves the
+-- where a response is kept of a modem's transaction, another request of that kind under its ID gets the cached reply, and leaves the
 -- state as it is, whatever would be said of it anew
 abbrev pub RepeatsChangeNothing : Type 0
 RepeatsChangeNothing = (op : Operator) (modem : Modem) (kind : Kind) (tid : ℕ) (v : Verdict) (entry : KeptEntry)

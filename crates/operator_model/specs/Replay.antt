@@ -1,4 +1,4 @@
--- A history, and the state that it is the replay of (own).
+-- A history, and the state that it is the replay of (implementation-specific).
 use Rattle.std.specs.Prelude.{◌≡◌, List, [], ◌∷◌, ◌++◌, map}
 use Rattle.plant.specs.declared.consts.ConstsFields.{ConstsFields}
 use Rattle.plant.specs.declared.operator_row.RowFields.{RowFields}

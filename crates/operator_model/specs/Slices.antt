@@ -1,4 +1,4 @@
--- Which slice each frame of a run has (own).
+-- Which slice each frame of a run has (implementation-specific).
 use Rattle.std.specs.Prelude.{◌≡◌, ℕ, nat_le, List, [], ◌∷◌, ◌++◌, All, filter_map, find, reverse, Option, Some, None}
 use Rattle.slice_scheduler.specs.Minislots.{Minislots}
 use Rattle.operator_model.specs.declared.action.Action.{Action}
@@ -19,14 +19,14 @@ pub record SliceFrom : Type 0 where
   pub from : ℕ
   pub slice : Minislots
 
--- that of a re-slicing
+-- that of a slice change
 abbrev pub slice_from : Action → Option SliceFrom
 slice_from (Arrive modem heard) = None
 slice_from Work = None
 slice_from Tick = None
 slice_from (Reslice from row) = Some (record { from = from; slice = record { start = row.start; length = row.length } })
 
--- the re-slicings of a run, in order
+-- the slice changes of a run, in order
 abbrev pub reslicings_in : List Action → List SliceFrom
 reslicings_in actions = filter_map slice_from actions
 
@@ -34,11 +34,11 @@ abbrev pub slice_or : Minislots → Option SliceFrom → Minislots
 slice_or first None = first
 slice_or first (Some reslicing) = reslicing.slice
 
--- the slice of a frame: that of the newest re-slicing that is not from a later frame on, at first the row's
+-- the slice of a frame: that of the newest slice change that is not from a later frame on, at first the row's
 abbrev pub slice_at : Minislots → List SliceFrom → ℕ → Minislots
 slice_at first reslicings frame = slice_or first (find (λ r. nat_le r.from frame) (reverse reslicings))
 
--- the slice of a share that waits for its frame, as a re-slicing
+-- the slice of a share that waits for its frame, as a slice change
 abbrev pub waiting_slice : Option NextShare → List SliceFrom
 waiting_slice None = []
 waiting_slice (Some next) = record { from = next.from; slice = next.share.slice } ∷ []
@@ -47,7 +47,7 @@ waiting_slice (Some next) = record { from = next.from; slice = next.share.slice 
 abbrev pub slice_of_run : OperatorState → List Action → ℕ → Minislots
 slice_of_run state actions frame = slice_at state.share.slice (waiting_slice state.next ++ reslicings_in actions) frame
 
--- a frame that is put out is of the slice of its number
+-- a frame that is output is of the slice of its number
 abbrev pub IsOfItsSlice : (ℕ → Minislots) → Output → Type 0
 IsOfItsSlice slice (outputs.Reply modem bytes) = Unit {0}
 IsOfItsSlice slice (outputs.Silent modem cause) = Unit {0}
@@ -72,7 +72,7 @@ abbrev pub NextSliceFollowsItsState : Type 0
 NextSliceFollowsItsState = (op : Operator) (actions : List Action) → IsSound op → MayRun op actions
     → (own_run op actions).state.share.slice ≡ slice_of_run op.state actions (own_run op actions).state.frame
 
--- each frame that a run puts out is of the slice of its number
+-- each frame that a run outputs is of the slice of its number
 abbrev pub FramesHaveTheirSlices : Type 0
 FramesHaveTheirSlices = (consts : ConstsFields) (row : RowFields) (actions : List Action) → MayRun (started consts row) actions
     → All (IsOfItsSlice (slice_at row.slice (reslicings_in actions))) (own_run (started consts row) actions).outputs

@@ -1,4 +1,4 @@
--- What always holds of a machine's state (own).
+-- What always holds of a machine's state (implementation-specific).
 use Rattle.std.specs.Prelude.{◌≡◌, ℕ, ◌+◌, ◌<◌, ◌≤◌, true, false, List, length, All, AllPairs, None, IfSome, IsSome, ◌≢◌}
 use Rattle.std.specs.Ordering.{nat_cmp}
 use Rattle.std.specs.List.Sorted.{IsStrictlySortedBy}
@@ -72,7 +72,7 @@ HaveOwnFlows kept = AllPairs (λ a b. is_waiting a ≡ true → is_waiting b ≡
 
 -- ---- shares
 
--- a share lies behind the head and within the frame, and its budget is at most its slice
+-- a share lies after the head and within the frame, and its budget is at most its slice
 pub record IsShare (consts : ConstsFields) (share : Share) : Type 0 where
   pub some : 1 ≤ share.slice.length
   pub behind_head : consts.channel.head ≤ share.slice.start
@@ -94,7 +94,7 @@ pub record IsSound (op : Operator) : Type 0 where
   pub sids : All (IsIn op.row.sids) (sids_of op.state.flows)
   pub own_sids : HaveOwnSids op.state.flows
   pub flows : All (IsSoundFlow op.state.frame) (values_of op.state.flows)
-  -- flows, kept responses and inbox never pass the row's limits
+  -- flows, cached responses and inbox never pass the row's limits
   pub few_flows : length op.state.flows ≤ op.row.flows
   pub few_kept : length op.state.kept ≤ op.row.transactions
   pub few_heard : length op.state.inbox ≤ op.row.inbox

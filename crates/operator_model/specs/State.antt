@@ -1,4 +1,4 @@
--- What an operator's machine keeps (CM-SP-MULPIv3.1, 7.5 and 11.2; the tables are own).
+-- What an operator's machine keeps (CM-SP-MULPIv3.1, 7.5 and 11.2; the tables are implementation-specific).
 use Rattle.std.specs.Prelude.{ℕ, List, [], map, Option, None}
 use Rattle.transactions.specs.declared.entry.KeptEntry.{KeptEntry}
 use Rattle.plant.specs.declared.consts.ConstsFields.{ConstsFields}
@@ -14,7 +14,7 @@ pub record OperatorState : Type 0 where
   pub flows : List (ℕ × Flow)
   -- the responses that are kept, in the order in which their transactions began
   pub kept : List KeptEntry
-  -- what was heard and not handled, in order
+  -- what was received and not handled, in order
   pub inbox : List Arrival
   -- the number of the next frame
   pub frame : ℕ

@@ -1,5 +1,5 @@
 -- What becomes of a request: the rest of the table of checks, those that ask for room (CM-SP-MULPIv3.1, 11.2.2 and 11.2.3;
--- which case gets which code is own).
+-- which case gets which code is implementation-specific).
 use Rattle.std.specs.Prelude.{◌&&◌, ℕ, Bool, true, false, List, length, min, nat_le, nat_lt, Option, Some, None, Result, Ok, Err, is_some, is_none, if◌then◌else◌}
 use Rattle.tlv24.specs.declared.tlv.TlvFault.{TlvFault}
 use Rattle.tlv24.specs.declared.tlv.TlvFault.TheVariants as tlv_faults
@@ -74,7 +74,7 @@ added_under op modem tid addition (Some sfid) (Some sid) =
     within_limit Dsa tid op.consts.units (limit_of op.row op.state) (with_flow sfid (new_flow modem op.state.frame addition.sets sid) op.state.flows)
     (Put sfid (new_flow modem op.state.frame addition.sets sid) (added_reply tid addition.reference sfid sid))
 
--- as many flows stand as the row allows; else the flow gets the least free identifiers
+-- as many flows are as the row allows; else the flow gets the least free identifiers
 unfoldable pub added : Operator → Modem → ℕ → Addition → Verdict
 added op modem tid addition =
     if nat_le op.row.flows (length op.state.flows) then no_room Dsa tid else
@@ -86,7 +86,7 @@ added op modem tid addition =
 abbrev pub changed_flow : Change → Option ℕ → Bool → Flow
 changed_flow change sid sid_is_new = record change.flow { sid = sid; pending = Some (record { sets = change.sets; sid_is_new = sid_is_new }) }
 
--- the SID is told where a set is admitted
+-- the SID is reported where a set is admitted
 abbrev pub changed_reply : ℕ → ℕ → SetsFields → Option ℕ → ReplyFields
 changed_reply tid sfid sets sid = record { kind = Dsc; tid = tid; code = codes.Okay; detail = Given None sfid (if is_some sets.admitted then sid else None) }
 

@@ -1,4 +1,4 @@
--- A plant with one operator, worked through (own).
+-- A plant with one operator, worked through (implementation-specific).
 use Rattle.std.specs.Prelude.{codes, ℕ, ◌+◌, ◌-◌, ◌*◌, List, [], ◌∷◌, nat_lt, Some, None, if◌then◌else◌}
 use Rattle.tlv24.specs.declared.fields.FlowFields.{FlowFields}
 use Rattle.dsx_messages.specs.declared.modem.Modem.{Modem}
@@ -67,7 +67,7 @@ first_modem = record { 0 = 2 ∷ 0 ∷ 0 ∷ 0 ∷ 0 ∷ 1 ∷ [] }
 abbrev pub second_modem : Modem
 second_modem = record { 0 = 2 ∷ 0 ∷ 0 ∷ 0 ∷ 0 ∷ 2 ∷ [] }
 
--- the operator has the 32 minislots behind the head
+-- the operator has the 32 minislots after the head
 abbrev pub worked_row : RowFields
 worked_row = record {
   name = 65 ∷ [];
@@ -104,7 +104,7 @@ sent modem text = Arrive modem (Message (hex text)) ∷ Work ∷ []
 abbrev pub asked : Modem → ℕ → ℕ → List Action
 asked modem sid minislots = Arrive modem (Request sid minislots) ∷ Work ∷ []
 
--- a best-effort flow of reference 1 is added with its set admitted and active, and is told SFID 257 and SID 257; then the
+-- a best-effort flow of reference 1 is added with its set admitted and active, and is reported SFID 257 and SID 257; then the
 -- reply is acknowledged
 abbrev pub addition : List ℕ
 addition = codes "0F0001180A010200010601060F0102"

@@ -21,11 +21,11 @@ pub struct SliceRow {
 /// Why an offered slice cannot be taken, in the order tried.
 #[derive(Clone, Copy, Debug, PartialEq, Eq)]
 pub enum Unfit {
-    /// Its first frame is not behind the operator's frame number.
+    /// Its first frame is not after the operator's frame number.
     NotPast,
     /// An earlier one waits for its frame.
     Unfinished,
-    /// It has no minislot, begins within the head, or ends behind the frame.
+    /// It has no minislot, begins within the head, or ends after the frame.
     OffFrame,
     /// Its budget has more minislots than it.
     BudgetOverSlice,
@@ -36,7 +36,7 @@ pub enum Unfit {
 /// One step of an operator's machine.
 #[derive(Debug, Drop)]
 pub enum Action {
-    /// Puts what was heard of a modem at the end of the inbox.
+    /// Puts what was received of a modem at the end of the inbox.
     Arrive { modem: Modem, heard: Heard },
     /// Handles the first of the inbox.
     Work,
@@ -47,7 +47,7 @@ pub enum Action {
 }
 
 impl Action {
-    /// An equal value with bytes of its own.
+    /// Returns an equal value with bytes of its own.
     pub fn copy(&self, alloc: Global) -> Result<Action, AllocError>
         ensures { IfOk result (λ action. action ≡ self.now) }
     {
@@ -66,7 +66,7 @@ impl Action {
     }
 }
 
-/// An action that was done, and what it put out.
+/// An action that was done, and what it output.
 #[derive(Debug, Drop)]
 pub struct Entry {
     pub action: Action,

@@ -6,7 +6,8 @@ ghost use Rattle.operator_model.specs.Asked.{number_in, is_same, has_set_type, s
 use dsx_messages::Kind;
 use tlv24::FlowTlv;
 
-/// The identifier of an encoding as a number: the reference in an addition, the SFID in a change.
+/// Returns the identifier of an encoding as a number: the reference in an addition, the SFID in a
+/// change.
 pub fn number_in(kind: Kind, flow: &FlowTlv) -> Option<u32>
     ensures { result ≡ number_in kind flow.now }
 {
@@ -17,7 +18,7 @@ pub fn number_in(kind: Kind, flow: &FlowTlv) -> Option<u32>
     }
 }
 
-/// Whether two numbers are the same: two absent ones are.
+/// Returns whether two numbers are the same: two absent ones are.
 pub fn is_same(a: Option<u32>, b: Option<u32>) -> bool
     ensures { result ≡ is_same a b }
 {
@@ -28,7 +29,7 @@ pub fn is_same(a: Option<u32>, b: Option<u32>) -> bool
     }
 }
 
-/// Whether an encoding has this set type (CM-SP-MULPIv3.1, Annex C, subtype 6).
+/// Returns whether an encoding has this set type (CM-SP-MULPIv3.1, Annex C, subtype 6).
 pub fn has_set_type(number: u8, flow: &FlowTlv) -> bool
     ensures { result ≡ has_set_type number flow.now }
 {
@@ -38,7 +39,8 @@ pub fn has_set_type(number: u8, flow: &FlowTlv) -> bool
     }
 }
 
-/// Whether encodings may stand in one request: one alone, or two of which one admits and the other activates.
+/// Returns whether encodings may be in one request: one alone, or two of which one admits and the
+/// other activates.
 pub fn stand_together(encodings: &[FlowTlv]) -> bool
     ensures { result ≡ stand_together encodings.now }
 {

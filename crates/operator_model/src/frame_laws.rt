@@ -1,4 +1,4 @@
-//! Laws of the frames that the machine puts out.
+//! Laws of the frames that the machine outputs.
 
 ghost use Rattle.std.specs.Prelude.{◌≡◌, ◌≢◌, ◌==◌, ◌+◌, ◌≤◌, true, length, All, count_by};
 ghost use Rattle.std.specs.List.{list_all};
@@ -13,8 +13,8 @@ ghost use Rattle.operator_model.specs.Slices.{FramesHaveTheirSlices, NextSliceIs
 ghost use Rattle.operator_model.specs.Part.{is_own_sid};
 ghost use Rattle.operator_model.specs.Sound.{IsSound};
 
-/// The slice in force can serve the flows: they stand by SFID, none is of a later frame, and what their active sets need
-/// fits the slice.
+/// States that the slice in force can serve the flows: they are sorted by SFID, none is of a later
+/// frame, and what their active sets need fits the slice.
 pub fn schedule_can_serve()
     ensures ascending { (op : Operator) → IsSound op → SfidsAscend (flowing_in op.state.flows) }
     ensures past { (op : Operator) → IsSound op → All (IsPast op.state.frame) (flowing_in op.state.flows) }
@@ -22,14 +22,16 @@ pub fn schedule_can_serve()
         → needed (at_frame op.consts op.state) (flowing_in op.state.flows) ≤ op.state.share.slice.length }
 {}
 
-/// What a tick gives up is not scheduled, and leaves all that is scheduled: a new flow has no set, and a flow of which a
-/// change is taken back keeps its sets, and its SID where a set is admitted.
+/// States that what a tick abandons is not scheduled, and leaves all that is scheduled: a new flow
+/// has no set, and a flow of which a change is taken back keeps its sets, and its SID where a set
+/// is admitted.
 pub fn given_up_have_no_grants()
     ensures { (op : Operator) → IsSound op → flowing_in (flows_left op.state) ≡ flowing_in op.state.flows }
 {}
 
-/// What a tick puts out is the operator's part of the frame's MAP: it is of the slice in force and tiles it, with SIDs of the
-/// row's range or nobody's, at most one span is nobody's, and it has no more elements than the row's quota and one for what is left of the slice.
+/// States that what a tick outputs is the operator's part of the frame's MAP: it is of the slice in
+/// force and tiles it, with SIDs of the row's range or nobody's, at most one span is nobody's, and
+/// it has no more elements than the row's quota and one for what is left of the slice.
 pub fn frame_is_a_part()
     ensures slice { (op : Operator) → (frame_elements op).slice ≡ op.state.share.slice }
     ensures tiled { (op : Operator) → IsSound op → IsTiled (frame_elements op) }
@@ -45,15 +47,16 @@ pub fn frame_is_a_part()
         → length (frame_elements op).spans + length (frame_elements op).pending ≤ op.row.elements + 1 }
 {}
 
-/// The frames of a run are numbered from the state's frame number on, one for each tick, in order and with no gap; the next
-/// one follows them.
+/// States that the frames of a run are numbered from the state's frame number on, one for each
+/// tick, in order and with no gap; the next one follows them.
 pub fn frames_have_no_gap()
     ensures numbers { FramesHaveNoGap }
     ensures next { NextFrameFollows }
 {}
 
-/// Over a run of actions each of which is allowed at its place, each frame that is put out is of the slice of its number: that
-/// of the newest re-slicing that is not from a later frame on, at first the row's. So is the slice in force after it.
+/// States that over a run of actions, each allowed at its place, each frame that is output is of
+/// the slice of its number: that of the newest slice change that is not from a later frame on, at
+/// first the row's. So is the slice in force after it.
 pub fn frames_are_shares()
     ensures frames { FramesHaveTheirSlices }
     ensures in_force { NextSliceIsInForce }

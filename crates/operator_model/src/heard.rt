@@ -1,4 +1,4 @@
-//! What is heard of a modem.
+//! What is received of a modem.
 
 ghost use Rattle.std.specs.Prelude.{◌≡◌, IfOk};
 
@@ -6,7 +6,7 @@ use dsx_messages::Modem;
 use std::alloc::{AllocError, Global};
 use tlv24::Bytes;
 
-/// What a modem sent.
+/// What a modem sent to the operator.
 #[derive(Debug, Drop)]
 pub enum Heard {
     /// A dynamic service message (CM-SP-MULPIv3.1, 6.4.12 to 6.4.19): one byte of message type and the payload.
@@ -16,7 +16,7 @@ pub enum Heard {
 }
 
 impl Heard {
-    /// An equal value with bytes of its own.
+    /// Returns an equal value with bytes of its own.
     pub fn copy(&self, alloc: Global) -> Result<Heard, AllocError>
         ensures { IfOk result (λ heard. heard ≡ self.now) }
     {
@@ -30,7 +30,7 @@ impl Heard {
     }
 }
 
-/// What was heard, and of whom.
+/// What was received, and of whom.
 #[derive(Debug, Drop)]
 pub struct Arrival {
     pub modem: Modem,
@@ -38,7 +38,7 @@ pub struct Arrival {
 }
 
 impl Arrival {
-    /// An equal value with bytes of its own.
+    /// Returns an equal value with bytes of its own.
     pub fn copy(&self, alloc: Global) -> Result<Arrival, AllocError>
         ensures { IfOk result (λ arrival. arrival ≡ self.now) }
     {

@@ -1,5 +1,5 @@
-//! One operator's own machine: what it keeps, what is done to it, what it puts out, and what each action makes of its state.
-//! The definitions stand in specs/; `operator_book` carries them out.
+//! The definition of one operator's machine: its state, its actions, its outputs, and laws about them. The definitions are in
+//! specs/, and `operator_book` implements them.
 #![tactic(auto)]
 
 mod action;

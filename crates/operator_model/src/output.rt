@@ -1,4 +1,4 @@
-//! What an action puts out.
+//! What an action outputs.
 
 ghost use Rattle.std.specs.Prelude.{◌≡◌, IfOk};
 
@@ -8,10 +8,10 @@ use slice_scheduler::Elements;
 use std::alloc::{AllocError, Global};
 use tlv24::Bytes;
 
-/// Why nothing is answered.
+/// Why a message or a request gets no reply.
 #[derive(Clone, Copy, Debug, PartialEq, Eq)]
 pub enum Cause {
-    /// The inbox was full: what was heard is dropped.
+    /// The inbox was full: what was received is dropped.
     InboxFull,
     /// The inbox was empty.
     Idle,
@@ -31,7 +31,7 @@ pub enum Cause {
     NotRequesting,
 }
 
-/// What an action puts out.
+/// What an action of the machine outputs.
 #[derive(Debug, Drop)]
 pub enum Output {
     /// A reply to this modem.
@@ -43,7 +43,7 @@ pub enum Output {
 }
 
 impl Output {
-    /// An equal value with memory of its own.
+    /// Returns an equal value with memory of its own.
     pub fn copy(&self, alloc: Global) -> Result<Output, AllocError>
         ensures { IfOk result (λ output. output ≡ self.now) }
     {

@@ -1,4 +1,4 @@
-//! The machine worked through on a plant, message by message: what its definitions come to.
+//! The machine worked through on a plant, message by message: what its definitions result in.
 
 ghost use Rattle.std.specs.Prelude.{codes, ◌≡◌, List, [], ◌∷◌, ◌++◌, length, option_map, Some, None};
 ghost use Rattle.slice_scheduler.specs.declared.span.Iuc.TheVariants.{Long};
@@ -11,7 +11,8 @@ ghost use Rattle.operator_model.specs.declared.output.Cause.TheVariants.{Empty, 
 ghost use Rattle.operator_model.specs.declared.output.Output.TheVariants.{Silent};
 ghost use Rattle.operator_model.specs.Worked.{worked_consts, worked_row, first_modem, second_modem, hex, sent, asked, addition, addition_reply, addition_ack, full_addition, answers, after, told, silent, frame_within, frame, span, classed_consts};
 
-/// An addition is answered, told again where it is repeated, and refused for each of these faults and wants.
+/// States that an addition is answered, reported again where it is repeated, and refused for each
+/// of these faults and wants.
 pub fn worked_additions_compute()
     ensures repeated { answers worked_consts worked_row (sent first_modem addition ++ sent first_modem addition
         ++ sent first_modem addition_ack ++ sent first_modem addition)
@@ -61,7 +62,8 @@ pub fn worked_additions_compute()
         ≡ told first_modem addition_reply ∷ told first_modem (codes "10000203") ∷ [] }
 {}
 
-/// A change is answered and committed, and room is taken and given back by changes and deletions.
+/// States that a change is answered and committed, and room is taken and given back by changes and
+/// deletions.
 pub fn worked_changes_compute()
     ensures changed { answers worked_consts worked_row (sent first_modem addition ++ sent first_modem addition_ack
         ++ sent first_modem
@@ -99,7 +101,8 @@ pub fn worked_changes_compute()
         ∷ told first_modem (codes "1600020600") ∷ [] }
 {}
 
-/// Frames are given out, idle and granted; what is not acknowledged is told again and given up; and what is not answered is told why.
+/// States that frames are given out, idle and granted; what is not acknowledged is reported again
+/// and abandoned; and what is not answered is reported why.
 pub fn worked_frames_compute()
     ensures idle { answers worked_consts worked_row (Work ∷ Tick ∷ [])
         ≡ Silent None Idle ∷ frame 0 (span 0 Long 8 32 ∷ []) [] ∷ [] }
@@ -149,7 +152,8 @@ pub fn worked_frames_compute()
         ≡ Some (Some 0) }
 {}
 
-/// A flow that names a class has what the class says, and one that names none of the plant is refused.
+/// States that a flow that names a class has what the class says, and one that names none of the
+/// plant is refused.
 pub fn worked_classes_compute()
     ensures classed { answers classed_consts worked_row
         (sent first_modem (codes "0F0001180E010200010405676F6C6400060106"))
@@ -164,8 +168,8 @@ pub fn worked_classes_compute()
         ≡ told first_modem (codes "10000204180C010200020506010104020104") ∷ [] }
 {}
 
-/// Another slice and budget are taken from their frame on, and not for each of these causes; what is committed fits both
-/// budgets until then.
+/// States that another slice and budget are taken from their frame on, and not for each of these
+/// causes; what is committed fits both budgets until then.
 pub fn worked_shares_compute()
     ensures resliced { answers worked_consts worked_row (sent first_modem addition ++ sent first_modem addition_ack
         ++ asked first_modem 257 20 ++ Reslice 1 (record { start = 8; length = 16; budget = 16 }) ∷ Tick ∷ []

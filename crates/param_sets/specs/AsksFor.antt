@@ -1,4 +1,4 @@
--- What it means that a flow encoding asks for a parameter set (own).
+-- What it means that a flow encoding asks for a parameter set (implementation-specific).
 use Rattle.std.specs.Prelude.{◌≡◌, ◌≤◌, ℕ, Some, IsSome}
 use Rattle.tlv24.specs.declared.fields.FlowFields.{FlowFields}
 use Rattle.param_sets.specs.Units.{UnitSizes, frames_of}

@@ -1,4 +1,4 @@
--- Which fields of an encoding a kind of scheduling keeps and which it requires, and what an absent one counts as (own).
+-- Which fields of an encoding a kind of scheduling keeps and which it requires, and what an absent one counts as (implementation-specific).
 use Rattle.std.specs.Prelude.{ℕ, ◌==◌, Bool, List, [], ◌∷◌, Option, unwrap_or, if◌then◌else◌}
 use Rattle.std.specs.Option.{is_none}
 use Rattle.std.specs.List.{list_any}

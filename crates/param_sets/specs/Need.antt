@@ -1,4 +1,4 @@
--- What a parameter set needs of each frame and of its MAP (own).
+-- What a parameter set needs of each frame and of its MAP (implementation-specific).
 use Rattle.std.specs.Prelude.{◌+◌, ◌*◌, Option, Some, None}
 use Rattle.admission.specs.declared.budget.Budget.{Budget}
 use Rattle.param_sets.specs.Units.{UnitSizes, minislots_of, reserve_of}

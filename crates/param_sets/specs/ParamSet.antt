@@ -1,4 +1,4 @@
--- What a parameter set keeps (own).
+-- What a parameter set keeps (implementation-specific).
 use Rattle.std.specs.Prelude.{◌≡◌, ◌≤◌}
 use Rattle.param_sets.specs.declared.scheduling.Scheduling.{Scheduling}
 use Rattle.param_sets.specs.declared.scheduling.Scheduling.TheVariants.{BestEffort, NonRealTimePolling, RealTimePolling, UnsolicitedGrant}
@@ -16,7 +16,7 @@ pub record HasNoGrants (set : ParamFields) : Type 0 where
   pub grant_jitter : set.grant_jitter ≡ 0
   pub grants_per_interval : set.grants_per_interval ≡ 0
 
--- it has 1 to 127 unsolicited grants of some size, and nothing reserved beside them
+-- it has 1 to 127 unsolicited grants of some size, and nothing reserved next to them
 pub record HasGrants (set : ParamFields) : Type 0 where
   pub min_reserved_rate : set.min_reserved_rate ≡ 0
   pub grant_size : 1 ≤ set.grant_size

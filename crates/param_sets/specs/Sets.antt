@@ -1,4 +1,4 @@
--- The sets of a flow, and what is refused (own).
+-- The sets of a flow, and what is refused (implementation-specific).
 use Rattle.std.specs.Prelude.{ℕ, Option, Some, None, Result, Ok, Err}
 use Rattle.tlv24.specs.Subtype.{scheduling_type_subtype}
 use Rattle.dsx_messages.specs.declared.code.Code.{Code}

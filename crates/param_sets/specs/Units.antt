@@ -1,4 +1,4 @@
--- The measures of an upstream channel, and how microseconds, bytes and rates turn into frames and minislots (own).
+-- The measures of an upstream channel, and how microseconds, bytes and rates turn into frames and minislots (implementation-specific).
 use Rattle.std.specs.Prelude.{ℕ, ◌*◌, ◌/◌, ◌≤◌}
 use Rattle.std.specs.Int.{div_ceil}
 

@@ -1,4 +1,4 @@
--- When one parameter set is within another (own: the standard's subset relation covers all parameters).
+-- When one parameter set is within another (implementation-specific: the standard's subset relation covers all parameters).
 use Rattle.std.specs.Prelude.{◌≡◌, ℕ, ◌<◌, ◌≤◌, ◌==◌, ◌&&◌, ◌||◌, not, nat_lt, Bool, List, [], ◌∷◌, Option, Some, None}
 use Rattle.tlv24.specs.Subtype.{traffic_priority_subtype, max_sustained_rate_subtype, min_reserved_rate_subtype, scheduling_type_subtype, polling_interval_subtype, grant_size_subtype, grant_interval_subtype, grants_per_interval_subtype}
 use Rattle.param_sets.specs.FirstTrue.{first_true}

@@ -7,9 +7,10 @@ use crate::param_set::{ParamFields, ParamSet};
 use crate::refusal::first_true;
 use tlv24::subtype;
 
-/// Whether `a` asks for no more than `b` (own): of the same kind of scheduling (subtype 15), with no greater priority (7),
-/// maximum rate (8, in which 0 is no limit) and reserved rate (10), polls no closer (17), and unsolicited grants no greater
-/// (19), no closer (20) and no more of them (22).
+/// Returns whether `a` asks for no more than `b` (implementation-specific): of the same kind of
+/// scheduling (subtype 15), with no greater priority (7), maximum rate (8, in which 0 means no limit)
+/// and reserved rate (10), polls no closer (17), and unsolicited grants no greater (19), no closer
+/// (20) and no more of them (22).
 ///
 /// The error is the first subtype in which it fails, in this order.
 #[tactic(auto, using(crate::proofs::WithinLemmas::is_within, crate::proofs::WithinLemmas::nothing_fails))]
@@ -24,7 +25,7 @@ pub fn within(a: &ParamSet, b: &ParamSet) -> Result<(), u8>
     }
 }
 
-/// The first subtype in which `a` is not within `b`.
+/// Returns the first subtype in which `a` is not within `b`.
 fn failing(a: &ParamFields, b: &ParamFields) -> Option<u8>
     ensures { result ≡ first_failing a.now b.now }
 {
@@ -52,7 +53,7 @@ fn failing(a: &ParamFields, b: &ParamFields) -> Option<u8>
     ])
 }
 
-/// Whether `a` is a greater limit than `b`, where 0 is no limit.
+/// Returns whether `a` is a greater limit than `b`, where 0 means no limit.
 fn is_greater_limit(a: u32, b: u32) -> bool
     ensures { result ≡ is_greater_limit a b }
 {

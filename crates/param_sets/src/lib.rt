@@ -1,4 +1,5 @@
-//! Parameter sets of service flows: what a flow may ask for, and what it needs of each frame (CM-SP-MULPIv3.1, Annex C.2.2.5 to C.2.2.8).
+//! Parameter sets of service flows (CM-SP-MULPIv3.1, C.2.2.5 to C.2.2.8): what a flow may request, and what it needs of each
+//! frame.
 #![tactic(auto)]
 
 mod comparing;

@@ -8,9 +8,9 @@ use crate::scheduling::Scheduling;
 use crate::units::Units;
 use admission::Budget;
 
-/// What a flow with these parameters needs of each frame and of its MAP: minislots for its reserved rate and two elements;
-/// where it is polled one minislot and one element more; with unsolicited grants the minislots of all of them and an
-/// element for each.
+/// Returns what a flow with these parameters needs of each frame and of its MAP: minislots for its
+/// reserved rate and two elements; where it is polled one minislot and one element more; with
+/// unsolicited grants the minislots of all of them and an element for each.
 pub fn need(set: &ParamSet, units: &Units) -> Budget
     ensures exact { result ≡ need_of set.now units.now }
     ensures some { 1 ≤ result.elements }
@@ -37,7 +37,7 @@ pub fn need(set: &ParamSet, units: &Units) -> Budget
     }
 }
 
-/// What a set needs, where there is one.
+/// Returns what a set needs, where there is one.
 #[inline(always)]
 pub fn need_if(units: Units, set: Option<ParamSet>) -> Budget
     ensures { result ≡ need_if units set }

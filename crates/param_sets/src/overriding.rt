@@ -5,8 +5,8 @@ ghost use Rattle.param_sets.specs.Overridden.{overridden_of};
 
 use tlv24::{FlowFields, FlowTlv};
 
-/// The encoding of a flow of a service class: of the subtypes 7 to 22 the value that is stated, else the class's; all others
-/// (1 to 6) as stated.
+/// Returns the encoding of a flow of a service class: of the subtypes 7 to 22 the value that is
+/// stated, else the class's; all others (1 to 6) as stated.
 pub fn overridden(class: &FlowTlv, stated: &FlowTlv) -> FlowTlv
     ensures exact { result ≡ overridden_of class.now stated.now }
 {

@@ -15,7 +15,7 @@ pub struct ParamFields {
     pub scheduling: Scheduling,
     /// Traffic Priority (subtype 7): 0 to 7.
     pub priority: u8,
-    /// Maximum Sustained Traffic Rate (subtype 8), bits a second: 0 is no limit.
+    /// Maximum Sustained Traffic Rate (subtype 8), bits a second: 0 means no limit.
     pub max_sustained_rate: u32,
     /// Maximum Traffic Burst (subtype 9), bytes.
     pub max_burst: u32,
@@ -54,7 +54,7 @@ impl Model for ParamSet {
 }
 
 impl ParamSet {
-    /// The set of these parameters. The caller knows that they are one.
+    /// Returns the set of these parameters. The caller knows that they are one.
     pub fn new(fields: ParamFields) -> ParamSet
         requires { IsParameterSet fields }
         ensures { result ≡ fields }
@@ -62,7 +62,7 @@ impl ParamSet {
         ParamSet { fields }
     }
 
-    /// All parameters.
+    /// Returns all parameters of the set.
     pub fn get_fields(&self) -> ParamFields
         ensures value { result ≡ self.now }
         ensures valid { IsParameterSet result }
@@ -70,14 +70,14 @@ impl ParamSet {
         self.fields
     }
 
-    /// The kind of scheduling (subtype 15).
+    /// Returns the kind of scheduling (subtype 15).
     pub fn get_scheduling(&self) -> Scheduling
         ensures value { result ≡ self.now.scheduling }
     {
         self.fields.scheduling
     }
 
-    /// Traffic Priority (subtype 7): 0 to 7.
+    /// Returns the Traffic Priority (subtype 7): 0 to 7.
     pub fn get_priority(&self) -> u8
         ensures value { result ≡ self.now.priority }
         ensures in_range { result ≤ 7 }
@@ -85,70 +85,70 @@ impl ParamSet {
         self.fields.priority
     }
 
-    /// Maximum Sustained Traffic Rate (subtype 8), bits a second: 0 is no limit.
+    /// Returns the Maximum Sustained Traffic Rate (subtype 8), bits a second: 0 means no limit.
     pub fn get_max_sustained_rate(&self) -> u32
         ensures value { result ≡ self.now.max_sustained_rate }
     {
         self.fields.max_sustained_rate
     }
 
-    /// Maximum Traffic Burst (subtype 9), bytes.
+    /// Returns the Maximum Traffic Burst (subtype 9), bytes.
     pub fn get_max_burst(&self) -> u32
         ensures value { result ≡ self.now.max_burst }
     {
         self.fields.max_burst
     }
 
-    /// Minimum Reserved Traffic Rate (subtype 10), bits a second.
+    /// Returns the Minimum Reserved Traffic Rate (subtype 10), bits a second.
     pub fn get_min_reserved_rate(&self) -> u32
         ensures value { result ≡ self.now.min_reserved_rate }
     {
         self.fields.min_reserved_rate
     }
 
-    /// Request/Transmission Policy (subtype 16).
+    /// Returns the Request/Transmission Policy (subtype 16).
     pub fn get_request_policy(&self) -> u32
         ensures value { result ≡ self.now.request_policy }
     {
         self.fields.request_policy
     }
 
-    /// Nominal Polling Interval (subtype 17), microseconds.
+    /// Returns the Nominal Polling Interval (subtype 17), microseconds.
     pub fn get_polling_interval(&self) -> u32
         ensures value { result ≡ self.now.polling_interval }
     {
         self.fields.polling_interval
     }
 
-    /// Tolerated Poll Jitter (subtype 18), microseconds.
+    /// Returns the Tolerated Poll Jitter (subtype 18), microseconds.
     pub fn get_poll_jitter(&self) -> u32
         ensures value { result ≡ self.now.poll_jitter }
     {
         self.fields.poll_jitter
     }
 
-    /// Unsolicited Grant Size (subtype 19), bytes.
+    /// Returns the Unsolicited Grant Size (subtype 19), bytes.
     pub fn get_grant_size(&self) -> u16
         ensures value { result ≡ self.now.grant_size }
     {
         self.fields.grant_size
     }
 
-    /// Nominal Grant Interval (subtype 20), microseconds.
+    /// Returns the Nominal Grant Interval (subtype 20), microseconds.
     pub fn get_grant_interval(&self) -> u32
         ensures value { result ≡ self.now.grant_interval }
     {
         self.fields.grant_interval
     }
 
-    /// Tolerated Grant Jitter (subtype 21), microseconds.
+    /// Returns the Tolerated Grant Jitter (subtype 21), microseconds.
     pub fn get_grant_jitter(&self) -> u32
         ensures value { result ≡ self.now.grant_jitter }
     {
         self.fields.grant_jitter
     }
 
-    /// Grants Per Interval (subtype 22): at most 127.
+    /// Returns the Grants Per Interval (subtype 22): at most 127.
     pub fn get_grants_per_interval(&self) -> u8
         ensures value { result ≡ self.now.grants_per_interval }
         ensures in_range { result ≤ 127 }

@@ -19,11 +19,12 @@ use tlv24::{FlowFields, FlowTlv, subtype};
 /// How often a flow is polled that is polled, but not in real time, and states no interval: microseconds.
 const POLLED_EACH: u32 = 1_000_000;
 
-/// The parameter set that a flow encoding asks for.
+/// Returns the parameter set that a flow encoding asks for.
 ///
-/// Refused, in this order: with code 8 naming the least required subtype that is missing; with code 23 naming 15 where the
-/// kind of scheduling is unknown (nothing is required of such a one); with code 23 naming the first of 17, 19, 20 and 22
-/// that is out of its range, of those that the kind keeps.
+/// Refused, in this order: with code 8 naming the least required subtype that is missing; with code
+/// 23 naming 15 where the kind of scheduling is unknown (nothing is required of such a one); with
+/// code 23 naming the first of 17, 19, 20 and 22 that is out of its range, of those that the kind
+/// keeps.
 pub fn from_tlv(flow: &FlowTlv, units: &Units) -> Result<ParamSet, Refusal>
     ensures exact { result ≡ parameter_set_of flow.now units.now }
     ensures asked { IfOk result (AsksFor flow.now units.now) }
@@ -41,7 +42,7 @@ pub fn from_tlv(flow: &FlowTlv, units: &Units) -> Result<ParamSet, Refusal>
     }
 }
 
-/// The fields that an encoding asks for, or why they are refused.
+/// Returns the fields that an encoding asks for, or why they are refused.
 fn asked(stated: &FlowFields, units: &Units) -> Result<ParamFields, Refusal>
     ensures { result ≡ parameter_set_of stated.now units.now }
 {
@@ -67,7 +68,7 @@ fn asked(stated: &FlowFields, units: &Units) -> Result<ParamFields, Refusal>
     Ok(fields)
 }
 
-/// The least subtype that the kind of scheduling requires and the encoding lacks.
+/// Returns the least subtype that the kind of scheduling requires and the encoding lacks.
 fn missing(scheduling: Scheduling, stated: &FlowFields) -> Option<u8>
     ensures { result ≡ missing_of scheduling stated.now }
 {
@@ -88,7 +89,7 @@ fn missing(scheduling: Scheduling, stated: &FlowFields) -> Option<u8>
     }
 }
 
-/// The fields of the encoding that the kind of scheduling keeps.
+/// Returns the fields of the encoding that the kind of scheduling keeps.
 fn kept(scheduling: Scheduling, stated: &FlowFields) -> ParamFields
     ensures { result ≡ kept_of scheduling stated.now }
 {
@@ -133,7 +134,8 @@ fn kept(scheduling: Scheduling, stated: &FlowFields) -> ParamFields
     }
 }
 
-/// The first subtype that is out of its range: an interval of no whole frame, a size of 0, grants that are not 1 to 127.
+/// Returns the first subtype that is out of its range: an interval of no whole frame, a size of 0,
+/// grants that are not 1 to 127.
 fn invalid(fields: &ParamFields, units: &Units) -> Option<u8>
     ensures { result ≡ invalid_of fields.now units.now }
 {

@@ -14,7 +14,7 @@ pub struct Refusal {
     pub subtype: u8,
 }
 
-/// The subtype beside the first test that is true.
+/// Returns the subtype next to the first test that is true.
 pub(crate) fn first_true(rows: &[(bool, u8)]) -> Option<u8>
     ensures { result ≡ first_true rows.now }
 {

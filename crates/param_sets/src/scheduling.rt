@@ -17,7 +17,7 @@ pub enum Scheduling {
 }
 
 impl Scheduling {
-    /// The number on the wire.
+    /// Returns the number on the wire.
     pub fn number(self) -> u8
         ensures { result ≡ number_of self }
     {
@@ -29,7 +29,8 @@ impl Scheduling {
         }
     }
 
-    /// The kind that a message states: best effort where it states none; None where it states another number.
+    /// Returns the kind that a message states: best effort where it states none; None where it
+    /// states another number.
     pub fn stated(number: Option<u8>) -> Option<Scheduling>
         ensures { result ≡ scheduling_of number }
     {

@@ -51,7 +51,7 @@ impl Model for Sets {
 }
 
 impl Sets {
-    /// The sets of a dynamic flow: none.
+    /// Returns the sets of a dynamic flow: none.
     pub fn dynamic() -> Sets
         ensures { result ≡ record { provisioned = None; admitted = None; active = None } }
     {
@@ -60,7 +60,7 @@ impl Sets {
         }
     }
 
-    /// The sets of a flow that was provisioned with `set` and has no other.
+    /// Returns the sets of a flow that was provisioned with `set` and has no other.
     pub fn provisioned(set: ParamSet) -> Sets
         ensures { result ≡ record { provisioned = Some set; admitted = None; active = None } }
     {
@@ -72,9 +72,10 @@ impl Sets {
         }
     }
 
-    /// These sets with `set` admitted and none active.
+    /// Returns these sets with `set` admitted and none active.
     ///
-    /// Refused with code 24, naming the first subtype in which `set` is not within the provisioned set, where there is one.
+    /// Refused with code 24, naming the first subtype in which `set` is not within the provisioned
+    /// set, where there is one.
     pub fn admit(&self, set: ParamSet) -> Result<Sets, Refusal>
         ensures exact { result ≡ admit_of self.now set }
         ensures ok { IsOk result ↔ IsWithinProvisioned (Some set) self.now.provisioned }
@@ -99,10 +100,10 @@ impl Sets {
         })
     }
 
-    /// These sets with `set` active.
+    /// Returns these sets with `set` active.
     ///
-    /// Refused with code 23, naming 15 where no set is admitted, else the first subtype in which `set` is not within the
-    /// admitted one.
+    /// Refused with code 23, naming 15 where no set is admitted, else the first subtype in which
+    /// `set` is not within the admitted one.
     pub fn activate(&self, set: ParamSet) -> Result<Sets, Refusal>
         ensures exact { result ≡ activate_of self.now set }
         ensures ok { IsOk result ↔ IsWithinOrNull (Some set) self.now.admitted }
@@ -127,7 +128,7 @@ impl Sets {
         }
     }
 
-    /// These sets with none admitted and none active.
+    /// Returns these sets with none admitted and none active.
     pub fn clear(&self) -> Sets
         ensures { result ≡ record { provisioned = self.now.provisioned; admitted = None; active = None } }
     {
@@ -139,7 +140,7 @@ impl Sets {
         }
     }
 
-    /// The three sets.
+    /// Returns the provisioned, the admitted and the active set.
     pub fn get_fields(&self) -> SetsFields
         ensures value { result ≡ self.now }
         ensures nested { AreNested result }
@@ -147,14 +148,14 @@ impl Sets {
         self.fields
     }
 
-    /// What the flow was provisioned with.
+    /// Returns what the flow was provisioned with.
     pub fn get_provisioned(&self) -> Option<ParamSet>
         ensures value { result ≡ self.now.provisioned }
     {
         self.fields.provisioned
     }
 
-    /// What resources are committed for.
+    /// Returns what resources are committed for.
     pub fn get_admitted(&self) -> Option<ParamSet>
         ensures value { result ≡ self.now.admitted }
         ensures within { IsWithinProvisioned result self.now.provisioned }
@@ -162,7 +163,7 @@ impl Sets {
         self.fields.admitted
     }
 
-    /// What the flow is served by.
+    /// Returns what the flow is served by.
     pub fn get_active(&self) -> Option<ParamSet>
         ensures value { result ≡ self.now.active }
         ensures within { IsWithinOrNull result self.now.admitted }

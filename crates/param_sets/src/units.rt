@@ -26,7 +26,8 @@ impl Model for Units {
 }
 
 impl Units {
-    /// Frames of `frame_us` microseconds (1 to 1,000,000) and minislots of `bytes_per_minislot` bytes (1 to 65,535).
+    /// Returns frames of `frame_us` microseconds (1 to 1,000,000) and minislots of
+    /// `bytes_per_minislot` bytes (1 to 65,535).
     pub fn new(frame_us: u32, bytes_per_minislot: u32) -> Units
         requires { AreUnits (record { frame_us = frame_us; bytes_per_minislot = bytes_per_minislot }) }
         ensures { result ≡ record { frame_us = frame_us; bytes_per_minislot = bytes_per_minislot } }
@@ -46,7 +47,7 @@ impl Units {
         self.frame_us
     }
 
-    /// Bytes in a minislot: 1 to 65,535.
+    /// Returns the bytes in a minislot: 1 to 65,535.
     pub fn get_bytes_per_minislot(&self) -> u32
         ensures value { result ≡ self.now.bytes_per_minislot }
         ensures some { 1 ≤ result }
@@ -55,14 +56,14 @@ impl Units {
         self.bytes_per_minislot
     }
 
-    /// How many whole frames there are in an interval of so many microseconds.
+    /// Returns how many whole frames there are in an interval of so many microseconds.
     pub fn frames(&self, microseconds: u32) -> u32
         ensures { result ≡ frames_of microseconds self.now }
     {
         microseconds / self.frame_us
     }
 
-    /// How many minislots carry so many bytes.
+    /// Returns how many minislots carry so many bytes.
     pub fn minislots(&self, bytes: u32) -> u32
         ensures value { result ≡ minislots_of bytes self.now }
         ensures most { result ≤ bytes }
@@ -70,7 +71,7 @@ impl Units {
         bytes.div_ceil(self.bytes_per_minislot)
     }
 
-    /// How many minislots of each frame carry so many bits a second.
+    /// Returns how many minislots of each frame carry so many bits a second.
     pub fn reserve(&self, rate: u32) -> u32
         ensures value { result ≡ reserve_of rate self.now }
         ensures most { result ≤ 2 ^ 29 }

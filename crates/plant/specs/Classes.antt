@@ -1,4 +1,4 @@
--- Service classes (CM-SP-MULPIv3.1, Annex C, subtype 4; the table is own).
+-- Service classes (CM-SP-MULPIv3.1, Annex C, subtype 4; the table is implementation-specific).
 use Rattle.std.specs.Prelude.{◌≡◌, ◌≢◌, ℕ, ◌≤◌, Bool, IsTrue, List, length, All, AllPairs, Option, Some, None, find}
 use Rattle.std.specs.Option.{option_map}
 use Rattle.std.specs.Char.{is_ascii_alphanumeric}

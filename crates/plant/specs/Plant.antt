@@ -1,4 +1,4 @@
--- When a plant is valid (own).
+-- When a plant is valid (implementation-specific).
 use Rattle.std.specs.Prelude.{◌≡◌, ◌≢◌, ℕ, ◌+◌, ◌*◌, ◌≤◌, ◌&&◌, nat_lt, nat_le, Bool, false, List, length, All, AllPairs, sum_by, slice_get, Some}
 use Rattle.std.specs.List.{flat_map}
 use Rattle.dsx_messages.specs.declared.modem.Modem.{Modem}
@@ -17,8 +17,8 @@ ranges_overlap a b = nat_le a.first b.last && nat_le b.first a.last
 abbrev pub all_modems : List RowFields → List Modem
 all_modems rows = flat_map (λ row. row.modems) rows
 
--- the most elements that a MAP can need: each operator's quota, an idle span of it and one behind its slice, and the head,
--- the idle span behind the head and the Null
+-- the most elements that a MAP can need: each operator's quota, an idle span of it and one after its slice, and the head,
+-- the idle span after the head and the Null
 abbrev pub most_elements : List RowFields → ℕ
 most_elements rows = sum_by (λ row. row.elements) rows + 2 * length rows + 3
 

@@ -51,7 +51,7 @@ sets_of_encoding consts bytes = sets_of_flow consts (flow_of bytes)
 
 -- ---- their identifiers
 
--- a flow as it is opened, but for its frame numbers
+-- a flow as it is opened, except its frame numbers
 pub record Opened : Type 0 where
   pub modem : Modem
   pub sid : Option ℕ
@@ -77,7 +77,7 @@ abbrev pub and_opened : RowFields → List (ℕ × Opened) → Modem → Option 
 and_opened row flows modem None = flows
 and_opened row flows modem (Some sets) = and_under row flows modem sets (least_free_of row.sfids (opened_sfids flows))
 
--- these provisioned flows beside those that stand, in the file's order
+-- these provisioned flows next to those that are present, in the file's order
 abbrev pub all_opened : ConstsFields → RowFields → List (ℕ × Opened) → List Provision → List (ℕ × Opened)
 all_opened consts row flows [] = flows
 all_opened consts row flows (p ∷ provisions) = all_opened consts row (and_opened row flows p.modem (sets_of_encoding consts p.encoding)) provisions

@@ -1,4 +1,4 @@
--- Which operator lists a modem, and the map that finds it (own).
+-- Which operator lists a modem, and the map that finds it (implementation-specific).
 use Rattle.std.specs.Prelude.{◌≡◌, ℕ, ◌≤◌, IsTrue, List, Option, Some, None, is_some, slice_get, if◌then◌else◌}
 use Rattle.std.specs.List.{position_from}
 use Rattle.std.specs.Option.{option_or}

@@ -1,4 +1,4 @@
--- What an operator is provisioned with: the keys of its row, each in its range (own).
+-- What an operator is provisioned with: the keys of its row, each in its range (implementation-specific).
 use Rattle.std.specs.Prelude.{◌≤◌, ℕ, ◌+◌, ◌-◌, Bool, false, List, length, All, count_by, sum_by, Option, Some, None, IsTrue, IsSome, is_some}
 use Rattle.std.specs.List.{list_any}
 use Rattle.std.specs.Str.{bytes_eq}
@@ -40,7 +40,7 @@ pub record IsRow (row : RowFields) : Type 0 where
   pub elements : row.elements ≤ 235
   pub modems : IsFrom 1 1024 (length row.modems)
 
--- ---- the keys beside what all operators share
+-- ---- the keys next to what all operators share
 
 -- what a provisioned flow needs: the need of its admitted set
 abbrev pub need_of_sets : UnitSizes → Option SetsFields → Budget
@@ -71,7 +71,7 @@ pub record DoesFit (consts : ConstsFields) (row : RowFields) : Type 0 where
   pub minislots : sum_by (λ p. (need_of_provision consts p).minislots) row.provisions ≤ row.budget
   pub elements : sum_by (λ p. (need_of_provision consts p).elements) row.provisions ≤ row.elements
 
--- a row of a plant of these constants: its slice lies behind the head and within the frame, its budget is at most its
+-- a row of a plant of these constants: its slice lies after the head and within the frame, its budget is at most its
 -- slice, and its provisioned flows fit
 pub record IsRowOf (consts : ConstsFields) (row : RowFields) : Type 0 where
   pub keys : IsRow row

@@ -7,7 +7,7 @@ ghost use Rattle.plant.specs.Classes.{is_named, class_of};
 use lists::Listed;
 use tlv24::{ClassName, FlowTlv};
 
-/// A service class.
+/// A service class of the plant file.
 #[derive(Clone, Copy, Debug, PartialEq, Eq)]
 pub struct Class {
     /// Its name: 1 to 15 ASCII letters or digits.
@@ -17,7 +17,7 @@ pub struct Class {
 }
 
 impl Class {
-    /// Whether this is the class of that name.
+    /// Returns whether this is the class of that name.
     pub fn is_named(&self, name: &ClassName) -> bool
         ensures { result ≡ is_named name.now self.now }
     {
@@ -28,14 +28,14 @@ impl Class {
 /// The service classes of a plant.
 pub type Classes = Listed<Class>;
 
-/// The class of this name.
+/// Returns the class of this name.
 fn find_class<'a>(classes: &'a [Class], name: &ClassName) -> Option<&'a Class>
     ensures { option_copied result ≡ find (is_named name.now) classes.now }
 {
     classes.iter().find(|class| class.is_named(name))
 }
 
-/// The encoding of the class of this name, if there is one. Takes no memory.
+/// Returns the encoding of the class of this name, if there is one. Takes no memory.
 pub(crate) fn find_encoding<'a>(classes: &'a [Class], name: &ClassName) -> Option<&'a FlowTlv>
     ensures { option_copied result ≡ class_of name.now classes.now }
 {

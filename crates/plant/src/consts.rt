@@ -69,7 +69,7 @@ impl Model for Consts {
 }
 
 impl Consts {
-    /// These values. The caller knows that each is in its range.
+    /// Returns these values. The caller knows that each is in its range.
     pub fn new(fields: ConstsFields) -> Consts
         requires { AreConsts fields }
         ensures { result ≡ fields }
@@ -77,7 +77,7 @@ impl Consts {
         Consts { fields }
     }
 
-    /// The values.
+    /// Returns the values that all operators share.
     pub fn get_fields(&self) -> &ConstsFields
         ensures value { result.now ≡ self.now }
         ensures in_range { AreConsts result.now }
@@ -85,15 +85,15 @@ impl Consts {
         &self.fields
     }
 
-    /// The encoding of the service class of this name, if there is one. Takes no memory.
+    /// Returns the encoding of the service class of this name, if there is one. Takes no memory.
     pub fn class(&self, name: &ClassName) -> Option<&FlowTlv>
         ensures { option_copied result ≡ class_of name.now self.now.classes }
     {
         find_encoding(self.fields.classes.as_slice(), name)
     }
 
-    /// What an encoding asks for: what it states, over its service class where it names one (CM-SP-MULPIv3.1, Annex C,
-    /// subtype 4). None where no class has that name. Takes no memory.
+    /// Returns what an encoding asks for: what it states, over its service class where it names one
+    /// (CM-SP-MULPIv3.1, Annex C, subtype 4). None where no class has that name. Takes no memory.
     pub fn asked(&self, stated: &FlowTlv) -> Option<FlowTlv>
         ensures { result ≡ asked_of self.now.classes stated.now }
     {
@@ -106,7 +106,7 @@ impl Consts {
         }
     }
 
-    /// Equal values with memory of their own.
+    /// Returns an equal value with memory of its own.
     pub fn copy(&self, alloc: Global) -> Result<Consts, AllocError>
         ensures { IfOk result (λ consts. consts ≡ self.now) }
     {

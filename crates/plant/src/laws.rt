@@ -8,13 +8,13 @@ ghost use Rattle.plant.specs.Row.{is_listed};
 ghost use Rattle.plant.specs.Plant.{IsPlant};
 ghost use Rattle.plant.specs.Roster.{holder, Holds};
 
-/// The holder of a modem is the first operator that lists it.
+/// States that the holder of a modem is the first operator that lists it.
 pub fn holder_is_first()
     ensures { (rows : List RowFields) (modem : Modem) (operator : ℕ) → (holder rows modem ≡ Some operator)
         ↔ Holds rows modem operator }
 {}
 
-/// At most one operator of a valid plant lists a modem.
+/// States that at most one operator of a valid plant lists a modem.
 pub fn one_operator_lists()
     ensures { (plant : PlantFields) (modem : Modem) (i j : ℕ) (a b : RowFields) → IsPlant plant
         → slice_get plant.rows i ≡ Some a → slice_get plant.rows j ≡ Some b → IsTrue (is_listed modem a.modems)

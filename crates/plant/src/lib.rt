@@ -1,4 +1,4 @@
-//! What a plant is: what all operators share, what each operator is provisioned with, and when a plant is valid.
+//! The description of a plant: what all operators share, what each operator is provisioned with, and when a plant is valid.
 #![tactic(auto)]
 
 mod class_table;

@@ -35,7 +35,7 @@ impl Model for OperatorName {
 }
 
 impl OperatorName {
-    /// The name of these bytes; none where they are no name.
+    /// Returns the name of these bytes; none where they are not a name.
     pub fn new(name: &[u8]) -> Option<OperatorName>
         ensures value { IfSome result (λ made. made ≡ name.now) }
         ensures valid { IsSome result ↔ IsOperatorName name.now }
@@ -51,7 +51,7 @@ impl OperatorName {
         })
     }
 
-    /// The name's characters in place.
+    /// Returns the name's characters in place.
     pub fn as_slice(&self) -> &[u8]
         ensures value { result.now ≡ self.now }
         ensures valid { IsOperatorName result.now }
@@ -71,7 +71,7 @@ impl Display for OperatorName {
     }
 }
 
-/// Whether each byte is an ASCII letter or digit.
+/// Returns whether each byte is an ASCII letter or digit.
 pub fn is_alphanumeric(bytes: &[u8]) -> bool
     ensures { result ≡ list_all is_ascii_alphanumeric bytes.now }
 {

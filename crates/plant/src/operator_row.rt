@@ -17,7 +17,7 @@ use std::marker::Model;
 /// The modems of an operator.
 pub type Modems = Listed<Modem>;
 
-/// Whether a modem is among an operator's.
+/// Returns whether a modem is among an operator's.
 pub fn is_listed(modem: Modem, modems: &[Modem]) -> bool
     ensures { result ≡ is_listed modem modems.now }
 {
@@ -67,7 +67,7 @@ impl Model for OperatorRow {
 }
 
 impl OperatorRow {
-    /// The row of these keys. The caller knows that each is in its range.
+    /// Returns the row of these keys. The caller knows that each is in its range.
     pub fn new(fields: RowFields) -> OperatorRow
         requires { IsRow fields }
         ensures { result ≡ fields }
@@ -75,7 +75,7 @@ impl OperatorRow {
         OperatorRow { fields }
     }
 
-    /// The keys.
+    /// Returns the keys of the operator's row.
     pub fn get_fields(&self) -> &RowFields
         ensures value { result.now ≡ self.now }
         ensures in_range { IsRow result.now }
@@ -83,7 +83,7 @@ impl OperatorRow {
         &self.fields
     }
 
-    /// An equal value with memory of its own.
+    /// Returns an equal value with memory of its own.
     pub fn copy(&self, alloc: Global) -> Result<OperatorRow, AllocError>
         ensures { IfOk result (λ row. row ≡ self.now) }
     {

@@ -29,7 +29,7 @@ pub struct PlantFields {
     pub rows: Rows,
 }
 
-/// An equal list with memory of its own.
+/// Returns an equal list with memory of its own.
 fn copy_rows(alloc: Global, rows: &[OperatorRow]) -> Result<Rows, AllocError>
     ensures { IfOk result (λ copies. copies ≡ rows.now) }
 {
@@ -40,7 +40,7 @@ fn copy_rows(alloc: Global, rows: &[OperatorRow]) -> Result<Rows, AllocError>
     Ok(Listed::from_vec(copies))
 }
 
-/// An equal map with memory of its own.
+/// Returns an equal map with memory of its own.
 fn copy_places(places: &IndexMap<Modem, Op>) -> Result<IndexMap<Modem, Op>, AllocError>
     ensures { IfOk result (λ copy. copy.entries ≡ places.now.entries) }
 {
@@ -73,7 +73,7 @@ impl Model for Plant {
 }
 
 impl Plant {
-    /// The plant of these fields, with each operator's modems by their addresses.
+    /// Returns the plant of these fields, with each operator's modems by their addresses.
     pub fn new(fields: PlantFields, places: IndexMap<Modem, Op>) -> Plant
         requires valid { IsPlant fields }
         requires found { Finds fields.rows places }
@@ -82,14 +82,14 @@ impl Plant {
         Plant { fields, places }
     }
 
-    /// The operator that lists this modem, if one does: at most one does. Takes no memory.
+    /// Returns the operator that lists this modem, if one does: at most one does. Takes no memory.
     pub fn operator_of(&self, modem: Modem) -> Option<Op>
         ensures { result ≡ holder self.now.rows modem }
     {
         self.places.get(&modem).copied()
     }
 
-    /// Each operator's row, in the file's order: an operator is told by its place in it.
+    /// Returns each operator's row, in the file's order, which gives an operator its place.
     pub fn rows(&self) -> &[OperatorRow]
         ensures value { result.now ≡ self.now.rows }
         ensures valid { IsPlant self.now }
@@ -97,7 +97,7 @@ impl Plant {
         self.fields.rows.as_slice()
     }
 
-    /// What all operators share.
+    /// Returns what all operators share.
     pub fn consts(&self) -> &Consts
         ensures value { result.now ≡ self.now.consts }
         ensures valid { IsPlant self.now }
@@ -105,7 +105,7 @@ impl Plant {
         &self.fields.consts
     }
 
-    /// An equal plant with memory of its own.
+    /// Returns an equal value with memory of its own.
     pub fn copy(&self, alloc: Global) -> Result<Plant, AllocError>
         ensures { IfOk result (λ plant. plant ≡ self.now) }
     {

@@ -21,9 +21,9 @@ pub struct Provision {
 }
 
 impl Provision {
-    /// The sets that the flow is opened with: set type 1 provisions a parameter set, 3 also admits it, 7 also activates it.
-    /// None where the encoding cannot be read, names no class of the plant, asks for no parameter set, or has another set
-    /// type. Takes no memory.
+    /// Returns the sets that the flow is opened with: set type 1 provisions a parameter set, 3 also
+    /// admits it, 7 also activates it. None where the encoding cannot be read, names no class of
+    /// the plant, asks for no parameter set, or has another set type. Takes no memory.
     pub fn sets(&self, consts: &Consts) -> Option<Sets>
         ensures { result ≡ sets_of_encoding consts.now self.now.encoding }
     {
@@ -32,7 +32,7 @@ impl Provision {
         sets_of_asked(consts.get_fields().units, stated.get_set_type(), &asked)
     }
 
-    /// An equal value with memory of its own.
+    /// Returns an equal value with memory of its own.
     pub fn copy(&self, alloc: Global) -> Result<Provision, AllocError>
         ensures { IfOk result (λ provision. provision ≡ self.now) }
     {
@@ -43,7 +43,7 @@ impl Provision {
     }
 }
 
-/// The sets of a flow that asks for this.
+/// Returns the sets of a flow that asks for this.
 fn sets_of_asked(units: Units, set_type: Option<u8>, asked: &FlowTlv) -> Option<Sets>
     ensures { result ≡ sets_of_asked units set_type asked.now }
 {
@@ -51,7 +51,7 @@ fn sets_of_asked(units: Units, set_type: Option<u8>, asked: &FlowTlv) -> Option<
     sets_of_type(set_type?, set)
 }
 
-/// The sets that a set type makes of one parameter set.
+/// Returns the sets that a set type makes of one parameter set.
 fn sets_of_type(set_type: u8, set: ParamSet) -> Option<Sets>
     ensures { result ≡ sets_of_type set_type set }
 {
@@ -67,7 +67,7 @@ fn sets_of_type(set_type: u8, set: ParamSet) -> Option<Sets>
 /// The flows that an operator is provisioned with, in the file's order.
 pub type Provisions = Listed<Provision>;
 
-/// An equal list with memory of its own.
+/// Returns an equal list with memory of its own.
 pub(crate) fn copy_provisions(
     alloc: Global,
     provisions: &[Provision],

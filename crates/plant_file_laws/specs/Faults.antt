@@ -1,4 +1,4 @@
--- The fault of a plant file: that of the first of its keys that is at fault (own).
+-- The fault of a plant file: that of the first of its keys that is invalid (implementation-specific).
 use Rattle.std.specs.Prelude.{◌≡◌, ◌⊎◌, All, List, Some, None}
 use Rattle.toml.specs.Data.{Data, Members}
 use Rattle.plant.specs.declared.consts.ConstsFields.{ConstsFields}
@@ -17,28 +17,28 @@ use Rattle.plant_file_laws.specs.Stands.{MayStand, MustStand}
 abbrev pub IsMissing : Members → Key → Type 0
 IsMissing document key = (held document key ≡ None) × MustStand document key
 
--- what stands under the key may not stand there: it is of another type, or out of its range
+-- what is under the key may not be there: it is of another type, or out of its range
 abbrev pub IsWrong : Members → Key → Type 0
 IsWrong document key = (d : Data) × (held document key ≡ Some d) × (¬ MayStand document key d)
 
 abbrev pub IsAtFault : Members → Key → Type 0
 IsAtFault document key = IsMissing document key ⊎ IsWrong document key
 
--- how the fault is told
+-- how the fault is reported
 abbrev pub IsToldAs : Members → Key → PlantFault → Type 0
 IsToldAs document key fault = (IsMissing document key × (fault ≡ Missing key)) ⊎ (IsWrong document key × (fault ≡ BadValue key))
 
--- the fault of the first key that is at fault
+-- the fault of the first key that is invalid
 pub record IsOfTheFirstKey (document : Members) (fault : PlantFault) : Type 0 where
   pub key : Key
   pub first : IsFirst (IsAtFault document) (keys_of document) key
   pub told : IsToldAs document key fault
 
--- no key is at fault
+-- no key is invalid
 abbrev pub AreRight : Members → Type 0
 AreRight document = All (λ key. ¬ IsAtFault document key) (keys_of document)
 
--- no key is at fault, and this is the first fault of all of them together
+-- no key is invalid, and this is the first fault of all of them together
 pub record IsOfAllKeys (document : Members) (fault : PlantFault) : Type 0 where
   pub consts : ConstsFields
   pub rows : List RowFields

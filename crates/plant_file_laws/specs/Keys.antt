@@ -1,4 +1,4 @@
--- The keys of a plant file in their order (own).
+-- The keys of a plant file in their order (implementation-specific).
 use Rattle.std.specs.Prelude.{ℕ, suc, List, [], ◌∷◌, ◌++◌, map}
 use Rattle.toml.specs.Data.{Items, no_items, item, Members}
 use Rattle.slice_table.specs.declared.plant_key.Field.{Field}

@@ -1,4 +1,4 @@
--- Which keys of a plant file have to be there, and what may stand under each (own).
+-- Which keys of a plant file have to be there, and what may be under each (implementation-specific).
 use Rattle.std.specs.Prelude.{◌≡◌, ◌≢◌, ℕ, ◌+◌, ◌<◌, ◌≤◌, ◌⊎◌, pos, codes, IsTrue, IsSome, IsNone, List, length, Some, Ok}
 use Rattle.std.specs.Char.{is_ascii_alphanumeric}
 use Rattle.std.specs.List.{list_all}
@@ -22,7 +22,7 @@ use Rattle.slice_table.specs.Tree.{items_len}
 use Rattle.slice_table.specs.Says.{two, IsAddress, SaysConsts, SaysModems}
 use Rattle.plant_file_laws.specs.Held.{table_in, standing_at, held}
 
--- ---- what may stand under a key
+-- ---- what may be under a key
 
 abbrev pub number : ℕ → Data
 number n = integer (pos n)
@@ -107,7 +107,7 @@ IsName document operator d =
     (name : List ℕ) × (d ≡ string name) × IsOperatorName name
     × ((earlier : ℕ) → earlier < operator → held document (Entry (place.Operator earlier) field.Name) ≢ Some d)
 
--- the first minislot and how many there are, behind the head and within the frame
+-- the first minislot and how many there are, after the head and within the frame
 abbrev pub IsSlice : Members → Data → Type 0
 IsSlice document d =
     (consts : ConstsFields) × (start : ℕ) × (length : ℕ) × SaysConsts document consts × (d ≡ two start length)

@@ -5,7 +5,7 @@ ghost use Rattle.plant_file_laws.specs.Keys.{plant_fields, class_fields, operato
 
 use slice_table::Field;
 
-/// The keys of the table `plant`.
+/// Returns the keys of the table `plant`.
 pub fn plant_fields() -> [Field; 15]
     ensures { result ≡ plant_fields }
 {
@@ -28,14 +28,14 @@ pub fn plant_fields() -> [Field; 15]
     ]
 }
 
-/// The keys of a class.
+/// Returns the keys of a class.
 pub fn class_fields() -> [Field; 2]
     ensures { result ≡ class_fields }
 {
     [Field::Name, Field::Encoding]
 }
 
-/// The keys of an operator.
+/// Returns the keys of an operator.
 pub fn operator_fields() -> [Field; 13]
     ensures { result ≡ operator_fields }
 {
@@ -56,7 +56,7 @@ pub fn operator_fields() -> [Field; 13]
     ]
 }
 
-/// The keys of a provisioned flow.
+/// Returns the keys of a provisioned flow.
 pub fn flow_fields() -> [Field; 2]
     ensures { result ≡ flow_fields }
 {

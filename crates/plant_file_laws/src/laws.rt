@@ -10,19 +10,20 @@ ghost use Rattle.slice_table.specs.ReadPlant.{plant_of};
 ghost use Rattle.slice_table.specs.Says.{SaysConsts, SaysRows};
 ghost use Rattle.plant_file_laws.specs.Faults.{IsOfTheFirstKey, IsOfAllKeys, AreRight};
 
-/// A document is refused for a fault exactly where it is that of the first key that is at fault, or where no key is
-/// and it is the first fault of all of them together.
+/// States that a document is refused for a fault exactly where it is that of the first key that is
+/// invalid, or where no key is and it is the first fault of all of them together.
 pub fn fault_is_of_the_first_key()
     ensures { (document : Members) (fault : PlantFault) → (plant_of document ≡ Err fault)
         ↔ (IsOfTheFirstKey document fault ⊎ IsOfAllKeys document fault) }
 {}
 
-/// Of a plant that is read no key is at fault.
+/// States that of a plant that is read no key is invalid.
 pub fn read_keys_are_right()
     ensures { (document : Members) (plant : PlantFields) → plant_of document ≡ Ok plant → AreRight document }
 {}
 
-/// Where no key is at fault, the document says what all operators share, and each operator.
+/// States that where no key is invalid, the document says what all operators share, and each
+/// operator.
 pub fn right_keys_are_read()
     ensures { (document : Members) → AreRight document
         ↔ ((consts : ConstsFields) × (rows : List RowFields) × SaysConsts document consts × SaysRows consts document rows) }

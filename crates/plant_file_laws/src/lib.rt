@@ -1,5 +1,4 @@
-//! The keys of a plant file in their order, each with what may stand under it, and a law that the fault of a file is
-//! that of the first key that is at fault.
+//! The keys of a plant file as a list with their permitted values. A law says that a file is refused for its first invalid key.
 #![tactic(auto)]
 
 mod fields;

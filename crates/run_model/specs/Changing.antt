@@ -20,11 +20,11 @@ pub record RunSoFar : Type 0 where
   pub steps : List Step
   pub outs : List Out
 
--- the state in which the operator at this place stands now
+-- the state in which the operator at this place is now
 abbrev pub state_now : RunSoFar → ℕ → RowFields → OperatorState
 state_now since i row = (isolated_run_from since.plant.consts since.start row i since.steps).state
 
--- a plant at rest before a frame: each operator stands before it, and each frame that it put out was collected
+-- a plant at rest before a frame: each operator is before it, and each frame that it output was collected
 pub record IsAtRest (since : RunSoFar) (frame : ℕ) : Type 0 where
   pub before : (i : ℕ) (row : RowFields) → slice_get since.plant.rows i ≡ Some row → (state_now since i row).frame ≡ frame
   pub collected : (i : ℕ) (row : RowFields) → slice_get since.plant.rows i ≡ Some row

@@ -1,4 +1,4 @@
--- What a core is after a run (own).
+-- What a core is after a run (implementation-specific).
 use Rattle.std.specs.Prelude.{◌≡◌, ℕ, ◌+◌, ◌≤◌, List, [], ◌∷◌, ◌++◌, map, length, take, drop, filter_map, slice_get, Option, Some, None}
 use Rattle.slice_scheduler.specs.declared.elements.ElementsFields.{ElementsFields}
 use Rattle.plant.specs.declared.operator_row.RowFields.{RowFields}
@@ -50,8 +50,8 @@ pub record AreFramesFrom (plant : PlantFields) (start : Start) (steps : List Ste
   pub waiting_are : waiting ≡ drop (collects_of i steps) (frames_of (isolated_run_from plant.consts start row i steps).outputs)
   pub put_are : put ≡ map (λ frame. frame.1) (drop made (take (collects_of i steps) (frames_of (isolated_run_from plant.consts start row i steps).outputs)))
 
--- what is gathered after the run: it is gathered for the plant, the slices of its start and its re-slicings, the next MAP is the one behind those that were made, and no
--- more frames of an operator were collected than it put out
+-- what is gathered after the run: it is gathered for the plant, the slices of its start and its slice changes, the next MAP is the one after those that were made, and no
+-- more frames of an operator were collected than it output
 pub record IsGatheredFrom (plant : PlantFields) (start : Start) (steps : List Step) (outs : List Out) (gathering : Gathering) : Type 0 where
   pub channel_is : gathering.channel ≡ plant.consts.channel
   pub quotas_are : gathering.quotas ≡ map quota_of plant.rows

@@ -1,4 +1,4 @@
--- What a run of a plant shows: to each operator its own machine run alone, and MAPs of these machines' frames (own).
+-- What a run of a plant shows: to each operator its own machine run alone, and MAPs of these machines' frames (implementation-specific).
 use Rattle.std.specs.Prelude.{◌≡◌, ℕ, ◌<◌, ◌≤◌, List, map, length, All, slice_get, Option, Some, None, if◌then◌else◌, filter_map, ◌∷◌, [], ◌==◌}
 use Rattle.std.specs.List.{range_with_len}
 use Rattle.slice_scheduler.specs.declared.elements.ElementsFields.{ElementsFields}
@@ -64,13 +64,13 @@ pub record AreMapsFrom (plant : PlantFields) (start : Start) (steps : List Step)
   pub count : IsLeast plant steps (length made)
   pub each : All (IsMapFrom plant start steps) made
 
--- an output stands under one of so many operators, or is a MAP
+-- an output is under one of so many operators, or is a MAP
 abbrev pub IsUnder : ℕ → Out → Type 0
 IsUnder count (out.Of op output) = op < count
 IsUnder count (out.Map made) = Unit {0}
 
 -- to each operator its answers are those of its own machine run alone from where it starts, and the MAPs are of these machines'
--- frames; nothing stands under anybody else
+-- frames; nothing is under anybody else
 pub record IsTraceFrom (plant : PlantFields) (start : Start) (steps : List Step) (outs : List Out) : Type 0 where
   pub answers : (i : ℕ) (row : RowFields) → slice_get plant.rows i ≡ Some row → answers_of i outs ≡ (isolated_run_from plant.consts start row i steps).outputs
   pub maps : AreMapsFrom plant start steps (maps_in outs)

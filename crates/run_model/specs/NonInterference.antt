@@ -1,8 +1,15 @@
--- The headline: no operator notices what another's modems send (own).
+-- Non-interference between operators (implementation-specific), in the sense of Goguen and Meseguer: purging the inputs of all
+-- other domains leaves what a domain observes unchanged.
 --
--- For any two runs of plants that agree on an operator's provisioning and on the list of its own messages, requests, work
--- steps and ticks, whatever others are provisioned with and send and however all steps interleave, its modems' replies and
--- its part of every MAP are equal, and are those of its own machine run alone; no MAP gives a minislot twice.
+-- The domains are the operators, and the policy permits no flow from one to another. The inputs of an operator are its own steps
+-- (`own_steps`, which purges the others'): its modems' messages and requests, its work, its ticks, and its rows of slice changes.
+-- It observes its outputs (replies, drop reasons, frames) and its part of each MAP. Two runs are compared. The premises are that
+-- both are traces of their plants (`IsTraceOf`), that the plants agree on the operator's provisioning (`AgreeOn`), and that its
+-- own steps are equal. Then its observations are equal. The operators' rows, steps and states may otherwise differ in any way, and
+-- the steps may interleave in any way. A trace has for each operator the outputs of its machine run alone (`isolated_run`), and
+-- MAPs of which none gives a minislot twice, so the observations are those of the isolated run.
+--
+-- Not covered: when something happens, which frames have a MAP, and which step an allocation failure refuses.
 use Rattle.std.specs.Prelude.{◌≡◌, ℕ, List}
 use Rattle.std.specs.List.{Contains}
 use Rattle.plant.specs.declared.plant.PlantFields.{PlantFields}
@@ -17,17 +24,18 @@ use Rattle.run_model.specs.OwnSteps.{own_steps, answers_of, maps_in}
 use Rattle.run_model.specs.Starts.{Start}
 use Rattle.run_model.specs.IsTraceOf.{IsTraceOf, IsTraceFrom}
 
--- what the operator at place i of one run and the one at place j of the other notice is the same
+-- the operator at place i of one run and the one at place j of the other observe the same
 pub record NoticeTheSame (p : PlantFields) (i : ℕ) (outs : List Out) (q : PlantFields) (j : ℕ) (others : List Out) (agree : AgreeOn p i q j) : Type 0 where
   pub answers : answers_of i outs ≡ answers_of j others
   pub parts : (a b : MapBytes) (v w : MapView) → Contains (maps_in outs) a → Contains (maps_in others) b → a.frame ≡ b.frame
       → MapReads a.bytes v → MapReads b.bytes w → part_of agree.row.sids v ≡ part_of agree.row.sids w
 
+-- two runs from opened plants
 abbrev pub NonInterference : Type 0
 NonInterference = (p q : PlantFields) (i j : ℕ) (s t : List Step) (o u : List Out) (agree : AgreeOn p i q j)
     → IsTraceOf p s o → IsTraceOf q t u → own_steps agree.row i s ≡ own_steps agree.row j t → NoticeTheSame p i o q j u agree
 
--- the same for runs of plants that are resumed: where the operator starts in one state too
+-- two runs that start in any states, of which the operator's is the same
 abbrev pub NonInterferenceFrom : Type 0
 NonInterferenceFrom = (p q : PlantFields) (a b : Start) (i j : ℕ) (s t : List Step) (o u : List Out) (agree : AgreeOn p i q j)
     → IsTraceFrom p a s o → IsTraceFrom q b t u → a.state agree.row ≡ b.state agree.row → own_steps agree.row i s ≡ own_steps agree.row j t → NoticeTheSame p i o q j u agree

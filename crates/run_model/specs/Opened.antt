@@ -1,4 +1,4 @@
--- A core as it is opened (own).
+-- A core as it is opened (implementation-specific).
 use Rattle.std.specs.Prelude.{[], map, length, replicate}
 use Rattle.plant.specs.declared.consts.ConstsFields.{ConstsFields}
 use Rattle.plant.specs.declared.operator_row.RowFields.{RowFields}

@@ -1,4 +1,4 @@
--- The outputs of a run stand in the order of its steps (own).
+-- The outputs of a run are in the order of its steps (implementation-specific).
 use Rattle.std.specs.Prelude.{◌≡◌, ℕ, List, [], ◌∷◌, ◌++◌, slice_get, Option, Some, None, ◌+◌}
 use Rattle.plant.specs.declared.operator_row.RowFields.{RowFields}
 use Rattle.plant.specs.declared.plant.PlantFields.{PlantFields}
@@ -39,7 +39,7 @@ IsCollected plant before after [] = (n : ℕ) → IsLeast plant before n → IsL
 IsCollected plant before after (outs.Map made ∷ []) = (n : ℕ) → IsLeast plant before n → IsLeast plant after (n + 1)
 IsCollected plant before after other = ⊥
 
--- what one step put out, after the steps before it
+-- what one step output, after the steps before it
 abbrev pub IsToldFrom : PlantFields → Start → List Step → Step → Option (ℕ × Action) → List Out → Type 0
 IsToldFrom plant start before step (Some goal) now = AreOwnFrom plant start before goal.0 goal.1 now
 IsToldFrom plant start before (steps.Collect op) None now = IsCollected plant before (before ++ steps.Collect op ∷ []) now

@@ -1,4 +1,4 @@
--- Whose step a step is, and what of a plant's outputs is an operator's (own).
+-- Whose step a step is, and what of a plant's outputs is an operator's (implementation-specific).
 use Rattle.std.specs.Prelude.{◌==◌, ℕ, List, filter_map, map, count_by, Bool, false, Option, Some, None, slice_get, if◌then◌else◌}
 use Rattle.slice_scheduler.specs.Minislots.{Minislots}
 use Rattle.plant.specs.declared.operator_row.RowFields.{RowFields}
@@ -20,8 +20,8 @@ abbrev pub resliced_by : ℕ → Option SliceRow → Option Action
 resliced_by from None = None
 resliced_by from (Some row) = Some (actions.Reslice from row)
 
--- a step as an action of the operator with this row at this place, where it is one: what is heard of its modems, its work,
--- its ticks, and each re-slicing with its own row
+-- a step as an action of the operator with this row at this place, where it is one: what is received of its modems, its work,
+-- its ticks, and each slice change with its own row
 abbrev pub action_of : RowFields → ℕ → Step → Option Action
 action_of row i (steps.Arrive modem heard) = if is_listed modem row.modems then Some (actions.Arrive modem heard) else None
 action_of row i (steps.Work op) = if op == i then Some actions.Work else None
@@ -39,7 +39,7 @@ abbrev pub output_under : ℕ → Out → Option Output
 output_under i (outs.Of op output) = if op == i then Some output else None
 output_under i (outs.Map made) = None
 
--- what stands under an operator: its modems' replies, silent causes, and its frames
+-- what is under an operator: its modems' replies, silent causes, and its frames
 abbrev pub answers_of : ℕ → List Out → List Output
 answers_of i all = filter_map (output_under i) all
 
@@ -68,7 +68,7 @@ is_collect i (steps.Reslice from rows) = false
 abbrev pub collects_of : ℕ → List Step → ℕ
 collects_of i all = count_by (is_collect i) all
 
--- ---- re-slicings
+-- ---- slice changes
 
 abbrev pub slice_of : SliceRow → Minislots
 slice_of row = record { start = row.start; length = row.length }
@@ -81,6 +81,6 @@ reslicing_in (steps.Tick op) = None
 reslicing_in (steps.Collect op) = None
 reslicing_in (steps.Reslice from rows) = Some (record { from = from; slicing = map slice_of rows })
 
--- the re-slicings of these steps, in order
+-- the slice changes of these steps, in order
 abbrev pub reslicings_of : List Step → List Reslicing
 reslicings_of all = filter_map reslicing_in all

@@ -1,4 +1,4 @@
--- Steps one after the other (own).
+-- Steps one after the other (implementation-specific).
 use Rattle.std.specs.Prelude.{◌≡◌, List, [], ◌∷◌, ◌++◌}
 use Rattle.map_assembly.specs.Gathering.{IsGathering}
 use Rattle.run_model.specs.declared.step.Step.{Step}

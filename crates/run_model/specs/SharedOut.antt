@@ -1,4 +1,4 @@
--- What the bytes of a MAP of a run say of each minislot and to each operator (own).
+-- What the bytes of a MAP of a run say of each minislot and to each operator (implementation-specific).
 use Rattle.std.specs.Prelude.{◌≡◌, ℕ, ◌<◌, List, [], ◌∷◌, count_by, slice_get, Some}
 use Rattle.slice_scheduler.specs.declared.elements.ElementsFields.{ElementsFields}
 use Rattle.plant.specs.declared.operator_row.RowFields.{RowFields}

@@ -1,4 +1,4 @@
--- What one step makes of a core (own).
+-- What one step makes of a core (implementation-specific).
 use Rattle.std.specs.Prelude.{◌≡◌, ℕ, List, [], ◌∷◌, ◌++◌, map, length, AllPairs, slice_get, slice_set, false, Option, Some, None}
 use Rattle.slice_scheduler.specs.declared.elements.ElementsFields.{ElementsFields}
 use Rattle.slice_scheduler.specs.Minislots.{slices_overlap}

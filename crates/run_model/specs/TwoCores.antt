@@ -1,4 +1,4 @@
--- The headline at cores, and what a core answers to an operator's action (own).
+-- the non-interference theorem at cores, and what a core answers to an operator's action (implementation-specific).
 use Rattle.std.specs.Prelude.{◌≡◌, ℕ, List}
 use Rattle.plant.specs.Plant.{AgreeOn}
 use Rattle.operator_model.specs.declared.action.Action.{Action}
@@ -18,7 +18,7 @@ TwoCores = (a b : CoreView) (i j : ℕ) (s t : List Step) (o u : List Out) (agre
     → NoticeTheSame a.plant i o b.plant j u agree × (answers_of i o ≡ (isolated_run a.plant.consts agree.row i s).outputs)
 
 -- two operators of cores whose books agree on what all operators share, on the row and on the state answer an action alike,
--- whatever else stands in their cores
+-- whatever else is in their cores
 abbrev pub AnswerAlike : Type 0
 AnswerAlike = (i j : ℕ) (action : Action) (a a' b b' : CoreView) (now then : List Out)
     → (here : Acts i action a a' now) → (there : Acts j action b b' then) → here.book.consts ≡ there.book.consts

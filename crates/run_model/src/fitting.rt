@@ -1,4 +1,4 @@
-//! Laws of what the assembly takes: each frame that waits, and other slices that the books take.
+//! Laws of what the assembly takes: each frame that waits, and new slices that the books take.
 
 ghost use Rattle.std.specs.Prelude.{◌≡◌, ℕ, List, ◌∷◌, map, length, slice_get, Some, None};
 ghost use Rattle.plant.specs.declared.plant.PlantFields.{PlantFields};
@@ -13,8 +13,9 @@ ghost use Rattle.run_model.specs.Starts.{Start, IsStart};
 ghost use Rattle.run_model.specs.IsStateAfter.{CoreView, IsStateAfter, IsStateAfterFrom};
 ghost use Rattle.run_model.specs.Steps.{HaveSlicesApart, NoneRefuses};
 
-/// The assembly refuses no frame that waits: whatever steps were done, the oldest one of an operator has the number that comes
-/// next of it, the slice of its frame, the operator's own SIDs, and no more elements than its quota and one.
+/// States that the assembly refuses no frame that waits: whatever steps were done, the oldest one
+/// of an operator has the number that comes next of it, the slice of its frame, the operator's own
+/// SIDs, and no more elements than its quota and one.
 pub fn waiting_frames_fit()
     ensures { (plant : PlantFields) (steps : List Step) (outs : List Out) (core : CoreView) (i frame : ℕ)
         (part : ElementsFields) (waiting : List (ℕ × ElementsFields)) → IsPlant plant → IsStateAfter plant steps outs core
@@ -22,7 +23,7 @@ pub fn waiting_frames_fit()
         → slice_get core.queues i ≡ Some ((frame, part) ∷ waiting) → put_fault core.gathering i frame part ≡ None }
 {}
 
-/// Nor does it where the operators started in states that are sound under their rows.
+/// States that Nor does it where the operators started in states that are sound under their rows.
 pub fn waiting_frames_fit_from()
     ensures { (plant : PlantFields) (start : Start) (steps : List Step) (outs : List Out) (core : CoreView) (i frame : ℕ)
         (part : ElementsFields) (waiting : List (ℕ × ElementsFields)) → IsStart plant start
@@ -30,7 +31,8 @@ pub fn waiting_frames_fit_from()
         → slice_get core.queues i ≡ Some ((frame, part) ∷ waiting) → put_fault core.gathering i frame part ≡ None }
 {}
 
-/// Slices of which no two overlap and that each operator's book takes are taken by the assembly too.
+/// States that Slices of which no two overlap and that each operator's book takes are taken by the
+/// assembly too.
 pub fn slices_that_books_take_fit()
     ensures { (plant : PlantFields) (steps : List Step) (outs : List Out) (core : CoreView) (from : ℕ)
         (rows : List SliceRow) → IsPlant plant → IsStateAfter plant steps outs core → IsGathering core.gathering

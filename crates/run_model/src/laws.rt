@@ -15,8 +15,8 @@ ghost use Rattle.run_model.specs.Periods.{ChangesAreNotNoticed};
 ghost use Rattle.run_model.specs.Changing.{ServiceGoesThrough};
 ghost use Rattle.run_model.specs.TwoCores.{TwoCores, AnswerAlike};
 
-/// No operator notices what another's modems send: for any two runs of plants that agree on an operator's provisioning and on
-/// its own steps, its answers and its parts of the MAPs are equal.
+/// States non-interference: of any two runs of plants that agree on an operator's provisioning and on its own steps, the
+/// operator's outputs and its parts of the MAPs are equal.
 pub fn non_interference()
     ensures { NonInterference }
 {}
@@ -37,19 +37,21 @@ pub fn kept_rows_go_through()
     ensures { ServiceGoesThrough }
 {}
 
-/// The headline at cores: of two cores, each after its steps, which agree on an operator's provisioning and own steps, the
-/// operator's answers and its parts of the MAPs are equal, and are those of its own machine run alone.
+/// States non-interference at cores: of two cores, each after its steps, which agree on an
+/// operator's provisioning and own steps, the operator's answers and its parts of the MAPs are
+/// equal, and are those of its own machine run alone.
 pub fn two_cores()
     ensures { TwoCores }
 {}
 
-/// Two operators whose books agree answer an action alike, whatever else stands in their cores.
+/// States that two operators whose books agree answer an action alike, whatever else is in their
+/// cores.
 pub fn equal_books_answer_alike()
     ensures { AnswerAlike }
 {}
 
-/// Whatever the bytes of a MAP of a run say, each minislot of the frame is in exactly one span, and each operator's part is the
-/// frame of that number of its own machine run alone.
+/// States that whatever the bytes of a MAP of a run say, each minislot of the frame is in exactly
+/// one span, and each operator's part is the frame of that number of its own machine run alone.
 pub fn maps_are_shared_out()
     ensures { (plant : PlantFields) (steps : List Step) (outs : List Out) (made : MapBytes) (view : MapView)
         → IsTraceOf plant steps outs → Contains (maps_in outs) made → MapReads made.bytes view

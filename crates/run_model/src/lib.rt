@@ -1,5 +1,5 @@
-//! Runs of a plant: its steps, what they put out, and what a run shows to each operator. The definitions stand in specs/;
-//! `plant_core` carries them out.
+//! The model of a plant's runs, and the non-interference theorem about them. The definitions are in specs/, and `plant_core`
+//! implements them.
 #![tactic(auto)]
 
 mod fitting;

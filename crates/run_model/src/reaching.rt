@@ -12,14 +12,14 @@ ghost use Rattle.run_model.specs.Opened.{opened_core, started_core};
 ghost use Rattle.run_model.specs.Run.{IsRun};
 ghost use Rattle.run_model.specs.Steps.{Steps};
 
-/// A core is opened as it is after no step.
+/// States that a core is opened as it is after no step.
 pub fn opened_is_reached()
     ensures { (plant : PlantFields) → IsPlant plant → IsStateAfter plant [] [] (opened_core plant) }
 {}
 
-/// A step leaves the core as it is after that step more: to each operator its own machine run alone, the MAPs of these
-/// machines' frames, and all outputs in order. What the assembly always keeps of what it gathered is asked for, as it is what
-/// its type keeps.
+/// States that a step leaves the core as it is after that step more: to each operator its own
+/// machine run alone, the MAPs of these machines' frames, and all outputs in order. What the
+/// assembly always keeps of what it gathered is asked for, as it is what its type keeps.
 pub fn step_is_reached()
     ensures { (plant : PlantFields) (before : List Step) (outs : List Out) (step : Step) (old new : CoreView)
         (now : List Out) → IsPlant plant → IsStateAfter plant before outs old → IsGathering old.gathering
@@ -27,13 +27,13 @@ pub fn step_is_reached()
         → IsStateAfter plant (before ++ step ∷ []) (outs ++ now) new }
 {}
 
-/// A core whose operators start in given states is as it is after no step from there.
+/// States that a core whose operators start in given states is as it is after no step from there.
 pub fn start_is_reached()
     ensures { (plant : PlantFields) (start : Start) → IsPlant plant → StandAtOneFrame plant start
         → IsStateAfterFrom plant start [] [] (started_core plant start) }
 {}
 
-/// A step leaves a core as it is after that step more, wherever its operators started.
+/// States that a step leaves a core as it is after that step more, wherever its operators started.
 pub fn step_is_reached_from()
     ensures { (plant : PlantFields) (start : Start) (before : List Step) (outs : List Out) (step : Step)
         (old new : CoreView) (now : List Out) → IsPlant plant → IsStateAfterFrom plant start before outs old
@@ -41,8 +41,8 @@ pub fn step_is_reached_from()
         → IsStateAfterFrom plant start (before ++ step ∷ []) (outs ++ now) new }
 {}
 
-/// Whatever steps are done to an opened core, one after the other, the core is as it is after them, and the run shows to each
-/// operator its own machine run alone.
+/// States that whatever steps are done to an opened core, one after the other, the core is as it is
+/// after them, and the run shows to each operator its own machine run alone.
 pub fn run_is_reached()
     ensures { (plant : PlantFields) (steps : List Step) (outs : List Out) (core : CoreView) → IsPlant plant
         → IsRun steps (opened_core plant) core outs → IsStateAfter plant steps outs core }

@@ -1,4 +1,4 @@
-//! Steps of a plant, and what they put out.
+//! Steps of a plant, and what they output.
 
 ghost use Rattle.std.specs.Prelude.{◌≡◌, IfOk};
 
@@ -15,7 +15,7 @@ pub type SliceRows = Listed<SliceRow>;
 /// One step of a plant.
 #[derive(Debug, Drop)]
 pub enum Step {
-    /// Something is heard of a modem: it goes to the inbox of its operator.
+    /// Something is received of a modem: it goes to the inbox of its operator.
     Arrive { modem: Modem, heard: Heard },
     /// An operator handles the first of its inbox.
     Work { op: Op },
@@ -28,7 +28,7 @@ pub enum Step {
 }
 
 impl Step {
-    /// An equal step with memory of its own.
+    /// Returns an equal step with memory of its own.
     pub fn copy(&self, alloc: Global) -> Result<Step, AllocError>
         ensures { IfOk result (λ step. step ≡ self.now) }
     {
@@ -48,7 +48,7 @@ impl Step {
     }
 }
 
-/// What a step puts out.
+/// What a step of a plant outputs.
 #[derive(Debug, Drop)]
 pub enum Out {
     /// An output of an operator.

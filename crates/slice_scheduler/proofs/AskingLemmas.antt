@@ -9,7 +9,7 @@ use Rattle.std.proofs.lemmas.List.Sums.{sum_by-cons}
 use Rattle.grant_policy.specs.declared.policy.Policy.{Policy}
 use Rattle.slice_scheduler.specs.declared.claim.Claim.{Claim}
 use Rattle.slice_scheduler.specs.declared.award.Award.{Award}
-use Rattle.slice_scheduler.specs.declared.flowing.At.{At}
+use Rattle.slice_scheduler.specs.declared.flowing.AtFields.{AtFields}
 use Rattle.slice_scheduler.specs.declared.flowing.Flowing.{Flowing}
 use Rattle.slice_scheduler.specs.Claims.{claim_of, claims_of, room_of}
 use Rattle.slice_scheduler.specs.Awards.{goes_before, award_of, awards_of}
@@ -106,10 +106,10 @@ award_counts backlog reserve room =
     ]
 
 -- what is wanted by those that do not ask is none
-none_wanted : (policy : Policy) (at : At) (f : Flowing) → nat_lt 0 f.backlog ≡ false → (claim_of policy at f).left ≡ 0
+none_wanted : (policy : Policy) (at : AtFields) (f : Flowing) → nat_lt 0 f.backlog ≡ false → (claim_of policy at f).left ≡ 0
 none_wanted policy at f e = omega (arith, none_counts f.backlog e)
 
-award_alike : (policy : Policy) (at : At) (flows : List Flowing) (c : Claim)
+award_alike : (policy : Policy) (at : AtFields) (flows : List Flowing) (c : Claim)
     → award_of (room_of at flows) (claims_of policy at (asking flows)) c ≡ award_of (room_of at flows) (claims_of policy at flows) c
 award_alike policy at flows c =
     ap (λ (wanted : ℕ). record { sfid = c.sfid; sid = c.sid; rank = c.rank; backlog = c.base + c.left; grant = c.base + min c.left (room_of at flows - wanted) })
@@ -119,19 +119,19 @@ map-alike : {X Y : Type 0} (g h : X → Y) → ((x : X) → g x ≡ h x) → (xs
 map-alike g h same [] = refl
 map-alike {X} {Y} g h same (x ∷ xs) = ap (λ (y : Y). y ∷ map g xs) (same x) ∙ ap (λ (ys : List Y). h x ∷ ys) (map-alike g h same xs)
 
-counts_alike : (policy : Policy) (at : At) (flows : List Flowing) (f : Flowing)
+counts_alike : (policy : Policy) (at : AtFields) (flows : List Flowing) (f : Flowing)
     → counts (award_of (room_of at flows) (claims_of policy at flows) (claim_of policy at f)) ≡ nat_lt 0 f.backlog
 counts_alike policy at flows f = award_counts f.backlog _ _
 
 -- the awards of those that ask are the awards that count
-pub asking-awards : (policy : Policy) (at : At) (flows : List Flowing)
+pub asking-awards : (policy : Policy) (at : AtFields) (flows : List Flowing)
     → map (award_of (room_of at flows) (claims_of policy at (asking flows))) (claims_of policy at (asking flows)) ≡ filter counts (awards_of policy at flows)
 asking-awards policy at flows =
     map-alike (award_of (room_of at flows) (claims_of policy at (asking flows))) (award_of (room_of at flows) (claims_of policy at flows)) (award_alike policy at flows) (claims_of policy at (asking flows))
     ∙ (ap (map (award_of (room_of at flows) (claims_of policy at flows))) (kept-map (claim_of policy at) (λ (f : Flowing). nat_lt 0 f.backlog) (λ (c : Claim). counts (award_of (room_of at flows) (claims_of policy at flows) c)) (counts_alike policy at flows) flows)
     ∙ kept-map (award_of (room_of at flows) (claims_of policy at flows)) (λ (c : Claim). counts (award_of (room_of at flows) (claims_of policy at flows) c)) counts (λ c. refl) (claims_of policy at flows))
 
-no_piece : (at : At) (a : Award) → counts a ≡ false → award_pieces at a ≡ []
+no_piece : (at : AtFields) (a : Award) → counts a ≡ false → award_pieces at a ≡ []
 no_piece at a e = rw (uncounted a e).1 refl
 
 not_pending : (a : Award) → counts a ≡ false → nat_lt a.grant a.backlog ≡ false
@@ -140,7 +140,7 @@ not_pending a e = le-ltb a.grant a.backlog (omega (arith, (uncounted a e).0))
 not_granted : (a : Award) → counts a ≡ false → nat_lt 0 a.grant ≡ false
 not_granted a e = le-ltb 0 a.grant (omega (arith, (uncounted a e).1))
 
-pub asking-pieces : (at : At) (awards : List Award) → flat_map (award_pieces at) (by_rank (filter counts awards)) ≡ flat_map (award_pieces at) (by_rank awards)
+pub asking-pieces : (at : AtFields) (awards : List Award) → flat_map (award_pieces at) (by_rank (filter counts awards)) ≡ flat_map (award_pieces at) (by_rank awards)
 asking-pieces at awards =
     ap (flat_map (award_pieces at)) (kept-ranked (λ (a : Award). a.rank) counts 64 awards)
     ∙ kept-flat_map counts (award_pieces at) (no_piece at) (by_rank awards)
@@ -161,20 +161,20 @@ asked_more flows i f lt is =
     ap asking (take_more flows i f lt ∙ ap (λ (g : Flowing). take i flows ++ g ∷ []) (sym is))
     ∙ filter-append (λ (g : Flowing). nat_lt 0 g.backlog) (take i flows) (f ∷ [])
 
-pub claims-more : (policy : Policy) (at : At) (flows : List Flowing) (i : ℕ) (f : Flowing) (before after : List Claim) → i < length flows → f ≡ get_or flows i f → 0 < f.backlog
+pub claims-more : (policy : Policy) (at : AtFields) (flows : List Flowing) (i : ℕ) (f : Flowing) (before after : List Claim) → i < length flows → f ≡ get_or flows i f → 0 < f.backlog
     → before ≡ claims_of policy at (asking (take i flows)) → after ≡ before ++ claim_of policy at f ∷ [] → after ≡ claims_of policy at (asking (take (i + 1) flows))
 claims-more policy at flows i f before after lt is asks so_far put =
     put ∙ (ap (λ (cs : List Claim). cs ++ claim_of policy at f ∷ []) so_far
     ∙ (sym (map-append (claim_of policy at) (asking (take i flows)) (f ∷ []))
     ∙ ap (map (claim_of policy at)) (ap (λ (b : Bool). asking (take i flows) ++ cond b (f ∷ []) []) (sym (lt-ltb 0 f.backlog asks)) ∙ sym (asked_more flows i f lt is))))
 
-pub claims-same : (policy : Policy) (at : At) (flows : List Flowing) (i : ℕ) (f : Flowing) (before : List Claim) → i < length flows → f ≡ get_or flows i f → f.backlog ≤ 0
+pub claims-same : (policy : Policy) (at : AtFields) (flows : List Flowing) (i : ℕ) (f : Flowing) (before : List Claim) → i < length flows → f ≡ get_or flows i f → f.backlog ≤ 0
     → before ≡ claims_of policy at (asking (take i flows)) → before ≡ claims_of policy at (asking (take (i + 1) flows))
 claims-same policy at flows i f before lt is none so_far =
     so_far ∙ ap (map (claim_of policy at))
     (sym (append-nil (asking (take i flows))) ∙ (ap (λ (b : Bool). asking (take i flows) ++ cond b (f ∷ []) []) (sym (le-ltb 0 f.backlog none)) ∙ sym (asked_more flows i f lt is)))
 
-pub sound-more : (policy : Policy) (at : At) (flows : List Flowing) (i : ℕ) (f : Flowing) → i < length flows → f ≡ get_or flows i f
+pub sound-more : (policy : Policy) (at : AtFields) (flows : List Flowing) (i : ℕ) (f : Flowing) → i < length flows → f ≡ get_or flows i f
     → All IsClaim (claims_of policy at (take i flows)) → IsClaim (claim_of policy at f) → All IsClaim (claims_of policy at (take (i + 1) flows))
 sound-more policy at flows i f lt is so_far here =
     subst (λ (cs : List Claim). All IsClaim cs)

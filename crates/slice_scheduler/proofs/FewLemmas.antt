@@ -14,7 +14,7 @@ use Rattle.grant_policy.specs.declared.policy.Policy.{Policy}
 use Rattle.slice_scheduler.specs.declared.piece.Piece.{Piece}
 use Rattle.slice_scheduler.specs.declared.span.Span.{Span}
 use Rattle.slice_scheduler.specs.declared.award.Award.{Award}
-use Rattle.slice_scheduler.specs.declared.flowing.At.{At}
+use Rattle.slice_scheduler.specs.declared.flowing.AtFields.{AtFields}
 use Rattle.slice_scheduler.specs.declared.flowing.Flowing.{Flowing}
 use Rattle.slice_scheduler.specs.Due.{is_due, due_pieces, pieces_when_due, iuc_of}
 use Rattle.slice_scheduler.specs.Claims.{claim_of, claims_of, room_of}
@@ -30,14 +30,14 @@ use Rattle.slice_scheduler.proofs.TotalLemmas.{sum_by-map}
 -- ---- an award
 
 -- its grant as it is put, where it is more than none
-abbrev piece_of : At → Award → Piece
+abbrev piece_of : AtFields → Award → Piece
 piece_of at a = record { sid = a.sid; iuc = iuc_of at a.grant; len = a.grant }
 
 -- its grant, and its SID where it asks for more
-abbrev for_award : At → Award → ℕ
+abbrev for_award : AtFields → Award → ℕ
 for_award at a = length (award_pieces at a) + cond (nat_lt a.grant a.backlog) 1 0
 
-two_at_most : (at : At) (a : Award) → for_award at a ≤ 2
+two_at_most : (at : AtFields) (a : Award) → for_award at a ≤ 2
 two_at_most at a = by (a.grant == 0) (nat_lt a.grant a.backlog)
   where
     by : (b c : Bool) → length (cond b [] (piece_of at a ∷ [])) + cond {A = ℕ} c 1 0 ≤ 2
@@ -47,14 +47,14 @@ two_at_most at a = by (a.grant == 0) (nat_lt a.grant a.backlog)
     by false false = omega arith
 
 -- none where nothing is asked
-none_asked : (at : At) (a : Award) → a.grant ≡ 0 → a.backlog ≡ 0 → for_award at a ≡ 0
+none_asked : (at : AtFields) (a : Award) → a.grant ≡ 0 → a.backlog ≡ 0 → for_award at a ≡ 0
 none_asked at a granted asked = omega (
   arith,
   ap (λ (b : Bool). length (cond b [] (piece_of at a ∷ []))) (eq-eqb a.grant 0 granted),
   ap (λ (b : Bool). cond {A = ℕ} b 1 0) (le-ltb a.grant a.backlog (omega arith)),
 )
 
-for_awards : (at : At) (awards : List Award) → length (flat_map (award_pieces at) awards) + length (filter (λ (a : Award). nat_lt a.grant a.backlog) awards) ≡ sum_by (for_award at) awards
+for_awards : (at : AtFields) (awards : List Award) → length (flat_map (award_pieces at) awards) + length (filter (λ (a : Award). nat_lt a.grant a.backlog) awards) ≡ sum_by (for_award at) awards
 for_awards at awards = omega (
   arith,
   length-flat_map (award_pieces at) awards,
@@ -64,7 +64,7 @@ for_awards at awards = omega (
 
 -- ---- a flow
 
-for_flow : (at : At) (f : Flowing) (a : Award) → (f.backlog ≡ 0 → for_award at a ≡ 0) → AsksWhereItMay f → length (due_pieces at f) + for_award at a ≤ (need_of f.set at.units).elements
+for_flow : (at : AtFields) (f : Flowing) (a : Award) → (f.backlog ≡ 0 → for_award at a ≡ 0) → AsksWhereItMay f → length (due_pieces at f) + for_award at a ≤ (need_of f.set at.units).elements
 for_flow at f a none asks = by (is_due at f) f.set.scheduling (λ s. none (asks s))
   where
     by : (b : Bool) (s : Scheduling) → (s ≡ UnsolicitedGrant → for_award at a ≡ 0) → length (cond b (pieces_when_due s at f) []) + for_award at a ≤ (need_of_kind s f.set at.units).elements
@@ -91,7 +91,7 @@ length-packed start (piece ∷ pieces) = omega (arith, length-packed (start + pi
 one_idle : (n : ℕ) → length (idle n) ≤ 1
 one_idle n = elim (n == 0) as (λ b. length (cond b [] (spare n ∷ [])) ≤ 1) [ true ↦ omega arith | false ↦ omega arith ]
 
-module _ (policy : Policy) (at : At) (flows : List Flowing) where
+module _ (policy : Policy) (at : AtFields) (flows : List Flowing) where
   abbrev award_for : Flowing → Award
   award_for f = award_of (room_of at flows) (claims_of policy at flows) (claim_of policy at f)
 
@@ -145,7 +145,7 @@ none-nobody (piece ∷ pieces) named = omega (
   none-nobody pieces named.1,
 )
 
-pub one-nobody : (policy : Policy) (at : At) (flows : List Flowing) → AllByRecursion (λ (f : Flowing). f.sid ≢ 0) flows → count_by (λ (span : Span). span.sid == 0) (spans_of policy at flows) ≤ 1
+pub one-nobody : (policy : Policy) (at : AtFields) (flows : List Flowing) → AllByRecursion (λ (f : Flowing). f.sid ≢ 0) flows → count_by (λ (span : Span). span.sid == 0) (spans_of policy at flows) ≤ 1
 one-nobody policy at flows named =
     let left : ℕ = at.slice.length - minislots_in (pieces_of policy at flows) in
     omega (

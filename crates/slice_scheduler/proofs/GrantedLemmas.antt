@@ -3,7 +3,7 @@ use Rattle.std.proofs.Common.{◌≡◌, Bool, true, false, cond, List, [], ◌�
 use Rattle.std.specs.Prelude.{nat_lt}
 use Rattle.grant_policy.specs.declared.policy.Policy.{Policy}
 use Rattle.slice_scheduler.specs.declared.award.Award.{Award}
-use Rattle.slice_scheduler.specs.declared.flowing.At.{At}
+use Rattle.slice_scheduler.specs.declared.flowing.AtFields.{AtFields}
 use Rattle.slice_scheduler.specs.declared.flowing.Flowing.{Flowing}
 use Rattle.slice_scheduler.specs.Claims.{claim_of, claims_of, room_of}
 use Rattle.slice_scheduler.specs.Awards.{award_of, grant_of}
@@ -28,7 +28,7 @@ map-map : {X Y Z : Type 0} (f : X → Y) (g : Y → Z) (xs : List X) → map g (
 map-map f g [] = refl
 map-map f g (x ∷ xs) = ap (λ zs. g (f x) ∷ zs) (map-map f g xs)
 
-pub granted_is : (policy : Policy) (at : At) (flows : List Flowing) → granted_of policy at flows ≡ map (λ f. (f.sfid, grant_of policy at flows f)) (filter (λ f. nat_lt 0 (grant_of policy at flows f)) flows)
+pub granted_is : (policy : Policy) (at : AtFields) (flows : List Flowing) → granted_of policy at flows ≡ map (λ f. (f.sfid, grant_of policy at flows f)) (filter (λ f. nat_lt 0 (grant_of policy at flows f)) flows)
 granted_is policy at flows =
     ap (λ (awards : List Award). map (λ (a : Award). (a.sfid, a.grant)) (filter (λ (a : Award). nat_lt 0 a.grant) awards)) (map-map (claim_of policy at) (award_of (room_of at flows) (claims_of policy at flows)) flows)
     ∙ told_through (λ (f : Flowing). award_of (room_of at flows) (claims_of policy at flows) (claim_of policy at f)) (λ (a : Award). nat_lt 0 a.grant) (λ (a : Award). (a.sfid, a.grant)) flows

@@ -12,7 +12,7 @@ use Rattle.slice_scheduler.specs.declared.piece.Piece.{Piece}
 use Rattle.slice_scheduler.specs.declared.span.Span.{Span}
 use Rattle.slice_scheduler.specs.declared.claim.Claim.{Claim}
 use Rattle.slice_scheduler.specs.declared.award.Award.{Award}
-use Rattle.slice_scheduler.specs.declared.flowing.At.{At}
+use Rattle.slice_scheduler.specs.declared.flowing.AtFields.{AtFields}
 use Rattle.slice_scheduler.specs.declared.flowing.Flowing.{Flowing}
 use Rattle.slice_scheduler.specs.Due.{is_due, due_pieces, pieces_when_due, iuc_of}
 use Rattle.slice_scheduler.specs.Claims.{claim_of, claims_of, room_of}
@@ -35,7 +35,7 @@ module _ (P : ℕ → Type 0) where
   abbrev OfAward : Award → Type 0
   OfAward a = P a.sid
 
-  due-named : (at : At) (f : Flowing) → P f.sid → AllByRecursion OfPiece (due_pieces at f)
+  due-named : (at : AtFields) (f : Flowing) → P f.sid → AllByRecursion OfPiece (due_pieces at f)
   due-named at f h = by (is_due at f) f.set.scheduling
     where
       by : (b : Bool) (s : Scheduling) → AllByRecursion OfPiece (cond b (pieces_when_due s at f) [])
@@ -46,7 +46,7 @@ module _ (P : ℕ → Type 0) where
       by true UnsolicitedGrant = recursion-replicate OfPiece f.set.grants_per_interval
           (record { sid = f.sid; iuc = iuc_of at (minislots_of f.set.grant_size at.units); len = minislots_of f.set.grant_size at.units }) h
 
-  award-named : (at : At) (a : Award) → P a.sid → AllByRecursion OfPiece (award_pieces at a)
+  award-named : (at : AtFields) (a : Award) → P a.sid → AllByRecursion OfPiece (award_pieces at a)
   award-named at a h = by (a.grant == 0)
     where
       by : (b : Bool) → AllByRecursion OfPiece (cond b [] (record { sid = a.sid; iuc = iuc_of at a.grant; len = a.grant } ∷ []))
@@ -60,7 +60,7 @@ module _ (P : ℕ → Type 0) where
   packed-named start [] a = tt
   packed-named start (piece ∷ pieces) a = (a.0, packed-named (start + piece.len) pieces a.1)
 
-  module _ (policy : Policy) (at : At) (flows : List Flowing) (named : AllByRecursion (λ (f : Flowing). P f.sid) flows) where
+  module _ (policy : Policy) (at : AtFields) (flows : List Flowing) (named : AllByRecursion (λ (f : Flowing). P f.sid) flows) where
     served-named : AllByRecursion OfAward (by_rank (awards_of policy at flows))
     served-named = ranked OfAward (λ a. a.rank) 64 (awards_of policy at flows)
         (recursion-map OfAward (award_of (room_of at flows) (claims_of policy at flows)) (claims_of policy at flows)
@@ -83,7 +83,7 @@ module _ (P : ℕ → Type 0) where
 
 -- ---- the SIDs are the flows'
 
-module _ (policy : Policy) (at : At) (flows : List Flowing) where
+module _ (policy : Policy) (at : AtFields) (flows : List Flowing) where
   abbrev sids : List ℕ
   sids = map (λ (f : Flowing). f.sid) flows
 

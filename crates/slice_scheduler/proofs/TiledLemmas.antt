@@ -14,7 +14,7 @@ use Rattle.param_sets.specs.declared.scheduling.Scheduling.TheVariants.{BestEffo
 use Rattle.grant_policy.specs.declared.policy.Policy.{Policy}
 use Rattle.slice_scheduler.specs.declared.piece.Piece.{Piece}
 use Rattle.slice_scheduler.specs.declared.award.Award.{Award}
-use Rattle.slice_scheduler.specs.declared.flowing.At.{At}
+use Rattle.slice_scheduler.specs.declared.flowing.AtFields.{AtFields}
 use Rattle.slice_scheduler.specs.declared.flowing.Flowing.{Flowing}
 use Rattle.slice_scheduler.specs.Due.{is_due, minislots_when_due, due_pieces, pieces_when_due, iuc_of}
 use Rattle.slice_scheduler.specs.Claims.{base_of, taken_of}
@@ -40,7 +40,7 @@ some_minislots bytes (suc n) some = by (div_ceil bytes (suc n)) refl
     by zero is = absurd (omega (arith, low, ap (λ (m : ℕ). m * suc n) is))
     by (suc minislots) is = omega arith
 
-some_due : (at : At) (f : Flowing) → IsOfItsKind f → AllByRecursion HasMinislots (due_pieces at f)
+some_due : (at : AtFields) (f : Flowing) → IsOfItsKind f → AllByRecursion HasMinislots (due_pieces at f)
 some_due at f kind = by (is_due at f) f.set.scheduling kind
   where
     by : (b : Bool) (s : Scheduling) → IsOfKind s f.set → AllByRecursion HasMinislots (cond b (pieces_when_due s at f) [])
@@ -52,7 +52,7 @@ some_due at f kind = by (is_due at f) f.set.scheduling kind
         (record { sid = f.sid; iuc = iuc_of at (minislots_of f.set.grant_size at.units); len = minislots_of f.set.grant_size at.units })
         (some_minislots f.set.grant_size at.units.bytes_per_minislot kind.1.grant_size)
 
-some_awarded : (at : At) (a : Award) → AllByRecursion HasMinislots (award_pieces at a)
+some_awarded : (at : AtFields) (a : Award) → AllByRecursion HasMinislots (award_pieces at a)
 some_awarded at a = by (cases_eq a.grant 0)
   where
     piece : Piece
@@ -62,7 +62,7 @@ some_awarded at a = by (cases_eq a.grant 0)
     by (inl e) = subst (λ (b : Bool). AllByRecursion HasMinislots (cond b [] (piece ∷ []))) (sym (eq-eqb a.grant 0 e)) tt
     by (inr e) = subst (λ (b : Bool). AllByRecursion HasMinislots (cond b [] (piece ∷ []))) (sym (ne_eqb a.grant 0 e)) (omega arith, tt)
 
-some_pieces : (policy : Policy) (at : At) (flows : List Flowing) → AllByRecursion IsOfItsKind flows → AllByRecursion HasMinislots (pieces_of policy at flows)
+some_pieces : (policy : Policy) (at : AtFields) (flows : List Flowing) → AllByRecursion IsOfItsKind flows → AllByRecursion HasMinislots (pieces_of policy at flows)
 some_pieces policy at flows kinds = recursion-append HasMinislots (flat_map (due_pieces at) flows) (flat_map (award_pieces at) (by_rank (awards_of policy at flows)))
     (recursion-flat_map HasMinislots (due_pieces at) flows (recursion-weaker IsOfItsKind (λ f. AllByRecursion HasMinislots (due_pieces at f)) (some_due at) flows kinds))
     (recursion-flat_map HasMinislots (award_pieces at) (by_rank (awards_of policy at flows)) (recursion-each (λ a. AllByRecursion HasMinislots (award_pieces at a)) (some_awarded at) (by_rank (awards_of policy at flows))))
@@ -72,7 +72,7 @@ some_pieces policy at flows kinds = recursion-append HasMinislots (flat_map (due
 no_reserve : (units : UnitSizes) (rate : ℕ) → rate ≡ 0 → reserve_of rate units ≡ 0
 no_reserve units rate none = ap (λ (r : ℕ). reserve_of r units) none ∙ omega (arith, zero-div (8000000 * units.bytes_per_minislot), div-add-mod' 0 (8000000 * units.bytes_per_minislot))
 
-taken-needed : (at : At) (f : Flowing) → IsOfItsKind f → taken_of at f ≤ need_at at f
+taken-needed : (at : AtFields) (f : Flowing) → IsOfItsKind f → taken_of at f ≤ need_at at f
 taken-needed at f kind = by (is_due at f) f.set.scheduling kind
   where
     by : (b : Bool) (s : Scheduling) → IsOfKind s f.set → cond b (minislots_when_due s f.set at.units) 0 + base_of at f ≤ (need_of_kind s f.set at.units).minislots
@@ -87,7 +87,7 @@ taken-needed at f kind = by (is_due at f) f.set.scheduling kind
 
 -- ---- all of it
 
-pub elements-tiled : (policy : Policy) (at : At) (flows : List Flowing) → SfidsAscend flows → needed at flows ≤ at.slice.length → AllByRecursion IsOfItsKind flows → IsTiled (elements_of policy at flows)
+pub elements-tiled : (policy : Policy) (at : AtFields) (flows : List Flowing) → SfidsAscend flows → needed at flows ≤ at.slice.length → AllByRecursion IsOfItsKind flows → IsTiled (elements_of policy at flows)
 elements-tiled policy at flows ascend fits kinds =
     let taken : sum_by (taken_of at) flows ≤ needed at flows = sum_by-le (taken_of at) (need_at at) flows (recursion-weaker IsOfItsKind (λ f. taken_of at f ≤ need_at at f) (taken-needed at) flows kinds) in
     record { tiles = packed_whole at.slice.start at.slice.length (pieces_of policy at flows) (some_pieces policy at flows kinds) (pieces-fit policy at flows ascend (omega arith)) }

@@ -11,7 +11,7 @@ use Rattle.grant_policy.specs.declared.policy.Policy.{Policy}
 use Rattle.slice_scheduler.specs.declared.piece.Piece.{Piece}
 use Rattle.slice_scheduler.specs.declared.claim.Claim.{Claim}
 use Rattle.slice_scheduler.specs.declared.award.Award.{Award}
-use Rattle.slice_scheduler.specs.declared.flowing.At.{At}
+use Rattle.slice_scheduler.specs.declared.flowing.AtFields.{AtFields}
 use Rattle.slice_scheduler.specs.declared.flowing.Flowing.{Flowing}
 use Rattle.slice_scheduler.specs.Due.{is_due, due_minislots, minislots_when_due, due_pieces, pieces_when_due, iuc_of}
 use Rattle.slice_scheduler.specs.Claims.{claim_of, claims_of, base_of, taken_of, room_of}
@@ -38,14 +38,14 @@ minislots-replicate : (n : ℕ) (p : Piece) → minislots_in (replicate n p) ≡
 minislots-replicate zero p = omega arith
 minislots-replicate (suc n) p = sum_by-cons (λ (q : Piece). q.len) p (replicate n p) ∙ omega (arith, minislots-replicate n p)
 
-due_when : (at : At) (f : Flowing) (kind : Scheduling) → minislots_in (pieces_when_due kind at f) ≡ minislots_when_due kind f.set at.units
+due_when : (at : AtFields) (f : Flowing) (kind : Scheduling) → minislots_in (pieces_when_due kind at f) ≡ minislots_when_due kind f.set at.units
 due_when at f BestEffort = refl
 due_when at f NonRealTimePolling = refl
 due_when at f RealTimePolling = refl
 due_when at f UnsolicitedGrant = minislots-replicate f.set.grants_per_interval
     (record { sid = f.sid; iuc = iuc_of at (minislots_of f.set.grant_size at.units); len = minislots_of f.set.grant_size at.units })
 
-due_is : (at : At) (f : Flowing) → minislots_in (due_pieces at f) ≡ due_minislots at f
+due_is : (at : AtFields) (f : Flowing) → minislots_in (due_pieces at f) ≡ due_minislots at f
 due_is at f = elim (is_due at f) as (λ b. minislots_in (cond b (pieces_when_due f.set.scheduling at f) []) ≡ cond b (minislots_when_due f.set.scheduling f.set at.units) 0) [
   | true ↦ due_when at f f.set.scheduling
   | false ↦ refl
@@ -53,10 +53,10 @@ due_is at f = elim (is_due at f) as (λ b. minislots_in (cond b (pieces_when_due
 
 -- ---- what is awarded
 
-abbrev piece_of : At → Award → Piece
+abbrev piece_of : AtFields → Award → Piece
 piece_of at a = record { sid = a.sid; iuc = iuc_of at a.grant; len = a.grant }
 
-award_is : (at : At) (a : Award) → minislots_in (award_pieces at a) ≡ a.grant
+award_is : (at : AtFields) (a : Award) → minislots_in (award_pieces at a) ≡ a.grant
 award_is at a = by (cases_eq a.grant 0)
   where
     by : (a.grant ≡ 0) ⊎ (a.grant ≡ 0 → ⊥) → minislots_in (award_pieces at a) ≡ a.grant
@@ -112,10 +112,10 @@ awards-full room claims i e sound ascend lt less =
 
 -- ---- all of it
 
-pub claims-ascend : (policy : Policy) (at : At) (flows : List Flowing) → SfidsAscend flows → ClaimsAscend (claims_of policy at flows)
+pub claims-ascend : (policy : Policy) (at : AtFields) (flows : List Flowing) → SfidsAscend flows → ClaimsAscend (claims_of policy at flows)
 claims-ascend policy at flows ascend = Ascends-map (λ (c : Claim). c.sfid) (claim_of policy at) flows ascend
 
-pub pieces-fit : (policy : Policy) (at : At) (flows : List Flowing) → SfidsAscend flows → sum_by (taken_of at) flows ≤ at.slice.length
+pub pieces-fit : (policy : Policy) (at : AtFields) (flows : List Flowing) → SfidsAscend flows → sum_by (taken_of at) flows ≤ at.slice.length
     → minislots_in (pieces_of policy at flows) ≤ at.slice.length
 pieces-fit policy at flows ascend fits =
     let due : minislots_in (flat_map (due_pieces at) flows) ≡ sum_by (due_minislots at) flows = sum_by-flat_map (λ (q : Piece). q.len) (due_pieces at) (due_minislots at) (due_is at) flows in
@@ -130,7 +130,7 @@ pieces-fit policy at flows ascend fits =
     omega arith
 
 -- the minislots that are granted, part by part
-parts : (policy : Policy) (at : At) (flows : List Flowing)
+parts : (policy : Policy) (at : AtFields) (flows : List Flowing)
     → minislots_in (pieces_of policy at flows) + sum_by (base_of at) flows ≡ sum_by (taken_of at) flows + sum_by (λ (a : Award). a.grant) (by_rank (awards_of policy at flows))
 parts policy at flows =
     let due : minislots_in (flat_map (due_pieces at) flows) ≡ sum_by (due_minislots at) flows = sum_by-flat_map (λ (q : Piece). q.len) (due_pieces at) (due_minislots at) (due_is at) flows in
@@ -141,7 +141,7 @@ parts policy at flows =
     sum_by-append (λ (q : Piece). q.len) (flat_map (due_pieces at) flows) (flat_map (award_pieces at) (by_rank (awards_of policy at flows))) in
     omega arith
 
-pub nothing-idle : (policy : Policy) (at : At) (flows : List Flowing) → All IsClaim (claims_of policy at flows) → SfidsAscend flows → sum_by (taken_of at) flows ≤ at.slice.length
+pub nothing-idle : (policy : Policy) (at : AtFields) (flows : List Flowing) → All IsClaim (claims_of policy at flows) → SfidsAscend flows → sum_by (taken_of at) flows ≤ at.slice.length
     → All (LeavesNothingIdle policy at flows) flows
 nothing-idle policy at flows sound ascend fits i e lt less =
     let f : Flowing = get_or flows i e in

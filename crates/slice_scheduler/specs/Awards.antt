@@ -1,9 +1,9 @@
--- What each flow is granted of a frame for its backlog (own).
+-- What each flow is granted of a frame for its backlog (implementation-specific).
 use Rattle.std.specs.Prelude.{ℕ, ◌-◌, ◌+◌, ◌==◌, nat_lt, Bool, if◌then◌else◌, min, List, map, filter, sum_by}
 use Rattle.grant_policy.specs.declared.policy.Policy.{Policy}
 use Rattle.slice_scheduler.specs.declared.claim.Claim.{Claim}
 use Rattle.slice_scheduler.specs.declared.award.Award.{Award}
-use Rattle.slice_scheduler.specs.declared.flowing.At.{At}
+use Rattle.slice_scheduler.specs.declared.flowing.AtFields.{AtFields}
 use Rattle.slice_scheduler.specs.declared.flowing.Flowing.{Flowing}
 use Rattle.slice_scheduler.specs.Claims.{claim_of, claims_of, room_of}
 
@@ -29,9 +29,9 @@ award_of room claims c = record {
 }
 
 -- the award of each flow, in the flows' order
-abbrev pub awards_of : Policy → At → List Flowing → List Award
+abbrev pub awards_of : Policy → AtFields → List Flowing → List Award
 awards_of policy at flows = map (award_of (room_of at flows) (claims_of policy at flows)) (claims_of policy at flows)
 
 -- what a flow is granted
-abbrev pub grant_of : Policy → At → List Flowing → Flowing → ℕ
+abbrev pub grant_of : Policy → AtFields → List Flowing → Flowing → ℕ
 grant_of policy at flows f = (award_of (room_of at flows) (claims_of policy at flows) (claim_of policy at f)).grant

@@ -1,4 +1,4 @@
--- The minislots that are one operator's (own).
+-- The minislots that are one operator's (implementation-specific).
 use Rattle.std.specs.Prelude.{ℕ, ◌+◌, ◌≤◌, ◌&&◌, nat_lt, Bool}
 
 -- so many minislots from this one on

@@ -1,10 +1,10 @@
--- Flows that a slice can serve (own).
+-- Flows that a slice can serve (implementation-specific).
 use Rattle.std.specs.Prelude.{◌≡◌, ℕ, ◌≤◌, ◌<◌, List, [], ◌∷◌, sum_by}
 use Rattle.std.specs.List.{AllByRecursion}
 use Rattle.param_sets.specs.Need.{need_of}
 use Rattle.param_sets.specs.ParamSet.{IsOfKind}
 use Rattle.param_sets.specs.declared.scheduling.Scheduling.TheVariants.{UnsolicitedGrant}
-use Rattle.slice_scheduler.specs.declared.flowing.At.{At}
+use Rattle.slice_scheduler.specs.declared.flowing.AtFields.{AtFields}
 use Rattle.slice_scheduler.specs.declared.flowing.Flowing.{Flowing}
 
 -- each key is below those of the later elements
@@ -12,7 +12,7 @@ abbrev pub Ascends : {X : Type 0} → (X → ℕ) → List X → Type 0
 Ascends key [] = Unit {0}
 Ascends key (x ∷ xs) = AllByRecursion (λ y. key x < key y) xs × Ascends key xs
 
--- the flows stand by SFID, each once
+-- the flows are sorted by SFID, each once
 abbrev pub SfidsAscend : List Flowing → Type 0
 SfidsAscend flows = Ascends (λ f. f.sfid) flows
 
@@ -25,18 +25,18 @@ pub record IsPast (frame : ℕ) (f : Flowing) : Type 0 where
 abbrev pub IsOfItsKind : Flowing → Type 0
 IsOfItsKind f = IsOfKind f.set.scheduling f.set
 
--- a flow with unsolicited grants asks for nothing beside them
+-- a flow with unsolicited grants asks for nothing next to them
 abbrev pub AsksWhereItMay : Flowing → Type 0
 AsksWhereItMay f = f.set.scheduling ≡ UnsolicitedGrant → f.backlog ≡ 0
 
 -- the minislots that the parameter set of a flow needs of each frame
-abbrev pub need_at : At → Flowing → ℕ
+abbrev pub need_at : AtFields → Flowing → ℕ
 need_at at f = (need_of f.set at.units).minislots
 
 -- those of all flows
-abbrev pub needed : At → List Flowing → ℕ
+abbrev pub needed : AtFields → List Flowing → ℕ
 needed at flows = sum_by (need_at at) flows
 
 -- the elements that the parameter sets of all flows need of each frame's MAP
-abbrev pub elements_needed : At → List Flowing → ℕ
+abbrev pub elements_needed : AtFields → List Flowing → ℕ
 elements_needed at flows = sum_by (λ f. (need_of f.set at.units).elements) flows

@@ -1,4 +1,4 @@
--- Spans that are the minislots of a slice, each in exactly one (own).
+-- Spans that are the minislots of a slice, each in exactly one (implementation-specific).
 use Rattle.std.specs.Prelude.{◌≡◌, ℕ, ◌+◌, ◌<◌, List, [], ◌∷◌}
 use Rattle.slice_scheduler.specs.declared.span.Span.{Span}
 use Rattle.slice_scheduler.specs.declared.elements.ElementsFields.{ElementsFields}

@@ -11,7 +11,7 @@ use crate::flowing::{At, Flowing};
 use grant_policy::{RankInput, Ranking, rank_at_most_63};
 use std::alloc::{AllocError, Global};
 
-/// The minislots of a flow's backlog that its reserved rate covers.
+/// Returns the minislots of a flow's backlog that its reserved rate covers.
 fn base(at: &At, flow: &Flowing) -> u16
     ensures value { result ≡ base_of at.now flow.now }
     ensures most { result ≤ flow.now.backlog }
@@ -19,11 +19,11 @@ fn base(at: &At, flow: &Flowing) -> u16
     if flow.backlog == 0 {
         return 0;
     }
-    let reserve = at.units.reserve(flow.set.get_min_reserved_rate());
+    let reserve = at.get_units().reserve(flow.set.get_min_reserved_rate());
     u32::from(flow.backlog).min(reserve) as u16
 }
 
-/// What a flow has before the rest is shared.
+/// Returns what a flow has before the rest is shared.
 fn taken(at: &At, flow: &Flowing) -> u32
     requires { IsPast at.now.frame flow.now }
     ensures value { result ≡ taken_of at.now flow.now }
@@ -33,27 +33,27 @@ fn taken(at: &At, flow: &Flowing) -> u32
     minislots_due(at, flow) + u32::from(base(at, flow))
 }
 
-/// The minislots of the slice that are shared.
+/// Returns the minislots of the slice that are shared.
 pub(crate) fn room(flows: &[Flowing], at: &At) -> u16
     requires past { All (IsPast at.now.frame) flows.now }
     requires within { needed at.now flows.now ≤ at.now.slice.length }
     ensures value { result ≡ room_of at.now flows.now }
     ensures fits { sum_by (taken_of at.now) flows.now ≤ at.now.slice.length }
 {
-    let mut room = u32::from(at.slice.get_length());
+    let mut room = u32::from(at.get_slice().get_length());
     for flow in flows {
         room -= taken(at, flow);
     }
     room as u16
 }
 
-/// What a flow claims.
+/// Returns what a flow claims.
 fn claim(flow: &Flowing, at: &At, ranking: &Ranking) -> Claim
     requires { IsPast at.now.frame flow.now }
     ensures value { result ≡ claim_of ranking.now.policy at.now flow.now }
     ensures sound { IsClaim result }
 {
-    let age = (at.frame - flow.since).min(255) as u8;
+    let age = (at.get_frame() - flow.since).min(255) as u8;
     let input = RankInput::new(flow.set.get_priority(), age, flow.backlog);
     let base = base(at, flow);
     Claim {
@@ -65,7 +65,7 @@ fn claim(flow: &Flowing, at: &At, ranking: &Ranking) -> Claim
     }
 }
 
-/// A law: what a flow claims has the numbers of a claim, whether it asks or not. Does nothing.
+/// States that what a flow claims has the numbers of a claim, whether it asks or not. Does nothing.
 fn always_claims(flow: &Flowing, at: &At, ranking: &Ranking)
     requires { IsPast at.now.frame flow.now }
     ensures { IsClaim (claim_of ranking.now.policy at.now flow.now) }
@@ -73,11 +73,11 @@ fn always_claims(flow: &Flowing, at: &At, ranking: &Ranking)
     rank_at_most_63();
     let _priority = flow.set.get_priority();
     let _backlog = flow.backlog;
-    let _frame = at.frame;
+    let _frame = at.get_frame();
     let _policy = ranking.policy();
 }
 
-/// What each flow that asks claims, in the flows' order.
+/// Returns what each flow that asks claims, in the flows' order.
 pub(crate) fn claims(
     alloc: Global,
     flows: &[Flowing],

@@ -12,7 +12,7 @@ use crate::span::Iuc;
 use param_sets::{ParamFields, Scheduling, Units};
 use std::alloc::{AllocError, Global};
 
-/// The frames from one due frame of a flow to the next: None at best effort.
+/// Returns the frames from one due frame of a flow to the next: None at best effort.
 fn interval(fields: &ParamFields, units: &Units) -> Option<u32>
     ensures { result ≡ interval_of fields.now.scheduling fields.now units.now }
 {
@@ -25,7 +25,7 @@ fn interval(fields: &ParamFields, units: &Units) -> Option<u32>
     }
 }
 
-/// Whether an interval ends after so many frames.
+/// Returns whether an interval ends after so many frames.
 fn ends_at(frames: u32, interval: Option<u32>) -> bool
     ensures { result ≡ ends_after frames interval }
 {
@@ -35,27 +35,30 @@ fn ends_at(frames: u32, interval: Option<u32>) -> bool
     }
 }
 
-/// Whether a flow is due.
+/// Returns whether a flow is due.
 fn due_now(at: &At, flow: &Flowing) -> bool
     requires { IsPast at.now.frame flow.now }
     ensures { result ≡ is_due at.now flow.now }
 {
     let fields = flow.set.get_fields();
-    ends_at(at.frame - flow.start, interval(&fields, &at.units))
+    ends_at(
+        at.get_frame() - flow.start,
+        interval(&fields, &at.get_units()),
+    )
 }
 
-/// The code of a grant of so many minislots.
+/// Returns the code of a grant of so many minislots.
 pub(crate) fn iuc_for(at: &At, minislots: u16) -> Iuc
     ensures { result ≡ iuc_of at.now minislots }
 {
-    if minislots <= at.short_max {
+    if minislots <= at.get_short_max() {
         Iuc::Short
     } else {
         Iuc::Long
     }
 }
 
-/// The minislots that a flow is granted whatever it asks.
+/// Returns the minislots that a flow is granted whatever it asks.
 pub(crate) fn minislots_due(at: &At, flow: &Flowing) -> u32
     requires { IsPast at.now.frame flow.now }
     ensures { result ≡ due_minislots at.now flow.now }
@@ -68,7 +71,8 @@ pub(crate) fn minislots_due(at: &At, flow: &Flowing) -> u32
         Scheduling::BestEffort => 0,
         Scheduling::NonRealTimePolling | Scheduling::RealTimePolling => 1,
         Scheduling::UnsolicitedGrant => {
-            u32::from(fields.grants_per_interval) * at.units.minislots(u32::from(fields.grant_size))
+            u32::from(fields.grants_per_interval)
+                * at.get_units().minislots(u32::from(fields.grant_size))
         }
     }
 }
@@ -101,7 +105,7 @@ fn push_due(pieces: &mut Vec<Piece>, flow: &Flowing, at: &At) -> Result<(), Allo
             len: 1,
         })?,
         Scheduling::UnsolicitedGrant => {
-            let len = at.units.minislots(u32::from(fields.grant_size)) as u16;
+            let len = at.get_units().minislots(u32::from(fields.grant_size)) as u16;
             let piece = Piece {
                 sid: flow.sid,
                 iuc: iuc_for(at, len),
@@ -113,7 +117,7 @@ fn push_due(pieces: &mut Vec<Piece>, flow: &Flowing, at: &At) -> Result<(), Allo
     Ok(())
 }
 
-/// The grants that flows have whatever they ask, in the flows' order.
+/// Returns the grants that flows have whatever they ask, in the flows' order.
 pub(crate) fn all_due(alloc: Global, flows: &[Flowing], at: &At) -> Result<Vec<Piece>, AllocError>
     requires { All (IsPast at.now.frame) flows.now }
     ensures items { IfOk result (λ pieces. pieces.items ≡ flat_map (due_pieces at.now) flows.now) }

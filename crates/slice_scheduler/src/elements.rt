@@ -47,7 +47,7 @@ impl Model for Elements {
 }
 
 impl Elements {
-    /// These elements. The caller knows that the spans tile the slice.
+    /// Returns these elements. The caller knows that the spans tile the slice.
     pub fn new(fields: ElementsFields) -> Elements
         requires { IsTiled fields }
         ensures { result ≡ fields }
@@ -55,35 +55,35 @@ impl Elements {
         Elements { fields }
     }
 
-    /// The minislots that are the operator's.
+    /// Returns the minislots that are the operator's.
     pub fn get_slice(&self) -> Slice
         ensures { result ≡ self.now.slice }
     {
         self.fields.slice
     }
 
-    /// Who is granted which minislots, in their order.
+    /// Schedules a frame: returns who is granted which minislots, in their order.
     pub fn get_spans(&self) -> &[Span]
         ensures { result.now ≡ self.now.spans }
     {
         self.fields.spans.as_slice()
     }
 
-    /// The SIDs of flows that asked for more than they are granted.
+    /// Returns the SIDs of flows that asked for more than they are granted.
     pub fn get_pending(&self) -> &[u16]
         ensures { result.now ≡ self.now.pending }
     {
         self.fields.pending.as_slice()
     }
 
-    /// What all elements keep, for a caller's proof: the spans tile the slice. Does nothing.
+    /// States what all elements keep, for a caller's proof: the spans tile the slice. Does nothing.
     pub fn always(&self)
         ensures { IsTiled self.now }
     {
         let _ = &self.fields;
     }
 
-    /// Equal elements with memory of their own.
+    /// Returns equal elements with memory of their own.
     pub fn copy(&self, alloc: Global) -> Result<Elements, AllocError>
         ensures { IfOk result (λ elements. elements ≡ self.now) }
     {

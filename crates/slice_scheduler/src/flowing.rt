@@ -1,7 +1,11 @@
 //! What is scheduled, and for when.
 
+ghost use Rattle.std.specs.Prelude.{◌≡◌, ◌+◌, ◌≤◌};
+ghost use Rattle.slice_scheduler.specs.declared.flowing.AtFields.{AtFields};
+
 use crate::slice::Slice;
 use param_sets::{ParamSet, Units};
+use std::marker::Model;
 
 /// A flow with an active parameter set.
 #[derive(Clone, Copy, Debug, PartialEq, Eq)]
@@ -20,9 +24,9 @@ pub struct Flowing {
     pub since: u32,
 }
 
-/// The frame that is scheduled.
+/// What a frame is scheduled by.
 #[derive(Clone, Copy, Debug, PartialEq, Eq)]
-pub struct At {
+pub struct AtFields {
     /// The minislots that may be granted.
     pub slice: Slice,
     /// The number of the frame.
@@ -31,4 +35,59 @@ pub struct At {
     pub short_max: u16,
     /// The measures of the channel.
     pub units: Units,
+}
+
+/// The frame that is scheduled. Its slice ends within the 4,096 minislots of a frame, by the type `Slice`. Contracts see the
+/// four fields.
+#[derive(Clone, Copy, Debug, PartialEq, Eq)]
+pub struct At {
+    fields: AtFields,
+}
+
+impl Model for At {
+    ghost Value = { AtFields };
+
+    ghost view = { λ a. a.fields };
+
+    ghost inverse = { λ fields. record { fields = fields } };
+}
+
+impl At {
+    /// Makes the frame of these fields.
+    pub fn new(fields: AtFields) -> At
+        ensures { result ≡ fields }
+    {
+        At { fields }
+    }
+
+    /// Returns the minislots that may be granted.
+    pub fn get_slice(&self) -> Slice
+        ensures value { result ≡ self.now.slice }
+        ensures in_range { self.now.slice.start + self.now.slice.length ≤ 4096 }
+    {
+        let slice = self.fields.slice;
+        let _length = slice.get_length();
+        slice
+    }
+
+    /// Returns the number of the frame.
+    pub fn get_frame(&self) -> u32
+        ensures { result ≡ self.now.frame }
+    {
+        self.fields.frame
+    }
+
+    /// Returns the most minislots of a grant that is sent as `Iuc::Short`.
+    pub fn get_short_max(&self) -> u16
+        ensures { result ≡ self.now.short_max }
+    {
+        self.fields.short_max
+    }
+
+    /// Returns the measures of the channel.
+    pub fn get_units(&self) -> Units
+        ensures { result ≡ self.now.units }
+    {
+        self.fields.units
+    }
 }

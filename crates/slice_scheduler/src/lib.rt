@@ -1,4 +1,4 @@
-//! Who is granted which minislots of one operator's slice of a frame: the elements of its part of a MAP, and the grants to backlogs.
+//! The scheduler of one operator's slice: the elements of its part of a MAP, and the grants to backlogs.
 #![tactic(auto)]
 
 mod award;
@@ -18,7 +18,7 @@ mod slice;
 mod span;
 
 pub use elements::{Elements, ElementsFields, Sids};
-pub use flowing::{At, Flowing};
+pub use flowing::{At, AtFields, Flowing};
 pub use laws::{
     base_is_granted, elements_are_few, elements_are_tiled, elements_name_flows,
     grant_is_within_backlog, granted_by_flow,

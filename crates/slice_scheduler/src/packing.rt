@@ -37,7 +37,8 @@ pub(crate) fn push_awards(
     Ok(())
 }
 
-/// The grants one after the other from the slice's first minislot on, and then what is left.
+/// Returns the grants one after the other from the slice's first minislot on, and then what is
+/// left.
 pub(crate) fn pack(alloc: Global, slice: &Slice, pieces: &[Piece]) -> Result<Vec<Span>, AllocError>
     requires some { All HasMinislots pieces.now }
     requires fits { minislots_in pieces.now ≤ slice.now.length }

@@ -18,7 +18,7 @@ use grant_policy::Ranking;
 use lists::Listed;
 use std::alloc::{AllocError, Global};
 
-/// The SIDs of those that asked for more than they are granted.
+/// Returns the SIDs of those that asked for more than they are granted.
 fn pending(alloc: Global, awards: &[Award]) -> Result<Vec<u16>, AllocError>
     ensures { IfOk result (λ sids. sids.items ≡ map (λ a. a.sid) (filter (λ a. nat_lt a.grant a.backlog) awards.now)) }
 {
@@ -31,7 +31,7 @@ fn pending(alloc: Global, awards: &[Award]) -> Result<Vec<u16>, AllocError>
     Ok(sids)
 }
 
-/// The SFID and the minislots of each award that is more than none.
+/// Returns the SFID and the minislots of each award that is more than none.
 fn granted(alloc: Global, awards: &[Award]) -> Result<Vec<(u32, u16)>, AllocError>
     ensures { IfOk result (λ grants. grants.items
         ≡ map (λ a. (a.sfid, a.grant)) (filter (λ a. nat_lt 0 a.grant) awards.now)) }
@@ -45,12 +45,14 @@ fn granted(alloc: Global, awards: &[Award]) -> Result<Vec<(u32, u16)>, AllocErro
     Ok(grants)
 }
 
-/// Who is granted which minislots of a slice in a frame (CM-SP-MULPIv3.1, 7.2: the order and the sums are own).
+/// Schedules a frame: returns who is granted which minislots of a slice in a frame
+/// (CM-SP-MULPIv3.1, 7.2: the order and the sums are implementation-specific).
 ///
-/// Each flow that is due has its unsolicited grants or one minislot to ask in. Of each backlog as much is granted as the
-/// flow's reserved rate covers, and what is left of the slice goes to the flows by rank: no minislot is idle while a backlog
-/// is not all granted. The caller knows that the flows
-/// stand by SFID, that none is of a later frame, and that what their parameter sets need fits the slice.
+/// Each flow that is due has its unsolicited grants or one minislot to ask in. Of each backlog as
+/// much is granted as the flow's reserved rate covers, and what is left of the slice goes to the
+/// flows by rank: no minislot is idle while a backlog is not all granted. The caller knows that the
+/// flows are sorted by SFID, that none is of a later frame, and that what their parameter sets need
+/// fits the slice.
 pub fn schedule(
     alloc: Global,
     flows: &[Flowing],
@@ -70,12 +72,13 @@ pub fn schedule(
     let ordered = ordered(alloc, awards.as_slice())?;
     let mut pieces = all_due(alloc, flows, at)?;
     push_awards(&mut pieces, ordered.as_slice(), at)?;
-    let spans = pack(alloc, &at.slice, pieces.as_slice())?;
+    let slice = at.get_slice();
+    let spans = pack(alloc, &slice, pieces.as_slice())?;
     let pending = pending(alloc, ordered.as_slice())?;
     let granted = granted(alloc, awards.as_slice())?;
     Ok(Served {
         elements: Elements::new(ElementsFields {
-            slice: at.slice,
+            slice,
             spans: Listed::from_vec(spans),
             pending: Listed::from_vec(pending),
         }),

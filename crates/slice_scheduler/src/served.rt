@@ -1,4 +1,4 @@
-//! What a schedule answers.
+//! What a schedule returns: the elements and the grants.
 
 use crate::elements::Elements;
 use lists::Listed;
@@ -6,7 +6,7 @@ use lists::Listed;
 /// Minislots granted to the backlogs of flows: SFIDs and minislots.
 pub type Grants = Listed<(u32, u16)>;
 
-/// What a schedule answers.
+/// What a schedule returns: the elements and the grants.
 #[derive(Debug, Drop)]
 pub struct Served {
     /// The elements of the operator's part of the MAP.

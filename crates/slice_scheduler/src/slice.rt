@@ -24,7 +24,8 @@ impl Model for Slice {
 }
 
 impl Slice {
-    /// The slice of `length` minislots (at least 1) from `start` on, within the 4,096 of a frame.
+    /// Returns the slice of `length` minislots (at least 1) from `start` on, within the 4,096 of a
+    /// frame.
     pub fn new(start: u16, length: u16) -> Slice
         requires { IsSlice (record { start = start; length = length }) }
         ensures { result ≡ record { start = start; length = length } }
@@ -32,7 +33,7 @@ impl Slice {
         Slice { start, length }
     }
 
-    /// The first minislot.
+    /// Returns the first minislot of the slice.
     pub fn get_start(&self) -> u16
         ensures value { result ≡ self.now.start }
         ensures in_range { result + self.now.length ≤ 4096 }
@@ -40,7 +41,7 @@ impl Slice {
         self.start
     }
 
-    /// How many minislots there are: 1 to 4,096.
+    /// Returns how many minislots there are: 1 to 4,096.
     pub fn get_length(&self) -> u16
         ensures value { result ≡ self.now.length }
         ensures some { 1 ≤ result }
@@ -49,7 +50,7 @@ impl Slice {
         self.length
     }
 
-    /// Whether the slices have a minislot in common.
+    /// Returns whether the slices have a minislot in common.
     pub fn overlaps(&self, other: &Slice) -> bool
         ensures { result ≡ slices_overlap self.now other.now }
     {

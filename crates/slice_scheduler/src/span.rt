@@ -17,7 +17,7 @@ pub enum Iuc {
 }
 
 impl Iuc {
-    /// The number on the wire.
+    /// Returns the number on the wire.
     pub fn number(self) -> u8
         ensures { result ≡ number_of self }
     {

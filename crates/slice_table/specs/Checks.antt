@@ -1,4 +1,4 @@
--- What is asked of all keys of a plant file together, and the first fault (own).
+-- What is asked of all keys of a plant file together, and the first fault (implementation-specific).
 use Rattle.std.specs.Prelude.{ℕ, ◌&&◌, nat_le, nat_lt, Bool, not, List, [], ◌∷◌, ◌++◌, length, count_by, sum_by, find, option_map, Option, Some, None, if◌then◌else◌, Ok, Err}
 use Rattle.std.specs.Option.{option_or}
 use Rattle.dsx_messages.specs.declared.modem.Modem.{Modem}
@@ -22,7 +22,7 @@ meets Slices a b = slices_overlap a.slice b.slice
 meets Sids a b = ranges_overlap a.sids b.sids
 meets Sfids a b = ranges_overlap a.sfids b.sfids
 
--- the first with the first behind it that the test joins it with
+-- the first with the first after it that the test joins it with
 abbrev pub first_pair : {A : Type 0} → (A → A → Bool) → List A → Option (A × A)
 first_pair test [] = None
 first_pair test (x ∷ xs) = option_or (option_map (λ y. (x, y)) (find (test x) xs)) (first_pair test xs)
@@ -33,7 +33,7 @@ first_meeting apart rows = option_map (λ pair. (pair.0.name, pair.1.name)) (fir
 
 -- ---- an address is listed twice
 
--- the first that stood before
+-- the first that was before
 abbrev pub first_again : List Modem → List Modem → Option Modem
 first_again before [] = None
 first_again before (m ∷ ms) = if is_listed m before then Some m else first_again (before ++ m ∷ []) ms

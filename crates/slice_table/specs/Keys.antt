@@ -1,4 +1,4 @@
--- How the keys of a plant file are written, and where they are said to stand (own).
+-- How the keys of a plant file are written, and where they are said to be (implementation-specific).
 use Rattle.std.specs.Prelude.{codes, ℕ, List, ◌++◌}
 use Rattle.std.specs.Fmt.{decimal}
 use Rattle.slice_table.specs.declared.plant_key.Field.{Field}
@@ -47,7 +47,7 @@ place_text (place.Class class) = codes "class[" ++ decimal class ++ codes "]"
 place_text (place.Operator operator) = codes "operator[" ++ decimal operator ++ codes "]"
 place_text (place.Flow operator flow) = codes "operator[" ++ decimal operator ++ codes "].flow[" ++ decimal flow ++ codes "]"
 
--- the key of a table stands behind its place and a dot
+-- the key of a table is after its place and a dot
 abbrev pub key_text : Key → List ℕ
 key_text key.Classes = codes "class"
 key_text key.Operators = codes "operator"

@@ -1,11 +1,11 @@
--- The keys of a plant file under which a number stands: its range, and its default where it may be left out (own).
+-- The keys of a plant file under which a number exists: its range, and its default where it may be left out (implementation-specific).
 use Rattle.std.specs.Prelude.{ℕ, Option, Some, None}
 use Rattle.slice_table.specs.declared.ranges.Bounds.{Bounds}
 use Rattle.slice_table.specs.declared.plant_key.Field.{Field}
 use Rattle.slice_table.specs.declared.plant_key.Field.TheVariants as field
 
 -- the least and the greatest number, alone or in a pair; the head is not here, since its greatest is the frame's, and
--- under the others stands no number
+-- the other keys have no number
 abbrev pub range_of : Field → Bounds
 range_of field.FrameMinislots = record { low = 1; high = 4096 }
 range_of field.FrameUs = record { low = 1; high = 1000000 }

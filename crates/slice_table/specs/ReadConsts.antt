@@ -1,4 +1,4 @@
--- What a plant file says of what all operators share: its keys in their order, and the first fault (own).
+-- What a plant file says of what all operators share: its keys in their order, and the first fault (implementation-specific).
 use Rattle.std.specs.Prelude.{codes, ℕ, ◌≤◌, ◌&&◌, nat_le, Bool, not, List, [], length, Option, Some, None, is_none, Result, Ok, Err}
 use Rattle.std.specs.Char.{is_ascii_alphanumeric}
 use Rattle.std.specs.List.{list_all, list_any}
@@ -97,7 +97,7 @@ class_encoding_at place ms = do
   bytes ← bytes_at place field.Encoding ms
   parameters_in (Entry place field.Encoding) (flow_of bytes)
 
--- a class behind those before it
+-- a class after those before it
 unfoldable pub class_read : List Class → Data → Read Class
 class_read classes d = do
   table ← table_of (place.Class (length classes)) d

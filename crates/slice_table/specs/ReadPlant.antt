@@ -1,4 +1,4 @@
--- What a plant file says: the plant of its text, or the first fault (own).
+-- What a plant file says: the plant of its text, or the first fault (implementation-specific).
 use Rattle.std.specs.Prelude.{Option, Some, None, Err}
 use Rattle.toml.specs.Data.{Members}
 use Rattle.plant.specs.declared.plant.PlantFields.{PlantFields}
@@ -15,7 +15,7 @@ plant_of ms = do
   rows ← rows_of consts ms
   unless (rows_fault consts rows) (record { consts = consts; rows = rows })
 
--- of a text that is no TOML there is no tree
+-- of a text that is not TOML there is no tree
 abbrev pub text_plant : Option Members → Read PlantFields
 text_plant None = Err NotToml
 text_plant (Some ms) = plant_of ms

@@ -1,4 +1,4 @@
--- What a plant file says of its operators: the keys of each in their order, and the first fault (own).
+-- What a plant file says of its operators: the keys of each in their order, and the first fault (implementation-specific).
 use Rattle.std.specs.Prelude.{codes, ℕ, ◌+◌, ◌&&◌, nat_le, Bool, not, List, [], length, Option, Some, None, is_some, if◌then◌else◌, Ok, Err}
 use Rattle.std.specs.Char.{is_ascii_alphanumeric}
 use Rattle.std.specs.List.{list_all, list_any}
@@ -40,7 +40,7 @@ name_at rows place ms = do
   text ← text_at place field.Name ms
   checked (Entry place field.Name) (is_operator_name text && not (list_any (is_called text) rows)) text
 
--- minislots behind the head and within the frame
+-- minislots after the head and within the frame
 unfoldable pub is_within : ConstsFields → ℕ → ℕ → Bool
 is_within consts start length = (nat_le consts.channel.head start && nat_le 1 length) && nat_le (start + length) consts.channel.frame_minislots
 
@@ -104,7 +104,7 @@ provision_at consts modems place ms = do
   encoding ← bytes_at place field.Encoding ms
   checked (Entry place field.Encoding) (has_sets consts (record { modem = modem; encoding = encoding })) (record { modem = modem; encoding = encoding })
 
--- a provisioned flow behind those before it
+-- a provisioned flow after those before it
 unfoldable pub provision_read : ConstsFields → ℕ → List Modem → List Provision → Data → Read Provision
 provision_read consts operator modems done d = do
   table ← table_of (place.Flow operator (length done)) d
@@ -151,7 +151,7 @@ row_at consts rows operator ms = do
     provisions = provisions;
   })
 
--- an operator behind those before it
+-- an operator after those before it
 unfoldable pub row_read : ConstsFields → List RowFields → Data → Read RowFields
 row_read consts rows d = do
   table ← table_of (place.Operator (length rows)) d

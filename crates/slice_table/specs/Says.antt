@@ -1,4 +1,4 @@
--- What a plant file says, key by key, apart from the order in which it is read (own).
+-- What a plant file says, key by key, apart from the order in which it is read (implementation-specific).
 use Rattle.std.specs.Prelude.{◌≡◌, ◌≢◌, ℕ, ◌+◌, ◌≤◌, ◌⊎◌, pos, codes, IsTrue, IsSome, List, [], ◌∷◌, ◌++◌, length, All, Some, None, Ok}
 use Rattle.std.specs.List.{list_all}
 use Rattle.std.specs.Char.{is_ascii_alphanumeric}
@@ -31,7 +31,7 @@ use Rattle.slice_table.specs.Tree.{at_field, items_len}
 
 -- ---- one key
 
--- under the key stands a number from low to high
+-- under the key is a number from low to high
 pub record SaysNumber (ms : Members) (f : Field) (low high n : ℕ) : Type 0 where
   pub held : at_field f ms ≡ Some (integer (pos n))
   pub low_enough : low ≤ n
@@ -45,7 +45,7 @@ SaysNumberIn ms f n = ((at_field f ms ≡ None) × (default_of f ≡ Some n)) �
 abbrev pub two : ℕ → ℕ → Data
 two a b = array (item (integer (pos a)) (item (integer (pos b)) no_items))
 
--- under the key stands a text of hexadecimal digits, two for each of these bytes
+-- under the key is a text of hexadecimal digits, two for each of these bytes
 abbrev pub SaysBytes : Members → Field → List ℕ → Type 0
 SaysBytes ms f bytes = (text : List ℕ) × (at_field f ms ≡ Some (string text)) × (decode_of text ≡ Ok bytes)
 
@@ -53,7 +53,7 @@ SaysBytes ms f bytes = (text : List ℕ) × (at_field f ms ≡ Some (string text
 abbrev pub IsAddress : Data → Modem → Type 0
 IsAddress d modem = (text : List ℕ) × (d ≡ string text) × (decode_sized text 6 ≡ Ok modem.0)
 
--- each item of an array says one thing, beside what those before it said
+-- each item of an array says one thing, next to what those before it said
 abbrev pub SayInTurn : {A : Type 0} → (List A → Data → A → Type 0) → List A → Items → List A → Type 0
 SayInTurn Says done no_items xs = done ≡ xs
 SayInTurn {A} Says done (item d ds) xs = (x : A) × Says done d x × SayInTurn Says (done ++ x ∷ []) ds xs
@@ -130,7 +130,7 @@ pub record SaysName (before : List RowFields) (ms : Members) (name : List ℕ) :
   pub valid : IsOperatorName name
   pub new : All (λ row. row.name ≢ name) before
 
--- its minislots: at least one, behind the head and within the frame
+-- its minislots: at least one, after the head and within the frame
 pub record SaysSlice (consts : ConstsFields) (ms : Members) (slice : Minislots) : Type 0 where
   pub held : at_field field.Slice ms ≡ Some (two slice.start slice.length)
   pub behind_head : consts.channel.head ≤ slice.start
@@ -173,7 +173,7 @@ abbrev pub SaysProvisions : ConstsFields → List Modem → Members → List Pro
 SaysProvisions consts modems ms ps = ((at_field field.Flow ms ≡ None) × ([] ≡ ps))
     ⊎ ((ds : Items) × (at_field field.Flow ms ≡ Some (array ds)) × SayInTurn (λ before. SaysProvision consts modems) [] ds ps)
 
--- an operator beside those before it
+-- an operator next to those before it
 pub record SaysRow (consts : ConstsFields) (before : List RowFields) (d : Data) (row : RowFields) : Type 0 where
   pub ms : Members
   pub is : d ≡ table ms

@@ -1,4 +1,4 @@
--- What stands under a key of a TOML table: a value, or the first fault (own).
+-- What is under a key of a TOML table: a value, or the first fault (implementation-specific).
 use Rattle.std.specs.Prelude.{◌≡◌, ℕ, suc, ◌++◌, [], ◌∷◌, pos, ◌&&◌, nat_le, Bool, List, Option, Some, None, Result, Ok, Err, if◌then◌else◌}
 use Rattle.toml.specs.Data.{Data, integer, Items, no_items, item, Members, get_member, as_str, as_array, as_table}
 use Rattle.hex.specs.Hex.{decode_of, decode_sized}
@@ -55,7 +55,7 @@ abbrev pub required : {A : Type 0} → Key → Option A → Read A
 required key None = Err (Missing key)
 required key (Some x) = Ok x
 
--- what stands under the key is not what is wanted where there is none
+-- what is under the key is not what is wanted where there is none
 abbrev pub expected : {A : Type 0} → Key → Option A → Read A
 expected key None = Err (BadValue key)
 expected key (Some x) = Ok x

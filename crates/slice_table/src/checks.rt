@@ -16,21 +16,21 @@ pub enum Apart {
     Sfids,
 }
 
-/// Whether two ranges have a number in common.
+/// Returns whether two ranges have a number in common.
 fn ranges_overlap(a: &IdRange, b: &IdRange) -> bool
     ensures { result ≡ ranges_overlap a.now b.now }
 {
     a.get_first() <= b.get_last() && b.get_first() <= a.get_last()
 }
 
-/// An operator's name.
+/// Returns the name of an operator's row.
 fn name_of(row: &OperatorRow) -> OperatorName
     ensures { result ≡ row.now.name }
 {
     row.get_fields().name
 }
 
-/// Whether two operators have this in common.
+/// Returns whether two operators have this in common.
 fn meets(apart: Apart, row: &OperatorRow, other: &OperatorRow) -> bool
     ensures { result ≡ meets apart row.now other.now }
 {
@@ -42,7 +42,7 @@ fn meets(apart: Apart, row: &OperatorRow, other: &OperatorRow) -> bool
     }
 }
 
-/// Whether an operator's budget is more than its slice.
+/// Returns whether an operator's budget is more than its slice.
 fn is_over_slice(row: &OperatorRow) -> bool
     ensures { result ≡ is_over_slice row.now }
 {
@@ -50,7 +50,7 @@ fn is_over_slice(row: &OperatorRow) -> bool
     fields.slice.get_length() < fields.budget
 }
 
-/// The first operator that has this in common with one.
+/// Returns the first operator that has this in common with one.
 fn first_met<'a>(
     apart: Apart,
     row: &OperatorRow,
@@ -61,7 +61,7 @@ fn first_met<'a>(
     others.iter().find(|other| meets(apart, row, other))
 }
 
-/// The names of the first two operators that have this in common.
+/// Returns the names of the first two operators that have this in common.
 #[tactic(auto, unfolding(crate::specs::Checks::first_meeting))]
 fn first_meeting(apart: Apart, rows: &[OperatorRow]) -> Option<(OperatorName, OperatorName)>
     ensures { result ≡ first_meeting apart rows.now }
@@ -74,7 +74,7 @@ fn first_meeting(apart: Apart, rows: &[OperatorRow]) -> Option<(OperatorName, Op
     None
 }
 
-/// The first of the faults that two operators have something in common.
+/// Returns the first of the faults that two operators have something in common.
 #[tactic(auto, unfolding(crate::specs::Checks::meeting_fault))]
 pub(crate) fn meeting_fault(rows: &[OperatorRow]) -> Option<PlantFault>
     ensures { result ≡ meeting_fault rows.now }
@@ -89,7 +89,7 @@ pub(crate) fn meeting_fault(rows: &[OperatorRow]) -> Option<PlantFault>
     Some(PlantFault::SfidsMeet { a, b })
 }
 
-/// The most elements that a MAP can need.
+/// Returns the most elements that a MAP can need.
 fn most_elements(rows: &[OperatorRow]) -> usize
     requires { length rows.now ≤ 32 }
     ensures { result ≡ most_elements rows.now }
@@ -101,7 +101,7 @@ fn most_elements(rows: &[OperatorRow]) -> usize
     quotas + 2 * rows.len() + 3
 }
 
-/// The fault that a MAP could need more than 240 elements.
+/// Returns the fault that a MAP could need more than 240 elements.
 #[tactic(auto, unfolding(crate::specs::Checks::elements_fault))]
 pub(crate) fn elements_fault(rows: &[OperatorRow]) -> Option<PlantFault>
     requires { length rows.now ≤ 32 }
@@ -115,14 +115,14 @@ pub(crate) fn elements_fault(rows: &[OperatorRow]) -> Option<PlantFault>
     }
 }
 
-/// The first operator whose budget is more than its slice.
+/// Returns the first operator whose budget is more than its slice.
 fn first_over_slice(rows: &[OperatorRow]) -> Option<&OperatorRow>
     ensures { option_copied result ≡ find is_over_slice rows.now }
 {
     rows.iter().find(|row| is_over_slice(row))
 }
 
-/// The fault that a budget is more than its slice.
+/// Returns the fault that a budget is more than its slice.
 #[tactic(auto, unfolding(crate::specs::Checks::budget_fault))]
 pub(crate) fn budget_fault(rows: &[OperatorRow]) -> Option<PlantFault>
     ensures { result ≡ budget_fault rows.now }

@@ -17,7 +17,7 @@ struct Demand {
     elements: u64,
 }
 
-/// What a provisioned flow needs.
+/// Returns what a provisioned flow needs.
 fn need_of_sets(units: &Units, sets: &Option<Sets>) -> Budget
     ensures exact { result ≡ need_of_sets units.now sets.now }
     ensures few { result.elements ≤ 127 }
@@ -31,7 +31,7 @@ fn need_of_sets(units: &Units, sets: &Option<Sets>) -> Budget
     }
 }
 
-/// Whether a flow is opened with an admitted set.
+/// Returns whether a flow is opened with an admitted set.
 fn admits(sets: &Option<Sets>) -> bool
     ensures { result ≡ admits sets.now }
 {
@@ -41,14 +41,14 @@ fn admits(sets: &Option<Sets>) -> bool
     }
 }
 
-/// How many numbers a range has.
+/// Returns how many numbers a range has.
 fn count_of(range: &IdRange) -> u64
     ensures { result ≡ count_of range.now }
 {
     u64::from(range.get_last()) + 1 - u64::from(range.get_first())
 }
 
-/// What provisioned flows need together.
+/// Returns what provisioned flows need together.
 #[tactic(auto, unfolding(crate::specs::Checks::sids_needed, crate::specs::Checks::minislots_needed, crate::specs::Checks::elements_needed))]
 fn demand_of(consts: &Consts, provisions: &[Provision]) -> Demand
     requires { length provisions.now ≤ 1024 }
@@ -71,7 +71,7 @@ fn demand_of(consts: &Consts, provisions: &[Provision]) -> Demand
     all
 }
 
-/// Whether the provisioned flows fit the flows and the SFIDs.
+/// Returns whether the provisioned flows fit the flows and the SFIDs.
 #[tactic(auto, unfolding(crate::specs::Checks::counts_fit))]
 fn counts_fit(row: &RowFields) -> bool
     ensures value { result ≡ counts_fit row.now }
@@ -81,7 +81,7 @@ fn counts_fit(row: &RowFields) -> bool
     count <= usize::from(row.flows) && count as u64 <= count_of(&row.sfids)
 }
 
-/// Whether what the provisioned flows need fits the SIDs, the budget and the quota.
+/// Returns whether what the provisioned flows need fits the SIDs, the budget and the quota.
 #[tactic(auto, unfolding(crate::specs::Checks::needs_fit))]
 fn needs_fit(consts: &Consts, row: &RowFields) -> bool
     requires { length row.now.provisions ≤ 1024 }
@@ -93,7 +93,7 @@ fn needs_fit(consts: &Consts, row: &RowFields) -> bool
         && demand.elements <= u64::from(row.elements)
 }
 
-/// Whether an operator's provisioned flows fit.
+/// Returns whether an operator's provisioned flows fit.
 #[tactic(auto, unfolding(crate::specs::Checks::do_fit))]
 fn do_fit(consts: &Consts, row: &OperatorRow) -> bool
     ensures { result ≡ do_fit consts.now row.now }
@@ -102,14 +102,14 @@ fn do_fit(consts: &Consts, row: &OperatorRow) -> bool
     counts_fit(fields) && needs_fit(consts, fields)
 }
 
-/// The first operator whose provisioned flows do not fit.
+/// Returns the first operator whose provisioned flows do not fit.
 fn first_overfull<'a>(consts: &Consts, rows: &'a [OperatorRow]) -> Option<&'a OperatorRow>
     ensures { option_copied result ≡ find (is_overfull consts.now) rows.now }
 {
     rows.iter().find(|row| !do_fit(consts, row))
 }
 
-/// The fault that the provisioned flows of an operator do not fit.
+/// Returns the fault that the provisioned flows of an operator do not fit.
 #[tactic(auto, unfolding(crate::specs::Checks::provisioned_fault))]
 pub(crate) fn provisioned_fault(consts: &Consts, rows: &[OperatorRow]) -> Option<PlantFault>
     ensures { result ≡ provisioned_fault consts.now rows.now }

@@ -12,31 +12,34 @@ ghost use Rattle.slice_table.specs.Tree.{number_at, number_in};
 ghost use Rattle.slice_table.specs.ReadRows.{slice_at, range_at, policy_at};
 ghost use Rattle.slice_table.specs.Says.{SaysNumber, SaysNumberIn, SaysSlice, SaysRange, SaysPolicy};
 
-/// A number is read exactly where it stands under its key, in its range.
+/// States that a number is read exactly where it is under its key, in its range.
 pub fn number_is_said()
     ensures { (place : Place) (field : Field) (low high : ℕ) (ms : Members) (n : ℕ)
         → (number_at place field low high ms ≡ Ok n) ↔ SaysNumber ms field low high n }
 {}
 
-/// The default is read exactly where the key is not there, and else the number of its range that stands there.
+/// States that the default is read exactly where the key is not there, and else the number of its
+/// range that is there.
 pub fn default_is_said()
     ensures { (place : Place) (field : Field) (ms : Members) (n : ℕ)
         → (number_in place field ms ≡ Ok n) ↔ SaysNumberIn ms field n }
 {}
 
-/// A slice is read exactly where it stands under its key, behind the head and within the frame.
+/// States that a slice is read exactly where it is under its key, after the head and within the
+/// frame.
 pub fn slice_is_said()
     ensures { (consts : ConstsFields) (place : Place) (ms : Members) (slice : Minislots)
         → (slice_at consts place ms ≡ Ok slice) ↔ SaysSlice consts ms slice }
 {}
 
-/// A range is read exactly where it stands under its key, within the key's range, in order.
+/// States that a range is read exactly where it is under its key, within the key's range, in order.
 pub fn range_is_said()
     ensures { (place : Place) (field : Field) (ms : Members) (range : Numbers)
         → (range_at place field ms ≡ Ok range) ↔ SaysRange ms field range }
 {}
 
-/// A policy is read exactly where its name stands under its key, with its step where it has one.
+/// States that a policy is read exactly where its name is under its key, with its step where it has
+/// one.
 pub fn policy_is_said()
     ensures { (place : Place) (ms : Members) (policy : Policy) → (policy_at place ms ≡ Ok policy)
         ↔ SaysPolicy ms policy }

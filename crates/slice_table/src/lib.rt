@@ -1,4 +1,4 @@
-//! The plant file: what its text says, and the first of its faults.
+//! The reader of plant files: the plant that a text says, or the first of its faults.
 #![tactic(auto)]
 
 mod checks;
@@ -19,6 +19,7 @@ pub use key_laws::{default_is_said, number_is_said, policy_is_said, range_is_sai
 pub use laws::{
     consts_are_said, first_again_is_named, first_is_named, least_pair_is_named, plant_is_said,
 };
+pub use plant::{Consts, Op, OperatorRow, Plant};
 pub use plant_fault::PlantFault;
 pub use plant_key::{Field, Key, Place};
 pub use reading::read_plant;

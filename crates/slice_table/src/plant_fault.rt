@@ -13,13 +13,13 @@ use thiserror::Error;
 /// Why a plant file is refused: the first that holds, in this order.
 #[derive(Clone, Copy, Debug, PartialEq, Eq, Error)]
 pub enum PlantFault {
-    /// The text is no TOML.
+    /// The text is not TOML.
     #[error("no TOML")]
     NotToml,
     /// A key that is required is not there.
     #[error("the key {key} is missing")]
     Missing { key: Key },
-    /// What stands under a key is not of its type, or not in its range.
+    /// What is under a key is not of its type, or not in its range.
     #[error("the key {key} has a wrong value")]
     BadValue { key: Key },
     /// The slices of two operators have a minislot in common.
@@ -49,7 +49,8 @@ pub enum PlantFault {
 }
 
 impl Place {
-    /// The fault that what stands under a key of this table is not of its type, or not in its range.
+    /// Returns the fault that what is under a key of this table is not of its type, or not in its
+    /// range.
     pub(crate) fn wrong(self, field: Field) -> PlantFault
         ensures { result ≡ BadValue (Entry self field) }
     {

@@ -1,4 +1,4 @@
-//! Where something stands in a plant file.
+//! Where something is in a plant file.
 
 ghost use Rattle.std.specs.Prelude.{◌≡◌, Some};
 ghost use Rattle.slice_table.specs.Keys.{field_text, place_text, key_text};
@@ -41,7 +41,7 @@ pub enum Field {
 }
 
 impl Field {
-    /// As it is written in the file.
+    /// Writes the key as it is written in the file.
     #[tactic(auto, unfolding(crate::specs::Keys::field_text))]
     pub fn text(self) -> &'static str
         ensures { result.now ≡ field_text self }

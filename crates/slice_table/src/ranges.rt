@@ -1,4 +1,5 @@
-//! Which numbers may stand under a key of the plant file, and which one is meant where the key is not there.
+//! Which numbers may be under a key of the plant file, and which one is meant where the key is not
+//! there.
 
 ghost use Rattle.std.specs.Prelude.{◌≡◌, ◌≤◌, IfSome};
 ghost use Rattle.slice_table.specs.Ranges.{range_of, default_of};
@@ -12,15 +13,15 @@ pub struct Bounds {
     pub high: u32,
 }
 
-/// The numbers from `low` to `high`.
+/// Returns the numbers from `low` to `high`.
 fn between(low: u32, high: u32) -> Bounds
     ensures { result ≡ record { low = low; high = high } }
 {
     Bounds { low, high }
 }
 
-/// The numbers that may stand under a key, alone or in a pair. The head is not here, since its greatest is the frame's,
-/// and under the others stands no number.
+/// Returns the numbers that may be under a key, alone or in a pair. The head is not here, since its
+/// greatest is the frame's. The other keys have no number.
 pub(crate) fn range_of(field: Field) -> Bounds
     ensures { result ≡ range_of field }
 {
@@ -48,7 +49,8 @@ pub(crate) fn range_of(field: Field) -> Bounds
     }
 }
 
-/// The number that is meant where there is no such key; `None` where the key has to be there.
+/// Returns the number that is meant where there is no such key; `None` where the key has to be
+/// there.
 pub(crate) fn default_of(field: Field) -> Option<u32>
     ensures value { result ≡ default_of field }
     ensures in_range { IfSome result (λ n. ((range_of field).low ≤ n) × (n ≤ (range_of field).high)) }

@@ -30,7 +30,7 @@ pub struct PlantKeys {
     pub timers: Timers,
 }
 
-/// How long a frame is and how much a minislot carries.
+/// Returns how long a frame is and how much a minislot carries.
 #[tactic(auto, unfolding(crate::specs::ReadConsts::units_at))]
 fn units_at(table: &Table) -> Result<Units, PlantFault>
     ensures { result ≡ units_at (table_view table.now) }
@@ -40,7 +40,7 @@ fn units_at(table: &Table) -> Result<Units, PlantFault>
     Ok(Units::new(frame_us, bytes_per_minislot))
 }
 
-/// The backoff windows.
+/// Returns the backoff windows, or the first fault of their keys.
 #[tactic(auto, unfolding(crate::specs::ReadConsts::backoffs_at))]
 fn backoffs_at(table: &Table) -> Result<Backoffs, PlantFault>
     ensures value { result ≡ backoffs_at (table_view table.now) }
@@ -58,7 +58,7 @@ fn backoffs_at(table: &Table) -> Result<Backoffs, PlantFault>
     })
 }
 
-/// How long responses are kept.
+/// Returns how long responses are kept.
 #[tactic(auto, unfolding(crate::specs::ReadConsts::timers_at))]
 fn timers_at(table: &Table) -> Result<Timers, PlantFault>
     ensures { result ≡ timers_at (table_view table.now) }
@@ -69,7 +69,7 @@ fn timers_at(table: &Table) -> Result<Timers, PlantFault>
     Ok(Timers::new(ack_wait as u16, resends as u8, hold as u16))
 }
 
-/// The keys of the table `plant`.
+/// Returns the keys of the table `plant`.
 #[tactic(auto, unfolding(crate::specs::ReadConsts::plant_keys_at))]
 fn plant_keys_at(table: &Table) -> Result<PlantKeys, PlantFault>
     ensures value { result ≡ plant_keys_at (table_view table.now) }
@@ -99,7 +99,7 @@ fn plant_keys_at(table: &Table) -> Result<PlantKeys, PlantFault>
     })
 }
 
-/// The keys of the table `plant` of a document.
+/// Returns the keys of the table `plant` of a document.
 #[tactic(auto, unfolding(crate::specs::ReadConsts::plant_keys_of))]
 fn plant_keys_of(document: &Table) -> Result<PlantKeys, PlantFault>
     ensures value { result ≡ plant_keys_of (table_view document.now) }
@@ -113,7 +113,7 @@ fn plant_keys_of(document: &Table) -> Result<PlantKeys, PlantFault>
     plant_keys_at(table_of(value, Place::Plant)?)
 }
 
-/// The name of a class.
+/// Returns the name of a class.
 fn class_name(text: &[u8]) -> Option<ClassName>
     ensures { result ≡ (if is_class_name text.now then Some text.now else None) }
 {
@@ -124,14 +124,14 @@ fn class_name(text: &[u8]) -> Option<ClassName>
     }
 }
 
-/// Whether one of the classes has this name.
+/// Returns whether one of the classes has this name.
 fn is_class(name: &ClassName, classes: &[Class]) -> bool
     ensures { result ≡ list_any (is_named name.now) classes.now }
 {
     classes.iter().any(|class| class.is_named(name))
 }
 
-/// The name of a class that comes behind others.
+/// Returns the name of a class that comes after others.
 #[tactic(auto, unfolding(crate::specs::ReadConsts::class_name_at))]
 fn class_name_at(classes: &[Class], table: &Table, place: Place) -> Result<ClassName, PlantFault>
     ensures { result ≡ class_name_at classes.now place (table_view table.now) }
@@ -143,7 +143,7 @@ fn class_name_at(classes: &[Class], table: &Table, place: Place) -> Result<Class
     }
 }
 
-/// Whether an encoding states none of the subtypes 1 to 6.
+/// Returns whether an encoding states none of the subtypes 1 to 6.
 #[tactic(auto, unfolding(crate::specs::ReadConsts::states_parameters))]
 fn states_parameters(flow: &FlowTlv) -> bool
     ensures { result ≡ states_parameters flow.now }
@@ -156,7 +156,7 @@ fn states_parameters(flow: &FlowTlv) -> bool
         && flow.get_set_type().is_none()
 }
 
-/// The encoding of a class.
+/// Returns the encoding of a class.
 #[tactic(auto, unfolding(crate::specs::ReadConsts::class_encoding_at))]
 fn class_encoding_at(alloc: Global, table: &Table, place: Place) -> Result<FlowTlv, PlantFault>
     ensures { Gives (λ flow. flow) result (class_encoding_at place (table_view table.now)) }
@@ -168,7 +168,7 @@ fn class_encoding_at(alloc: Global, table: &Table, place: Place) -> Result<FlowT
     }
 }
 
-/// A class that comes behind others.
+/// Returns a class that comes after others.
 #[tactic(auto, unfolding(crate::specs::ReadConsts::class_read))]
 fn class_read(alloc: Global, classes: &[Class], value: &Value) -> Result<Class, PlantFault>
     ensures { Gives (λ class. class) result (class_read classes.now (view value.now)) }
@@ -180,7 +180,7 @@ fn class_read(alloc: Global, classes: &[Class], value: &Value) -> Result<Class, 
     Ok(Class { name, encoding })
 }
 
-/// The classes one after the other.
+/// Returns the classes one after the other.
 fn classes_each(alloc: Global, values: &[Value]) -> Result<Vec<Class>, PlantFault>
     ensures { Gives (λ classes. classes.items) result (each class_read [] (items_view values.now)) }
 {
@@ -192,7 +192,7 @@ fn classes_each(alloc: Global, values: &[Value]) -> Result<Vec<Class>, PlantFaul
     Ok(classes)
 }
 
-/// The classes of an array.
+/// Returns the classes of an array.
 #[tactic(auto, unfolding(crate::specs::ReadConsts::classes_in), using(crate::proofs::Trees::items_len_view))]
 fn classes_in(alloc: Global, value: &Value) -> Result<Vec<Class>, PlantFault>
     ensures { Gives (λ classes. classes.items) result (classes_in (view value.now)) }
@@ -204,7 +204,7 @@ fn classes_in(alloc: Global, value: &Value) -> Result<Vec<Class>, PlantFault>
     classes_each(alloc, values)
 }
 
-/// The classes of a document.
+/// Returns the classes of a document.
 fn classes_of(alloc: Global, document: &Table) -> Result<Classes, PlantFault>
     ensures { Gives (λ classes. classes) result (classes_if (get_member (codes "class") (table_view document.now))) }
 {
@@ -214,7 +214,7 @@ fn classes_of(alloc: Global, document: &Table) -> Result<Classes, PlantFault>
     }
 }
 
-/// What all operators share.
+/// Returns what all operators share.
 #[tactic(auto, unfolding(crate::specs::ReadConsts::consts_of))]
 pub(crate) fn consts_of(alloc: Global, document: &Table) -> Result<Consts, PlantFault>
     ensures { Gives (λ consts. consts) result (consts_of (table_view document.now)) }

@@ -27,28 +27,28 @@ use std::alloc::Global;
 use tlv24::Bytes;
 use toml::{Table, Value};
 
-/// Whether this is the operator of that name.
+/// Returns whether this is the operator of that name.
 fn is_called(name: &OperatorName, row: &OperatorRow) -> bool
     ensures { result ≡ is_called name.now row.now }
 {
     row.get_fields().name.as_slice() == name.as_slice()
 }
 
-/// The name of an operator.
+/// Returns the name of an operator.
 fn operator_name(text: &[u8]) -> Option<OperatorName>
     ensures { result ≡ (if is_operator_name text.now then Some text.now else None) }
 {
     OperatorName::new(text)
 }
 
-/// Whether one of the operators has this name.
+/// Returns whether one of the operators has this name.
 fn is_taken(name: &OperatorName, rows: &[OperatorRow]) -> bool
     ensures { result ≡ list_any (is_called name.now) rows.now }
 {
     rows.iter().any(|row| is_called(name, row))
 }
 
-/// The name of an operator that comes behind others.
+/// Returns the name of an operator that comes after others.
 #[tactic(auto, unfolding(crate::specs::ReadRows::name_at))]
 fn name_at(rows: &[OperatorRow], table: &Table, place: Place) -> Result<OperatorName, PlantFault>
     ensures { result ≡ name_at rows.now place (table_view table.now) }
@@ -60,7 +60,7 @@ fn name_at(rows: &[OperatorRow], table: &Table, place: Place) -> Result<Operator
     }
 }
 
-/// The slice of these minislots, behind the head and within the frame.
+/// Returns the slice of these minislots, after the head and within the frame.
 #[tactic(auto, unfolding(crate::specs::ReadRows::is_within))]
 fn slice_of(consts: &Consts, start: u64, length: u64) -> Option<Slice>
     ensures { result ≡ (if is_within consts.now start length then Some (record { start = start; length = length })
@@ -75,7 +75,7 @@ fn slice_of(consts: &Consts, start: u64, length: u64) -> Option<Slice>
     }
 }
 
-/// The minislots of an operator.
+/// Returns the minislots of an operator.
 #[tactic(auto, unfolding(crate::specs::ReadRows::slice_at))]
 fn slice_at(consts: &Consts, table: &Table, place: Place) -> Result<Slice, PlantFault>
     ensures { result ≡ slice_at consts.now place (table_view table.now) }
@@ -84,7 +84,7 @@ fn slice_at(consts: &Consts, table: &Table, place: Place) -> Result<Slice, Plant
     slice_of(consts, start, length).ok_or(place.wrong(Field::Slice))
 }
 
-/// A range of identifiers, of the key's range.
+/// Returns a range of identifiers, of the key's range.
 #[tactic(auto, unfolding(crate::specs::ReadRows::range_at, crate::specs::ReadRows::is_range))]
 fn range_at(table: &Table, place: Place, field: Field) -> Result<IdRange, PlantFault>
     ensures value { result ≡ range_at place field (table_view table.now) }
@@ -100,7 +100,7 @@ fn range_at(table: &Table, place: Place, field: Field) -> Result<IdRange, PlantF
     }
 }
 
-/// The policy "aged", with its step.
+/// Returns the policy "aged", with its step.
 #[tactic(auto, unfolding(crate::specs::ReadRows::aged_at))]
 fn aged_at(table: &Table, place: Place) -> Result<Policy, PlantFault>
     ensures { result ≡ aged_at place (table_view table.now) }
@@ -112,7 +112,7 @@ fn aged_at(table: &Table, place: Place) -> Result<Policy, PlantFault>
     }
 }
 
-/// The policy of this name.
+/// Returns the policy of this name.
 #[tactic(auto, unfolding(crate::specs::ReadRows::policy_named))]
 fn policy_named(text: &str, table: &Table, place: Place) -> Result<Policy, PlantFault>
     ensures { result ≡ policy_named text.now place (table_view table.now) }
@@ -125,7 +125,7 @@ fn policy_named(text: &str, table: &Table, place: Place) -> Result<Policy, Plant
     }
 }
 
-/// By what an operator's flows are ordered.
+/// Returns by what an operator's flows are ordered.
 #[tactic(auto, unfolding(crate::specs::ReadRows::policy_at))]
 fn policy_at(table: &Table, place: Place) -> Result<Policy, PlantFault>
     ensures { result ≡ policy_at place (table_view table.now) }
@@ -133,7 +133,7 @@ fn policy_at(table: &Table, place: Place) -> Result<Policy, PlantFault>
     policy_named(text_at(table, place, Field::Policy)?, table, place)
 }
 
-/// The modems one after the other.
+/// Returns the modems one after the other.
 fn modems_each(alloc: Global, values: &[Value], place: Place) -> Result<Vec<Modem>, PlantFault>
     ensures { Gives (λ modems. modems.items) result (each (modem_read place) [] (items_view values.now)) }
 {
@@ -145,7 +145,7 @@ fn modems_each(alloc: Global, values: &[Value], place: Place) -> Result<Vec<Mode
     Ok(modems)
 }
 
-/// The modems of an operator.
+/// Returns the modems of an operator.
 #[tactic(auto, unfolding(crate::specs::ReadRows::modems_at), using(crate::proofs::Trees::items_len_view))]
 fn modems_at(alloc: Global, table: &Table, place: Place) -> Result<Modems, PlantFault>
     ensures { Gives (λ modems. modems) result (modems_at place (table_view table.now)) }
@@ -157,7 +157,7 @@ fn modems_at(alloc: Global, table: &Table, place: Place) -> Result<Modems, Plant
     Ok(Modems::from_vec(modems_each(alloc, values, place)?))
 }
 
-/// The modem of a flow: one of the operator's.
+/// Returns the modem of a flow: one of the operator's.
 #[tactic(auto, unfolding(crate::specs::ReadRows::own_modem_at))]
 fn own_modem_at(modems: &Modems, table: &Table, place: Place) -> Result<Modem, PlantFault>
     ensures { result ≡ own_modem_at modems.now place (table_view table.now) }
@@ -170,7 +170,7 @@ fn own_modem_at(modems: &Modems, table: &Table, place: Place) -> Result<Modem, P
     }
 }
 
-/// Whether a flow is given sets by its encoding.
+/// Returns whether a flow is given sets by its encoding.
 #[tactic(auto, unfolding(crate::specs::ReadRows::has_sets))]
 fn has_sets(consts: &Consts, provision: &Provision) -> bool
     ensures { result ≡ has_sets consts.now provision.now }
@@ -178,7 +178,7 @@ fn has_sets(consts: &Consts, provision: &Provision) -> bool
     provision.sets(consts).is_some()
 }
 
-/// A provisioned flow.
+/// Returns a provisioned flow, or the first fault of its keys.
 #[tactic(auto, unfolding(crate::specs::ReadRows::provision_at))]
 fn provision_at(
     alloc: Global,
@@ -199,7 +199,7 @@ fn provision_at(
     }
 }
 
-/// A provisioned flow that comes behind others.
+/// Returns a provisioned flow that comes after others.
 #[tactic(auto, unfolding(crate::specs::ReadRows::provision_read))]
 fn provision_read(
     alloc: Global,
@@ -217,7 +217,7 @@ fn provision_read(
     provision_at(alloc, consts, modems, table, place)
 }
 
-/// The provisioned flows one after the other.
+/// Returns the provisioned flows one after the other.
 fn provisions_each(
     alloc: Global,
     consts: &Consts,
@@ -236,7 +236,7 @@ fn provisions_each(
     Ok(flows)
 }
 
-/// The provisioned flows of an array.
+/// Returns the provisioned flows of an array.
 #[tactic(auto, unfolding(crate::specs::ReadRows::provisions_in))]
 fn provisions_in(
     alloc: Global,
@@ -251,7 +251,7 @@ fn provisions_in(
     Ok(Provisions::from_vec(provisions_each(alloc, consts, operator, modems, values)?))
 }
 
-/// The provisioned flows of an operator.
+/// Returns the provisioned flows of an operator.
 fn provisions_of(
     alloc: Global,
     consts: &Consts,
@@ -268,7 +268,7 @@ fn provisions_of(
     }
 }
 
-/// An operator.
+/// Returns an operator's row, or the first fault of its keys.
 #[tactic(auto, unfolding(crate::specs::ReadRows::row_at))]
 fn row_at(
     alloc: Global,
@@ -308,7 +308,7 @@ fn row_at(
     }))
 }
 
-/// An operator that comes behind others.
+/// Returns an operator that comes after others.
 #[tactic(auto, unfolding(crate::specs::ReadRows::row_read))]
 fn row_read(
     alloc: Global,
@@ -322,7 +322,7 @@ fn row_read(
     row_at(alloc, consts, rows, table)
 }
 
-/// The operators one after the other.
+/// Returns the operators one after the other.
 fn rows_each(
     alloc: Global,
     consts: &Consts,
@@ -338,7 +338,7 @@ fn rows_each(
     Ok(rows)
 }
 
-/// The operators of a document.
+/// Returns the operators of a document.
 #[tactic(auto, unfolding(crate::specs::ReadRows::rows_of), using(crate::proofs::Trees::items_len_view))]
 pub(crate) fn rows_of(
     alloc: Global,

@@ -24,7 +24,7 @@ use plant::{Consts, OperatorRow, Plant, PlantFields, Rows};
 use std::alloc::Global;
 use toml::Table;
 
-/// The first of faults 8 to 10.
+/// Returns the first of faults 8 to 10.
 #[tactic(auto, unfolding(crate::specs::Checks::late_fault))]
 fn late_fault(consts: &Consts, rows: &[OperatorRow]) -> Option<PlantFault>
     requires { length rows.now ≤ 32 }
@@ -39,7 +39,7 @@ fn late_fault(consts: &Consts, rows: &[OperatorRow]) -> Option<PlantFault>
     provisioned_fault(consts, rows)
 }
 
-/// Each operator's modems by their addresses, where none of faults 4 to 10 is there.
+/// Returns each operator's modems by their addresses, where none of faults 4 to 10 is there.
 #[tactic(auto, unfolding(crate::specs::Checks::rows_fault))]
 fn judged(
     alloc: Global,
@@ -60,7 +60,7 @@ fn judged(
     }
 }
 
-/// The plant of a document.
+/// Returns the plant of a document.
 #[tactic(auto, unfolding(crate::specs::ReadPlant::plant_of))]
 fn plant_of(alloc: Global, document: &Table) -> Result<Plant, PlantFault>
     ensures { Gives (λ plant. plant) result (plant_of (table_view document.now)) }
@@ -72,7 +72,7 @@ fn plant_of(alloc: Global, document: &Table) -> Result<Plant, PlantFault>
     Ok(Plant::new(PlantFields { consts, rows }, places))
 }
 
-/// The plant of a text.
+/// Returns the plant of a text.
 fn plant_of_text(alloc: Global, text: &str) -> Result<Plant, PlantFault>
     ensures { Gives (λ plant. plant) result (text_plant (parse_document text.now)) }
 {
@@ -83,12 +83,13 @@ fn plant_of_text(alloc: Global, text: &str) -> Result<Plant, PlantFault>
     }
 }
 
-/// The plant that a text says, or the first fault of it.
+/// Returns the plant that a text says, or the first fault of it.
 ///
-/// The text is TOML: a table `plant`, an array of tables `class` that may be absent, and an array of tables `operator`. A
-/// text that is no TOML is the first fault; then the keys are judged in their order, those of `plant` first, then each
-/// class, then each operator with its flows; what is asked of all keys together comes last, in the order of `PlantFault`,
-/// each of the least pair or the first operator. `NoMemory` comes only where memory was refused, and says nothing of the
+/// The text is TOML: a table `plant`, an array of tables `class` that may be absent, and an array
+/// of tables `operator`. A text that is not TOML is the first fault; then the keys are judged in
+/// their order, those of `plant` first, then each class, then each operator with its flows; what is
+/// asked of all keys together comes last, in the order of `PlantFault`, each of the least pair or
+/// the first operator. `NoMemory` comes only where memory was refused, and says nothing of the
 /// text.
 pub fn read_plant(alloc: Global, text: &str) -> Result<Plant, PlantFault>
     // What is read is a plant that the text says.

@@ -32,7 +32,7 @@ fn add_modems(
     Ok(())
 }
 
-/// Each operator's modems, by their addresses.
+/// Returns each operator's modems, by their addresses.
 #[tactic(auto, unfolding(crate::specs::Checks::twice_fault))]
 pub(crate) fn places_of(
     alloc: Global,

@@ -13,37 +13,39 @@ ghost use Rattle.slice_table.specs.Tree.{at_field, modem_of};
 ghost use Rattle.slice_table.specs.ReadRows.{modems_at, row_read, rows_of, name_at, provisions_if};
 ghost use Rattle.slice_table.specs.Says.{SaysModems, SaysRow, SaysRows, SaysName, IsAddress, SaysProvisions};
 
-/// A name is read exactly where it stands under its key and no operator before has it.
+/// States that a name is read exactly where it is under its key and no operator before has it.
 pub fn name_is_said()
     ensures { (before : List RowFields) (place : Place) (ms : Members) (name : List ℕ)
         → (name_at before place ms ≡ Ok name) ↔ SaysName before ms name }
 {}
 
-/// An address is read exactly where its twelve digits stand.
+/// States that an address is read exactly where its twelve digits are written.
 pub fn address_is_said()
     ensures { (key : Key) (d : Data) (modem : Modem) → (modem_of key d ≡ Ok modem) ↔ IsAddress d modem }
 {}
 
-/// Modems are read exactly where their addresses stand under their key, 1 to 1,024 of them.
+/// States that modems are read exactly where their addresses are under their key, 1 to 1,024 of
+/// them.
 pub fn modems_are_said()
     ensures { (place : Place) (ms : Members) (modems : List Modem) → (modems_at place ms ≡ Ok modems)
         ↔ SaysModems ms modems }
 {}
 
-/// Provisioned flows are read exactly where the array `flow` says them in turn, or where there is none.
+/// States that provisioned flows are read exactly where the array `flow` says them in turn, or
+/// where there is none.
 pub fn provisions_are_said()
     ensures { (consts : ConstsFields) (operator : ℕ) (modems : List Modem) (ms : Members)
         (provisions : List Provision) → (provisions_if consts operator modems (at_field Flow ms) ≡ Ok provisions)
         ↔ SaysProvisions consts modems ms provisions }
 {}
 
-/// An operator is read, behind others, exactly where a table says each of its keys.
+/// States that an operator is read, after others, exactly where a table says each of its keys.
 pub fn row_is_said()
     ensures { (consts : ConstsFields) (before : List RowFields) (d : Data) (row : RowFields)
         → (row_read consts before d ≡ Ok row) ↔ SaysRow consts before d row }
 {}
 
-/// All operators are read exactly where the array `operator` says them in turn.
+/// States that all operators are read exactly where the array `operator` says them in turn.
 pub fn rows_are_said()
     ensures { (consts : ConstsFields) (document : Members) (rows : List RowFields)
         → (rows_of consts document ≡ Ok rows) ↔ SaysRows consts document rows }

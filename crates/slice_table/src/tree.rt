@@ -1,4 +1,4 @@
-//! What stands under a key of a TOML table.
+//! What is under a key of a TOML table.
 
 ghost use Rattle.std.specs.Prelude.{◌≡◌, ◌≤◌, option_map, Some, IfOk};
 ghost use Rattle.toml.specs.Data.{get_member, as_array, as_table};
@@ -15,14 +15,14 @@ use hex::{FromHex, FromHexError};
 use std::alloc::Global;
 use toml::{Table, Value};
 
-/// What stands under a key of this name.
+/// Returns what is under a key of this name.
 pub(crate) fn entry<'a>(table: &'a Table, name: &str) -> Option<&'a Value>
     ensures { option_map (λ v. view v.now) result ≡ get_member name.now (table_view table.now) }
 {
     table.get(name)
 }
 
-/// What stands under a key that is required.
+/// Returns what is under a key that is required.
 fn required(table: &Table, place: Place, field: Field) -> Result<&Value, PlantFault>
     ensures { seen (λ v. view v.now) result ≡ required (Entry place field) (at_field field (table_view table.now)) }
 {
@@ -34,7 +34,7 @@ fn required(table: &Table, place: Place, field: Field) -> Result<&Value, PlantFa
     }
 }
 
-/// The number of 0 or more that a value is.
+/// Returns the number of 0 or more that a value is.
 fn natural(value: &Value) -> Option<u64>
     ensures { result ≡ natural (view value.now) }
 {
@@ -44,7 +44,7 @@ fn natural(value: &Value) -> Option<u64>
     }
 }
 
-/// A number from `low` to `high`.
+/// Returns a number from `low` to `high`.
 #[tactic(auto, unfolding(crate::specs::Tree::number_of))]
 fn number_of(value: &Value, key: Key, low: u32, high: u32) -> Result<u32, PlantFault>
     ensures value { result ≡ number_of key low high (view value.now) }
@@ -56,7 +56,7 @@ fn number_of(value: &Value, key: Key, low: u32, high: u32) -> Result<u32, PlantF
     }
 }
 
-/// The number from `low` to `high` under a key that is required.
+/// Returns the number from `low` to `high` under a key that is required.
 #[tactic(auto, unfolding(crate::specs::Tree::number_at))]
 pub(crate) fn number_at(
     table: &Table,
@@ -72,7 +72,7 @@ pub(crate) fn number_at(
     number_of(value, Key::Entry(place, field), low, high)
 }
 
-/// The number under a key, of the key's range, and the key's default where it is not there.
+/// Returns the number under a key, of the key's range, and the key's default where it is not there.
 #[tactic(auto, unfolding(crate::specs::Tree::number_in))]
 pub(crate) fn number_in(table: &Table, place: Place, field: Field) -> Result<u32, PlantFault>
     ensures value { result ≡ number_in place field (table_view table.now) }
@@ -86,7 +86,7 @@ pub(crate) fn number_in(table: &Table, place: Place, field: Field) -> Result<u32
     }
 }
 
-/// The two numbers that an array is.
+/// Returns the two numbers that an array is.
 fn pair_in(values: &[Value]) -> Option<(u64, u64)>
     ensures { result ≡ pair_in (items_view values.now) }
 {
@@ -100,7 +100,7 @@ fn pair_in(values: &[Value]) -> Option<(u64, u64)>
     }
 }
 
-/// The values of an array.
+/// Returns the values of an array.
 pub(crate) fn array_of(value: &Value, key: Key) -> Result<&[Value], PlantFault>
     ensures { seen (λ vs. items_view vs.now) result ≡ expected key (as_array (view value.now)) }
 {
@@ -110,7 +110,7 @@ pub(crate) fn array_of(value: &Value, key: Key) -> Result<&[Value], PlantFault>
     }
 }
 
-/// The values of the array under a key that is required.
+/// Returns the values of the array under a key that is required.
 #[tactic(auto, unfolding(crate::specs::Tree::array_at))]
 pub(crate) fn array_at(table: &Table, place: Place, field: Field) -> Result<&[Value], PlantFault>
     ensures { seen (λ vs. items_view vs.now) result ≡ array_at place field (table_view table.now) }
@@ -119,7 +119,7 @@ pub(crate) fn array_at(table: &Table, place: Place, field: Field) -> Result<&[Va
     array_of(value, Key::Entry(place, field))
 }
 
-/// The two numbers under a key that is required.
+/// Returns the two numbers under a key that is required.
 #[tactic(auto, unfolding(crate::specs::Tree::pair_at))]
 pub(crate) fn pair_at(table: &Table, place: Place, field: Field) -> Result<(u64, u64), PlantFault>
     ensures { result ≡ pair_at place field (table_view table.now) }
@@ -128,7 +128,7 @@ pub(crate) fn pair_at(table: &Table, place: Place, field: Field) -> Result<(u64,
     pair_in(values).ok_or(place.wrong(field))
 }
 
-/// The text under a key that is required.
+/// Returns the text under a key that is required.
 #[tactic(auto, unfolding(crate::specs::Tree::text_at))]
 pub(crate) fn text_at(table: &Table, place: Place, field: Field) -> Result<&str, PlantFault>
     ensures { seen (λ s. s.now) result ≡ text_at place field (table_view table.now) }
@@ -140,7 +140,7 @@ pub(crate) fn text_at(table: &Table, place: Place, field: Field) -> Result<&str,
     }
 }
 
-/// The bytes under a key that is required, which stand in hexadecimal.
+/// Returns the bytes under a key that is required, which are written in hexadecimal.
 #[tactic(auto, unfolding(crate::specs::Tree::bytes_at))]
 pub(crate) fn bytes_at(
     alloc: Global,
@@ -158,7 +158,7 @@ pub(crate) fn bytes_at(
     }
 }
 
-/// The address of a modem.
+/// Returns the address of a modem.
 #[tactic(auto, unfolding(crate::specs::Tree::modem_of))]
 pub(crate) fn modem_of(value: &Value, key: Key) -> Result<Modem, PlantFault>
     ensures { result ≡ modem_of key (view value.now) }
@@ -172,7 +172,7 @@ pub(crate) fn modem_of(value: &Value, key: Key) -> Result<Modem, PlantFault>
     }
 }
 
-/// The address of a modem under a key that is required.
+/// Returns the address of a modem under a key that is required.
 #[tactic(auto, unfolding(crate::specs::Tree::modem_at))]
 pub(crate) fn modem_at(table: &Table, place: Place, field: Field) -> Result<Modem, PlantFault>
     ensures { result ≡ modem_at place field (table_view table.now) }
@@ -181,7 +181,7 @@ pub(crate) fn modem_at(table: &Table, place: Place, field: Field) -> Result<Mode
     modem_of(value, Key::Entry(place, field))
 }
 
-/// The table that a value is.
+/// Returns the table that a value is.
 #[tactic(auto, unfolding(crate::specs::Tree::table_of))]
 pub(crate) fn table_of(value: &Value, place: Place) -> Result<&Table, PlantFault>
     ensures { seen (λ t. table_view t.now) result ≡ table_of place (view value.now) }

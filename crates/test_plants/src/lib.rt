@@ -1,11 +1,11 @@
-//! Texts of the plants of the worked examples: two operators, A and B, that share a frame of 72 minislots.
+//! Plant files that tests use, in which two operators, A and B, share a frame of 72 minislots.
 #![tactic(auto)]
 
 mod changes;
 
 pub use changes::changed;
 
-/// The tables of these names, behind the texts that stand behind the brackets.
+/// The tables of these names, after the texts that are after the brackets.
 macro_rules! tables {
     ([] $($text:tt)*) => { concat!($($text),*) };
     ([shared $($more:ident)*] $($text:tt)*) => {

@@ -27,11 +27,11 @@ long value = from_be_bytes w32 value
 abbrev pub low_bits : List ℕ → ℕ
 low_bits value = word value % 16384
 
--- a class name stands without the 0 that ends it
+-- a class name is without the 0 that ends it
 abbrev pub name_of : List ℕ → List ℕ
 name_of value = take (length value - 1) value
 
--- error encodings are two TLVs of their own: 5.1 the subtype at fault, 5.2 the confirmation code
+-- error encodings are two TLVs of their own: 5.1 the invalid subtype, 5.2 the confirmation code
 abbrev pub errored_of : List ℕ → ErrorEncodings
 errored_of value = record { errored_parameter = slice_index value 2; code = slice_index value 5 }
 
@@ -60,7 +60,7 @@ known =
 abbrev pub lengths_of : ℕ → Option (ℕ × ℕ)
 lengths_of subtype = option_map (λ row. row.1) (find (λ row. row.0 == subtype) known)
 
--- the value ends in its only 0, behind at least one byte
+-- the value ends in its only 0, after at least one byte
 abbrev pub is_terminated : List ℕ → Bool
 is_terminated value = (slice_index_or value (length value - 1) 1 == 0) && list_all (λ b. not (b == 0)) (name_of value)
 
@@ -79,7 +79,7 @@ in_range subtype value =
     if subtype == traffic_priority_subtype then nat_le (byte value) 7 else
     true
 
--- the values that stand under a subtype, in order
+-- the values that are under a subtype, in order
 abbrev pub values_of : ℕ → List Tlv → List (List ℕ)
 values_of subtype tlvs = map (λ t. t.value) (filter (λ t. t.kind == subtype) tlvs)
 
@@ -115,7 +115,7 @@ pub record IsOfSubtype (subtype : ℕ) (lengths : ℕ × ℕ) (value : List ℕ)
   pub short_enough : length value ≤ lengths.1
   pub takes : in_range subtype value ≡ true
 
--- nothing stands under the subtype, or one value as it has it
+-- nothing is under the subtype, or one value as it has it
 abbrev pub IsOnceAtMost : ℕ → ℕ × ℕ → List (List ℕ) → Type 0
 IsOnceAtMost subtype lengths [] = Unit {0}
 IsOnceAtMost subtype lengths (value ∷ []) = IsOfSubtype subtype lengths value
@@ -125,15 +125,15 @@ IsOnceAtMost subtype lengths (value ∷ again ∷ values) = ⊥
 abbrev pub IsSound : List Tlv → Type 0
 IsSound tlvs = (subtype : ℕ) (lengths : ℕ × ℕ) → lengths_of subtype ≡ Some lengths → IsOnceAtMost subtype lengths (values_of subtype tlvs)
 
--- The bytes are a flow encoding and say these fields: they are a list of TLVs in which each known subtype stands at
--- most once, with its length and in its range, and the fields are what stands there.
+-- The bytes are a flow encoding and say these fields: they are a list of TLVs in which each known subtype is at
+-- most once, with its length and in its range, and the fields are what is there.
 pub record IsFlowEncoding (bytes : List ℕ) (m : FlowFields) : Type 0 where
   pub tlvs : List Tlv
   pub list : IsTlvList bytes tlvs
   pub sound : IsSound tlvs
   pub fields : m ≡ fields_of tlvs
 
--- What is wrong with a TLV after those before it, tried in this order: its length, that its subtype stood before, its range.
+-- What is wrong with a TLV after those before it, tried in this order: its length, that its subtype was before, its range.
 abbrev pub fault_with : Option (ℕ × ℕ) → List Tlv → Tlv → Option TlvFault
 fault_with None before t = None
 fault_with (Some lengths) before t =
@@ -150,7 +150,7 @@ GoesWrong before rest (Cut place) = (place ≡ length (spelled before)) × (0 < 
 GoesWrong before rest NoMemory = ⊥
 GoesWrong before rest fault = (t : Tlv) × (after : List ℕ) × Begins rest t after × (fault_of before t ≡ Some fault)
 
--- The first fault in the order of bytes: before it stands a flow encoding, whose reference and SFID are told with it.
+-- The first fault in the order of bytes: before it is a flow encoding, whose reference and SFID are reported with it.
 pub record IsFirstFlowFault (bytes : List ℕ) (e : FlowFault) : Type 0 where
   pub before : List Tlv
   pub rest : List ℕ
@@ -176,7 +176,7 @@ says_after before (t ∷ tlvs) cut =
       | Some fault ↦ Err (fault_after before fault)
     ]
 
--- where the bytes are cut, if a rest stands with which no TLV begins
+-- where the bytes are cut, if a rest is left with which no TLV begins
 abbrev pub cut_in : List ℕ → List ℕ → Option ℕ
 cut_in bytes rest = if length rest == 0 then None else Some (length bytes - length rest)
 

@@ -1,4 +1,4 @@
--- How a flow encoding is written: the fields that stand, each once, in ascending order of subtype.
+-- How a flow encoding is written: the fields that are present, each once, in ascending order of subtype.
 use Rattle.std.specs.Prelude.{ℕ, List, [], ◌∷◌, ◌++◌, Option, Some, None}
 use Rattle.std.specs.Option.{option_map}
 use Rattle.std.specs.Int.{w16, w32, to_be_bytes}
@@ -16,11 +16,11 @@ single n = n ∷ []
 abbrev pub terminated : List ℕ → List ℕ
 terminated name = name ++ 0 ∷ []
 
--- error encodings are two TLVs of their own: 5.1 the subtype at fault, 5.2 the confirmation code
+-- error encodings are two TLVs of their own: 5.1 the invalid subtype, 5.2 the confirmation code
 abbrev pub spelled_error : ErrorEncodings → List ℕ
 spelled_error e = errored_parameter_subtype ∷ 1 ∷ e.errored_parameter ∷ error_code_subtype ∷ 1 ∷ e.code ∷ []
 
--- the TLV of a field that stands, under its subtype, or nothing
+-- the TLV of a field that is present, under its subtype, or nothing
 abbrev pub under : ℕ → Option (List ℕ) → List Tlv
 under subtype None = []
 under subtype (Some value) = tlv subtype value ∷ []

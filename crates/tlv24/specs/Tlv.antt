@@ -36,7 +36,7 @@ pub record IsFront (bytes : List ℕ) (tlvs : List Tlv) (rest : List ℕ) : Type
   pub short : AllByRecursion IsShort tlvs
   pub spelling : bytes ≡ spelled tlvs ++ rest
 
--- up to the place there are whole TLVs; from there on bytes stand with which no TLV begins
+-- up to the place there are whole TLVs; from there on there are bytes with which no TLV begins
 pub record IsCutAt (bytes : List ℕ) (place : ℕ) : Type 0 where
   pub inside : place < length bytes
   pub before : List Tlv

@@ -34,7 +34,7 @@ impl Model for ClassName {
 }
 
 impl ClassName {
-    /// The class name of these bytes; none where they are no name.
+    /// Returns the class name of these bytes; none where they are not a name.
     pub fn new(name: &[u8]) -> Option<ClassName>
         ensures value { IfSome result (λ made. made ≡ name.now) }
         ensures valid { IsSome result ↔ IsClassName name.now }
@@ -50,7 +50,7 @@ impl ClassName {
         })
     }
 
-    /// The name's bytes in place.
+    /// Returns the name's bytes in place.
     pub fn as_slice(&self) -> &[u8]
         ensures value { result.now ≡ self.now }
         ensures valid { IsClassName result.now }
@@ -59,7 +59,7 @@ impl ClassName {
     }
 }
 
-/// Whether no byte is 0.
+/// Returns whether no byte is 0.
 pub(crate) fn has_no_zero(bytes: &[u8]) -> bool
     ensures { result ≡ list_all (λ b. not (b == 0)) bytes.now }
 {

@@ -2,12 +2,12 @@
 
 use crate::tlv::TlvFault;
 
-/// The first fault of a flow encoding in the order of its bytes, and what stood before it.
+/// The first fault of a flow encoding in the order of its bytes, and what was before it.
 #[derive(Clone, Copy, Debug, PartialEq, Eq)]
 pub struct FlowFault {
     pub fault: TlvFault,
-    /// The Service Flow Reference, where it stood before the fault.
+    /// The Service Flow Reference, where it was before the fault.
     pub reference: Option<u16>,
-    /// The Service Flow Identifier, where it stood before the fault.
+    /// The Service Flow Identifier, where it was before the fault.
     pub sfid: Option<u32>,
 }

@@ -5,13 +5,14 @@ use crate::class_name::ClassName;
 /// Service Flow Error Encodings (CM-SP-MULPIv3.1, Annex C, subtype 5).
 #[derive(Clone, Copy, Debug, PartialEq, Eq)]
 pub struct ErrorEncodings {
-    /// The subtype at fault (5.1).
+    /// The invalid subtype (5.1).
     pub errored_parameter: u8,
     /// The confirmation code of the fault (5.2).
     pub code: u8,
 }
 
-/// The fields of an upstream service flow encoding (Annex C, type 24), by subtype: each may stand or not.
+/// The fields of an upstream service flow encoding (Annex C, type 24), by subtype: each may be
+/// absent.
 #[derive(Clone, Copy, Debug, PartialEq, Eq)]
 pub struct FlowFields {
     /// Service Flow Reference (subtype 1): never 0.
@@ -53,7 +54,7 @@ pub struct FlowFields {
 }
 
 impl FlowFields {
-    /// No field stands.
+    /// The encoding in which no field is present.
     pub const NONE: FlowFields = FlowFields {
         reference: None,
         sfid: None,

@@ -12,7 +12,7 @@ use crate::read::read_flow;
 use crate::write::write_flow;
 use std::alloc::{AllocError, Global};
 
-/// A law: bytes have one meaning.
+/// States that bytes have one meaning.
 pub fn one_meaning()
     // At most one record of fields is what the bytes say.
     ensures fields { (bytes : List ℕ) (m n : FlowFields) → IsFlowEncoding bytes m → IsFlowEncoding bytes n → m ≡ n }
@@ -20,14 +20,15 @@ pub fn one_meaning()
     ensures tlvs { (bytes : List ℕ) (xs ys : List Tlv) → IsTlvList bytes xs → IsTlvList bytes ys → xs ≡ ys }
 {}
 
-/// A law: `flow_of`, by which contracts read a flow encoding as a function, answers what the bytes say, or their first fault;
-/// and what the bytes say it answers.
+/// States that `flow_of`, by which contracts read a flow encoding as a function, answers what the
+/// bytes say, or their first fault; and what the bytes say it answers.
 pub fn flow_is_read()
     ensures right { (bytes : List ℕ) → AreBytes bytes → IsRightAnswer bytes (flow_of bytes) }
     ensures only { (bytes : List ℕ) (m : FlowFields) → AreBytes bytes → IsFlowEncoding bytes m → flow_of bytes ≡ Ok m }
 {}
 
-/// Writes the fields and reads them back: they come back as they were. `AllocError` where no memory is left.
+/// Writes the fields and reads them back: they come back as they were. `AllocError` if memory runs
+/// out.
 pub fn read_back(alloc: Global, flow: &FlowTlv) -> Result<FlowTlv, AllocError>
     ensures { IfOk result (λ again. again ≡ flow.now) }
 {

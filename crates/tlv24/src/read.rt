@@ -14,7 +14,7 @@ use crate::flow::FlowTlv;
 use crate::subtype;
 use crate::tlv::{TlvFault, first_tlv};
 
-/// The byte at a place, 0 past the end.
+/// Returns the byte at a place, 0 past the end.
 fn byte_at(value: &[u8], place: usize) -> u8
     ensures { result ≡ slice_index value.now place }
 {
@@ -47,7 +47,7 @@ fn errored(value: &[u8]) -> ErrorEncodings
     }
 }
 
-/// The class name that ends in the value's last byte, a 0.
+/// Returns the class name that ends in the value's last byte, a 0.
 fn class_name(value: &[u8]) -> Option<ClassName>
     ensures { 2 ≤ length value.now → length value.now ≤ 16 → is_terminated value.now ≡ true
         → result ≡ Some (name_of value.now) }
@@ -74,7 +74,7 @@ fn is_error_pair(value: &[u8]) -> bool
         && byte_at(value, 4) == 1
 }
 
-/// The least and the greatest length in bytes of a known subtype's value.
+/// Returns the least and the greatest length in bytes of a known subtype's value.
 fn lengths_of(subtype: u8) -> Option<(usize, usize)>
     ensures { result ≡ lengths_of subtype }
 {
@@ -112,7 +112,7 @@ fn in_range(subtype: u8, value: &[u8]) -> bool
     }
 }
 
-/// Whether a known subtype stands among the fields.
+/// Returns whether a known subtype is among the fields.
 fn stands(fields: &FlowFields, subtype: u8) -> bool
     ensures { (before : List Tlv) → States before fields.now → is_some (lengths_of subtype) ≡ true
         → result ≡ is_some (value_of subtype before) }
@@ -140,7 +140,7 @@ fn stands(fields: &FlowFields, subtype: u8) -> bool
     }
 }
 
-/// What is wrong with a TLV after the fields that were read before it.
+/// Returns what is wrong with a TLV after the fields that were read before it.
 #[tactic(auto, unfolding(crate::specs::Flow::fault_of))]
 fn fault_of(fields: &FlowFields, subtype: u8, value: &[u8]) -> Option<TlvFault>
     ensures { (before : List Tlv) → States before fields.now → result ≡ fault_of before (tlv subtype value.now) }
@@ -159,7 +159,7 @@ fn fault_of(fields: &FlowFields, subtype: u8, value: &[u8]) -> Option<TlvFault>
     }
 }
 
-/// Adds what a TLV says that is not at fault.
+/// Adds what a TLV says that is valid.
 #[tactic(auto, using(crate::proofs::Values::one_lem, crate::proofs::Values::other_lem))]
 fn put(fields: &mut FlowFields, subtype: u8, value: &[u8])
     ensures { (before : List Tlv) → States before fields.old → fault_of before (tlv subtype value.now) ≡ None
@@ -188,7 +188,7 @@ fn put(fields: &mut FlowFields, subtype: u8, value: &[u8])
     }
 }
 
-/// The fault with what stood before it.
+/// Returns the fault with what was before it.
 fn fault_after(fields: &FlowFields, fault: TlvFault) -> FlowFault
     ensures { result ≡ record { fault = fault; reference = fields.now.reference; sfid = fields.now.sfid } }
 {

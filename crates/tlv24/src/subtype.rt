@@ -55,7 +55,7 @@ pub const GRANT_JITTER: u8 = 21;
 /// The grants per interval (1 byte).
 pub const GRANTS_PER_INTERVAL: u8 = 22;
 
-/// Within error encodings: the subtype at fault (1 byte).
+/// Within error encodings: the invalid subtype (1 byte).
 pub const ERRORED_PARAMETER: u8 = 1;
 
 /// Within error encodings: the confirmation code (1 byte).

@@ -26,11 +26,11 @@ pub enum TlvFault {
     Cut { at: usize },
     /// A known subtype with another length than its own.
     WrongLength { subtype: u8 },
-    /// A known subtype that stood before.
+    /// A known subtype that was before.
     Twice { subtype: u8 },
     /// A known subtype with a value out of its range.
     Range { subtype: u8 },
-    /// No memory was left.
+    /// Memory ran out before any effect.
     NoMemory,
 }
 
@@ -58,7 +58,7 @@ pub struct FirstTlv<'a> {
     pub rest: &'a [u8],
 }
 
-/// The TLV that the bytes begin with; none where the bytes end before it does.
+/// Returns the TLV that the bytes begin with; none where the bytes end before it does.
 pub fn first_tlv(bytes: &[u8]) -> Option<FirstTlv<'_>>
     ensures exact { option_map (λ first.
         record { tlv = tlv first.kind first.value.now; rest = first.rest.now }) result ≡ first_of bytes.now }
@@ -80,11 +80,11 @@ pub fn first_tlv(bytes: &[u8]) -> Option<FirstTlv<'_>>
     })
 }
 
-/// Lists of TLVs.
+/// The reading of lists of TLVs.
 pub struct Tlvs;
 
 impl Tlvs {
-    /// The TLVs that the bytes are, in order; `Cut` where they are no list of TLVs.
+    /// Returns the TLVs that the bytes are, in order, or `Cut` if they are not a list of TLVs.
     pub fn split(alloc: Global, bytes: &[u8]) -> Result<Vec<Tlv>, TlvFault>
         ensures found { IfOk result (λ tlvs. IsTlvList bytes.now tlvs.items) }
         ensures only { (tlvs : List Tlv) → IsTlvList bytes.now tlvs → IsOkUnlessMemory result tlvs }

@@ -14,7 +14,7 @@ use crate::flow::FlowTlv;
 use crate::subtype;
 use std::alloc::{AllocError, Global};
 
-/// Appends one TLV.
+/// Appends one TLV: its type, its length and its value.
 #[inline(always)]
 fn put_tlv(out: &mut Vec<u8>, subtype: u8, value: &[u8]) -> Result<(), AllocError>
     requires { length value.now < 256 }
@@ -24,7 +24,7 @@ fn put_tlv(out: &mut Vec<u8>, subtype: u8, value: &[u8]) -> Result<(), AllocErro
     out.extend_from_slice(value)
 }
 
-/// Appends a field of one byte, where it stands.
+/// Appends a field of one byte, where it exists.
 fn put_byte(out: &mut Vec<u8>, subtype: u8, value: Option<u8>) -> Result<(), AllocError>
     ensures { OnOk result (out.new.items ≡ out.old.items ++ spelled (under subtype (option_map single value))) }
 {
@@ -34,7 +34,7 @@ fn put_byte(out: &mut Vec<u8>, subtype: u8, value: Option<u8>) -> Result<(), All
     }
 }
 
-/// Appends a field of two bytes, where it stands.
+/// Appends a field of two bytes, where it exists.
 #[inline(always)]
 pub fn put_word(out: &mut Vec<u8>, subtype: u8, value: Option<u16>) -> Result<(), AllocError>
     ensures bytes { OnOk result (out.new.items ≡ out.old.items
@@ -47,7 +47,7 @@ pub fn put_word(out: &mut Vec<u8>, subtype: u8, value: Option<u16>) -> Result<()
     }
 }
 
-/// Appends a field of four bytes, where it stands.
+/// Appends a field of four bytes, where it exists.
 #[inline(always)]
 pub fn put_long(out: &mut Vec<u8>, subtype: u8, value: Option<u32>) -> Result<(), AllocError>
     ensures bytes { OnOk result (out.new.items ≡ out.old.items
@@ -60,7 +60,7 @@ pub fn put_long(out: &mut Vec<u8>, subtype: u8, value: Option<u32>) -> Result<()
     }
 }
 
-/// Appends the class name and the 0 that ends it, where it stands.
+/// Appends the class name and the 0 that ends it, where it exists.
 fn put_class_name(
     out: &mut Vec<u8>,
     subtype: u8,
@@ -81,7 +81,7 @@ fn put_class_name(
     Ok(())
 }
 
-/// Appends error encodings, where they stand.
+/// Appends error encodings, where they exist.
 fn put_errored(
     out: &mut Vec<u8>,
     subtype: u8,
@@ -106,8 +106,8 @@ fn put_errored(
     }
 }
 
-/// The value of a type 24 TLV that says these fields: those that stand, each once, in ascending order of subtype.
-/// `AllocError` where no memory is left.
+/// Returns the value of a type 24 TLV that says these fields: those that are present, each once, in
+/// ascending order of subtype. `AllocError` if memory runs out.
 pub fn write_flow(alloc: Global, flow: &FlowTlv) -> Result<Vec<u8>, AllocError>
     // The one spelling.
     ensures spelling { IfOk result (λ bytes. bytes.items ≡ spelled (tlvs_of flow.now)) }

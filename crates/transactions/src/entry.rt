@@ -13,7 +13,7 @@ use tlv24::Bytes;
 /// Whether a response waits for its acknowledgement.
 #[derive(Clone, Copy, Debug, PartialEq, Eq)]
 pub enum ResponseState {
-    /// It waits, and is sent again in the meantime.
+    /// It waits, and is retransmitted in the meantime.
     Waiting,
     /// It waits for nothing, and is held for a request that is repeated.
     Held,
@@ -36,12 +36,12 @@ pub struct KeptEntry {
     pub standing: ResponseState,
     /// How many ticks are left until the timer acts.
     pub ticks_left: u16,
-    /// How often the response may still be sent again.
+    /// How often the response may still be retransmitted.
     pub resends_left: u8,
 }
 
 impl KeptEntry {
-    /// An entry that begins: it waits for an acknowledgement, or is only held.
+    /// Returns an entry that begins: it waits for an acknowledgement, or is only held.
     pub(crate) fn begin(
         timers: Timers,
         modem: Modem,
@@ -74,7 +74,7 @@ impl KeptEntry {
         }
     }
 
-    /// An equal value with bytes of its own.
+    /// Returns an equal value with bytes of its own.
     pub fn copy(&self, alloc: Global) -> Result<KeptEntry, AllocError>
         ensures { IfOk result (λ entry. entry ≡ self.now) }
     {
@@ -90,49 +90,52 @@ impl KeptEntry {
         })
     }
 
-    /// Whether it is the entry of this modem and transaction ID.
+    /// Returns whether it is the entry of this modem and transaction ID.
     pub(crate) fn is_of(&self, modem: Modem, tid: u16) -> bool
         ensures { result ≡ is_of modem tid self.now }
     {
         self.tid == tid && self.modem == modem
     }
 
-    /// Whether it waits for an acknowledgement of this kind, from this modem and under this transaction ID.
+    /// Returns whether it waits for an acknowledgement of this kind, from this modem and under this
+    /// transaction ID.
     pub(crate) fn waits_for(&self, modem: Modem, tid: u16, kind: Kind) -> bool
         ensures { result ≡ waits_for modem tid kind self.now }
     {
         self.is_of(modem, tid) && self.standing == ResponseState::Waiting && self.kind == kind
     }
 
-    /// Whether the next tick ends its time.
+    /// Returns whether the next tick ends its time.
     pub(crate) fn is_due(&self) -> bool
         ensures { result ≡ is_due self.now }
     {
         self.ticks_left == 1
     }
 
-    /// Whether the next tick sends its response again.
+    /// Returns whether the next tick retransmits its response.
     pub(crate) fn is_resent(&self) -> bool
         ensures { result ≡ is_resent self.now }
     {
         self.is_due() && self.standing == ResponseState::Waiting && self.resends_left > 0
     }
 
-    /// Whether the next tick gives it up.
+    /// Returns whether the next tick abandons it.
     pub(crate) fn is_given_up(&self) -> bool
         ensures { result ≡ is_given_up self.now }
     {
         self.is_due() && self.standing == ResponseState::Waiting && self.resends_left == 0
     }
 
-    /// Whether the next tick forgets it: it is given up, or its last tick as a held entry ends.
+    /// Returns whether the next tick forgets it: it is abandoned, or its last tick as a held entry
+    /// ends.
     pub(crate) fn is_forgotten(&self) -> bool
         ensures { result ≡ is_forgotten self.now }
     {
         self.is_given_up() || self.is_due() && self.standing == ResponseState::Held
     }
 
-    /// Counts one tick down, and where the response is sent again, begins the next wait. Answers whether the entry stays.
+    /// Counts one tick down, and where the response is retransmitted, begins the next wait. Returns
+    /// whether the entry stays.
     pub(crate) fn tick(&mut self, timers: Timers) -> bool
         ensures stays { result ≡ not (is_forgotten self.old) }
         ensures after { self.new ≡ ticked timers self.old }

@@ -1,4 +1,4 @@
-//! The kept entries of all transactions.
+//! The cached responses of all transactions.
 
 ghost use Rattle.std.specs.Prelude.{◌≡◌, ◌≢◌, ◌≤◌, ◌<◌, ◌↔◌, [], ◌∷◌, ◌++◌, length, All, find, position, map, count_by, option_map, IsTrue, IsSome, IsNone, IsOk, IfOk, OnOk, OnErr};
 ghost use Rattle.std.specs.Option.{option_copied};
@@ -18,13 +18,14 @@ use tlv24::Bytes;
 /// Why a transaction was not begun.
 #[derive(Clone, Copy, Debug, PartialEq, Eq)]
 pub enum KeptFault {
-    /// As many entries stand as there is room for.
+    /// There is no room for more entries.
     Full,
-    /// An entry of this modem and transaction ID stands.
+    /// An entry of this modem and transaction ID exists.
     Live,
 }
 
-/// The kept entries of all transactions, in the order in which they began, one for each modem and transaction ID.
+/// The cached responses of all transactions, in the order in which they began, one for each modem
+/// and transaction ID.
 #[derive(Debug, Drop)]
 pub struct Kept {
     capacity: u32,
@@ -44,7 +45,8 @@ impl Model for Kept {
 }
 
 impl Kept {
-    /// No entries, and room for `capacity` of them. Beside `tick`, no other call takes memory.
+    /// Returns no entries, and room for `capacity` of them. Besides `tick`, no other call takes
+    /// memory.
     pub fn new(alloc: Global, capacity: u32, timers: Timers) -> Result<Kept, AllocError>
         ensures { IfOk result (λ kept. kept ≡ record { capacity = capacity; waits = timers; entries = [] }) }
     {
@@ -56,15 +58,15 @@ impl Kept {
         })
     }
 
-    /// The entry of a modem and transaction ID.
+    /// Returns the entry of a modem and transaction ID.
     pub fn find(&self, modem: Modem, tid: u16) -> Option<&KeptEntry>
         ensures { option_copied result ≡ find (is_of modem tid) self.now.entries }
     {
         self.entries.iter().find(|entry| entry.is_of(modem, tid))
     }
 
-    /// Begins an entry for a response. Where it `waits` for an acknowledgement, it is sent again until that comes; else it
-    /// is held to answer a repeated request.
+    /// Begins an entry for a response. Where it `waits` for an acknowledgement, it is retransmitted
+    /// until that comes; else it is held to answer a repeated request.
     ///
     /// Faults, in this order: `Full`, `Live`. Each leaves all as it was.
     pub fn begin(
@@ -100,8 +102,8 @@ impl Kept {
         Ok(())
     }
 
-    /// Begins an entry as `begin` does, for a caller who knows that there is room and that no entry of this modem and
-    /// transaction ID stands. Looks at no other entry.
+    /// Begins an entry as `begin` does, for a caller who knows that there is room and that no entry
+    /// of this modem and transaction ID exists. Looks at no other entry.
     pub fn begin_new(
         &mut self,
         modem: Modem,
@@ -136,10 +138,11 @@ impl Kept {
         Some(entry.sfid)
     }
 
-    /// Counts one tick: sends responses again, gives up those that were never acknowledged, and forgets these and the
-    /// entries that were held for their time.
+    /// Counts one tick: retransmits responses, abandons those that were never acknowledged, and
+    /// forgets these and the entries that were held for their time.
     ///
-    /// At `AllocError` nothing has changed. A tick that sends nothing again and gives nothing up takes no memory.
+    /// At `AllocError` nothing has changed. A tick that sends nothing again and gives nothing up
+    /// takes no memory.
     pub fn tick(&mut self, alloc: Global) -> Result<Ticked, AllocError>
         ensures state { OnOk result (self.new
             ≡ record self.old { entries = kept_after self.old.waits self.old.entries }) }
@@ -154,8 +157,8 @@ impl Kept {
         Ok(Ticked { resend, given_up })
     }
 
-    /// What the next tick sends again: copies, for a caller that wants them before the tick changes anything. Takes no
-    /// memory where there is nothing.
+    /// Returns what the next tick retransmits: copies, for a caller that wants them before the tick
+    /// changes anything. Takes no memory where there is nothing.
     pub fn resends(&self, alloc: Global) -> Result<Resends, AllocError>
         ensures ok { IfOk result (λ resend. resend ≡ resent_in self.now.entries) }
         ensures err { OnErr result (resent_in self.now.entries ≢ []) }
@@ -163,7 +166,7 @@ impl Kept {
         resends_in(alloc, self.entries.as_slice())
     }
 
-    /// How many responses the next tick sends again.
+    /// Returns how many responses the next tick retransmits.
     pub fn resend_count(&self) -> usize
         ensures value { result ≡ length (resent_in self.now.entries) }
         ensures few { result ≤ self.now.capacity }
@@ -171,28 +174,28 @@ impl Kept {
         resent_count(&self.entries)
     }
 
-    /// How many entries stand.
+    /// Returns the number of entries.
     pub fn len(&self) -> usize
         ensures { result ≡ length self.now.entries }
     {
         self.entries.len()
     }
 
-    /// Whether no entry stands.
+    /// Returns whether there is no entry.
     pub fn is_empty(&self) -> bool
         ensures { IsTrue result ↔ (self.now.entries ≡ []) }
     {
         self.entries.is_empty()
     }
 
-    /// Whether as many entries stand as there is room for.
+    /// Returns whether there is no room for more entries.
     pub fn is_full(&self) -> bool
         ensures { IsTrue result ↔ (length self.now.entries ≡ self.now.capacity) }
     {
         self.len() == self.capacity as usize
     }
 
-    /// The entries, in the order in which they began.
+    /// Returns the entries, in the order in which they began.
     pub fn entries(&self) -> &[KeptEntry]
         ensures value { result.now ≡ self.now.entries }
         ensures lasting { IsLasting self.now.waits }
@@ -205,7 +208,7 @@ impl Kept {
     }
 }
 
-/// Where the entry stands that waits for this acknowledgement.
+/// Returns where the entry is that waits for this acknowledgement.
 fn waiting_place(entries: &[KeptEntry], modem: Modem, tid: u16, kind: Kind) -> Option<usize>
     ensures { result ≡ position (waits_for modem tid kind) entries.now }
 {
@@ -214,7 +217,7 @@ fn waiting_place(entries: &[KeptEntry], modem: Modem, tid: u16, kind: Kind) -> O
         .position(|entry| entry.waits_for(modem, tid, kind))
 }
 
-/// How many of these entries the next tick sends again.
+/// Returns how many of these entries the next tick retransmits.
 fn resent_count(entries: &[KeptEntry]) -> usize
     ensures value { result ≡ count_by is_resent entries.now }
     ensures few { result ≤ length entries.now }

@@ -1,4 +1,4 @@
-//! Kept responses and their timers: what the CMTS keeps of each transaction with a modem (CM-SP-MULPIv3.1, 11.2).
+//! The cache of responses and its timers: what the CMTS keeps of each transaction with a modem (CM-SP-MULPIv3.1, 11.2).
 #![tactic(auto)]
 
 mod entry;

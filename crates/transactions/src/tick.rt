@@ -1,4 +1,4 @@
-//! What a tick sends again, gives up and forgets.
+//! What a tick retransmits, abandons and forgets.
 
 ghost use Rattle.std.specs.Prelude.{◌≡◌, ◌≢◌, [], IfOk, OnErr};
 ghost use Rattle.std.specs.Vec.{vec_capacity};
@@ -11,7 +11,7 @@ use lists::Listed;
 use std::alloc::{AllocError, Global};
 use tlv24::Bytes;
 
-/// A response that is sent again.
+/// A response that is retransmitted.
 #[derive(Debug, Drop)]
 pub struct Resend {
     /// The modem that it is sent to.
@@ -29,22 +29,22 @@ pub struct GivenUp {
     pub sfid: u32,
 }
 
-/// The responses that a tick sends again, in the order in which their transactions began.
+/// The responses that a tick retransmits, in the order in which their transactions began.
 pub type Resends = Listed<Resend>;
 
-/// The transactions that a tick gives up, in the order in which they began.
+/// The transactions that a tick abandons, in the order in which they began.
 pub type GivenUps = Listed<GivenUp>;
 
-/// What a tick tells.
+/// What a tick reports: retransmissions and abandoned transactions.
 #[derive(Debug, Drop)]
 pub struct Ticked {
-    /// What is sent again.
+    /// What is retransmitted.
     pub resend: Resends,
-    /// What is given up.
+    /// What is abandoned.
     pub given_up: GivenUps,
 }
 
-/// Copies of the responses that the next tick sends again. Takes no memory where there are none.
+/// Copies of the responses that the next tick retransmits. Takes no memory where there are none.
 #[tactic(auto, using(crate::proofs::ListLemmas::told_there))]
 pub(crate) fn resends_in(alloc: Global, entries: &[KeptEntry]) -> Result<Resends, AllocError>
     ensures ok { IfOk result (λ resend. resend ≡ resent_in entries.now) }
@@ -63,7 +63,7 @@ pub(crate) fn resends_in(alloc: Global, entries: &[KeptEntry]) -> Result<Resends
     Ok(Listed::from_vec(resends))
 }
 
-/// The transactions that the next tick gives up. Takes no memory where there are none.
+/// Returns the transactions that the next tick abandons. Takes no memory where there are none.
 #[tactic(auto, using(crate::proofs::ListLemmas::told_there))]
 pub(crate) fn given_ups_in(alloc: Global, entries: &[KeptEntry]) -> Result<GivenUps, AllocError>
     ensures ok { IfOk result (λ given_up. given_up ≡ given_up_in entries.now) }

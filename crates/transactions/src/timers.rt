@@ -5,8 +5,8 @@ ghost use Rattle.transactions.specs.Waits.{IsLasting};
 
 use std::marker::Model;
 
-/// How long a response waits for its acknowledgement, how often it is sent again, and how long an answered transaction
-/// is held, in ticks.
+/// How long a response waits for its acknowledgement, how often it is retransmitted, and how long
+/// an answered transaction is held, in ticks.
 #[derive(Clone, Copy, Debug, PartialEq, Eq)]
 pub struct Timers {
     ack_wait: u16,
@@ -28,7 +28,8 @@ impl Model for Timers {
 }
 
 impl Timers {
-    /// Timers of these numbers: `ack_wait` and `hold` are 1 to 65,535 ticks, `resends` is 0 to 255.
+    /// Returns timers of these numbers: `ack_wait` and `hold` are 1 to 65,535 ticks, `resends` is 0
+    /// to 255.
     pub fn new(ack_wait: u16, resends: u8, hold: u16) -> Timers
         requires ack_wait { 1 ≤ ack_wait }
         requires hold { 1 ≤ hold }
@@ -41,14 +42,15 @@ impl Timers {
         }
     }
 
-    /// Both waits are at least one tick: for a caller's proof. Does nothing.
+    /// States both waits are at least one tick: for a caller's proof. Does nothing.
     pub fn always(&self)
         ensures { IsLasting self.now }
     {
         let _ = &self.ack_wait;
     }
 
-    /// How many ticks a response waits for its acknowledgement before it is sent again or given up: 1 to 65,535.
+    /// Returns how many ticks a response waits for its acknowledgement before it is retransmitted
+    /// or abandoned: 1 to 65,535.
     pub fn get_ack_wait(&self) -> u16
         ensures value { result ≡ self.now.ack_wait }
         ensures range { (1 ≤ result) × (result < 2 ^ 16) }
@@ -56,7 +58,7 @@ impl Timers {
         self.ack_wait
     }
 
-    /// How often a response is sent again: 0 to 255 times.
+    /// Returns how often a response is retransmitted: 0 to 255 times.
     pub fn get_resends(&self) -> u8
         ensures value { result ≡ self.now.resends }
         ensures range { result < 2 ^ 8 }
@@ -64,7 +66,7 @@ impl Timers {
         self.resends
     }
 
-    /// How many ticks an answered transaction is held: 1 to 65,535.
+    /// Returns how many ticks an answered transaction is held: 1 to 65,535.
     pub fn get_hold(&self) -> u16
         ensures value { result ≡ self.now.hold }
         ensures range { (1 ≤ result) × (result < 2 ^ 16) }

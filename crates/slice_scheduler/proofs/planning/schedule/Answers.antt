@@ -4,6 +4,7 @@ use Rattle.std.specs.List.{flat_map}
 use Rattle.slice_scheduler.specs.declared.claim.Claim.{Claim}
 use Rattle.slice_scheduler.specs.declared.award.Award.{Award}
 use Rattle.slice_scheduler.specs.declared.piece.Piece.{Piece}
+use Rattle.slice_scheduler.specs.Minislots.{Minislots}
 use Rattle.slice_scheduler.specs.Due.{due_pieces}
 use Rattle.slice_scheduler.specs.Claims.{claims_of, room_of}
 use Rattle.slice_scheduler.specs.Awards.{award_of, awards_of}
@@ -38,8 +39,8 @@ pack-requires-clause-fits g c =
     ∙ (ap (λ (ps : List Piece). ps ++ flat_map (award_pieces at) c.as_slice-3.result.now) c.in_ok-pieces.ensures.items
     ∙ (ap (λ (xs : List Award). flat_map (due_pieces at) flows ++ flat_map (award_pieces at) xs) ordered
     ∙ ap (λ (ps : List Piece). flat_map (due_pieces at) flows ++ ps) (asking-pieces at (awards_of policy at flows))))) in
-    subst (λ (ps : List Piece). minislots_in ps ≤ at.slice.length) (sym pieces)
-    (pieces-fit policy at flows c.requires.ascending c.room-room.ensures.fits)
+    rw c.get_slice-slice.ensures.value (subst (λ (ps : List Piece). minislots_in ps ≤ at.slice.length) (sym pieces)
+    (pieces-fit policy at flows c.requires.ascending c.room-room.ensures.fits))
 
 pub returns-clause-granted : goal.returns-clause-granted
 returns-clause-granted g c =
@@ -79,11 +80,13 @@ returns-clause-elements g c =
     ∙ ap (λ (ps : List Piece). flat_map (due_pieces at) flows ++ ps) (asking-pieces at (awards_of policy at flows))))) in
     let spans : c.from_vec.result ≡ spans_of policy at flows =
     c.from_vec.ensures ∙ (c.in_ok-spans.ensures.items
-    ∙ ap (λ (ps : List Piece). packed at.slice.start (ps ++ idle (at.slice.length - minislots_in ps))) pieces) in
+    ∙ (ap (λ (s : Minislots). packed s.start (c.as_slice-4.result.now ++ idle (s.length - minislots_in c.as_slice-4.result.now))) c.get_slice-slice.ensures.value
+    ∙ ap (λ (ps : List Piece). packed at.slice.start (ps ++ idle (at.slice.length - minislots_in ps))) pieces)) in
     let pending : c.from_vec-2.result ≡ pending_of policy at flows =
     c.from_vec-2.ensures ∙ (c.in_ok-pending.ensures
     ∙ (ap (λ (xs : List Award). map (λ (a : Award). a.sid) (filter (λ (a : Award). nat_lt a.grant a.backlog) xs)) (c.as_slice-5.ensures.value ∙ ordered)
     ∙ ap (map (λ (a : Award). a.sid)) (asking-pending (awards_of policy at flows)))) in
     c.new.ensures
+    ∙ (ap (λ (s : Minislots). record { slice = s; spans = c.from_vec.result; pending = c.from_vec-2.result }) c.get_slice-slice.ensures.value
     ∙ (ap (λ (ss : List Span). record { slice = at.slice; spans = ss; pending = c.from_vec-2.result }) spans
-    ∙ ap (λ (sids : List ℕ). record { slice = at.slice; spans = spans_of policy at flows; pending = sids }) pending)
+    ∙ ap (λ (sids : List ℕ). record { slice = at.slice; spans = spans_of policy at flows; pending = sids }) pending))

@@ -1,4 +1,4 @@
-//! What is opened, what an action leaves, and what a history comes to.
+//! What is opened, what an action leaves, and what a history results in.
 
 ghost use Rattle.std.specs.Prelude.{◌≤◌, List};
 ghost use Rattle.plant.specs.declared.consts.ConstsFields.{ConstsFields};
@@ -10,20 +10,22 @@ ghost use Rattle.operator_model.specs.State.{OperatorState, Operator, opened};
 ghost use Rattle.operator_model.specs.Machine.{own_step, IsAllowed};
 ghost use Rattle.operator_model.specs.Replay.{IsReplay};
 ghost use Rattle.operator_model.specs.Sound.{IsSound};
-ghost use Rattle.pending_flow_laws.specs.Awaited.{AreAwaited};
+ghost use Rattle.check_table.specs.Awaited.{AreAwaited};
 
-/// No sets are pending of a machine that is opened.
+/// States that no sets are pending of a machine that is opened.
 pub fn opened_is_awaited()
     ensures { (consts : ConstsFields) (row : RowFields) → AreAwaited (opened consts row) }
 {}
 
-/// An action that is not refused leaves each flow of which sets are pending a response that waits for it.
+/// States that an action that is not refused leaves each flow of which sets are pending a response
+/// that waits for it.
 pub fn step_keeps_awaited()
     ensures { (op : Operator) (action : Action) → IsSound op → AreAwaited op.state → IsAllowed op action
         → AreAwaited (own_step op action).state }
 {}
 
-/// So it is with the replay of a history, whatever was done.
+/// States that the replay of a history leaves each flow with pending sets such a response, whatever
+/// was done.
 pub fn replay_is_awaited()
     ensures { (consts : ConstsFields) (row : RowFields) (history : List Entry) (state : OperatorState)
         → IsRowOf consts row → 1 ≤ row.slice.length → IsReplay consts row history state → AreAwaited state }

@@ -18,7 +18,7 @@ use Rattle.transactions.specs.Keeping.{held_entry, acknowledged}
 use Rattle.transactions.specs.Timers.{is_due, is_resent, is_given_up, is_forgotten, given_up_of, given_up_in, kept_after}
 use Rattle.transactions.specs.Timers as timers
 use Rattle.operator_model.proofs.KeptLemmas.{pairs-head, pairs-tail, pairs-map}
-use Rattle.pending_flow_laws.specs.Awaited.{IsAwaited, AreOfTwo}
+use Rattle.check_table.specs.Awaited.{IsAwaited, AreOfTwo}
 
 -- ---- who waits
 

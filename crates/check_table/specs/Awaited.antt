@@ -1,4 +1,4 @@
--- Each flow of which sets are pending has a response that waits for its acknowledgement (own).
+-- Each flow of which sets are pending has a response that waits for its acknowledgement (implementation-specific).
 use Rattle.std.specs.Prelude.{◌≡◌, ℕ, true, List, Any, AllPairs, Some, IsSome}
 use Rattle.dsx_messages.specs.declared.modem.Modem.{Modem}
 use Rattle.transactions.specs.declared.entry.KeptEntry.{KeptEntry}

@@ -51,9 +51,9 @@ use Rattle.operator_model.proofs.KeptLemmas.{All-find, passes-find, given_up-Hav
 use Rattle.operator_model.proofs.SoundLemmas.{sound-AreFlows}
 use Rattle.operator_model.proofs.OpenedLemmas.{opened_sound}
 use Rattle.operator_model.proofs.StepLemmas.{step_sound}
-use Rattle.pending_flow_laws.specs.Awaited.{AreOfTwo, AreAwaited}
-use Rattle.pending_flow_laws.proofs.WaitLemmas.{Awaits, awaits-any, any-awaits, awaits-push, awaits-last, awaits-acked, own-acked, awaits-ticked, own-ticked, own-push}
-use Rattle.pending_flow_laws.proofs.FlowLemmas.{IsPending, acked_none, still_pending, all_granted_pending}
+use Rattle.check_table.specs.Awaited.{AreOfTwo, AreAwaited}
+use Rattle.check_table.proofs.WaitLemmas.{Awaits, awaits-any, any-awaits, awaits-push, awaits-last, awaits-acked, own-acked, awaits-ticked, own-ticked, own-push}
+use Rattle.check_table.proofs.PendingFlowLemmas.{IsPending, acked_none, still_pending, all_granted_pending}
 
 -- who waits in a state
 record Held (state : OperatorState) : Type 0 where

@@ -1,3 +1,0 @@
-pub mod WaitLemmas
-pub mod FlowLemmas
-pub mod StepLemmas
