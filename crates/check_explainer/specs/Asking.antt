@@ -39,7 +39,7 @@ subject_of entry = Some entry.1
 abbrev pub is_named_in : Said → ℕ × Flow → Bool
 is_named_in said entry = names said.kind said.encodings said.sfid entry.0
 
--- the flows that a request is about: none that stands, where it adds one
+-- the flows that a request is about: none that is present, where it adds one
 abbrev pub subjects_of : Operator → Said → List (Option Flow)
 subjects_of op said = (if is_addition said.kind then None ∷ [] else []) ++ map subject_of (filter (is_named_in said) op.state.flows)
 

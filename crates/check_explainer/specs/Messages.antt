@@ -12,7 +12,7 @@ use Rattle.check_table.specs.Messages.{Reading}
 use Rattle.check_table.specs.declared.check.MessageCheck.{MessageCheck}
 use Rattle.check_table.specs.declared.check.MessageCheck.TheVariants.{Unread, OfCmts, Repeated, KeptFull, Faulty, Judged}
 
--- an acknowledgement, or memory was wanting for what the message says
+-- an acknowledgement, or memory ran out for what the message says
 abbrev pub HasNoCheck : Reading → Type 0
 HasNoCheck (Ok (messages.Ack kind tid code)) = ⊤
 HasNoCheck (Err faults.NoMemory) = ⊤
@@ -20,7 +20,7 @@ HasNoCheck reading = ⊥
 
 -- ---- tests
 
--- the kind and the transaction ID of a request, whose rest was read or is at fault
+-- the kind and the transaction ID of a request, whose rest was read or is invalid
 abbrev pub transaction_in : Reading → Option (Kind × ℕ)
 transaction_in (Ok (messages.Request request)) = Some ((said_by request).kind, (said_by request).tid)
 transaction_in (Ok (messages.Ack kind tid code)) = None

@@ -44,7 +44,7 @@ pub(crate) fn kind_of(request: &Request) -> Kind
     }
 }
 
-/// Its encodings: a deletion has none.
+/// Returns its encodings: a deletion has none.
 pub(crate) fn encodings_of(request: &Request) -> &[FlowTlv]
     ensures { result.now ≡ (said_by request.now).encodings }
 {
@@ -66,7 +66,7 @@ fn one_has_sfid(sfid: u32, encodings: &[FlowTlv]) -> bool
     encodings.iter().any(|encoding| has_sfid(sfid, encoding))
 }
 
-/// Whether a request names this SFID.
+/// Returns whether a request names this SFID.
 fn names(request: &Request, sfid: u32) -> bool
     ensures { result
         ≡ names (said_by request.now).kind (said_by request.now).encodings (said_by request.now).sfid sfid }
@@ -81,7 +81,7 @@ fn names(request: &Request, sfid: u32) -> bool
     }
 }
 
-/// Whether an encoding is for this use.
+/// Returns whether an encoding is for this use.
 fn is_for(for_use: Use, encoding: &FlowTlv) -> bool
     ensures { result ≡ is_for for_use encoding.now }
 {
@@ -91,7 +91,8 @@ fn is_for(for_use: Use, encoding: &FlowTlv) -> bool
     }
 }
 
-/// The parameter set of an encoding, over its class, or why it has none; none of both where the plant has not the class.
+/// Returns the parameter set of an encoding, over its class, or why it has none; none of both where
+/// the plant has not the class.
 pub(crate) fn set_asked(consts: &Consts, encoding: &FlowTlv) -> Option<Result<ParamSet, Refusal>>
     ensures { result ≡ set_asked consts.now encoding.now }
 {
@@ -99,7 +100,7 @@ pub(crate) fn set_asked(consts: &Consts, encoding: &FlowTlv) -> Option<Result<Pa
     Some(from_tlv(&asked, &consts.get_fields().units))
 }
 
-/// The set of an encoding, where it has one.
+/// Returns the set of an encoding, where it has one.
 fn set_given(consts: &Consts, encoding: &FlowTlv) -> Option<ParamSet>
     ensures { result ≡ set_given consts.now encoding.now }
 {
@@ -109,7 +110,7 @@ fn set_given(consts: &Consts, encoding: &FlowTlv) -> Option<ParamSet>
     }
 }
 
-/// Whether an encoding is for this use, and has a set.
+/// Returns whether an encoding is for this use, and has a set.
 fn gives_for(for_use: Use, consts: &Consts, encoding: &FlowTlv) -> bool
     ensures { result ≡ gives_for for_use consts.now encoding.now }
 {
@@ -151,7 +152,7 @@ fn add_sets(
     Ok(())
 }
 
-/// Whether an encoding is for this use.
+/// Returns whether an encoding is for this use.
 fn one_is_for(for_use: Use, encodings: &[FlowTlv]) -> bool
     ensures { result ≡ list_any (is_for for_use) encodings.now }
 {
@@ -159,7 +160,7 @@ fn one_is_for(for_use: Use, encodings: &[FlowTlv]) -> bool
 }
 
 impl OperatorSnapshot {
-    /// The flows that a request is about: none that stands, where it adds one.
+    /// Returns the flows that a request is about: none that is present, where it adds one.
     pub(crate) fn subjects(
         &self,
         alloc: Global,
@@ -175,7 +176,8 @@ impl OperatorSnapshot {
         Ok(subjects)
     }
 
-    /// The sets that a request asks to be put to this use: the null set where no encoding is for it.
+    /// Returns the sets that a request asks to be put to this use: the null set where no encoding
+    /// is for it.
     pub(crate) fn sets(
         &self,
         alloc: Global,

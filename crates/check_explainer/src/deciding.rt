@@ -39,7 +39,7 @@ const CHECKS: [Check; 17] = [
 ];
 
 impl OperatorSnapshot {
-    /// The first of these checks that holds.
+    /// Returns the first of these checks that holds.
     fn first_of<'a>(
         &self,
         checks: &'a [Check],
@@ -55,7 +55,7 @@ impl OperatorSnapshot {
             .find(|check| self.holds(**check, modem, request, asked))
     }
 
-    /// The first check of the table that holds.
+    /// Returns the first check of the table that holds.
     fn first_that_holds(&self, modem: Modem, request: &Request, asked: &RequestedSets) -> Check
         requires { AreAsked self.now (said_by request.now) asked.now.subjects.items asked.now.admitted.items asked.now.active.items }
         ensures { find (test_of self.now modem (said_by request.now)) table ≡ Some result }
@@ -65,8 +65,9 @@ impl OperatorSnapshot {
             .unwrap_or(Check::Accepted)
     }
 
-    /// The check that decides a request of a modem whose transaction is new: the first of the table that holds of the
-    /// operator as it stands. Takes memory for what the request names and asks for.
+    /// Returns the check that decides a request of a modem whose transaction is new: the first of
+    /// the table that holds of the operator as it exists. Takes memory for what the request names
+    /// and asks for.
     pub fn deciding_check(
         &self,
         alloc: Global,

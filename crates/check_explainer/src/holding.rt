@@ -39,14 +39,14 @@ fn is_alone(kind: Kind, encodings: &[FlowTlv], a: &FlowTlv) -> bool
     encodings.iter().any(|b| differs_from(kind, a, b))
 }
 
-/// Whether the identifiers of two encodings differ.
+/// Returns whether the identifiers of two encodings differ.
 fn do_differ(kind: Kind, encodings: &[FlowTlv]) -> bool
     ensures { result ≡ do_differ kind encodings.now }
 {
     encodings.iter().any(|a| is_alone(kind, encodings, a))
 }
 
-/// Whether one encoding alone may have its set type: 0 in a change alone.
+/// Returns whether one encoding alone may have its set type: 0 in a change alone.
 fn is_taken(kind: Kind, encoding: &FlowTlv) -> bool
     ensures { result ≡ is_taken kind encoding.now }
 {
@@ -58,7 +58,7 @@ fn is_taken(kind: Kind, encoding: &FlowTlv) -> bool
     }
 }
 
-/// Whether there is one encoding, of a set type that it may not have.
+/// Returns whether there is one encoding, of a set type that it may not have.
 fn is_wrong_alone(kind: Kind, encodings: &[FlowTlv]) -> bool
     ensures { result ≡ is_wrong_alone kind encodings.now }
 {
@@ -68,7 +68,7 @@ fn is_wrong_alone(kind: Kind, encodings: &[FlowTlv]) -> bool
     }
 }
 
-/// Whether an encoding is to give a set, and has none.
+/// Returns whether an encoding is to give a set, and has none.
 fn gives_none(consts: &Consts, encoding: &FlowTlv) -> bool
     ensures { result ≡ gives_none consts.now encoding.now }
 {
@@ -87,7 +87,7 @@ fn is_used(used: &[u32], sfid: u32) -> bool
     used.iter().any(|n| *n == sfid)
 }
 
-/// Whether this is an SFID that is not used.
+/// Returns whether this is an SFID that is not used.
 fn is_unknown(used: &[u32], sfid: Option<u32>) -> bool
     ensures { result ≡ is_unknown used.now sfid }
 {
@@ -97,7 +97,7 @@ fn is_unknown(used: &[u32], sfid: Option<u32>) -> bool
     }
 }
 
-/// Whether an encoding names an SFID that is not used.
+/// Returns whether an encoding names an SFID that is not used.
 fn names_other(used: &[u32], encoding: &FlowTlv) -> bool
     ensures { result ≡ is_unknown used.now encoding.now.sfid }
 {
@@ -110,7 +110,7 @@ fn one_names_other(used: &[u32], encodings: &[FlowTlv]) -> bool
     encodings.iter().any(|encoding| names_other(used, encoding))
 }
 
-/// Whether a request names an SFID that is not used.
+/// Returns whether a request names an SFID that is not used.
 fn names_unknown(used: &[u32], request: &Request) -> bool
     ensures { result
         ≡ names_unknown used.now (said_by request.now).kind (said_by request.now).encodings (said_by request.now).sfid }
@@ -140,7 +140,7 @@ fn does_wait(flow: &Option<Flow>) -> bool
     }
 }
 
-/// Whether one set is not within the other, where there are both.
+/// Returns whether one set is not within the other, where there are both.
 fn is_outside(a: &Option<ParamSet>, b: &Option<ParamSet>) -> bool
     ensures { result ≡ is_outside a.now b.now }
 {
@@ -150,7 +150,7 @@ fn is_outside(a: &Option<ParamSet>, b: &Option<ParamSet>) -> bool
     }
 }
 
-/// Whether a set is not within one of these.
+/// Returns whether a set is not within one of these.
 fn is_outside_one(admitted: &[Option<ParamSet>], active: &Option<ParamSet>) -> bool
     ensures { result ≡ is_outside_one admitted.now active.now }
 {
@@ -166,7 +166,7 @@ fn provisioned_of(flow: &Option<Flow>) -> Option<ParamSet>
     }
 }
 
-/// Whether one of these is not within the flow's provisioned set.
+/// Returns whether one of these is not within the flow's provisioned set.
 fn one_exceeds(admitted: &[Option<ParamSet>], flow: &Option<Flow>) -> bool
     ensures { result ≡ one_exceeds admitted.now flow.now }
 {
@@ -183,7 +183,7 @@ fn has_no_sid(flow: &Option<Flow>) -> bool
     }
 }
 
-/// What flows have committed of elements.
+/// Returns what flows have committed of elements.
 fn elements_of(units: Units, flows: &[(u32, Flow)]) -> u64
     requires { committed_elements units flows.now ≤ 65535 }
     ensures value { result ≡ committed_elements units flows.now }
@@ -196,7 +196,7 @@ fn elements_of(units: Units, flows: &[(u32, Flow)]) -> u64
     total
 }
 
-/// What flows have committed of minislots.
+/// Returns what flows have committed of minislots.
 fn minislots_of(units: Units, flows: &[(u32, Flow)]) -> u64
     requires { committed_minislots units flows.now ≤ 65535 }
     ensures value { result ≡ committed_minislots units flows.now }
@@ -245,14 +245,14 @@ fn one_waits(subjects: &[Option<Flow>]) -> bool
     subjects.iter().any(|flow| does_wait(flow))
 }
 
-/// Whether one of the active sets is not within one of the admitted ones.
+/// Returns whether one of the active sets is not within one of the admitted ones.
 fn one_is_outside(admitted: &[Option<ParamSet>], active: &[Option<ParamSet>]) -> bool
     ensures { result ≡ list_any (is_outside_one admitted.now) active.now }
 {
     active.iter().any(|set| is_outside_one(admitted, set))
 }
 
-/// Whether one of the admitted sets is not within the provisioned set of one of the flows.
+/// Returns whether one of the admitted sets is not within the provisioned set of one of the flows.
 fn one_of_one_exceeds(admitted: &[Option<ParamSet>], subjects: &[Option<Flow>]) -> bool
     ensures { result ≡ list_any (one_exceeds admitted.now) subjects.now }
 {
@@ -272,7 +272,7 @@ fn one_is_a_set(sets: &[Option<ParamSet>]) -> bool
 }
 
 impl OperatorSnapshot {
-    /// What all flows have committed of elements.
+    /// Returns what all flows have committed of elements.
     fn committed_elements(&self) -> u64
         ensures value { result ≡ committed_elements self.now.consts.units self.now.state.flows }
         ensures few { result ≤ 65535 }
@@ -281,7 +281,7 @@ impl OperatorSnapshot {
         elements_of(self.consts.get_fields().units, self.state.flows())
     }
 
-    /// What all flows have committed of minislots.
+    /// Returns what all flows have committed of minislots.
     fn committed_minislots(&self) -> u64
         ensures value { result ≡ committed_minislots self.now.consts.units self.now.state.flows }
         ensures few { result ≤ 65535 }
@@ -290,7 +290,7 @@ impl OperatorSnapshot {
         minislots_of(self.consts.get_fields().units, self.state.flows())
     }
 
-    /// What all flows would have committed of elements, with this set waiting for the flow.
+    /// Returns what all flows would have committed of elements, with this set waiting for the flow.
     fn elements_with(&self, flow: &Option<Flow>, set: &Option<ParamSet>) -> u64
         ensures { result ≡ would_commit (λ need. need.elements) self.now flow.now set.now }
     {
@@ -307,7 +307,8 @@ impl OperatorSnapshot {
         }
     }
 
-    /// What all flows would have committed of minislots, with this set waiting for the flow.
+    /// Returns what all flows would have committed of minislots, with this set waiting for the
+    /// flow.
     fn minislots_with(&self, flow: &Option<Flow>, set: &Option<ParamSet>) -> u64
         ensures { result ≡ would_commit (λ need. need.minislots) self.now flow.now set.now }
     {
@@ -324,7 +325,8 @@ impl OperatorSnapshot {
         }
     }
 
-    /// Whether so many minislots are more than the budget in force has, or than the one that waits for its frame.
+    /// Returns whether so many minislots are more than the budget in force has, or than the one
+    /// that waits for its frame.
     fn is_over_budget(&self, minislots: u64) -> bool
         ensures { result ≡ is_over_budget self.now minislots }
     {
@@ -351,7 +353,8 @@ impl OperatorSnapshot {
             .any(|set| self.is_over_budget(self.minislots_with(flow, set)))
     }
 
-    /// Whether one of the sets would have more elements committed for one of the flows than the quota has.
+    /// Returns whether one of the sets would have more elements committed for one of the flows than
+    /// the quota has.
     fn one_has_elements_over(&self, asked: &RequestedSets) -> bool
         ensures { result ≡ list_any (elements_over self.now asked.now.admitted.items) asked.now.subjects.items }
     {
@@ -362,7 +365,8 @@ impl OperatorSnapshot {
             .any(|flow| self.elements_over(admitted, flow))
     }
 
-    /// Whether one of the sets would have more minislots committed for one of the flows than a budget has.
+    /// Returns whether one of the sets would have more minislots committed for one of the flows
+    /// than a budget has.
     fn one_has_minislots_over(&self, asked: &RequestedSets) -> bool
         ensures { result ≡ list_any (minislots_over self.now asked.now.admitted.items) asked.now.subjects.items }
     {
@@ -373,7 +377,7 @@ impl OperatorSnapshot {
             .any(|flow| self.minislots_over(admitted, flow))
     }
 
-    /// Whether a check holds.
+    /// Returns whether a check holds.
     pub(crate) fn holds(
         &self,
         check: Check,

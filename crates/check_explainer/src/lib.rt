@@ -1,5 +1,5 @@
-//! Which check of the tables decides a message or a request, in a state that an operator's machine can have: each check is tried
-//! as it is defined, in the order of its table, and what the machine makes of it is proved to be what the first that holds answers.
+//! The check that decides a message or a request, in any state that an operator's machine can have. What the machine does is
+//! proved to be what that check answers.
 #![tactic(auto)]
 
 mod asking;

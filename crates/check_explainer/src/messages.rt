@@ -42,7 +42,7 @@ fn tid_of(request: &Request) -> u16
     }
 }
 
-/// The kind and the transaction ID of a request, whose rest was read or is at fault.
+/// Returns the kind and the transaction ID of a request, whose rest was read or is invalid.
 fn transaction_in(reading: &Result<Message, MessageFault>) -> Option<(Kind, u16)>
     ensures { result ≡ transaction_in reading.now }
 {
@@ -67,7 +67,7 @@ fn transaction_in(reading: &Result<Message, MessageFault>) -> Option<(Kind, u16)
     }
 }
 
-/// Whether there is no byte, the type is not ours, or the fixed part is short.
+/// Returns whether there is no byte, the type is not ours, or the fixed part is short.
 fn is_unread(reading: &Result<Message, MessageFault>) -> bool
     ensures { result ≡ is_unread reading.now }
 {
@@ -98,7 +98,7 @@ fn one_is_of(modem: Modem, tid: u16, kept: &[KeptEntry]) -> bool
     kept.iter().any(|entry| is_of(modem, tid, entry))
 }
 
-/// Whether the rest of a request could not be read.
+/// Returns whether the rest of a request could not be read.
 fn is_faulty(reading: &Result<Message, MessageFault>) -> bool
     ensures { result ≡ is_faulty reading.now }
 {
@@ -132,7 +132,7 @@ fn is_request(reading: &Result<Message, MessageFault>) -> bool
 }
 
 impl OperatorSnapshot {
-    /// Whether an entry of the transaction is kept.
+    /// Returns whether an entry of the transaction is kept.
     fn is_kept(&self, modem: Modem, transaction: Option<(Kind, u16)>) -> bool
         ensures { result ≡ is_kept_in self.now modem transaction }
     {
@@ -142,14 +142,14 @@ impl OperatorSnapshot {
         }
     }
 
-    /// Whether as many transactions are kept as the row allows.
+    /// Returns whether as many transactions are kept as the row allows.
     fn is_kept_full(&self) -> bool
         ensures { result ≡ nat_le self.now.row.transactions (length self.now.state.kept) }
     {
         usize::from(self.row.get_fields().transactions) <= self.state.kept().len()
     }
 
-    /// Whether a check of a message holds.
+    /// Returns whether a check of a message holds.
     fn holds_of(
         &self,
         check: MessageCheck,
@@ -168,7 +168,7 @@ impl OperatorSnapshot {
         }
     }
 
-    /// The first of these checks that holds.
+    /// Returns the first of these checks that holds.
     fn first_message_check<'a>(
         &self,
         checks: &'a [MessageCheck],
@@ -182,8 +182,9 @@ impl OperatorSnapshot {
             .find(|check| self.holds_of(**check, modem, reading))
     }
 
-    /// The check that decides a message of a modem, by what it was read as: the first of the table that holds of the operator
-    /// as it stands. None where it is an acknowledgement, which has no table, or where memory was wanting when it was read.
+    /// Returns the check that decides a message of a modem, by what it was read as: the first of
+    /// the table that holds of the operator as it exists. None where it is an acknowledgement,
+    /// which has no table, or if memory ran out when it was read.
     pub fn message_check(
         &self,
         modem: Modem,
@@ -191,7 +192,7 @@ impl OperatorSnapshot {
     ) -> Option<MessageCheck>
         ensures first { IfSome result (IsFirst (λ check. HoldsOf check self.now modem reading.now) message_table) }
         ensures none { (result ≡ None) ↔ HasNoCheck reading.now }
-        // Handling the bytes that are read so comes to what the check answers.
+        // Handling the bytes that are read so results in what the check answers.
         ensures decides { IfSome result (λ check. (bytes : List ℕ) → AreBytes bytes → reading.now ≡ message_of bytes
             → IsHandledBy self.now modem reading.now check (handle self.now modem (heards.Message bytes))) }
     {

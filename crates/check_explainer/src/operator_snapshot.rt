@@ -1,4 +1,4 @@
-//! An operator as it stands.
+//! An operator as it exists.
 
 ghost use Rattle.std.specs.Prelude.{◌≡◌, IfOk};
 ghost use Rattle.flow_table.specs.Table.{sfids_of, sids_of};
@@ -43,7 +43,7 @@ impl Model for OperatorSnapshot {
     ghost invariant = { λ s. IsStanding (operator s.consts s.row s.state) s.sfids.items s.sids.items };
 }
 
-/// The SFIDs that are used.
+/// Returns the SFIDs that are used.
 fn sfids_in(alloc: Global, flows: &[(u32, Flow)]) -> Result<Vec<u32>, AllocError>
     ensures { IfOk result (λ sfids. sfids.items ≡ sfids_of flows.now) }
 {
@@ -54,7 +54,7 @@ fn sfids_in(alloc: Global, flows: &[(u32, Flow)]) -> Result<Vec<u32>, AllocError
     Ok(sfids)
 }
 
-/// The SIDs that are used.
+/// Returns the SIDs that are used.
 fn sids_in(alloc: Global, flows: &[(u32, Flow)]) -> Result<Vec<u32>, AllocError>
     ensures { IfOk result (λ sids. sids.items ≡ sids_of flows.now) }
 {
@@ -74,7 +74,7 @@ struct UsedIds {
     sids: Vec<u32>,
 }
 
-/// The identifiers that are used.
+/// Returns the identifiers that are used.
 fn used_in(alloc: Global, flows: &[(u32, Flow)]) -> Result<UsedIds, AllocError>
     ensures sfids { IfOk result (λ used. used.sfids.items ≡ sfids_of flows.now) }
     ensures sids { IfOk result (λ used. used.sids.items ≡ sids_of flows.now) }
@@ -92,7 +92,7 @@ struct Copied {
     state: StateView,
 }
 
-/// A copy of what a book says of its operator.
+/// Returns a copy of what a book says of its operator.
 fn copied_from(alloc: Global, book: &Book) -> Result<Copied, AllocError>
     ensures { IfOk result (λ copied. operator copied.consts copied.row copied.state
         ≡ operator book.now.kept.book.consts book.now.kept.book.row book.now.kept.book.state) }
@@ -104,7 +104,7 @@ fn copied_from(alloc: Global, book: &Book) -> Result<Copied, AllocError>
 }
 
 impl OperatorSnapshot {
-    /// The operator of a book, as it stands.
+    /// Returns the operator of a book, as it exists.
     pub fn of_book(alloc: Global, book: &Book) -> Result<OperatorSnapshot, AllocError>
         ensures { IfOk result (λ operator_snapshot. operator_snapshot
             ≡ operator book.now.kept.book.consts book.now.kept.book.row book.now.kept.book.state) }
@@ -121,28 +121,28 @@ impl OperatorSnapshot {
         })
     }
 
-    /// What all operators share.
+    /// Returns what all operators share.
     pub fn consts(&self) -> &Consts
         ensures { result.now ≡ self.now.consts }
     {
         &self.consts
     }
 
-    /// The operator's row.
+    /// Returns the row of the operator.
     pub fn row(&self) -> &OperatorRow
         ensures { result.now ≡ self.now.row }
     {
         &self.row
     }
 
-    /// The state of its machine.
+    /// Returns the state of its machine.
     pub fn state(&self) -> &StateView
         ensures { result.now ≡ self.now.state }
     {
         &self.state
     }
 
-    /// A law: the state is one that a machine can have.
+    /// States that the state is one that a machine can have.
     pub fn always_sound(&self)
         ensures { IsSound self.now }
     {

@@ -1,4 +1,4 @@
--- A live core after a run (own).
+-- A live core after a run (implementation-specific).
 use Rattle.std.specs.Prelude.{◌≡◌, ℕ, List, ◌++◌}
 use Rattle.plant.specs.declared.plant.PlantFields.{PlantFields}
 use Rattle.plant.specs.Plant.{AgreeOn}
@@ -26,7 +26,7 @@ IsAfter plant steps outs live = IsAfterFrom plant (first_start plant) steps outs
 abbrev pub IsReachable : CoreView → Type 0
 IsReachable live = (start : Start) × (steps : List Step) × (outs : List Out) × IsAfterFrom live.plant start steps outs live
 
--- behind whatever start, steps and outputs led to the one live core, these more lead to the other
+-- after whatever start, steps and outputs led to the one live core, these more lead to the other
 abbrev pub LeadsOn : CoreView → List Step → List Out → CoreView → Type 0
 LeadsOn old steps outs new =
     (start : Start) (before : List Step) (told : List Out) → IsAfterFrom old.plant start before told old → IsAfterFrom old.plant start (before ++ steps) (told ++ outs) new
@@ -36,7 +36,7 @@ abbrev pub BehindEachRun : CoreView → (PlantFields → Start → List Step →
 BehindEachRun live holds =
     (plant : PlantFields) (start : Start) (before : List Step) (told : List Out) → IsAfterFrom plant start before told live → holds plant start before told
 
--- the headline, at a live core beside any run of a plant, whatever carried it out: where they agree on an operator's
+-- the non-interference theorem, at a live core next to any run of a plant, whatever carried it out: where they agree on an operator's
 -- provisioning and own steps, the operator notices the same
 abbrev pub TwoLiveCores : Type 0
 TwoLiveCores = (live : CoreView) (p q : PlantFields) (i j : ℕ) (s t : List Step) (o u : List Out) (agree : AgreeOn p i q j)

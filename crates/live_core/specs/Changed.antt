@@ -1,4 +1,4 @@
--- A live core that is resumed of another one's operators (own).
+-- A live core that is resumed of another one's operators (implementation-specific).
 use Rattle.std.specs.Prelude.{◌≡◌, ◌≢◌, ℕ, List, [], slice_get, Some}
 use Rattle.plant.specs.declared.plant.PlantFields.{PlantFields}
 use Rattle.plant.specs.Plant.{IsPlant}

@@ -1,4 +1,4 @@
--- A core whose histories are forgotten goes on as the core that has them (own).
+-- A core whose histories are forgotten goes on as the core that has them (implementation-specific).
 use Rattle.std.specs.Prelude.{◌≡◌, List, [], map}
 use Rattle.operator_model.specs.declared.action.Action.{Action}
 use Rattle.operator_model.specs.State.{operator}

@@ -1,4 +1,4 @@
--- What contracts see of an operator at work (own).
+-- What contracts see of an operator at work (implementation-specific).
 use Rattle.std.specs.Prelude.{◌≡◌, ℕ, Option}
 use Rattle.slice_scheduler.specs.Minislots.{Minislots}
 use Rattle.plant.specs.declared.consts.ConstsFields.{ConstsFields}
@@ -32,7 +32,7 @@ book_by live = book_of live.sound
 abbrev pub IsSoundAt : {D : Type 0} {F : D → Type 0} {m : _} → Live D F m → Type 0
 IsSoundAt live = IsSound live.sound
 
--- it shares this with the others, stands at this frame, and its slices wait from this one on
+-- it shares this with the others, is at this frame, and its slices wait from this one on
 abbrev pub Shares : {D : Type 0} {F : D → Type 0} {m : _} → ConstsFields → Live D F m → Type 0
 Shares consts live = live.sound.consts ≡ consts
 

@@ -1,4 +1,4 @@
--- What contracts see of a live core (own).
+-- What contracts see of a live core (implementation-specific).
 use Rattle.std.specs.Prelude.{map}
 use Rattle.run_model.specs.IsStateAfter.{CoreView}
 use Rattle.plant_core.specs.Reachable.{core_of}

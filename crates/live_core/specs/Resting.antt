@@ -1,4 +1,4 @@
--- A live core at rest before a frame (own).
+-- A live core at rest before a frame (implementation-specific).
 use Rattle.std.specs.Prelude.{◌≡◌, ℕ, List, []}
 use Rattle.std.specs.Prelude.{slice_get, Some}
 use Rattle.slice_scheduler.specs.declared.elements.ElementsFields.{ElementsFields}
@@ -12,12 +12,12 @@ use Rattle.run_model.specs.IsStateAfter.{CoreView}
 use Rattle.run_model.specs.Changing.{state_now, IsAtRest}
 use Rattle.live_core.specs.After.{IsAfterFrom}
 
--- each operator stands before this frame, and no frame waits to be collected
+-- each operator is before this frame, and no frame waits to be collected
 pub record Rests (live : CoreView) (frame : ℕ) : Type 0 where
   pub before : (i : ℕ) (book : BookView) → slice_get live.books i ≡ Some book → book.state.frame ≡ frame
   pub none_waits : (i : ℕ) (waiting : List (ℕ × ElementsFields)) → slice_get live.queues i ≡ Some waiting → waiting ≡ []
 
--- the states of a core that rests are those in which its operators stand, and nothing of its run is left to be collected
+-- the states of a core that rests are those in which its operators exist, and nothing of its run is left to be collected
 abbrev pub RestingIsAtRest : Type 0
 RestingIsAtRest = (plant : PlantFields) (start : Start) (steps : List Step) (outs : List Out) (live : CoreView) (frame : ℕ) → IsAfterFrom plant start steps outs live → Rests live frame
     → IsAtRest (record { plant = plant; start = start; steps = steps; outs = outs }) frame

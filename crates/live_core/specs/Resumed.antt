@@ -1,4 +1,4 @@
--- A live core of operators that are at work already (own).
+-- A live core of operators that are at work already (implementation-specific).
 use Rattle.std.specs.Prelude.{◌≡◌, ◌≢◌, ℕ, ◌<◌, ◌≤◌, ◌⊎◌, ⊤, List, [], ◌∷◌, map, length, take, slice_get, All, option_map, Option, Some, None, if◌then◌else◌}
 use Rattle.std.specs.Str.{bytes_eq}
 use Rattle.slice_scheduler.specs.Minislots.{Minislots}
@@ -64,7 +64,7 @@ abbrev pub first_from : List Operator → Option ℕ
 first_from [] = None
 first_from (o ∷ ops) = waits_from o
 
--- an operator stands at this frame, and its slice waits from this one on, or none waits
+-- an operator is at this frame, and its slice waits from this one on, or none waits
 pub record GoesAlong (frame : ℕ) (from : Option ℕ) (o : Operator) : Type 0 where
   pub at_frame : o.state.frame ≡ frame
   pub waits : waits_from o ≡ from

@@ -20,7 +20,7 @@ use run_model::Out;
 use slice_scheduler::Elements;
 use std::alloc::{AllocError, Global};
 
-/// The first frame among outputs.
+/// Returns the first frame among outputs.
 fn frame_in(outputs: Vec<Output>) -> Option<(u32, Elements)>
     ensures { result ≡ slice_get (frames_of outputs.items) 0 }
 {
@@ -32,7 +32,7 @@ fn frame_in(outputs: Vec<Output>) -> Option<(u32, Elements)>
     None
 }
 
-/// Whether an action is a tick: no other puts out a frame.
+/// Returns whether an action is a tick: no other outputs a frame.
 fn is_tick(action: &Action) -> bool
     ensures { result ≡ is_tick action.now }
 {
@@ -40,7 +40,8 @@ fn is_tick(action: &Action) -> bool
 }
 
 impl LiveDesk {
-    /// Does an action, and tells what it puts out. Its frame waits. The caller has seen that the frame numbers are not spent.
+    /// Does an action, and reports what it outputs. Its frame waits. The caller has seen that the
+    /// frame numbers are not spent.
     #[tactic(auto, using(crate::proofs::DeskLemmas::frame_waits, crate::proofs::DeskLemmas::none_waits, crate::proofs::DeskLemmas::quiet_waits))]
     #[inline(always)]
     pub fn act(&mut self, alloc: Global, action: Action) -> Result<Vec<Output>, BookFault>
@@ -68,7 +69,7 @@ impl LiveDesk {
         Ok(told)
     }
 
-    /// Does an action that is the operator's own, and adds what it puts out. Its frame waits.
+    /// Does an action that is the operator's own, and adds what it outputs. Its frame waits.
     #[inline(always)]
     pub(crate) fn act_into(
         &mut self,
@@ -103,7 +104,8 @@ impl LiveDesk {
         }
     }
 
-    /// The frame that waits longest goes into the assembly, which takes it: only memory can be wanting. Then it waits as before.
+    /// Returns the frame that waits longest goes into the assembly, which takes it: only memory can
+    /// be wanting. Then it waits as before.
     pub fn put_oldest(
         &mut self,
         alloc: Global,
@@ -127,7 +129,8 @@ impl LiveDesk {
         }
     }
 
-    /// The frame that waits longest goes into the assembly, which takes it: only memory can be wanting. A MAP that it makes is added.
+    /// Returns the frame that waits longest goes into the assembly, which takes it: only memory can
+    /// be wanting. A MAP that it makes is added.
     #[inline(always)]
     pub(crate) fn collect_into(
         &mut self,

@@ -1,4 +1,4 @@
-//! Giving other slices to all operators of a live core.
+//! Giving new slices to all operators of a live core.
 
 ghost use Rattle.std.specs.Prelude.{◌≡◌, [], map, length, vec_len, None, OnOk, OnErr};
 ghost use Rattle.operator_model.specs.declared.action.Action.TheVariants as actions;
@@ -27,7 +27,7 @@ impl LiveDesk {
     }
 }
 
-/// Each operator takes its row. Takes no memory.
+/// Gives each operator its row of a slice change. Takes no memory.
 fn give(desks: &mut Vec<LiveDesk>, from: u32, rows: &[SliceRow])
     requires one_each { length rows.now ≡ vec_len desks.old }
     requires fit { NoneRefuses from (map book_at desks.old.items) rows.now }
@@ -41,8 +41,8 @@ fn give(desks: &mut Vec<LiveDesk>, from: u32, rows: &[SliceRow])
 }
 
 impl LiveCore {
-    /// Each operator takes its row, and the assembly all slices, from a later frame on. All memory is taken first. Slices that no
-    /// frame to come needs are let go.
+    /// Gives each operator its row, and the assembly all slices, from a later frame on. All memory
+    /// is taken first. Slices that no frame to come needs are dropped.
     pub(crate) fn give(
         &mut self,
         alloc: Global,

@@ -10,14 +10,16 @@ use crate::desk::LiveDesk;
 use map_assembly::Gather;
 use plant_core::Routes;
 
-/// A plant's core with no history: the plant, each operator's machine with its frames that wait to be collected, and what is
-/// gathered. Contracts speak of `live_view` of it. The type keeps that some run of the plant leads to it, and that it holds no
-/// slices but those of the frame whose MAP comes next, and of later frames.
+/// A plant's core with no history: the plant, each operator's machine with its frames that wait to
+/// be collected, and what is gathered. Contracts speak of `live_view` of it. The type keeps that
+/// some run of the plant leads to it, and that it holds no slices but those of the frame whose MAP
+/// comes next, and of later frames.
 ///
-/// No clause counts its memory. Beside the plant and the slices it holds of each operator flows, kept responses and an inbox
-/// within the row's limits, the frames that were put out and not collected, and the parts that were collected and are in no
-/// MAP yet. However many steps lie behind it, that stays within bounds where the frames of all operators are collected, and
-/// slices are given for few frames ahead.
+/// No clause counts its memory. Besides the plant and the slices it holds of each operator flows,
+/// cached responses and an inbox within the row's limits, the frames that were output and not
+/// collected, and the parts that were collected and are in no MAP yet. However many steps lie after
+/// it, that stays within bounds where the frames of all operators are collected, and slices are
+/// given for few frames ahead.
 pub struct LiveCore {
     pub(crate) routes: Routes,
     pub(crate) desks: Vec<LiveDesk>,

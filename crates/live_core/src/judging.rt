@@ -1,4 +1,4 @@
-//! Judging other slices for all operators of a live core.
+//! Judging new slices for all operators of a live core.
 
 ghost use Rattle.std.specs.Prelude.{◌≡◌, [], length, vec_len, option_map, None, OnOk, OnErr};
 ghost use Rattle.operator_model.specs.Machine.{unfit_from};
@@ -18,7 +18,7 @@ use plant_core::{CoreFault, ResliceFault, Unfits, first_fault, is_same};
 use std::alloc::Global;
 
 impl LiveDesk {
-    /// Whether the machine refuses a row from a frame on with this fault. Takes no memory.
+    /// Returns whether the machine refuses a row from a frame on with this fault. Takes no memory.
     fn refuses(&self, from: u32, row: SliceRow, unfit: Unfit) -> bool
         ensures { result ≡ is_unfit unfit
             (unfit_from (book_at self.now).consts (book_at self.now).state from row) }
@@ -31,7 +31,7 @@ impl LiveDesk {
 }
 
 impl LiveCore {
-    /// The least operator whose machine refuses its row with this fault.
+    /// Returns the least operator whose machine refuses its row with this fault.
     fn least_unfit(&self, from: u32, rows: &[SliceRow], unfit: Unfit) -> Option<Op>
         requires { length rows.now ≡ vec_len self.now.desks }
         ensures { result ≡ least_unfit unfit from 0 (live_view self.now).books rows.now }
@@ -44,7 +44,7 @@ impl LiveCore {
         None
     }
 
-    /// The first fault of other slices, where there is one row for each operator.
+    /// Returns the first fault of new slices, where there is one row for each operator.
     fn row_fault(&self, from: u32, rows: &[SliceRow]) -> Option<ResliceFault>
         requires { length rows.now ≡ vec_len self.now.desks }
         ensures { result ≡ row_fault from (live_view self.now).books rows.now }
@@ -59,7 +59,7 @@ impl LiveCore {
         first_fault(least, rows)
     }
 
-    /// The first fault of other slices.
+    /// Returns the first fault of new slices.
     fn reslice_fault(&self, from: u32, rows: &[SliceRow]) -> Option<ResliceFault>
         ensures { result ≡ reslice_fault from (live_view self.now).books rows.now }
     {
@@ -69,7 +69,7 @@ impl LiveCore {
         self.row_fault(from, rows)
     }
 
-    /// Other slices for all operators from a later frame on, where they have no fault.
+    /// Returns new slices for all operators from a later frame on, where they have no fault.
     pub(crate) fn reslice(
         &mut self,
         alloc: Global,

@@ -10,8 +10,9 @@ use crate::held::LiveCore;
 use plant::Plant;
 
 impl LiveCore {
-    /// A law: the plant is valid, what is gathered is as the assembly always keeps it, and no slices are held that only earlier frames
-    /// than the one whose MAP comes next had. Does nothing.
+    /// States that the plant is valid, what is gathered is as the assembly always keeps it, and no
+    /// slices are held that only earlier frames than the one whose MAP comes next had. Does
+    /// nothing.
     pub fn always(&self)
         ensures plant { IsPlant (live_view self.now).plant }
         ensures gathering { IsGathering (live_view self.now).gathering }
@@ -21,7 +22,7 @@ impl LiveCore {
         self.gather.always();
     }
 
-    /// The plant.
+    /// Returns the plant that was opened.
     pub fn plant(&self) -> &Plant
         ensures { result.now ≡ (live_view self.now).plant }
     {

@@ -18,21 +18,22 @@ ghost use Rattle.live_core.specs.Resting.{RestingIsAtRest, BooksStandNow};
 ghost use Rattle.live_core.specs.Changed.{ResumedIsChanged};
 ghost use Rattle.live_core.specs.After.{IsAfterFrom, TwoLiveCores, TwoResumedCores};
 
-/// A step leaves a live core as it is after that step more.
+/// States that a step leaves a live core as it is after that step more.
 pub fn step_goes_on()
     ensures { (plant : PlantFields) (start : Start) (before : List Step) (told : List Out) (step : Step)
         (old new : CoreView) (now : List Out) → IsPlant plant → GoesOn (Steps step) old new now
         → IsAfterFrom plant start before told old → IsAfterFrom plant start (before ++ step ∷ []) (told ++ now) new }
 {}
 
-/// A live core refuses just the steps that a core refuses of which it is held, with the same fault.
+/// States that a live core refuses just the steps that a core refuses of which it is held, with the
+/// same fault.
 #[tactic(auto, using(crate::proofs::FaultLemmas::same_step_fault))]
 pub fn faults_are_the_same()
     ensures { (live core : CoreView) (step : Step) → IsOf live core → step_fault core step ≡ step_fault live step }
 {}
 
-/// What a live core has put out is shown and in order: to each operator its own machine run alone, and the MAPs of these
-/// machines' frames.
+/// States that what a live core has output is shown and in order: to each operator its own machine
+/// run alone, and the MAPs of these machines' frames.
 #[tactic(auto, using(crate::proofs::LawLemmas::live_shown, crate::proofs::LawLemmas::live_ordered))]
 pub fn live_run_is_shown()
     ensures shown { (plant : PlantFields) (start : Start) (steps : List Step) (outs : List Out) (live : CoreView)
@@ -41,8 +42,8 @@ pub fn live_run_is_shown()
         → IsAfterFrom plant start steps outs live → OrderedFrom plant start steps outs }
 {}
 
-/// The headline, at a live core beside any run: where they agree on an operator's provisioning and own steps, the operator
-/// notices the same.
+/// States non-interference at a live core and any run: where they agree on an operator's
+/// provisioning and own steps, the operator notices the same.
 pub fn two_live_cores()
     ensures { TwoLiveCores }
 {}

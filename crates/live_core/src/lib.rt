@@ -1,5 +1,5 @@
-//! A plant's core in bounded memory: its operators' machines, the frames that wait to be collected, and what is gathered, step by
-//! step, with no history.
+//! The core of a plant without histories: the operators' machines, the frames that are not yet collected, and the assembly of
+//! MAPs.
 #![tactic(auto)]
 
 mod acting;

@@ -40,8 +40,8 @@ fn opened_lives(
 }
 
 impl LiveCore {
-    /// Returns the core of a plant with nothing done: its opened operators, resumed at its first frame. The rankings stand in
-    /// the plant's order of operators.
+    /// Returns the core of a plant with nothing done: its opened operators, resumed at its first
+    /// frame. The rankings are in the plant's order of operators.
     pub fn open(
         alloc: Global,
         plant: Plant,

@@ -20,7 +20,7 @@ use run_model::{Out, Step};
 use std::alloc::Global;
 
 impl LiveCore {
-    /// The operator at this place acts, if there is one.
+    /// Returns the operator at this place acts, if there is one.
     #[inline(always)]
     fn act_if(
         &mut self,
@@ -43,7 +43,7 @@ impl LiveCore {
         self.desks[op].act_into(alloc, op, action, outs)
     }
 
-    /// The operator that has this modem takes what was heard of it into its inbox.
+    /// Returns the operator that has this modem takes what was received of it into its inbox.
     #[inline(always)]
     fn arrive(
         &mut self,
@@ -64,7 +64,8 @@ impl LiveCore {
         }
     }
 
-    /// The oldest frame that waits of the operator at this place goes into the assembly, if there is one.
+    /// Returns the oldest frame that waits of the operator at this place goes into the assembly, if
+    /// there is one.
     #[inline(always)]
     fn collect(&mut self, alloc: Global, op: Op, outs: &mut Vec<Out>) -> Result<(), CoreFault>
         ensures ok { OnOk result ((now : List Out) × (outs.new.items ≡ outs.old.items ++ now)
@@ -88,7 +89,7 @@ impl LiveCore {
         }
     }
 
-    /// One step, whose outputs are added. A refused step changes nothing, and adds nothing.
+    /// Returns one step, whose outputs are added. A refused step changes nothing, and adds nothing.
     #[inline(always)]
     pub fn step_into(
         &mut self,
@@ -112,7 +113,7 @@ impl LiveCore {
         }
     }
 
-    /// One step, whose outputs take the place of those that are there. A refused step changes nothing of the core.
+    /// Does one step, whose outputs replace those that are in `outs`. A refused step changes nothing of the core, and has no outputs.
     pub fn step_over(
         &mut self,
         alloc: Global,
@@ -122,6 +123,7 @@ impl LiveCore {
         ensures ok { OnOk result (GoesOn (Steps step) (live_view self.old) (live_view self.new) outs.new.items) }
         ensures reached { OnOk result (LeadsOn (live_view self.old) (step ∷ []) outs.new.items (live_view self.new)) }
         ensures err { OnErr result (live_view self.new ≡ live_view self.old) }
+        ensures outs { OnErr result (outs.new.items ≡ []) }
         ensures fault { IsTold result (step_fault (live_view self.old) step) }
     {
         self.always();
@@ -130,7 +132,7 @@ impl LiveCore {
         Ok(())
     }
 
-    /// One step, and what it puts out. A refused step changes nothing.
+    /// Returns one step, and what it outputs. A refused step changes nothing.
     pub fn step(&mut self, alloc: Global, step: Step) -> Result<Vec<Out>, CoreFault>
         ensures ok { IfOk result (λ outs. GoesOn (Steps step) (live_view self.old) (live_view self.new) outs.items) }
         ensures reached { IfOk result (λ outs. LeadsOn (live_view self.old) (step ∷ []) outs.items (live_view self.new)) }

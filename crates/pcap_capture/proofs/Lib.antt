@@ -1,3 +1,4 @@
+pub mod AddressLemmas
 pub mod BitLemmas
 pub mod HeldLemmas
 pub mod OneCapture

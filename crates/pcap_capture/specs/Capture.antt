@@ -1,4 +1,4 @@
--- The packets of a plant's run (own).
+-- The packets of a plant's run (implementation-specific).
 use Rattle.std.specs.Prelude.{◌≡◌, ℕ, List, [], ◌∷◌, ◌++◌, map, filter, Bool, true, false, not}
 use Rattle.std.specs.List.{flat_map}
 use Rattle.plant.specs.declared.consts.ConstsFields.{ConstsFields}
@@ -17,7 +17,7 @@ use Rattle.pcap_capture.specs.File.{file_of}
 
 -- ---- packets
 
--- the packet of what a modem sends, if a step is that: a request for minislots is no management message
+-- the packet of what a modem sends, if a step is that: a request for minislots is not a management message
 abbrev pub sent_in : Step → List Packet
 sent_in (steps.Arrive modem (Message bytes)) = Sent modem bytes ∷ []
 sent_in step = []
@@ -80,7 +80,7 @@ pub record IsCaptureOf (plant : PlantFields) (steps : List Step) (outs : List Ou
   pub of_run : IsOfRun plant steps outs captured
   pub bytes_are : bytes ≡ file_of captured.clock captured.packets
 
--- ---- what stands in it
+-- ---- what is in it
 
 -- a modem's message
 abbrev pub is_sent : Packet → Bool

@@ -1,4 +1,4 @@
--- A capture file, as Wireshark reads it (own: pcap 2.4, low byte first).
+-- A capture file, as Wireshark reads it (implementation-specific: pcap 2.4, low byte first).
 use Rattle.std.specs.Prelude.{ℕ, ◌+◌, ◌*◌, ◌/◌, ◌%◌, List, [], ◌∷◌, ◌++◌, length, Option, Some, None}
 use Rattle.std.specs.Int.{w16, w32, to_le_bytes}
 use Rattle.pcap_capture.specs.declared.clock.Clock.{Clock}
@@ -8,12 +8,12 @@ use Rattle.pcap_capture.specs.Frames.{frame_of}
 
 -- ---- times
 
--- the frame at whose begin a packet stands: a MAP's own, else that whose MAP comes next
+-- the frame at whose begin a packet exists: a MAP's own, else that whose MAP comes next
 abbrev pub frame_at : ℕ → Packet → ℕ
 frame_at next (Map frame bytes) = frame
 frame_at next packet = next
 
--- the frame whose MAP comes next behind a packet
+-- the frame whose MAP comes next after a packet
 abbrev pub next_after : ℕ → Packet → ℕ
 next_after next (Map frame bytes) = frame + 1
 next_after next packet = next
@@ -30,7 +30,7 @@ record_of microseconds None = []
 record_of microseconds (Some frame) =
     word (microseconds / 1000000 % 4294967296) ++ (word (microseconds % 1000000) ++ (word (length frame) ++ (word (length frame) ++ frame)))
 
--- the records of packets, the first of which stands before the MAP of the frame `next`, in frames of so many microseconds
+-- the records of packets, the first of which is before the MAP of the frame `next`, in frames of so many microseconds
 abbrev pub records_from : ℕ → ℕ → List Packet → List ℕ
 records_from frame_us next [] = []
 records_from frame_us next (packet ∷ packets) =

@@ -1,10 +1,13 @@
--- That the check sequences are those of X.25 and of Ethernet, and that a frame holds its message (own).
-use Rattle.std.specs.Prelude.{◌≡◌, ℕ, ◌+◌, List, take, drop, slice_index, length, codes, Some}
+-- That the check sequences are those of X.25 and of Ethernet, and that a frame holds its message (implementation-specific).
+use Rattle.std.specs.Prelude.{◌≡◌, ℕ, ◌+◌, List, take, drop, slice_index, length, codes, Some, Contains}
+use Rattle.std.specs.List.{filter_map}
 use Rattle.pcap_capture.specs.declared.packet.Packet.{Packet}
 use Rattle.pcap_capture.specs.declared.packet.Packet.TheVariants.{Sent, Reply, Map}
 use Rattle.pcap_capture.specs.Checks.{crc_x25, crc_32}
 use Rattle.pcap_capture.specs.Management.{Managed}
 use Rattle.pcap_capture.specs.Packets.{managed_of}
+use Rattle.pcap_capture.specs.Frames.{frame_of}
+use Rattle.pcap_capture.specs.Reading.{frames_of_file}
 
 -- the check values of both: what they make of the digits 1 to 9
 pub record AreCheckValues : Type 0 where
@@ -31,3 +34,9 @@ pub record HoldsPacket (frame : List ℕ) (packet : Packet) : Type 0 where
   pub message : Managed
   pub message_is : managed_of packet ≡ Some message
   pub held : Holds frame message
+
+-- A reader who goes through the bytes from record to record finds the frames of these packets, in order, and nothing else. Each
+-- frame holds its packet's message.
+pub record AreRead (packets : List Packet) (bytes : List ℕ) : Type 0 where
+  pub frames_are : frames_of_file (length packets) bytes ≡ filter_map frame_of packets
+  pub held : (packet : Packet) (frame : List ℕ) → Contains packets packet → frame_of packet ≡ Some frame → HoldsPacket frame packet

@@ -21,7 +21,7 @@ body_of m =
 abbrev pub mac_header : ℕ → List ℕ
 mac_header count = (194 ∷ 0 ∷ []) ++ to_be_bytes w16 count
 
--- behind the MAC header the management header and the payload, which take 20 bytes and those of the payload, and their check
+-- after the MAC header the management header and the payload, which take 20 bytes and those of the payload, and their check
 abbrev pub framed : Managed → List ℕ
 framed m =
     mac_header (24 + length m.payload) ++ (header_check (mac_header (24 + length m.payload)) ++ (body_of m ++ frame_check (body_of m)))

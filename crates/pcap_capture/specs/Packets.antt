@@ -1,4 +1,4 @@
--- Packets of a capture as management messages (CM-SP-MULPIv3.1, 6.4.1, 6.4.4 and 6.4.12 on; the CMTS's address is own).
+-- Packets of a capture as management messages (CM-SP-MULPIv3.1, 6.4.1, 6.4.4 and 6.4.12 on; the CMTS's address is implementation-specific).
 use Rattle.std.specs.Prelude.{ℕ, ◌&&◌, List, [], ◌∷◌, length, nat_le, Option, Some, None, if◌then◌else◌}
 use Rattle.dsx_messages.specs.MessageType.{dsa_req, dsd_rsp}
 use Rattle.pcap_capture.specs.declared.packet.Packet.{Packet}

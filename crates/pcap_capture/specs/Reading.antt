@@ -1,4 +1,4 @@
--- What a reader finds in a capture file (own: pcap 2.4).
+-- What a reader finds in a capture file (implementation-specific: pcap 2.4).
 use Rattle.std.specs.Prelude.{ℕ, zero, suc, ◌+◌, true, false, List, [], ◌∷◌, length, take, drop, slice_range, nat_lt}
 use Rattle.std.specs.Int.{w32, from_le_bytes}
 
@@ -6,7 +6,7 @@ use Rattle.std.specs.Int.{w32, from_le_bytes}
 abbrev pub kept_in : List ℕ → ℕ
 kept_in bytes = from_le_bytes w32 (slice_range bytes 8 12)
 
--- the frames of at most so many records, one after the other: each behind 16 bytes, up to the end
+-- the frames of at most so many records, one after the other: each after 16 bytes, up to the end
 abbrev pub frames_in : ℕ → List ℕ → List (List ℕ)
 frames_in zero bytes = []
 frames_in (suc more) bytes =

@@ -1,12 +1,12 @@
--- Times by counting MAPs: where MAPs come from the first frame on, each once and in order, a packet stands at the begin of the
--- frame behind as many frames as there were MAPs before it (own).
+-- Times by counting MAPs: where MAPs come from the first frame on, each once and in order, a packet is at the begin of the
+-- frame after as many frames as there were MAPs before it (implementation-specific).
 use Rattle.std.specs.Prelude.{ℕ, ◌+◌, ◌*◌, List, [], ◌∷◌, ◌++◌}
 use Rattle.pcap_capture.specs.declared.packet.Packet.{Packet}
 use Rattle.pcap_capture.specs.declared.packet.Packet.TheVariants.{Map}
 use Rattle.pcap_capture.specs.Frames.{frame_of}
 use Rattle.pcap_capture.specs.File.{record_of}
 
--- how many MAPs have come behind a packet, of which so many came before it
+-- how many MAPs have come after a packet, of which so many came before it
 abbrev pub count_after : ℕ → Packet → ℕ
 count_after count (Map frame bytes) = count + 1
 count_after count packet = count

@@ -1,15 +1,16 @@
 //! The capture of a run.
 
-ghost use Rattle.std.specs.Prelude.{◌≡◌, ◌++◌, List, IfOk, OnOk, OnErr};
+ghost use Rattle.std.specs.Prelude.{◌≡◌, ◌≢◌, ◌++◌, [], List, All, IfOk, OnOk, OnErr};
 ghost use Rattle.std.specs.List.{flat_map};
 ghost use Rattle.plant.specs.declared.plant.PlantFields.{PlantFields};
 ghost use Rattle.run_model.specs.declared.step.Step.{Step};
 ghost use Rattle.run_model.specs.declared.step.Out.{Out};
 ghost use Rattle.pcap_capture.specs.File.{file_of};
 ghost use Rattle.pcap_capture.specs.Capture.{opened_capture, with_packets, sent_in, told_in, IsOfRun, IsCaptureOf};
+ghost use Rattle.pcap_capture.specs.Laws.{IsAddressed, AreRead};
 
 use crate::clock::Clock;
-use crate::packet::Packet;
+use crate::packet::{Packet, always_six};
 use crate::recording::file_of;
 use operator_model::{Heard, Output};
 use plant::Consts;
@@ -17,7 +18,7 @@ use run_model::{Out, Step};
 use std::alloc::{AllocError, Global};
 use std::marker::Model;
 
-/// A capture so far. Contracts see its clock and its packets.
+/// A capture so far. Contracts see its clock and its packets. The type keeps that each modem's address has six bytes.
 #[derive(Debug, Drop)]
 pub struct Capture {
     clock: Clock,
@@ -25,22 +26,29 @@ pub struct Capture {
 }
 
 impl Model for Capture {
+    ghost use Rattle.std.specs.Prelude.{All};
     ghost use Rattle.pcap_capture.specs.Capture.{Captured};
+    ghost use Rattle.pcap_capture.specs.Laws.{IsAddressed};
 
     ghost Value = { Captured };
 
     ghost view = { λ c. record { clock = c.clock; packets = c.packets.items } };
+
+    ghost invariant = { λ c. All IsAddressed c.packets.items };
 }
 
 /// Adds the packet of a reply or of a MAP.
+#[tactic(auto, using(crate::proofs::AddressLemmas::none_addressed, crate::proofs::AddressLemmas::one_addressed))]
 fn put_told(alloc: Global, packets: &mut Vec<Packet>, out: &Out) -> Result<(), AllocError>
-    ensures { OnOk result (packets.new.items ≡ packets.old.items ++ told_in out.now) }
+    ensures ok { OnOk result (packets.new.items ≡ packets.old.items ++ told_in out.now) }
+    ensures addressed { OnOk result (All IsAddressed (told_in out.now)) }
 {
     match out {
         Out::Of {
             op: _,
             output: Output::Reply { modem, bytes },
         } => {
+            always_six(*modem);
             let bytes = bytes.copy(alloc)?;
             packets.push(Packet::Reply {
                 modem: *modem,
@@ -60,9 +68,11 @@ fn put_told(alloc: Global, packets: &mut Vec<Packet>, out: &Out) -> Result<(), A
     }
 }
 
-/// The packets of replies and MAPs, in order.
+/// Returns the packets of replies and MAPs, in order.
+#[tactic(auto, using(crate::proofs::AddressLemmas::none_addressed, crate::proofs::AddressLemmas::more_addressed))]
 fn told_in(alloc: Global, outs: &[Out]) -> Result<Vec<Packet>, AllocError>
-    ensures { IfOk result (λ packets. packets.items ≡ flat_map told_in outs.now) }
+    ensures ok { IfOk result (λ packets. packets.items ≡ flat_map told_in outs.now) }
+    ensures addressed { OnOk result (All IsAddressed (flat_map told_in outs.now)) }
 {
     let mut packets = Vec::with_capacity(alloc, outs.len())?;
     for out in outs {
@@ -72,7 +82,8 @@ fn told_in(alloc: Global, outs: &[Out]) -> Result<Vec<Packet>, AllocError>
 }
 
 impl Capture {
-    /// A capture of a plant without a packet.
+    /// Returns a capture of a plant without a packet.
+    #[tactic(auto, using(crate::proofs::AddressLemmas::none_addressed))]
     pub fn open(alloc: Global, consts: &Consts) -> Capture
         ensures { result ≡ opened_capture consts.now }
     {
@@ -86,16 +97,21 @@ impl Capture {
         }
     }
 
-    /// Adds what a modem sends, where the step is that. Requests for minislots are no management messages and leave nothing.
+    /// Adds what a modem sends, where the step is that. Requests for minislots are not management
+    /// messages and leave nothing. Only a message takes memory.
+    #[tactic(auto, using(crate::proofs::AddressLemmas::none_addressed, crate::proofs::AddressLemmas::one_addressed, crate::proofs::AddressLemmas::more_addressed))]
     pub fn sent(&mut self, alloc: Global, step: &Step) -> Result<(), AllocError>
         ensures ok { OnOk result (self.new ≡ with_packets self.old (sent_in step.now)) }
+        ensures addressed { OnOk result (All IsAddressed (sent_in step.now)) }
         ensures err { OnErr result (self.new ≡ self.old) }
+        ensures memory { OnErr result (sent_in step.now ≢ []) }
     {
         if let Step::Arrive {
             modem,
             heard: Heard::Message(bytes),
         } = step
         {
+            always_six(*modem);
             let bytes = bytes.copy(alloc)?;
             self.packets.push(Packet::Sent {
                 modem: *modem,
@@ -106,8 +122,10 @@ impl Capture {
     }
 
     /// Adds the replies and MAPs among outputs, in order.
+    #[tactic(auto, using(crate::proofs::AddressLemmas::more_addressed))]
     pub fn told(&mut self, alloc: Global, outs: &[Out]) -> Result<(), AllocError>
         ensures ok { OnOk result (self.new ≡ with_packets self.old (flat_map told_in outs.now)) }
+        ensures addressed { OnOk result (All IsAddressed (flat_map told_in outs.now)) }
         ensures err { OnErr result (self.new ≡ self.old) }
     {
         let mut packets = told_in(alloc, outs)?;
@@ -115,12 +133,13 @@ impl Capture {
         Ok(())
     }
 
-    /// The capture as a file. A message of no byte has no frame and stands in no record, nor does one of more than 65,511 bytes
-    /// of payload.
+    /// Returns the capture as a file. A message of no byte has no frame and no record, nor does one of more than 65,511 bytes of
+    /// payload. A reader finds each frame in it, and in the frame the message.
     pub fn to_bytes(&self, alloc: Global) -> Result<Vec<u8>, AllocError>
         ensures value { IfOk result (λ bytes. bytes.items ≡ file_of self.now.clock self.now.packets) }
         ensures of_run { IfOk result (λ bytes. (plant : PlantFields) (steps : List Step) (outs : List Out)
             → IsOfRun plant steps outs self.now → IsCaptureOf plant steps outs bytes.items) }
+        ensures read { IfOk result (λ bytes. AreRead self.now.packets bytes.items) }
     {
         file_of(alloc, self.clock, self.packets.as_slice())
     }

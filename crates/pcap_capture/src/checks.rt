@@ -3,7 +3,7 @@
 ghost use Rattle.std.specs.Prelude.{◌≡◌, ◌^◌};
 ghost use Rattle.pcap_capture.specs.Checks.{with_bit, with_byte, rest_of, header_check, frame_check};
 
-/// A bit more is divided.
+/// Returns a bit more is divided.
 fn with_bit(polynomial: u32, rest: u32) -> u32
     ensures { result ≡ with_bit polynomial rest }
 {
@@ -14,7 +14,7 @@ fn with_bit(polynomial: u32, rest: u32) -> u32
     }
 }
 
-/// A byte more is divided.
+/// Returns a byte more is divided.
 #[tactic(auto, using(crate::proofs::BitLemmas::with_bits_more), unfolding(crate::specs::Checks::with_byte))]
 fn with_byte(polynomial: u32, rest: u32, byte: u8) -> u32
     ensures { result ≡ with_byte polynomial rest byte }
@@ -26,7 +26,7 @@ fn with_byte(polynomial: u32, rest: u32, byte: u8) -> u32
     rest
 }
 
-/// What is left of bytes that are divided by a polynomial.
+/// Returns what is left of bytes that are divided by a polynomial.
 fn rest_of(polynomial: u32, start: u32, bytes: &[u8]) -> u32
     ensures { result ≡ rest_of polynomial start bytes.now }
 {
@@ -37,7 +37,7 @@ fn rest_of(polynomial: u32, start: u32, bytes: &[u8]) -> u32
     rest
 }
 
-/// The header check sequence, as it is sent.
+/// Returns the header check sequence, as it is sent.
 pub(crate) fn header_check(bytes: &[u8]) -> [u8; 2]
     ensures { result ≡ header_check bytes.now }
 {
@@ -46,7 +46,7 @@ pub(crate) fn header_check(bytes: &[u8]) -> [u8; 2]
     [a, b]
 }
 
-/// The frame check sequence, as it is sent.
+/// Returns the frame check sequence, as it is sent.
 pub(crate) fn frame_check(bytes: &[u8]) -> [u8; 4]
     ensures { result ≡ frame_check bytes.now }
 {

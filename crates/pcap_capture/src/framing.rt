@@ -10,7 +10,7 @@ use crate::managed::{Management, managed_of};
 use crate::packet::Packet;
 use std::alloc::{AllocError, Global};
 
-/// The MAC header before its check.
+/// Returns the MAC header before its check.
 fn mac_header(count: u16) -> [u8; 4]
     ensures { result ≡ mac_header count }
 {
@@ -18,7 +18,7 @@ fn mac_header(count: u16) -> [u8; 4]
     [0xC2, 0x00, high, low]
 }
 
-/// The frame of a management message.
+/// Returns the frame of a management message.
 fn framed(alloc: Global, message: &Management<'_>) -> Result<Vec<u8>, AllocError>
     ensures value { IfOk result (λ frame. frame.items ≡ framed message.now) }
     ensures short { IfOk result (λ frame. length frame.items ≤ 65541) }
@@ -33,7 +33,7 @@ fn framed(alloc: Global, message: &Management<'_>) -> Result<Vec<u8>, AllocError
     Ok(frame)
 }
 
-/// The frame of a packet, if it can have one.
+/// Returns the frame of a packet, if it can have one.
 pub(crate) fn frame_of(alloc: Global, packet: &Packet) -> Result<Option<Vec<u8>>, AllocError>
     ensures value { IfOk result (λ frame. option_map (λ f. f.items) frame ≡ frame_of packet.now) }
     ensures short { IfOk result (λ frame. IfSome frame (λ f. length f.items ≤ 65541)) }

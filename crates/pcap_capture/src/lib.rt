@@ -1,4 +1,4 @@
-//! A run of a plant as a capture: a pcap file of MAC management frames, which Wireshark opens as DOCSIS.
+//! A run of a plant as a pcap file of MAC management frames, which Wireshark opens as DOCSIS.
 #![tactic(auto)]
 
 mod capture;

@@ -42,7 +42,7 @@ impl<'a> Model for Management<'a> {
     ghost invariant = { λ m. length m.payload.now ≤ 65511 };
 }
 
-/// The version of a message of this type: that of dynamic service messages is 2.
+/// Returns the version of a message of this type: that of dynamic service messages is 2.
 fn version_of(kind: u8) -> u8
     ensures { result ≡ version_of kind }
 {
@@ -53,7 +53,8 @@ fn version_of(kind: u8) -> u8
     }
 }
 
-/// The management message of one byte of message type and the payload, if it can have a frame.
+/// Returns the management message of one byte of message type and the payload, if it can have a
+/// frame.
 fn message_of(to: [u8; 6], from: [u8; 6], bytes: &[u8]) -> Option<Management<'_>>
     ensures { result ≡ message_of to from bytes.now }
 {
@@ -72,7 +73,7 @@ fn message_of(to: [u8; 6], from: [u8; 6], bytes: &[u8]) -> Option<Management<'_>
     })
 }
 
-/// The management message of a MAP's body, if it can have a frame.
+/// Returns the management message of a MAP's body, if it can have a frame.
 fn map_of(body: &[u8]) -> Option<Management<'_>>
     ensures { result ≡ map_of body.now }
 {
@@ -88,8 +89,8 @@ fn map_of(body: &[u8]) -> Option<Management<'_>>
     })
 }
 
-/// The management message of a packet, if it can have a frame: a message of no byte has no type, and a MAC header says only so
-/// many bytes.
+/// Returns the management message of a packet, if it can have a frame: a message of no byte has no
+/// type, and a MAC header says only so many bytes.
 pub(crate) fn managed_of(packet: &Packet) -> Option<Management<'_>>
     ensures { result ≡ managed_of packet.now }
 {
@@ -101,7 +102,7 @@ pub(crate) fn managed_of(packet: &Packet) -> Option<Management<'_>>
 }
 
 impl Management<'_> {
-    /// The management header and the payload.
+    /// Returns the management header and the payload.
     pub(crate) fn body(&self, alloc: Global) -> Result<Vec<u8>, AllocError>
         ensures value { IfOk result (λ body. body.items ≡ body_of self.now) }
         ensures len { IfOk result (λ body. length body.items ≤ 65531) }
@@ -115,7 +116,7 @@ impl Management<'_> {
         Ok(body)
     }
 
-    /// How many bytes follow the MAC header.
+    /// Returns how many bytes follow the MAC header.
     pub(crate) fn count(&self) -> u16
         ensures { result ≡ 24 + length self.now.payload }
     {

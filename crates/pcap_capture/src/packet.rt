@@ -1,9 +1,11 @@
 //! Packets of a capture.
 
+ghost use Rattle.std.specs.Prelude.{◌≡◌, length};
+
 use dsx_messages::Modem;
 use tlv24::Bytes;
 
-/// What stands in a capture.
+/// What is in a capture.
 #[derive(Debug, Drop)]
 pub enum Packet {
     /// What a modem sent: one byte of message type and the payload.
@@ -12,4 +14,11 @@ pub enum Packet {
     Reply { modem: Modem, bytes: Bytes },
     /// The MAP of a frame: its body.
     Map { frame: u32, bytes: Bytes },
+}
+
+/// States that an address has six bytes, as its type says. Does nothing.
+pub(crate) fn always_six(modem: Modem)
+    ensures { length modem.0 ≡ 6 }
+{
+    let _address = modem.0;
 }

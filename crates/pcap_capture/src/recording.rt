@@ -61,7 +61,7 @@ fn put_packet(
     }
 }
 
-/// The frame at whose begin a packet stands: a MAP's own, else that whose MAP comes next.
+/// Returns the frame at whose begin a packet exists: a MAP's own, else that whose MAP comes next.
 fn frame_at(next: u64, packet: &Packet) -> u64
     requires { next ≤ 4294967296 }
     ensures value { result ≡ frame_at next packet.now }
@@ -73,7 +73,7 @@ fn frame_at(next: u64, packet: &Packet) -> u64
     }
 }
 
-/// The frame whose MAP comes next behind a packet.
+/// Returns the frame whose MAP comes next after a packet.
 fn next_after(next: u64, packet: &Packet) -> u64
     requires { next ≤ 4294967296 }
     ensures value { result ≡ next_after next packet.now }
@@ -104,7 +104,7 @@ fn put_records(
     Ok(())
 }
 
-/// The capture of packets.
+/// Returns the capture of packets.
 pub(crate) fn file_of(
     alloc: Global,
     clock: Clock,

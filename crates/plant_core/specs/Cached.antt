@@ -1,9 +1,9 @@
--- What a cache of operators keeps (own).
+-- What a cache of operators keeps (implementation-specific).
 use Rattle.std.specs.Prelude.{◌≡◌, ℕ, List, Contains, Some}
 use Rattle.dsx_messages.specs.declared.modem.Modem.{Modem}
 use Rattle.plant.specs.declared.operator_row.RowFields.{RowFields}
 use Rattle.plant.specs.Roster.{holder}
 
--- each modem stands beside the operator that lists it
+-- each modem is next to the operator that lists it
 abbrev pub AreRight : List RowFields → List (Modem × ℕ) → Type 0
 AreRight rows pairs = (modem : Modem) (op : ℕ) → Contains pairs (modem, op) → holder rows modem ≡ Some op

@@ -1,4 +1,4 @@
--- What contracts see of an operator's desk (own).
+-- What contracts see of an operator's desk (implementation-specific).
 use Rattle.std.specs.Prelude.{ℕ, List}
 use Rattle.slice_scheduler.specs.declared.elements.ElementsFields.{ElementsFields}
 use Rattle.operator_model.specs.Replay.{BookView}

@@ -1,4 +1,4 @@
--- Why a step is refused (own).
+-- Why a step is refused (implementation-specific).
 use Rattle.std.specs.Prelude.{◌≡◌, ℕ, List, [], ◌∷◌, slice_get, option_map, Option, Some, None, if◌then◌else◌, Result, Ok, Err}
 use Rattle.slice_scheduler.specs.declared.elements.ElementsFields.{ElementsFields}
 use Rattle.plant.specs.Roster.{holder}
@@ -27,13 +27,13 @@ collect_fault op None = Some (UnknownOperator op)
 collect_fault op (Some []) = Some (NothingToCollect op)
 collect_fault op (Some (frame ∷ waiting)) = None
 
--- why what is heard of a modem goes to no operator: no row holds the modem
+-- why what is received of a modem goes to no operator: no row holds the modem
 abbrev pub arrive_fault : CoreView → Step → Option ℕ → Option CoreFault
 arrive_fault core (steps.Arrive modem heard) None = Some (UnknownModem modem)
 arrive_fault core (steps.Arrive modem heard) (Some op) = act_fault op (actions.Arrive modem heard) (slice_get core.books op)
 arrive_fault core step place = None
 
--- why a step is refused, want of memory apart
+-- why a step is refused, out of memory apart
 abbrev pub step_fault : CoreView → Step → Option CoreFault
 step_fault core (steps.Arrive modem heard) = arrive_fault core (steps.Arrive modem heard) (holder core.plant.rows modem)
 step_fault core (steps.Work op) = act_fault op actions.Work (slice_get core.books op)
@@ -41,7 +41,7 @@ step_fault core (steps.Tick op) = act_fault op actions.Tick (slice_get core.book
 step_fault core (steps.Collect op) = collect_fault op (slice_get core.queues op)
 step_fault core (steps.Reslice from rows) = option_map (λ fault. Reslice fault) (reslice_fault from core.books rows)
 
--- the fault is told exactly where there is one; where there is none, only memory can be wanting
+-- the fault is reported exactly where there is one; where there is none, only memory can be wanting
 abbrev pub IsTold : {A : Type 0} → Result A CoreFault → Option CoreFault → Type 0
 IsTold (Ok x) fault = fault ≡ None
 IsTold (Err NoMemory) fault = fault ≡ None

@@ -1,4 +1,4 @@
--- Other slices, given to all operators (own).
+-- New slices, given to all operators (implementation-specific).
 use Rattle.std.specs.Prelude.{◌≡◌, ℕ, List, length, slice_get, Some}
 use Rattle.slice_scheduler.specs.Minislots.{IsSlice}
 use Rattle.operator_model.specs.declared.action.SliceRow.{SliceRow}

@@ -1,4 +1,4 @@
--- The frame that waits longest, put into the assembly (own).
+-- The frame that waits longest, put into the assembly (implementation-specific).
 use Rattle.std.specs.Prelude.{◌≡◌, ℕ, List, ◌∷◌, ◌++◌, Option, None}
 use Rattle.slice_scheduler.specs.declared.elements.ElementsFields.{ElementsFields}
 use Rattle.map_assembly.specs.declared.map_bytes.MapBytes.{MapBytes}

@@ -1,4 +1,4 @@
--- A core that some run of its plant leads to (own).
+-- A core that some run of its plant leads to (implementation-specific).
 use Rattle.std.specs.Prelude.{◌≡◌, ℕ, List, ◌++◌, Some}
 use Rattle.slice_scheduler.specs.declared.elements.ElementsFields.{ElementsFields}
 use Rattle.plant.specs.declared.plant.PlantFields.{PlantFields}
@@ -18,7 +18,7 @@ core_of plant books queues gathering = record { plant = plant; books = books; qu
 abbrev pub IsReachable : CoreView → Type 0
 IsReachable core = (steps : List Step) × (outs : List Out) × IsStateAfter core.plant steps outs core
 
--- behind whatever steps and outputs led to the one core, these more lead to the other
+-- after whatever steps and outputs led to the one core, these more lead to the other
 abbrev pub LeadsOn : CoreView → List Step → List Out → CoreView → Type 0
 LeadsOn old steps outs new =
     (before : List Step) (told : List Out) → IsStateAfter old.plant before told old → IsStateAfter old.plant (before ++ steps) (told ++ outs) new

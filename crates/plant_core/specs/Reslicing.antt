@@ -1,4 +1,4 @@
--- Why other slices are refused: fault by fault over all operators, and of one fault the least operator or pair (own).
+-- Why new slices are refused: fault by fault over all operators, and of one fault the least operator or pair (implementation-specific).
 use Rattle.std.specs.Prelude.{ℕ, ◌+◌, ◌==◌, Bool, true, false, List, [], ◌∷◌, length, option_map, Option, Some, None, if◌then◌else◌}
 use Rattle.std.specs.Option.{option_or}
 use Rattle.std.specs.List.{position_from}
@@ -45,7 +45,7 @@ least_unfits from books rows = record {
   over_budget = least_unfit unfits.OverBudget from 0 books rows;
 }
 
--- the first of these faults, in the order in which they are told: those that meet stand between those off the frame and a budget
+-- the first of these faults, in the order in which they are reported: those that meet are between those off the frame and a budget
 -- over its slice
 abbrev pub first_fault : Unfits → Option (ℕ × ℕ) → Option ResliceFault
 first_fault least meeting =

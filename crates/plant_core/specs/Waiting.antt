@@ -1,4 +1,4 @@
--- The frames of a history that wait to be collected (own).
+-- The frames of a history that wait to be collected (implementation-specific).
 use Rattle.std.specs.Prelude.{◌≡◌, ℕ, ◌≤◌, List, [], ◌∷◌, drop, length, Option, Some, None}
 use Rattle.std.specs.List.{flat_map}
 use Rattle.slice_scheduler.specs.declared.elements.ElementsFields.{ElementsFields}

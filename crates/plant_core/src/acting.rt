@@ -1,9 +1,12 @@
 //! What is done to an operator's desk.
 
-ghost use Rattle.std.specs.Prelude.{◌≡◌, ◌≢◌, ◌↔◌, ◌≤◌, [], ◌++◌, length, slice_get, Some, IsSome, Err, IfOk, OnOk, OnErr};
+ghost use Rattle.std.specs.Prelude.{◌≡◌, ◌≢◌, ◌↔◌, ◌≤◌, true, [], ◌++◌, length, slice_get, Some, IsSome, Err, IfOk, OnOk, OnErr};
+ghost use Rattle.dsx_messages.specs.declared.modem.Modem.{Modem};
 ghost use Rattle.plant.specs.Row.{IsRowOf};
+ghost use Rattle.operator_model.specs.declared.action.Unfit.{Unfit};
 ghost use Rattle.operator_model.specs.State.{opened, operator};
-ghost use Rattle.operator_model.specs.Machine.{own_step, IsAllowed};
+ghost use Rattle.operator_model.specs.Machine.{own_step, is_spent, IsAllowed};
+ghost use Rattle.operator_book.specs.OfBook.{stranger_of, unfit_of};
 ghost use Rattle.operator_model.specs.Replay.{acted};
 ghost use Rattle.run_model.specs.OwnSteps.{under};
 ghost use Rattle.run_model.specs.IsStateAfter.{frames_of};
@@ -25,7 +28,7 @@ use run_model::Out;
 use std::alloc::{AllocError, Global};
 
 impl Desk {
-    /// The desk of an operator with nothing done.
+    /// Returns the desk of an operator with nothing done.
     pub fn open(
         alloc: Global,
         row: &OperatorRow,
@@ -42,7 +45,7 @@ impl Desk {
         Ok(Desk { book, collected: 0 })
     }
 
-    /// Does an action, and tells what it puts out. Its frames wait.
+    /// Does an action, and reports what it outputs. Its frames wait.
     pub fn act(&mut self, alloc: Global, action: Action) -> Result<Vec<Output>, BookFault>
         requires within { self.old.collected ≤ length (book_at self.old).history }
         ensures book { OnOk result (book_at self.new ≡ acted (book_at self.old) action) }
@@ -56,11 +59,17 @@ impl Desk {
             (operator (book_at self.old).consts (book_at self.old).row (book_at self.old).state) action) }
         ensures same_book { OnErr result (book_at self.new ≡ book_at self.old) }
         ensures same_waiting { OnErr result (waiting_at self.new ≡ waiting_at self.old) }
+
+        // The faults are those of the book.
+        ensures not_mine { (modem : Modem) → (result ≡ Err (BookFault.NotMine modem))
+            ↔ (stranger_of (book_at self.old) action ≡ Some modem) }
+        ensures spent { (result ≡ Err BookFault.FramesSpent) ↔ (is_spent (book_at self.old).state action ≡ true) }
+        ensures unfit { (u : Unfit) → (result ≡ Err (BookFault.Unfit u)) ↔ (unfit_of (book_at self.old) action ≡ Some u) }
     {
         self.book.act(alloc, action)
     }
 
-    /// Does an action that is the operator's own, and adds what it puts out. Its frames wait.
+    /// Does an action that is the operator's own, and adds what it outputs. Its frames wait.
     pub(crate) fn act_into(
         &mut self,
         alloc: Global,
@@ -97,7 +106,7 @@ impl Desk {
         }
     }
 
-    /// The frame that waits longest.
+    /// Returns the frame that waits longest.
     pub fn oldest(&self, alloc: Global) -> Result<Option<Oldest>, AllocError>
         ensures value { IfOk result (IsOldest (book_at self.now).history self.now.collected) }
         ensures some { OnErr result (IsSome (slice_get (waiting_at self.now) 0)) }
@@ -106,7 +115,8 @@ impl Desk {
         oldest_from(alloc, self.book.history(), self.collected)
     }
 
-    /// The frame that waits longest goes into the assembly, which takes it: only memory can be wanting. Its MAP is added, if it makes one.
+    /// Returns the frame that waits longest goes into the assembly, which takes it: only memory can
+    /// be wanting. Its MAP is added, if it makes one.
     pub(crate) fn collect_into(
         &mut self,
         alloc: Global,

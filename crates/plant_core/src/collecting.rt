@@ -8,7 +8,7 @@ use operator_model::{Entry, Output};
 use slice_scheduler::Elements;
 use std::alloc::{AllocError, Global};
 
-/// The frame that waits longest, and behind which place of the history the next one is looked for.
+/// The frame that waits longest, and after which place of the history the next one is looked for.
 #[derive(Debug, Drop)]
 pub struct Oldest {
     pub number: u32,
@@ -16,7 +16,7 @@ pub struct Oldest {
     pub behind: usize,
 }
 
-/// The first frame among outputs.
+/// Returns the first frame among outputs.
 fn first_frame(alloc: Global, outputs: &[Output]) -> Result<Option<(u32, Elements)>, AllocError>
     ensures value { IfOk result (λ frame. frame ≡ slice_get (frames_of outputs.now) 0) }
     ensures some { OnErr result (IsSome (slice_get (frames_of outputs.now) 0)) }
@@ -29,7 +29,7 @@ fn first_frame(alloc: Global, outputs: &[Output]) -> Result<Option<(u32, Element
     Ok(None)
 }
 
-/// The first frame from a place of the history on.
+/// Returns the first frame from a place of the history on.
 pub(crate) fn oldest_from(
     alloc: Global,
     history: &[Entry],

@@ -9,13 +9,13 @@ use operator_book::BookFault;
 use plant::Op;
 use std::alloc::AllocError;
 
-/// Why a plant's core was not opened, in the order tried.
+/// Says why a plant's core was not opened. `RankingsMismatch` is tried first.
 #[derive(Clone, Copy, Debug, PartialEq, Eq)]
 pub enum CoreOpenFault {
+    /// Memory ran out before any effect.
+    NoMemory,
     /// There is not one ranking for each operator that follows its policy.
     RankingsMismatch,
-    /// No memory was left.
-    NoMemory,
 }
 
 impl From<AllocError> for CoreOpenFault {
@@ -26,16 +26,17 @@ impl From<AllocError> for CoreOpenFault {
     }
 }
 
-/// Why other slices were refused. Fault by fault over all operators, and of one fault the least operator or pair.
+/// Why new slices were refused. Fault by fault over all operators, and of one fault the least
+/// operator or pair.
 #[derive(Clone, Copy, Debug, PartialEq, Eq)]
 pub enum ResliceFault {
     /// There is not one row for each operator.
     Count,
-    /// The first frame is not behind an operator's frame number.
+    /// The first frame is not after an operator's frame number.
     NotPast { op: Op },
     /// An earlier one waits for its frame.
     Unfinished { op: Op },
-    /// A slice has no minislot, begins within the head, or ends behind the frame.
+    /// A slice has no minislot, begins within the head, or ends after the frame.
     OffFrame { op: Op },
     /// Two slices have a minislot in common.
     SlicesMeet { a: Op, b: Op },
@@ -62,14 +63,14 @@ pub enum CoreFault {
     UnknownModem { modem: Modem },
     /// There is no such operator.
     UnknownOperator { op: Op },
-    /// The operator's book refused it, and not for want of memory.
+    /// The operator's book refused it, and not for out of memory.
     Book(BookFault),
     /// The assembly refused it. No core answers this: each frame that waits is fit to be put.
     Gather(GatherFault),
     /// No frame of the operator waits to be collected.
     NothingToCollect { op: Op },
-    /// No memory was left.
+    /// Memory ran out before any effect.
     NoMemory,
-    /// The other slices were refused.
+    /// The new slices were refused.
     Reslice(ResliceFault),
 }

@@ -4,7 +4,8 @@ ghost use Rattle.std.specs.Prelude.{◌≤◌, length};
 
 use operator_book::Book;
 
-/// An operator's book, and how many entries of its history are collected: the frames of those behind them wait.
+/// An operator's book, and how many entries of its history are collected: the frames of those after
+/// them wait.
 #[derive(Drop)]
 pub struct Desk {
     pub book: Book,

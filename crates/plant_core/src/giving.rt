@@ -1,4 +1,4 @@
-//! Giving other slices to all operators.
+//! Giving new slices to all operators.
 
 ghost use Rattle.std.specs.Prelude.{◌≡◌, ◌<◌, ◌≤◌, ◌^◌, [], map, length, vec_len, All, None, IfOk, OnOk, OnErr};
 ghost use Rattle.operator_model.specs.declared.action.Action.TheVariants as actions;
@@ -18,7 +18,7 @@ use slice_scheduler::Slice;
 use std::alloc::{AllocError, Global};
 
 impl Desk {
-    /// Room for one more entry in the history.
+    /// Makes room for one more entry in the history.
     fn make_room(&mut self) -> Result<(), AllocError>
         requires within { self.old.collected ≤ length (book_at self.old).history }
         ensures room { OnOk result (0 < room_at self.new) }
@@ -39,7 +39,7 @@ impl Desk {
     }
 }
 
-/// Room for one more entry in each history.
+/// Makes room for one more entry in each history.
 fn make_room(desks: &mut Vec<Desk>) -> Result<(), AllocError>
     requires { vec_len desks.old < 2 ^ 64 }
     ensures room { OnOk result (All (λ desk. 0 < room_at desk) desks.new.items) }
@@ -52,7 +52,7 @@ fn make_room(desks: &mut Vec<Desk>) -> Result<(), AllocError>
     Ok(())
 }
 
-/// Each operator takes its row. Takes no memory.
+/// Gives each operator its row of a slice change. Takes no memory.
 fn give(desks: &mut Vec<Desk>, from: u32, rows: &[SliceRow])
     requires one_each { length rows.now ≡ vec_len desks.old }
     requires fit { NoneRefuses from (map book_at desks.old.items) rows.now }
@@ -65,7 +65,7 @@ fn give(desks: &mut Vec<Desk>, from: u32, rows: &[SliceRow])
     }
 }
 
-/// The slices of rows.
+/// Returns the slices of rows.
 pub fn slices_of(alloc: Global, rows: &[SliceRow]) -> Result<Vec<Slice>, AllocError>
     requires { All IsOfASlice rows.now }
     ensures { IfOk result (λ slices. slices.items ≡ map slice_of rows.now) }
@@ -78,7 +78,8 @@ pub fn slices_of(alloc: Global, rows: &[SliceRow]) -> Result<Vec<Slice>, AllocEr
 }
 
 impl PlantCore {
-    /// Each operator takes its row, and the assembly all slices, from a later frame on. All memory is taken first.
+    /// Returns each operator takes its row, and the assembly all slices, from a later frame on. All
+    /// memory is taken first.
     pub(crate) fn give(
         &mut self,
         alloc: Global,

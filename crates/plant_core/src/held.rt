@@ -11,9 +11,9 @@ use map_assembly::Gather;
 /// A plant's core: the plant, each operator's book with its frames that wait to be collected, and what is gathered. Contracts
 /// speak of `core_view` of it. The type keeps that it is what some steps make of the plant's core as it is opened.
 pub struct PlantCore {
-    pub routes: Routes,
-    pub desks: Vec<Desk>,
-    pub gather: Gather,
+    pub(crate) routes: Routes,
+    pub(crate) desks: Vec<Desk>,
+    pub(crate) gather: Gather,
     ghost reached: { ∥ IsReachable (core_of routes (map book_at desks.items) (map waiting_at desks.items) gather) ∥₁ },
 }
 

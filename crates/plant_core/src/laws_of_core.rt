@@ -3,14 +3,17 @@
 ghost use Rattle.std.specs.Prelude.{◌≡◌, option_map, slice_get};
 ghost use Rattle.plant.specs.Plant.{IsPlant};
 ghost use Rattle.map_assembly.specs.Gathering.{IsGathering};
+ghost use Rattle.operator_book.specs.ViewOf.{view_of};
 ghost use Rattle.plant_core.specs.CoreView.{core_view};
 
 use crate::held::PlantCore;
+use operator_book::Book;
 use operator_model::Entry;
 use plant::{Op, Plant};
 
 impl PlantCore {
-    /// A law: the plant is valid, and what is gathered is as the assembly always keeps it. Does nothing.
+    /// States that the plant is valid, and what is gathered is as the assembly always keeps it.
+    /// Does nothing.
     pub fn always(&self)
         ensures plant { IsPlant (core_view self.now).plant }
         ensures gathering { IsGathering (core_view self.now).gathering }
@@ -19,14 +22,24 @@ impl PlantCore {
         self.gather.always();
     }
 
-    /// The plant.
+    /// Returns the plant that was opened.
     pub fn plant(&self) -> &Plant
         ensures { result.now ≡ (core_view self.now).plant }
     {
         self.routes.plant()
     }
 
-    /// All that an operator did, in order; none past the last operator. Takes no memory.
+    /// Returns the book of an operator, or None where the plant has no such operator. Takes no memory.
+    pub fn book(&self, op: Op) -> Option<&Book>
+        ensures { option_map (λ book. view_of book.now) result ≡ slice_get (core_view self.now).books op }
+    {
+        if op >= self.desks.len() {
+            return None;
+        }
+        Some(&self.desks[op].book)
+    }
+
+    /// Returns all that an operator did, in order; none past the last operator. Takes no memory.
     pub fn history(&self, op: Op) -> Option<&[Entry]>
         ensures { option_map (λ history. history.now) result
             ≡ option_map (λ book. book.history) (slice_get (core_view self.now).books op) }

@@ -1,4 +1,4 @@
-//! A plant's core: its operators' books, the frames that wait to be collected, and what is gathered, step by step.
+//! The core of a plant, with histories: the operators' books, the frames that are not yet collected, and the assembly of MAPs.
 #![tactic(auto)]
 
 mod acting;

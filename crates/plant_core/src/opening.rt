@@ -18,14 +18,14 @@ use map_assembly::Gather;
 use plant::{Consts, OperatorRow, Plant};
 use std::alloc::{AllocError, Global};
 
-/// Whether a ranking follows the row's policy.
+/// Returns whether a ranking follows the row's policy.
 fn follows(ranking: &Ranking, row: &OperatorRow) -> bool
     ensures { IsTrue result ↔ (ranking.now.policy ≡ row.now.policy) }
 {
     ranking.policy() == row.get_fields().policy
 }
 
-/// Whether there is one ranking for each row, and each follows its row's policy.
+/// Returns whether there is one ranking for each row, and each follows its row's policy.
 pub fn follow(rankings: &[Ranking], rows: &[OperatorRow]) -> bool
     ensures { IsTrue result ↔ (map (λ ranking. ranking.policy) rankings.now ≡ map (λ row. row.policy) rows.now) }
 {
@@ -40,7 +40,7 @@ pub fn follow(rankings: &[Ranking], rows: &[OperatorRow]) -> bool
     true
 }
 
-/// The desk of each operator, with nothing done.
+/// Returns the desk of each operator, with nothing done.
 fn opened_desks(
     alloc: Global,
     rows: &[OperatorRow],
@@ -69,7 +69,7 @@ struct Parts {
     gather: Gather,
 }
 
-/// The desks of a plant's operators and its assembly, with nothing done.
+/// Returns the desks of a plant's operators and its assembly, with nothing done.
 fn opened_parts(alloc: Global, plant: &Plant, rankings: Vec<Ranking>) -> Result<Parts, AllocError>
     requires { length rankings.items ≡ length plant.now.rows }
     ensures books { IfOk result (λ parts. map book_at parts.desks.items
@@ -84,7 +84,8 @@ fn opened_parts(alloc: Global, plant: &Plant, rankings: Vec<Ranking>) -> Result<
 }
 
 impl PlantCore {
-    /// The core of a plant with nothing done. The rankings stand in the plant's order of operators.
+    /// Returns the core of a plant with nothing done. The rankings are in the plant's order of
+    /// operators.
     pub fn open(
         alloc: Global,
         plant: Plant,
@@ -101,7 +102,7 @@ impl PlantCore {
         PlantCore::opened(alloc, plant, rankings)
     }
 
-    /// The core of a plant with nothing done, where there is a ranking for each operator.
+    /// Returns the core of a plant with nothing done, where there is a ranking for each operator.
     fn opened(
         alloc: Global,
         plant: Plant,

@@ -1,4 +1,4 @@
-//! Judging other slices for all operators.
+//! Judging new slices for all operators.
 
 ghost use Rattle.std.specs.Prelude.{◌≡◌, ◌+◌, [], length, vec_len, drop, option_map, ◌≤◌, Some, OnOk, OnErr};
 ghost use Rattle.std.specs.List.{position_from};
@@ -16,14 +16,14 @@ use operator_model::{SliceRow, Unfit};
 use plant::Op;
 use std::alloc::Global;
 
-/// Whether two faults are the same.
+/// Returns whether two faults are the same.
 pub fn is_same(a: Unfit, b: Unfit) -> bool
     ensures { result ≡ is_unfit a (Some b) }
 {
     a == b
 }
 
-/// Whether a book refuses a row from a frame on with this fault. Takes no memory.
+/// Returns whether a book refuses a row from a frame on with this fault. Takes no memory.
 pub fn is_refused(book: &Book, from: u32, row: SliceRow, unfit: Unfit) -> bool
     ensures { result ≡ is_unfit unfit (unfit_from (view_of book.now) from row) }
 {
@@ -33,7 +33,7 @@ pub fn is_refused(book: &Book, from: u32, row: SliceRow, unfit: Unfit) -> bool
     }
 }
 
-/// Whether the slices of two rows have a minislot in common.
+/// Returns whether the slices of two rows have a minislot in common.
 fn do_meet(a: &SliceRow, b: &SliceRow) -> bool
     ensures { result ≡ do_meet a.now b.now }
 {
@@ -41,7 +41,7 @@ fn do_meet(a: &SliceRow, b: &SliceRow) -> bool
         && u32::from(b.start) < u32::from(a.start) + u32::from(a.length)
 }
 
-/// The first operator from a place on whose slice has a minislot in common with this row's.
+/// Returns the first operator from a place on whose slice has a minislot in common with this row's.
 fn first_met(row: &SliceRow, rows: &[SliceRow], from: usize) -> Option<Op>
     requires { from ≤ length rows.now }
     ensures { result ≡ position_from (do_meet row.now) from (drop from rows.now) }
@@ -54,7 +54,8 @@ fn first_met(row: &SliceRow, rows: &[SliceRow], from: usize) -> Option<Op>
     None
 }
 
-/// The least pair of operators whose slices have a minislot in common: the least first one, and the least second one of it.
+/// Returns the least pair of operators whose slices have a minislot in common: the least first one,
+/// and the least second one of it.
 pub fn least_meeting(rows: &[SliceRow]) -> Option<(Op, Op)>
     ensures { result ≡ least_meeting 0 rows.now }
 {
@@ -66,7 +67,8 @@ pub fn least_meeting(rows: &[SliceRow]) -> Option<(Op, Op)>
     None
 }
 
-/// The first fault of rows, one for each operator, of which the machines refuse these: the order in which faults are told.
+/// Returns the first fault of rows, one for each operator, of which the machines refuse these: the
+/// order in which faults are reported.
 pub fn first_fault(least: Unfits, rows: &[SliceRow]) -> Option<ResliceFault>
     ensures { result ≡ first_fault least (least_meeting 0 rows.now) }
 {
@@ -90,7 +92,7 @@ pub fn first_fault(least: Unfits, rows: &[SliceRow]) -> Option<ResliceFault>
 }
 
 impl PlantCore {
-    /// The least operator whose book refuses its row with this fault.
+    /// Returns the least operator whose book refuses its row with this fault.
     fn least_unfit(&self, from: u32, rows: &[SliceRow], unfit: Unfit) -> Option<Op>
         requires { length rows.now ≡ vec_len self.now.desks }
         ensures { result ≡ least_unfit unfit from 0 (core_view self.now).books rows.now }
@@ -103,7 +105,7 @@ impl PlantCore {
         None
     }
 
-    /// The first fault of other slices, where there is one row for each operator.
+    /// Returns the first fault of new slices, where there is one row for each operator.
     fn row_fault(&self, from: u32, rows: &[SliceRow]) -> Option<ResliceFault>
         requires { length rows.now ≡ vec_len self.now.desks }
         ensures { result ≡ row_fault from (core_view self.now).books rows.now }
@@ -118,7 +120,7 @@ impl PlantCore {
         first_fault(least, rows)
     }
 
-    /// The first fault of other slices.
+    /// Returns the first fault of new slices.
     fn reslice_fault(&self, from: u32, rows: &[SliceRow]) -> Option<ResliceFault>
         ensures { result ≡ reslice_fault from (core_view self.now).books rows.now }
     {
@@ -128,7 +130,7 @@ impl PlantCore {
         self.row_fault(from, rows)
     }
 
-    /// Other slices for all operators from a later frame on, where they have no fault.
+    /// Returns new slices for all operators from a later frame on, where they have no fault.
     pub(crate) fn reslice(
         &mut self,
         alloc: Global,

@@ -14,10 +14,10 @@ use std::num::NonZeroUsize;
 /// How many addresses are remembered.
 const REMEMBERED: usize = 16;
 
-/// A plant behind a cache of addresses that were asked for lately. An address that the cache lacks is put into it where the
-/// address that it lacked before was the same: most come once among many, and to put one in costs more than to ask the
-/// plant. Contracts see the plant: the cache is no part of any answer. The type keeps that each cached address stands beside
-/// its operator.
+/// A plant with a cache of addresses that were asked for lately. An address that the cache lacks
+/// is put into it where the address that it lacked before was the same: most come once among many,
+/// and to put one in costs more than to ask the plant. Contracts see the plant: the cache is not a
+/// part of any answer. The type keeps that each cached address is next to its operator.
 #[derive(Drop)]
 pub struct Routes {
     plant: Plant,
@@ -38,7 +38,7 @@ impl Model for Routes {
 }
 
 impl Routes {
-    /// The routes of a plant, with nothing remembered.
+    /// Returns the routes of a plant, with nothing remembered.
     pub fn new(alloc: Global, plant: Plant) -> Result<Routes, AllocError>
         ensures { IfOk result (λ routes. routes ≡ plant) }
     {
@@ -53,7 +53,8 @@ impl Routes {
         })
     }
 
-    /// The operator that lists this modem, if one does. Where no memory is left to remember it, it is not remembered.
+    /// Returns the operator that lists this modem, if one does. Where no memory is left to remember
+    /// it, it is not remembered.
     #[inline(always)]
     pub fn place_of(&mut self, modem: Modem) -> Option<Op>
         ensures value { result ≡ holder self.old.rows modem }
@@ -79,14 +80,14 @@ impl Routes {
         }
     }
 
-    /// The plant.
+    /// Returns the plant that was opened.
     pub fn plant(&self) -> &Plant
         ensures { result.now ≡ self.now }
     {
         &self.plant
     }
 
-    /// A law: the plant is valid. Does nothing.
+    /// States that the plant is valid. Does nothing.
     pub(crate) fn always(&self)
         ensures { IsPlant self.now }
     {

@@ -16,7 +16,8 @@ use operator_model::{Action, Heard};
 use run_model::{Out, Step};
 use std::alloc::Global;
 
-/// Where a run stopped: the place of the step that was refused, why, and what the steps before it put out.
+/// Where a run stopped: the place of the step that was refused, why, and what the steps before it
+/// output.
 #[derive(Debug, Drop)]
 pub struct RunStop {
     pub at: usize,
@@ -25,7 +26,7 @@ pub struct RunStop {
 }
 
 impl PlantCore {
-    /// One step, whose outputs take the place of those that are there. A refused step changes nothing of the core.
+    /// Does one step, whose outputs replace those that are in `outs`. A refused step changes nothing of the core, and has no outputs.
     pub fn step_over(
         &mut self,
         alloc: Global,
@@ -35,6 +36,7 @@ impl PlantCore {
         ensures ok { OnOk result (Steps step (core_view self.old) (core_view self.new) outs.new.items) }
         ensures reached { OnOk result (LeadsOn (core_view self.old) (step ∷ []) outs.new.items (core_view self.new)) }
         ensures err { OnErr result (core_view self.new ≡ core_view self.old) }
+        ensures outs { OnErr result (outs.new.items ≡ []) }
         ensures fault { IsTold result (step_fault (core_view self.old) step) }
     {
         self.always();
@@ -43,8 +45,8 @@ impl PlantCore {
         Ok(())
     }
 
-    /// The steps one after the other, up to the first that is refused, and all that they put out in order. The core then stands
-    /// as after the steps before it.
+    /// Returns the steps one after the other, up to the first that is refused, and all that they
+    /// output in order. The core then is as after the steps before it.
     pub fn run(&mut self, alloc: Global, steps: &[Step]) -> Result<Vec<Out>, RunStop>
         ensures reached { IfOk result (λ outs. LeadsOn (core_view self.old) steps.now outs.items (core_view self.new)) }
         ensures stopped { IfErr result (λ stop. LeadsOn (core_view self.old) (take stop.at steps.now) stop.outs.items
@@ -63,7 +65,7 @@ impl PlantCore {
         Ok(outs)
     }
 
-    /// One step that the caller keeps.
+    /// Returns one step that the caller keeps.
     fn step_copied(
         &mut self,
         alloc: Global,
@@ -85,7 +87,8 @@ impl PlantCore {
         }
     }
 
-    /// The operator that has this modem takes a copy of what was heard of it into its inbox.
+    /// Returns the operator that has this modem takes a copy of what was received of it into its
+    /// inbox.
     fn arrive_copied(
         &mut self,
         alloc: Global,

@@ -44,7 +44,7 @@ pub fn append_map(outs: &mut Vec<Out>, made: Option<MapBytes>)
     }
 }
 
-/// What the core answers where the assembly refuses a frame.
+/// Returns what the core answers where the assembly refuses a frame.
 pub fn core_fault_of(fault: GatherFault) -> CoreFault
     ensures { result ≡ core_fault_of fault }
 {
@@ -55,7 +55,7 @@ pub fn core_fault_of(fault: GatherFault) -> CoreFault
 }
 
 impl PlantCore {
-    /// The operator at this place acts, if there is one.
+    /// Returns the operator at this place acts, if there is one.
     pub(crate) fn act_if(
         &mut self,
         alloc: Global,
@@ -77,7 +77,7 @@ impl PlantCore {
         self.desks[op].act_into(alloc, op, action, outs)
     }
 
-    /// The operator that has this modem takes what was heard of it into its inbox.
+    /// Returns the operator that has this modem takes what was received of it into its inbox.
     fn arrive(
         &mut self,
         alloc: Global,
@@ -97,7 +97,8 @@ impl PlantCore {
         }
     }
 
-    /// The oldest frame that waits of the operator at this place goes into the assembly, if there is one.
+    /// Returns the oldest frame that waits of the operator at this place goes into the assembly, if
+    /// there is one.
     pub(crate) fn collect(
         &mut self,
         alloc: Global,
@@ -118,7 +119,7 @@ impl PlantCore {
         self.desks[op].collect_into(alloc, op, gather, outs)
     }
 
-    /// One step, whose outputs are added.
+    /// Returns one step, whose outputs are added.
     pub(crate) fn step_into(
         &mut self,
         alloc: Global,
@@ -140,7 +141,7 @@ impl PlantCore {
         }
     }
 
-    /// One step, and what it puts out. A refused step changes nothing.
+    /// Returns one step, and what it outputs. A refused step changes nothing.
     pub fn step(&mut self, alloc: Global, step: Step) -> Result<Vec<Out>, CoreFault>
         ensures ok { IfOk result (λ outs. Steps step (core_view self.old) (core_view self.new) outs.items) }
         ensures reached { IfOk result (λ outs. LeadsOn (core_view self.old) (step ∷ []) outs.items (core_view self.new)) }

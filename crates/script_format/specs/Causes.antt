@@ -1,4 +1,4 @@
--- The names of causes for which nothing is answered (own).
+-- The names of causes for which nothing is answered (implementation-specific).
 use Rattle.std.specs.Prelude.{ℕ, List, codes}
 use Rattle.operator_model.specs.declared.output.Cause.{Cause}
 use Rattle.operator_model.specs.declared.output.Cause.TheVariants.{InboxFull, Idle, Empty, NotOurs, Short, TidInUse, UnknownAck, NoSuchSid, NotRequesting}

@@ -1,11 +1,11 @@
--- What stands in a field of a script's line (own).
+-- What is in a field of a script's line (implementation-specific).
 use Rattle.std.specs.Prelude.{◌≡◌, ◌==◌, ℕ, ◌+◌, ◌-◌, ◌*◌, ◌&&◌, nat_le, List, [], ◌∷◌, ◌++◌, length, Option, Some, None, Result, Ok, Err, if◌then◌else◌}
 use Rattle.std.specs.Char.{is_ascii_digit}
 use Rattle.script_format.specs.Messages.{message_in}
 use Rattle.script_format.specs.declared.fields.FieldFault.{FieldFault}
 use Rattle.script_format.specs.declared.fields.FieldFault.TheVariants.{Shape, NoMemory}
 
--- ---- what is read, or that the line is at fault
+-- ---- what is read, or that the line is invalid
 
 abbrev pub Read : Type 0 → Type 0
 Read A = Result A FieldFault
@@ -30,7 +30,7 @@ abbrev pub seen : {A B : Type 0} → (A → B) → Read A → Read B
 seen view (Ok x) = Ok (view x)
 seen view (Err fault) = Err fault
 
--- what is read, behind what was read before
+-- what is read, after what was read before
 abbrev pub behind : {A : Type 0} → List A → Read (List A) → Read (List A)
 behind before (Ok more) = Ok (before ++ more)
 behind before (Err fault) = Err fault

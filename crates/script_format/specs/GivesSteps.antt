@@ -10,7 +10,7 @@ abbrev pub FailsAt : LineFault → Result (List LineStep) ℕ → Type 0
 FailsAt (Shape number) said = said ≡ Err number
 FailsAt NoMemory said = Unit {0}
 
--- the steps or the line at fault, unless memory ran out
+-- the steps or the invalid line, unless memory ran out
 abbrev pub GivesSteps : Result (Vec LineStep) LineFault → Result (List LineStep) ℕ → Type 0
 GivesSteps (Ok steps) said = said ≡ Ok steps.items
 GivesSteps (Err fault) said = FailsAt fault said

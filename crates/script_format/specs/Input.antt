@@ -1,12 +1,12 @@
--- An input: a plant file, and the script behind the first line `---` (own).
+-- An input: a plant file, and the script after the first line `---` (implementation-specific).
 use Rattle.std.specs.Prelude.{◌==◌, ℕ, ◌+◌, ◌&&◌, ◌||◌, Bool, true, List, [], ◌∷◌, ◌++◌, take, drop, if◌then◌else◌, codes}
 use Rattle.std.specs.Str.{bytes_eq}
 
--- at the head of the bytes stands a line of three dashes
+-- at the head of the bytes is a line of three dashes
 abbrev pub is_bar : List ℕ → Bool
 is_bar bytes = bytes_eq bytes (codes "---") || bytes_eq (take 4 bytes) (codes "---" ++ 10 ∷ [])
 
--- how many bytes stand before the first such line, where a line may begin here; all bytes where there is none
+-- the number of bytes before the first such line, where a line may begin here; all bytes where there is none
 abbrev pub before_bar : Bool → List ℕ → ℕ
 before_bar begins [] = 0
 before_bar begins (b ∷ bytes) = if begins && is_bar (b ∷ bytes) then 0 else 1 + before_bar (b == 10) bytes

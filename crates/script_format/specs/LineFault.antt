@@ -8,7 +8,7 @@ abbrev pub Fails : LineFault → Result (List (List ℕ)) ℕ → Type 0
 Fails (Shape number) said = said ≡ Err number
 Fails NoMemory said = Unit {0}
 
--- the messages or the line at fault, unless memory ran out
+-- the messages or the invalid line, unless memory ran out
 abbrev pub Gives : Result (Vec (List ℕ)) LineFault → Result (List (List ℕ)) ℕ → Type 0
 Gives (Ok messages) said = said ≡ Ok messages.items
 Gives (Err fault) said = Fails fault said

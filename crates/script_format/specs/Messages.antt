@@ -1,4 +1,4 @@
--- The messages in lines (own).
+-- The messages in lines (implementation-specific).
 use Rattle.std.specs.Prelude.{◌==◌, ℕ, ◌+◌, true, false, List, [], ◌∷◌, ◌++◌, length, Option, Some, None, Result, Ok, Err, if◌then◌else◌, codes}
 use Rattle.std.specs.Result.{result_ok}
 use Rattle.std.specs.Str.{bytes_eq}
@@ -8,7 +8,7 @@ use Rattle.hex.specs.Hex.{decode_of}
 abbrev pub message_in : List ℕ → Option (List ℕ)
 message_in line = if bytes_eq line (codes "-") then Some [] else result_ok (decode_of line)
 
--- the messages of lines, after those before them; else the number of the first line at fault. Empty lines count, and say nothing.
+-- the messages of lines, after those before them; else the number of the first invalid line. Empty lines count, and say nothing.
 abbrev pub messages_after : ℕ → List (List ℕ) → List (List ℕ) → Result (List (List ℕ)) ℕ
 messages_after number messages [] = Ok messages
 messages_after number messages (line ∷ lines) =

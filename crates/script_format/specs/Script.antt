@@ -1,4 +1,4 @@
--- The lines of a script, and the steps that they say (own).
+-- The lines of a script, and the steps that they say (implementation-specific).
 use Rattle.std.specs.Prelude.{◌==◌, ℕ, ◌+◌, Bool, List, [], ◌∷◌, ◌++◌, length, map, Option, Some, None, Result, Ok, Err, if◌then◌else◌, codes}
 use Rattle.std.specs.List.{position_from}
 use Rattle.std.specs.Str.{bytes_eq}
@@ -42,7 +42,7 @@ operator_in plant field = required (position_from (is_named field) 0 plant.rows)
 
 -- ---- the steps of a line, each with the line's number
 
--- something is heard of a modem, and its operator handles it
+-- something is received of a modem, and its operator handles it
 abbrev pub heard_steps : ℕ → Sender → Heard → List LineStep
 heard_steps number sender heard = record { number = number; step = Arrive sender.modem heard } ∷ record { number = number; step = Work sender.op } ∷ []
 
@@ -121,7 +121,7 @@ line_steps plant number line = if length line == 0 then Ok [] else steps_in plan
 
 -- ---- the steps of a script
 
--- the steps of lines, after those before them; else the number of the first line at fault
+-- the steps of lines, after those before them; else the number of the first invalid line
 abbrev pub steps_after : PlantFields → ℕ → List LineStep → List (List ℕ) → Result (List LineStep) ℕ
 steps_after plant number steps [] = Ok steps
 steps_after plant number steps (line ∷ lines) = elim (line_steps plant number line) [

@@ -1,4 +1,4 @@
--- The sender in the first field of a line (own).
+-- The sender in the first field of a line (implementation-specific).
 use Rattle.std.specs.Prelude.{ℕ, List, [], ◌∷◌, Ok, Err}
 use Rattle.plant.specs.declared.plant.PlantFields.{PlantFields}
 use Rattle.script_format.specs.declared.fields.FieldFault.TheVariants.{Shape}
@@ -6,7 +6,7 @@ use Rattle.script_format.specs.declared.script.Sender.{Sender}
 use Rattle.script_format.specs.Fields.{Read, ◌>>=◌}
 use Rattle.script_format.specs.Script.{sender_in}
 
--- a modem of the plant in the first field, and the fields behind it, of which there is one at least
+-- a modem of the plant in the first field, and the fields after it, of which there is one at least
 abbrev pub sender_first : PlantFields → List (List ℕ) → Read (Sender × List (List ℕ))
 sender_first plant [] = Err Shape
 sender_first plant (field ∷ []) = Err Shape

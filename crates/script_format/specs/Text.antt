@@ -1,4 +1,4 @@
--- The text of a run's outputs, and of an operator's own steps (own).
+-- The text of a run's outputs, and of an operator's own steps (implementation-specific).
 use Rattle.std.specs.Prelude.{ℕ, List, [], ◌∷◌, ◌++◌, slice_get, Option, Some, None, codes}
 use Rattle.std.specs.List.{flat_map}
 use Rattle.std.specs.Fmt.{decimal}
@@ -34,7 +34,7 @@ abbrev pub message_text : List ℕ → List ℕ
 message_text [] = codes "-"
 message_text (b ∷ bytes) = encode_upper (b ∷ bytes)
 
--- behind a space
+-- after a space
 abbrev pub spaced : List ℕ → List ℕ
 spaced field = codes " " ++ field
 

@@ -5,7 +5,7 @@ ghost use Rattle.script_format.specs.Causes.{name_of};
 
 use operator_model::Cause;
 
-/// The name of a cause, as it is written.
+/// Returns the name of a cause, as it is written.
 pub fn name_of(cause: Cause) -> &'static str
     ensures { result.now ≡ name_of cause }
 {

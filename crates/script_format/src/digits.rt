@@ -12,7 +12,7 @@ use itoa::write_digits;
 use slice_scheduler::Span;
 use std::alloc::AllocError;
 
-/// The most bytes of a span behind a space: four numbers of at most 5 digits, each behind a mark.
+/// The most bytes of a span after a space: four numbers of at most 5 digits, each after a mark.
 const SPAN_ROOM: usize = 24;
 
 /// How many spans are written at once.
@@ -21,10 +21,10 @@ pub(crate) const SPANS: usize = 32;
 /// The bytes of so many spans, at most.
 pub(crate) const SPANS_ROOM: usize = 768;
 
-/// The bytes of a number behind a space, at most.
+/// The bytes of a number after a space, at most.
 const PENDING_ROOM: usize = 6;
 
-/// The bytes of a grant pending behind a space, at most.
+/// The bytes of a grant pending after a space, at most.
 const PENDING_END: usize = 8;
 
 /// How many grants pending are written at once.
@@ -33,7 +33,7 @@ pub(crate) const PENDINGS: usize = 32;
 /// The bytes of so many grants pending, at most.
 pub(crate) const PENDINGS_ROOM: usize = 256;
 
-/// A grant pending, but for its number.
+/// A grant pending, except its number.
 const NO_PENDING: &[u8; PENDING_END] = b"      /P";
 
 /// Adds the characters from a place on, all of them ASCII.
@@ -49,7 +49,7 @@ fn put_from(text: &mut String, room: &[u8], place: usize) -> Result<(), AllocErr
     }
 }
 
-/// Writes a mark and the digits of a number behind it, up to a place. Answers where the mark stands.
+/// Writes a mark and the digits of a number after it, up to a place. Returns where the mark exists.
 fn write_marked(room: &mut [u8], mark: u8, number: u16, end: usize) -> usize
     requires { (6 ≤ end) × (end ≤ length room.old) }
     ensures start { (end ≤ result + 6) × (result < end) }
@@ -61,7 +61,7 @@ fn write_marked(room: &mut [u8], mark: u8, number: u16, end: usize) -> usize
     start
 }
 
-/// Writes a span behind a space, up to a place of its room. Answers where it begins.
+/// Writes a span after a space, up to a place of its room. Returns where it begins.
 #[tactic(auto, using(crate::proofs::Marked::marks_written))]
 fn marked_span(room: &mut [u8], span: Span, end: usize) -> usize
     requires { (24 ≤ end) × (end ≤ length room.old) }
@@ -81,7 +81,7 @@ fn marked_span(room: &mut [u8], span: Span, end: usize) -> usize
     write_marked(room, b' ', sid, place)
 }
 
-/// Writes a span behind a space at the end of its room. Answers where it begins.
+/// Writes a span after a space at the end of its room. Returns where it begins.
 fn span_digits(room: &mut [u8; SPAN_ROOM], span: Span) -> usize
     ensures within { result ≤ 24 }
     ensures written { drop result room.new ≡ spaced (span_text span) }
@@ -90,7 +90,7 @@ fn span_digits(room: &mut [u8; SPAN_ROOM], span: Span) -> usize
     marked_span(room, span, SPAN_ROOM)
 }
 
-/// Writes few spans, each behind a space, at the end of their room. Answers where they begin.
+/// Writes few spans, each after a space, at the end of their room. Returns where they begin.
 pub(crate) fn spans_digits(room: &mut [u8; SPANS_ROOM], spans: &[Span]) -> usize
     requires { length spans.now ≤ 32 }
     ensures within { result ≤ 768 }
@@ -105,7 +105,7 @@ pub(crate) fn spans_digits(room: &mut [u8; SPANS_ROOM], spans: &[Span]) -> usize
     place
 }
 
-/// A span behind a space.
+/// Adds a span after a space.
 pub(crate) fn put_span(text: &mut String, span: Span) -> Result<(), AllocError>
     ensures { OnOk result (string_bytes text.new ≡ string_bytes text.old ++ spaced (span_text span)) }
 {
@@ -114,7 +114,7 @@ pub(crate) fn put_span(text: &mut String, span: Span) -> Result<(), AllocError>
     put_from(text, &room, place)
 }
 
-/// Writes a grant pending behind a space, up to a place of its room. Answers where it begins.
+/// Writes a grant pending after a space, up to a place of its room. Returns where it begins.
 fn marked_pending(room: &mut [u8], sid: u16, end: usize) -> usize
     requires { (8 ≤ end) × (end ≤ length room.old) }
     ensures start { (end ≤ result + 8) × (result ≤ end) }
@@ -125,7 +125,8 @@ fn marked_pending(room: &mut [u8], sid: u16, end: usize) -> usize
     write_marked(room, b' ', sid, end - 2)
 }
 
-/// Writes few grants pending, each behind a space, at the end of their room. Answers where they begin.
+/// Writes few grants pending, each after a space, at the end of their room. Returns where they
+/// begin.
 pub(crate) fn pendings_digits(room: &mut [u8; PENDINGS_ROOM], pending: &[u16]) -> usize
     requires { length pending.now ≤ 32 }
     ensures within { result ≤ 256 }
@@ -140,7 +141,8 @@ pub(crate) fn pendings_digits(room: &mut [u8; PENDINGS_ROOM], pending: &[u16]) -
     place
 }
 
-/// Writes a grant pending behind a space at the end of its room, of which the mark stands there. Answers where it begins.
+/// Writes a grant pending after a space at the end of its room, of which the mark is there. Returns
+/// where it begins.
 fn pending_digits(room: &mut [u8; PENDING_END], sid: u16) -> usize
     requires { drop 6 room.old ≡ codes "/P" }
     ensures within { result ≤ 8 }
@@ -150,7 +152,7 @@ fn pending_digits(room: &mut [u8; PENDING_END], sid: u16) -> usize
     write_marked(room, b' ', sid, PENDING_ROOM)
 }
 
-/// A grant pending behind a space.
+/// Adds a grant pending after a space.
 pub(crate) fn put_one_pending(text: &mut String, sid: u16) -> Result<(), AllocError>
     ensures { OnOk result (string_bytes text.new ≡ string_bytes text.old ++ spaced (pending_text sid)) }
 {
@@ -159,7 +161,7 @@ pub(crate) fn put_one_pending(text: &mut String, sid: u16) -> Result<(), AllocEr
     put_from(text, &room, place)
 }
 
-/// The upper-case hexadecimal digit of a number below 16.
+/// Returns the upper-case hexadecimal digit of a number below 16.
 fn hex_digit(number: u8) -> u8
     requires { number < 16 }
     ensures value { result ≡ hex_digit number }
@@ -172,7 +174,7 @@ fn hex_digit(number: u8) -> u8
     }
 }
 
-/// The two digits of a byte.
+/// Returns the two digits of a byte.
 fn hex_pair(byte: u8) -> (u8, u8)
     ensures value { result.0 ∷ result.1 ∷ [] ≡ hex_pair byte }
     ensures ascii { (result.0 < 128) × (result.1 < 128) }
@@ -180,7 +182,7 @@ fn hex_pair(byte: u8) -> (u8, u8)
     (hex_digit(byte / 16), hex_digit(byte % 16))
 }
 
-/// The digits of a modem's address.
+/// Returns the digits of a modem's address.
 pub(crate) fn address_digits(modem: Modem) -> [u8; 12]
     ensures value { result ≡ address modem }
     ensures ascii { IsAscii result }
@@ -191,7 +193,7 @@ pub(crate) fn address_digits(modem: Modem) -> [u8; 12]
     [a.0, a.1, b.0, b.1, c.0, c.1, d.0, d.1, e.0, e.1, f.0, f.1]
 }
 
-/// What stands before the bytes of a reply to a modem.
+/// Returns what is before the bytes of a reply to a modem.
 pub(crate) fn reply_head(modem: Modem) -> [u8; 15]
     ensures { result ≡ codes "R " ++ (address modem ++ codes " ") }
 {
@@ -199,7 +201,7 @@ pub(crate) fn reply_head(modem: Modem) -> [u8; 15]
     [b'R', b' ', a, b, c, d, e, f, g, h, i, j, k, l, b' ']
 }
 
-/// The address of a modem.
+/// Returns the address of a modem.
 pub(crate) fn put_address(text: &mut String, modem: Modem) -> Result<(), AllocError>
     ensures { OnOk result (string_bytes text.new ≡ string_bytes text.old ++ address modem) }
 {

@@ -1,4 +1,4 @@
-//! What stands in a field of a script's line.
+//! What is in a field of a script's line.
 
 ghost use Rattle.std.specs.Prelude.{◌≡◌, ◌≤◌, [], ◌∷◌, map, MatchOption, IfOk};
 ghost use Rattle.script_format.specs.Fields.{Gives, seen, three_of, number_in, short_in, bytes_in};
@@ -15,7 +15,7 @@ use tlv24::Bytes;
 pub enum FieldFault {
     /// It has another shape, or names an operator or a modem that the plant does not have.
     Shape,
-    /// No memory was left.
+    /// Memory ran out before any effect.
     NoMemory,
 }
 
@@ -35,7 +35,8 @@ impl<T: Drop> From<AllocFailed<T>> for FieldFault {
     }
 }
 
-/// A line in two at its first space: what stands before it and what behind it. None where it has none.
+/// Returns a line in two at its first space: what is before it and what after it. None where it has
+/// none.
 #[tactic(auto, using(crate::proofs::Splits::halves_of, crate::proofs::Splits::whole_of))]
 pub fn halves(line: &[u8]) -> Option<(&[u8], &[u8])>
     ensures { MatchOption result (fields_of line.now ≡ line.now ∷ [])
@@ -47,7 +48,8 @@ pub fn halves(line: &[u8]) -> Option<(&[u8], &[u8])>
     }
 }
 
-/// A line in two as by `halves`, with no search where its first field is of one byte, as that of most lines is.
+/// Returns a line in two as by `halves`, with no search where its first field is of one byte, as
+/// that of most lines is.
 #[tactic(auto, using(crate::proofs::Splits::word_of))]
 pub fn word_and_rest(line: &[u8]) -> Option<(&[u8], &[u8])>
     ensures { MatchOption result (fields_of line.now ≡ line.now ∷ [])
@@ -60,7 +62,7 @@ pub fn word_and_rest(line: &[u8]) -> Option<(&[u8], &[u8])>
     }
 }
 
-/// Three fields and no more.
+/// Returns three fields, if there are just three.
 pub fn three_of<'a>(fields: &[&'a [u8]]) -> Result<(&'a [u8], &'a [u8], &'a [u8]), FieldFault>
     ensures { seen (λ p. (p.0.now, p.1.now, p.2.now)) result ≡ three_of (map (λ field. field.now) fields.now) }
 {
@@ -70,7 +72,8 @@ pub fn three_of<'a>(fields: &[&'a [u8]]) -> Result<(&'a [u8], &'a [u8], &'a [u8]
     }
 }
 
-/// A decimal number of at most so many digits, and at most `most`. Leading zeros are digits.
+/// Returns a decimal number of at most so many digits, and at most `most`. Leading zeros are
+/// digits.
 pub fn number_in(digits: usize, most: u32, field: &[u8]) -> Result<u32, FieldFault>
     ensures value { result ≡ number_in digits most field.now }
     ensures bound { IfOk result (λ number. number ≤ most) }
@@ -91,7 +94,7 @@ pub fn number_in(digits: usize, most: u32, field: &[u8]) -> Result<u32, FieldFau
     Ok(number as u32)
 }
 
-/// A decimal number of 1 to 5 digits, at most 65,535.
+/// Returns a decimal number of 1 to 5 digits, at most 65,535.
 pub fn short_in(field: &[u8]) -> Result<u16, FieldFault>
     ensures { result ≡ short_in field.now }
 {
@@ -99,7 +102,7 @@ pub fn short_in(field: &[u8]) -> Result<u16, FieldFault>
     Ok(number as u16)
 }
 
-/// The bytes of a message: `-` for none, else hexadecimal.
+/// Returns the bytes of a message: `-` for none, else hexadecimal.
 pub fn bytes_in(alloc: Global, field: &[u8]) -> Result<Bytes, FieldFault>
     ensures { Gives (λ bytes. bytes) result (bytes_in field.now) }
 {

@@ -16,7 +16,7 @@ const ROOM: usize = 129;
 /// The digits, in upper case.
 const DIGITS: &[u8; 16] = b"0123456789ABCDEF";
 
-/// The digit of a number below 16.
+/// Returns the digit of a number below 16.
 fn digit(number: u8) -> u8
     requires { number < 16 }
     ensures { result ≡ slice_index upper_digits number }
@@ -36,7 +36,7 @@ fn fill(room: &mut [u8; ROOM], bytes: &[u8])
     }
 }
 
-/// Writes few bytes.
+/// Writes few bytes in hexadecimal.
 fn write_few<W: Write>(writer: &mut W, bytes: &[u8]) -> io::Result<()>
     requires { length bytes.now ≤ 64 }
     ensures { OnOk result (Appends (W.contents writer.old) (W.contents writer.new) (encode_upper bytes.now)) }

@@ -1,4 +1,4 @@
-//! An input in two: a plant file, and the script behind a line of three dashes.
+//! An input in two: a plant file, and the script after a line of three dashes.
 
 ghost use Rattle.std.specs.Prelude.{◌≡◌, ◌≤◌, length, true};
 ghost use Rattle.std.specs.Str.{is_utf8};
@@ -6,14 +6,14 @@ ghost use Rattle.script_format.specs.Input.{is_bar, before_bar, plant_text, scri
 
 use memchr::memchr;
 
-/// Whether a line of three dashes stands at the head of the bytes.
+/// Returns whether a line of three dashes is at the head of the bytes.
 fn is_bar(bytes: &[u8]) -> bool
     ensures { result ≡ is_bar bytes.now }
 {
     bytes == b"---".as_slice() || bytes.starts_with(b"---\n")
 }
 
-/// How many bytes stand before the first line of three dashes.
+/// Returns the number of bytes before the first line of three dashes.
 pub fn before_bar(input: &[u8]) -> usize
     ensures value { result ≡ before_bar true input.now }
     ensures inside { result ≤ length input.now }
@@ -32,7 +32,7 @@ pub fn before_bar(input: &[u8]) -> usize
     input.len()
 }
 
-/// What stands before that line.
+/// Returns what is before that line.
 #[tactic(auto, unfolding(crate::specs::Input::plant_text))]
 pub fn plant_text(input: &[u8], place: usize) -> &str
     requires utf8 { is_utf8 input.now ≡ true }
@@ -46,7 +46,7 @@ pub fn plant_text(input: &[u8], place: usize) -> &str
     }
 }
 
-/// What stands behind it.
+/// Returns what is after it.
 #[tactic(auto, unfolding(crate::specs::Input::script_text))]
 pub fn script_text(input: &[u8], place: usize) -> &[u8]
     requires place { place ≡ before_bar true input.now }

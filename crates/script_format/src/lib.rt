@@ -1,5 +1,4 @@
-//! The text of a script and of what a run puts out, line by line: what a line says, and what is written of an output. Both
-//! run ways read and write by these functions, and so does whoever takes a script one line at a time (`put_line`).
+//! The text of a script and of outputs, line by line: the steps that a line says, and the lines of a run.
 #![tactic(auto)]
 
 mod causes;

@@ -11,12 +11,12 @@ use memchr::memchr;
 use std::alloc::{AllocError, AllocFailed, Global};
 use tlv24::Bytes;
 
-/// Why lines are no messages.
+/// Why lines do not hold messages.
 #[derive(Clone, Copy, Debug, PartialEq, Eq)]
 pub enum LineFault {
-    /// The line of this number, counted from 1, is no message.
+    /// The line of this number, counted from 1, is not a message.
     Shape { number: u64 },
-    /// No memory was left.
+    /// Memory ran out before any effect.
     NoMemory,
 }
 
@@ -36,7 +36,7 @@ impl<T: Drop> From<AllocFailed<T>> for LineFault {
     }
 }
 
-/// The bytes from a place up to another.
+/// Returns the bytes from a place up to another.
 pub(crate) fn part(input: &[u8], start: usize, end: usize) -> &[u8]
     requires begun { start ≤ end }
     requires inside { end ≤ length input.now }
@@ -47,7 +47,7 @@ pub(crate) fn part(input: &[u8], start: usize, end: usize) -> &[u8]
     line
 }
 
-/// The parts of bytes: each mark ends one, and the last has none behind it.
+/// Returns the parts of bytes: each mark ends one, and the last has none after it.
 pub fn parts_of(alloc: Global, mark: u8, input: &[u8]) -> Result<Vec<&[u8]>, AllocError>
     ensures { IfOk result (λ parts. map (λ part. part.now) parts.items ≡ parts_of mark input.now) }
 {
@@ -56,7 +56,7 @@ pub fn parts_of(alloc: Global, mark: u8, input: &[u8]) -> Result<Vec<&[u8]>, All
     Ok(parts)
 }
 
-/// The parts of bytes, in the place of those that are there.
+/// Returns the parts of bytes, in the place of those that are there.
 pub fn put_parts<'a>(mark: u8, input: &'a [u8], parts: &mut Vec<&'a [u8]>) -> Result<(), AllocError>
     ensures { OnOk result (map (λ part. part.now) parts.new.items ≡ parts_of mark input.now) }
 {
@@ -70,7 +70,7 @@ pub fn put_parts<'a>(mark: u8, input: &'a [u8], parts: &mut Vec<&'a [u8]>) -> Re
     Ok(())
 }
 
-/// The message in a line that is not empty; none where it is no message.
+/// Returns the message in a line that is not empty; none where it is not a message.
 #[inline(always)]
 pub fn message_in(alloc: Global, line: &[u8]) -> Result<Option<Bytes>, AllocError>
     ensures { IfOk result (λ message. message ≡ message_in line.now) }
@@ -89,7 +89,7 @@ pub fn message_in(alloc: Global, line: &[u8]) -> Result<Option<Bytes>, AllocErro
     }
 }
 
-/// The messages in lines; empty lines are counted and say nothing.
+/// Returns the messages in lines; empty lines are counted and say nothing.
 pub fn messages_of(alloc: Global, lines: &[&[u8]]) -> Result<Vec<Bytes>, LineFault>
     ensures { Gives result (messages_of (map (λ line. line.now) lines.now)) }
 {

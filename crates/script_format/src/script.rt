@@ -32,7 +32,7 @@ pub struct Sender {
     pub op: Op,
 }
 
-/// A modem of the plant by its address.
+/// Returns a modem of the plant by its address.
 #[tactic(auto, unfolding(crate::specs::Script::sender_in))]
 #[inline(always)]
 fn sender_in(plant: &Plant, field: &[u8]) -> Result<Sender, FieldFault>
@@ -49,7 +49,8 @@ fn sender_in(plant: &Plant, field: &[u8]) -> Result<Sender, FieldFault>
     }
 }
 
-/// The sender in a line's first field, and what stands behind it. An address has 12 digits: no space is searched for.
+/// Returns the sender in a line's first field, and what is after it. An address has 12 digits: no
+/// space is searched for.
 #[tactic(auto, using(crate::proofs::FirstFields::sender_lacks, crate::proofs::FirstFields::sender_unparted))]
 #[inline(always)]
 fn sender_first<'a>(plant: &Plant, line: &'a [u8]) -> Result<(Sender, &'a [u8]), FieldFault>
@@ -64,21 +65,21 @@ fn sender_first<'a>(plant: &Plant, line: &'a [u8]) -> Result<(Sender, &'a [u8]),
     }
 }
 
-/// Whether an operator has this name.
+/// Returns whether an operator has this name.
 fn is_named(row: &OperatorRow, name: &[u8]) -> bool
     ensures { result ≡ is_named name.now row.now }
 {
     row.get_fields().name.as_slice() == name
 }
 
-/// The first operator of this name.
+/// Returns the first operator of this name.
 pub fn place_of(rows: &[OperatorRow], name: &[u8]) -> Option<Op>
     ensures { result ≡ position_from (is_named name.now) 0 rows.now }
 {
     rows.iter().position(|row| is_named(row, name))
 }
 
-/// An operator of the plant by its name.
+/// Returns an operator of the plant by its name.
 fn operator_in(plant: &Plant, field: &[u8]) -> Result<Op, FieldFault>
     ensures { result ≡ operator_in plant.now field.now }
 {
@@ -88,7 +89,7 @@ fn operator_in(plant: &Plant, field: &[u8]) -> Result<Op, FieldFault>
     }
 }
 
-/// The steps of what is heard of a modem.
+/// Returns the steps of what is received of a modem.
 #[inline(always)]
 fn put_heard(
     number: u64,
@@ -108,7 +109,7 @@ fn put_heard(
     Ok(())
 }
 
-/// The steps of a message.
+/// Returns the steps of a message.
 #[tactic(auto, using(crate::proofs::FirstFields::message_stop, crate::proofs::FirstFields::message_read, crate::proofs::FirstFields::message_unread))]
 #[inline(always)]
 fn put_message(
@@ -127,7 +128,7 @@ fn put_message(
     put_heard(number, sender, Heard::Message(bytes), steps)
 }
 
-/// The steps of a request for minislots.
+/// Returns the steps of a request for minislots.
 #[tactic(auto, using(crate::proofs::FirstFields::request_stop, crate::proofs::FirstFields::request_alone, crate::proofs::FirstFields::request_sid_unread, crate::proofs::FirstFields::request_unread, crate::proofs::FirstFields::request_read))]
 #[inline(always)]
 fn put_request(
@@ -149,7 +150,7 @@ fn put_request(
     put_heard(number, sender, Heard::Request { sid, minislots }, steps)
 }
 
-/// The steps of one operator's tick.
+/// Returns the steps of one operator's tick.
 fn put_tick(number: u64, op: Op, steps: &mut Vec<LineStep>) -> Result<(), FieldFault>
     ensures said { Gives (λ _. steps.new.items) result (behind steps.old.items (Ok (tick_steps number op))) }
     ensures memory { IfErr result (λ fault. fault ≡ NoMemory) }
@@ -161,7 +162,7 @@ fn put_tick(number: u64, op: Op, steps: &mut Vec<LineStep>) -> Result<(), FieldF
     Ok(())
 }
 
-/// The steps of a tick of each operator in order.
+/// Returns the steps of a tick of each operator in order.
 fn put_all_ticks(
     number: u64,
     rows: &[OperatorRow],
@@ -176,7 +177,7 @@ fn put_all_ticks(
     Ok(())
 }
 
-/// The steps of an operator's tick by its name.
+/// Returns the steps of an operator's tick by its name.
 #[tactic(auto, unfolding(crate::specs::Script::ticked_steps))]
 fn put_ticked(
     plant: &Plant,
@@ -197,7 +198,7 @@ fn put_ticked(
     }
 }
 
-/// A slice and a budget.
+/// Returns a slice and a budget.
 #[tactic(auto, unfolding(crate::specs::Script::share_in))]
 fn share_in(alloc: Global, field: &[u8]) -> Result<SliceRow, FieldFault>
     ensures { Gives (λ row. row) result (share_in field.now) }
@@ -211,7 +212,7 @@ fn share_in(alloc: Global, field: &[u8]) -> Result<SliceRow, FieldFault>
     })
 }
 
-/// The slices and budgets of fields.
+/// Returns the slices and budgets of fields.
 fn shares_of(alloc: Global, fields: &[&[u8]]) -> Result<SliceRows, FieldFault>
     ensures { Gives (λ rows. rows) result (shares_after [] (map (λ field. field.now) fields.now)) }
 {
@@ -225,7 +226,7 @@ fn shares_of(alloc: Global, fields: &[&[u8]]) -> Result<SliceRows, FieldFault>
     Ok(SliceRows::from_vec(rows))
 }
 
-/// A slice and a budget for each operator.
+/// Returns a slice and a budget for each operator.
 fn shares_in(alloc: Global, plant: &Plant, fields: &[&[u8]]) -> Result<SliceRows, FieldFault>
     ensures { Gives (λ rows. rows) result (shares_in plant.now (map (λ field. field.now) fields.now)) }
 {
@@ -236,7 +237,7 @@ fn shares_in(alloc: Global, plant: &Plant, fields: &[&[u8]]) -> Result<SliceRows
     }
 }
 
-/// The step of a re-slicing.
+/// Returns the step of a slice change.
 #[tactic(auto, unfolding(crate::specs::Script::resliced_steps))]
 fn put_resliced(
     alloc: Global,
@@ -259,7 +260,7 @@ fn put_resliced(
     Ok(())
 }
 
-/// The steps of a line of one field.
+/// Returns the steps of a line of one field.
 fn put_alone(
     plant: &Plant,
     number: u64,
@@ -277,7 +278,7 @@ fn put_alone(
     }
 }
 
-/// The steps of a line by its first field, of which the others are these.
+/// Returns the steps of a line by its first field, of which the others are these.
 #[tactic(auto, unfolding(crate::specs::Script::steps_in))]
 #[inline(always)]
 fn put_word<'a>(
@@ -307,8 +308,8 @@ fn put_word<'a>(
     }
 }
 
-/// The steps of a line, behind those that are there; an empty one says nothing. The fields are room for the line's parts, to be
-/// used again for the next line.
+/// Returns the steps of a line, after those that are there; an empty one says nothing. The fields
+/// are room for the line's parts, to be used again for the next line.
 #[tactic(auto, unfolding(crate::specs::Script::line_steps))]
 pub fn put_line<'a>(
     alloc: Global,
@@ -330,7 +331,7 @@ pub fn put_line<'a>(
     }
 }
 
-/// The steps of lines, each with its line's number; or the first line at fault.
+/// Returns the steps of lines, each with its line's number; or the first invalid line.
 fn steps_of_lines(alloc: Global, plant: &Plant, lines: &[&[u8]]) -> Result<Vec<LineStep>, LineFault>
     ensures { GivesSteps result (steps_after plant.now 1 [] (map (λ line. line.now) lines.now)) }
 {
@@ -348,7 +349,7 @@ fn steps_of_lines(alloc: Global, plant: &Plant, lines: &[&[u8]]) -> Result<Vec<L
     Ok(steps)
 }
 
-/// The steps of a script, each with its line's number; or the first line at fault.
+/// Returns the steps of a script, each with its line's number; or the first invalid line.
 #[tactic(auto, unfolding(crate::specs::Script::steps_of))]
 pub fn steps_of(alloc: Global, plant: &Plant, script: &[u8]) -> Result<Vec<LineStep>, LineFault>
     ensures { GivesSteps result (steps_of plant.now script.now) }

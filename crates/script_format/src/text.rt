@@ -1,4 +1,4 @@
-//! The text of what a run puts out, and of an operator's own steps.
+//! The text of what a run outputs, and of an operator's own steps.
 
 ghost use Rattle.std.specs.Prelude.{◌≡◌, [], ◌∷◌, ◌++◌, codes, slice_get, OnOk};
 ghost use Rattle.std.specs.List.{flat_map};
@@ -17,7 +17,7 @@ use plant::{Op, Plant};
 use slice_scheduler::{Elements, Span};
 use std::alloc::{AllocError, Global};
 
-/// Spans, each behind a space.
+/// Adds spans, each after a space.
 fn put_spans(text: &mut String, spans: &[Span]) -> Result<(), AllocError>
     ensures { OnOk result (string_bytes text.new ≡ string_bytes text.old
         ++ flat_map (λ span. spaced (span_text span)) spans.now) }
@@ -28,7 +28,7 @@ fn put_spans(text: &mut String, spans: &[Span]) -> Result<(), AllocError>
     Ok(())
 }
 
-/// The SIDs of grants pending, each behind a space.
+/// Adds the SIDs of grants pending, each after a space.
 fn put_pending(text: &mut String, pending: &[u16]) -> Result<(), AllocError>
     ensures { OnOk result (string_bytes text.new ≡ string_bytes text.old
         ++ flat_map (λ sid. spaced (pending_text sid)) pending.now) }
@@ -39,7 +39,7 @@ fn put_pending(text: &mut String, pending: &[u16]) -> Result<(), AllocError>
     Ok(())
 }
 
-/// The elements of a frame, each behind a space.
+/// Adds the elements of a frame, each after a space.
 fn put_elements(text: &mut String, elements: &Elements) -> Result<(), AllocError>
     ensures { OnOk result (string_bytes text.new ≡ string_bytes text.old ++ elements_text elements.now) }
 {
@@ -47,7 +47,7 @@ fn put_elements(text: &mut String, elements: &Elements) -> Result<(), AllocError
     put_pending(text, elements.get_pending())
 }
 
-/// The name of an operator.
+/// Returns the name of an operator.
 pub fn put_name(text: &mut String, plant: &Plant, op: Op) -> Result<(), AllocError>
     ensures { OnOk result (string_bytes text.new ≡ string_bytes text.old ++ named (slice_get plant.now.rows op)) }
 {
@@ -60,7 +60,7 @@ pub fn put_name(text: &mut String, plant: &Plant, op: Op) -> Result<(), AllocErr
     }
 }
 
-/// The address of a modem; a dash for none.
+/// Returns the address of a modem; a dash for none.
 fn put_sender(text: &mut String, modem: Option<Modem>) -> Result<(), AllocError>
     ensures { OnOk result (string_bytes text.new ≡ string_bytes text.old ++ sender_text modem) }
 {
@@ -70,7 +70,7 @@ fn put_sender(text: &mut String, modem: Option<Modem>) -> Result<(), AllocError>
     }
 }
 
-/// The line of a cause for which nothing is answered.
+/// Returns the line of a cause for which nothing is answered.
 fn put_silent(text: &mut String, modem: Option<Modem>, cause: Cause) -> Result<(), AllocError>
     ensures { OnOk result (string_bytes text.new ≡ string_bytes text.old ++ output_line [] (Silent modem cause)) }
 {
@@ -80,7 +80,7 @@ fn put_silent(text: &mut String, modem: Option<Modem>, cause: Cause) -> Result<(
     write!(text, " {name}\n")
 }
 
-/// The line of a MAP.
+/// Returns the line of a MAP.
 pub fn put_map(alloc: Global, text: &mut String, made: &MapBytes) -> Result<(), AllocError>
     ensures { OnOk result (string_bytes text.new ≡ string_bytes text.old ++ map_line made.now) }
 {
@@ -89,7 +89,7 @@ pub fn put_map(alloc: Global, text: &mut String, made: &MapBytes) -> Result<(), 
     write!(text, "MAP {frame} {digits}\n")
 }
 
-/// The rest of a reply's line.
+/// Returns the rest of a reply's line.
 fn put_rest(text: &mut String, reply: &str) -> Result<(), AllocError>
     ensures { OnOk result (string_bytes text.new ≡ string_bytes text.old
         ++ (codes " " ++ (reply.now ++ 10 ∷ []))) }
@@ -99,7 +99,7 @@ fn put_rest(text: &mut String, reply: &str) -> Result<(), AllocError>
     text.push_str("\n")
 }
 
-/// The line of a reply.
+/// Returns the line of a reply.
 fn put_reply(text: &mut String, modem: Modem, reply: &str) -> Result<(), AllocError>
     ensures { OnOk result (string_bytes text.new ≡ string_bytes text.old
         ++ (codes "R " ++ (address modem ++ (codes " " ++ (reply.now ++ 10 ∷ []))))) }
@@ -109,7 +109,7 @@ fn put_reply(text: &mut String, modem: Modem, reply: &str) -> Result<(), AllocEr
     put_rest(text, reply)
 }
 
-/// The line of an operator's output.
+/// Returns the line of an operator's output.
 pub fn put_output(
     alloc: Global,
     text: &mut String,
@@ -136,7 +136,7 @@ pub fn put_output(
     }
 }
 
-/// The line of what was heard of a modem.
+/// Returns the line of what was received of a modem.
 fn put_heard(
     alloc: Global,
     text: &mut String,
@@ -157,7 +157,7 @@ fn put_heard(
     }
 }
 
-/// The line of an action.
+/// Returns the line of an action.
 fn put_action(alloc: Global, text: &mut String, action: &Action) -> Result<(), AllocError>
     ensures { OnOk result (string_bytes text.new ≡ string_bytes text.old ++ action_line action.now) }
 {
@@ -176,7 +176,7 @@ fn put_action(alloc: Global, text: &mut String, action: &Action) -> Result<(), A
     }
 }
 
-/// The lines of the actions of a history.
+/// Returns the lines of the actions of a history.
 pub fn put_actions(alloc: Global, text: &mut String, history: &[Entry]) -> Result<(), AllocError>
     ensures { OnOk result (string_bytes text.new ≡ string_bytes text.old ++ actions_text (actions_of history.now)) }
 {

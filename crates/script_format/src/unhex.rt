@@ -3,7 +3,7 @@
 ghost use Rattle.std.specs.Prelude.{◌≡◌, ◌*◌, true, false, length, unwrap_or, MatchResult};
 ghost use Rattle.hex.specs.Hex.{hex_digit_value, decode_sized};
 
-/// The value of each byte as a digit, in either case; 255 for what is no digit.
+/// The value of each byte as a digit, in either case; 255 for what is not a digit.
 const VALUES: &[u8; 256] = &[
     255, 255, 255, 255, 255, 255, 255, 255, 255, 255, 255, 255, 255, 255, 255, 255, 255, 255, 255,
     255, 255, 255, 255, 255, 255, 255, 255, 255, 255, 255, 255, 255, 255, 255, 255, 255, 255, 255,
@@ -21,15 +21,15 @@ const VALUES: &[u8; 256] = &[
     255, 255, 255,
 ];
 
-/// The value of a digit; 255 for what is no digit.
+/// Returns the value of a digit; 255 for what is not a digit.
 fn value(digit: u8) -> u8
     ensures { result ≡ unwrap_or (hex_digit_value digit) 255 }
 {
     VALUES[digit as usize]
 }
 
-/// Puts the bytes that pairs of digits say into room for so many. False where one is no digit; the room then holds no
-/// message.
+/// Puts the bytes that pairs of digits say into room for so many. False where one is not a digit;
+/// the room then holds no message.
 pub(crate) fn decode_into(digits: &[u8], room: &mut [u8]) -> bool
     requires { length digits.now ≡ 2 * length room.old }
     ensures { MatchResult (decode_sized digits.now (length room.old))

@@ -1,4 +1,4 @@
-//! The text of what is put out, written where it is made: no memory is taken for it.
+//! The text of what is output, written where it is made: no memory is taken for it.
 
 ghost use Rattle.std.specs.Prelude.{◌≤◌, ◌++◌, ◌∷◌, [], length, codes, slice_get, OnOk};
 ghost use Rattle.std.specs.Io.KnownBytes.{Appends};
@@ -22,14 +22,14 @@ use slice_scheduler::{Elements, Span};
 use std::io;
 use std::io::Write;
 
-/// The address of a modem.
+/// Returns the address of a modem.
 fn write_address<W: Write>(writer: &mut W, modem: Modem) -> io::Result<()>
     ensures { OnOk result (Appends (W.contents writer.old) (W.contents writer.new) (address modem)) }
 {
     writer.write_all(&address_digits(modem))
 }
 
-/// Few spans, each behind a space.
+/// Writes few spans, each after a space.
 fn write_few_spans<W: Write>(writer: &mut W, spans: &[Span]) -> io::Result<()>
     requires { length spans.now ≤ 32 }
     ensures { OnOk result (Appends (W.contents writer.old) (W.contents writer.new)
@@ -40,7 +40,7 @@ fn write_few_spans<W: Write>(writer: &mut W, spans: &[Span]) -> io::Result<()>
     writer.write_all(&room[place..])
 }
 
-/// Spans, each behind a space.
+/// Writes spans, each after a space.
 fn write_spans<W: Write>(writer: &mut W, spans: &[Span]) -> io::Result<()>
     ensures { OnOk result (Appends (W.contents writer.old) (W.contents writer.new)
         (flat_map (λ span. spaced (span_text span)) spans.now)) }
@@ -53,7 +53,7 @@ fn write_spans<W: Write>(writer: &mut W, spans: &[Span]) -> io::Result<()>
     write_few_spans(writer, &spans[place..])
 }
 
-/// Few grants pending, each behind a space.
+/// Writes few grants pending, each after a space.
 fn write_few_pending<W: Write>(writer: &mut W, pending: &[u16]) -> io::Result<()>
     requires { length pending.now ≤ 32 }
     ensures { OnOk result (Appends (W.contents writer.old) (W.contents writer.new)
@@ -64,7 +64,7 @@ fn write_few_pending<W: Write>(writer: &mut W, pending: &[u16]) -> io::Result<()
     writer.write_all(&room[place..])
 }
 
-/// The SIDs of grants pending, each behind a space.
+/// Writes the SIDs of grants pending, each after a space.
 fn write_pending<W: Write>(writer: &mut W, pending: &[u16]) -> io::Result<()>
     ensures { OnOk result (Appends (W.contents writer.old) (W.contents writer.new)
         (flat_map (λ sid. spaced (pending_text sid)) pending.now)) }
@@ -77,7 +77,7 @@ fn write_pending<W: Write>(writer: &mut W, pending: &[u16]) -> io::Result<()>
     write_few_pending(writer, &pending[place..])
 }
 
-/// The elements of a frame, each behind a space.
+/// Writes the elements of a frame, each after a space.
 fn write_elements<W: Write>(writer: &mut W, elements: &Elements) -> io::Result<()>
     ensures { OnOk result (Appends (W.contents writer.old) (W.contents writer.new) (elements_text elements.now)) }
 {
@@ -85,7 +85,7 @@ fn write_elements<W: Write>(writer: &mut W, elements: &Elements) -> io::Result<(
     write_pending(writer, elements.get_pending())
 }
 
-/// The name of an operator.
+/// Returns the name of an operator.
 fn write_name<W: Write>(writer: &mut W, plant: &Plant, op: Op) -> io::Result<()>
     ensures { OnOk result (Appends (W.contents writer.old) (W.contents writer.new) (named (slice_get plant.now.rows op))) }
 {
@@ -95,7 +95,7 @@ fn write_name<W: Write>(writer: &mut W, plant: &Plant, op: Op) -> io::Result<()>
     }
 }
 
-/// The address of a modem; a dash for none.
+/// Returns the address of a modem; a dash for none.
 fn write_sender<W: Write>(writer: &mut W, modem: Option<Modem>) -> io::Result<()>
     ensures { OnOk result (Appends (W.contents writer.old) (W.contents writer.new) (sender_text modem)) }
 {
@@ -105,7 +105,7 @@ fn write_sender<W: Write>(writer: &mut W, modem: Option<Modem>) -> io::Result<()
     }
 }
 
-/// The line of a cause for which nothing is answered.
+/// Returns the line of a cause for which nothing is answered.
 fn write_silent<W: Write>(writer: &mut W, modem: Option<Modem>, cause: Cause) -> io::Result<()>
     ensures { OnOk result (Appends (W.contents writer.old) (W.contents writer.new) (output_line [] (Silent modem cause))) }
 {
@@ -116,7 +116,7 @@ fn write_silent<W: Write>(writer: &mut W, modem: Option<Modem>, cause: Cause) ->
     writer.write_all(b"\n")
 }
 
-/// The line of a reply.
+/// Returns the line of a reply.
 fn write_reply<W: Write>(writer: &mut W, modem: Modem, bytes: &[u8]) -> io::Result<()>
     ensures { OnOk result (Appends (W.contents writer.old) (W.contents writer.new)
         (codes "R " ++ (address modem ++ (codes " " ++ (encode_upper bytes.now ++ 10 ∷ []))))) }
@@ -125,7 +125,7 @@ fn write_reply<W: Write>(writer: &mut W, modem: Modem, bytes: &[u8]) -> io::Resu
     write_hex_line(writer, bytes)
 }
 
-/// The line of a frame of an operator.
+/// Returns the line of a frame of an operator.
 fn write_frame<W: Write>(
     writer: &mut W,
     plant: &Plant,
@@ -143,7 +143,7 @@ fn write_frame<W: Write>(
     writer.write_all(b"\n")
 }
 
-/// The line of an operator's output.
+/// Returns the line of an operator's output.
 fn write_output<W: Write>(writer: &mut W, plant: &Plant, op: Op, output: &Output) -> io::Result<()>
     ensures { OnOk result (Appends (W.contents writer.old) (W.contents writer.new)
         (output_line (named (slice_get plant.now.rows op)) output.now)) }
@@ -155,7 +155,7 @@ fn write_output<W: Write>(writer: &mut W, plant: &Plant, op: Op, output: &Output
     }
 }
 
-/// The line of a MAP.
+/// Returns the line of a MAP.
 fn write_map<W: Write>(writer: &mut W, made: &MapBytes) -> io::Result<()>
     ensures { OnOk result (Appends (W.contents writer.old) (W.contents writer.new) (map_line made.now)) }
 {
@@ -164,7 +164,7 @@ fn write_map<W: Write>(writer: &mut W, made: &MapBytes) -> io::Result<()>
     write_hex_line(writer, made.bytes.as_slice())
 }
 
-/// The line of an output.
+/// Returns the line of an output.
 fn write_out<W: Write>(writer: &mut W, plant: &Plant, out: &Out) -> io::Result<()>
     ensures { OnOk result (Appends (W.contents writer.old) (W.contents writer.new) (out_line plant.now out.now)) }
 {
@@ -174,7 +174,7 @@ fn write_out<W: Write>(writer: &mut W, plant: &Plant, out: &Out) -> io::Result<(
     }
 }
 
-/// Writes the lines of outputs. Takes no memory of its own, so want of memory loses none of them.
+/// Writes the lines of outputs. Takes no memory of its own, so out of memory loses none of them.
 pub fn write_outs<W: Write>(writer: &mut W, plant: &Plant, outs: &[Out]) -> io::Result<()>
     ensures { OnOk result (Appends (W.contents writer.old) (W.contents writer.new) (outs_text plant.now outs.now)) }
 {
