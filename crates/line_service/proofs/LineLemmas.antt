@@ -1,6 +1,6 @@
 -- What a line is answered.
 use Rattle.run_model.specs.Starts.{Start}
-use Rattle.std.proofs.Common.{◌≡◌, ℕ, List, [], ◌++◌, take, length, arith, ◌<◌, ◌≤◌, Bool, true, false, nat_le, Option, Some, None, Ok, Err, refl, sym, subst, append-nil}
+use Rattle.std.proofs.Common.{◌≡◌, inl, inr, ℕ, List, [], ◌++◌, take, length, arith, ◌<◌, ◌≤◌, Bool, true, false, nat_le, Option, Some, None, Ok, Err, refl, sym, subst, ◌∙◌, append-nil}
 use Rattle.std.proofs.lemmas.Bool.Decides.{nat_tests}
 use Rattle.std.specs.Prelude.{slice_get}
 use Rattle.std.specs.Io.KnownBytes.{Appends}
@@ -21,7 +21,7 @@ use Rattle.line_service.specs.declared.line_outcome.LineOutcome.TheVariants.{AtF
 use Rattle.line_service.specs.declared.steps_end.StepsEnd.{StepsEnd}
 use Rattle.line_service.specs.declared.steps_end.StepsEnd.TheVariants as ends
 use Rattle.line_service.specs.Ends.{line_outcome}
-use Rattle.line_service.specs.Service.{Answered, steps_said, end_text, IsEndAt, EndsAs}
+use Rattle.line_service.specs.Service.{Answered, steps_said, end_text, IsEndAt, IsNotDone, EndsAs}
 use Rattle.line_service.specs.Steps.{IsStepsEndAt, HasDone}
 use Rattle.line_service.specs.SoFar.{IsHeld, HasAnswered, IsAnswered}
 
@@ -29,10 +29,17 @@ use Rattle.line_service.specs.SoFar.{IsHeld, HasAnswered, IsAnswered}
 ends_so : (live : CoreView) (next : Option LineStep) (end : StepsEnd) → IsStepsEndAt live next end → IsEndAt live next (line_outcome end)
 ends_so live None ends.Done is = tt
 ends_so live None (ends.Refused number) is = is
-ends_so live None ends.NoMemory is = tt
+ends_so live None ends.NoMemory is = is
 ends_so live (Some line) ends.Done is = is
 ends_so live (Some line) (ends.Refused number) is = is.1
-ends_so live (Some line) ends.NoMemory is = tt
+ends_so live (Some line) ends.NoMemory is = is
+
+-- a line that is too long says no steps
+short_enough : (plant : PlantFields) (number : ℕ) (line : List ℕ) (steps : List LineStep) → steps_said plant number line ≡ Ok steps → 4096 < length line → ⊥
+short_enough plant number line steps said long =
+    let over : nat_le (length line) 4096 ≡ false = grind (arith, nat_tests, long) in
+    let none : steps_said plant number line ≡ Err Shape = rw over refl in
+    let wrong : ◌≡◌ {A = Read (List LineStep)} (Err Shape) (Ok steps) = sym none ∙ said in cc
 
 -- a line that says steps
 pub steps_answered : (plant : PlantFields) (start : Start) (before : List Step) (shown : List Out) (number : ℕ) (line : List ℕ) (steps : List LineStep) (live : CoreView) (end : StepsEnd) (w0 w1 : Option (List ℕ))
@@ -42,7 +49,8 @@ steps_answered plant start before shown number line steps live end w0 w1 said ha
   is = record {
     after = has.after;
     ends = subst (λ (r : Read (List LineStep)). EndsAs r live (record { done = unnumbered (take has.at steps); told = has.told; end = line_outcome end })) (sym said)
-        (has.at, refl, ends_so live (slice_get steps has.at) end has.ends);
+        (inr (record { at = has.at; done_are = refl; ends = ends_so live (slice_get steps has.at) end has.ends }));
+    too_long = λ long. absurd (short_enough plant number line steps said long);
   };
   end_is = refl;
   written = has.written;
@@ -55,26 +63,37 @@ unchanged plant start before shown live after =
 abbrev nothing : LineOutcome → Answered
 nothing end = record { done = []; told = []; end = end }
 
+not_done : (end : LineOutcome) → IsNotDone end (nothing end)
+not_done end = record { none_done = refl; none_told = refl; end_is = refl }
+
 -- a line that says none
 pub none_answered : (plant : PlantFields) (start : Start) (before : List Step) (shown : List Out) (number : ℕ) (line : List ℕ) (fault : FieldFault) (live : CoreView) (known : Option (List ℕ))
     → IsAfterFrom plant start before shown live → steps_said plant number line ≡ Err fault → HasAnswered plant start before shown number line live AtFault known known
 none_answered plant start before shown number line fault live known after said = record {
   answered = nothing AtFault;
-  is = record { after = unchanged plant start before shown live after; ends = subst (λ (r : Read (List LineStep)). EndsAs r live (nothing AtFault)) (sym said) (refl, refl, tt) };
+  is = record {
+    after = unchanged plant start before shown live after;
+    ends = subst (λ (r : Read (List LineStep)). EndsAs r live (nothing AtFault)) (sym said) (inr (not_done AtFault));
+    too_long = λ long. not_done AtFault;
+  };
   end_is = refl;
   written = Appends-nil known;
 }
 
-ends_wanting : (said : Read (List LineStep)) (live : CoreView) → EndsAs said live (nothing NoMemory)
-ends_wanting (Ok steps) live = (0, refl, tt)
-ends_wanting (Err fault) live = (refl, refl, tt)
+not_parsed : (said : Read (List LineStep)) (live : CoreView) → EndsAs said live (nothing NoMemory)
+not_parsed (Ok steps) live = inl (not_done NoMemory)
+not_parsed (Err fault) live = inl (not_done NoMemory)
 
--- memory is wanting for the line itself
+-- an allocation failed while the line was parsed, which is not too long
 pub memory_answered : (plant : PlantFields) (start : Start) (before : List Step) (shown : List Out) (number : ℕ) (line : List ℕ) (live : CoreView) (known : Option (List ℕ))
-    → IsAfterFrom plant start before shown live → HasAnswered plant start before shown number line live NoMemory known known
-memory_answered plant start before shown number line live known after = record {
+    → IsAfterFrom plant start before shown live → length line ≤ 4096 → HasAnswered plant start before shown number line live NoMemory known known
+memory_answered plant start before shown number line live known after few = record {
   answered = nothing NoMemory;
-  is = record { after = unchanged plant start before shown live after; ends = ends_wanting (steps_said plant number line) live };
+  is = record {
+    after = unchanged plant start before shown live after;
+    ends = not_parsed (steps_said plant number line) live;
+    too_long = λ long. absurd (omega (arith, few, long));
+  };
   end_is = refl;
   written = Appends-nil known;
 }

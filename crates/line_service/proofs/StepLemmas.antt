@@ -1,6 +1,6 @@
 -- The steps of a line, one after the other.
 use Rattle.run_model.specs.Starts.{Start}
-use Rattle.std.proofs.Common.{◌≡◌, ◌≢◌, ◌⊎◌, inl, inr, Result, Ok, OnOk, ℕ, zero, suc, List, [], ◌∷◌, ◌++◌, take, Option, Some, IsSome, Err, refl, sym, ap, subst, ◌∙◌, append_assoc, append-nil}
+use Rattle.std.proofs.Common.{◌≡◌, ◌≢◌, Result, Ok, OnOk, ℕ, zero, suc, List, [], ◌∷◌, ◌++◌, take, Option, Some, IsSome, Err, refl, sym, ap, subst, ◌∙◌, append_assoc, append-nil}
 use Rattle.std.specs.Io.KnownBytes.{Appends}
 use Rattle.std.proofs.KnownBytes.{Appends-nil, Appends-trans}
 use Rattle.std.proofs.lemmas.List.{map-append}
@@ -19,7 +19,8 @@ use Rattle.script_format.specs.Text.{out_line, outs_text}
 use Rattle.line_service.specs.declared.steps_end.StepsEnd.{StepsEnd}
 use Rattle.line_service.specs.declared.steps_end.StepsEnd.TheVariants as ends
 use Rattle.line_service.specs.SoFar.{IsHalfDone}
-use Rattle.line_service.specs.Steps.{HasDone}
+use Rattle.line_service.specs.Ends.{steps_end}
+use Rattle.line_service.specs.Steps.{IsStepsEndAt, HasDone}
 use Rattle.line_service.proofs.LeftLemmas.{first_left, none_left, take_next, drop_next}
 
 -- ---- one step more
@@ -88,12 +89,6 @@ all_are_done plant start before shown steps live w0 w1 left half none = record {
   written = half.written;
 }
 
-memory_wants : (plant : PlantFields) (start : Start) (before : List Step) (shown : List Out) (steps : List LineStep) (old live : CoreView) (w0 w1 : Option (List ℕ)) (left : List LineStep)
-    → IsHalfDone plant start before shown steps old w0 w1 left → live ≡ old → HasDone plant start before shown steps live ends.NoMemory w0 w1
-memory_wants plant start before shown steps old live w0 w1 left half same =
-    subst (λ (c : CoreView). HasDone plant start before shown steps c ends.NoMemory w0 w1) (sym same)
-    (record { at = half.at; told = half.told; after = half.after; ends = tt; written = half.written })
-
 -- a fault that is told, other than want of memory
 pub fault_is_told : (A : Type 0) (fault : CoreFault) (reason : Option CoreFault) → IsTold {A = A} (Err fault) reason → fault ≢ NoMemory → reason ≡ Some fault
 fault_is_told A (UnknownModem modem) reason told other = told
@@ -104,23 +99,32 @@ fault_is_told A (NothingToCollect op) reason told other = told
 fault_is_told A NoMemory reason told other = absurd (other refl)
 fault_is_told A (Reslice refused) reason told other = told
 
-step_is_refused : (plant : PlantFields) (start : Start) (before : List Step) (shown : List Out) (steps : List LineStep) (old live : CoreView) (w0 w1 : Option (List ℕ)) (line : LineStep) (rest : List LineStep)
-    (A : Type 0) (fault : CoreFault) → IsHalfDone plant start before shown steps old w0 w1 (line ∷ rest) → live ≡ old → IsTold {A = A} (Err fault) (step_fault old line.step) → fault ≢ NoMemory
-    → HasDone plant start before shown steps live (ends.Refused line.number) w0 w1
-step_is_refused plant start before shown steps old live w0 w1 line rest A fault half same told other =
-    let refused : step_fault old line.step ≡ Some fault = fault_is_told A fault (step_fault old line.step) told other in
-    let some : IsSome (step_fault old line.step) = rw refused refl in
-    subst (λ (c : CoreView). HasDone plant start before shown steps c (ends.Refused line.number) w0 w1) (sym same)
-    (record { at = half.at; told = half.told; after = half.after; ends = rw (first_left steps half.at line rest half.left_are) (refl, some); written = half.written })
+is_some_of : {fault : CoreFault} {reason : Option CoreFault} → reason ≡ Some fault → IsSome reason
+is_some_of is = rw is refl
+
+-- a step that the core does not do is refused, or it is not and memory ran out
+pub ends_at : (A : Type 0) (live : CoreView) (line : LineStep) (fault : CoreFault) → IsTold {A = A} (Err fault) (step_fault live line.step) → IsStepsEndAt live (Some line) (steps_end line.number fault)
+ends_at A live line (UnknownModem modem) told = (refl, is_some_of told)
+ends_at A live line (UnknownOperator op) told = (refl, is_some_of told)
+ends_at A live line (Book refused) told = (refl, is_some_of told)
+ends_at A live line (Gather refused) told = (refl, is_some_of told)
+ends_at A live line (NothingToCollect op) told = (refl, is_some_of told)
+ends_at A live line NoMemory told = told
+ends_at A live line (Reslice refused) told = (refl, is_some_of told)
 
 -- steps end where one is not done
 pub step_not_done : (plant : PlantFields) (start : Start) (before : List Step) (shown : List Out) (steps : List LineStep) (old live : CoreView) (w0 w1 : Option (List ℕ)) (line : LineStep) (rest : List LineStep)
     (A : Type 0) (fault : CoreFault) (end : StepsEnd) → IsHalfDone plant start before shown steps old w0 w1 (line ∷ rest) → live ≡ old → IsTold {A = A} (Err fault) (step_fault old line.step)
-    → (end ≡ ends.NoMemory) ⊎ ((end ≡ ends.Refused line.number) × (fault ≢ NoMemory)) → HasDone plant start before shown steps live end w0 w1
-step_not_done plant start before shown steps old live w0 w1 line rest A fault end half same told (inl wants) =
-    subst (λ (e : StepsEnd). HasDone plant start before shown steps live e w0 w1) (sym wants) (memory_wants plant start before shown steps old live w0 w1 (line ∷ rest) half same)
-step_not_done plant start before shown steps old live w0 w1 line rest A fault end half same told (inr refused) =
-    subst (λ (e : StepsEnd). HasDone plant start before shown steps live e w0 w1) (sym refused.0) (step_is_refused plant start before shown steps old live w0 w1 line rest A fault half same told refused.1)
+    → end ≡ steps_end line.number fault → HasDone plant start before shown steps live end w0 w1
+step_not_done plant start before shown steps old live w0 w1 line rest A fault end half same told is =
+    subst (λ (c : CoreView). HasDone plant start before shown steps c end w0 w1) (sym same)
+    (record {
+      at = half.at;
+      told = half.told;
+      after = half.after;
+      ends = rw (first_left steps half.at line rest half.left_are, is) (ends_at A old line fault told);
+      written = half.written;
+    })
 
 -- what holds whatever is answered
 pub on_ok : {A E : Type 0} (r : Result A E) (P : Type 0) → P → OnOk r P

@@ -17,7 +17,7 @@ pub record IsReadSoFar (input rest text line : List ℕ) : Type 0 where
 abbrev pub IsFront : List ℕ → List ℕ → List ℕ → Type 0
 IsFront text input left = (text ≡ plant_text input) × (left ≡ script_text input)
 
--- behind a byte that ends the line of three dashes, or behind any other
+-- behind a byte that ends the line of three dashes, or after any other
 abbrev pub ReadsOn : Bool → List ℕ → List ℕ → List ℕ → List ℕ → Type 0
 ReadsOn true input rest text line = IsFront text input rest
 ReadsOn false input rest text line = IsReadSoFar input rest text line

@@ -1,6 +1,6 @@
--- A plant in service: lines of a script are answered one after the other, and a line at fault ends nothing (own).
+-- A plant in service: lines of a script are answered one after the other, and an invalid line ends nothing (implementation-specific).
 use Rattle.run_model.specs.Starts.{Start}
-use Rattle.std.specs.Prelude.{◌≡◌, ℕ, ◌+◌, List, [], ◌∷◌, ◌++◌, nat_le, take, length, slice_get, Option, Some, None, IsSome, Ok, Err, ⊤, if◌then◌else◌, codes}
+use Rattle.std.specs.Prelude.{◌≡◌, ◌<◌, ◌⊎◌, ℕ, ◌+◌, List, [], ◌∷◌, ◌++◌, nat_le, take, length, slice_get, Option, Some, None, IsSome, Ok, Err, ⊤, if◌then◌else◌, codes}
 use Rattle.std.specs.Fmt.{decimal}
 use Rattle.std.specs.Io.KnownBytes.{Appends}
 use Rattle.std.specs.List.{flat_map}
@@ -29,7 +29,7 @@ steps_said plant number line = if nat_le (length line) 4096 then line_steps plan
 
 -- ---- what is answered to a line
 
--- the steps that were done, what they put out, and how the line ended
+-- the steps that were done, what they output, and how the line ended
 pub record Answered : Type 0 where
   pub done : List Step
   pub told : List Out
@@ -40,33 +40,50 @@ end_text number Done = []
 end_text number AtFault = codes "fault: line " ++ (decimal number ++ 10 ∷ [])
 end_text number NoMemory = codes "fault: memory" ++ 10 ∷ []
 
--- all that was put out, and behind it the line's number, where it is at fault
+-- all that was output, and after it the line's number, where it is invalid
 abbrev pub answer_text : PlantFields → ℕ → Answered → List ℕ
 answer_text plant number answered = outs_text plant answered.told ++ end_text number answered.end
 
--- all steps are done; or the next one is refused; or memory was wanting, which may be at any time
+-- All steps are done; or the next one is refused; or it is not refused, and an allocation for it failed (implementation-specific).
 abbrev pub IsEndAt : CoreView → Option LineStep → LineOutcome → Type 0
-IsEndAt live next NoMemory = ⊤
 IsEndAt live None Done = ⊤
 IsEndAt live None AtFault = ⊥
+IsEndAt live None NoMemory = ⊥
 IsEndAt live (Some line) Done = ⊥
 IsEndAt live (Some line) AtFault = IsSome (step_fault live line.step)
+IsEndAt live (Some line) NoMemory = step_fault live line.step ≡ None
 
--- a line that says no step is at fault
-abbrev pub IsFault : LineOutcome → Type 0
-IsFault Done = ⊥
-IsFault AtFault = ⊤
-IsFault NoMemory = ⊤
+-- no step of the line is done and nothing is output, and the line ends so
+pub record IsNotDone (end : LineOutcome) (answered : Answered) : Type 0 where
+  pub none_done : answered.done ≡ []
+  pub none_told : answered.told ≡ []
+  pub end_is : answered.end ≡ end
 
--- the line's steps are done in order, up to the end or to the first that is refused; where it says no step none is done
+-- an allocation failed while the line was parsed, before any of its steps
+abbrev pub IsNotParsed : Answered → Type 0
+IsNotParsed answered = IsNotDone NoMemory answered
+
+-- the line says no step
+abbrev pub IsInvalid : Answered → Type 0
+IsInvalid answered = IsNotDone AtFault answered
+
+-- the line's steps are done in order, up to the end or to the first that is not done
+pub record StepsAreDone (steps : List LineStep) (live : CoreView) (answered : Answered) : Type 0 where
+  pub at : ℕ
+  pub done_are : answered.done ≡ unnumbered (take at steps)
+  pub ends : IsEndAt live (slice_get steps at) answered.end
+
+-- a line that says steps has run, one that says none is invalid, and of either the parsing may have failed for lack of memory
 abbrev pub EndsAs : Read (List LineStep) → CoreView → Answered → Type 0
-EndsAs (Ok steps) live answered = (at : ℕ) × (answered.done ≡ unnumbered (take at steps)) × IsEndAt live (slice_get steps at) answered.end
-EndsAs (Err fault) live answered = (answered.done ≡ []) × (answered.told ≡ []) × IsFault answered.end
+EndsAs (Ok steps) live answered = IsNotParsed answered ⊎ StepsAreDone steps live answered
+EndsAs (Err fault) live answered = IsNotParsed answered ⊎ IsInvalid answered
 
--- the line is answered so, behind these steps and outputs, and this is the core behind it
+-- The line is answered so, after these steps and outputs, and this is the core after it. A line that is too long is invalid,
+-- and no memory is needed to find that.
 pub record IsAnswer (plant : PlantFields) (start : Start) (before : List Step) (shown : List Out) (number : ℕ) (line : List ℕ) (live : CoreView) (answered : Answered) : Type 0 where
   pub after : IsAfterFrom plant start (before ++ answered.done) (shown ++ answered.told) live
   pub ends : EndsAs (steps_said plant number line) live answered
+  pub too_long : 4096 < length line → IsInvalid answered
 
 -- ---- the whole service
 
@@ -79,19 +96,19 @@ AreAnswered plant start before shown number (line ∷ lines) (answered ∷ more)
     (live : CoreView) × IsAnswer plant start before shown number line live answered
     × AreAnswered plant start (before ++ answered.done) (shown ++ answered.told) (number + 1) lines more
 
--- all answers, each behind the one before it
+-- all answers, each after the one before it
 abbrev pub service_text : PlantFields → ℕ → List Answered → List ℕ
 service_text plant number [] = []
 service_text plant number (answered ∷ more) = answer_text plant number answered ++ service_text plant (number + 1) more
 
--- the steps that were done, and what they put out
+-- the steps that were done, and what they output
 abbrev pub all_done : List Answered → List Step
 all_done answers = flat_map (λ answered. answered.done) answers
 
 abbrev pub all_told : List Answered → List Out
 all_told answers = flat_map (λ answered. answered.told) answers
 
--- behind these steps and outputs, all lines of the input are answered, their answers are written, and this is the core then
+-- after these steps and outputs, all lines of the input are answered, their answers are written, and this is the core then
 pub record IsServiceOf (plant : PlantFields) (start : Start) (before : List Step) (shown : List Out) (input : List ℕ) (live : CoreView) (old new : Option (List ℕ)) : Type 0 where
   pub answers : List Answered
   pub answered : AreAnswered plant start before shown 1 (lines_of input) answers
@@ -100,7 +117,7 @@ pub record IsServiceOf (plant : PlantFields) (start : Start) (before : List Step
 
 -- ---- the law
 
--- what a service has put out is shown to each operator as its own machine run alone has it, and in order
+-- what a service has output is shown to each operator as its own machine run alone has it, and in order
 abbrev pub ServiceIsShown : Type 0
 ServiceIsShown = (plant : PlantFields) (start : Start) (input : List ℕ) (live : CoreView) (old new : Option (List ℕ)) (service : IsServiceOf plant start [] [] input live old new)
     → IsTraceFrom plant start (all_done service.answers) (all_told service.answers) × OrderedFrom plant start (all_done service.answers) (all_told service.answers)

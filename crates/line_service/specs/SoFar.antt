@@ -19,7 +19,7 @@ abbrev pub IsHeld : List ℕ → Bool → List ℕ → Type 0
 IsHeld bytes false part = (bytes ≡ part) × (length part ≤ 4096)
 IsHeld bytes true part = 4096 < length part
 
--- some of a line's steps are done, these are left, and what they put out is written
+-- some of a line's steps are done, these are left, and what they output is written
 pub record IsHalfDone (plant : PlantFields) (start : Start) (before : List Step) (shown : List Out) (steps : List LineStep) (live : CoreView) (old new : Option (List ℕ)) (left : List LineStep) : Type 0 where
   pub at : ℕ
   pub told : List Out
@@ -27,7 +27,7 @@ pub record IsHalfDone (plant : PlantFields) (start : Start) (before : List Step)
   pub written : Appends old new (outs_text plant told)
   pub left_are : drop at steps ≡ left
 
--- the line has this answer, and what its steps put out is written
+-- the line has this answer, and what its steps output is written
 pub record HasAnswered (plant : PlantFields) (start : Start) (before : List Step) (shown : List Out) (number : ℕ) (line : List ℕ) (live : CoreView) (end : LineOutcome) (old new : Option (List ℕ)) : Type 0 where
   pub answered : Answered
   pub is : IsAnswer plant start before shown number line live answered

@@ -1,4 +1,4 @@
--- Steps of lines that are done one after the other, and what they put out (own).
+-- Steps of lines that are done one after the other, and what they output (implementation-specific).
 use Rattle.run_model.specs.Starts.{Start}
 use Rattle.std.specs.Prelude.{◌≡◌, ℕ, List, ◌++◌, take, slice_get, Option, Some, None, IsSome, ⊤}
 use Rattle.std.specs.Io.KnownBytes.{Appends}
@@ -14,15 +14,17 @@ use Rattle.script_format.specs.Text.{outs_text}
 use Rattle.line_service.specs.declared.steps_end.StepsEnd.{StepsEnd}
 use Rattle.line_service.specs.declared.steps_end.StepsEnd.TheVariants.{Done, Refused, NoMemory}
 
--- all steps are done; or the next one is refused, told by its line's number; or memory was wanting, which may be at any time
+-- All steps are done; or the next one is refused, and its line's number is reported; or it is not refused, and an allocation
+-- for it failed. So no refusal is reported as out of memory, nor out of memory where no step is left (implementation-specific).
 abbrev pub IsStepsEndAt : CoreView → Option LineStep → StepsEnd → Type 0
-IsStepsEndAt live next NoMemory = ⊤
 IsStepsEndAt live None Done = ⊤
 IsStepsEndAt live None (Refused number) = ⊥
+IsStepsEndAt live None NoMemory = ⊥
 IsStepsEndAt live (Some line) Done = ⊥
 IsStepsEndAt live (Some line) (Refused number) = (number ≡ line.number) × IsSome (step_fault live line.step)
+IsStepsEndAt live (Some line) NoMemory = step_fault live line.step ≡ None
 
--- so many of these steps are done behind these steps and outputs, and it ended so; what they put out is written
+-- so many of these steps are done after these steps and outputs, and it ended so; what they output is written
 pub record HasDone (plant : PlantFields) (start : Start) (before : List Step) (shown : List Out) (steps : List LineStep) (live : CoreView) (end : StepsEnd) (old new : Option (List ℕ)) : Type 0 where
   pub at : ℕ
   pub told : List Out

@@ -1,10 +1,11 @@
 //! Steps that are done one after the other, and the answer to one line.
 
-ghost use Rattle.std.specs.Prelude.{◌≡◌, IfOk, OnOk};
+ghost use Rattle.std.specs.Prelude.{◌≡◌, ◌≤◌, length, IfOk, OnOk};
 ghost use Rattle.std.specs.Io.KnownBytes.{Appends};
 ghost use Rattle.live_core.specs.After.{BehindEachRun, IsReachable};
 ghost use Rattle.live_core.specs.LiveView.{live_view};
 ghost use Rattle.script_format.specs.Fields.{Gives};
+ghost use Rattle.script_format.specs.declared.fields.FieldFault.TheVariants.{NoMemory};
 ghost use Rattle.line_service.specs.Service.{steps_said, end_text};
 ghost use Rattle.line_service.specs.Ends.{line_outcome};
 ghost use Rattle.line_service.specs.SoFar.{HasAnswered, IsAnswered};
@@ -20,14 +21,15 @@ use std::alloc::Global;
 use std::io;
 use std::io::Write;
 
-/// The steps that a line says.
+/// Parses a line of at most 4,096 bytes into its steps.
 fn steps_said(
     alloc: Global,
     plant: &Plant,
     number: u64,
     line: &[u8],
 ) -> Result<Vec<LineStep>, FieldFault>
-    ensures { Gives (λ steps. steps.items) result (steps_said plant.now number line.now) }
+    ensures said { Gives (λ steps. steps.items) result (steps_said plant.now number line.now) }
+    ensures memory { result ≡ Err NoMemory → length line.now ≤ 4096 }
 {
     if line.len() > MOST_BYTES {
         return Err(FieldFault::Shape);
@@ -40,9 +42,9 @@ fn steps_said(
     }
 }
 
-/// Does steps up to the first that is refused, and writes what each puts out. Answers how that ended. A step that is refused, or for
-/// which memory was wanting, has changed nothing; those before it stand. An error is one of the writer's; then no clause says how
-/// much was done.
+/// Does steps up to the first that the core does not do, and writes what each outputs. Returns how that ended: no step is left,
+/// the next one is refused, or it is not refused and an allocation for it failed. A step that is not done has changed nothing,
+/// and those before it remain done. An error is one of the writer's; then no clause says how much was done.
 pub fn run_steps<W: Write>(
     alloc: Global,
     core: &mut LiveCore,
@@ -50,7 +52,7 @@ pub fn run_steps<W: Write>(
     writer: &mut W,
 ) -> io::Result<StepsEnd>
     requires reached { IsReachable (live_view core.old) }
-    // Behind whatever run led to the core, so many steps are done, and what they put out is written.
+    // After whatever run led to the core, so many steps are done, and what they output is written.
     ensures { IfOk result (λ end. BehindEachRun (live_view core.old) (λ plant start before shown. HasDone plant start before shown
         steps.items (live_view core.new) end (W.contents writer.old) (W.contents writer.new))) }
 {
@@ -64,7 +66,7 @@ pub fn run_steps<W: Write>(
     Ok(StepsEnd::Done)
 }
 
-/// How a line ends whose steps ended so.
+/// Returns how a line ends whose steps ended so.
 fn line_outcome(end: StepsEnd) -> LineOutcome
     ensures { result ≡ line_outcome end }
 {
@@ -75,7 +77,7 @@ fn line_outcome(end: StepsEnd) -> LineOutcome
     }
 }
 
-/// Does what a line says, and writes what that puts out. Answers how the line ended.
+/// Does what a line says, and writes what that outputs. Returns how the line ended.
 #[tactic(auto, using(crate::proofs::LineLemmas::steps_answered, crate::proofs::LineLemmas::none_answered, crate::proofs::LineLemmas::memory_answered))]
 fn do_line<W: Write>(
     alloc: Global,
@@ -109,10 +111,11 @@ pub(crate) fn write_end<W: Write>(writer: &mut W, number: u64, end: LineOutcome)
     }
 }
 
-/// Answers a line: does its steps up to the first that is refused, writes what each puts out, and behind it the line's number,
-/// where it is at fault. What stands before a step that is refused is done and told. Of a line of more than 4,096 bytes nothing
-/// is done. Want of memory for a step is told in the fault's place, and the plant is as before that step. An error is one of the
-/// writer's; then no clause says how much was done.
+/// Answers a line: does its steps up to the first that is refused, writes what each outputs, and
+/// then the line's number if the line is invalid. The steps before a refused one are done, and
+/// their outputs written. Of a line of more than 4,096 bytes nothing is done. If memory runs out
+/// for a step, that is reported in place of the fault, and the plant is as before that step. An
+/// error is one of the writer's; then no clause says how much was done.
 pub fn answer_line<W: Write>(
     alloc: Global,
     core: &mut LiveCore,
@@ -121,7 +124,7 @@ pub fn answer_line<W: Write>(
     writer: &mut W,
 ) -> io::Result<()>
     requires reached { IsReachable (live_view core.old) }
-    // Behind whatever run led to the core, the line has such an answer, and it is written.
+    // After whatever run led to the core, the line has such an answer, and it is written.
     ensures { OnOk result (BehindEachRun (live_view core.old) (λ plant start before shown. IsAnswered plant start before shown number
         line.now (live_view core.new) (W.contents writer.old) (W.contents writer.new))) }
 {

@@ -6,7 +6,7 @@ ghost use Rattle.line_service.specs.Bytes.{Takes};
 use std::io;
 use std::io::Read;
 
-/// The next byte; none where the reader is at its end.
+/// Returns the next byte; none where the reader is at its end.
 pub fn next_byte<R: Read>(reader: &mut R) -> io::Result<Option<u8>>
     ensures { IfOk result (λ byte. Takes (R.remaining reader.old) (R.remaining reader.new) byte) }
 {

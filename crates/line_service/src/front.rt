@@ -12,10 +12,10 @@ use std::io::Read;
 /// The most bytes of a plant's text.
 const MOST_BYTES: usize = 1_048_576;
 
-/// The bytes of the line behind it, with its end.
+/// The bytes of the line after it, with its end.
 const BAR_BYTES: usize = 4;
 
-/// A line has ended: it joins the text, and the next begins.
+/// Returns a line has ended: it joins the text, and the next begins.
 fn end_line(text: &mut Vec<u8>, line: &mut Vec<u8>) -> Result<(), AllocError>
     ensures text { OnOk result (text.new.items ≡ text.old.items ++ (line.old.items ++ 10 ∷ [])) }
     ensures line { OnOk result (line.new.items ≡ []) }
@@ -43,7 +43,7 @@ fn take_byte(text: &mut Vec<u8>, line: &mut Vec<u8>, byte: u8) -> Result<bool, A
     Ok(false)
 }
 
-/// The whole text where the input has ended behind a line.
+/// Returns the whole text where the input has ended after a line.
 fn with_last_line(mut text: Vec<u8>, line: &[u8]) -> Result<Vec<u8>, AllocError>
     ensures { IfOk result (λ whole. (input : List ℕ) → IsReadSoFar input [] text.items line.now → IsFront whole.items input []) }
 {
@@ -53,9 +53,10 @@ fn with_last_line(mut text: Vec<u8>, line: &[u8]) -> Result<Vec<u8>, AllocError>
     Ok(text)
 }
 
-/// Reads a plant's text, up to the first line of three dashes and that line too, and answers what stands before it. The reader is
-/// left where the script begins. Where there is no such line, all is the plant's text. An error is one of the reader's, want of
-/// memory, or a text of more than 1,048,576 bytes.
+/// Reads a plant's text, up to the first line of three dashes and that line too, and answers what
+/// is before it. The reader is left where the script begins. Where there is no such line, all is
+/// the plant's text. An error is one of the reader's, out of memory, or a text of more than
+/// 1,048,576 bytes.
 pub fn read_plant_text<R: Read>(alloc: Global, reader: &mut R) -> io::Result<Vec<u8>>
     ensures text { IfOk result (λ text. IfSome (R.remaining reader.old) (λ input. text.items ≡ plant_text input)) }
     ensures script { OnOk result (IfSome (R.remaining reader.old) (λ input. R.remaining reader.new ≡ Some (script_text input))) }

@@ -1,5 +1,5 @@
-//! A plant in service: lines of a script are read one after the other, and each is answered before the next is read. A line at
-//! fault is told, and the plant goes on. No history is kept, so the plant may run for as long as there are lines.
+//! A plant in service: reads a line of a script, performs its steps, and writes the answer before it reads the next line. An
+//! invalid line is reported and ends nothing. No history is kept.
 #![tactic(auto)]
 
 mod answering;
@@ -17,4 +17,4 @@ pub use laws::{service_is_of_changes, service_is_shown};
 pub use line_buffer::LineBuffer;
 pub use line_outcome::LineOutcome;
 pub use serving::serve;
-pub use steps_end::StepsEnd;
+pub use steps_end::{StepsEnd, end_of};

@@ -18,7 +18,7 @@ pub struct LineBuffer {
 }
 
 impl LineBuffer {
-    /// Nothing yet, with room for a line.
+    /// Returns nothing yet, with room for a line.
     pub fn new(alloc: Global) -> Result<LineBuffer, AllocError>
         ensures { IfOk result (λ held. IsHeld held.bytes.items held.is_long []) }
     {
@@ -29,7 +29,7 @@ impl LineBuffer {
         })
     }
 
-    /// A byte more.
+    /// Adds a byte to the line.
     pub fn push(&mut self, byte: u8) -> Result<(), AllocError>
         ensures { OnOk result ((part : List ℕ) → IsHeld self.old.bytes.items self.old.is_long part
             → IsHeld self.new.bytes.items self.new.is_long (part ++ byte ∷ [])) }
@@ -42,7 +42,7 @@ impl LineBuffer {
         Ok(())
     }
 
-    /// Nothing again.
+    /// Makes the line empty again.
     pub fn clear(&mut self)
         ensures { IsHeld self.new.bytes.items self.new.is_long [] }
     {

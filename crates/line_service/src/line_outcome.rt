@@ -7,6 +7,6 @@ pub enum LineOutcome {
     Done,
     /// It says no step, or its next step is refused.
     AtFault,
-    /// Memory was wanting for its next step.
+    /// An allocation failed while the line was parsed, or for its next step, which is not refused.
     NoMemory,
 }

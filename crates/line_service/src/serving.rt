@@ -19,7 +19,7 @@ use std::alloc::Global;
 use std::io;
 use std::io::{Read, Write};
 
-/// The number of the next line.
+/// Returns the number of the next line.
 fn next_number(number: u64) -> io::Result<u64>
     ensures { IfOk result (λ next. next ≡ number + 1) }
 {
@@ -29,7 +29,7 @@ fn next_number(number: u64) -> io::Result<u64>
     }
 }
 
-/// Answers the line that was read.
+/// Returns the line that was read.
 fn answer_held<W: Write>(
     alloc: Global,
     core: &mut LiveCore,
@@ -78,9 +78,11 @@ fn take_byte<W: Write>(
     Ok(())
 }
 
-/// Serves the plant: reads lines of a script for as long as there are any, and answers each before it reads the next
-/// (`answer_line`). Lines are counted from 1, empty ones too. It takes no memory of its own but for the steps of a line. It ends at the end of the input, or where a read or a write fails.
-/// It reads a byte at a time and writes in small pieces: give it a reader and a writer with buffers.
+/// Serves the plant: reads lines of a script for as long as there are any, and answers each before
+/// it reads the next (`answer_line`). Lines are counted from 1, empty ones too. It takes no memory
+/// of its own except the steps of a line. It ends at the end of the input, or where a read or a
+/// write fails. It reads a byte at a time and writes in small pieces: give it a reader and a writer
+/// with buffers.
 pub fn serve<R: Read, W: Write>(
     alloc: Global,
     core: &mut LiveCore,
@@ -90,7 +92,7 @@ pub fn serve<R: Read, W: Write>(
 ) -> io::Result<()>
     requires reached { IsReachable (live_view core.old) }
     requires empty { IsHeld held.bytes.items held.is_long [] }
-    // Behind whatever run led to the core, all lines of the input are answered, and their answers written.
+    // After whatever run led to the core, all lines of the input are answered, and their answers written.
     ensures { OnOk result (IfSome (R.remaining reader.old) (λ input. BehindEachRun (live_view core.old)
         (λ plant start before shown. IsServiceOf plant start before shown input (live_view core.new) (W.contents writer.old)
         (W.contents writer.new)))) }

@@ -1,8 +1,7 @@
-//! How steps ended that are done one after the other.
+//! How steps end that are done one after the other.
 
-ghost use Rattle.std.specs.Prelude.{◌≡◌, ◌≢◌, ◌⊎◌};
-ghost use Rattle.plant_core.specs.declared.core_fault.CoreFault.TheVariants as faults;
-ghost use Rattle.line_service.specs.declared.steps_end.StepsEnd.TheVariants as steps_ends;
+ghost use Rattle.std.specs.Prelude.{◌≡◌};
+ghost use Rattle.line_service.specs.Ends.{steps_end};
 
 use plant_core::CoreFault;
 
@@ -13,13 +12,13 @@ pub enum StepsEnd {
     Done,
     /// The next one is refused: that of the line of this number.
     Refused { number: u64 },
-    /// Memory was wanting for the next one.
+    /// The next one is not refused, and an allocation for it failed.
     NoMemory,
 }
 
-/// How steps end of which this line's is not done.
-pub(crate) fn end_of(number: u64, fault: CoreFault) -> StepsEnd
-    ensures { (result ≡ steps_ends.NoMemory) ⊎ ((result ≡ steps_ends.Refused number) × (fault ≢ faults.NoMemory)) }
+/// Returns how steps end of which the core does not do the next one: with the number of its line, or out of memory.
+pub fn end_of(number: u64, fault: CoreFault) -> StepsEnd
+    ensures { result ≡ steps_end number fault }
 {
     match fault {
         CoreFault::NoMemory => StepsEnd::NoMemory,

@@ -9,7 +9,8 @@ use Rattle.script_format.specs.declared.script.LineStep.{LineStep}
 use Rattle.line_service.specs.declared.steps_end.StepsEnd.{StepsEnd}
 use Rattle.line_service.specs.declared.steps_end.StepsEnd.TheVariants as ends
 use Rattle.line_service.specs.Steps.{IsStepsEndAt}
-use Rattle.trace_report.specs.Trace.{HasTraced}
+use Rattle.trace_report.specs.declared.decision.Decision.{Decision}
+use Rattle.trace_report.specs.Trace.{IsTraceEndAt, HasTraced}
 use Rattle.plant_script.specs.declared.task.Told.TheVariants.{Trace}
 use Rattle.plant_script.specs.Run.{memory_line, EndsBy}
 use Rattle.plant_script.specs.Ends.{status_of, line_of}
@@ -26,6 +27,11 @@ ends_by core (Some line) (ends.Refused number) at = inl ((refl, at.1), ap (λ (n
 ends_by core None ends.NoMemory at = inr (refl, refl)
 ends_by core (Some line) ends.NoMemory at = inr (refl, refl)
 
+-- so does the trace, or it is out of memory for the words of the last step
+trace_ends_by : (core : CoreView) (next : Option LineStep) (decisions : List (Option Decision)) (text : List ℕ) (end : StepsEnd) → IsTraceEndAt core next decisions text end → EndsBy core next (status_of end) (line_of end)
+trace_ends_by core next decisions text end (inl at) = ends_by core next end at
+trace_ends_by core next decisions text end (inr words) = inr (ap status_of words.end_is, ap line_of words.end_is)
+
 -- what was told of the steps, and the last line behind it
 pub trace_ends : (plant : PlantFields) (lines : List LineStep) (core : CoreView) (end : StepsEnd) (status : ℕ) (w0 w1 w2 : Option (List ℕ)) → HasTraced plant lines core end w0 w1
     → status ≡ status_of end → Appends w1 w2 (line_of end) → EndsTraced plant lines status (λ text. Appends w0 w2 text)
@@ -41,7 +47,7 @@ trace_ends plant lines core end status w0 w1 w2 has is wrote = (
     told = has.text;
     is_text = has.is_text;
     last = line_of end;
-    ends = subst (λ (n : ℕ). EndsBy core (slice_get lines has.at) n (line_of end)) (sym is) (ends_by core (slice_get lines has.at) end has.ends);
+    ends = subst (λ (n : ℕ). EndsBy core (slice_get lines has.at) n (line_of end)) (sym is) (trace_ends_by core (slice_get lines has.at) has.decisions has.text end has.ends);
     text_is = refl;
   },
   Appends-trans w0 w1 w2 has.text (line_of end) has.written wrote,

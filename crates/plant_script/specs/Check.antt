@@ -1,4 +1,4 @@
--- What `check` answers to an input: a plant file, and the script behind it (own).
+-- What `check` answers to an input: a plant file, and the script after it (implementation-specific).
 use Rattle.std.specs.Prelude.{ℕ, List, [], ◌∷◌, ◌++◌, Result, Ok, Err, if◌then◌else◌, codes}
 use Rattle.std.specs.Fmt.{decimal}
 use Rattle.toml.specs.Parse.{parse_document}
@@ -13,7 +13,7 @@ use Rattle.script_format.specs.Input.{plant_text, script_text}
 use Rattle.script_format.specs.Script.{steps_of}
 use Rattle.plant_script.specs.One.{Answer, is_readable}
 
--- ---- the line of a plant at fault
+-- ---- the line of an invalid plant
 
 abbrev pub ended : List ℕ → List ℕ
 ended text = text ++ 10 ∷ []

@@ -16,7 +16,7 @@ pub record AreDone (plant : PlantFields) (lines : List LineStep) (say : List Out
   pub reached : IsStateAfter plant (unnumbered lines) outs core
   pub text_is : text ≡ say outs
 
--- no line is refused where no step is left; else the one whose step the core refuses, told by its number
+-- no line is refused where no step is left; else the one whose step the core refuses, reported by its number
 abbrev pub IsRefused : CoreView → Option LineStep → Option ℕ → Type 0
 IsRefused core None refused = refused ≡ None
 IsRefused core (Some line) refused = (refused ≡ Some line.number) × IsSome (step_fault core line.step)

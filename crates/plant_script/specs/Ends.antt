@@ -1,4 +1,4 @@
--- What is written where the steps of a run ended (own).
+-- What is written where the steps of a run ended (implementation-specific).
 use Rattle.std.specs.Prelude.{ℕ, List, [], ◌∷◌, ◌++◌, codes}
 use Rattle.std.specs.Fmt.{decimal}
 use Rattle.line_service.specs.declared.steps_end.StepsEnd.{StepsEnd}

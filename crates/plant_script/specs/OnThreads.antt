@@ -1,4 +1,4 @@
--- What `threads` writes: the lines of a run that is settled, or the one line of its fault (own).
+-- What `threads` writes: the lines of a run that is settled, or the one line of its fault (implementation-specific).
 use Rattle.std.specs.Prelude.{◌≡◌, ◌⊎◌, ℕ, List, [], ◌∷◌, ◌++◌, length, slice_get, Option, Some, None, codes}
 use Rattle.std.specs.Fmt.{decimal}
 use Rattle.plant.specs.declared.plant.PlantFields.{PlantFields}
@@ -19,7 +19,7 @@ use Rattle.script_format.specs.Text.{named, outs_text}
 -- ---- a run that is settled
 
 -- The run is what just these steps make of the plant (`IsOutcome`, which has `IsTraceOf`), and the text is the lines of what
--- its books put out, operator by operator, and then the lines of its MAPs. So each operator's lines are those of its own
+-- its books output, operator by operator, and then the lines of its MAPs. So each operator's lines are those of its own
 -- machine run alone, as in `run`.
 pub record HasSettled (plant : PlantFields) (lines : List LineStep) (text : List ℕ) : Type 0 where
   pub books : List BookView
@@ -44,7 +44,7 @@ abbrev pub number_at : List LineStep → Option ℕ → Option ℕ
 number_at lines None = None
 number_at lines (Some place) = number_in (slice_get lines place)
 
--- the number of a line that gives other slices
+-- the number of a line that gives new slices
 abbrev pub resliced_by : ℕ → Step → Option ℕ
 resliced_by number (steps.Arrive modem heard) = None
 resliced_by number (steps.Work op) = None
@@ -67,7 +67,7 @@ abbrev pub place_text : Option ℕ → List ℕ
 place_text None = codes "-"
 place_text (Some place) = decimal place
 
--- that a line is at fault; or, where a fault is told that no line of the script has, that the run strayed
+-- that a line is invalid; or, where a fault is reported that no line of the script has, that the run strayed
 abbrev pub TellsLine : Option ℕ → ℕ → List ℕ → Type 0
 TellsLine (Some number) status text = (status ≡ 4) × (text ≡ codes "fault: line " ++ (decimal number ++ 10 ∷ []))
 TellsLine None status text = (status ≡ 7) × (text ≡ stray_line (codes "-") (codes "-"))
@@ -77,8 +77,8 @@ abbrev pub TellsSpent : PlantFields → List LineStep → ℕ → List ℕ → T
 TellsSpent plant lines status text =
     (spent : Option ℕ) × IsSpentPlace plant (unnumbered lines) spent × TellsLine (number_at lines spent) status text
 
--- A fault is told by one line: 7 where what the threads did is not what the steps say, with the operator and the place in
--- its history, or `-` and the frame of a MAP; 4 where a step is refused, a tick too many or other slices.
+-- A fault is reported by one line: 7 where what the threads did is not what the steps say, with the operator and the place in
+-- its history, or `-` and the frame of a MAP; 4 where a step is refused, a tick too many or new slices.
 abbrev pub TellsFault : PlantFields → List LineStep → RunFault → ℕ → List ℕ → Type 0
 TellsFault plant lines (faults.Strayed op index) status text =
     (status ≡ 7) × (text ≡ stray_line (named (slice_get plant.rows op)) (place_text (Some index)))
@@ -93,7 +93,7 @@ TellsFault plant lines faults.NoMemory status text = ⊥
 
 -- ---- both
 
--- the run is settled, and told with status 0; or it is at fault, and nothing else is told
+-- the run is settled, and reported with status 0; or it is invalid, and nothing else is reported
 abbrev pub IsThreadedRunOf : PlantFields → List LineStep → ℕ → List ℕ → Type 0
 IsThreadedRunOf plant lines status text =
     ((status ≡ 0) × HasSettled plant lines text) ⊎ ((fault : RunFault) × TellsFault plant lines fault status text)

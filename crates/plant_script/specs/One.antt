@@ -1,4 +1,4 @@
--- What `one` writes, as a function of what it reads (own): lines to messages, messages to outputs, outputs to text.
+-- What `one` writes, as a function of what it reads (implementation-specific): lines to messages, messages to outputs, outputs to text.
 use Rattle.std.specs.Prelude.{ℕ, ◌&&◌, Bool, List, [], ◌∷◌, ◌++◌, length, Result, Ok, Err, nat_le, if◌then◌else◌, codes}
 use Rattle.std.specs.List.{flat_map}
 use Rattle.std.specs.Str.{is_utf8}

@@ -1,5 +1,5 @@
 -- The operator that is built in: the first of a plant of two, with its two modems, and what that plant's operators share
--- (own). It is the one that the machine's own examples are worked through with, under its name.
+-- (implementation-specific). It is the one that the machine's own examples are worked through with, under its name.
 use Rattle.std.specs.Prelude.{codes}
 use Rattle.plant.specs.declared.consts.ConstsFields.{ConstsFields}
 use Rattle.plant.specs.declared.operator_row.RowFields.{RowFields}

@@ -1,4 +1,4 @@
--- A run of a script's steps, and what `run`, `history` and `capture` write of it (own).
+-- A run of a script's steps, and what `run`, `history` and `capture` write of it (implementation-specific).
 use Rattle.std.specs.Prelude.{◌≡◌, ◌⊎◌, ℕ, List, [], ◌∷◌, ◌++◌, take, slice_get, Option, Some, None, IsSome, codes}
 use Rattle.std.specs.Fmt.{decimal}
 use Rattle.plant.specs.declared.plant.PlantFields.{PlantFields}
@@ -10,7 +10,7 @@ use Rattle.script_format.specs.declared.script.LineStep.{LineStep}
 use Rattle.script_format.specs.Script.{unnumbered}
 use Rattle.pcap_capture.specs.Capture.{IsCaptureOf}
 
--- the run ends behind the last step; or before the first one that is refused
+-- the run ends after the last step; or before the first one that is refused
 abbrev pub IsEnd : CoreView → Option LineStep → ℕ → Type 0
 IsEnd core None status = status ≡ 0
 IsEnd core (Some line) status = (status ≡ 4) × IsSome (step_fault core line.step)
@@ -20,7 +20,7 @@ abbrev pub last_line : Option LineStep → List ℕ
 last_line None = []
 last_line (Some line) = codes "fault: line " ++ (decimal line.number ++ 10 ∷ [])
 
--- what is written where memory is wanting
+-- what is written if memory runs out
 abbrev pub memory_line : List ℕ
 memory_line = codes "fault: memory" ++ 10 ∷ []
 
@@ -30,7 +30,7 @@ abbrev pub EndsBy : CoreView → Option LineStep → ℕ → List ℕ → Type 0
 EndsBy core next status last = (IsEnd core next status × (last ≡ last_line next)) ⊎ ((status ≡ 5) × (last ≡ memory_line))
 
 -- so many steps are done, one after the other, on a core of the plant as it is opened: the run shows to each operator its own
--- machine run alone, with all outputs in order (`IsStateAfter`). What is said of them is written, and behind it the last line.
+-- machine run alone, with all outputs in order (`IsStateAfter`). What is said of them is written, and after it the last line.
 pub record IsRunOf (plant : PlantFields) (lines : List LineStep) (say : List Step → List Out → List ℕ) (status : ℕ) (text : List ℕ) : Type 0 where
   pub at : ℕ
   pub outs : List Out

@@ -1,4 +1,4 @@
--- A plant in service, and the plant file before it (own).
+-- A plant in service, and the plant file before it (implementation-specific).
 use Rattle.std.specs.Prelude.{◌≡◌, ℕ, List, [], ◌++◌, Ok, Err, codes}
 use Rattle.toml.specs.Parse.{parse_document}
 use Rattle.plant.specs.declared.plant.PlantFields.{PlantFields}

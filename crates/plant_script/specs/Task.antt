@@ -23,7 +23,7 @@ abbrev pub history_at : Option RowFields → ℕ → List Step → List ℕ
 history_at None op done = []
 history_at (Some row) op done = history_text row op done
 
--- what the run of a script's steps comes to, told in one of these ways
+-- what the run of a script's steps results in, reported in one of these ways
 abbrev pub RunsTo : PlantFields → Told → List LineStep → ℕ → List ℕ → Type 0
 RunsTo plant Outs lines status text = IsRunOf plant lines (λ done told. outs_text plant told) status text
 RunsTo plant (History op) lines status text =
@@ -32,7 +32,7 @@ RunsTo plant Threads lines status text = IsThreadedRunOf plant lines status text
 RunsTo plant Capture lines status text = IsCapturedRunOf plant lines status text
 RunsTo plant Trace lines status text = IsTracedRunOf plant lines status text
 
--- what the run comes to is written; or memory was wanting, and its line is written alone, or behind what the run had put out until then
+-- what the run results in is written; or memory ran out, and its line is written alone, or after what the run had output until then
 abbrev pub IsTold : PlantFields → Told → List LineStep → ℕ → (List ℕ → Type 0) → Type 0
 IsTold plant told lines status wrote =
     ((text : List ℕ) × (status ≢ 5) × RunsTo plant told lines status text × wrote text)
@@ -47,17 +47,17 @@ asked wanted.Capture = AnswersCapture
 asked wanted.Trace = AnswersTrace
 asked (wanted.History name) = AnswersHistory name.now
 
--- what is served is such an answer: at once, or whatever the run of the task comes to
+-- what is served is such an answer: at once, or whatever the run of the task results in
 abbrev pub Comes : Served → (ℕ → List ℕ → Type 0) → Type 0
 Comes (served.Answer answer) answers = answers answer.status answer.text.items
 Comes (served.Task task) answers =
     (status : ℕ) (text : List ℕ) → RunsTo task.plant task.told task.lines.items status text → answers status text
 
--- the status and the text of an answer: what is said, and behind it the line at fault, if there is one
+-- the status and the text of an answer: what is said, and after it the invalid line, if there is one
 abbrev pub IsEnded : List ℕ → Option ℕ → Answer → Type 0
 IsEnded text None answer = (answer.status ≡ 0) × (answer.text.items ≡ text)
 IsEnded text (Some number) answer = (answer.status ≡ 4) × (answer.text.items ≡ text ++ (codes "fault: line " ++ (decimal number ++ 10 ∷ [])))
 
--- what `run` comes to is written
+-- what `run` results in is written
 abbrev pub EndsRun : PlantFields → List LineStep → ℕ → (List ℕ → Type 0) → Type 0
 EndsRun plant lines status wrote = (text : List ℕ) × IsRunOf plant lines (λ done told. outs_text plant told) status text × wrote text

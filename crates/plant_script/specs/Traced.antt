@@ -1,4 +1,4 @@
--- A run that is told in words, and what `trace` writes of it (own).
+-- A run that is reported in words, and what `trace` writes of it (implementation-specific).
 use Rattle.std.specs.Prelude.{◌≡◌, ℕ, List, [], ◌++◌, take, slice_get, Option}
 use Rattle.plant.specs.declared.plant.PlantFields.{PlantFields}
 use Rattle.run_model.specs.declared.step.Out.{Out}
@@ -9,8 +9,8 @@ use Rattle.trace_report.specs.declared.decision.Decision.{Decision}
 use Rattle.trace_report.specs.Trace.{AreDecided, IsTraceText}
 use Rattle.plant_script.specs.Run.{EndsBy}
 
--- So many steps are done, as in `IsRunOf`. For each there is what decided it, by the definitions of the checks and by the core as it stood
--- before the step, and a line for it is written, one after the other, among words of which nothing is said. Behind them stands the last line.
+-- So many steps are done, as in `IsRunOf`. For each there is what decided it, by the definitions of the checks and by the core as it was
+-- before the step, and a line for it is written, one after the other, among words of which nothing is said. After them is the last line.
 pub record IsTracedRunOf (plant : PlantFields) (lines : List LineStep) (status : ℕ) (text : List ℕ) : Type 0 where
   pub at : ℕ
   pub outs : List Out
@@ -24,6 +24,6 @@ pub record IsTracedRunOf (plant : PlantFields) (lines : List LineStep) (status :
   pub ends : EndsBy core (slice_get lines at) status last
   pub text_is : text ≡ told ++ last
 
--- what `trace` comes to is written
+-- what `trace` results in is written
 abbrev pub EndsTraced : PlantFields → List LineStep → ℕ → (List ℕ → Type 0) → Type 0
 EndsTraced plant lines status wrote = (text : List ℕ) × IsTracedRunOf plant lines status text × wrote text

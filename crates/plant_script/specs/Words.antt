@@ -1,4 +1,4 @@
--- What each order answers to an input (own).
+-- What each order answers to an input (implementation-specific).
 use Rattle.std.specs.Prelude.{◌≡◌, ◌≢◌, ◌⊎◌, ℕ, List, [], ◌∷◌, ◌++◌, MatchBool, slice_get, Option, Some, None, IfSome, Result, Ok, Err, codes}
 use Rattle.std.specs.List.{position_from}
 use Rattle.std.specs.String.{string_bytes}
@@ -27,7 +27,7 @@ use Rattle.plant_script.specs.Serving.{IsServed}
 
 -- ---- words that give no order
 
--- wrong words are told as such, with status 2, and help with 0; want of memory has no status but 5
+-- wrong words are reported as such, with status 2, and help with 0; out of memory has no status but 5
 abbrev pub AnswersFault : WordsFault → ℕ → (List ℕ → Type 0) → Type 0
 AnswersFault (faults.Help text) status told = (status ≡ 0) × told (string_bytes text)
 AnswersFault faults.Wrong status told = (status ≡ 2) × told (codes "fault: words" ++ 10 ∷ [])
@@ -39,7 +39,7 @@ AnswersFault faults.NoMemory status told = ⊥
 abbrev pub Is : Answer → ℕ → List ℕ → Type 0
 Is answer status text = (status ≡ answer.status) × (text ≡ answer.text)
 
--- a line of the script at fault is told alone; else what the run of its steps comes to
+-- a line of the invalid script is reported alone; else what the run of its steps results in
 abbrev pub AnswersSteps : (List LineStep → ℕ → List ℕ → Type 0) → Result (List LineStep) ℕ → ℕ → List ℕ → Type 0
 AnswersSteps runs_to (Ok lines) status text = runs_to lines status text
 AnswersSteps runs_to (Err number) status text = Is (answer_to_steps (Err number)) status text
@@ -61,7 +61,7 @@ AnswersCapture plant script status text = AnswersSteps (IsCapturedRunOf plant) (
 abbrev pub AnswersTrace : PlantFields → List ℕ → ℕ → List ℕ → Type 0
 AnswersTrace plant script status text = AnswersSteps (IsTracedRunOf plant) (steps_of plant script) status text
 
--- an operator that the plant does not have is told alone, before the script is judged; else its own of the run's steps
+-- an operator that the plant does not have is reported alone, before the script is judged; else its own of the run's steps
 abbrev pub AnswersOperator : PlantFields → List ℕ → Option ℕ → ℕ → List ℕ → Type 0
 AnswersOperator plant script None status text =
     Is (record { status = 2; text = codes "fault: words" ++ 10 ∷ [] }) status text
@@ -74,20 +74,20 @@ abbrev pub AnswersHistory : List ℕ → PlantFields → List ℕ → ℕ → Li
 AnswersHistory name plant script status text =
     AnswersOperator plant script (position_from (is_named name) 0 plant.rows) status text
 
--- a plant at fault is told alone; else the script is judged
+-- an invalid plant is reported alone; else the script is judged
 abbrev pub AnswersPlant : (PlantFields → List ℕ → ℕ → List ℕ → Type 0)
     → Result PlantFields PlantFault → List ℕ → ℕ → List ℕ → Type 0
 AnswersPlant answers (Ok plant) script status text = answers plant script status text
 AnswersPlant answers (Err fault) script status text = Is (answer_to_plant (Err fault) script) status text
 
--- an input that is too long or no text is told alone; then the plant is judged
+-- an input that is too long or no text is reported alone; then the plant is judged
 abbrev pub AnswersInput : (PlantFields → List ℕ → ℕ → List ℕ → Type 0) → List ℕ → ℕ → List ℕ → Type 0
 AnswersInput answers input status text =
     MatchBool (is_readable input)
     (AnswersPlant answers (text_plant (parse_document (plant_text input))) (script_text input) status text)
     (Is (record { status = 6; text = codes "fault: io" ++ 10 ∷ [] }) status text)
 
--- a plant at fault is told alone; else its plant is served as long as there are lines
+-- an invalid plant is reported alone; else its plant is served as long as there are lines
 abbrev pub AnswersFront : Result PlantFields PlantFault → List ℕ → ℕ → List ℕ → Type 0
 AnswersFront (Ok plant) script status text = IsServed plant script status text
 AnswersFront (Err fault) script status text = Is (answer_to_plant (Err fault) script) status text
@@ -123,9 +123,9 @@ abbrev pub TellsHelp : List (List ℕ) → ℕ → Option (List ℕ) → Option 
 TellsHelp words status old new = AsksHelp words → status ≢ 5 → status ≢ 6
     → (text : List ℕ) × (status ≡ 0) × Appends old new text
 
--- ---- want of memory
+-- ---- out of memory
 
--- its line is written alone; or behind what a run, which writes as it goes, had put out until then
+-- its line is written alone; or after what a run, which writes as it goes, had output until then
 abbrev pub TellsMemory : List (List ℕ) → Option (List ℕ) → (List ℕ → Type 0) → Type 0
 TellsMemory words read wrote = (before : List ℕ) × wrote (before ++ memory_line) × ((before ≡ [])
     ⊎ ((order : Order) × Names words order × IfSome read (λ input. Answers order input 5 (before ++ memory_line))))

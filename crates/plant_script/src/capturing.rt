@@ -35,8 +35,9 @@ fn put_turn(
     Ok(())
 }
 
-/// Does the steps of lines, and captures each behind it. Answers the number of the first line whose step is refused, at which it
-/// stops; none where all are done. Nothing of the refused step is captured.
+/// Does the steps of lines, and captures each after it. Returns the number of the first line whose
+/// step is refused, at which it stops; none where all are done. Nothing of the refused step is
+/// captured.
 fn run_captured(
     alloc: Global,
     core: &mut PlantCore,
@@ -59,7 +60,7 @@ fn run_captured(
     Ok(None)
 }
 
-/// The file, with the status of its run.
+/// Returns the file, with the status of its run.
 fn filed(file: Vec<u8>, refused: Option<u64>) -> Answer
     ensures text { result.text ≡ file }
     ensures status { IsStatusOf refused result.status }
@@ -71,7 +72,7 @@ fn filed(file: Vec<u8>, refused: Option<u64>) -> Answer
     Answer { status, text: file }
 }
 
-/// What `capture` answers.
+/// Returns the answer of the command `capture`.
 pub fn answer_of_capture(
     alloc: Global,
     core: &mut PlantCore,

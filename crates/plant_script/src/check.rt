@@ -1,4 +1,4 @@
-//! The word `check`: a plant file and a script, and whether both are well.
+//! The command `check`: a plant file and a script, and whether both are valid.
 
 ghost use Rattle.std.specs.Prelude.{◌≡◌, ◌≤◌, ◌++◌, ◌∷◌, [], codes, length, true, IfOk, IfErr};
 ghost use Rattle.std.specs.Fmt.{decimal};
@@ -20,7 +20,7 @@ use script_format::{LineFault, before_bar, plant_text, script_text, steps_of};
 use slice_table::{PlantFault, read_plant};
 use std::alloc::{AllocError, Global};
 
-/// The line of a plant at fault.
+/// Returns the line of an invalid plant.
 #[tactic(auto, unfolding(crate::specs::Check::fault_text))]
 fn plant_line(alloc: Global, fault: PlantFault) -> Result<String, AllocError>
     ensures { IfOk result (λ line. string_bytes line ≡ codes "fault: plant " ++ fault_text fault) }
@@ -44,7 +44,7 @@ fn plant_line(alloc: Global, fault: PlantFault) -> Result<String, AllocError>
     }
 }
 
-/// What is answered to a plant at fault.
+/// Returns what is answered to an invalid plant.
 pub fn answer_to_fault(alloc: Global, fault: PlantFault) -> Result<Answer, AllocError>
     ensures { IfOk result (λ answer. (answer.status ≡ 3)
         × (answer.text.items ≡ codes "fault: plant " ++ fault_text fault)) }
@@ -54,7 +54,7 @@ pub fn answer_to_fault(alloc: Global, fault: PlantFault) -> Result<Answer, Alloc
     Ok(Answer { status: 3, text })
 }
 
-/// What is answered to a line at fault.
+/// Returns what is answered to an invalid line.
 pub fn answer_to_line(alloc: Global, number: u64) -> Result<Answer, AllocError>
     ensures { IfOk result (λ answer. (answer.status ≡ 4)
         × (answer.text.items ≡ codes "fault: line " ++ (decimal number ++ 10 ∷ []))) }
@@ -64,7 +64,7 @@ pub fn answer_to_line(alloc: Global, number: u64) -> Result<Answer, AllocError>
     Ok(Answer { status: 4, text })
 }
 
-/// What is answered to the script of a plant.
+/// Returns what is answered to the script of a plant.
 fn answer_to_script(alloc: Global, plant: &Plant, script: &[u8]) -> Result<Answer, Stop>
     ensures value { IfOk result (λ answer. (answer.status ≡ (answer_to_steps (steps_of plant.now script.now)).status)
         × (answer.text.items ≡ (answer_to_steps (steps_of plant.now script.now)).text)) }
@@ -80,7 +80,7 @@ fn answer_to_script(alloc: Global, plant: &Plant, script: &[u8]) -> Result<Answe
     }
 }
 
-/// Reads the plant of an input: what stands before the bar, whose place the caller knows.
+/// Reads the plant of an input: what is before the bar, whose place the caller knows.
 pub(crate) fn plant_of_input(alloc: Global, input: &[u8], place: usize) -> Result<Plant, PlantFault>
     requires utf8 { is_utf8 input.now ≡ true }
     requires place { place ≡ before_bar true input.now }
@@ -90,7 +90,7 @@ pub(crate) fn plant_of_input(alloc: Global, input: &[u8], place: usize) -> Resul
     read_plant(alloc, plant_text(input, place))
 }
 
-/// What `check` answers to an input.
+/// Returns what `check` answers to an input.
 #[tactic(auto, unfolding(crate::specs::Check::check_of))]
 pub fn check_of(alloc: Global, input: &[u8]) -> Result<Answer, Stop>
     requires { is_readable input.now ≡ true }

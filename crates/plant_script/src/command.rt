@@ -1,4 +1,5 @@
-//! Between the program and its surroundings: the words behind its name, and the status with which it ends.
+//! Between the program and its surroundings: the words after its name, and the status with which it
+//! ends.
 
 ghost use Rattle.std.specs.Prelude.{◌≡◌, ◌≢◌, drop, IfOk, IfErr};
 ghost use Rattle.std.specs.IoError.{error_kind};
@@ -8,7 +9,7 @@ ghost use Rattle.std.specs.declared.io.ErrorKind.TheVariants.{OutOfMemory};
 use std::io;
 use std::process::ExitCode;
 
-/// The words behind the program's own name, which stands first.
+/// Returns the words after the program's own name, which is first.
 pub fn behind_name<'a>(words: &'a [&'a str]) -> &'a [&'a str]
     ensures { result.now ≡ drop 1 words.entry.now }
 {
@@ -18,8 +19,8 @@ pub fn behind_name<'a>(words: &'a [&'a str]) -> &'a [&'a str]
     }
 }
 
-/// How the program ends: with the status that it answered; where its surroundings let it come to none, with 5 for want of
-/// memory, else with 6.
+/// Returns how the program ends: with the status that it answered; where its surroundings let it
+/// result in none, with 5 for out of memory, else with 6.
 pub fn exit_code(outcome: io::Result<u8>) -> ExitCode
     ensures answered { IfOk outcome (λ status. exit_status result ≡ status) }
     ensures memory { IfErr outcome (λ error. error_kind error ≡ OutOfMemory → exit_status result ≡ 5) }

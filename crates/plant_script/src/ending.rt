@@ -12,7 +12,7 @@ use std::io;
 use std::io::Write;
 use std::mem::{drop, forget};
 
-/// The number of a line whose step is refused, other than for want of memory.
+/// Returns the number of a line whose step is refused, other than for out of memory.
 pub(crate) fn refused(number: u64, fault: CoreFault) -> Result<Option<u64>, AllocError>
     ensures { IfOk result (λ refused. (refused ≡ Some number) × (fault ≢ NoMemory)) }
 {
@@ -22,12 +22,12 @@ pub(crate) fn refused(number: u64, fault: CoreFault) -> Result<Option<u64>, Allo
     }
 }
 
-/// What becomes of a core behind its last step.
+/// What becomes of a core after its last step.
 #[derive(Clone, Copy, Debug, PartialEq, Eq)]
 pub enum Ending {
     /// It is taken apart, and gives its memory back.
     GoesOn,
-    /// It is left as it stands: the process ends behind the answer, and its memory goes with it.
+    /// It is left as it exists: the process ends after the answer, and its memory goes with it.
     Ends,
 }
 
@@ -39,7 +39,7 @@ pub(crate) fn put_away<C: Drop>(core: C, ending: Ending) {
     }
 }
 
-/// Writes the last line of a run whose steps ended so, if it has one. Answers the status.
+/// Writes the last line of a run whose steps ended so, if it has one. Returns the status.
 pub(crate) fn write_end<W: Write>(writer: &mut W, end: StepsEnd) -> io::Result<u8>
     ensures status { IfOk result (λ status. status ≡ status_of end) }
     ensures written { OnOk result (Appends (W.contents writer.old) (W.contents writer.new) (line_of end)) }

@@ -17,7 +17,7 @@ pub const LIMIT: usize = 1_048_576;
 /// Why there is no answer.
 #[derive(Clone, Copy, Debug, PartialEq, Eq)]
 pub enum Stop {
-    /// No memory was left.
+    /// Memory ran out before any effect.
     Memory,
     /// A read failed, or the input is too long or no UTF-8.
     Io,
@@ -39,7 +39,8 @@ impl<T: Drop> From<AllocFailed<T>> for Stop {
     }
 }
 
-/// The next bytes of a reader, into the chunk. Whether the read failed is noted, and none is tried behind one that failed.
+/// Returns the next bytes of a reader, into the chunk. Whether the read failed is noted, and none
+/// is tried after one that failed.
 fn read_chunk<R: Read>(reader: &mut R, chunk: &mut [u8], failed: &mut bool) -> io::Result<usize>
     requires untried { failed.old ≡ false }
     ensures bound { ReadsAtMost result chunk.new }
@@ -51,7 +52,8 @@ fn read_chunk<R: Read>(reader: &mut R, chunk: &mut [u8], failed: &mut bool) -> i
     told
 }
 
-/// All bytes of a reader, which are at most the limit. It reads at most once more than the limit has bytes.
+/// Returns all bytes of a reader, which are at most the limit. It reads at most once more than the
+/// limit has bytes.
 #[tactic(auto, using(crate::proofs::Unreadable::too_long))]
 fn read_bytes<R: Read>(alloc: Global, reader: &mut R, failed: &mut bool) -> Result<Vec<u8>, Stop>
     requires untried { failed.old ≡ false }
@@ -77,8 +79,9 @@ fn read_bytes<R: Read>(alloc: Global, reader: &mut R, failed: &mut bool) -> Resu
     unreachable!()
 }
 
-/// The whole input, where it can be read. `Stop::Io` comes only where a read has failed, which is noted, or where the input is too long
-/// or no UTF-8; of the latter it is noted how many bytes are.
+/// Returns the whole input, where it can be read. `Stop::Io` comes only where a read has failed,
+/// which is noted, or where the input is too long or no UTF-8; of the latter it is noted how many
+/// bytes are.
 #[tactic(auto, using(crate::proofs::Unreadable::unreadable_long, crate::proofs::Unreadable::unreadable_text))]
 pub fn read_input<R: Read>(
     alloc: Global,

@@ -1,9 +1,8 @@
-//! The plant's program. Its words: `one` reads messages of a modem, a line each, and prints the answers of the modem's
-//! operator; `check` reads a plant file and a script, and says whether both are well; `run` does the script's steps on the
-//! plant, and prints all that they put out; `threads` does them on a thread for each operator, and prints the same operator
-//! by operator; `capture` does them as `run` does, and writes a pcap file of what the modems send, the replies and the MAPs;
-//! `serve` keeps the plant running, and answers each line of the script as it comes; `trace` does them as `run` does, and prints
-//! of each which check decided it and what came of it, in words; `history OP` runs them too, and prints what the operator OP did.
+//! The commands of the program: each reads its input and writes its result. `one` processes the messages of one modem on a
+//! built-in plant. `check` validates a plant file and a script. `run` performs a script and prints all outputs. `threads`
+//! performs it with a thread for each operator, and prints the same operator by operator. `capture` writes the run as a pcap
+//! file. `serve` keeps the plant running and answers each line as it arrives. `trace` prints the check that decided each step.
+//! `history OP` prints what the operator OP did.
 #![tactic(auto)]
 
 mod answer;

@@ -26,7 +26,7 @@ use std::alloc::{AllocError, Global};
 use std::sync::Wait;
 use std::thread::Threads;
 
-/// The steps of lines, with memory of their own.
+/// Returns the steps of lines, with memory of their own.
 fn steps_in(alloc: Global, lines: &[LineStep]) -> Result<Vec<Step>, AllocError>
     ensures { IfOk result (λ steps. steps.items ≡ unnumbered lines.now) }
 {
@@ -37,7 +37,7 @@ fn steps_in(alloc: Global, lines: &[LineStep]) -> Result<Vec<Step>, AllocError>
     Ok(steps)
 }
 
-/// The lines of an operator's outputs.
+/// Returns the lines of an operator's outputs.
 fn put_outputs(
     alloc: Global,
     text: &mut String,
@@ -54,7 +54,7 @@ fn put_outputs(
     Ok(())
 }
 
-/// The lines of all that an operator's history put out.
+/// Returns the lines of all that an operator's history output.
 fn put_history(
     alloc: Global,
     text: &mut String,
@@ -71,7 +71,7 @@ fn put_history(
     Ok(())
 }
 
-/// The lines of all that the operators' books put out, book by book.
+/// Returns the lines of all that the operators' books output, book by book.
 fn put_books(
     alloc: Global,
     text: &mut String,
@@ -87,7 +87,7 @@ fn put_books(
     Ok(())
 }
 
-/// The lines of MAPs.
+/// Returns the lines of MAPs.
 fn put_maps(alloc: Global, text: &mut String, maps: &[MapBytes]) -> Result<(), AllocError>
     ensures { OnOk result (string_bytes text.new ≡ string_bytes text.old ++ flat_map map_line maps.now) }
 {
@@ -97,7 +97,7 @@ fn put_maps(alloc: Global, text: &mut String, maps: &[MapBytes]) -> Result<(), A
     Ok(())
 }
 
-/// What is answered where the run is settled.
+/// Returns what is answered where the run is settled.
 fn answer_of_settled(alloc: Global, plant: &Plant, settled: &Settled) -> Result<Answer, AllocError>
     ensures { IfOk result (λ answer. (answer.status ≡ 0) × (answer.text.items
         ≡ outs_text plant.now (outs_of (map view_of settled.now.books.items) settled.now.maps.items))) }
@@ -109,7 +109,7 @@ fn answer_of_settled(alloc: Global, plant: &Plant, settled: &Settled) -> Result<
     Ok(Answer { status: 0, text })
 }
 
-/// The number of the line at a place.
+/// Returns the number of the line at a place.
 fn number_at(lines: &[LineStep], place: Option<usize>) -> Option<u64>
     ensures { result ≡ number_at lines.now place }
 {
@@ -117,7 +117,7 @@ fn number_at(lines: &[LineStep], place: Option<usize>) -> Option<u64>
     Some(line.number)
 }
 
-/// The number of the line at a place, where that line gives other slices.
+/// Returns the number of the line at a place, where that line gives new slices.
 fn resliced_at(lines: &[LineStep], at: usize) -> Option<u64>
     ensures { result ≡ resliced_in (slice_get lines.now at) }
 {
@@ -128,7 +128,7 @@ fn resliced_at(lines: &[LineStep], at: usize) -> Option<u64>
     }
 }
 
-/// What is answered to a fault that a line of the script has, or none.
+/// Returns what is answered to a fault that a line of the script has, or none.
 fn answer_at(alloc: Global, number: Option<u64>) -> Result<Answer, AllocError>
     ensures { IfOk result (λ answer. TellsLine number answer.status answer.text.items) }
 {
@@ -141,7 +141,8 @@ fn answer_at(alloc: Global, number: Option<u64>) -> Result<Answer, AllocError>
     }
 }
 
-/// What is answered where an operator has no frame number left: the line of the first Tick that finds it so.
+/// Returns what is answered where an operator has no frame number left: the line of the first Tick
+/// that finds it so.
 fn answer_to_spent(alloc: Global, plant: &Plant, lines: &[LineStep]) -> Result<Answer, AllocError>
     ensures { IfOk result (λ answer. TellsSpent plant.now lines.now answer.status answer.text.items) }
 {
@@ -152,7 +153,7 @@ fn answer_to_spent(alloc: Global, plant: &Plant, lines: &[LineStep]) -> Result<A
     )
 }
 
-/// What is answered where an operator's history strays, at this place or at none.
+/// Returns what is answered where an operator's history strays, at this place or at none.
 fn answer_to_stray(
     alloc: Global,
     plant: &Plant,
@@ -172,7 +173,7 @@ fn answer_to_stray(
     Ok(Answer { status: 7, text })
 }
 
-/// What is answered to a fault of the run.
+/// Returns what is answered to a fault of the run.
 fn answer_of_fault(
     alloc: Global,
     plant: &Plant,
@@ -195,7 +196,7 @@ fn answer_of_fault(
     }
 }
 
-/// What `threads` answers. The rankings stand in the plant's order of operators.
+/// Returns what `threads` answers. The rankings are in the plant's order of operators.
 pub fn answer_of_threads<R: Threads + Wait + Sync>(
     rt: &R,
     alloc: Global,

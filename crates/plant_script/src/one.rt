@@ -1,4 +1,4 @@
-//! The word `one`: messages to outputs, outputs to text.
+//! The command `one`: messages to outputs, outputs to text.
 
 ghost use Rattle.std.specs.Prelude.{◌≡◌, ◌++◌, [], ◌∷◌, IfOk, OnOk};
 ghost use Rattle.operator_model.specs.State.{operator};
@@ -18,7 +18,7 @@ use script_format::name_of;
 use std::alloc::{AllocError, Global};
 use tlv24::Bytes;
 
-/// The line of an output.
+/// Returns the line of an output.
 fn put_line(alloc: Global, text: &mut Vec<u8>, output: &Output) -> Result<(), AllocError>
     ensures { OnOk result (text.new.items ≡ text.old.items ++ line_of output.now) }
 {
@@ -40,7 +40,7 @@ fn put_line(alloc: Global, text: &mut Vec<u8>, output: &Output) -> Result<(), Al
     text.extend_from_slice(b"\n")
 }
 
-/// The lines of outputs.
+/// Returns the lines of outputs.
 fn put_lines(alloc: Global, text: &mut Vec<u8>, outputs: &[Output]) -> Result<(), AllocError>
     ensures { OnOk result (text.new.items ≡ text.old.items ++ text_of outputs.now) }
 {
@@ -50,7 +50,7 @@ fn put_lines(alloc: Global, text: &mut Vec<u8>, outputs: &[Output]) -> Result<()
     Ok(())
 }
 
-/// One action on operator A's book, and the lines of its outputs.
+/// Returns one action on operator A's book, and the lines of its outputs.
 fn put_action(
     alloc: Global,
     book: &mut Book,
@@ -74,7 +74,7 @@ fn put_action(
     }
 }
 
-/// A message of the first modem on operator A's book, and the lines of its outputs.
+/// Returns a message of the first modem on operator A's book, and the lines of its outputs.
 fn put_message(
     alloc: Global,
     book: &mut Book,
@@ -94,7 +94,7 @@ fn put_message(
     put_action(alloc, book, text, Action::Work)
 }
 
-/// Operator A's book with nothing done.
+/// Returns operator A's book as it is opened.
 fn book_of(alloc: Global, ranking: Ranking) -> Result<Book, AllocError>
     requires { ranking.policy ≡ Strict }
     ensures { IfOk result (λ book. view_of book ≡ opened_book row_a consts_a) }
@@ -107,7 +107,7 @@ fn book_of(alloc: Global, ranking: Ranking) -> Result<Book, AllocError>
     }
 }
 
-/// The text of all outputs that messages of the first modem get of operator A's book.
+/// Returns the text of all outputs that messages of the first modem get of operator A's book.
 pub fn text_of(alloc: Global, messages: &[Bytes]) -> Result<Vec<u8>, AllocError>
     ensures { IfOk result (λ text. text.items ≡ text_of (outputs_of messages.now)) }
 {

@@ -16,14 +16,14 @@ use slice_scheduler::Slice;
 use std::alloc::{AllocError, Global};
 use transactions::Timers;
 
-/// The modem that `one` speaks for.
+/// Returns the modem that `one` speaks for.
 pub fn first_modem() -> Modem
     ensures { result ≡ first_modem }
 {
     Modem([2, 0, 0, 0, 0, 1])
 }
 
-/// The name of operator A.
+/// Returns the name of operator A.
 fn name_a() -> OperatorName
     ensures { result ≡ codes "A" }
 {
@@ -33,7 +33,7 @@ fn name_a() -> OperatorName
     }
 }
 
-/// The row of operator A.
+/// Returns the row of operator A.
 pub fn row_a(alloc: Global) -> Result<OperatorRow, AllocError>
     ensures { IfOk result (λ row. row ≡ row_a) }
 {
@@ -56,7 +56,7 @@ pub fn row_a(alloc: Global) -> Result<OperatorRow, AllocError>
     }))
 }
 
-/// What its plant's operators share.
+/// Returns what its plant's operators share.
 pub fn consts_a(alloc: Global) -> Consts
     ensures { result ≡ consts_a }
 {

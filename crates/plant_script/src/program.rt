@@ -35,14 +35,14 @@ struct Seen<'a> {
     word: Option<Word<'a>>,
     /// Whether a read failed.
     failed: bool,
-    /// Of an input that is no UTF-8, how many bytes are.
+    /// Of an input that is not UTF-8, how many bytes are.
     valid: Option<usize>,
     /// The input, where it could be read.
     input: Option<Vec<u8>>,
 }
 
 impl<'a> Seen<'a> {
-    /// Nothing yet.
+    /// Returns that nothing was read yet.
     fn new() -> Seen<'a>
         ensures { result.failed ≡ false }
     {
@@ -55,7 +55,7 @@ impl<'a> Seen<'a> {
     }
 }
 
-/// Why an input or an output came to no end.
+/// Returns why an input could not be read or an output not be written.
 fn trouble_of(seen: &Seen<'_>, status: u8) -> Trouble {
     match (status, seen.valid) {
         (5, _) => Trouble::Memory,
@@ -67,7 +67,7 @@ fn trouble_of(seen: &Seen<'_>, status: u8) -> Trouble {
     }
 }
 
-/// The reasons of a status that has some in what was read.
+/// Returns the reasons of a status that has some in what was read.
 fn reasons_of<'a>(
     alloc: Global,
     words: &'a [&'a str],
@@ -99,7 +99,7 @@ fn tell_reasons<'a, E: Write>(
     };
     let _lost = match told {
         Ok(text) => reasons.write_all(text.as_bytes()),
-        Err(_full) => reasons.write_all(b"no memory was left to say why\n"),
+        Err(_full) => reasons.write_all(b"out of memory: no message can be written\n"),
     };
     let _lost = reasons.flush();
 }
@@ -117,7 +117,7 @@ pub(crate) fn finish<W: Write>(writer: &mut W, status: u8, text: &[u8]) -> u8
     }
 }
 
-/// What `one` answers to an input.
+/// Returns what `one` answers to an input.
 #[tactic(auto, unfolding(crate::specs::One::answer_of))]
 fn answer_of(alloc: Global, input: &[u8]) -> Result<Answer, Stop>
     requires { is_readable input.now ≡ true }
@@ -140,7 +140,7 @@ fn answer_of(alloc: Global, input: &[u8]) -> Result<Answer, Stop>
     }
 }
 
-/// What is done for an input.
+/// Returns what is done for an input.
 fn serve_input(alloc: Global, word: Word<'_>, input: &[u8]) -> Result<Served, Stop>
     requires readable { is_readable input.now ≡ true }
     requires whole { word ≢ words.Serve }
@@ -159,7 +159,7 @@ fn serve_input(alloc: Global, word: Word<'_>, input: &[u8]) -> Result<Served, St
     }
 }
 
-/// What is done for what a reader has left. The input is noted where it can be read.
+/// Returns what is done for what a reader has left. The input is noted where it can be read.
 fn serve<R: Read>(
     alloc: Global,
     word: Word<'_>,
@@ -179,7 +179,7 @@ fn serve<R: Read>(
     served
 }
 
-/// The script of the input that was noted.
+/// Returns the script of the input that was noted.
 fn script_of<'s>(seen: &'s Seen<'_>) -> &'s [u8] {
     match &seen.input {
         Some(input) => script_text(input.as_slice(), before_bar(input.as_slice())),
@@ -199,7 +199,7 @@ pub(crate) fn stopped<W: Write>(writer: &mut W, stop: Stop) -> u8
     }
 }
 
-/// Answers words that give no order.
+/// Returns words that give no order.
 fn answer_to_words<W: Write>(writer: &mut W, fault: WordsFault) -> u8
     ensures answered { result ≢ 5 → result ≢ 6
         → AnswersFault fault result (λ text. Appends (W.contents writer.old) (W.contents writer.new) text) }
@@ -212,7 +212,7 @@ fn answer_to_words<W: Write>(writer: &mut W, fault: WordsFault) -> u8
     }
 }
 
-/// Answers the words, and notes what was seen on the way.
+/// Returns the words, and notes what was seen on the way.
 #[tactic(auto, using(crate::proofs::Tasks::told_alone))]
 fn answer_of_words<'a, H: Threads + Wait + Sync, R: Read, W: Write>(
     rt: &H,
@@ -229,12 +229,12 @@ fn answer_of_words<'a, H: Threads + Wait + Sync, R: Read, W: Write>(
         (W.contents writer.old) (W.contents writer.new) }
     // Other words are a fault.
     ensures refused { TellsWrong (texts words.entry.now) result (W.contents writer.old) (W.contents writer.new) }
-    // Help is told where it is asked for.
+    // Help is reported where it is asked for.
     ensures helped { TellsHelp (texts words.entry.now) result (W.contents writer.old) (W.contents writer.new) }
     // Nothing is read for words that are wrong or ask for help.
     ensures unread_if_wrong { AreWrong (texts words.entry.now) → reader.new ≡ reader.old }
     ensures unread_for_help { AsksHelp (texts words.entry.now) → reader.new ≡ reader.old }
-    // Want of memory is told as such, and nothing else is; what `run` or `trace` had written until then stands before it.
+    // Out of memory is reported as such, and nothing else is; what `run` or `trace` had written until then is before it.
     ensures memory { result ≡ 5 → TellsMemory (texts words.entry.now) (R.remaining reader.old)
         (λ text. Appends (W.contents writer.old) (W.contents writer.new) text) }
 {
@@ -263,21 +263,23 @@ fn answer_of_words<'a, H: Threads + Wait + Sync, R: Read, W: Write>(
     write_ranked(rt, alloc, task, script_of(seen), ending, writer)
 }
 
-/// Runs the program: the words after its name, its input and its output. Answers the exit status:
-/// 0 all well, or help that was asked for; 2 words that are not known, or an operator that the plant does not have; 3 a plant at
-/// fault; 4 a line at fault, or one whose step is refused; 5 want of memory; 6 a read or a write that failed, or an input that is
-/// too long or no UTF-8; 7 threads that strayed from the script's steps.
+/// Runs the program on the arguments after its name, an input and an output, and returns the exit
+/// status: 0 success, or help that was requested; 2 wrong arguments, or an operator that the plant
+/// does not have; 3 an invalid plant; 4 an invalid line, or one whose step is refused; 5 out of
+/// memory; 6 a read or a write that failed, or an input that is too long or not UTF-8; 7 threads
+/// that strayed from the script's steps.
 ///
-/// Under the word `capture` it writes a file, or the one line `fault:` of a plant or a line at fault. A file that ends at a step that is
-/// refused has status 4 and no line behind it.
+/// The command `capture` writes a file, or the one line `fault:` of an invalid plant or line. A file
+/// that ends at a refused step has status 4 and no line after it.
 ///
-/// Under the word `threads` it may wait, and nothing is said of its returning; under all others it waits for nobody.
+/// The command `threads` may wait, and nothing is said of its returning. All others wait for nobody.
 ///
-/// Under the word `run` what the steps put out is written as it is made, and no history is kept: where memory is wanting for a later
-/// step, the lines of those before it stand before the last line, `fault: memory`. Under `trace` what decided each step is written so.
+/// The command `run` writes the outputs of each step as they are made, and keeps no history. If
+/// memory runs out for a later step, the lines of those before it are before the last line, `fault:
+/// memory`. The command `trace` writes what decided each step in the same way.
 ///
-/// Statuses 5 and 6 may come at any time, since no clause says what memory or a writer does; where 6 comes, what stands
-/// before the last line is not fixed. Of help's text no clause says anything.
+/// Statuses 5 and 6 may come at any time, since no clause says what memory or a writer does. With 6
+/// it is not fixed what is before the last line. No clause says anything of the text of help.
 pub fn run_program<'a, H: Threads + Wait + Sync, R: Read, W: Write>(
     rt: &H,
     alloc: Global,
@@ -290,12 +292,12 @@ pub fn run_program<'a, H: Threads + Wait + Sync, R: Read, W: Write>(
         (W.contents writer.old) (W.contents writer.new) }
     // Other words are a fault.
     ensures refused { TellsWrong (texts words.entry.now) result (W.contents writer.old) (W.contents writer.new) }
-    // Help is told where it is asked for.
+    // Help is reported where it is asked for.
     ensures helped { TellsHelp (texts words.entry.now) result (W.contents writer.old) (W.contents writer.new) }
     // Nothing is read for words that are wrong or ask for help.
     ensures unread_if_wrong { AreWrong (texts words.entry.now) → reader.new ≡ reader.old }
     ensures unread_for_help { AsksHelp (texts words.entry.now) → reader.new ≡ reader.old }
-    // Want of memory is told as such, and nothing else is; what `run` or `trace` had written until then stands before it.
+    // Out of memory is reported as such, and nothing else is; what `run` or `trace` had written until then is before it.
     ensures memory { result ≡ 5 → TellsMemory (texts words.entry.now) (R.remaining reader.old)
         (λ text. Appends (W.contents writer.old) (W.contents writer.new) text) }
 {
@@ -304,10 +306,11 @@ pub fn run_program<'a, H: Threads + Wait + Sync, R: Read, W: Write>(
     answer_of_words(rt, alloc, words, reader, writer, &mut seen, ending)
 }
 
-/// Runs the program as `run_program` does, under the same contract, and writes the reasons of its status to one writer more: what
-/// was wrong, where, and the numbers that disagree. Of a plant that is well it tells keys that nothing reads. What fails in
-/// writing reasons is lost, and changes no status. No clause says what the reasons are. A process that ends behind the answer says so
-/// by `ending`, and need not wait until a core is taken apart.
+/// Runs the program as `run_program` does, under the same contract, and writes the reasons of its
+/// status to one writer more: what was wrong, where, and the numbers that disagree. Of a plant that
+/// is well it reports keys that nothing reads. What fails in writing reasons is lost, and changes
+/// no status. No clause says what the reasons are. A process that ends after the answer says so by
+/// `ending`, and need not wait until a core is taken apart.
 pub fn run_program_with_reasons<'a, H: Threads + Wait + Sync, R: Read, W: Write, E: Write>(
     rt: &H,
     alloc: Global,
@@ -322,12 +325,12 @@ pub fn run_program_with_reasons<'a, H: Threads + Wait + Sync, R: Read, W: Write,
         (W.contents writer.old) (W.contents writer.new) }
     // Other words are a fault.
     ensures refused { TellsWrong (texts words.entry.now) result (W.contents writer.old) (W.contents writer.new) }
-    // Help is told where it is asked for.
+    // Help is reported where it is asked for.
     ensures helped { TellsHelp (texts words.entry.now) result (W.contents writer.old) (W.contents writer.new) }
     // Nothing is read for words that are wrong or ask for help.
     ensures unread_if_wrong { AreWrong (texts words.entry.now) → reader.new ≡ reader.old }
     ensures unread_for_help { AsksHelp (texts words.entry.now) → reader.new ≡ reader.old }
-    // Want of memory is told as such, and nothing else is; what `run` or `trace` had written until then stands before it.
+    // Out of memory is reported as such, and nothing else is; what `run` or `trace` had written until then is before it.
     ensures memory { result ≡ 5 → TellsMemory (texts words.entry.now) (R.remaining reader.old)
         (λ text. Appends (W.contents writer.old) (W.contents writer.new) text) }
 {

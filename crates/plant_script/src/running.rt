@@ -33,8 +33,8 @@ use std::io::Write;
 use std::sync::Wait;
 use std::thread::Threads;
 
-/// Does the steps of lines, and drops their outputs. Answers the number of the first line whose step is refused,
-/// at which it stops; none where all are done.
+/// Does the steps of lines, and drops their outputs. Returns the number of the first line whose
+/// step is refused, at which it stops; none where all are done.
 fn run_unheard(
     alloc: Global,
     core: &mut PlantCore,
@@ -53,7 +53,7 @@ fn run_unheard(
     Ok(None)
 }
 
-/// The text, and behind it the line at fault, if there is one.
+/// Returns the text, and after it the invalid line, if there is one.
 fn ended(mut text: String, refused: Option<u64>) -> Result<Answer, AllocError>
     ensures { IfOk result (λ answer. IsEnded (string_bytes text) refused answer) }
 {
@@ -66,7 +66,7 @@ fn ended(mut text: String, refused: Option<u64>) -> Result<Answer, AllocError>
     Ok(Answer { status, text })
 }
 
-/// The lines of all that an operator did; none past the last operator.
+/// Returns the lines of all that an operator did; none past the last operator.
 fn put_history(alloc: Global, text: &mut String, core: &PlantCore, op: Op) -> Result<(), AllocError>
     ensures { OnOk result (string_bytes text.new ≡ string_bytes text.old
         ++ book_text (slice_get (core_view core.now).books op)) }
@@ -77,7 +77,7 @@ fn put_history(alloc: Global, text: &mut String, core: &PlantCore, op: Op) -> Re
     }
 }
 
-/// What `history` of an operator answers.
+/// Returns what `history` of an operator answers.
 fn answer_of_history(
     alloc: Global,
     core: &mut PlantCore,
@@ -94,7 +94,8 @@ fn answer_of_history(
     ended(text, refused)
 }
 
-/// A core of the plant, as it is opened. The rankings stand in the plant's order of operators.
+/// Returns a core of the plant, as it is opened. The rankings are in the plant's order of
+/// operators.
 pub(crate) fn core_of(
     alloc: Global,
     plant: Plant,
@@ -110,7 +111,8 @@ pub(crate) fn core_of(
     }
 }
 
-/// A core without histories of the plant, as it is opened. The rankings stand in the plant's order of operators.
+/// Returns a core without histories of the plant, as it is opened. The rankings are in the plant's
+/// order of operators.
 pub(crate) fn live_core_of(
     alloc: Global,
     plant: Plant,
@@ -126,8 +128,8 @@ pub(crate) fn live_core_of(
     }
 }
 
-/// What the run of a task answers that is not written as it goes. The rankings stand in the plant's order of operators. Only a run on
-/// threads may wait.
+/// Returns what the run of a task answers that is not written as it goes. The rankings are in the
+/// plant's order of operators. Only a run on threads may wait.
 fn answer_of_task<R: Threads + Wait + Sync>(
     rt: &R,
     alloc: Global,
@@ -160,8 +162,8 @@ fn answer_of_task<R: Threads + Wait + Sync>(
     }
 }
 
-/// Does the steps of lines on a core as it is opened, and writes what each puts out as it is made, and the last line. Answers the
-/// status.
+/// Does the steps of lines on a core as it is opened, and writes what each outputs as it is made,
+/// and the last line. Returns the status.
 fn write_run<W: Write>(
     alloc: Global,
     core: &mut LiveCore,
@@ -178,7 +180,8 @@ fn write_run<W: Write>(
     Ok(status)
 }
 
-/// Runs a task whose outputs are told, and writes them as they are made. No history is kept. Answers the exit status.
+/// Runs a task whose outputs are reported, and writes them as they are made. No history is kept.
+/// Returns the exit status.
 fn write_outs_run<W: Write>(
     alloc: Global,
     task: Task,
@@ -208,8 +211,9 @@ fn write_outs_run<W: Write>(
     }
 }
 
-/// Runs a task, and writes what that comes to. The rankings stand in the plant's order of operators; of the script, whose steps the task
-/// has, `trace` shows the lines. Only a run on threads may wait. Answers the exit status.
+/// Runs a task, and writes what that results in. The rankings are in the plant's order of
+/// operators; of the script, whose steps the task has, `trace` shows the lines. Only a run on
+/// threads may wait. Returns the exit status.
 fn write_task<R: Threads + Wait + Sync, W: Write>(
     rt: &R,
     alloc: Global,
@@ -235,8 +239,9 @@ fn write_task<R: Threads + Wait + Sync, W: Write>(
     }
 }
 
-/// Runs a task, each operator ranked by the policy of its row, and writes what that comes to; of the script, whose steps the task has,
-/// `trace` shows the lines. Only a run on threads may wait. Answers the exit status.
+/// Runs a task, each operator ranked by the policy of its row, and writes what that results in; of
+/// the script, whose steps the task has, `trace` shows the lines. Only a run on threads may wait.
+/// Returns the exit status.
 pub fn write_ranked<R: Threads + Wait + Sync, W: Write>(
     rt: &R,
     alloc: Global,

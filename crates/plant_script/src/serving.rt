@@ -1,4 +1,4 @@
-//! The word `serve`: a plant that is kept running, and answers each line of a script as it comes.
+//! The command `serve`: a plant that is kept running, and answers each line of a script as it comes.
 
 ghost use Rattle.std.specs.Prelude.{◌≡◌, ◌≢◌, List, ℕ, map, IfOk, IfSome};
 ghost use Rattle.std.specs.Io.KnownBytes.{Appends};
@@ -25,16 +25,17 @@ pub struct Service {
     pub plant: Plant,
 }
 
-/// What a plant file comes to.
+/// What a plant file results in.
 #[derive(Drop)]
 pub enum Front {
     /// Its plant is to be served.
     Plant(Service),
-    /// It is at fault: what is answered.
+    /// It is invalid: what is answered.
     Answer(Answer),
 }
 
-/// The plant of a plant file; `Stop::Io` where it is no UTF-8, of which it is noted how many bytes are.
+/// Returns the plant of a plant file; `Stop::Io` where it is not UTF-8, of which it is noted how
+/// many bytes are.
 fn front_of(alloc: Global, text: &[u8], valid: &mut Option<usize>) -> Result<Front, Stop>
     ensures { IfOk result (λ front. IsFrontOf text.now front) }
 {
@@ -55,7 +56,7 @@ fn front_of(alloc: Global, text: &[u8], valid: &mut Option<usize>) -> Result<Fro
     }
 }
 
-/// Why a plant file could not be read.
+/// Returns why a plant file could not be read.
 fn stop_of(error: &io::Error) -> Stop {
     if error.kind() == io::ErrorKind::OutOfMemory {
         Stop::Memory
@@ -64,8 +65,8 @@ fn stop_of(error: &io::Error) -> Stop {
     }
 }
 
-/// Serves a plant as it is opened, up to the end of the input. The rankings stand in the plant's order of operators. Answers the
-/// exit status.
+/// Serves a plant as it is opened, up to the end of the input. The rankings are in the plant's
+/// order of operators. Returns the exit status.
 fn serve_ranked<R: Read, W: Write>(
     alloc: Global,
     service: Service,
@@ -91,7 +92,7 @@ fn serve_ranked<R: Read, W: Write>(
     }
 }
 
-/// Serves a plant, each operator by the policy of its row. Answers the exit status.
+/// Serves a plant, each operator by the policy of its row. Returns the exit status.
 fn serve_plant<R: Read, W: Write>(
     alloc: Global,
     service: Service,
@@ -118,8 +119,8 @@ fn serve_plant<R: Read, W: Write>(
     serve_ranked(alloc, service, rankings, reader, writer)
 }
 
-/// Reads a plant file up to the line of three dashes, and serves its plant. The file is noted, or why it could not be read.
-/// Answers the exit status.
+/// Reads a plant file up to the line of three dashes, and serves its plant. The file is noted, or
+/// why it could not be read. Returns the exit status.
 pub(crate) fn serve_words<R: Read, W: Write>(
     alloc: Global,
     reader: &mut R,

@@ -66,7 +66,7 @@ pub enum Served {
     Task(Task),
 }
 
-/// The run of a script, where it is well.
+/// Returns the run of a script, where it is well.
 fn task_of_script(alloc: Global, plant: Plant, told: Told, script: &[u8]) -> Result<Served, Stop>
     ensures value { IfOk result (λ served.
         Comes served (AnswersSteps (RunsTo plant told) (steps_of plant script.now))) }
@@ -82,7 +82,7 @@ fn task_of_script(alloc: Global, plant: Plant, told: Told, script: &[u8]) -> Res
     }
 }
 
-/// The run of a script, told of the operator of this name.
+/// Returns the run of a script, reported of the operator of this name.
 fn task_of_operator(alloc: Global, plant: Plant, name: &str, script: &[u8]) -> Result<Served, Stop>
     ensures value { IfOk result (λ served.
         Comes served (AnswersOperator plant script.now (position_from (is_named name.now) 0 plant.rows))) }
@@ -97,7 +97,7 @@ fn task_of_operator(alloc: Global, plant: Plant, name: &str, script: &[u8]) -> R
     }
 }
 
-/// The run of a script, told as it is wanted.
+/// Returns the run of a script, reported as it is wanted.
 fn task_of_plant(
     alloc: Global,
     plant: Plant,
@@ -116,7 +116,7 @@ fn task_of_plant(
     }
 }
 
-/// The run of an input's script on its plant, told as it is wanted.
+/// Returns the run of an input's script on its plant, reported as it is wanted.
 pub fn task_of(alloc: Global, wanted: Wanted<'_>, input: &[u8]) -> Result<Served, Stop>
     requires { is_readable input.now ≡ true }
     ensures value { IfOk result (λ served. Comes served (AnswersInput (asked wanted.entry) input.now)) }

@@ -1,4 +1,4 @@
-//! A script's run on a plant's core, told in words.
+//! A script's run on a plant's core, reported in words.
 
 ghost use Rattle.std.specs.Prelude.{◌≡◌, ◌≢◌, [], map, IfOk};
 ghost use Rattle.std.specs.Io.KnownBytes.{Appends};
@@ -21,8 +21,8 @@ use std::io;
 use std::io::Write;
 use trace_report::write_trace;
 
-/// Does the steps of lines on a core as it is opened, and writes of each what decided it and what came of it, and the last line.
-/// Answers the status.
+/// Does the steps of lines on a core as it is opened, and writes of each what decided it and what
+/// came of it, and the last line. Returns the status.
 fn write_traced<W: Write>(
     alloc: Global,
     core: &mut PlantCore,
@@ -40,7 +40,8 @@ fn write_traced<W: Write>(
     Ok(status)
 }
 
-/// Runs a task of `trace`, and writes what decides its steps as they are done. Every book keeps its history. Answers the exit status.
+/// Runs a task of `trace`, and writes what decides its steps as they are done. Every book keeps its
+/// history. Returns the exit status.
 pub fn write_traced_run<W: Write>(
     alloc: Global,
     task: Task,

@@ -1,8 +1,7 @@
 -- What decides a message, by what it was read as, and a step, by whose message it handles.
-use Rattle.std.proofs.Common.{◌≡◌, ◌≢◌, ℕ, ◌<◌, ◌≤◌, List, length, map, get_or, Option, Some, None, option_map, Result, Ok, Err, IfOk, refl, sym, ap, ◌∙◌, subst}
+use Rattle.std.proofs.Common.{◌≡◌, ◌≢◌, ℕ, Option, Some, None, Result, Ok, Err, IfOk, refl, sym, ap, ◌∙◌, subst}
 use Rattle.std.specs.Prelude.{slice_get}
 use Rattle.std.specs.declared.alloc.AllocError.{AllocError}
-use Rattle.std.proofs.lemmas.Option.{slice_get-map, slice_get_past}
 use Rattle.dsx_messages.specs.declared.message.Message.{Message}
 use Rattle.dsx_messages.specs.declared.message.Message.TheVariants as messages
 use Rattle.dsx_messages.specs.declared.fault.MessageFault.{MessageFault}
@@ -15,7 +14,6 @@ use Rattle.operator_model.specs.State.{Operator, operator}
 use Rattle.run_model.specs.declared.step.Step.{Step}
 use Rattle.run_model.specs.declared.step.Step.TheVariants as steps
 use Rattle.run_model.specs.IsStateAfter.{CoreView}
-use Rattle.plant_core.proofs.PlaceLemmas.{seen_at}
 use Rattle.trace_report.specs.declared.decision.Decision.{Decision}
 use Rattle.trace_report.specs.Decision.{AtHand, IsAck, IsDecision, IsDecisionOf, first_message, message_handled, message_in}
 
@@ -48,18 +46,17 @@ no_work core (steps.Tick op) other = refl
 no_work core (steps.Collect op) other = refl
 no_work core (steps.Reslice from rows) other = refl
 
--- work of one of a core's books, which are seen through a map
-module _ {X : Type 0} (view : X → BookView) (core : CoreView) (desks : List X) (op : ℕ) (are : core.books ≡ map view desks) (step : Step) (is : step ≡ steps.Work op) where
-  handled : (book : Option BookView) → slice_get (map view desks) op ≡ book → message_handled core step ≡ message_in book
-  handled book there = ap (message_handled core) is ∙ (ap (λ (books : List BookView). message_in (slice_get books op)) are ∙ ap message_in there)
+-- work of one of a core's books
+module _ (core : CoreView) (op : ℕ) (step : Step) (is : step ≡ steps.Work op) where
+  handled : (book : Option BookView) → slice_get core.books op ≡ book → message_handled core step ≡ message_in book
+  handled book there = ap (message_handled core) is ∙ ap message_in there
 
-  pub nobody_works : length desks ≤ op → IsDecision core step None
-  nobody_works past =
-      subst (λ (at : Option AtHand). IsDecisionOf at None) (sym (handled None (slice_get-map view desks op ∙ ap (option_map view) (slice_get_past desks op past)))) refl
+  pub nobody_works : slice_get core.books op ≡ None → IsDecision core step None
+  nobody_works past = subst (λ (at : Option AtHand). IsDecisionOf at None) (sym (handled None past)) refl
 
-  pub one_works : (desk : X) (o : Operator) (r : Result (Option Decision) AllocError) → op < length desks → desk ≡ get_or desks op desk → o ≡ operator (view desk).consts (view desk).row (view desk).state
+  pub one_works : (book : BookView) (o : Operator) (r : Result (Option Decision) AllocError) → slice_get core.books op ≡ Some book → o ≡ operator book.consts book.row book.state
       → IfOk r (IsDecisionOf (first_message o o.state.inbox)) → IfOk r (IsDecision core step)
-  one_works desk o r lt there same decided =
+  one_works book o r there same decided =
       subst (λ (at : Option AtHand). IfOk r (IsDecisionOf at))
-      (ap (λ (x : Operator). first_message x x.state.inbox) same ∙ sym (handled (Some (view desk)) (seen_at view desks (length desks) op desk refl lt there)))
+      (ap (λ (x : Operator). first_message x x.state.inbox) same ∙ sym (handled (Some book) there))
       decided

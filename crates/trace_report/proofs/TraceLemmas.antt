@@ -1,5 +1,5 @@
 -- The steps of a script, one after the other.
-use Rattle.std.proofs.Common.{◌≡◌, ◌≢◌, ◌⊎◌, inl, inr, ℕ, zero, suc, List, [], ◌∷◌, ◌++◌, take, Option, Some, IsSome, Err, refl, sym, ap, subst, ◌∙◌, append_assoc}
+use Rattle.std.proofs.Common.{◌≡◌, inl, inr, true, false, ℕ, zero, suc, List, [], ◌∷◌, ◌++◌, take, Option, Some, None, Result, Ok, Err, OnErr, refl, sym, ap, subst, ◌∙◌, append_assoc}
 use Rattle.std.specs.Prelude.{slice_get}
 use Rattle.std.proofs.KnownBytes.{Appends-nil, Appends-trans}
 use Rattle.std.proofs.lemmas.List.{map-append}
@@ -8,20 +8,22 @@ use Rattle.run_model.specs.declared.step.Step.{Step}
 use Rattle.run_model.specs.declared.step.Out.{Out}
 use Rattle.run_model.specs.IsStateAfter.{CoreView, IsStateAfter}
 use Rattle.plant_core.specs.declared.core_fault.CoreFault.{CoreFault}
-use Rattle.plant_core.specs.declared.core_fault.CoreFault.TheVariants.{NoMemory}
 use Rattle.plant_core.specs.Faults.{step_fault, IsTold}
 use Rattle.script_format.specs.declared.script.LineStep.{LineStep}
 use Rattle.script_format.specs.Script.{unnumbered}
 use Rattle.line_service.specs.declared.steps_end.StepsEnd.{StepsEnd}
 use Rattle.line_service.specs.declared.steps_end.StepsEnd.TheVariants as ends
+use Rattle.line_service.specs.Ends.{steps_end}
 use Rattle.line_service.specs.Steps.{IsStepsEndAt}
 use Rattle.trace_report.specs.declared.decision.Decision.{Decision}
 use Rattle.trace_report.specs.Decision.{IsDecision}
+use Rattle.trace_report.specs.Remarks.{no_words_line}
 use Rattle.trace_report.specs.Trace.{AreDecided, IsTraceText, HasTraced}
 use Rattle.trace_report.specs.Told.{HasRemarked, HasToldStep}
 use Rattle.trace_report.proofs.TracedSoFar.{IsTracedSoFar}
 use Rattle.line_service.proofs.LeftLemmas.{first_left, none_left, take_next, drop_next}
-use Rattle.line_service.proofs.StepLemmas.{fault_is_told}
+use Rattle.line_service.proofs.StepLemmas.{ends_at}
+use Rattle.trace_report.proofs.RemarkLemmas.{no_remark, no_words_remark}
 use Rattle.trace_report.proofs.TextLemmas.{text_remark, text_more, decided_more}
 
 module _ (plant : PlantFields) (steps : List LineStep) where
@@ -39,7 +41,7 @@ module _ (plant : PlantFields) (steps : List LineStep) where
     text = [];
     reached = reached;
     decided = tt;
-    is_text = tt;
+    is_text = no_remark;
     written = Appends-nil known;
     left_are = refl;
   }
@@ -53,8 +55,8 @@ module _ (plant : PlantFields) (steps : List LineStep) where
     text = half.text ++ remarked.0;
     reached = half.reached;
     decided = half.decided;
-    is_text = text_remark half.decisions half.text remarked.0 half.is_text;
-    written = Appends-trans w0 w1 w2 half.text remarked.0 half.written remarked.1;
+    is_text = text_remark half.decisions half.text remarked.0 half.is_text remarked.1;
+    written = Appends-trans w0 w1 w2 half.text remarked.0 half.written remarked.2;
     left_are = half.left_are;
   }
 
@@ -78,7 +80,7 @@ module _ (plant : PlantFields) (steps : List LineStep) where
         (reached done half.told (subst (λ (p : PlantFields). IsStateAfter p done half.told old) (sym same) half.reached))
 
     -- the step is done and told
-    pub step_traced : HasToldStep decision w1 w2 → SoFar new w0 w2 rest
+    pub step_traced : HasToldStep decision true w1 w2 → SoFar new w0 w2 rest
     unfolding done
     step_traced told = record {
       at = suc half.at;
@@ -91,10 +93,27 @@ module _ (plant : PlantFields) (steps : List LineStep) where
           (decided_more plant [] done half.decisions line.step decision half.decided (old, half.told, half.reached, is));
       is_text =
           subst (λ (t : List ℕ). IsTraceText (half.decisions ++ decision ∷ []) t) (append_assoc half.text told.0 told.1)
-          (text_remark (half.decisions ++ decision ∷ []) (half.text ++ told.0) told.1 (text_more half.decisions decision half.text told.0 half.is_text told.2));
-      written = Appends-trans w0 w1 w2 half.text (told.0 ++ told.1) half.written told.3;
+          (text_remark (half.decisions ++ decision ∷ []) (half.text ++ told.0) told.1 (text_more half.decisions decision half.text told.0 half.is_text told.2) told.3);
+      written = Appends-trans w0 w1 w2 half.text (told.0 ++ told.1) half.written told.4;
       left_are = drop_next steps half.at line rest half.left_are;
     }
+
+    -- the step is done, and an allocation failed for its words
+    pub words_fail : HasToldStep decision false w1 w2 → HasTraced plant steps new ends.NoMemory w0 w2
+    unfolding step_traced
+    words_fail told =
+        let all : SoFar new w0 w2 rest = step_traced (told.0, no_words_line, told.1, no_words_remark, told.2) in
+        record {
+          at = all.at;
+          told = all.told;
+          decisions = half.decisions ++ decision ∷ [];
+          text = half.text ++ (told.0 ++ no_words_line);
+          reached = all.reached;
+          ends = inr (record { end_is = refl; others = half.decisions; last = decision; decisions_are = refl; before = half.text; line = told.0; told = told.1; text_is = refl });
+          decided = all.decided;
+          is_text = all.is_text;
+          written = all.written;
+        }
 
   -- ---- how a trace ends
 
@@ -106,7 +125,7 @@ module _ (plant : PlantFields) (steps : List LineStep) where
     decisions = half.decisions;
     text = half.text;
     reached = half.reached;
-    ends = ends;
+    ends = inl ends;
     decided = half.decided;
     is_text = half.is_text;
     written = half.written;
@@ -115,23 +134,19 @@ module _ (plant : PlantFields) (steps : List LineStep) where
   pub all_traced : (core : CoreView) (w0 w1 : Option (List ℕ)) (left : List LineStep) → SoFar core w0 w1 left → left ≡ [] → HasTraced plant steps core ends.Done w0 w1
   all_traced core w0 w1 left half none = ends_so core ends.Done w0 w1 left half (rw (none_left steps half.at (half.left_are ∙ none)) tt)
 
-  pub memory_wants : (core : CoreView) (w0 w1 : Option (List ℕ)) (left : List LineStep) → SoFar core w0 w1 left → HasTraced plant steps core ends.NoMemory w0 w1
-  memory_wants core w0 w1 left half = ends_so core ends.NoMemory w0 w1 left half tt
-
-  step_is_refused : (core : CoreView) (w0 w1 : Option (List ℕ)) (line : LineStep) (rest : List LineStep) (A : Type 0) (fault : CoreFault) → SoFar core w0 w1 (line ∷ rest)
-      → IsTold {A = A} (Err fault) (step_fault core line.step) → fault ≢ NoMemory → HasTraced plant steps core (ends.Refused line.number) w0 w1
-  step_is_refused core w0 w1 line rest A fault half told other =
-      let refused : step_fault core line.step ≡ Some fault = fault_is_told A fault (step_fault core line.step) told other in
-      let some : IsSome (step_fault core line.step) = rw refused refl in
-      ends_so core (ends.Refused line.number) w0 w1 (line ∷ rest) half (rw (first_left steps half.at line rest half.left_are) (refl, some))
+  -- an allocation failed for a step that is not refused
+  pub memory_wants : (core : CoreView) (w0 w1 : Option (List ℕ)) (line : LineStep) (rest : List LineStep) → SoFar core w0 w1 (line ∷ rest) → step_fault core line.step ≡ None
+      → HasTraced plant steps core ends.NoMemory w0 w1
+  memory_wants core w0 w1 line rest half none = ends_so core ends.NoMemory w0 w1 (line ∷ rest) half (rw (first_left steps half.at line rest half.left_are) none)
 
   -- a trace ends where a step is not done
   pub step_not_done : (old core : CoreView) (w0 w1 : Option (List ℕ)) (line : LineStep) (rest : List LineStep) (A : Type 0) (fault : CoreFault) (end : StepsEnd)
-      → SoFar old w0 w1 (line ∷ rest) → core ≡ old → IsTold {A = A} (Err fault) (step_fault old line.step)
-      → (end ≡ ends.NoMemory) ⊎ ((end ≡ ends.Refused line.number) × (fault ≢ NoMemory)) → HasTraced plant steps core end w0 w1
-  step_not_done old core w0 w1 line rest A fault end half same told (inl wants) =
+      → SoFar old w0 w1 (line ∷ rest) → core ≡ old → IsTold {A = A} (Err fault) (step_fault old line.step) → end ≡ steps_end line.number fault → HasTraced plant steps core end w0 w1
+  step_not_done old core w0 w1 line rest A fault end half same told is =
       subst (λ (c : CoreView). HasTraced plant steps c end w0 w1) (sym same)
-      (subst (λ (e : StepsEnd). HasTraced plant steps old e w0 w1) (sym wants) (memory_wants old w0 w1 (line ∷ rest) half))
-  step_not_done old core w0 w1 line rest A fault end half same told (inr refused) =
-      subst (λ (c : CoreView). HasTraced plant steps c end w0 w1) (sym same)
-      (subst (λ (e : StepsEnd). HasTraced plant steps old e w0 w1) (sym refused.0) (step_is_refused old w0 w1 line rest A fault half told refused.1))
+      (ends_so old end w0 w1 (line ∷ rest) half (rw (first_left steps half.at line rest half.left_are, is) (ends_at A old line fault told)))
+
+-- what holds of an error holds where there is one
+pub on_err_of : {A E : Type 0} (r : Result A E) (P : Type 0) → ((x : A) → r ≡ Ok x → ⊥) → OnErr r P → P
+on_err_of (Ok x) P not_ok on = absurd (not_ok x refl)
+on_err_of (Err e) P not_ok on = on

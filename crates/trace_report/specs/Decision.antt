@@ -1,4 +1,4 @@
--- What decides what a step will answer: the check that holds of the message that it handles (own).
+-- What decides what a step will answer: the check that holds of the message that it handles (implementation-specific).
 use Rattle.std.specs.Prelude.{◌≡◌, ◌≢◌, ℕ, List, [], ◌∷◌, slice_get, Option, Some, None, Ok}
 use Rattle.dsx_messages.specs.declared.modem.Modem.{Modem}
 use Rattle.dsx_messages.specs.declared.kind.Kind.{Kind}
@@ -30,7 +30,7 @@ pub record AtHand : Type 0 where
   pub modem : Modem
   pub bytes : List ℕ
 
--- what was heard, where it is a message
+-- what was received, where it is a message
 abbrev pub message_heard : Operator → Modem → Heard → Option AtHand
 message_heard op modem (heards.Message bytes) = Some (record { op = op; modem = modem; bytes = bytes })
 message_heard op modem (heards.Request sid minislots) = None

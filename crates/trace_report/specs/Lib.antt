@@ -1,4 +1,6 @@
 pub mod Decision
 pub mod Names
+pub mod Reading
+pub mod Remarks
 pub mod Trace
 pub mod Told

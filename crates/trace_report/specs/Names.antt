@@ -1,4 +1,4 @@
--- The names of checks in a trace (own).
+-- The names of checks in a trace (implementation-specific).
 use Rattle.std.specs.Prelude.{ℕ, List, codes}
 use Rattle.check_table.specs.declared.check.Check.{Check}
 use Rattle.check_table.specs.declared.check.Check.TheVariants as checks

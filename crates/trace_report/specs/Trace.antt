@@ -1,5 +1,6 @@
--- What a trace of a script says: for each step that is done, the check that decided what it answered, among remarks (own).
-use Rattle.std.specs.Prelude.{◌≡◌, ℕ, ◌-◌, ◌≤◌, List, [], ◌∷◌, ◌++◌, take, slice_get, Option, Some, None, ⊤, codes}
+-- What a trace of a script says: for each step that is done, the check that decided what it answered, among remarks
+-- (implementation-specific).
+use Rattle.std.specs.Prelude.{◌≡◌, ◌⊎◌, ℕ, ◌-◌, ◌≤◌, List, [], ◌∷◌, ◌++◌, take, slice_get, Option, Some, None, ⊤, codes}
 use Rattle.std.specs.Fmt.{decimal}
 use Rattle.std.specs.Io.KnownBytes.{Appends}
 use Rattle.plant.specs.declared.plant.PlantFields.{PlantFields}
@@ -11,19 +12,21 @@ use Rattle.run_model.specs.IsStateAfter.{CoreView, IsStateAfter}
 use Rattle.script_format.specs.declared.script.LineStep.{LineStep}
 use Rattle.script_format.specs.Script.{unnumbered}
 use Rattle.line_service.specs.declared.steps_end.StepsEnd.{StepsEnd}
+use Rattle.line_service.specs.declared.steps_end.StepsEnd.TheVariants.{NoMemory}
 use Rattle.line_service.specs.Steps.{IsStepsEndAt}
 use Rattle.trace_report.specs.declared.decision.Decision.{Decision}
 use Rattle.trace_report.specs.declared.decision.Decision.TheVariants as decisions
 use Rattle.trace_report.specs.Decision.{IsDecision}
 use Rattle.trace_report.specs.Names.{message_check_name, check_name}
+use Rattle.trace_report.specs.Remarks.{HasNoCheckLine, no_words_line}
 
 -- ---- what is decided
 
--- this decides what the step answers behind these steps, which lead to some core
+-- this decides what the step answers after these steps, which lead to some core
 abbrev pub IsDecisionAfter : PlantFields → List Step → Step → Option Decision → Type 0
 IsDecisionAfter plant before step decision = (core : CoreView) × (told : List Out) × IsStateAfter plant before told core × IsDecision core step decision
 
--- each step, behind those before it, has its decision
+-- each step, after those before it, has its decision
 abbrev pub AreDecided : PlantFields → List Step → List Step → List (Option Decision) → Type 0
 AreDecided plant before [] [] = ⊤
 AreDecided plant before [] (decision ∷ more) = ⊥
@@ -37,7 +40,7 @@ AreDecided plant before (step ∷ steps) (decision ∷ more) =
 abbrev pub check_line : ℕ → List ℕ → List ℕ
 check_line number name = codes "  check " ++ (decimal number ++ (codes ", " ++ (name ++ 10 ∷ [])))
 
--- the number of a check of a message is its place in their table; those of a request are numbered behind them
+-- the number of a check of a message is its place in their table; those of a request are numbered after them
 abbrev pub IsDecisionText : Option Decision → List ℕ → Type 0
 IsDecisionText None text = text ≡ []
 IsDecisionText (Some (decisions.Message check)) text =
@@ -45,13 +48,28 @@ IsDecisionText (Some (decisions.Message check)) text =
 IsDecisionText (Some (decisions.Request check)) text =
     (number : ℕ) × (5 ≤ number) × (slice_get table (number - 5) ≡ Some check) × (text ≡ check_line number (check_name check))
 
--- the texts of these decisions in order, with remarks before, between and behind them
+-- the texts of these decisions in order, with remarks before, between and after them, none of which has a check's line
 abbrev pub IsTraceText : List (Option Decision) → List ℕ → Type 0
-IsTraceText [] text = ⊤
+IsTraceText [] text = HasNoCheckLine text
 IsTraceText (decision ∷ more) text =
-    (remark line rest : List ℕ) × (text ≡ remark ++ (line ++ rest)) × IsDecisionText decision line × IsTraceText more rest
+    (remark line rest : List ℕ) × (text ≡ remark ++ (line ++ rest)) × HasNoCheckLine remark × IsDecisionText decision line × IsTraceText more rest
 
 -- ---- the whole trace
+
+-- an allocation failed for the words of the last step that is done: in their place the text has the line that says so, and ends
+pub record HasNoWords (decisions : List (Option Decision)) (text : List ℕ) (end : StepsEnd) : Type 0 where
+  pub end_is : end ≡ NoMemory
+  pub others : List (Option Decision)
+  pub last : Option Decision
+  pub decisions_are : decisions ≡ others ++ last ∷ []
+  pub before : List ℕ
+  pub line : List ℕ
+  pub told : IsDecisionText last line
+  pub text_is : text ≡ before ++ (line ++ no_words_line)
+
+-- the trace ends as its steps do, or with the words of the last one
+abbrev pub IsTraceEndAt : CoreView → Option LineStep → List (Option Decision) → List ℕ → StepsEnd → Type 0
+IsTraceEndAt core next decisions text end = IsStepsEndAt core next end ⊎ HasNoWords decisions text end
 
 -- so many of these steps are done on the plant as it is opened, and it ended so; what decided each is written, in order
 pub record HasTraced (plant : PlantFields) (steps : List LineStep) (core : CoreView) (end : StepsEnd) (old new : Option (List ℕ)) : Type 0 where
@@ -60,7 +78,7 @@ pub record HasTraced (plant : PlantFields) (steps : List LineStep) (core : CoreV
   pub decisions : List (Option Decision)
   pub text : List ℕ
   pub reached : IsStateAfter plant (unnumbered (take at steps)) told core
-  pub ends : IsStepsEndAt core (slice_get steps at) end
+  pub ends : IsTraceEndAt core (slice_get steps at) decisions text end
   pub decided : AreDecided plant [] (unnumbered (take at steps)) decisions
   pub is_text : IsTraceText decisions text
   pub written : Appends old new text

@@ -1,12 +1,13 @@
 //! What decides what a step will answer.
 
-ghost use Rattle.std.specs.Prelude.{◌≡◌, ◌≢◌, Err, IfOk};
+ghost use Rattle.std.specs.Prelude.{◌≡◌, ◌≢◌, None, Err, IfOk, OnErr};
 ghost use Rattle.dsx_messages.specs.declared.fault.MessageFault.TheVariants.{NoMemory};
 ghost use Rattle.dsx_messages.specs.Reading.{message_of};
 ghost use Rattle.check_table.specs.declared.check.MessageCheck.TheVariants.{Judged};
 ghost use Rattle.check_table.specs.First.{IsFirst};
 ghost use Rattle.check_table.specs.Messages.{HoldsOf, message_table};
 ghost use Rattle.plant_core.specs.CoreView.{core_view};
+ghost use Rattle.plant_core.specs.Faults.{step_fault};
 ghost use Rattle.trace_report.specs.Decision.{first_message, Decides, IsDecisionOf, IsDecision};
 
 use check_explainer::OperatorSnapshot;
@@ -26,7 +27,7 @@ pub enum Decision {
     Request(Check),
 }
 
-/// What a message says, or its first fault, where memory was not wanting.
+/// Returns what a message says, or its first fault, where memory was not wanting.
 fn reading_of(alloc: Global, bytes: &[u8]) -> Result<Result<Message, MessageFault>, AllocError>
     ensures read { IfOk result (λ reading. reading ≡ message_of bytes.now) }
     ensures memory { IfOk result (λ reading. reading ≢ Err NoMemory) }
@@ -40,7 +41,8 @@ fn reading_of(alloc: Global, bytes: &[u8]) -> Result<Result<Message, MessageFaul
     }
 }
 
-/// What decides a message of which no check but the last holds: a check of the request that it says.
+/// Returns what decides a message of which no check but the last holds: a check of the request that
+/// it says.
 fn judged(
     alloc: Global,
     operator_snapshot: &OperatorSnapshot,
@@ -66,7 +68,7 @@ fn judged(
     }
 }
 
-/// What decides a message of a modem.
+/// Returns what decides a message of a modem.
 fn decision_in(
     alloc: Global,
     operator_snapshot: &OperatorSnapshot,
@@ -85,7 +87,7 @@ fn decision_in(
     }
 }
 
-/// What decides the first of the inbox.
+/// Returns what decides the first of the inbox.
 fn decision_at(
     alloc: Global,
     operator_snapshot: &OperatorSnapshot,
@@ -112,22 +114,24 @@ fn decision_at(
     }
 }
 
-/// The check that decides what a step of the core will answer: that of the message which it handles. None where it handles none
-/// or an acknowledgement. Takes memory for a copy of the operator's state.
+/// Returns the check that decides what a step of the core will answer: that of the message which it handles. None where it handles
+/// none or an acknowledgement. A step that handles a message needs memory for a copy of the operator's state; no other does.
 pub fn decision_of(
     alloc: Global,
     core: &PlantCore,
     step: &Step,
 ) -> Result<Option<Decision>, AllocError>
-    ensures { IfOk result (λ decision. IsDecision (core_view core.now) step.now decision) }
+    ensures decision { IfOk result (λ decision. IsDecision (core_view core.now) step.now decision) }
+    // Only a step that the core does not refuse needs memory.
+    ensures memory { OnErr result (step_fault (core_view core.now) step.now ≡ None) }
 {
     let Step::Work { op } = step else {
         return Ok(None);
     };
-    match core.desks.get(*op) {
+    match core.book(*op) {
         None => Ok(None),
-        Some(desk) => {
-            let operator_snapshot = OperatorSnapshot::of_book(alloc, &desk.book)?;
+        Some(book) => {
+            let operator_snapshot = OperatorSnapshot::of_book(alloc, book)?;
             decision_at(alloc, &operator_snapshot)
         }
     }

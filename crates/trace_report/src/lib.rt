@@ -1,13 +1,17 @@
-//! A trace of a script: its steps done one after the other, and for each what it put out in words. Which check decided what a
-//! message was answered is not guessed afterwards: what the trace says is proved to be the check of the tables that held.
+//! A trace of a script: performs its steps, and writes the check that decided each message. The check is proved to be the one
+//! of the tables that held.
 #![tactic(auto)]
 
 mod decision;
+mod laws;
+mod lines;
 mod names;
 mod numbers;
+mod remarks;
 mod seen;
 mod trace;
 mod words;
 
 pub use decision::{Decision, decision_of};
+pub use laws::check_lines_are_decisions;
 pub use trace::write_trace;

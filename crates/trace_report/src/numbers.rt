@@ -32,12 +32,12 @@ pub(crate) fn committed_by(units: Units, flows: &[(u32, Flow)]) -> Committed {
     committed
 }
 
-/// Whether an encoding asks for an admitted set (CM-SP-MULPIv3.1, Annex C, subtype 6).
+/// Returns whether an encoding asks for an admitted set (CM-SP-MULPIv3.1, Annex C, subtype 6).
 fn is_to_be_admitted(encoding: &FlowTlv) -> bool {
     matches!(encoding.get_set_type(), Some(2 | 6))
 }
 
-/// The set of an encoding, where it has one.
+/// Returns the set of an encoding, where it has one.
 fn set_of(consts: &Consts, encoding: &FlowTlv) -> Option<ParamSet> {
     let asked = consts.asked(encoding)?;
     match from_tlv(&asked, &consts.get_fields().units) {
@@ -46,7 +46,7 @@ fn set_of(consts: &Consts, encoding: &FlowTlv) -> Option<ParamSet> {
     }
 }
 
-/// What the set needs that a request asks to be admitted.
+/// Returns what the set needs that a request asks to be admitted.
 fn needed_by(consts: &Consts, encodings: &[FlowTlv]) -> Budget {
     match encodings
         .iter()
@@ -60,7 +60,7 @@ fn needed_by(consts: &Consts, encodings: &[FlowTlv]) -> Budget {
     }
 }
 
-/// The SFID that a change names.
+/// Returns the SFID that a change names.
 fn changed_sfid(request: &Request) -> Option<u32> {
     match request {
         Request::Dsc { tid: _, flows } => flows.as_slice().first()?.get_sfid(),
@@ -75,7 +75,7 @@ fn encodings_of(request: &Request) -> &[FlowTlv] {
     }
 }
 
-/// The flow that a change is about.
+/// Returns the flow that a change is about.
 fn changed_flow<'a>(flows: &'a [(u32, Flow)], request: &Request) -> Option<&'a Flow> {
     let named = changed_sfid(request)?;
     let (_sfid, flow) = flows.iter().find(|entry| entry.0 == named)?;
@@ -111,7 +111,7 @@ fn room_of(operator_snapshot: &OperatorSnapshot, request: &Request) -> RequestRo
     RequestRoom { held, needed }
 }
 
-/// The budget that a request passes: the one in force, or the one that waits for its frame.
+/// Returns the budget that a request passes: the one in force, or the one that waits for its frame.
 fn minislots_over(
     alloc: Global,
     operator_snapshot: &OperatorSnapshot,
@@ -124,18 +124,18 @@ fn minislots_over(
         Some(next) if held.saturating_add(needed) <= u64::from(budget) => {
             let (waiting, from) = (next.share.budget, next.from);
             format!(in alloc;
-                "    the budget of {waiting} minislots from frame {from} holds {held}, this flow needs {needed}\n"
+                "the budget of {waiting} minislots from frame {from} holds {held}, this flow needs {needed}\n"
             )
         }
         _ => {
             format!(in alloc;
-                "    the budget of {budget} minislots holds {held}, this flow needs {needed}\n"
+                "the budget of {budget} minislots holds {held}, this flow needs {needed}\n"
             )
         }
     }
 }
 
-/// The quota that a request passes.
+/// Returns the quota that a request passes.
 fn elements_over(
     alloc: Global,
     operator_snapshot: &OperatorSnapshot,
@@ -144,24 +144,24 @@ fn elements_over(
     let room = room_of(operator_snapshot, request);
     let (held, needed) = (room.held.elements, room.needed.elements);
     let quota = operator_snapshot.row().get_fields().elements;
-    format!(in alloc; "    the quota of {quota} elements holds {held}, this flow needs {needed}\n")
+    format!(in alloc; "the quota of {quota} elements holds {held}, this flow needs {needed}\n")
 }
 
-/// The flows that stand, and how many may.
+/// Returns the flows that are present, and how many may.
 fn flows_full(alloc: Global, operator_snapshot: &OperatorSnapshot) -> Result<String, AllocError> {
     let count = operator_snapshot.state().flows().len();
     let most = operator_snapshot.row().get_fields().flows;
-    format!(in alloc; "    {count} of {most} flows stand\n")
+    format!(in alloc; "{count} of {most} flows stand\n")
 }
 
-/// The transactions that are kept, and how many may be.
+/// Returns the transactions that are kept, and how many may be.
 fn kept_full(alloc: Global, operator_snapshot: &OperatorSnapshot) -> Result<String, AllocError> {
     let count = operator_snapshot.state().kept().len();
     let most = operator_snapshot.row().get_fields().transactions;
-    format!(in alloc; "    {count} of {most} transactions are kept\n")
+    format!(in alloc; "{count} of {most} transactions are kept\n")
 }
 
-/// The request that was heard, if it was one.
+/// Returns the request that was received, if it was one.
 fn request_in(alloc: Global, heard: &Heard) -> Option<Request> {
     match heard {
         Heard::Message(bytes) => match read(alloc, bytes.as_slice()) {
@@ -175,7 +175,7 @@ fn request_in(alloc: Global, heard: &Heard) -> Option<Request> {
     }
 }
 
-/// The numbers that a check compares, of what was heard; empty where it compares none.
+/// Returns the numbers that a check compares, of what was received; empty where it compares none.
 pub(crate) fn reason_of(
     alloc: Global,
     operator_snapshot: &OperatorSnapshot,

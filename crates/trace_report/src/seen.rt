@@ -1,18 +1,19 @@
 //! What is seen of a step before it is done.
 
-ghost use Rattle.std.specs.Prelude.{IfOk};
+ghost use Rattle.std.specs.Prelude.{◌≡◌, None, IfOk, OnErr};
 ghost use Rattle.plant_core.specs.CoreView.{core_view};
+ghost use Rattle.plant_core.specs.Faults.{step_fault};
 ghost use Rattle.trace_report.specs.Decision.{IsDecision};
 
 use crate::decision::{Decision, decision_of};
 use crate::numbers::reason_of;
 use check_explainer::OperatorSnapshot;
 use operator_model::{Arrival, Heard};
-use plant_core::{Desk, PlantCore};
+use plant_core::PlantCore;
 use run_model::Step;
 use std::alloc::{AllocError, Global};
 
-/// What a step is about, as far as what it puts out does not tell that.
+/// What a step is about, as far as what it outputs does not tell that.
 #[derive(Clone, Copy, Debug, PartialEq, Eq)]
 pub(crate) enum About {
     /// No message and no request, or a message that ends before its transaction ID.
@@ -34,7 +35,7 @@ pub(crate) struct StepReport {
     pub about: About,
 }
 
-/// What a step is about that handles this.
+/// Returns what a step is about that handles this.
 fn about_heard(heard: &Heard) -> About {
     match heard {
         Heard::Request { sid, minislots } => About::Sid {
@@ -50,46 +51,50 @@ fn about_heard(heard: &Heard) -> About {
     }
 }
 
-/// The numbers that a check compares, of the first of an operator's inbox; and what that is about.
+/// Returns the numbers that a check compares, of the first of an operator's inbox; and what that is
+/// about.
 fn reason_at(
     alloc: Global,
-    desk: &Desk,
+    operator_snapshot: &OperatorSnapshot,
     decision: Option<Decision>,
 ) -> Result<(String, About), AllocError> {
-    let operator_snapshot = OperatorSnapshot::of_book(alloc, &desk.book)?;
     match operator_snapshot.state().inbox().first() {
         None => Ok((String::new(alloc), About::Nothing)),
         Some(Arrival { modem: _, heard }) => {
-            let reason = reason_of(alloc, &operator_snapshot, heard, decision)?;
+            let reason = reason_of(alloc, operator_snapshot, heard, decision)?;
             Ok((reason, about_heard(heard)))
         }
     }
 }
 
-/// The numbers that a step's check compares, and what the step is about.
+/// Returns the numbers that a step's check compares, and what the step is about. Only a step that the core does not refuse needs
+/// memory.
 fn reason_for(
     alloc: Global,
     core: &PlantCore,
     step: &Step,
     decision: Option<Decision>,
-) -> Result<(String, About), AllocError> {
+) -> Result<(String, About), AllocError>
+    ensures { OnErr result (step_fault (core_view core.now) step.now ≡ None) }
+{
     match step {
         Step::Arrive { modem: _, heard } => Ok((String::new(alloc), about_heard(heard))),
-        Step::Work { op } => match core.desks.get(*op) {
+        Step::Work { op } => match core.book(*op) {
             None => Ok((String::new(alloc), About::Nothing)),
-            Some(desk) => reason_at(alloc, desk, decision),
+            Some(book) => reason_at(alloc, &OperatorSnapshot::of_book(alloc, book)?, decision),
         },
         _ => Ok((String::new(alloc), About::Nothing)),
     }
 }
 
-/// What is seen of a step before it is done.
+/// Returns what is seen of a step before it is done. Only a step that the core does not refuse needs memory.
 pub(crate) fn seen_of(
     alloc: Global,
     core: &PlantCore,
     step: &Step,
 ) -> Result<StepReport, AllocError>
-    ensures { IfOk result (λ seen. IsDecision (core_view core.now) step.now seen.decision) }
+    ensures decision { IfOk result (λ seen. IsDecision (core_view core.now) step.now seen.decision) }
+    ensures memory { OnErr result (step_fault (core_view core.now) step.now ≡ None) }
 {
     let decision = decision_of(alloc, core, step)?;
     let (reason, about) = reason_for(alloc, core, step, decision)?;

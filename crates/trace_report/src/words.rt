@@ -1,4 +1,4 @@
-//! What a step put out, in words.
+//! What a step output, in words.
 
 use crate::numbers::committed_by;
 use crate::seen::{About, StepReport};
@@ -21,7 +21,7 @@ fn response_name(kind: Kind) -> &'static str {
     }
 }
 
-/// A confirmation code in the standard's words (CM-SP-MULPIv3.1, Annex C, C.4).
+/// Returns a confirmation code in the standard's words (CM-SP-MULPIv3.1, Annex C, C.4).
 fn code_name(code: Code) -> &'static str {
     match code {
         Code::Okay => "okay",
@@ -40,7 +40,7 @@ fn code_name(code: Code) -> &'static str {
     }
 }
 
-/// What a reply says beside its code.
+/// Returns what a reply says besides its code.
 fn put_detail(text: &mut String, detail: Detail) -> Result<(), AllocError> {
     match detail {
         Detail::Nothing => Ok(()),
@@ -69,7 +69,7 @@ fn put_detail(text: &mut String, detail: Detail) -> Result<(), AllocError> {
     }
 }
 
-/// Sets of a flow, by the minislots that each needs of the budget.
+/// Adds the sets of a flow, by the minislots that each needs of the budget.
 fn put_listed(
     text: &mut String,
     units: Units,
@@ -89,9 +89,9 @@ fn put_listed(
     Ok(())
 }
 
-/// The sets of a flow: those it has, and those that wait for an acknowledgement.
+/// Returns the sets of a flow: those it has, and those that wait for an acknowledgement.
 fn put_sets(text: &mut String, units: Units, sfid: u32, flow: &Flow) -> Result<(), AllocError> {
-    write!(text, "    SFID {sfid}: ")?;
+    write!(text, "SFID {sfid}: ")?;
     let has = flow.sets.get_fields();
     let sets = [
         ("provisioned", has.provisioned),
@@ -108,7 +108,8 @@ fn put_sets(text: &mut String, units: Units, sfid: u32, flow: &Flow) -> Result<(
     text.push_str("\n")
 }
 
-/// A flow of an operator that was added or changed, and how much of the budget is held then.
+/// Returns a flow of an operator that was added or changed, and how much of the budget is held
+/// then.
 fn put_flow(
     alloc: Global,
     text: &mut String,
@@ -116,24 +117,24 @@ fn put_flow(
     op: Op,
     sfid: u32,
 ) -> Result<(), AllocError> {
-    let Some(desk) = core.desks.get(op) else {
+    let Some(book) = core.book(op) else {
         return Ok(());
     };
-    let state = desk.book.state_view(alloc)?;
-    let units = desk.book.consts().get_fields().units;
+    let state = book.state_view(alloc)?;
+    let units = book.consts().get_fields().units;
     if let Some((_sfid, flow)) = state.flows().iter().find(|entry| entry.0 == sfid) {
         put_sets(text, units, sfid, flow)?;
     }
     let budget = state.share().budget;
     let held = committed_by(units, state.flows()).minislots;
-    write!(text, "    the budget of {budget} minislots holds {held}\n")
+    write!(text, "the budget of {budget} minislots holds {held}\n")
 }
 
-/// A reply that was read.
+/// Returns a reply that was read.
 fn put_read(text: &mut String, modem: Modem, reply: &Reply) -> Result<(), AllocError> {
     let (name, tid) = (response_name(reply.get_kind()), reply.get_tid());
     let code = code_name(reply.get_code());
-    write!(text, "    {name} to {modem}, transaction {tid}: {code}")?;
+    write!(text, "{name} to {modem}, transaction {tid}: {code}")?;
     put_detail(text, reply.get_detail())?;
     text.push_str("\n")
 }
@@ -147,7 +148,7 @@ fn put_reply(
     bytes: &[u8],
 ) -> Result<(), AllocError> {
     let Some(reply) = read_reply(bytes) else {
-        return write!(text, "    a reply to {modem}\n");
+        return write!(text, "a reply to {modem}\n");
     };
     put_read(text, modem, &reply)?;
     match reply.get_detail() {
@@ -160,7 +161,7 @@ fn put_reply(
     }
 }
 
-/// What a step is about that is not answered.
+/// Returns what a step is about that is not answered.
 fn put_about(text: &mut String, about: About) -> Result<(), AllocError> {
     match about {
         About::Nothing => Ok(()),
@@ -175,7 +176,7 @@ fn put_silent(
     cause: Cause,
     about: About,
 ) -> Result<(), AllocError> {
-    text.push_str("    no answer")?;
+    text.push_str("no answer")?;
     if let Some(modem) = modem {
         write!(text, " to {modem}")?;
     }
@@ -185,7 +186,7 @@ fn put_silent(
     text.push_str("\n")
 }
 
-/// What a span is for.
+/// Returns what a span is for.
 fn use_name(iuc: Iuc) -> &'static str {
     match iuc {
         Iuc::Request => "request region",
@@ -202,13 +203,10 @@ fn put_span(text: &mut String, span: Span) -> Result<(), AllocError> {
         len,
     } = span;
     if sid == 0 {
-        return write!(text, "    idle: {len} minislots from {start}\n");
+        return write!(text, "idle: {len} minislots from {start}\n");
     }
     let name = use_name(iuc);
-    write!(
-        text,
-        "    SID {sid}: {name} of {len} minislots from {start}\n"
-    )
+    write!(text, "SID {sid}: {name} of {len} minislots from {start}\n")
 }
 
 fn put_spans(text: &mut String, spans: &[Span]) -> Result<(), AllocError> {
@@ -220,12 +218,12 @@ fn put_spans(text: &mut String, spans: &[Span]) -> Result<(), AllocError> {
 
 fn put_pending(text: &mut String, pending: &[u16]) -> Result<(), AllocError> {
     for sid in pending {
-        write!(text, "    SID {sid}: grant pending\n")?;
+        write!(text, "SID {sid}: grant pending\n")?;
     }
     Ok(())
 }
 
-/// A frame of an operator.
+/// Returns a frame of an operator.
 fn put_frame(
     text: &mut String,
     core: &PlantCore,
@@ -233,7 +231,7 @@ fn put_frame(
     number: u32,
     elements: &Elements,
 ) -> Result<(), AllocError> {
-    write!(text, "    frame {number} of ")?;
+    write!(text, "frame {number} of ")?;
     put_name(text, core.plant(), op)?;
     text.push_str("\n")?;
     put_spans(text, elements.get_spans())?;
@@ -262,12 +260,12 @@ fn put_out(
         } => put_frame(text, core, *op, *number, elements),
         Out::Map(made) => {
             let frame = made.frame;
-            write!(text, "    MAP of frame {frame} made\n")
+            write!(text, "MAP of frame {frame} made\n")
         }
     }
 }
 
-/// The numbers of the check that decided a step, and what the step put out, in words.
+/// Returns the numbers of the check that decided a step, and what the step output, in words.
 pub(crate) fn words_of(
     alloc: Global,
     core: &PlantCore,

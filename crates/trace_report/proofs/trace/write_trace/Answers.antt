@@ -1,9 +1,10 @@
-use Rattle.std.proofs.Common.{◌≡◌, [], ◌∷◌, length, ap, sym, ◌∙◌}
+use Rattle.std.proofs.Common.{◌≡◌, Bool, true, false, [], ◌∷◌, length, ap, sym, subst, ◌∙◌}
 use Rattle.std.specs.Vec.Iter.{into_iter_items, into_iter_len}
 use Rattle.std.proofs.lemmas.List.{nil_from_length}
 use Rattle.plant_core.specs.CoreView.{core_view}
 use Rattle.line_service.proofs.LeftLemmas.{count_next}
-use Rattle.trace_report.proofs.TraceLemmas.{none_traced, remark_traced, step_traced, all_traced, memory_wants, step_not_done}
+use Rattle.trace_report.specs.Told.{HasToldStep}
+use Rattle.trace_report.proofs.TraceLemmas.{none_traced, remark_traced, step_traced, words_fail, all_traced, memory_wants, step_not_done, on_err_of}
 use Rattle.trace_report.proofs.trace.write_trace.Goals as goal
 
 pub loop-number-init : goal.loop-number-init
@@ -26,36 +27,32 @@ loop-number-preserved g c =
       finite = tt;
       count = count_next (into_iter_items at.number-iterator) line (into_iter_items c.next.new.self) (into_iter_len at.number-iterator) (into_iter_len c.next.new.self) left c.in-Some.ensures.steps.1 at.invariant.count;
       traced =
-          step_traced (core_view c.args.core.now).plant c.args.steps.items (core_view at.core) (core_view c.step_over.new.self) (g.W.Write.contents c.args.writer.now) (g.W.Write.contents c.write_line.new.writer) (g.W.Write.contents c.write_done.new.writer) line (into_iter_items c.next.new.self) c.step_over.new.outs.items c.in-Ok-seen_of.seen.decision
-          (remark_traced (core_view c.args.core.now).plant c.args.steps.items (core_view at.core) (g.W.Write.contents c.args.writer.now) (g.W.Write.contents at.writer) (g.W.Write.contents c.write_line.new.writer) (line ∷ into_iter_items c.next.new.self) (rw left at at.invariant.traced) c.in_ok-write_line.ensures)
-          c.in-Ok-seen_of.ensures c.in-Ok-step_over.ensures.reached c.in_ok-write_done-in-Ok-step_over.ensures;
+          step_traced (core_view c.args.core.now).plant c.args.steps.items (core_view at.core) (core_view c.step_over.new.self) (g.W.Write.contents c.args.writer.now) (g.W.Write.contents c.write_line.new.writer) (g.W.Write.contents c.write_done.new.writer) line (into_iter_items c.next.new.self) c.step_over.new.outs.items c.in-Ok.seen.decision
+          (remark_traced (core_view c.args.core.now).plant c.args.steps.items (core_view at.core) (g.W.Write.contents c.args.writer.now) (g.W.Write.contents at.writer) (g.W.Write.contents c.write_line.new.writer) (line ∷ into_iter_items c.next.new.self) (rw left at at.invariant.traced) c.in_ok-rest.ensures)
+          c.in-Ok.ensures.decision c.in-Ok-step_over.ensures.reached
+          (subst (λ (has_words : Bool). HasToldStep c.in-Ok.seen.decision has_words (g.W.Write.contents c.write_line.new.writer) (g.W.Write.contents c.write_done.new.writer)) c.if-not-branch.false c.in_ok-write_done-in-Ok-step_over.ensures);
     }
 
--- memory was wanting for the lines
+-- an allocation failed for what is seen of a step
 pub returns-in_default : goal.returns-in_default
 returns-in_default g c =
-    memory_wants (core_view c.args.core.now).plant c.args.steps.items (core_view c.args.core.now) (g.W.Write.contents c.args.writer.now) (g.W.Write.contents c.args.writer.now) c.args.steps.items
-    (none_traced (core_view c.args.core.now).plant c.args.steps.items (core_view c.args.core.now) (g.W.Write.contents c.args.writer.now) c.requires.opened)
-
--- for what is seen of a step
-pub returns-in_default-seen_of : goal.returns-in_default-seen_of
-returns-in_default-seen_of g c =
     let at = c.loop-number in
     let line = c.in-Some.field-0 in
     let left : into_iter_items at.number-iterator ≡ line ∷ into_iter_items c.next.new.self = c.in-Some.ensures.steps.0 in
-    memory_wants (core_view c.args.core.now).plant c.args.steps.items (core_view at.core) (g.W.Write.contents c.args.writer.now) (g.W.Write.contents c.write_line.new.writer) (line ∷ into_iter_items c.next.new.self)
-    (remark_traced (core_view c.args.core.now).plant c.args.steps.items (core_view at.core) (g.W.Write.contents c.args.writer.now) (g.W.Write.contents at.writer) (g.W.Write.contents c.write_line.new.writer) (line ∷ into_iter_items c.next.new.self) (rw left at at.invariant.traced) c.in_ok-write_line.ensures)
+    memory_wants (core_view c.args.core.now).plant c.args.steps.items (core_view at.core) (g.W.Write.contents c.args.writer.now) (g.W.Write.contents c.write_line.new.writer) line (into_iter_items c.next.new.self)
+    (remark_traced (core_view c.args.core.now).plant c.args.steps.items (core_view at.core) (g.W.Write.contents c.args.writer.now) (g.W.Write.contents at.writer) (g.W.Write.contents c.write_line.new.writer) (line ∷ into_iter_items c.next.new.self) (rw left at at.invariant.traced) c.in_ok-rest.ensures)
+    (on_err_of c.seen_of.result _ c.in_default.not-Ok c.seen_of.ensures.memory)
 
--- for the words of a step that is done
+-- or for the words of a step that is done
 pub returns-then-not-branch : goal.returns-then-not-branch
 returns-then-not-branch g c =
     let at = c.loop-number in
     let line = c.in-Some.field-0 in
     let left : into_iter_items at.number-iterator ≡ line ∷ into_iter_items c.next.new.self = c.in-Some.ensures.steps.0 in
-    memory_wants (core_view c.args.core.now).plant c.args.steps.items (core_view c.step_over.new.self) (g.W.Write.contents c.args.writer.now) (g.W.Write.contents c.write_done.new.writer) (into_iter_items c.next.new.self)
-    (step_traced (core_view c.args.core.now).plant c.args.steps.items (core_view at.core) (core_view c.step_over.new.self) (g.W.Write.contents c.args.writer.now) (g.W.Write.contents c.write_line.new.writer) (g.W.Write.contents c.write_done.new.writer) line (into_iter_items c.next.new.self) c.step_over.new.outs.items c.in-Ok-seen_of.seen.decision
-    (remark_traced (core_view c.args.core.now).plant c.args.steps.items (core_view at.core) (g.W.Write.contents c.args.writer.now) (g.W.Write.contents at.writer) (g.W.Write.contents c.write_line.new.writer) (line ∷ into_iter_items c.next.new.self) (rw left at at.invariant.traced) c.in_ok-write_line.ensures)
-    c.in-Ok-seen_of.ensures c.in-Ok-step_over.ensures.reached c.in_ok-write_done-in-Ok-step_over.ensures)
+    words_fail (core_view c.args.core.now).plant c.args.steps.items (core_view at.core) (core_view c.step_over.new.self) (g.W.Write.contents c.args.writer.now) (g.W.Write.contents c.write_line.new.writer) (g.W.Write.contents c.write_done.new.writer) line (into_iter_items c.next.new.self) c.step_over.new.outs.items c.in-Ok.seen.decision
+    (remark_traced (core_view c.args.core.now).plant c.args.steps.items (core_view at.core) (g.W.Write.contents c.args.writer.now) (g.W.Write.contents at.writer) (g.W.Write.contents c.write_line.new.writer) (line ∷ into_iter_items c.next.new.self) (rw left at at.invariant.traced) c.in_ok-rest.ensures)
+    c.in-Ok.ensures.decision c.in-Ok-step_over.ensures.reached
+    (subst (λ (has_words : Bool). HasToldStep c.in-Ok.seen.decision has_words (g.W.Write.contents c.write_line.new.writer) (g.W.Write.contents c.write_done.new.writer)) c.if-not-branch.true c.in_ok-write_done-in-Ok-step_over.ensures)
 
 -- a step is not done
 pub returns-in-Err : goal.returns-in-Err
@@ -64,7 +61,7 @@ returns-in-Err g c =
     let line = c.in-Some.field-0 in
     let left : into_iter_items at.number-iterator ≡ line ∷ into_iter_items c.next.new.self = c.in-Some.ensures.steps.0 in
     step_not_done (core_view c.args.core.now).plant c.args.steps.items (core_view at.core) (core_view c.step_over.new.self) (g.W.Write.contents c.args.writer.now) (g.W.Write.contents c.write_line.new.writer) line (into_iter_items c.next.new.self) (Unit {0}) c.in-Err.fault c.end_of.result
-    (remark_traced (core_view c.args.core.now).plant c.args.steps.items (core_view at.core) (g.W.Write.contents c.args.writer.now) (g.W.Write.contents at.writer) (g.W.Write.contents c.write_line.new.writer) (line ∷ into_iter_items c.next.new.self) (rw left at at.invariant.traced) c.in_ok-write_line.ensures)
+    (remark_traced (core_view c.args.core.now).plant c.args.steps.items (core_view at.core) (g.W.Write.contents c.args.writer.now) (g.W.Write.contents at.writer) (g.W.Write.contents c.write_line.new.writer) (line ∷ into_iter_items c.next.new.self) (rw left at at.invariant.traced) c.in_ok-rest.ensures)
     c.in-Err.ensures.err c.in-Err.ensures.fault c.end_of.ensures
 
 pub returns : goal.returns

@@ -1,0 +1,104 @@
+-- Lines with no line feed, and remarks one after the other.
+use Rattle.std.proofs.Common.{Option, ◌≡◌, ◌≢◌, ◌==◌, ℕ, zero, suc, ◌+◌, ◌-◌, ◌*◌, ◌/◌, ◌%◌, ◌^◌, ◌<◌, ◌≤◌, Bool, true, false, not, List, [], ◌∷◌, ◌++◌, length, take, drop, arith, refl, sym, ap, ◌∙◌, append_assoc, append-nil, codes, eq-eqb, true≢false}
+use Rattle.std.specs.Fmt.{decimal}
+use Rattle.std.specs.List.{list_all, flat_map, AllByRecursion}
+use Rattle.std.proofs.lemmas.Bool.Decides.{nat_tests}
+use Rattle.std.proofs.lemmas.Fmt.{decimal_by_steps}
+use Rattle.std.proofs.lemmas.Grind.{flat_map-append}
+use Rattle.line_service.specs.Front.{HasNoBreak}
+use Rattle.std.specs.Io.KnownBytes.{Appends}
+use Rattle.std.proofs.KnownBytes.{Appends-nil, Appends-trans}
+use Rattle.trace_report.specs.Told.{HasRemarked}
+use Rattle.trace_report.specs.Remarks.{is_check_line, IsOtherLine, with_ends, HasNoCheckLine, no_words_line}
+
+-- ---- no line feed
+
+pub no_break_both : (a b : List ℕ) → HasNoBreak a → HasNoBreak b → HasNoBreak (a ++ b)
+no_break_both [] b p q = q
+no_break_both (x ∷ a) b p q = (p.0, no_break_both a b p.1 q)
+
+-- no digit is one
+pub no_break_decimal : (n : ℕ) → n < 2 ^ 64 → HasNoBreak (decimal n)
+no_break_decimal =
+    decimal_by_steps (λ m ds. HasNoBreak ds) (λ m small. (other m, tt))
+    (λ m ds big before. no_break_both ds ((48 + m % 10) ∷ []) before (other (m % 10), tt)) where
+      other : (k : ℕ) → 48 + k ≢ 10
+      other k is = omega (arith, is)
+
+-- bytes that are written out
+abbrev pub has_no_break : List ℕ → Bool
+has_no_break bytes = list_all (λ b. not (b == 10)) bytes
+
+first_is_none : (b : ℕ) (bytes : List ℕ) (t : Bool) → (b == 10) ≡ t → has_no_break (b ∷ bytes) ≡ true → (b ≢ 10) × (has_no_break bytes ≡ true)
+first_is_none b bytes true e is = absurd (let wrong : false ≡ true = rw e at is in cc)
+first_is_none b bytes false e is =
+    let more : has_no_break bytes ≡ true = rw e at is in
+    (λ same. true≢false (sym (eq-eqb b 10 same) ∙ e), more)
+
+pub no_break_of : (bytes : List ℕ) → has_no_break bytes ≡ true → HasNoBreak bytes
+no_break_of [] is = tt
+no_break_of (b ∷ bytes) is = let first = first_is_none b bytes (b == 10) refl is in (first.0, no_break_of bytes first.1)
+
+-- ---- remarks
+
+pub no_remark : HasNoCheckLine []
+no_remark = record { lines = []; remark_is = refl; others = tt }
+
+others_both : (a b : List (List ℕ)) → AllByRecursion IsOtherLine a → AllByRecursion IsOtherLine b → AllByRecursion IsOtherLine (a ++ b)
+others_both [] b p q = q
+others_both (x ∷ a) b p q = (p.0, others_both a b p.1 q)
+
+pub remark_both : (a b : List ℕ) → HasNoCheckLine a → HasNoCheckLine b → HasNoCheckLine (a ++ b)
+remark_both a b p q = record {
+  lines = p.lines ++ q.lines;
+  remark_is =
+      ap (λ (x : List ℕ). x ++ b) p.remark_is ∙ ap (λ (y : List ℕ). with_ends p.lines ++ y) q.remark_is
+      ∙ sym (flat_map-append (λ (line : List ℕ). line ++ 10 ∷ []) p.lines q.lines);
+  others = others_both p.lines q.lines p.others q.others;
+}
+
+one_line : (line text : List ℕ) → text ≡ line ++ 10 ∷ [] → IsOtherLine line → HasNoCheckLine text
+one_line line text is other = record { lines = line ∷ []; remark_is = is ∙ sym (append-nil (line ++ 10 ∷ [])); others = (other, tt) }
+
+-- a line that is indented further than that of a check
+pub indented : (line : List ℕ) → HasNoBreak line → HasNoCheckLine (codes "    " ++ (line ++ 10 ∷ []))
+indented line none =
+    one_line (codes "    " ++ line) (codes "    " ++ (line ++ 10 ∷ [])) refl
+    (record { one = no_break_both (codes "    ") line (no_break_of (codes "    ") refl) none; no_check = refl })
+
+pub no_words_remark : HasNoCheckLine no_words_line
+no_words_remark =
+    indented (codes "out of memory: what this step did is not described")
+    (no_break_of (codes "out of memory: what this step did is not described") refl)
+
+-- a line that says a line's number and what that line says
+pub said_remark : (number : ℕ) (said : List ℕ) → number < 2 ^ 64 → HasNoBreak said
+    → HasNoCheckLine (codes "line " ++ (decimal number ++ (codes ": " ++ (said ++ 10 ∷ []))))
+said_remark number said small none =
+    one_line (codes "line " ++ (decimal number ++ (codes ": " ++ said))) (codes "line " ++ (decimal number ++ (codes ": " ++ (said ++ 10 ∷ []))))
+    (ap (λ (t : List ℕ). codes "line " ++ t) (sym (append_assoc (decimal number) (codes ": " ++ said) (10 ∷ []))))
+    (record {
+      one =
+          no_break_both (codes "line ") (decimal number ++ (codes ": " ++ said)) (no_break_of (codes "line ") refl)
+          (no_break_both (decimal number) (codes ": " ++ said) (no_break_decimal number small)
+          (no_break_both (codes ": ") said (no_break_of (codes ": ") refl) none));
+      no_check = refl;
+    })
+
+-- ---- what is written
+
+pub none_remarked : (known : Option (List ℕ)) → HasRemarked known known
+none_remarked known = ([], no_remark, Appends-nil known)
+
+-- a remark more
+pub remarked_more : (a b c : Option (List ℕ)) (remark : List ℕ) → HasRemarked a b → HasNoCheckLine remark → Appends b c remark → HasRemarked a c
+remarked_more a b c remark before none wrote =
+    (before.0 ++ remark, remark_both before.0 remark before.1 none, Appends-trans a b c before.0 remark before.2 wrote)
+
+pub line_remarked : (a b c : Option (List ℕ)) (line : List ℕ) → HasRemarked a b → HasNoBreak line → Appends b c (codes "    " ++ (line ++ 10 ∷ [])) → HasRemarked a c
+line_remarked a b c line before none wrote = remarked_more a b c (codes "    " ++ (line ++ 10 ∷ [])) before (indented line none) wrote
+
+pub said_remarked : (a b : Option (List ℕ)) (number : ℕ) (said : List ℕ) → number < 2 ^ 64 → HasNoBreak said
+    → Appends a b (codes "line " ++ (decimal number ++ (codes ": " ++ (said ++ 10 ∷ [])))) → HasRemarked a b
+said_remarked a b number said small none wrote =
+    (codes "line " ++ (decimal number ++ (codes ": " ++ (said ++ 10 ∷ []))), said_remark number said small none, wrote)
