@@ -1,4 +1,4 @@
--- What contracts see of what stands behind an operator's lock (own).
+-- What contracts see of what is behind an operator's lock (implementation-specific).
 use Rattle.std.specs.Prelude.{ℕ, List}
 use Rattle.slice_scheduler.specs.declared.elements.ElementsFields.{ElementsFields}
 use Rattle.operator_model.specs.Replay.{BookView}

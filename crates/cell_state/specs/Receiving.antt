@@ -1,12 +1,20 @@
--- What a receipt says of an action that a book takes (own).
+-- What a receipt says of an action that a book takes (implementation-specific).
 use Rattle.std.specs.Prelude.{◌≡◌, length}
 use Rattle.operator_model.specs.declared.action.Action.{Action}
 use Rattle.operator_model.specs.Replay.{BookView}
-use Rattle.operator_book.specs.OfBook.{outputs_of}
+use Rattle.operator_book.specs.OfBook.{outputs_of, IsAllowed, IsReplayed}
 use Rattle.run_receipts.specs.declared.receipt.Receipt.{Receipt}
 
--- it has the place behind all that was done, the action, and what the operator's machine puts out
+-- it has the place after all that was done, the action, and what the operator's machine outputs
 pub record IsReceiptOf (book : BookView) (action : Action) (receipt : Receipt) : Type 0 where
   pub index_is : receipt.index ≡ length book.history
   pub action_is : receipt.action ≡ action
   pub outputs_are : receipt.outputs ≡ outputs_of book action
+
+-- The receipt is of an action that some book took: a book whose state is the replay of its history, and which has just the
+-- entries before the receipt's index. So a receipt is not made up, whichever book is under the lock.
+pub record IsOfSomeBook (action : Action) (receipt : Receipt) : Type 0 where
+  pub book : BookView
+  pub replayed : IsReplayed book
+  pub allowed : IsAllowed book action
+  pub receipt_is : IsReceiptOf book action receipt

@@ -1,11 +1,12 @@
--- The frames of an operator that are taken, one by one (own).
+-- The frames of an operator that are taken, one by one (implementation-specific).
 use Rattle.std.specs.Prelude.{◌≡◌, ℕ, Bool, true, false, nat_lt, List, [], ◌∷◌, count_by, Option, Some, None}
 use Rattle.slice_scheduler.specs.declared.elements.ElementsFields.{ElementsFields}
 use Rattle.operator_model.specs.declared.action.Entry.{Entry}
 use Rattle.operator_model.specs.declared.output.Output.{Output}
 use Rattle.operator_model.specs.declared.output.Output.TheVariants.{Reply, Silent, Frame}
 use Rattle.operator_model.specs.Replay.{BookView}
-use Rattle.plant_core.specs.Waiting.{frames_in}
+use Rattle.operator_book.specs.OfBook.{IsReplayed}
+use Rattle.plant_core.specs.Waiting.{frames_in, waiting_in}
 
 -- all frames of a book's history, each with its number
 abbrev pub frames_at : BookView → List (ℕ × ElementsFields)
@@ -16,11 +17,20 @@ abbrev pub IsTaken : List (ℕ × ElementsFields) → List (ℕ × ElementsField
 IsTaken before after None = (before ≡ []) × (after ≡ [])
 IsTaken before after (Some frame) = before ≡ frame ∷ after
 
+-- The frame is the oldest that waited at some book, whose state is the replay of its history: those before it were taken. So a
+-- frame is not made up, whichever book is under the lock.
+pub record IsFrameOfSomeBook (frame : ℕ × ElementsFields) : Type 0 where
+  pub book : BookView
+  pub replayed : IsReplayed book
+  pub place : ℕ
+  pub later : List (ℕ × ElementsFields)
+  pub waited : waiting_in book.history place ≡ frame ∷ later
+
 abbrev pub is_frame : Output → Bool
 is_frame (Reply modem bytes) = false
 is_frame (Silent modem cause) = false
 is_frame (Frame number elements) = true
 
--- an entry put out a frame
+-- an entry output a frame
 abbrev pub has_frame : Entry → Bool
 has_frame entry = nat_lt 0 (count_by is_frame entry.outputs)

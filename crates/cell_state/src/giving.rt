@@ -1,4 +1,4 @@
-//! Giving other slices to all operators.
+//! Giving new slices to all operators.
 
 ghost use Rattle.std.specs.Prelude.{◌≡◌, ◌<◌, ◌≤◌, ◌^◌, All, None, length, map, option_map, vec_len, vec_capacity, OnOk, OnErr};
 ghost use Rattle.operator_model.specs.declared.action.Action.TheVariants as actions;

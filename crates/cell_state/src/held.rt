@@ -1,14 +1,14 @@
-//! What stands behind an operator's lock.
+//! The state that an operator's lock guards.
 
-ghost use Rattle.std.specs.Prelude.{◌≡◌, ◌≢◌, ◌↔◌, ◌++◌, ◌≤◌, length, Some, Err, IfOk, OnOk, OnErr};
+ghost use Rattle.std.specs.Prelude.{◌≡◌, ◌≢◌, ◌↔◌, ◌++◌, ◌≤◌, length, Some, Err, IfOk, IfErr, IfSome, OnOk, OnErr};
 ghost use Rattle.operator_model.specs.Replay.{acted};
 ghost use Rattle.operator_book.specs.OfBook.{outputs_of};
 ghost use Rattle.operator_book.specs.declared.book.BookFault.{BookFault};
 ghost use Rattle.run_model.specs.IsStateAfter.{frames_of};
 ghost use Rattle.cell_state.specs.HeldView.{book_of, waiting_of};
-ghost use Rattle.cell_state.specs.Receiving.{IsReceiptOf};
-ghost use Rattle.cell_state.specs.Refusing.{refusal_of};
-ghost use Rattle.cell_state.specs.Taking.{IsTaken};
+ghost use Rattle.cell_state.specs.Receiving.{IsReceiptOf, IsOfSomeBook};
+ghost use Rattle.cell_state.specs.Refusing.{refusal_of, IsFaultOf};
+ghost use Rattle.cell_state.specs.Taking.{IsTaken, IsFrameOfSomeBook};
 
 use crate::refusing::refusal_of;
 use operator_book::BookFault;
@@ -18,9 +18,9 @@ use run_receipts::Receipt;
 use slice_scheduler::Elements;
 use std::alloc::{AllocError, Global};
 
-/// What stands behind an operator's lock: its book with the frames that wait to be collected, and whether its turns have
-/// stopped. Whenever the lock is got, the book is the replay of its history (`Book::replay`), and the frames that wait
-/// are those behind a place of it.
+/// The state that an operator's lock guards: its book with the frames that wait to be collected, and
+/// whether its turns have stopped. Whenever the lock is got, the book is the replay of its history
+/// (`Book::replay`), and the frames that wait are those after a place of it.
 #[derive(Drop)]
 pub struct Held {
     pub desk: Desk,
@@ -28,22 +28,24 @@ pub struct Held {
 }
 
 impl Held {
-    /// How many entries the history has.
+    /// Returns how many entries the history has.
     pub fn count(&self) -> usize
         ensures { result ≡ length (book_of self.now).history }
     {
         self.desk.book.history().len()
     }
 
-    /// Does an action, and tells its caller. All memory is taken first.
+    /// Does an action, and returns its receipt. All memory is taken first.
     pub fn act(&mut self, alloc: Global, action: Action) -> Result<Receipt, BookFault>
         requires within { self.old.desk.collected ≤ length (book_of self.old).history }
         ensures receipt { IfOk result (IsReceiptOf (book_of self.old) action) }
+        ensures some_book { IfOk result (IsOfSomeBook action) }
         ensures book { OnOk result (book_of self.new ≡ acted (book_of self.old) action) }
         ensures waiting { OnOk result (waiting_of self.new
             ≡ waiting_of self.old ++ frames_of (outputs_of (book_of self.old) action)) }
         ensures refused { (fault : BookFault) → fault ≢ BookFault.NoMemory
             → (result ≡ Err fault) ↔ (refusal_of (book_of self.old) action ≡ Some fault) }
+        ensures of_action { IfErr result (IsFaultOf action) }
         ensures same_book { OnErr result (book_of self.new ≡ book_of self.old) }
         ensures same_waiting { OnErr result (waiting_of self.new ≡ waiting_of self.old) }
         ensures stopped { self.new.stopped ≡ self.old.stopped }
@@ -52,6 +54,7 @@ impl Held {
             return Err(fault);
         }
         let index = self.count();
+        self.desk.book.always_replayed();
         let Ok(told) = action.copy(alloc) else {
             return Err(BookFault::NoMemory);
         };
@@ -65,14 +68,16 @@ impl Held {
         }
     }
 
-    /// Takes the oldest frame that waits, as a copy of what the history says; none where none waits.
+    /// Takes the oldest frame that waits, as a copy of what the history has; none if none waits.
     pub fn collect(&mut self, alloc: Global) -> Result<Option<(u32, Elements)>, AllocError>
         requires within { self.old.desk.collected ≤ length (book_of self.old).history }
         ensures taken { IfOk result (IsTaken (waiting_of self.old) (waiting_of self.new)) }
+        ensures some_book { IfOk result (λ taken. IfSome taken IsFrameOfSomeBook) }
         ensures book { book_of self.new ≡ book_of self.old }
         ensures stopped { self.new.stopped ≡ self.old.stopped }
         ensures err { OnErr result (waiting_of self.new ≡ waiting_of self.old) }
     {
+        self.desk.book.always_replayed();
         let Some(oldest) = self.desk.oldest(alloc)? else {
             return Ok(None);
         };

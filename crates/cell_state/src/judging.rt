@@ -1,4 +1,4 @@
-//! Judging other slices for all operators.
+//! Judging new slices for all operators.
 
 ghost use Rattle.std.specs.Prelude.{◌≡◌, length, map};
 ghost use Rattle.cell_state.specs.HeldView.{book_of};
@@ -9,7 +9,7 @@ use operator_model::{SliceRow, Unfit};
 use plant::Op;
 use plant_core::{ResliceFault, Unfits, first_fault, is_refused};
 
-/// The least operator whose book refuses its row with this fault.
+/// Returns the least operator whose book refuses its row with this fault.
 fn least_unfit(helds: &[Held], from: u32, rows: &[SliceRow], unfit: Unfit) -> Option<Op>
     requires { length rows.now ≡ length helds.now }
     ensures { result ≡ least_unfit unfit from 0 (map book_of helds.now) rows.now }
@@ -22,7 +22,7 @@ fn least_unfit(helds: &[Held], from: u32, rows: &[SliceRow], unfit: Unfit) -> Op
     None
 }
 
-/// The first fault of other slices, where there is one row for each operator.
+/// Returns the first fault of new slices, where there is one row for each operator.
 fn row_fault(helds: &[Held], from: u32, rows: &[SliceRow]) -> Option<ResliceFault>
     requires { length rows.now ≡ length helds.now }
     ensures { result ≡ row_fault from (map book_of helds.now) rows.now }
@@ -37,7 +37,8 @@ fn row_fault(helds: &[Held], from: u32, rows: &[SliceRow]) -> Option<ResliceFaul
     first_fault(least, rows)
 }
 
-/// The first fault of other slices from a frame on: there has to be one row for each operator.
+/// Returns the first fault of new slices from a frame on: there has to be one row for each
+/// operator.
 fn counted_fault(helds: &[Held], from: u32, rows: &[SliceRow]) -> Option<ResliceFault>
     ensures { result ≡ reslice_fault from (map book_of helds.now) rows.now }
 {
@@ -47,8 +48,8 @@ fn counted_fault(helds: &[Held], from: u32, rows: &[SliceRow]) -> Option<Reslice
     row_fault(helds, from, rows)
 }
 
-/// The first fault of other slices from a frame on, if they have one: fault by fault over all operators, and of one fault
-/// the least operator or pair. Takes no memory.
+/// Returns the first fault of new slices from a frame on, if they have one: fault by fault over all
+/// operators, and of one fault the least operator or pair. Takes no memory.
 pub(crate) fn reslice_fault(helds: &Vec<Held>, from: u32, rows: &[SliceRow]) -> Option<ResliceFault>
     ensures { result ≡ reslice_fault from (map book_of helds.now.items) rows.now }
 {

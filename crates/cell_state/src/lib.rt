@@ -1,4 +1,4 @@
-//! What stands behind an operator's lock: its book with the frames that wait to be collected, and whether its turns have
+//! The state that an operator's lock guards: its book, the frames that are not yet collected, and whether its turns have
 //! stopped. All that a caller under the lock can do is a call here.
 #![tactic(auto)]
 

@@ -1,16 +1,17 @@
 //! Why a book refuses an action.
 
-ghost use Rattle.std.specs.Prelude.{◌≡◌};
+ghost use Rattle.std.specs.Prelude.{◌≡◌, IfSome};
 ghost use Rattle.operator_book.specs.ViewOf.{view_of};
-ghost use Rattle.cell_state.specs.Refusing.{refusal_of};
+ghost use Rattle.cell_state.specs.Refusing.{refusal_of, IsFaultOf};
 
 use operator_book::{Book, BookFault};
 use operator_model::Action;
 use plant::is_listed;
 
-/// Why a book refuses an action, want of memory apart. Takes no memory.
+/// Returns why a book refuses an action, apart from running out of memory. Takes no memory.
 pub(crate) fn refusal_of(book: &Book, action: &Action) -> Option<BookFault>
-    ensures { result ≡ refusal_of (view_of book.now) action.now }
+    ensures value { result ≡ refusal_of (view_of book.now) action.now }
+    ensures of_action { IfSome result (IsFaultOf action.now) }
 {
     match action {
         Action::Arrive { modem, heard: _ } => {

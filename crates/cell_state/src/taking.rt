@@ -1,4 +1,4 @@
-//! A book put behind a lock, and taken from behind it.
+//! A book put behind a lock, and taken from after it.
 
 ghost use Rattle.std.specs.Prelude.{◌≡◌, ◌≤◌, [], false, All, drop, length, count_by};
 ghost use Rattle.operator_book.specs.ViewOf.{view_of};
@@ -11,7 +11,7 @@ use operator_book::Book;
 use operator_model::{Entry, Output};
 use plant_core::Desk;
 
-/// Whether an output is a frame.
+/// Returns whether an output is a frame.
 fn is_frame(output: &Output) -> bool
     ensures { result ≡ is_frame output.now }
 {
@@ -24,28 +24,28 @@ fn is_frame(output: &Output) -> bool
     }
 }
 
-/// How many outputs are frames.
+/// Returns how many outputs are frames.
 fn count_frames(outputs: &[Output]) -> usize
     ensures { result ≡ count_by is_frame outputs.now }
 {
     outputs.iter().filter(|output| is_frame(output)).count()
 }
 
-/// Whether an entry put out a frame.
+/// Returns whether an entry output a frame.
 fn has_frame(entry: &Entry) -> bool
     ensures { result ≡ has_frame entry.now }
 {
     0 < count_frames(entry.outputs.as_slice())
 }
 
-/// How many entries put out a frame.
+/// Returns how many entries output a frame.
 fn entries_with_frame(entries: &[Entry]) -> usize
     ensures { result ≡ count_by has_frame entries.now }
 {
     entries.iter().filter(|entry| has_frame(entry)).count()
 }
 
-/// The place of a history behind its first frames, so many of them.
+/// Returns the place of a history after its first frames, so many of them.
 fn behind(history: &[Entry], taken: usize) -> usize
     requires one { All IsOneFrame history.now }
     requires enough { taken ≤ length (frames_in history.now) }
@@ -63,7 +63,7 @@ fn behind(history: &[Entry], taken: usize) -> usize
 }
 
 impl Held {
-    /// A book of which all frames count as collected. Takes no memory.
+    /// Returns a book of which all frames count as collected. Takes no memory.
     pub fn of(book: Book) -> Held
         requires { book.ranking.policy ≡ book.kept.book.row.policy }
         ensures book { book_of result ≡ view_of book }
@@ -77,7 +77,8 @@ impl Held {
         }
     }
 
-    /// A book of which so many frames are collected: what `into_parts` gives, put together again. Takes no memory.
+    /// Returns a book of which so many frames are collected: what `into_parts` gives, put together
+    /// again. Takes no memory.
     pub fn again(book: Book, taken: usize) -> Held
         requires { taken ≤ length (frames_at (view_of book)) }
         ensures book { book_of result ≡ view_of book }
@@ -92,7 +93,7 @@ impl Held {
         }
     }
 
-    /// The book, and how many of its frames were collected. Takes no memory.
+    /// Returns the book, and how many of its frames were collected. Takes no memory.
     pub fn into_parts(self) -> (Book, usize)
         requires { self.desk.collected ≤ length (book_of self).history }
         ensures book { view_of result.0 ≡ book_of self }

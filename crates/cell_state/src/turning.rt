@@ -1,14 +1,14 @@
 //! Turns at an operator's book.
 
-ghost use Rattle.std.specs.Prelude.{◌≡◌, ◌≢◌, ◌↔◌, ◌++◌, ◌≤◌, true, false, length, Some, Ok, Err, IfOk, IfErr, OnOk, OnErr};
+ghost use Rattle.std.specs.Prelude.{◌≡◌, ◌≢◌, ◌↔◌, ◌++◌, ◌≤◌, true, false, length, Some, Ok, Err, IfOk, IfErr, IfSome, OnOk, OnErr};
 ghost use Rattle.operator_model.specs.Replay.{acted};
 ghost use Rattle.operator_book.specs.OfBook.{outputs_of};
 ghost use Rattle.operator_book.specs.declared.book.BookFault.{BookFault};
 ghost use Rattle.run_model.specs.IsStateAfter.{frames_of};
 ghost use Rattle.cell_state.specs.HeldView.{book_of, waiting_of};
-ghost use Rattle.cell_state.specs.Receiving.{IsReceiptOf};
+ghost use Rattle.cell_state.specs.Receiving.{IsReceiptOf, IsOfSomeBook};
 ghost use Rattle.cell_state.specs.Refusing.{refusal_of};
-ghost use Rattle.cell_state.specs.Taking.{IsTaken};
+ghost use Rattle.cell_state.specs.Taking.{IsTaken, IsFrameOfSomeBook};
 ghost use Rattle.cell_state.specs.Telling.{IsOfTurn, IsOfTaking};
 
 use crate::cell_fault::CellFault;
@@ -35,6 +35,7 @@ impl Held {
         requires within { self.old.desk.collected ≤ length (book_of self.old).history }
         ensures index { IfOk result (λ receipt. receipt.index ≡ index) }
         ensures receipt { IfOk result (IsReceiptOf (book_of self.old) action) }
+        ensures some_book { IfOk result (IsOfSomeBook action) }
         ensures book { OnOk result (book_of self.new ≡ acted (book_of self.old) action) }
         ensures waiting { OnOk result (waiting_of self.new
             ≡ waiting_of self.old ++ frames_of (outputs_of (book_of self.old) action)) }
@@ -46,7 +47,7 @@ impl Held {
             → (result ≡ Err (CellFault.Book fault)) ↔ ((self.old.stopped ≡ false)
             × (length (book_of self.old).history ≡ index)
             × (refusal_of (book_of self.old) action ≡ Some fault)) }
-        ensures fault { IfErr result (IsOfTurn op index) }
+        ensures fault { IfErr result (IsOfTurn op index action) }
         ensures stops { (fault : BookFault) → result ≡ Err (CellFault.Book fault) → self.new.stopped ≡ true }
         ensures stays { self.old.stopped ≡ true → self.new.stopped ≡ true }
         ensures waits { result ≡ Err (CellFault.Passed op index) → self.new.stopped ≡ false }
@@ -74,6 +75,7 @@ impl Held {
     pub fn take(&mut self, alloc: Global, op: Op) -> Result<Option<(u32, Elements)>, CellFault>
         requires within { self.old.desk.collected ≤ length (book_of self.old).history }
         ensures taken { IfOk result (IsTaken (waiting_of self.old) (waiting_of self.new)) }
+        ensures some_book { IfOk result (λ taken. IfSome taken IsFrameOfSomeBook) }
         ensures stopped { (result ≡ Err (CellFault.Stopped op)) ↔ (self.old.stopped ≡ true) }
         ensures fault { IfErr result (IsOfTaking op) }
         ensures book { book_of self.new ≡ book_of self.old }

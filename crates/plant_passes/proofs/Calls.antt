@@ -1,5 +1,5 @@
 -- What a call of a cell answers, of what its steps answered.
-use Rattle.std.proofs.Common.{◌≡◌, ◌≢◌, inl, true, false, [], ◌∷◌, ◌++◌, length, Result, Ok, Err, IfErr, IsErrAnd, sym, subst, ap, ◌∙◌, append_assoc, arith}
+use Rattle.std.proofs.Common.{◌≡◌, ◌≢◌, inl, inr, true, false, [], ◌∷◌, ◌++◌, length, Result, Ok, Err, IfErr, IsErrAnd, sym, subst, ap, ◌∙◌, append_assoc, arith}
 use Rattle.std.proofs.lemmas.Bool.Decides.{nat_tests}
 use Rattle.dsx_messages.specs.declared.modem.Modem.{Modem}
 use Rattle.operator_model.specs.declared.action.Action.{Action}
@@ -13,7 +13,7 @@ use Rattle.run_receipts.specs.declared.receipt.Receipt.{Receipt}
 use Rattle.cell_state.specs.declared.cell_fault.CellFault.{CellFault}
 use Rattle.cell_state.specs.declared.cell_fault.CellFault.TheVariants.{Book, Passed, Stopped, Closed}
 use Rattle.plant_passes.specs.Words.{entry_of, mark}
-use Rattle.plant_passes.specs.Passes.{PassView, Acts, LooksOn, EndsCell, RefusesTurn, RefusesArrival, state_seen}
+use Rattle.plant_passes.specs.Passes.{PassView, Acts, LooksOn, EndsCell, RefusesBeforeTurn, RefusesTurn, RefusesArrival, state_seen}
 use Rattle.plant_passes.proofs.Again.{begins_again}
 
 -- an action after a look, told by a copy of it
@@ -49,6 +49,16 @@ refused_later p q s (Book NoMemory) look same h = inl (looks_later p q s look h.
 refused_later p q s (Passed op index) look same h = absurd h
 refused_later p q s (Stopped op) look same h = absurd h
 refused_later p q s Closed look same h = (looks_later p q s look h.0, h.1, h.2 ∙ same)
+
+-- an arrival that is refused before its turn
+pub refused_early : (p q : PassView) (fault : CellFault) → LooksOn p q → q.ended ≡ p.ended → RefusesBeforeTurn q fault → RefusesArrival p fault q
+refused_early p q (Book (NotMine modem)) look same h = absurd h
+refused_early p q (Book FramesSpent) look same h = absurd h
+refused_early p q (Book (Unfit why)) look same h = absurd h
+refused_early p q (Book NoMemory) look same h = inr (look, h, same)
+refused_early p q (Passed op index) look same h = absurd h
+refused_early p q (Stopped op) look same h = absurd h
+refused_early p q Closed look same h = (look, h, same)
 
 -- what a refused call passes on
 pub refused_now : {B : Type 0} (R : CellFault → Type 0) (fault : CellFault) (out : Result B CellFault) → IsErrAnd out (λ f. f ≡ fault) → R fault → IfErr out R

@@ -1,4 +1,4 @@
--- What a pass tells, and what the calls of a cell change (own).
+-- What a pass reports, and what the calls of a cell change (implementation-specific).
 use Rattle.std.specs.Prelude.{◌≡◌, ℕ, zero, suc, Bool, true, false, ◌⊎◌, List, [], ◌∷◌, ◌++◌, map, length, All, Contains}
 use Rattle.atomic_table.specs.Seated.{TableId}
 use Rattle.atomic_table.specs.declared.shared.Seat.{Seat}
@@ -118,6 +118,13 @@ RefusesTurn p (Book NoMemory) q = EndsCell p q
 RefusesTurn p Closed q = FindsClosed p q
 RefusesTurn p fault q = ⊥
 
+-- What refuses an arrival before its turn: the cell is found closed, or there is no memory for a copy of it and the cell is
+-- found open (implementation-specific).
+abbrev pub RefusesBeforeTurn : PassView → CellFault → Type 0
+RefusesBeforeTurn q (Book NoMemory) = q.closed ≡ false
+RefusesBeforeTurn q Closed = q.closed ≡ true
+RefusesBeforeTurn q fault = ⊥
+
 -- What a refusal of an arrival leaves. A stranger is refused before a turn is asked for. Memory may be missing before it too,
 -- where the cell was found open.
 abbrev pub RefusesArrival : PassView → CellFault → PassView → Type 0
@@ -127,7 +134,7 @@ RefusesArrival p fault q = RefusesTurn p fault q
 
 -- ---- meeting
 
--- The told pass has seen what either had seen. What is its own stays.
+-- The reported pass has seen what either had seen. What is its own stays.
 pub record HasMet (p teller q : PassView) : Type 0 where
   pub looks : LooksOn p q
   pub told : StartsWith q.seen teller.seen

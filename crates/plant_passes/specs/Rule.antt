@@ -1,4 +1,4 @@
--- The rule of a cell. Word 0 is the ticket that is served, word 1 the next ticket, and the slot holds the book (own).
+-- The rule of a cell. Word 0 is the ticket that is served, word 1 the next ticket, and the slot holds the book (implementation-specific).
 use Rattle.std.specs.Prelude.{◌≡◌, ◌≢◌, ℕ, ◌<◌, ◌≤◌, true, List, [], ◌∷◌, length, Some, Option}
 use mathlib.Core.Option.{some, none}
 use lib.ListN.{get_elem?}
@@ -20,7 +20,7 @@ pub record Progress : Type 0 where
   pub left : ℕ
   pub opens : ℕ
 
--- What the seat j of a cell knows. `origin` is what the book was opened with, and `rest` what it has beside what is kept.
+-- What the seat j of a cell knows. `origin` is what the book was opened with, and `rest` what it has next to what is kept.
 pub record Knows {X : Type 0} (origin : Origin) (rest : X) (now : Progress) (j : ℕ) (v : View X) : Type 0 where
   pub seen : StartsWith now.log v.seen
   pub told : BeginsAll now.log v.told

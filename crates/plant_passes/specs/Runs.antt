@@ -1,4 +1,4 @@
--- What an operator's own machine, run alone from its opening, makes of a history (own).
+-- What an operator's own machine, run alone from its opening, makes of a history (implementation-specific).
 use Rattle.std.specs.Prelude.{List}
 use Rattle.operator_model.specs.declared.action.Entry.{Entry}
 use Rattle.operator_model.specs.State.{OperatorState, Operator, operator, opened}

@@ -1,4 +1,4 @@
--- What each kind of step tells.
+-- What each kind of step shows.
 use Rattle.std.specs.Prelude.{◌≡◌, ◌≢◌, ℕ, ◌<◌, true, false, List, [], ◌∷◌, ◌++◌, length, Some, None, Option}
 use Rattle.atomic_table.specs.Table.{Me, Step, rest}
 use Rattle.operator_model.specs.declared.action.Entry.{Entry}
@@ -7,7 +7,7 @@ use Rattle.plant_passes.specs.declared.view.View.{View}
 use Rattle.plant_passes.specs.declared.view.Held.{Held}
 use Rattle.plant_passes.specs.Words.{closing, mark, entries, places, StartsWith, BeginsAll}
 
--- the history so far was seen, which begins with all that was seen and told of. What is one's own stays
+-- the history so far was seen, which begins with all that was seen and reported of. What is one's own stays
 pub record Looks {X : Type 0} (v w : View X) : Type 0 where
   pub me : w.me ≡ v.me
   pub parts : w.parts ≡ v.parts

@@ -1,4 +1,4 @@
--- A pass between two calls and in its turn, and a seat that takes in passes (own).
+-- A pass between two calls and in its turn, and a seat that takes in passes (implementation-specific).
 use Rattle.std.specs.Prelude.{◌≡◌, ◌<◌, ℕ, true, false, List, [], ◌∷◌, map, length, All, Contains, Option, Some, None, option_map}
 use Rattle.grant_policy.specs.declared.policy.Policy.{Policy}
 use Rattle.atomic_table.specs.declared.shared.Seat.{Seat}
@@ -28,11 +28,11 @@ pub record IsIdle {X : Type 0} (m : Me (Option (Held X)) (View X)) : Type 0 wher
   pub named : 0 < m.0.me
   pub part : m.0.parts ≡ 1
 
--- what the book has beside what is kept follows the policy of the book's row
+-- what the book has next to what is kept follows the policy of the book's row
 abbrev pub Follows : {X : Type 0} → (X → Policy) → View X → Type 0
 Follows policy v = option_map policy v.rest ≡ Some v.origin.row.policy
 
--- an action that a cell does: of a modem of the row, and no re-slicing
+-- an action that a cell does: of a modem of the row, and no slice change
 pub record IsAsked (origin : Origin) (action : Action) : Type 0 where
   pub mine : stranger_of origin.row action ≡ None
   pub fits : (consts : ConstsFields) (state : OperatorState) → unfit_of consts state action ≡ None

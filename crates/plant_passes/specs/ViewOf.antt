@@ -1,4 +1,4 @@
--- What contracts see of a cell and of a pass (own).
+-- What contracts see of a cell and of a pass (implementation-specific).
 use Rattle.plant_passes.specs.declared.pass.PassedCell.{PassedCell}
 use Rattle.plant_passes.specs.declared.pass.Pass.{Pass}
 use Rattle.plant_passes.specs.Runs.{origin_of}

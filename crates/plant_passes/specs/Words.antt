@@ -1,4 +1,4 @@
--- Histories whose entries name the pass that made them, and what a seat of the cell's table knows (own).
+-- Histories whose entries name the pass that made them, and what a seat of the cell's table knows (implementation-specific).
 use Rattle.std.specs.Prelude.{◌≡◌, ℕ, ◌+◌, ◌-◌, ◌==◌, true, false, ◌||◌, if◌then◌else◌, List, [], ◌∷◌, ◌++◌, map, length, nat_lt, None, Some}
 use Rattle.operator_model.specs.declared.action.Action.{Action}
 use Rattle.operator_model.specs.declared.action.Entry.{Entry}
@@ -14,7 +14,7 @@ use Rattle.plant_passes.specs.Runs.{origin_of}
 abbrev pub closing : ℕ
 closing = 18446744073709551615
 
--- an action, and what it put out
+-- an action, and what it output
 abbrev pub entry_of : Action → List Output → Entry
 entry_of action outputs = record { action = action; outputs = outputs }
 
@@ -115,7 +115,7 @@ module _ {X : Type 0} where
   abbrev pub dealt : View X → View X
   dealt v = record v { me = v.parts; parts = 1; opens = false; closed = false; ended = false; told = []; made = []; ticket = None; holds = false }
 
-  -- what a pass tells
+  -- what a pass reports
   abbrev pub copy : View X → View X
   copy v = record v { me = 0; parts = 0; opens = false; ended = false; told = []; made = []; ticket = None; holds = false }
 

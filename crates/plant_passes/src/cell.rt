@@ -9,7 +9,7 @@ ghost use Rattle.operator_book.specs.declared.book.BookFault.TheVariants as faul
 ghost use Rattle.cell_state.specs.declared.cell_fault.CellFault.TheVariants as refusals;
 ghost use Rattle.plant_passes.specs.Runs.{origin_of};
 ghost use Rattle.plant_passes.specs.Words.{marks};
-ghost use Rattle.plant_passes.specs.Passes.{IsOf, state_seen, first_passes, Acts, RefusesTurn, RefusesArrival, HasMet, IsLongest};
+ghost use Rattle.plant_passes.specs.Passes.{IsOf, state_seen, first_passes, Acts, LooksOn, RefusesBeforeTurn, RefusesTurn, RefusesArrival, HasMet, IsLongest};
 ghost use Rattle.plant_passes.specs.ViewOf.{cell_of, pass_of};
 
 use crate::dealing::{deal_out, gather, room_for, table_round};
@@ -26,7 +26,7 @@ use std::alloc::{AllocError, Global};
 use std::sync::Wait;
 
 impl PassedCell {
-    /// A cell round a book, and its passes, which have seen the book's history.
+    /// Returns a cell round a book, and its passes, which have seen the book's history.
     pub fn open(
         alloc: Global,
         book: Book,
@@ -50,8 +50,35 @@ impl PassedCell {
         Ok((cell, given))
     }
 
-    /// Puts what was heard of a modem at the end of the inbox, in the pass's turn. Want of memory before the turn
-    /// leaves the cell open.
+    /// Returns a copy of an action, if the cell is found open. Draws no ticket, so that running out of memory here leaves the
+    /// cell open.
+    fn copy_if_open(
+        &self,
+        alloc: Global,
+        pass: &mut Pass,
+        action: &Action,
+    ) -> Result<Action, CellFault>
+        requires of { IsOf (cell_of self.now) (pass_of pass.old) }
+        ensures of { IsOf (cell_of self.now) (pass_of pass.new) }
+        ensures looks { LooksOn (pass_of pass.old) (pass_of pass.new) }
+        ensures ended { (pass_of pass.new).ended ≡ (pass_of pass.old).ended }
+        ensures copy { IfOk result (λ told. told ≡ action.now) }
+        ensures err { IfErr result (RefusesBeforeTurn (pass_of pass.new)) }
+        ensures mine { (stranger : Modem) → result ≢ Err (refusals.Book (faults.NotMine stranger)) }
+        ensures not_spent { result ≢ Err (refusals.Book faults.FramesSpent) }
+        ensures shut { (pass_of pass.old).closed ≡ true → result ≡ Err refusals.Closed }
+    {
+        if turns::is_closed(&self.table.shared, &mut pass.seat) {
+            return Err(CellFault::Closed);
+        }
+        match action.copy(alloc) {
+            Ok(told) => Ok(told),
+            Err(_) => Err(CellFault::Book(BookFault::NoMemory)),
+        }
+    }
+
+    /// Puts what was received of a modem at the end of the inbox, in the pass's turn. Running out
+    /// of memory before the turn leaves the cell open.
     pub fn arrive<R: Wait>(
         &self,
         rt: &R,
@@ -65,7 +92,7 @@ impl PassedCell {
         ensures ok { IfOk result (λ r. Acts (pass_of pass.old) (actions.Arrive modem heard) r (pass_of pass.new)) }
         ensures err { IfErr result (λ fault. RefusesArrival (pass_of pass.old) fault (pass_of pass.new)) }
 
-        // A stranger is refused first, and before a turn is drawn; whoever knows the cell closed is then told so.
+        // A stranger is refused first, and before a turn is drawn; whoever knows the cell closed is then reported so.
         ensures not_mine { (stranger : Modem) → (result ≡ Err (refusals.Book (faults.NotMine stranger)))
             ↔ (stranger_of (cell_of self.now).origin.row (actions.Arrive modem heard) ≡ Some stranger) }
         ensures not_spent { result ≢ Err (refusals.Book faults.FramesSpent) }
@@ -76,12 +103,10 @@ impl PassedCell {
         if !is_listed(modem, self.modems.as_slice()) {
             return Err(CellFault::Book(BookFault::NotMine { modem }));
         }
-        if turns::is_closed(&self.table.shared, &mut pass.seat) {
-            return Err(CellFault::Closed);
-        }
         let action = Action::Arrive { modem, heard };
-        let Ok(told) = action.copy(alloc) else {
-            return Err(CellFault::Book(BookFault::NoMemory));
+        let told = match self.copy_if_open(alloc, pass, &action) {
+            Ok(told) => told,
+            Err(fault) => return Err(fault),
         };
         let (index, outputs) = turns::act(rt, alloc, &self.table.shared, &mut pass.seat, action)?;
         Ok(Receipt {
@@ -121,8 +146,8 @@ impl PassedCell {
         })
     }
 
-    /// Counts the timers on and gives out one frame, in the pass's turn. A re-slicing that waits takes force as in the
-    /// book.
+    /// Counts the timers on and gives out one frame, in the pass's turn. A slice change that waits
+    /// takes force as in the book.
     pub fn tick<R: Wait>(
         &self,
         rt: &R,
@@ -153,7 +178,7 @@ impl PassedCell {
         })
     }
 
-    /// Tells a pass what another has seen. Takes no memory, so it is never refused.
+    /// Shows a pass what another has seen. Takes no memory, so it is never refused.
     pub fn meet(&self, told: &mut Pass, teller: &mut Pass) -> Result<(), AllocError>
         requires told { IsOf (cell_of self.now) (pass_of told.old) }
         requires teller { IsOf (cell_of self.now) (pass_of teller.old) }
@@ -169,7 +194,7 @@ impl PassedCell {
         Ok(())
     }
 
-    /// The book, where every pass of the cell is handed back. Takes no memory.
+    /// Returns the book, where every pass of the cell is handed back. Takes no memory.
     pub fn close(self, mut passes: Vec<Pass>) -> Option<Book>
         requires of { All (λ p. IsOf (cell_of self) (pass_of p)) passes.items }
         ensures some { IfSome result (λ book. (origin_of (view_of book) ≡ (cell_of self).origin)

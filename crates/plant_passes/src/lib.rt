@@ -1,5 +1,4 @@
-//! A book that threads share, which they act on in the order of their tickets. A pass tells what its holder has seen of
-//! the history.
+//! A book that threads share and act on in the order of their tickets. A pass records what its holder has seen of the history.
 #![tactic(auto)]
 
 mod cell;

@@ -1,4 +1,4 @@
-//! The rule of a cell, and what each kind of step tells.
+//! The rule of a cell, and what each kind of step shows.
 use crate::view::{Held, Key, View};
 use atomic_table::{Join, Play, Split, TableRule};
 
@@ -14,7 +14,7 @@ impl<X> TableRule<Option<Held<X>>, View<X>, Key<X>> for Law {
     ghost first = { λ key. opener key.held.value key.passes };
 }
 
-/// A ticket is drawn.
+/// The step that draws a ticket.
 pub(crate) struct Draw;
 
 impl<X> Play<Option<Held<X>>, View<X>> for Draw {
@@ -61,7 +61,7 @@ impl<X> Split<View<X>> for Deal {
     ghost right = { dealt };
 }
 
-/// A pass tells what it has seen.
+/// The step in which a pass shows what it has seen.
 pub(crate) struct Tell;
 
 impl<X> Split<View<X>> for Tell {

@@ -29,7 +29,7 @@ pub(crate) type Desk = Shared<Slot, View<Ranking>, Key<Ranking>, Law>;
 
 pub(crate) type Place = Seat<Slot, View<Ranking>>;
 
-/// Draws a ticket.
+/// Draws a ticket for the seat.
 fn draw<R: Wait>(rt: &R, desk: &Desk, seat: &mut Place) -> u64
     requires own { (seat.old.table_id ≡ desk.now.table_id) × (desk.now.table_id.words ≡ 2) }
     requires idle { (seat.old.me.0.ticket ≡ None) × (seat.old.me.0.holds ≡ false) × (0 < seat.old.me.0.me)
@@ -133,7 +133,7 @@ fn act_in_turn(
     acted
 }
 
-/// Does an action in one's turn: the place of its entry, and what it put out.
+/// Does an action in one's turn: the place of its entry, and what it output.
 pub(crate) fn act<R: Wait>(
     rt: &R,
     alloc: Global,

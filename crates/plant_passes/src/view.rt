@@ -17,9 +17,9 @@ pub struct Mark {
     pub by: u64,
 }
 
-/// What a seat knows: its pass's number and parts, the history that it has seen and was told of, the places of its own
-/// entries in it, and its turn. `ended`: its own refused turn closed the cell. `rest` is what the book has beside what is
-/// kept.
+/// What a seat knows: its pass's number and parts, the history that it has seen and was reported
+/// of, the places of its own entries in it, and its turn. `ended`: its own refused turn closed the
+/// cell. `rest` is what the book has next to what is kept.
 pub struct View<X> {
     pub me: u64,
     pub parts: u64,
@@ -35,7 +35,7 @@ pub struct View<X> {
     pub rest: Option<X>,
 }
 
-/// What the slot holds: what is kept, beside what the rule does not see.
+/// What the slot holds: what is kept, next to what the rule does not see.
 #[derive(Drop)]
 pub struct Held<X> {
     pub kept: Logged,

@@ -1,6 +1,7 @@
 -- What a run on threads is refused for.
 use Rattle.std.proofs.Common.{◌≡◌, ◌⊎◌, inl, inr, refl, List, Option, Some, None, option_map, Result, Ok, Err}
 use Rattle.std.specs.Prelude.{IfErr}
+use Rattle.std.proofs.lemmas.Option.{none-some}
 use Rattle.plant_core.specs.declared.core_fault.CoreFault.{CoreFault}
 use Rattle.plant_core.specs.declared.core_fault.CoreFault.TheVariants as core_faults
 use Rattle.plant_core.specs.declared.core_fault.ResliceFault.{ResliceFault}
@@ -26,3 +27,14 @@ told_of (core_faults.Book fault) found is = tt
 told_of (core_faults.Gather fault) found is = tt
 told_of (core_faults.NothingToCollect op) found is = tt
 told_of core_faults.NoMemory found is = tt
+
+-- slices that have a fault are refused for it
+pub is_told : (fault : CoreFault) (found : Option ResliceFault) (refusal : ResliceFault) → found ≡ Some refusal → IsTold {A = Unit {0}} (Err fault) (option_map (λ f. core_faults.Reslice f) found) → fault ≡ core_faults.Reslice refusal
+is_told fault None refusal same is = absurd (none-some refusal same)
+is_told (core_faults.Reslice fault) (Some other) refusal same is = let one : other ≡ refusal = cc in let two : other ≡ fault = cc in cc
+is_told (core_faults.UnknownModem modem) (Some other) refusal same is = cc
+is_told (core_faults.UnknownOperator op) (Some other) refusal same is = cc
+is_told (core_faults.Book fault) (Some other) refusal same is = cc
+is_told (core_faults.Gather fault) (Some other) refusal same is = cc
+is_told (core_faults.NothingToCollect op) (Some other) refusal same is = cc
+is_told core_faults.NoMemory (Some other) refusal same is = cc

@@ -1,5 +1,6 @@
 -- The least operator that refused a turn for itself, thread by thread.
-use Rattle.std.proofs.Common.{◌≡◌, ℕ, ◌+◌, ◌<◌, ◌≤◌, Bool, List, length, if◌then◌else◌, Option, Some, None, ◌⊎◌, inl, inr, refl, sym, ap, ◌∙◌, subst, arith}
+use Rattle.std.specs.List.{list_any}
+use Rattle.std.proofs.Common.{[], ◌∷◌, map, ◌||◌, ◌≡◌, ℕ, ◌+◌, ◌<◌, ◌≤◌, Bool, List, length, if◌then◌else◌, Option, Some, None, ◌⊎◌, inl, inr, refl, sym, ap, ◌∙◌, subst, arith}
 use Rattle.std.specs.Prelude.{slice_get}
 use Rattle.std.proofs.lemmas.Bool.{cases_eq, cases_lt, lt-ltb, le-ltb}
 use Rattle.std.proofs.lemmas.Option.{slice_get_within, same_Some}
@@ -13,7 +14,7 @@ Turned = ℕ × CellFault
 
 module _ (refused : List (Option Refusal)) (at : ℕ) (r : Option Refusal) (here : slice_get refused at ≡ Some r) where
   -- a fact of the threads before this one, and of this one
-  next : (P : Option Refusal → Type 0) → ((i : ℕ) (other : Option Refusal) → i < at → slice_get refused i ≡ Some other → P other) → P r
+  pub next : (P : Option Refusal → Type 0) → ((i : ℕ) (other : Option Refusal) → i < at → slice_get refused i ≡ Some other → P other) → P r
       → (i : ℕ) (other : Option Refusal) → i < at + 1 → slice_get refused i ≡ Some other → P other
   next P before this i other lt there = by (cases_eq i at)
     where
@@ -66,3 +67,8 @@ module _ (refused : List (Option Refusal)) (at : ℕ) (r : Option Refusal) (here
 
 pub least_end : (refused : List (Option Refusal)) (n : ℕ) (least : Option Turned) → length refused ≡ n → IsLeastOf refused n least → IsLeastTurn refused least
 least_end refused n least long so_far = subst (λ (k : ℕ). IsLeastOf refused k least) (sym long) so_far
+
+-- one of the values at the items is so where it is so at one of the items
+pub any_of_map : {A B : Type 0} (f : A → B) (p : B → Bool) (xs : List A) → list_any p (map f xs) ≡ list_any (λ x. p (f x)) xs
+any_of_map f p [] = refl
+any_of_map f p (x ∷ xs) = ap (λ (b : Bool). p (f x) || b) (any_of_map f p xs)

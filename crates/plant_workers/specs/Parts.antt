@@ -1,4 +1,4 @@
--- What each thread of a run does (own).
+-- What each thread of a run does (implementation-specific).
 use Rattle.std.specs.Prelude.{◌≡◌, Option, Some, None}
 use Rattle.operator_model.specs.declared.action.Action.{Action}
 use Rattle.operator_model.specs.declared.action.Action.TheVariants as actions
@@ -24,7 +24,7 @@ IsOfPart (Worker i) (steps.Work op) = i ≡ op
 IsOfPart (Worker i) (steps.Collect op) = i ≡ op
 IsOfPart part step = ⊥
 
--- the action that a step is of its operator; none of a Collect and a Reslice
+-- the action that a step is of its operator; none of a Collect and a `Reslice`
 abbrev pub action_in : Step → Option Action
 action_in (steps.Arrive modem heard) = Some (actions.Arrive modem heard)
 action_in (steps.Work op) = Some actions.Work

@@ -1,9 +1,28 @@
--- Which refusal of the threads of a run is told (own).
-use Rattle.std.specs.Prelude.{◌≡◌, ℕ, ◌<◌, ◌≤◌, nat_lt, List, length, Option, Some, None, slice_get, if◌then◌else◌}
+-- Which refusal of the threads of a run is reported (implementation-specific).
+use Rattle.std.specs.Prelude.{◌≡◌, ℕ, ◌<◌, ◌≤◌, nat_lt, Bool, List, length, is_some, Option, Some, None, slice_get, if◌then◌else◌}
+use Rattle.std.specs.List.{list_any}
+use Rattle.operator_book.specs.declared.book.BookFault.TheVariants as book_faults
+use Rattle.map_assembly.specs.declared.refused.GatherFault.{GatherFault}
+use Rattle.map_assembly.specs.declared.refused.GatherFault.TheVariants as gather_faults
+use Rattle.plant_core.specs.declared.core_fault.CoreFault.TheVariants as core_faults
+use Rattle.run_receipts.specs.declared.run_fault.RunFault.{RunFault}
+use Rattle.run_receipts.specs.declared.run_fault.RunFault.TheVariants.{Strayed, Core, NoMemory}
 use Rattle.cell_state.specs.declared.cell_fault.CellFault.{CellFault}
 use Rattle.cell_state.specs.declared.cell_fault.CellFault.TheVariants.{Book, Passed, Stopped, Closed}
+use Rattle.cell_state.specs.Telling.{IsOfTurn, IsOfTaking}
+use Rattle.operator_model.specs.declared.action.Action.{Action}
 use Rattle.plant_workers.specs.declared.thread_report.Refusal.{Refusal}
 use Rattle.plant_workers.specs.declared.thread_report.Refusal.TheVariants.{Turn, Assembly}
+
+-- a thread ends on the turn of this operator at this place, for a fault of this action (implementation-specific)
+abbrev pub IsOfAct : ℕ → ℕ → Action → Refusal → Type 0
+IsOfAct op index action (Turn other fault) = (other ≡ op) × IsOfTurn op index action fault
+IsOfAct op index action (Assembly fault) = ⊥
+
+-- a thread ends on a frame of this operator that cannot be taken, or that the assembly refuses (implementation-specific)
+abbrev pub IsOfPut : ℕ → Refusal → Type 0
+IsOfPut op (Turn other fault) = (other ≡ op) × IsOfTaking op fault
+IsOfPut op (Assembly fault) = Unit {0}
 
 -- the turn on which a thread ended, if the operator refused it for itself, and was not stopped for another's sake
 abbrev pub own_turn : Option Refusal → Option (ℕ × CellFault)
@@ -38,3 +57,63 @@ IsLeastOf refused count (Some turn) = EndsLeast refused count turn
 -- the turn that the least operator refused for itself; none where none did
 abbrev pub IsLeastTurn : List (Option Refusal) → Option (ℕ × CellFault) → Type 0
 IsLeastTurn refused turn = IsLeastOf refused (length refused) turn
+
+-- ---- what a run reports of it (implementation-specific)
+
+-- The fault of a run of which this operator refused a turn for itself: the book's own fault, or a history that has passed the
+-- turn's place. Out of memory is one fault of a run, whoever finds it. No run reports that a turn was stopped.
+abbrev pub fault_of_turn : ℕ → CellFault → RunFault
+fault_of_turn op (Book book_faults.NoMemory) = NoMemory
+fault_of_turn op (Book fault) = Core (core_faults.Book fault)
+fault_of_turn op (Passed other index) = Strayed op index
+fault_of_turn op (Stopped other) = NoMemory
+fault_of_turn op Closed = NoMemory
+
+-- the fault of a run of which the assembly refused a frame
+abbrev pub fault_of_assembly : GatherFault → RunFault
+fault_of_assembly gather_faults.NoMemory = NoMemory
+fault_of_assembly fault = Core (core_faults.Gather fault)
+
+-- what the assembly refused, where a thread ended on that
+abbrev pub of_assembly : Option Refusal → Option GatherFault
+of_assembly None = None
+of_assembly (Some (Turn op fault)) = None
+of_assembly (Some (Assembly fault)) = Some fault
+
+-- the first of some threads that ended on a refusal of the assembly ended on this one
+pub record EndsFirst (refused : List (Option Refusal)) (fault : GatherFault) : Type 0 where
+  pub place : ℕ
+  pub refusal : Option Refusal
+  pub refusal_is : slice_get refused place ≡ Some refusal
+  pub fault_is : of_assembly refusal ≡ Some fault
+  pub first : (i : ℕ) (other : Option Refusal) → i < place → slice_get refused i ≡ Some other → of_assembly other ≡ None
+
+-- the first refusal of the assembly, thread by thread; none where no thread ended on one
+abbrev pub IsFirstOfAssembly : List (Option Refusal) → Option GatherFault → Type 0
+IsFirstOfAssembly refused None =
+    (i : ℕ) (other : Option Refusal) → slice_get refused i ≡ Some other → of_assembly other ≡ None
+IsFirstOfAssembly refused (Some fault) = EndsFirst refused fault
+
+-- what is reported where no operator refused a turn for itself: what the assembly refused first; else, where a thread ended
+-- early, it was stopped for a thread that could not be made
+abbrev pub end_without_turn : Option GatherFault → Bool → Option RunFault
+end_without_turn (Some fault) is_any = Some (fault_of_assembly fault)
+end_without_turn None is_any = if is_any then Some NoMemory else None
+
+-- this is reported where no operator refused a turn for itself
+pub record IsEndWithoutTurn (refused : List (Option Refusal)) (reported : Option RunFault) : Type 0 where
+  pub assembly : Option GatherFault
+  pub assembly_is : IsFirstOfAssembly refused assembly
+  pub reported_is : reported ≡ end_without_turn assembly (list_any is_some refused)
+
+-- this is reported after the turn that the least operator refused for itself, if one did
+abbrev pub IsEndAfter : List (Option Refusal) → Option (ℕ × CellFault) → Option RunFault → Type 0
+IsEndAfter refused None reported = IsEndWithoutTurn refused reported
+IsEndAfter refused (Some turn) reported = reported ≡ Some (fault_of_turn turn.0 turn.1)
+
+-- this is reported of threads that ended so: the turn that the least operator refused for itself comes before what the
+-- assembly refused
+pub record IsEnd (refused : List (Option Refusal)) (reported : Option RunFault) : Type 0 where
+  pub turn : Option (ℕ × CellFault)
+  pub turn_is : IsLeastTurn refused turn
+  pub after : IsEndAfter refused turn reported

@@ -1,9 +1,10 @@
 //! An operator's cell.
 
-ghost use Rattle.std.specs.Prelude.{◌≡◌, ◌<◌, ◌≤◌, ◌^◌, length, IfOk, IfErr};
+ghost use Rattle.std.specs.Prelude.{◌≡◌, ◌<◌, ◌≤◌, ◌^◌, length, IfOk, IfErr, IfSome};
 ghost use Rattle.operator_book.specs.ViewOf.{view_of};
 ghost use Rattle.operator_model.specs.declared.action.Action.TheVariants as actions;
-ghost use Rattle.cell_state.specs.Taking.{frames_at};
+ghost use Rattle.cell_state.specs.Receiving.{IsOfSomeBook};
+ghost use Rattle.cell_state.specs.Taking.{frames_at, IsFrameOfSomeBook};
 ghost use Rattle.cell_state.specs.Telling.{IsOfBook, IsOfTurn, IsOfTaking};
 
 use crate::gate::Gate;
@@ -22,13 +23,14 @@ use std::sync::{Condvar, Mutex, Wait};
 /// Threads share it by reference.
 #[derive(Drop)]
 pub struct OperatorCell {
-    pub op: Op,
+    op: Op,
     held: Mutex<Held>,
     changed: Condvar,
 }
 
 impl OperatorCell {
-    /// A cell round a book. The frames that are in its history count as collected. Takes no memory.
+    /// Returns a cell round a book. The frames that are in its history count as collected. Takes no
+    /// memory.
     pub fn new(op: Op, book: Book) -> OperatorCell
         requires { book.ranking.policy ≡ book.kept.book.row.policy }
         ensures { result.op ≡ op }
@@ -36,8 +38,8 @@ impl OperatorCell {
         OperatorCell::holding(op, Held::of(book))
     }
 
-    /// A cell round a book of which so many frames are collected: what `into_parts` gives, put together again. Takes no
-    /// memory.
+    /// Returns a cell round a book of which so many frames are collected: what `into_parts` gives,
+    /// put together again. Takes no memory.
     pub fn again(op: Op, book: Book, taken: usize) -> OperatorCell
         requires { taken ≤ length (frames_at (view_of book)) }
         ensures { result.op ≡ op }
@@ -45,7 +47,7 @@ impl OperatorCell {
         OperatorCell::holding(op, Held::again(book, taken))
     }
 
-    /// The cell round this.
+    /// Returns the cell round this.
     fn holding(op: Op, held: Held) -> OperatorCell
         ensures { result.op ≡ op }
     {
@@ -56,7 +58,7 @@ impl OperatorCell {
         }
     }
 
-    /// The book, and how many of its frames were collected. Takes no memory.
+    /// Returns the book, and how many of its frames were collected. Takes no memory.
     pub fn into_parts(self) -> (Book, usize)
         requires { self.op < 2 ^ 64 }
         ensures { result.1 ≤ length (frames_at (view_of result.0)) }
@@ -69,7 +71,7 @@ impl OperatorCell {
         held.into_inner().into_parts()
     }
 
-    /// What is done under the lock.
+    /// Returns what is done under the lock.
     fn turn(&self) -> Turn<'_>
         ensures { result.op ≡ self.now.op }
     {
@@ -80,7 +82,7 @@ impl OperatorCell {
         }
     }
 
-    /// Puts what was heard of a modem into the inbox.
+    /// Puts what was received of a modem into the inbox.
     pub fn arrive<R: Wait>(
         &self,
         rt: &R,
@@ -89,7 +91,8 @@ impl OperatorCell {
         heard: Heard,
     ) -> Result<Receipt, CellFault>
         ensures action { IfOk result (λ receipt. receipt.action ≡ actions.Arrive modem heard) }
-        ensures fault { IfErr result IsOfBook }
+        ensures some_book { IfOk result (IsOfSomeBook (actions.Arrive modem heard)) }
+        ensures fault { IfErr result (IsOfBook (actions.Arrive modem heard)) }
     {
         self.turn().act(rt, alloc, Action::Arrive { modem, heard })
     }
@@ -97,7 +100,8 @@ impl OperatorCell {
     /// Handles the first of the inbox.
     pub fn work<R: Wait>(&self, rt: &R, alloc: Global) -> Result<Receipt, CellFault>
         ensures action { IfOk result (λ receipt. receipt.action ≡ actions.Work) }
-        ensures fault { IfErr result IsOfBook }
+        ensures some_book { IfOk result (IsOfSomeBook actions.Work) }
+        ensures fault { IfErr result (IsOfBook actions.Work) }
     {
         self.turn().act(rt, alloc, Action::Work)
     }
@@ -105,7 +109,8 @@ impl OperatorCell {
     /// Counts the timers on, and schedules a frame, which then waits to be collected.
     pub fn tick<R: Wait>(&self, rt: &R, alloc: Global) -> Result<Receipt, CellFault>
         ensures action { IfOk result (λ receipt. receipt.action ≡ actions.Tick) }
-        ensures fault { IfErr result IsOfBook }
+        ensures some_book { IfOk result (IsOfSomeBook actions.Tick) }
+        ensures fault { IfErr result (IsOfBook actions.Tick) }
     {
         self.turn().act(rt, alloc, Action::Tick)
     }
@@ -115,15 +120,17 @@ impl OperatorCell {
         &self,
         rt: &R,
         alloc: Global,
-    ) -> Result<Option<(u32, Elements)>, AllocError> {
+    ) -> Result<Option<(u32, Elements)>, AllocError>
+        ensures { IfOk result (λ taken. IfSome taken IsFrameOfSomeBook) }
+    {
         self.turn().collect(rt, alloc)
     }
 
-    /// Waits until the history has so many entries, and does an action, which is then the entry at this place. The gate's
-    /// `inside` is called before the lock is released, and its `outside` after.
+    /// Waits until the history has `index` entries, and does an action, which is then the entry at
+    /// this place. The method `inside` of `gate` is called before the lock is released, and `outside` after.
     ///
-    /// Faults, in this order: `Stopped`; `Passed` where the history is longer; those of the book, and then the cell's
-    /// turns are stopped.
+    /// Faults, in this order: `Stopped`; `Passed` where the history is longer; those of the book,
+    /// and then the cell's turns are stopped.
     pub fn in_turn<R: Wait, G: Gate<R>>(
         &self,
         rt: &R,
@@ -134,7 +141,8 @@ impl OperatorCell {
     ) -> Result<Receipt, CellFault>
         ensures index { IfOk result (λ receipt. receipt.index ≡ index) }
         ensures action { IfOk result (λ receipt. receipt.action ≡ action) }
-        ensures fault { IfErr result (IsOfTurn self.now.op index) }
+        ensures some_book { IfOk result (IsOfSomeBook action) }
+        ensures fault { IfErr result (IsOfTurn self.now.op index action) }
     {
         self.turn().in_turn(rt, alloc, index, action, gate)
     }
@@ -148,6 +156,7 @@ impl OperatorCell {
         alloc: Global,
         index: usize,
     ) -> Result<Option<(u32, Elements)>, CellFault>
+        ensures some_book { IfOk result (λ taken. IfSome taken IsFrameOfSomeBook) }
         ensures fault { IfErr result (IsOfTaking self.now.op) }
     {
         self.turn().collect_after(rt, alloc, index)

@@ -1,4 +1,4 @@
-//! What a run comes to, once its last thread has ended.
+//! What a run results in, once its last thread has ended.
 
 ghost use Rattle.std.specs.Prelude.{◌≡◌, ◌<◌, ◌^◌, All, map, vec_len, IfOk, IfErr};
 ghost use Rattle.operator_book.specs.ViewOf.{view_of};
@@ -17,7 +17,7 @@ use run_model::Step;
 use run_receipts::{Callers, RunFault, Settled, settle};
 use std::alloc::{AllocError, Global};
 
-/// The books, with no lock round them.
+/// Returns the books, with no lock round them.
 fn books_of(alloc: Global, helds: Vec<Held>) -> Result<Vec<Book>, AllocError>
     requires { vec_len helds < 2 ^ 64 }
 {
@@ -29,7 +29,7 @@ fn books_of(alloc: Global, helds: Vec<Held>) -> Result<Vec<Book>, AllocError>
     Ok(books)
 }
 
-/// Equal MAPs with memory of their own.
+/// Returns equal MAPs with memory of their own.
 fn copies_of(alloc: Global, maps: &[MapBytes]) -> Result<Vec<MapBytes>, AllocError>
     ensures { IfOk result (λ copies. copies.items ≡ maps.now) }
 {
@@ -66,7 +66,7 @@ fn settle_all(
     compare(plant, settled, assembly, steps)
 }
 
-/// What the run comes to.
+/// Returns what the run results in.
 pub(crate) fn finish(
     alloc: Global,
     plant: &Plant,

@@ -3,7 +3,8 @@
 ghost use Rattle.std.specs.Prelude.{◌≡◌, length, map, take, MatchOption};
 ghost use Rattle.run_audit.specs.Straying.{AreOwn, IsStray};
 ghost use Rattle.cell_state.specs.HeldView.{book_of};
-ghost use Rattle.plant_workers.specs.Faulting.{IsToldAt, IsOfRun};
+ghost use Rattle.plant_core.specs.declared.core_fault.ResliceFault.{ResliceFault};
+ghost use Rattle.plant_workers.specs.Faulting.{IsToldAt, IsOfReslice, IsOfRun};
 
 use cell_state::Held;
 use plant::{Op, Plant};
@@ -26,8 +27,8 @@ fn first_stray(plant: &Plant, helds: &[Held], steps: &[Step]) -> Option<(Op, usi
     None
 }
 
-/// Returns the fault of a run of which the Reslice at this place was refused: that refusal, where the books are what the
-/// steps before it make of the plant; else where the first of them strays. Takes no memory.
+/// Returns the fault of a run of which the slice change at this place was refused: that refusal if the books are what the
+/// steps before it make of the plant, else where the first of them strays. Takes no memory.
 pub(crate) fn fault_of_reslice(
     plant: &Plant,
     helds: &[Held],
@@ -36,7 +37,10 @@ pub(crate) fn fault_of_reslice(
     fault: CoreFault,
 ) -> RunFault
     requires { IsToldAt steps.now at (map book_of helds.now) fault }
-    ensures { IsOfRun plant.now steps.now result }
+    ensures of_run { IsOfRun plant.now steps.now result }
+    ensures refused { (refusal : ResliceFault) → fault ≡ CoreFault.Reslice refusal
+        → length (map book_of helds.now) ≡ length plant.now.rows
+        → IsOfReslice plant.now steps.now at (map book_of helds.now) refusal result }
 {
     match fault {
         CoreFault::Reslice(fault) => {

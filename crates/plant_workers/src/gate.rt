@@ -5,14 +5,14 @@ use std::sync::Wait;
 
 /// What is called at each turn of an operator, with the place of its action in the history.
 pub trait Gate<R: Wait> {
-    /// Called once the action is done, before the operator's lock is released.
+    /// Runs once the action is done, before the operator's lock is released.
     fn inside(&self, rt: &R, op: Op, index: usize);
 
-    /// Called after the lock is released.
+    /// Runs after the lock is released.
     fn outside(&self, rt: &R, op: Op, index: usize);
 }
 
-/// The gate that lets every turn through at once.
+/// A gate that lets every turn through at once.
 #[derive(Clone, Copy, Debug)]
 pub struct OpenGate;
 

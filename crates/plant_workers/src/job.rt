@@ -17,7 +17,7 @@ pub(crate) struct Job<'a> {
     pub turn: usize,
 }
 
-/// The operator of a step; none of a Reslice, nor of a modem that no operator has.
+/// Returns the operator of a step; none of a `Reslice`, nor of a modem that no operator has.
 fn operator_of(plant: &Plant, step: &Step) -> Option<Op> {
     match step {
         Step::Arrive { modem, heard: _ } => plant.operator_of(*modem),
@@ -26,7 +26,8 @@ fn operator_of(plant: &Plant, step: &Step) -> Option<Op> {
     }
 }
 
-/// The job of each step, in order. A Reslice is no operator's job: it is done while no thread is there.
+/// Returns the job of each step, in order. A `Reslice` is not an operator's job: it is done while
+/// no thread is there.
 pub(crate) fn jobs_of<'a>(
     alloc: Global,
     plant: &Plant,
@@ -42,7 +43,7 @@ pub(crate) fn jobs_of<'a>(
 }
 
 impl Job<'_> {
-    /// Returns the action that the step is of its operator; none of a Collect and a Reslice.
+    /// Returns the action that the step is of its operator; none of a Collect and a `Reslice`.
     pub(crate) fn action(&self, alloc: Global) -> Result<Option<Action>, AllocError>
         ensures { IfOk result (λ action. action ≡ action_in self.now.step.now) }
     {

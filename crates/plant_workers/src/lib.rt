@@ -1,4 +1,4 @@
-//! Operators' cells, which threads share, and a plant run on threads.
+//! Operators' cells, which threads share under a lock, and the run of a plant on threads.
 #![tactic(auto)]
 
 mod cell;

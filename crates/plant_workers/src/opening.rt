@@ -6,7 +6,7 @@ use operator_book::Book;
 use plant::Plant;
 use std::alloc::{AllocError, Global};
 
-/// The book of each operator, with nothing done.
+/// Returns the book of each operator, with nothing done.
 pub(crate) fn opened(
     alloc: Global,
     plant: &Plant,

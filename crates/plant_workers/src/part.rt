@@ -12,7 +12,7 @@ use std::alloc::{AllocError, Global};
 /// What one thread of a run does, in the order of the steps.
 #[derive(Clone, Copy)]
 pub(crate) enum Part {
-    /// The dispatcher: what is heard of modems.
+    /// The dispatcher: what is received of modems.
     Arrivals,
     /// The ticker.
     Ticks,
@@ -21,7 +21,7 @@ pub(crate) enum Part {
 }
 
 impl Part {
-    /// Tells whether a job is one of this part.
+    /// Returns whether a job is one of this part.
     pub(crate) fn has(self, job: &Job) -> bool
         ensures { IsTrue result ↔ IsOfPart self job.now.step.now }
     {
@@ -45,7 +45,8 @@ impl Part {
     }
 }
 
-/// The parts of a run of so many operators: the dispatcher, the ticker, and one worker for each.
+/// Returns the parts of a run of so many operators: the dispatcher, the ticker, and one worker for
+/// each.
 pub(crate) fn parts_of(alloc: Global, operators: usize) -> Result<Vec<Part>, AllocError> {
     let mut parts = Vec::new(alloc);
     parts.push(Part::Arrivals)?;

@@ -6,14 +6,14 @@ ghost use Rattle.operator_book.specs.ViewOf.{policy_of};
 use grant_policy::Ranking;
 use plant::{OperatorRow, Plant};
 
-/// Whether a ranking follows the row's policy.
+/// Returns whether a ranking follows the row's policy.
 fn follows(ranking: &Ranking, row: &OperatorRow) -> bool
     ensures { IsTrue result ↔ (ranking.now.policy ≡ row.now.policy) }
 {
     ranking.policy() == row.get_fields().policy
 }
 
-/// Whether there is one ranking for each row, and each follows its row's policy.
+/// Returns whether there is one ranking for each row, and each follows its row's policy.
 fn follow(rankings: &[Ranking], rows: &[OperatorRow]) -> bool
     ensures { IsTrue result ↔ (map policy_of rankings.now ≡ map (λ row. row.policy) rows.now) }
 {
@@ -28,8 +28,8 @@ fn follow(rankings: &[Ranking], rows: &[OperatorRow]) -> bool
     true
 }
 
-/// Whether there is one ranking for each operator of a plant, and each follows that operator's policy. What `run_workers`
-/// asks for.
+/// Returns whether there is one ranking for each operator of a plant, and each follows that
+/// operator's policy. What `run_workers` asks for.
 pub fn are_ranked(plant: &Plant, rankings: &[Ranking]) -> bool
     ensures { IsTrue result ↔ (map policy_of rankings.now ≡ map (λ row. row.policy) plant.now.rows) }
 {

@@ -23,7 +23,7 @@ pub(crate) struct Lists {
     ghost owned: { All (IsFor callers.Owner) owner },
 }
 
-/// Adds a receipt of a caller behind its others.
+/// Adds a receipt of a caller after its others.
 fn add(caller: Caller, receipts: &mut Receipts, receipt: Receipt) -> Result<(), AllocError>
     requires for_caller { IsFor caller receipt }
     requires all { All (IsFor caller) receipts.old }
@@ -43,7 +43,7 @@ impl Lists {
         }
     }
 
-    /// Adds a receipt behind its caller's others.
+    /// Adds a receipt after its caller's others.
     fn push(&mut self, told: Told) -> Result<(), AllocError> {
         let Told {
             op: _,

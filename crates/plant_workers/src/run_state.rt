@@ -1,10 +1,13 @@
 //! A run between its pieces: no thread is there.
 
-ghost use Rattle.std.specs.Prelude.{◌≡◌, List, Some, slice_get, IfErr};
+ghost use Rattle.std.specs.Prelude.{◌≡◌, List, Some, length, map, slice_get, IfErr, IsErrAnd};
 ghost use Rattle.plant.specs.declared.plant.PlantFields.{PlantFields};
 ghost use Rattle.run_model.specs.declared.step.Step.{Step};
 ghost use Rattle.run_model.specs.declared.step.Step.TheVariants as steps_of;
-ghost use Rattle.plant_workers.specs.Faulting.{IsOfRun};
+ghost use Rattle.plant_core.specs.declared.core_fault.ResliceFault.{ResliceFault};
+ghost use Rattle.plant_core.specs.Reslicing.{reslice_fault};
+ghost use Rattle.cell_state.specs.HeldView.{book_of};
+ghost use Rattle.plant_workers.specs.Faulting.{IsOfReslice, IsOfRun};
 
 use crate::following::fault_of_reslice;
 use crate::gate::Gate;
@@ -13,7 +16,7 @@ use crate::part::parts_of;
 use crate::receipt_lists::{Lists, add_tales, add_told, no_lists};
 use crate::shared::run_shared;
 use crate::thread_report::{ThreadReport, first_fault};
-use cell_state::{Held, reslice};
+use cell_state::{Held, Told, reslice};
 use operator_model::SliceRow;
 use plant::Plant;
 use run_audit::Assembly;
@@ -23,7 +26,8 @@ use std::alloc::{AllocError, Global};
 use std::sync::{Condvar, Mutex, Wait};
 use std::thread::Threads;
 
-/// A run between its pieces: what stands behind each operator's lock, the assembly, and the receipts so far.
+/// A run between its pieces: what is after each operator's lock, the assembly, and the receipts so
+/// far.
 #[derive(Drop)]
 pub(crate) struct RunState {
     pub helds: Vec<Held>,
@@ -31,7 +35,7 @@ pub(crate) struct RunState {
     pub lists: Vec<Lists>,
 }
 
-/// Each behind a lock.
+/// Returns each behind a lock.
 fn locked(alloc: Global, helds: Vec<Held>) -> Result<Vec<Mutex<Held>>, AllocError> {
     let mut locks = Vec::with_capacity(alloc, helds.len())?;
     for held in helds {
@@ -40,7 +44,7 @@ fn locked(alloc: Global, helds: Vec<Held>) -> Result<Vec<Mutex<Held>>, AllocErro
     Ok(locks)
 }
 
-/// Each taken from behind its lock.
+/// Returns what each lock held, without the locks.
 fn unlocked(alloc: Global, locks: Vec<Mutex<Held>>) -> Result<Vec<Held>, AllocError> {
     let mut helds = Vec::with_capacity(alloc, locks.len())?;
     for lock in locks {
@@ -49,7 +53,7 @@ fn unlocked(alloc: Global, locks: Vec<Mutex<Held>>) -> Result<Vec<Held>, AllocEr
     Ok(helds)
 }
 
-/// What tells that an operator's book has changed, for each operator.
+/// Returns what signals that an operator's book has changed, for each operator.
 fn signals(alloc: Global, operators: usize) -> Result<Vec<Condvar>, AllocError> {
     let mut signals = Vec::with_capacity(alloc, operators)?;
     for _ in 0..operators {
@@ -58,7 +62,8 @@ fn signals(alloc: Global, operators: usize) -> Result<Vec<Condvar>, AllocError> 
     Ok(signals)
 }
 
-/// Does these jobs in threads, and joins them all: what each tells, or the first fault that one tells.
+/// Does these jobs in threads, and joins them all: what each reports, or the first fault that one
+/// reports.
 fn thread_reports_of<R: Threads + Wait + Sync, G: Gate<R> + Sync>(
     rt: &R,
     alloc: Global,
@@ -87,7 +92,7 @@ fn thread_reports_of<R: Threads + Wait + Sync, G: Gate<R> + Sync>(
 }
 
 impl RunState {
-    /// A run with nothing done.
+    /// Returns a run with nothing done.
     pub(crate) fn new(
         alloc: Global,
         plant: &Plant,
@@ -102,7 +107,8 @@ impl RunState {
         })
     }
 
-    /// Does these jobs, none of which is of a Reslice, in threads that have all ended when this answers.
+    /// Does these jobs, none of which is of a `Reslice`, in threads that have all ended when this
+    /// answers.
     pub(crate) fn run_piece<R: Threads + Wait + Sync, G: Gate<R> + Sync>(
         self,
         rt: &R,
@@ -140,7 +146,7 @@ impl RunState {
         })
     }
 
-    /// Does the step of this place, where it is a Reslice.
+    /// Does the step of this place, where it is a `Reslice`.
     pub(crate) fn reslice_at(
         &mut self,
         alloc: Global,
@@ -158,7 +164,7 @@ impl RunState {
         }
     }
 
-    /// Gives the operators other slices, as the step of this place says.
+    /// Gives the operators new slices, as the step of this place says. A refused change is reported by its fault.
     fn reslice(
         &mut self,
         alloc: Global,
@@ -169,15 +175,32 @@ impl RunState {
         rows: &[SliceRow],
     ) -> Result<(), RunFault>
         requires { slice_get steps.now at ≡ Some (steps_of.Reslice from rows.now) }
-        ensures { IfErr result (IsOfRun plant.now steps.now) }
+        ensures of_run { IfErr result (IsOfRun plant.now steps.now) }
+        ensures refused { (refusal : ResliceFault)
+            → reslice_fault from (map book_of self.old.helds.items) rows.now ≡ Some refusal
+            → length (map book_of self.old.helds.items) ≡ length plant.now.rows
+            → IsErrAnd result (IsOfReslice plant.now steps.now at (map book_of self.old.helds.items) refusal) }
     {
         match reslice(alloc, &mut self.helds, from, rows) {
-            Ok(told) => add_told(&mut self.lists, told)?,
+            Ok(told) => self.note_reslice(alloc, from, rows, told),
             Err(fault) => {
                 let helds = self.helds.as_slice();
-                return Err(fault_of_reslice(plant, helds, steps, at, fault));
+                Err(fault_of_reslice(plant, helds, steps, at, fault))
             }
         }
+    }
+
+    /// Keeps the owner's receipts of new slices, and gives these slices to the assembly.
+    fn note_reslice(
+        &mut self,
+        alloc: Global,
+        from: u32,
+        rows: &[SliceRow],
+        told: Vec<Told>,
+    ) -> Result<(), RunFault>
+        ensures { IfErr result (λ fault. (plant : PlantFields) (steps : List Step) → IsOfRun plant steps fault) }
+    {
+        add_told(&mut self.lists, told)?;
         if self.assembly.reslice(alloc, from, rows)? {
             Ok(())
         } else {

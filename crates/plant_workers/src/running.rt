@@ -27,14 +27,15 @@ use std::alloc::Global;
 use std::sync::Wait;
 use std::thread::Threads;
 
-/// The jobs from one place up to another.
+/// Returns the jobs from one place up to another.
 fn between<'a, 'b>(jobs: &'a [Job<'b>], from: usize, to: usize) -> &'a [Job<'b>] {
     let end = to.min(jobs.len());
     let begin = from.min(end);
     &jobs[begin..end]
 }
 
-/// Does all jobs: in pieces between the Reslices, each of which is done while no thread is there.
+/// Does all jobs: in pieces between the steps `Reslice`, each of which is done while no thread is
+/// there.
 fn run_steps<R: Threads + Wait + Sync, G: Gate<R> + Sync>(
     rt: &R,
     alloc: Global,
@@ -126,8 +127,9 @@ fn run_walked<R: Threads + Wait + Sync, G: Gate<R> + Sync>(
     }
 }
 
-/// As `run_workers`, with the bytes of each thread's stack: the dispatcher's, the ticker's, and the worker's of each
-/// operator. Those for which none are given get 2 MiB. A thread that cannot be made is want of memory.
+/// Returns as `run_workers`, with the bytes of each thread's stack: the dispatcher's, the ticker's,
+/// and the worker's of each operator. Those for which none are given get 2 MiB. A thread that
+/// cannot be made is out of memory.
 pub fn run_workers_on<R: Threads + Wait + Sync, G: Gate<R> + Sync>(
     rt: &R,
     alloc: Global,
@@ -149,15 +151,17 @@ pub fn run_workers_on<R: Threads + Wait + Sync, G: Gate<R> + Sync>(
     run_walked(rt, alloc, &plant, rankings, steps.as_slice(), gate, stacks)
 }
 
-/// Runs a plant's steps on threads: one dispatcher does the Arrives, one ticker the Ticks, and one worker for each operator
-/// that operator's Works and Collects, each in the order of the steps. An action waits for the earlier actions of its own
-/// operator and of its own thread, and for nothing else. Reslices are done while no thread is there.
+/// Runs a plant's steps on threads: one dispatcher does the Arrives, one ticker the Ticks, and one
+/// worker for each operator that operator's Works and Collects, each in the order of the steps. An
+/// action waits for the earlier actions of its own operator and of its own thread, and for nothing
+/// else. `Reslice` steps are done while no thread is there.
 ///
-/// Faults: `Core` of the first step that does not find its modem, its operator or a frame to collect, before a thread
-/// starts; `FramesSpent` where a Tick before the first Reslice finds its operator's frame numbers spent, likewise; both are
-/// told also where no memory is left. Then that of the least operator that refused an action, and then that of the assembly;
-/// `ResliceRefused` with the fault of the core at that step; those of `settle` and of `compare`. Nothing is left of what was handed in. It answers once all threads have ended; that they do
-/// is not claimed.
+/// Faults: `Core` of the first step that does not find its modem, its operator or a frame to
+/// collect, before a thread starts; `FramesSpent` where a Tick before the first `Reslice` finds its
+/// operator's frame numbers spent, likewise; both are reported also if memory runs out. Then that
+/// of the least operator that refused an action, and then that of the assembly; `ResliceRefused`
+/// with the fault of the core at that step; those of `settle` and of `compare`. Nothing is left of
+/// what was handed in. It answers once all threads have ended; that they do is not claimed.
 pub fn run_workers<R: Threads + Wait + Sync, G: Gate<R> + Sync>(
     rt: &R,
     alloc: Global,

@@ -1,8 +1,11 @@
 //! What the threads of a run share, and what each does with it.
 
-ghost use Rattle.std.specs.Prelude.{◌≡◌};
+ghost use Rattle.std.specs.Prelude.{◌≡◌, IfErr, IfSome};
+ghost use Rattle.operator_book.specs.declared.book.BookFault.TheVariants.{NoMemory};
+ghost use Rattle.cell_state.specs.declared.cell_fault.CellFault.TheVariants.{Book};
 ghost use Rattle.run_receipts.specs.Callers.{caller_of};
 ghost use Rattle.plant_workers.specs.Parts.{caller_in, IsOfPart};
+ghost use Rattle.plant_workers.specs.Refusing.{IsOfAct, IsOfPut};
 
 use crate::gate::Gate;
 use crate::job::Job;
@@ -19,7 +22,8 @@ use std::alloc::{AllocError, Global};
 use std::sync::{Condvar, Mutex, Wait};
 use std::thread::Threads;
 
-/// What the threads of a run share: each operator's lock with what tells that it changed, and the assembly's lock.
+/// What the threads of a run share: each operator's lock with what signals that it changed, and the
+/// assembly's lock.
 #[derive(Clone, Copy)]
 pub(crate) struct Shared<'a> {
     pub helds: &'a [Mutex<Held>],
@@ -28,8 +32,10 @@ pub(crate) struct Shared<'a> {
     pub jobs: &'a [Job<'a>],
 }
 
-/// That an operator's turn found no memory.
-fn no_memory(op: Op) -> Refusal {
+/// Returns the refusal of an operator's turn that found no memory.
+fn no_memory(op: Op) -> Refusal
+    ensures { result ≡ Refusal.Turn op (Book NoMemory) }
+{
     Refusal::Turn {
         op,
         fault: CellFault::Book(BookFault::NoMemory),
@@ -37,8 +43,10 @@ fn no_memory(op: Op) -> Refusal {
 }
 
 impl<'a> Shared<'a> {
-    /// The lock of an operator, if there is one.
-    fn turn(self, op: Op) -> Option<Turn<'a>> {
+    /// Returns the lock of an operator, if there is one.
+    fn turn(self, op: Op) -> Option<Turn<'a>>
+        ensures { IfSome result (λ turn. turn.op ≡ op) }
+    {
         Some(Turn {
             op,
             held: self.helds.get(op)?,
@@ -59,6 +67,7 @@ impl<'a> Shared<'a> {
         told: &mut Vec<Told>,
     ) -> Result<(), Refusal>
         requires { caller_of action ≡ caller_in part }
+        ensures { IfErr result (IsOfAct turn.entry.op index action) }
     {
         let op = turn.op;
         if told.reserve(1).is_err() {
@@ -85,7 +94,9 @@ impl<'a> Shared<'a> {
         alloc: Global,
         turn: Turn<'a>,
         index: usize,
-    ) -> Result<(), Refusal> {
+    ) -> Result<(), Refusal>
+        ensures { IfErr result (IsOfPut turn.entry.op) }
+    {
         let op = turn.op;
         let taken = match turn.collect_after(rt, alloc, index) {
             Ok(taken) => taken,
@@ -144,8 +155,8 @@ impl<'a> Shared<'a> {
 /// What the threads of a run do, each its part of it. A trait of its own, so that a thread that borrows it asks for no
 /// more of it than that it may be shared.
 pub(crate) trait Chores<R: Wait, G: Gate<R>> {
-    /// What one thread does: its part of the jobs. Where one is refused all operators are stopped, so that no other thread
-    /// waits for it.
+    /// Returns what one thread does: its part of the jobs. Where one is refused all operators are
+    /// stopped, so that no other thread waits for it.
     fn run_part(&self, rt: &R, alloc: Global, gate: &G, part: Part) -> ThreadReport;
 
     /// Stops the turns of all operators.

@@ -1,10 +1,13 @@
-//! What a thread of a run tells when it has ended.
+//! What a thread of a run reports when it has ended.
 
-ghost use Rattle.std.specs.Prelude.{◌≡◌, List, map, IfSome};
+ghost use Rattle.std.specs.Prelude.{◌≡◌, List, is_some, map, IfSome};
+ghost use Rattle.std.specs.List.{list_any};
 ghost use Rattle.plant.specs.declared.plant.PlantFields.{PlantFields};
 ghost use Rattle.run_model.specs.declared.step.Step.{Step};
 ghost use Rattle.plant_workers.specs.Faulting.{IsOfRun};
 ghost use Rattle.plant_workers.specs.Refusing.{own_turn, lesser, IsLeastTurn};
+ghost use Rattle.plant_workers.specs.Refusing.{fault_of_turn, fault_of_assembly, of_assembly, IsFirstOfAssembly};
+ghost use Rattle.plant_workers.specs.Refusing.{IsEndWithoutTurn, IsEnd};
 
 use cell_state::{CellFault, Told};
 use map_assembly::GatherFault;
@@ -22,16 +25,17 @@ pub(crate) enum Refusal {
     Assembly(GatherFault),
 }
 
-/// What a thread of a run tells when it has ended.
+/// What a thread of a run reports when it has ended.
 #[derive(Drop)]
 pub(crate) struct ThreadReport {
     pub told: Vec<Told>,
     pub refused: Option<Refusal>,
 }
 
-/// The fault of a run of which an operator refused a turn.
+/// Returns the fault of a run of which an operator refused a turn.
 fn fault_of_turn(op: Op, fault: CellFault) -> RunFault
-    ensures { (plant : PlantFields) (steps : List Step) → IsOfRun plant steps result }
+    ensures value { result ≡ fault_of_turn op fault }
+    ensures of_run { (plant : PlantFields) (steps : List Step) → IsOfRun plant steps result }
 {
     match fault {
         CellFault::Book(BookFault::NoMemory) => RunFault::NoMemory,
@@ -41,9 +45,10 @@ fn fault_of_turn(op: Op, fault: CellFault) -> RunFault
     }
 }
 
-/// The fault of a run of which the assembly refused a frame.
+/// Returns the fault of a run of which the assembly refused a frame.
 fn fault_of_assembly(fault: GatherFault) -> RunFault
-    ensures { (plant : PlantFields) (steps : List Step) → IsOfRun plant steps result }
+    ensures value { result ≡ fault_of_assembly fault }
+    ensures of_run { (plant : PlantFields) (steps : List Step) → IsOfRun plant steps result }
 {
     match fault {
         GatherFault::NoMemory => RunFault::NoMemory,
@@ -90,36 +95,67 @@ fn least_turn(thread_reports: &[ThreadReport]) -> Option<(Op, CellFault)>
     least
 }
 
-/// What the assembly refused.
-fn of_assembly(thread_reports: &[ThreadReport]) -> Option<GatherFault> {
+/// Returns what the assembly refused, where a thread ended on that.
+fn of_assembly(refused: Option<Refusal>) -> Option<GatherFault>
+    ensures { result ≡ of_assembly refused }
+{
+    match refused {
+        Some(Refusal::Assembly(fault)) => Some(fault),
+        Some(Refusal::Turn { op: _, fault: _ }) | None => None,
+    }
+}
+
+/// Finds what the assembly refused first, thread by thread.
+fn first_of_assembly(thread_reports: &[ThreadReport]) -> Option<GatherFault>
+    ensures { IsFirstOfAssembly (map (λ thread_report. thread_report.refused) thread_reports.now) result }
+{
     for thread_report in thread_reports {
-        if let Some(Refusal::Assembly(fault)) = thread_report.refused {
+        if let Some(fault) = of_assembly(thread_report.refused) {
             return Some(fault);
         }
     }
     None
 }
 
-/// Whether a thread ended before its last job.
-fn is_any_refused(thread_reports: &[ThreadReport]) -> bool {
+/// Returns whether a thread ended before its last job.
+fn has_refused(thread_reports: &[ThreadReport]) -> bool
+    ensures { result ≡ list_any (λ thread_report. is_some thread_report.refused) thread_reports.now }
+{
     thread_reports
         .iter()
         .any(|thread_report| thread_report.refused.is_some())
 }
 
-/// Why the threads ended before their last jobs: the fault of the least operator that refused a turn for itself, else that
-/// of the assembly.
-pub(crate) fn first_fault(thread_reports: &[ThreadReport]) -> Option<RunFault>
-    ensures { IfSome result (λ fault. (plant : PlantFields) (steps : List Step) → IsOfRun plant steps fault) }
+/// Returns whether one of the refusals is there, thread by thread.
+fn is_any_refused(thread_reports: &[ThreadReport]) -> bool
+    ensures { result ≡ list_any is_some (map (λ thread_report. thread_report.refused) thread_reports.now) }
 {
-    if let Some((op, fault)) = least_turn(thread_reports) {
-        return Some(fault_of_turn(op, fault));
-    }
-    if let Some(fault) = of_assembly(thread_reports) {
+    has_refused(thread_reports)
+}
+
+/// Returns why threads ended early of which no operator refused a turn for itself: what the assembly refused first, or out
+/// of memory where a thread was stopped for one that could not be made.
+fn end_without_turn(thread_reports: &[ThreadReport]) -> Option<RunFault>
+    ensures value { IsEndWithoutTurn (map (λ thread_report. thread_report.refused) thread_reports.now) result }
+    ensures of_run { IfSome result (λ fault. (plant : PlantFields) (steps : List Step) → IsOfRun plant steps fault) }
+{
+    if let Some(fault) = first_of_assembly(thread_reports) {
         return Some(fault_of_assembly(fault));
     }
     if is_any_refused(thread_reports) {
         return Some(RunFault::NoMemory);
     }
     None
+}
+
+/// Returns why the threads ended before their last jobs: the fault of the least operator that refused a turn for itself, else
+/// that of the assembly.
+pub(crate) fn first_fault(thread_reports: &[ThreadReport]) -> Option<RunFault>
+    ensures value { IsEnd (map (λ thread_report. thread_report.refused) thread_reports.now) result }
+    ensures of_run { IfSome result (λ fault. (plant : PlantFields) (steps : List Step) → IsOfRun plant steps fault) }
+{
+    match least_turn(thread_reports) {
+        Some((op, fault)) => Some(fault_of_turn(op, fault)),
+        None => end_without_turn(thread_reports),
+    }
 }

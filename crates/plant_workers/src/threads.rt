@@ -12,7 +12,7 @@ use std::thread::{Builder, Threads};
 /// The bytes of a thread's stack, where its caller wants no other.
 const STACK: usize = 2 * 1024 * 1024;
 
-/// The bytes of the stack of the thread at this place.
+/// Returns the bytes of the stack of the thread at this place.
 fn stack_at(stacks: &[usize], place: usize) -> usize {
     match stacks.get(place) {
         Some(stack) => *stack,

@@ -1,6 +1,8 @@
 //! What is done under an operator's lock.
 
-ghost use Rattle.std.specs.Prelude.{◌≡◌, IfOk, IfErr};
+ghost use Rattle.std.specs.Prelude.{◌≡◌, IfOk, IfErr, IfSome};
+ghost use Rattle.cell_state.specs.Receiving.{IsOfSomeBook};
+ghost use Rattle.cell_state.specs.Taking.{IsFrameOfSomeBook};
 ghost use Rattle.cell_state.specs.Telling.{IsOfBook, IsOfTurn, IsOfTaking};
 
 use crate::gate::Gate;
@@ -12,7 +14,8 @@ use slice_scheduler::Elements;
 use std::alloc::{AllocError, Global};
 use std::sync::{Condvar, Mutex, MutexGuard, Wait};
 
-/// An operator's lock, and what tells those who wait for a turn that the history has grown or the turns have stopped.
+/// An operator's lock, and what signals those who wait for a turn that the history has grown or the
+/// turns have stopped.
 #[derive(Clone, Copy)]
 pub(crate) struct Turn<'a> {
     pub op: Op,
@@ -21,7 +24,7 @@ pub(crate) struct Turn<'a> {
 }
 
 impl<'a> Turn<'a> {
-    /// The lock, once the history has so many entries or the turns have stopped.
+    /// Waits until the history has `index` entries or the turns have stopped, and returns the lock.
     fn wait_for<R: Wait>(self, rt: &R, index: usize) -> MutexGuard<'a, Held> {
         self.changed.wait_while(rt, self.held.lock(rt), |held| {
             held.count() < index && !held.stopped
@@ -36,7 +39,8 @@ impl<'a> Turn<'a> {
         action: Action,
     ) -> Result<Receipt, CellFault>
         ensures action { IfOk result (λ receipt. receipt.action ≡ action) }
-        ensures fault { IfErr result IsOfBook }
+        ensures some_book { IfOk result (IsOfSomeBook action) }
+        ensures fault { IfErr result (IsOfBook action) }
     {
         let mut held = self.held.lock(rt);
         match held.act(alloc, action) {
@@ -48,7 +52,11 @@ impl<'a> Turn<'a> {
         }
     }
 
-    /// Waits for the turn, and does an action.
+    /// Waits until the history has `index` entries, and does an action, which is then the entry at
+    /// this place. The method `inside` of `gate` is called before the lock is released, and `outside` after.
+    ///
+    /// Faults, in this order: `Stopped`; `Passed` where the history is longer; those of the book,
+    /// and then the cell's turns are stopped.
     pub(crate) fn in_turn<R: Wait, G: Gate<R>>(
         self,
         rt: &R,
@@ -59,7 +67,8 @@ impl<'a> Turn<'a> {
     ) -> Result<Receipt, CellFault>
         ensures index { IfOk result (λ receipt. receipt.index ≡ index) }
         ensures action { IfOk result (λ receipt. receipt.action ≡ action) }
-        ensures fault { IfErr result (IsOfTurn self.entry.op index) }
+        ensures some_book { IfOk result (IsOfSomeBook action) }
+        ensures fault { IfErr result (IsOfTurn self.entry.op index action) }
     {
         let mut held = self.wait_for(rt, index);
         let told = held.turn(alloc, self.op, index, action);
@@ -79,7 +88,9 @@ impl<'a> Turn<'a> {
         self,
         rt: &R,
         alloc: Global,
-    ) -> Result<Option<(u32, Elements)>, AllocError> {
+    ) -> Result<Option<(u32, Elements)>, AllocError>
+        ensures { IfOk result (λ taken. IfSome taken IsFrameOfSomeBook) }
+    {
         let mut held = self.held.lock(rt);
         held.collect(alloc)
     }
@@ -91,6 +102,7 @@ impl<'a> Turn<'a> {
         alloc: Global,
         index: usize,
     ) -> Result<Option<(u32, Elements)>, CellFault>
+        ensures some_book { IfOk result (λ taken. IfSome taken IsFrameOfSomeBook) }
         ensures fault { IfErr result (IsOfTaking self.entry.op) }
     {
         let mut held = self.wait_for(rt, index);

@@ -1,4 +1,4 @@
--- What a run on threads comes to (own).
+-- What a run on threads results in (implementation-specific).
 use Rattle.std.specs.Prelude.{◌≡◌, ◌≤◌, ◌==◌, ℕ, ◌<◌, Bool, false, List, length, count_by, All, slice_get, Some}
 use Rattle.plant.specs.declared.plant.PlantFields.{PlantFields}
 use Rattle.operator_model.specs.Replay.{BookView}
@@ -13,14 +13,14 @@ use Rattle.run_receipts.specs.Callers.{AreByCallers}
 use Rattle.run_audit.specs.Outs.{outs_of}
 use Rattle.run_audit.specs.Straying.{AreOwn}
 
--- each operator's history is the merge of what its callers were told
+-- each operator's history is the merge of what its callers were reported
 abbrev pub AreMerged : List BookView → List (List (List Receipt)) → Type 0
 AreMerged books receipts =
     (op : ℕ) (book : BookView) (callers : List (List Receipt)) → slice_get books op ≡ Some book
     → slice_get receipts op ≡ Some callers → IsMergeOf book.history callers
 
 -- the run is what its steps make of its plant: each operator's history has just its own steps as actions and is the
--- merge of what its four callers were told, each of its own kind of action alone, and the histories' outputs with the MAPs
+-- merge of what its four callers were reported, each of its own kind of action alone, and the histories' outputs with the MAPs
 -- are what a run of these steps shows
 pub record IsOutcome (plant : PlantFields) (steps : List Step) (books : List BookView)
     (receipts : List (List (List Receipt))) (maps : List MapBytes) : Type 0 where

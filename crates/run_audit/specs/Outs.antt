@@ -1,4 +1,4 @@
--- What books and MAPs put out (own).
+-- What books and MAPs output (implementation-specific).
 use Rattle.std.specs.Prelude.{ℕ, ◌+◌, List, [], ◌∷◌, ◌++◌, map, take}
 use Rattle.slice_scheduler.specs.declared.elements.ElementsFields.{ElementsFields}
 use Rattle.operator_model.specs.Replay.{BookView}
@@ -15,7 +15,7 @@ use Rattle.run_receipts.specs.OwnParts.{outputs_of}
 abbrev pub book_view : {D : Type 0} {F : D → Type 0} {m : _} → Book D F m → BookView
 book_view book = book.kept.book
 
--- what the books put out, each under its operator, from this operator on
+-- what the books output, each under its operator, from this operator on
 abbrev pub outs_from : ℕ → List BookView → List Out
 outs_from i [] = []
 outs_from i (book ∷ books) = under i (outputs_of book.history) ++ outs_from (i + 1) books

@@ -1,4 +1,4 @@
--- What was placed in an assembly, and the MAPs that it gave (own).
+-- What was placed in an assembly, and the MAPs that it gave (implementation-specific).
 use Rattle.std.specs.Prelude.{◌≡◌, ℕ, ◌==◌, List, [], ◌∷◌, ◌++◌, map, filter_map, Option, Some, None, if◌then◌else◌}
 use Rattle.slice_scheduler.specs.declared.elements.ElementsFields.{ElementsFields}
 use Rattle.plant.specs.declared.plant.PlantFields.{PlantFields}
@@ -41,7 +41,7 @@ listed None = []
 listed (Some made) = made ∷ []
 
 -- one after the other, these placings lead from one gathering to another and give these MAPs: no part is refused, each
--- re-slicing may be given, and each finds the gathering as its type keeps it
+-- slice change may be given, and each finds the gathering as its type keeps it
 abbrev pub HaveMade : Gathering → List Placing → List MapBytes → Gathering → Type 0
 HaveMade g [] maps after = (maps ≡ []) × (after ≡ g)
 HaveMade g (Put op frame part ∷ later) maps after =
@@ -53,7 +53,7 @@ HaveMade g (Reslice from rows ∷ later) maps after =
 
 -- ---- one placing
 
--- the operator has put this part, and the MAP stands where it was the last of its frame
+-- the operator has put this part, and the MAP is where it was the last of its frame
 pub record HasPut (op frame : ℕ) (part : ElementsFields) (old new : AssemblyView) : Type 0 where
   pub fits : put_fault old.gathering op frame part ≡ None
   pub plant_is : new.plant ≡ old.plant
@@ -63,7 +63,7 @@ pub record HasPut (op frame : ℕ) (part : ElementsFields) (old new : AssemblyVi
   pub made_is : IsAnswer old.gathering op frame part made
   pub maps_are : new.maps ≡ old.maps ++ listed made
 
--- the operators have other slices from a frame on
+-- the operators have new slices from a frame on
 pub record HasResliced (from : ℕ) (rows : List SliceRow) (old new : AssemblyView) : Type 0 where
   pub fits : MayReslice old.gathering from (map slice_of rows)
   pub plant_is : new.plant ≡ old.plant

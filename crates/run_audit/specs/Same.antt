@@ -1,4 +1,4 @@
--- What two rows, two plants or two encodings have in common (own).
+-- What two rows, two plants or two encodings have in common (implementation-specific).
 use Rattle.std.specs.Prelude.{◌≡◌}
 use Rattle.tlv24.specs.declared.fields.FlowFields.{FlowFields}
 use Rattle.plant.specs.declared.operator_row.RowFields.{RowFields}

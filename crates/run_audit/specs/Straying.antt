@@ -1,4 +1,4 @@
--- Where a run is not what its steps make of its plant (own).
+-- Where a run is not what its steps make of its plant (implementation-specific).
 use Rattle.std.specs.Prelude.{◌≡◌, ◌≢◌, ◌⊎◌, ℕ, ◌+◌, ◌<◌, List, take, slice_get, Some}
 use Rattle.plant.specs.declared.operator_row.RowFields.{RowFields}
 use Rattle.plant.specs.declared.plant.PlantFields.{PlantFields}
@@ -76,8 +76,8 @@ IsMapStray plant steps books assembly frame =
 
 -- ---- both
 
--- what is found where a run is not as it should be: histories that stray are told before MAPs that do; no other fault is
--- told
+-- what is found where a run is not as it should be: histories that stray are reported before MAPs that do; no other fault is
+-- reported
 abbrev pub IsFound : PlantFields → List Step → List BookView → AssemblyView → RunFault → Type 0
 IsFound plant steps books assembly (Strayed op index) = IsStray plant steps books op index
 IsFound plant steps books assembly (MapStrayed frame) =

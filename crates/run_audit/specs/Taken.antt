@@ -1,4 +1,4 @@
--- A step, taken as an operator's own (own).
+-- A step, taken as an operator's own (implementation-specific).
 use Rattle.std.specs.Prelude.{ℕ, Option, Some, None, slice_get}
 use Rattle.operator_model.specs.declared.action.Action.{Action}
 use Rattle.operator_model.specs.declared.action.Action.TheVariants as actions

@@ -47,21 +47,21 @@ impl Model for Assembly {
     ghost invariant = { λ a. HaveMade (gathering_of a.plant) a.placings.items a.maps.items a.gather };
 }
 
-/// Whether a row's slice is one: it has a minislot, and none past the 4,096 of a frame.
+/// Returns whether a row's slice is one: it has a minislot, and none past the 4,096 of a frame.
 fn is_slice(row: SliceRow) -> bool
     ensures { IsTrue result ↔ IsSlice (slice_of row) }
 {
     1 <= row.length && u32::from(row.start) + u32::from(row.length) <= 4096
 }
 
-/// Whether each row's slice is one.
+/// Returns whether each row's slice is one.
 fn are_slices(rows: &[SliceRow]) -> bool
     ensures { IsTrue result ↔ All (λ row. IsSlice (slice_of row)) rows.now }
 {
     rows.iter().all(|row| is_slice(*row))
 }
 
-/// The slices of rows.
+/// Returns the slices of rows.
 fn slices_of(alloc: Global, rows: &[SliceRow]) -> Result<Vec<Slice>, AllocError>
     requires { All (λ row. IsSlice (slice_of row)) rows.now }
     ensures { IfOk result (λ slices. slices.items ≡ map slice_of rows.now) }
@@ -73,7 +73,7 @@ fn slices_of(alloc: Global, rows: &[SliceRow]) -> Result<Vec<Slice>, AllocError>
     Ok(slices)
 }
 
-/// Room for one more placing and one more MAP.
+/// Makes room for one more placing and one more MAP.
 fn make_room(placings: &mut Vec<Placing>, maps: &mut Vec<MapBytes>) -> Result<(), AllocError>
     ensures placings { placings.new.items ≡ placings.old.items }
     ensures maps { maps.new.items ≡ maps.old.items }
@@ -103,7 +103,7 @@ fn note_map(maps: &mut Vec<MapBytes>, made: Option<MapBytes>)
 }
 
 impl Assembly {
-    /// The assembly of a plant in which nothing is placed.
+    /// Returns the assembly of a plant in which nothing is placed.
     pub fn new(alloc: Global, plant: &Plant) -> Result<Assembly, AllocError>
         ensures { IfOk result (λ made. made ≡ new_assembly plant.now) }
     {
@@ -158,8 +158,8 @@ impl Assembly {
         }
     }
 
-    /// Gives the operators other slices from a frame on, where `Gather::may_reslice` allows it; false where not, and
-    /// nothing has changed then.
+    /// Gives the operators new slices from a frame on, where `Gather::may_reslice` allows it; false
+    /// where not, and nothing has changed then.
     pub fn reslice(
         &mut self,
         alloc: Global,
@@ -186,28 +186,28 @@ impl Assembly {
         Ok(true)
     }
 
-    /// The plant.
+    /// Returns the plant that was opened.
     pub fn plant(&self) -> &Plant
         ensures { result.now ≡ self.now.plant }
     {
         &self.plant
     }
 
-    /// All that was placed, in order.
+    /// Returns all that was placed, in order.
     pub fn placings(&self) -> &[Placing]
         ensures { result.now ≡ self.now.placings }
     {
         self.placings.as_slice()
     }
 
-    /// The MAPs, in the order in which they were made.
+    /// Returns the MAPs, in the order in which they were made.
     pub fn maps(&self) -> &[MapBytes]
         ensures { result.now ≡ self.now.maps }
     {
         self.maps.as_slice()
     }
 
-    /// The MAPs, in the order in which they were made, without a copy.
+    /// Returns the MAPs, in the order in which they were made, without a copy.
     pub fn into_maps(self) -> Vec<MapBytes>
         ensures { result.items ≡ self.maps }
     {
@@ -220,7 +220,7 @@ impl Assembly {
         maps
     }
 
-    /// What always holds, for a caller's proof. Does nothing.
+    /// States what always holds, for a caller's proof. Does nothing.
     pub fn always(&self)
         ensures plant { IsPlant self.now.plant }
         ensures gathering { IsGathering self.now.gathering }

@@ -15,7 +15,7 @@ use plant::{Op, Plant};
 use run_model::Step;
 use run_receipts::{RunFault, Settled};
 
-/// Whether a step is a tick of this operator.
+/// Returns whether a step is a tick of this operator.
 fn is_tick_of(op: Op, step: &Step) -> bool
     ensures { result ≡ is_tick_of op step.now }
 {
@@ -28,14 +28,15 @@ fn is_tick_of(op: Op, step: &Step) -> bool
     }
 }
 
-/// How often an operator ticks.
+/// Returns how often an operator ticks.
 fn count_ticks(op: Op, steps: &[Step]) -> usize
     ensures { result ≡ ticks_of op steps.now }
 {
     steps.iter().filter(|step| is_tick_of(op, step)).count()
 }
 
-/// Whether no operator's frames are collected more often than it ticks. What `compare` asks for.
+/// Returns whether no operator's frames are collected more often than it ticks. What `compare` asks
+/// for.
 pub fn are_ticked(plant: &Plant, steps: &[Step]) -> bool
     ensures { IsTrue result ↔ AreTicked plant.now steps.now }
 {
@@ -88,12 +89,14 @@ pub(crate) fn first_fault(
     }
 }
 
-/// Whether what was done is what the steps make of the plant: each operator's history has just its own steps as
-/// actions, and what was put in the assembly are just the frames that the Collects of the steps take. The MAPs are then
-/// those of a run of these steps, with none assembled again; they stand in the answer in place of the settled ones.
+/// Returns whether what was done is what the steps make of the plant: each operator's history has
+/// just its own steps as actions, and what was put in the assembly are just the frames that the
+/// Collects of the steps take. The MAPs are then those of a run of these steps, with none assembled
+/// again; they are in the answer in place of the settled ones.
 ///
-/// Faults, in this order: `Strayed` for the least operator whose history strays, at its first place that does;
-/// `MapStrayed` for the first frame of which a part was not put as it was due. Takes no memory.
+/// Faults, in this order: `Strayed` for the least operator whose history strays, at its first place
+/// that does; `MapStrayed` for the first frame of which a part was not put as it was due. Takes no
+/// memory.
 pub fn compare(
     plant: &Plant,
     settled: Settled,
@@ -114,7 +117,7 @@ pub fn compare(
         × ArePut steps.now (map view_of settled.books.items) assembly.placings) }
     ensures err { IfErr result (IsFound plant.now steps.now (map view_of settled.books.items) assembly) }
 
-    // What is found decides what is told: where a history strays, it is told; else where the assembly does.
+    // What is found decides what is reported: where a history strays, it is reported; else where the assembly does.
     ensures strayed { (op index : ℕ) → (result ≡ Err (RunFault.Strayed op index))
         ↔ IsStray plant.now steps.now (map view_of settled.books.items) op index }
     ensures map_strayed { (frame : ℕ) → (result ≡ Err (RunFault.MapStrayed frame))

@@ -23,7 +23,7 @@ fn frame_in(outputs: &[Output]) -> Option<Frame<'_>>
     None
 }
 
-/// Returns the first frame from a place of a history on, with the place behind it. Takes no memory.
+/// Returns the first frame from a place of a history on, with the place after it. Takes no memory.
 fn next_frame(history: &[Entry], from: usize) -> Option<(usize, Frame<'_>)>
     requires { All IsOneFrame history.now }
     ensures { MatchOption result (waiting_in history.now from ≡ [])
@@ -37,8 +37,8 @@ fn next_frame(history: &[Entry], from: usize) -> Option<(usize, Frame<'_>)>
     None
 }
 
-/// Returns the frame that is due after so many others, with the place behind it; so many frames of the history are due, and
-/// those after the others are looked for from a place on.
+/// Returns the frame that is due after so many others, with the place after it; so many frames of
+/// the history are due, and those after the others are looked for from a place on.
 pub(crate) fn next_due(
     history: &[Entry],
     due: usize,
@@ -59,14 +59,14 @@ pub(crate) fn next_due(
     }
 }
 
-/// Tells whether two frames are the same.
+/// Returns whether two frames are the same.
 fn is_same_frame(a: &Frame, b: &Frame) -> bool
     ensures { IsTrue result ↔ (frame_of a.now ≡ frame_of b.now) }
 {
     a.number == b.number && are_same_elements(a.elements, b.elements)
 }
 
-/// Returns the place behind the frame that is due after so many others, where it is this one.
+/// Returns the place after the frame that is due after so many others, where it is this one.
 pub(crate) fn behind_due(
     history: &[Entry],
     due: usize,

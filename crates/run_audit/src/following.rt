@@ -19,7 +19,7 @@ use plant::{Op, Plant};
 use run_model::Step;
 use run_receipts::is_same_heard;
 
-/// Whether a modem is of this operator.
+/// Returns whether a modem is of this operator.
 fn is_of(plant: &Plant, modem: Modem, op: Op) -> bool
     ensures { (row : RowFields) → slice_get plant.now.rows op ≡ Some row → result ≡ is_listed modem row.modems }
 {
@@ -30,7 +30,7 @@ fn is_of(plant: &Plant, modem: Modem, op: Op) -> bool
     }
 }
 
-/// Whether a step is one of this operator's own.
+/// Returns whether a step is one of this operator's own.
 fn is_own(plant: &Plant, op: Op, step: &Step) -> bool
     ensures { (row : RowFields) → slice_get plant.now.rows op ≡ Some row
         → result ≡ is_some (action_of row op step.now) }
@@ -46,7 +46,7 @@ fn is_own(plant: &Plant, op: Op, step: &Step) -> bool
     }
 }
 
-/// Whether a step, taken as this operator's own, is this action.
+/// Returns whether a step, taken as this operator's own, is this action.
 fn is_action(op: Op, step: &Step, action: &Action) -> bool
     ensures { IsTrue result ↔ (taken_by op step.now ≡ Some action.now) }
 {
@@ -66,7 +66,8 @@ fn is_action(op: Op, step: &Step, action: &Action) -> bool
     }
 }
 
-/// Whether a step, taken as this operator's own, is the action at this place of the history.
+/// Returns whether a step, taken as this operator's own, is the action at this place of the
+/// history.
 fn is_next(op: Op, step: &Step, history: &[Entry], place: usize) -> bool
     ensures value { (action : Action) → taken_by op step.now ≡ Some action
         → (IsTrue result ↔ (slice_get (actions_of history.now) place ≡ Some action)) }
@@ -78,7 +79,7 @@ fn is_next(op: Op, step: &Step, history: &[Entry], place: usize) -> bool
     }
 }
 
-/// The first place at which the actions of a history are not the operator's own steps.
+/// Returns the first place at which the actions of a history are not the operator's own steps.
 fn first_difference(plant: &Plant, op: Op, history: &[Entry], steps: &[Step]) -> Option<usize>
     requires { op < length plant.now.rows }
     ensures { (row : RowFields) → slice_get plant.now.rows op ≡ Some row
@@ -117,7 +118,7 @@ pub fn stray_at(plant: &Plant, op: Op, book: &Book, steps: &[Step]) -> Option<us
     first_difference(plant, op, book.history(), steps)
 }
 
-/// The least operator whose history strays, and where it does.
+/// Returns the least operator whose history strays, and where it does.
 pub(crate) fn first_stray(plant: &Plant, books: &[Book], steps: &[Step]) -> Option<(Op, usize)>
     requires { length books.now ≡ length plant.now.rows }
     ensures { MatchOption result (AreOwn plant.now steps.now (map view_of books.now))

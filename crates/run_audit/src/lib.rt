@@ -1,5 +1,4 @@
-//! What a plant's threads have done, judged once they have ended: the assembly that they shared, and the comparison of
-//! each operator's history and of what was put in the assembly with the steps of the run.
+//! The assembly that threads share, and the comparison of a finished run with its steps.
 #![tactic(auto)]
 
 mod assembly;

@@ -13,7 +13,7 @@ pub enum Placing {
         frame: u32,
         elements: Elements,
     },
-    /// All operators were given other slices from a frame on.
+    /// All operators were given new slices from a frame on.
     Reslice {
         from: u32,
         rows: SliceRows,

@@ -1,4 +1,4 @@
-//! Whether what was put in an assembly is what operators' histories put out.
+//! Whether what was put in an assembly is what operators' histories output.
 
 ghost use Rattle.std.specs.Prelude.{◌≡◌, ℕ, All, map, take, option_map, MatchOption, Option, Some, None};
 ghost use Rattle.operator_book.specs.ViewOf.{view_of};
@@ -18,7 +18,7 @@ use plant::Op;
 use run_model::Step;
 use run_receipts::Frame;
 
-/// Whether a step collects a frame of this operator.
+/// Returns whether a step collects a frame of this operator.
 fn is_collect(op: Op, step: &Step) -> bool
     ensures { result ≡ is_collect op step.now }
 {
@@ -31,14 +31,14 @@ fn is_collect(op: Op, step: &Step) -> bool
     }
 }
 
-/// How often an operator's frames are collected.
+/// Returns how often an operator's frames are collected.
 pub(crate) fn count_collects(op: Op, steps: &[Step]) -> usize
     ensures { result ≡ collects_of op steps.now }
 {
     steps.iter().filter(|step| is_collect(op, step)).count()
 }
 
-/// The frame that a placing put of this operator, if it put one.
+/// Returns the frame that a placing put of this operator, if it put one.
 fn put_by(op: Op, placing: &Placing) -> Option<Frame<'_>>
     ensures { option_map frame_of result ≡ put_by op placing.now }
 {
@@ -87,7 +87,7 @@ fn first_missed(op: Op, history: &[Entry], due: usize, placings: &[Placing]) -> 
     }
 }
 
-/// The lesser of two numbers, where they are there.
+/// Returns the lesser of two numbers, where they are there.
 fn lesser(a: Option<u32>, b: Option<u32>) -> Option<u32>
     ensures { result ≡ lesser a b }
 {

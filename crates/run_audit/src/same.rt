@@ -9,14 +9,14 @@ use plant::{Channel, Class, Consts, OperatorName, OperatorRow, Plant, Provision,
 use slice_scheduler::Slice;
 use tlv24::{ClassName, ErrorEncodings, FlowFields, FlowTlv};
 
-/// Whether two flows are provisioned alike.
+/// Returns whether two flows are provisioned alike.
 fn is_same_provision(a: &Provision, b: &Provision) -> bool
     ensures { IsTrue result ↔ (a.now ≡ b.now) }
 {
     a.modem == b.modem && a.encoding.as_slice() == b.encoding.as_slice()
 }
 
-/// Whether the same flows are provisioned, in the same order.
+/// Returns whether the same flows are provisioned, in the same order.
 fn are_same_provisions(a: &[Provision], b: &[Provision]) -> bool
     ensures { IsTrue result ↔ (a.now ≡ b.now) }
 {
@@ -31,7 +31,7 @@ fn are_same_provisions(a: &[Provision], b: &[Provision]) -> bool
     true
 }
 
-/// Whether the limits of two rows are the same.
+/// Returns whether the limits of two rows are the same.
 fn have_same_limits(a: &RowFields, b: &RowFields) -> bool
     ensures { IsTrue result ↔ HaveSameLimits a.now b.now }
 {
@@ -43,35 +43,35 @@ fn have_same_limits(a: &RowFields, b: &RowFields) -> bool
         && a.policy == b.policy
 }
 
-/// Whether two ranges are the same.
+/// Returns whether two ranges are the same.
 fn is_same_range(a: IdRange, b: IdRange) -> bool
     ensures { IsTrue result ↔ (a ≡ b) }
 {
     a == b
 }
 
-/// Whether two modems are the same.
+/// Returns whether two modems are the same.
 fn is_same_modem(a: Modem, b: Modem) -> bool
     ensures { IsTrue result ↔ (a ≡ b) }
 {
     a == b
 }
 
-/// Whether two names are the same.
+/// Returns whether two names are the same.
 fn is_same_name(a: OperatorName, b: OperatorName) -> bool
     ensures { IsTrue result ↔ (a ≡ b) }
 {
     a == b
 }
 
-/// Whether two slices are the same.
+/// Returns whether two slices are the same.
 fn is_same_slice(a: Slice, b: Slice) -> bool
     ensures { IsTrue result ↔ (a ≡ b) }
 {
     a == b
 }
 
-/// Whether the modems are the same, in the same order.
+/// Returns whether the modems are the same, in the same order.
 fn are_same_modems(a: &[Modem], b: &[Modem]) -> bool
     ensures { IsTrue result ↔ (a.now ≡ b.now) }
 {
@@ -86,7 +86,7 @@ fn are_same_modems(a: &[Modem], b: &[Modem]) -> bool
     true
 }
 
-/// Whether the names and the ranges of two rows are the same.
+/// Returns whether the names and the ranges of two rows are the same.
 fn have_same_ranges(a: &RowFields, b: &RowFields) -> bool
     ensures { IsTrue result ↔ HaveSameRanges a.now b.now }
 {
@@ -96,7 +96,7 @@ fn have_same_ranges(a: &RowFields, b: &RowFields) -> bool
         && is_same_range(a.sids, b.sids)
 }
 
-/// Whether two rows are the same.
+/// Returns whether two rows are the same.
 pub(crate) fn is_same_row(a: &OperatorRow, b: &OperatorRow) -> bool
     ensures { IsTrue result ↔ (a.now ≡ b.now) }
 {
@@ -107,7 +107,7 @@ pub(crate) fn is_same_row(a: &OperatorRow, b: &OperatorRow) -> bool
         && are_same_provisions(a.provisions.as_slice(), b.provisions.as_slice())
 }
 
-/// Whether the rows are the same, in the same order.
+/// Returns whether the rows are the same, in the same order.
 fn are_same_rows(a: &[OperatorRow], b: &[OperatorRow]) -> bool
     ensures { IsTrue result ↔ (a.now ≡ b.now) }
 {
@@ -122,35 +122,35 @@ fn are_same_rows(a: &[OperatorRow], b: &[OperatorRow]) -> bool
     true
 }
 
-/// Whether two channels are the same.
+/// Returns whether two channels are the same.
 fn is_same_channel(a: Channel, b: Channel) -> bool
     ensures { IsTrue result ↔ (a ≡ b) }
 {
     a == b
 }
 
-/// Whether two classes have one name.
+/// Returns whether two classes have one name.
 fn is_same_class_name(a: ClassName, b: ClassName) -> bool
     ensures { IsTrue result ↔ (a ≡ b) }
 {
     a == b
 }
 
-/// Whether two encodings name the same class, or none.
+/// Returns whether two encodings name the same class, or none.
 fn is_same_named_class(a: Option<ClassName>, b: Option<ClassName>) -> bool
     ensures { IsTrue result ↔ (a ≡ b) }
 {
     a == b
 }
 
-/// Whether two encodings tell of the same error, or of none.
+/// Returns whether two encodings tell of the same error, or of none.
 fn is_same_error(a: Option<ErrorEncodings>, b: Option<ErrorEncodings>) -> bool
     ensures { IsTrue result ↔ (a ≡ b) }
 {
     a == b
 }
 
-/// Whether two encodings are of the same flow and ask for the same kinds of sets.
+/// Returns whether two encodings are of the same flow and ask for the same kinds of sets.
 fn are_of_same_flow(a: &FlowFields, b: &FlowFields) -> bool
     ensures { IsTrue result ↔ AreOfSameFlow a.now b.now }
 {
@@ -162,7 +162,7 @@ fn are_of_same_flow(a: &FlowFields, b: &FlowFields) -> bool
         && a.set_type == b.set_type
 }
 
-/// Whether two encodings ask for the same rates.
+/// Returns whether two encodings ask for the same rates.
 fn have_same_rates(a: &FlowFields, b: &FlowFields) -> bool
     ensures { IsTrue result ↔ HaveSameRates a.now b.now }
 {
@@ -174,7 +174,7 @@ fn have_same_rates(a: &FlowFields, b: &FlowFields) -> bool
         && a.request_policy == b.request_policy
 }
 
-/// Whether two encodings ask for the same intervals.
+/// Returns whether two encodings ask for the same intervals.
 fn have_same_intervals(a: &FlowFields, b: &FlowFields) -> bool
     ensures { IsTrue result ↔ HaveSameIntervals a.now b.now }
 {
@@ -186,7 +186,7 @@ fn have_same_intervals(a: &FlowFields, b: &FlowFields) -> bool
         && a.grants_per_interval == b.grants_per_interval
 }
 
-/// Whether two encodings are the same.
+/// Returns whether two encodings are the same.
 fn is_same_encoding(a: &FlowTlv, b: &FlowTlv) -> bool
     ensures { IsTrue result ↔ (a.now ≡ b.now) }
 {
@@ -194,14 +194,14 @@ fn is_same_encoding(a: &FlowTlv, b: &FlowTlv) -> bool
     are_of_same_flow(&a, &b) && have_same_rates(&a, &b) && have_same_intervals(&a, &b)
 }
 
-/// Whether two classes are the same.
+/// Returns whether two classes are the same.
 fn is_same_class(a: &Class, b: &Class) -> bool
     ensures { IsTrue result ↔ (a.now ≡ b.now) }
 {
     is_same_class_name(a.name, b.name) && is_same_encoding(&a.encoding, &b.encoding)
 }
 
-/// Whether the classes are the same, in the same order.
+/// Returns whether the classes are the same, in the same order.
 fn are_same_classes(a: &[Class], b: &[Class]) -> bool
     ensures { IsTrue result ↔ (a.now ≡ b.now) }
 {
@@ -216,7 +216,7 @@ fn are_same_classes(a: &[Class], b: &[Class]) -> bool
     true
 }
 
-/// Whether two plants' operators share the same.
+/// Returns whether two plants' operators share the same.
 pub(crate) fn are_same_consts(a: &Consts, b: &Consts) -> bool
     ensures { IsTrue result ↔ (a.now ≡ b.now) }
 {
@@ -228,7 +228,7 @@ pub(crate) fn are_same_consts(a: &Consts, b: &Consts) -> bool
         && are_same_classes(a.classes.as_slice(), b.classes.as_slice())
 }
 
-/// Whether two plants are the same.
+/// Returns whether two plants are the same.
 pub(crate) fn is_same_plant(a: &Plant, b: &Plant) -> bool
     ensures { IsTrue result ↔ (a.now ≡ b.now) }
 {

@@ -1,4 +1,4 @@
--- How far an operator has come in the steps of a run, as a walk over them keeps it (own).
+-- How far an operator has come in the steps of a run, as a walk over them keeps it (implementation-specific).
 use Rattle.std.specs.Prelude.{◌≡◌, ℕ, ◌+◌, ◌<◌, List, length, take, slice_get, slice_index, count_by, Option, Some, None}
 use Rattle.plant.specs.declared.operator_row.RowFields.{RowFields}
 use Rattle.plant.specs.declared.plant.PlantFields.{PlantFields}
@@ -9,7 +9,7 @@ use Rattle.run_plan.specs.declared.turns.Course.{Course}
 use Rattle.run_plan.specs.Turns.{waits_for, IsTickAt, IsDueAt}
 
 -- the course counts the operator's own actions and collections among these steps, and how many actions there were right
--- behind each Tick
+-- after each Tick
 pub record IsCourse (row : RowFields) (op : ℕ) (before : List Step) (course : Course) : Type 0 where
   pub actions : course.actions ≡ length (own_steps row op before)
   pub collects : course.collects ≡ collects_of op before

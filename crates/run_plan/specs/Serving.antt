@@ -1,4 +1,4 @@
--- Which steps find what they ask for, behind the steps before them (own).
+-- Which steps find what they ask for, after the steps before them (implementation-specific).
 use Rattle.std.specs.Prelude.{◌≡◌, ℕ, ◌+◌, ◌<◌, nat_lt, List, length, take, slice_get, slice_index, Option, Some, None, if◌then◌else◌}
 use Rattle.dsx_messages.specs.declared.modem.Modem.{Modem}
 use Rattle.plant.specs.declared.plant.PlantFields.{PlantFields}
@@ -23,8 +23,8 @@ past plant op other = if nat_lt op (length plant.rows) then other else Some (Unk
 abbrev pub all_collected : List Step → ℕ → Option CoreFault
 all_collected before op = if nat_lt (collects_of op before) (ticks_of op before) then None else Some (NothingToCollect op)
 
--- why a step does not find what it asks for, behind the steps before it: its modem or its operator is not there, or no Tick
--- of its operator has put out a frame that was not collected
+-- why a step does not find what it asks for, after the steps before it: its modem or its operator is not there, or no Tick
+-- of its operator has output a frame that was not collected
 abbrev pub unserved_by : PlantFields → List Step → Step → Option CoreFault
 unserved_by plant before (steps.Arrive modem heard) = unlisted modem (holder plant.rows modem)
 unserved_by plant before (steps.Work op) = past plant op None
@@ -49,7 +49,7 @@ pub record IsFirstUnserved (plant : PlantFields) (all : List Step) (fault : Core
   pub fault_is : unserved_by plant (take place all) step ≡ Some fault
   pub before : AreServed plant all place
 
--- how many frames of each operator were put out by a Tick and not collected
+-- how many frames of each operator were output by a Tick and not collected
 pub record AreWaiting (operators : ℕ) (before : List Step) (waiting : List ℕ) : Type 0 where
   pub one_each : length waiting ≡ operators
   pub counts : (op : ℕ) → op < operators → slice_index waiting op + collects_of op before ≡ ticks_of op before

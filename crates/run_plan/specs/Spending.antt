@@ -1,4 +1,4 @@
--- Which Tick finds its operator's frame numbers spent (own).
+-- Which Tick finds its operator's frame numbers spent (implementation-specific).
 use Rattle.std.specs.Prelude.{◌≡◌, not, Bool, true, false, ℕ, ◌+◌, ◌<◌, ◌≤◌, List, length, take, slice_get, Option, Some, None}
 use Rattle.std.specs.List.{take_while}
 use Rattle.plant.specs.declared.plant.PlantFields.{PlantFields}
@@ -6,7 +6,7 @@ use Rattle.run_model.specs.declared.step.Step.{Step}
 use Rattle.run_model.specs.declared.step.Step.TheVariants as steps
 use Rattle.run_audit.specs.Outcome.{ticks_of}
 
--- the step at this place is a Tick of the operator, which has no frame number left: it stands at the last of 32 bits
+-- the step at this place is a Tick of the operator, which has no frame number left: it is at the last of 32 bits
 pub record IsSpentAt (first_frame op : ℕ) (all : List Step) (place : ℕ) : Type 0 where
   pub step_is : slice_get all place ≡ Some (steps.Tick op)
   pub spent : 4294967295 ≤ first_frame + ticks_of op (take place all)
@@ -29,7 +29,7 @@ pub record IsFirstSpent (plant : PlantFields) (all : List Step) (place : ℕ) : 
   pub spent : IsSpentAt plant.consts.channel.first_frame op all place
   pub before : NoneSpentBefore plant all place
 
--- ---- before other slices are given
+-- ---- before new slices are given
 
 abbrev pub is_reslice : Step → Bool
 is_reslice (steps.Arrive modem heard) = false
@@ -38,6 +38,6 @@ is_reslice (steps.Tick op) = false
 is_reslice (steps.Collect op) = false
 is_reslice (steps.Reslice from rows) = true
 
--- the steps before the first Reslice
+-- the steps before the first `Reslice`
 abbrev pub before_reslice : List Step → List Step
 before_reslice all = take_while (λ step. not (is_reslice step)) all

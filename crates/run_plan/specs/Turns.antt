@@ -1,4 +1,4 @@
--- Where a run's steps stand in their operators' histories (own).
+-- Where a run's steps are in their operators' histories (implementation-specific).
 use Rattle.std.specs.Prelude.{◌≡◌, ℕ, ◌+◌, List, length, take, slice_get, count_by, Option, Some, None}
 use Rattle.plant.specs.declared.operator_row.RowFields.{RowFields}
 use Rattle.plant.specs.declared.plant.PlantFields.{PlantFields}
@@ -10,7 +10,7 @@ use Rattle.run_model.specs.declared.step.Step.{Step}
 use Rattle.run_model.specs.declared.step.Step.TheVariants as steps
 use Rattle.run_model.specs.OwnSteps.{own_steps, collects_of}
 
--- the operator in whose history a step waits for a place. A Reslice is of all operators and waits for none
+-- the operator in whose history a step waits for a place. A `Reslice` is of all operators and waits for none
 abbrev pub waits_for : PlantFields → Step → Option ℕ
 waits_for plant (steps.Arrive modem heard) = holder plant.rows modem
 waits_for plant (steps.Work op) = Some op
@@ -24,12 +24,12 @@ pub record IsTickAt (actions : List Action) (count place : ℕ) : Type 0 where
   pub counted : count_by is_tick (take place actions) ≡ count
 
 -- at which place of its operator's history a step is due, where these are the operator's own actions before it, of which so
--- many frames were collected: a Collect behind the Tick whose frame it takes, any other behind all of them
+-- many frames were collected: a Collect after the Tick whose frame it takes, any other after all of them
 abbrev pub IsDueAt : List Action → ℕ → Step → ℕ → Type 0
 IsDueAt own collects (steps.Collect op) turn = (place : ℕ) → IsTickAt own collects place → turn ≡ place + 1
 IsDueAt own collects step turn = turn ≡ length own
 
--- a step's turn behind the steps before it; 0 where it waits for none
+-- a step's turn after the steps before it; 0 where it waits for none
 pub record IsTurn (plant : PlantFields) (before : List Step) (step : Step) (turn : ℕ) : Type 0 where
   pub due : (op : ℕ) (row : RowFields) → waits_for plant step ≡ Some op → slice_get plant.rows op ≡ Some row
       → IsDueAt (own_steps row op before) (collects_of op before) step turn

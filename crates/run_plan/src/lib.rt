@@ -1,5 +1,5 @@
-//! What a run on threads finds out about its steps before a thread starts: the first step that cannot be served, the first
-//! Tick past an operator's last frame number, and where in its operator's history each step is due.
+//! The checks of a run's steps before its threads start, and the place of each step in its operator's history. The checks find
+//! a step that cannot be served, and a Tick past the last frame number.
 #![tactic(auto)]
 
 mod serving;

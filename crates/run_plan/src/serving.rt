@@ -13,8 +13,8 @@ use run_model::Step;
 /// The most operators that a plant has.
 const MOST_OPERATORS: usize = 32;
 
-/// Why the step at a place does not find what it asks for, if it does not; `waiting` has how many frames of each operator
-/// were put out and not collected.
+/// Returns why the step at a place does not find what it asks for, if it does not; `waiting` has
+/// how many frames of each operator were output and not collected.
 fn unserved(plant: &Plant, waiting: &mut [usize], steps: &[Step], at: usize) -> Option<CoreFault>
     requires within { at < length steps.now }
     requires room { at < usize.MAX }

@@ -8,7 +8,7 @@ ghost use Rattle.run_plan.specs.Spending.{IsOwnSpent, NoneSpentBefore, IsFirstSp
 use plant::{Op, Plant};
 use run_model::Step;
 
-/// Whether a step is a Tick of this operator.
+/// Returns whether a step is a Tick of this operator.
 fn is_tick_of(op: Op, step: &Step) -> bool
     ensures { result ≡ is_tick_of op step.now }
 {
@@ -21,7 +21,8 @@ fn is_tick_of(op: Op, step: &Step) -> bool
     }
 }
 
-/// The place of an operator's first Tick that has so many of its Ticks before it that no frame number is left.
+/// Returns the place of an operator's first Tick that has so many of its Ticks before it that no
+/// frame number is left.
 fn spent_of(first_frame: u32, op: Op, steps: &[Step]) -> Option<usize>
     ensures { IsOwnSpent first_frame op steps.now result }
 {
@@ -38,7 +39,7 @@ fn spent_of(first_frame: u32, op: Op, steps: &[Step]) -> Option<usize>
     None
 }
 
-/// The lesser of two places, where they are there.
+/// Returns the lesser of two places, where they are there.
 fn lesser(a: Option<usize>, b: Option<usize>) -> Option<usize>
     ensures { result ≡ lesser a b }
 {
@@ -49,8 +50,8 @@ fn lesser(a: Option<usize>, b: Option<usize>) -> Option<usize>
     }
 }
 
-/// The place of the first Tick that finds its operator's frame numbers spent. Takes no memory, and time in proportion to
-/// the steps and the operators, of which there are at most 32.
+/// Returns the place of the first Tick that finds its operator's frame numbers spent. Takes no
+/// memory, and time in proportion to the steps and the operators, of which there are at most 32.
 pub fn first_spent(plant: &Plant, steps: &[Step]) -> Option<usize>
     ensures { MatchOption result (NoneSpentBefore plant.now steps.now (length steps.now))
         (IsFirstSpent plant.now steps.now) }
@@ -63,7 +64,7 @@ pub fn first_spent(plant: &Plant, steps: &[Step]) -> Option<usize>
     least
 }
 
-/// Tells whether a step gives other slices.
+/// Returns whether a step gives new slices.
 fn is_reslice(step: &Step) -> bool
     ensures { result ≡ is_reslice step.now }
 {
@@ -76,7 +77,7 @@ fn is_reslice(step: &Step) -> bool
     }
 }
 
-/// Returns the steps before the first that gives other slices. Takes no memory.
+/// Returns the steps before the first that gives new slices. Takes no memory.
 pub fn before_reslice(steps: &[Step]) -> &[Step]
     ensures { result.now ≡ before_reslice steps.now }
 {

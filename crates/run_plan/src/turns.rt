@@ -17,14 +17,14 @@ use std::alloc::{AllocError, Global};
 struct Course {
     /// How many actions of its own there were.
     pub actions: usize,
-    /// How many there were right behind each of its Ticks.
+    /// How many there were right after each of its Ticks.
     pub behind: Vec<usize>,
     /// How many of its frames were collected.
     pub collects: usize,
 }
 
 impl Course {
-    /// Goes on by an action that is no Tick: its place.
+    /// Goes on by an action that is not a Tick: its place.
     fn act(&mut self) -> usize
         requires { self.old.actions < usize.MAX }
         ensures place { result ≡ self.old.actions }
@@ -48,7 +48,8 @@ impl Course {
         Ok(self.act())
     }
 
-    /// Goes on by a collection: behind which action it is due, or 0 where there is no Tick for it.
+    /// Goes on by a collection. Returns the action after which it is due, or 0 where there is not a
+    /// Tick for it.
     fn collect(&mut self) -> usize
         requires { self.old.collects < usize.MAX }
         ensures turn { result ≡ unwrap_or (slice_get self.old.behind.items self.old.collects) 0 }
@@ -60,14 +61,15 @@ impl Course {
     }
 }
 
-/// Whether a modem is of this operator.
+/// Returns whether a modem is of this operator.
 fn is_of(plant: &Plant, modem: Modem, op: Op) -> bool
     ensures { IsTrue result ↔ (holder plant.now.rows modem ≡ Some op) }
 {
     plant.operator_of(modem) == Some(op)
 }
 
-/// The turn of the step at a place, if it is one of this operator's; the operator goes on by it.
+/// Returns the turn of the step at a place, if it is one of this operator's; the operator goes on
+/// by it.
 fn turn_of(
     plant: &Plant,
     op: Op,
@@ -150,9 +152,10 @@ fn write_own(
     Ok(())
 }
 
-/// At which place of its operator's history each step is due: an Arrive, a Work or a Tick behind all of the operator's own
-/// actions before it, re-slicings among them, and a Collect behind the Tick whose frame it takes. 0 for a Reslice, which is
-/// of all operators. Takes time in proportion to the steps and the operators, of which there are at most 32.
+/// Returns at which place of its operator's history each step is due: an Arrive, a Work or a Tick
+/// after all of the operator's own actions before it, slice changes among them, and a Collect after
+/// the Tick whose frame it takes. 0 for a `Reslice`, which is of all operators. Takes time in
+/// proportion to the steps and the operators, of which there are at most 32.
 pub fn turns_of(alloc: Global, plant: &Plant, steps: &[Step]) -> Result<Vec<usize>, AllocError>
     ensures { IfOk result (λ turns. AreTurns plant.now steps.now turns.items) }
 {

@@ -1,4 +1,4 @@
--- Who has what done to an operator's book in a run on threads (own).
+-- Who has what done to an operator's book in a run on threads (implementation-specific).
 use Rattle.std.specs.Prelude.{◌≡◌, List, [], ◌∷◌, All}
 use Rattle.std.specs.List.{AllZip}
 use Rattle.operator_model.specs.declared.action.Action.{Action}
@@ -8,7 +8,7 @@ use Rattle.run_receipts.specs.declared.caller.Caller.TheVariants.{Dispatcher, Ti
 use Rattle.run_receipts.specs.declared.receipt.Receipt.{Receipt}
 use Rattle.run_receipts.specs.Merge.{Told}
 
--- the dispatcher does the Arrives, the ticker the Ticks, the operator's worker the Works, and the owner the Reslices
+-- the dispatcher does the Arrives, the ticker the Ticks, the operator's worker the Works, and the owner the ``Reslice`` steps
 abbrev pub caller_of : Action → Caller
 caller_of (actions.Arrive modem heard) = Dispatcher
 caller_of actions.Work = Worker

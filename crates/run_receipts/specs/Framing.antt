@@ -1,4 +1,4 @@
--- The frames of an operator's book (own).
+-- The frames of an operator's book (implementation-specific).
 use Rattle.std.specs.Prelude.{◌≡◌, ℕ, List, map}
 use Rattle.slice_scheduler.specs.declared.elements.ElementsFields.{ElementsFields}
 use Rattle.operator_model.specs.Replay.{BookView}

@@ -1,4 +1,4 @@
--- What receipts say of a history (own).
+-- What receipts say of a history (implementation-specific).
 use Rattle.std.specs.Prelude.{◌≡◌, ◌==◌, ℕ, ◌<◌, List, length, map, All, sum_by, count_by, slice_get, Some}
 use Rattle.std.specs.List.Sorted.{IsStrictlyIncreasing}
 use Rattle.operator_model.specs.declared.action.Entry.{Entry}
@@ -20,7 +20,7 @@ IsAscending receipts = IsStrictlyIncreasing (map (λ r. r.index) receipts)
 abbrev pub times : ℕ → Told → ℕ
 times k callers = sum_by (λ receipts. count_by (λ r. r.index == k) receipts) callers
 
--- the history is the merge of what its callers were told: each receipt stands in it, each caller's ascend, and each
+-- the history is the merge of what its callers were reported: each receipt is in it, each caller's ascend, and each
 -- entry has just one
 pub record IsMergeOf (history : List Entry) (callers : Told) : Type 0 where
   pub stand : All (λ receipts. All (Stands history) receipts) callers

@@ -1,4 +1,4 @@
--- That a MAP gives each operator its own frame (own).
+-- That a MAP gives each operator its own frame (implementation-specific).
 use Rattle.std.specs.Prelude.{◌≡◌, List, [], ◌∷◌, All}
 use Rattle.std.specs.List.{flat_map}
 use Rattle.slice_scheduler.specs.declared.elements.ElementsFields.{ElementsFields}
@@ -11,7 +11,7 @@ use Rattle.map_assembly.specs.Reading.{MapReads}
 use Rattle.map_assembly.specs.Tiled.{part_of, own_part}
 use Rattle.run_model.specs.IsTraceOf.{elements_in}
 
--- all that a history put out, in order
+-- all that a history output, in order
 abbrev pub outputs_of : List Entry → List Output
 outputs_of history = flat_map (λ entry. entry.outputs) history
 

@@ -1,4 +1,4 @@
--- When books, receipts and MAPs are settled with one another, and else what is at fault (own).
+-- When books, receipts and MAPs are settled with one another, and else what is invalid (implementation-specific).
 use Rattle.std.specs.Prelude.{◌≡◌, ◌≢◌, ℕ, ◌<◌, List, ◌∷◌, ◌++◌, length, All, slice_get, Some}
 use Rattle.operator_model.specs.Replay.{BookView}
 use Rattle.map_assembly.specs.declared.map_bytes.MapBytes.{MapBytes}
@@ -8,7 +8,7 @@ use Rattle.run_receipts.specs.Merge.{Told, times, IsMergeOf}
 use Rattle.run_receipts.specs.Straying.{Strays, AllStand}
 use Rattle.run_receipts.specs.OwnParts.{HasOwnParts}
 
--- each operator's history is the merge of what its callers were told, and each MAP gives every operator its own frame
+-- each operator's history is the merge of what its callers were reported, and each MAP gives every operator its own frame
 pub record IsSettled (books : List BookView) (receipts : List Told) (maps : List MapBytes) : Type 0 where
   pub merged : (op : ℕ) (book : BookView) (callers : Told) → slice_get books op ≡ Some book
       → slice_get receipts op ≡ Some callers → IsMergeOf book.history callers
@@ -32,7 +32,7 @@ pub record IsShort (books : List BookView) (receipts : List Told) (op : ℕ) : T
   pub within : place < length book.history
   pub not_once : times place callers ≢ 1
 
--- the receipts of each operator's callers stand, each caller's with ascending indices
+-- the receipts of each operator's callers exist, each caller's with ascending indices
 abbrev pub EachStands : List BookView → List Told → Type 0
 EachStands books receipts = (op : ℕ) (book : BookView) (callers : Told) → slice_get books op ≡ Some book
     → slice_get receipts op ≡ Some callers → AllStand book.history callers
@@ -66,7 +66,7 @@ pub record IsFirstMapStrayed (books : List BookView) (maps : List MapBytes) (fra
   pub strays : ¬ HasOwnParts books made
   pub first : All (HasOwnParts books) before
 
--- the first fault: receipts that stray are told before entries with no receipt or more than one, and these before MAPs
+-- the first fault: receipts that stray are reported before entries with no receipt or more than one, and these before MAPs
 abbrev pub IsFirstFault : List BookView → List Told → List MapBytes → RunFault → Type 0
 IsFirstFault books receipts maps (Strayed op index) = IsFirstStrayed books receipts op index
 IsFirstFault books receipts maps (Short op) = NoneStrays books receipts × IsFirstShort books receipts op

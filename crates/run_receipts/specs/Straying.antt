@@ -1,4 +1,4 @@
--- Receipts at fault (own).
+-- Receipts at fault (implementation-specific).
 use Rattle.std.specs.Prelude.{◌≡◌, ℕ, ◌<◌, min, ◌⊎◌, List, [], ◌∷◌, Option, Some, None}
 use Rattle.operator_model.specs.declared.action.Entry.{Entry}
 use Rattle.run_receipts.specs.declared.receipt.Receipt.{Receipt}
@@ -34,7 +34,7 @@ StraysBehind history before [] index = ⊥
 StraysBehind history before (r ∷ later) index =
     ((r.index ≡ index) × IsStray history before r) ⊎ StraysBehind history (Some r.index) later index
 
--- each of a caller's receipts that follow one of index `before` stands, and has a greater index than the one before
+-- each of a caller's receipts that follow one of index `before` exists, and has a greater index than the one before
 abbrev pub StandBehind : List Entry → Option ℕ → List Receipt → Type 0
 StandBehind history before [] = Unit {0}
 StandBehind history before (r ∷ later) =
@@ -47,7 +47,7 @@ abbrev pub Strays : List Entry → Told → ℕ → Type 0
 Strays history [] index = ⊥
 Strays history (receipts ∷ callers) index = StraysBehind history None receipts index ⊎ Strays history callers index
 
--- each stands, and has a greater index than its caller's one before
+-- each exists, and has a greater index than its caller's one before
 abbrev pub AllStand : List Entry → Told → Type 0
 AllStand history [] = Unit {0}
 AllStand history (receipts ∷ callers) = StandBehind history None receipts × AllStand history callers

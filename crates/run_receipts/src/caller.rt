@@ -9,6 +9,6 @@ pub enum Caller {
     Ticker,
     /// Does the operator's Works and Collects.
     Worker,
-    /// Gives other slices.
+    /// Gives new slices.
     Owner,
 }

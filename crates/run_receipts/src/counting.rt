@@ -24,7 +24,7 @@ fn count_receipts(counts: &mut [u8], receipts: &[Receipt])
     }
 }
 
-/// Tells whether each of so many entries has just one receipt, by a count of each.
+/// Returns whether each of so many entries has just one receipt, by a count of each.
 fn are_counted_once(alloc: Global, entries: usize, callers: &[Receipts]) -> Result<bool, AllocError>
     ensures { IfOk result (λ told. IsTrue told ↔ ((k : ℕ) → k < entries → times k callers.now ≡ 1)) }
 {
@@ -45,7 +45,7 @@ fn count_at(index: usize, receipts: &[Receipt]) -> usize
         .count()
 }
 
-/// Tells whether just one receipt of all callers has this index. Takes no memory.
+/// Returns whether just one receipt of all callers has this index. Takes no memory.
 fn is_told_once(index: usize, callers: &[Receipts]) -> bool
     ensures { IsTrue result ↔ (times index callers.now ≡ 1) }
 {
@@ -56,8 +56,8 @@ fn is_told_once(index: usize, callers: &[Receipts]) -> bool
     told == 1
 }
 
-/// Tells whether each of so many entries has just one receipt. Takes no memory, and time in proportion to the entries times
-/// the receipts.
+/// Returns whether each of so many entries has just one receipt. Takes no memory, and time in
+/// proportion to the entries times the receipts.
 fn are_found_once(entries: usize, callers: &[Receipts]) -> bool
     ensures { IsTrue result ↔ ((k : ℕ) → k < entries → times k callers.now ≡ 1) }
 {
@@ -69,8 +69,8 @@ fn are_found_once(entries: usize, callers: &[Receipts]) -> bool
     true
 }
 
-/// Tells whether each of so many entries has just one receipt. Where no memory is left for a count of each entry, each is
-/// looked for, so that the answer is the same.
+/// Returns whether each of so many entries has just one receipt. Where no memory is left for a
+/// count of each entry, each is looked for, so that the answer is the same.
 fn are_told_once(alloc: Global, entries: usize, callers: &[Receipts]) -> bool
     ensures { IsTrue result ↔ ((k : ℕ) → k < entries → times k callers.now ≡ 1) }
 {

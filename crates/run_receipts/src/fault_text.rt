@@ -19,7 +19,7 @@ impl Display for BookText {
     }
 }
 
-/// Why other slices were refused, as it is shown.
+/// Why new slices were refused, as it is shown.
 #[derive(Clone, Copy)]
 pub(crate) struct ResliceText(pub ResliceFault);
 

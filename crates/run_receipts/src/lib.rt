@@ -1,5 +1,5 @@
-//! Receipts of what was done to operators' books, and what settles them: that each history is the merge of what its
-//! callers were told, and each MAP gives every operator its own frame.
+//! Receipts of actions on operators' books, and the check that each history is the merge of its callers' receipts. The check
+//! also compares each MAP with the operators' own frames.
 #![tactic(auto)]
 
 mod caller;

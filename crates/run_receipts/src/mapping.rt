@@ -14,7 +14,7 @@ use map_assembly::{MapBytes, MapFault, MapView, read_map};
 use operator_book::Book;
 use std::alloc::{AllocError, Global};
 
-/// Whether what a MAP says to an operator is its own frame of the MAP's number.
+/// Returns whether what a MAP says to an operator is its own frame of the MAP's number.
 fn has_own_part(
     alloc: Global,
     own: &OwnFrames,
@@ -31,7 +31,7 @@ fn has_own_part(
     }
 }
 
-/// Whether what a MAP says to each operator is its own frame of the MAP's number.
+/// Returns whether what a MAP says to each operator is its own frame of the MAP's number.
 fn are_own_parts(
     alloc: Global,
     all: &[OwnFrames],
@@ -50,7 +50,7 @@ fn are_own_parts(
     Ok(true)
 }
 
-/// Whether a MAP was not read for want of memory.
+/// Returns whether a MAP was not read for out of memory.
 fn is_want_of_memory(fault: MapFault) -> bool
     ensures { IsTrue result ↔ (fault ≡ MapFault.NoMemory) }
 {
@@ -64,7 +64,8 @@ fn is_want_of_memory(fault: MapFault) -> bool
     }
 }
 
-/// Whether the bytes of a MAP can be read, and what they say to each operator is its own frame of the MAP's number.
+/// Returns whether the bytes of a MAP can be read, and what they say to each operator is its own
+/// frame of the MAP's number.
 fn has_own_parts(alloc: Global, all: &[OwnFrames], made: &MapBytes) -> Result<bool, AllocError>
     requires { (books : List BookView) × AllZip AreFramesOf all.now books }
     ensures { (books : List BookView) → AllZip AreFramesOf all.now books
@@ -82,7 +83,7 @@ fn has_own_parts(alloc: Global, all: &[OwnFrames], made: &MapBytes) -> Result<bo
     }
 }
 
-/// The frame of the first MAP that does not give every operator its own frame.
+/// Returns the frame of the first MAP that does not give every operator its own frame.
 pub(crate) fn first_map_strayed(
     alloc: Global,
     books: &[Book],

@@ -15,23 +15,23 @@ use operator_model::frames_have_no_gap;
 use slice_scheduler::Elements;
 use std::alloc::{AllocError, Global};
 
-/// A frame that a book has put out.
+/// A frame that a book has output.
 #[derive(Clone, Copy, Debug)]
 pub struct Frame<'a> {
     /// Its number.
     pub number: u32,
-    /// What stands in it.
+    /// What is in it.
     pub elements: &'a Elements,
 }
 
-/// An operator's SIDs, and the frames that its book has put out, in order.
+/// An operator's SIDs, and the frames that its book has output, in order.
 #[derive(Drop)]
 pub(crate) struct OwnFrames<'a> {
     pub sids: IdRange,
     pub frames: Vec<Frame<'a>>,
 }
 
-/// Adds the frames of an action's outputs behind others.
+/// Adds the frames of an action's outputs after others.
 fn push_frames<'a>(frames: &mut Vec<Frame<'a>>, outputs: &'a [Output]) -> Result<(), AllocError>
     ensures { OnOk result (numbered frames.new.items ≡ numbered frames.old.items ++ frames_of outputs.now) }
 {
@@ -46,7 +46,7 @@ fn push_frames<'a>(frames: &mut Vec<Frame<'a>>, outputs: &'a [Output]) -> Result
     Ok(())
 }
 
-/// The frames of a history, in order.
+/// Returns the frames of a history, in order.
 pub fn frames_in<'a>(alloc: Global, history: &'a [Entry]) -> Result<Vec<Frame<'a>>, AllocError>
     ensures { IfOk result (λ frames. numbered frames.items ≡ frames_of (outputs_of history.now)) }
 {
@@ -57,7 +57,7 @@ pub fn frames_in<'a>(alloc: Global, history: &'a [Entry]) -> Result<Vec<Frame<'a
     Ok(frames)
 }
 
-/// The frames of a book.
+/// Returns the frames of a book.
 fn frames_of_book<'a>(alloc: Global, book: &'a Book) -> Result<OwnFrames<'a>, AllocError>
     ensures { IfOk result (λ own. AreFramesOf own (view_of book.now)) }
 {
@@ -69,7 +69,7 @@ fn frames_of_book<'a>(alloc: Global, book: &'a Book) -> Result<OwnFrames<'a>, Al
     })
 }
 
-/// The frames of all books.
+/// Returns the frames of all books.
 pub(crate) fn frames_of_books<'a>(
     alloc: Global,
     books: &'a [Book],
@@ -83,7 +83,7 @@ pub(crate) fn frames_of_books<'a>(
     Ok(own)
 }
 
-/// The elements of the frame of a number. Takes the same time wherever it stands.
+/// Returns the elements of the frame of a number. Takes the same time wherever it exists.
 pub(crate) fn part_of_number<'a>(frames: &[Frame<'a>], number: u32) -> Option<&'a Elements>
     requires { (first : ℕ) × AreNumbered first (numbered frames.now) }
     ensures { (outputs : List Output) → numbered frames.now ≡ frames_of outputs

@@ -10,14 +10,14 @@ use map_assembly::{MapSpan, MapView};
 use slice_scheduler::{Elements, Span};
 use std::alloc::{AllocError, Global};
 
-/// Whether a SID is of a range.
+/// Returns whether a SID is of a range.
 fn is_within(sids: &IdRange, sid: u16) -> bool
     ensures { result ≡ is_within sids.now sid }
 {
     sids.get_first() <= u32::from(sid) && u32::from(sid) <= sids.get_last()
 }
 
-/// An operator's span as a MAP says it.
+/// Returns an operator's span as a MAP says it.
 fn map_span(span: &Span) -> MapSpan
     ensures { result ≡ map_span span.now }
 {
@@ -29,7 +29,7 @@ fn map_span(span: &Span) -> MapSpan
     }
 }
 
-/// The spans of a MAP with a SID of the range.
+/// Returns the spans of a MAP with a SID of the range.
 fn spans_within(
     alloc: Global,
     sids: &IdRange,
@@ -44,7 +44,7 @@ fn spans_within(
         .collect(alloc)
 }
 
-/// The spans that an operator put for a SID, as a MAP says them.
+/// Returns the spans that an operator put for a SID, as a MAP says them.
 fn spans_put(alloc: Global, spans: &[Span]) -> Result<Vec<MapSpan>, AllocError>
     ensures { IfOk result (λ put. put.items ≡ map map_span (filter (λ span. not (span.sid == 0)) spans.now)) }
 {
@@ -55,7 +55,7 @@ fn spans_put(alloc: Global, spans: &[Span]) -> Result<Vec<MapSpan>, AllocError>
         .collect(alloc)
 }
 
-/// The SIDs of a MAP's grants pending that are of the range.
+/// Returns the SIDs of a MAP's grants pending that are of the range.
 fn pending_within(alloc: Global, sids: &IdRange, pending: &[u16]) -> Result<Vec<u16>, AllocError>
     ensures { IfOk result (λ own. own.items ≡ filter (λ sid. is_within sids.now sid) pending.now) }
 {
@@ -66,7 +66,7 @@ fn pending_within(alloc: Global, sids: &IdRange, pending: &[u16]) -> Result<Vec<
         .collect(alloc)
 }
 
-/// The SIDs of an operator's grants pending that are somebody's.
+/// Returns the SIDs of an operator's grants pending that are somebody's.
 fn pending_put(alloc: Global, pending: &[u16]) -> Result<Vec<u16>, AllocError>
     ensures { IfOk result (λ put. put.items ≡ filter (λ sid. not (sid == 0)) pending.now) }
 {
@@ -77,14 +77,14 @@ fn pending_put(alloc: Global, pending: &[u16]) -> Result<Vec<u16>, AllocError>
         .collect(alloc)
 }
 
-/// Whether the spans are the same.
+/// Returns whether the spans are the same.
 fn are_same_spans(a: &[MapSpan], b: &[MapSpan]) -> bool
     ensures { IsTrue result ↔ (a.now ≡ b.now) }
 {
     a == b
 }
 
-/// Whether what a MAP says to the operator with these SIDs is what it put.
+/// Returns whether what a MAP says to the operator with these SIDs is what it put.
 pub(crate) fn is_own_part(
     alloc: Global,
     view: &MapView,

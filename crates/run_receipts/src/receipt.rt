@@ -1,10 +1,10 @@
-//! What a caller was told of an action that it had done.
+//! What a caller was reported of an action that it had done.
 
 use lists::Listed;
 use operator_model::{Action, Outputs};
 
-/// What a caller was told of an action that it had done: its place in the history, the action, and what it put out. A
-/// receipt says nothing by itself: it is settled with the book.
+/// What a caller was reported of an action that it had done: its place in the history, the action,
+/// and what it output. A receipt says nothing by itself: it is settled with the book.
 #[derive(Debug, Drop)]
 pub struct Receipt {
     /// The place in the history, from 0.

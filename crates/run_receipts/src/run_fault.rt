@@ -22,13 +22,13 @@ pub enum RunFault {
     /// A step was refused.
     #[error("a step was refused: {}", CoreText(*.0))]
     Core(CoreFault),
-    /// No memory was left.
+    /// Memory ran out before any effect.
     #[error("out of memory")]
     NoMemory,
     /// The MAP of this frame does not give every operator its own frame.
     #[error("the MAP of frame {frame} does not give every operator what that operator's own frame says")]
     MapStrayed { frame: u32 },
-    /// Other slices were refused, at the step of this place.
+    /// New slices were refused, at the step of this place.
     #[error("step {at} was refused: {}", ResliceText(*.fault))]
     ResliceRefused { at: usize, fault: ResliceFault },
 }

@@ -5,7 +5,7 @@ ghost use Rattle.std.specs.Prelude.{◌≡◌, ◌↔◌, IsTrue};
 use operator_model::{Action, Heard, Output};
 use slice_scheduler::{Elements, Span};
 
-/// Whether the same was heard.
+/// Returns whether the same was received.
 pub fn is_same_heard(a: &Heard, b: &Heard) -> bool
     ensures { IsTrue result ↔ (a.now ≡ b.now) }
 {
@@ -22,7 +22,7 @@ pub fn is_same_heard(a: &Heard, b: &Heard) -> bool
     }
 }
 
-/// Whether the same was done.
+/// Returns whether the same was done.
 pub(crate) fn is_same_action(a: &Action, b: &Action) -> bool
     ensures { IsTrue result ↔ (a.now ≡ b.now) }
 {
@@ -46,14 +46,14 @@ pub(crate) fn is_same_action(a: &Action, b: &Action) -> bool
     }
 }
 
-/// Whether the spans are the same.
+/// Returns whether the spans are the same.
 fn are_same_spans(a: &[Span], b: &[Span]) -> bool
     ensures { IsTrue result ↔ (a.now ≡ b.now) }
 {
     a == b
 }
 
-/// Whether the elements are the same.
+/// Returns whether the elements are the same.
 pub fn are_same_elements(a: &Elements, b: &Elements) -> bool
     ensures { IsTrue result ↔ (a.now ≡ b.now) }
 {
@@ -62,7 +62,7 @@ pub fn are_same_elements(a: &Elements, b: &Elements) -> bool
         && a.get_pending() == b.get_pending()
 }
 
-/// Whether the same was put out.
+/// Returns whether the same was output.
 fn is_same_output(a: &Output, b: &Output) -> bool
     ensures { IsTrue result ↔ (a.now ≡ b.now) }
 {
@@ -92,7 +92,7 @@ fn is_same_output(a: &Output, b: &Output) -> bool
     }
 }
 
-/// Whether the same was put out, in the same order.
+/// Returns whether the same was output, in the same order.
 pub(crate) fn are_same_outputs(a: &[Output], b: &[Output]) -> bool
     ensures { IsTrue result ↔ (a.now ≡ b.now) }
 {

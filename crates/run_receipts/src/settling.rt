@@ -15,11 +15,13 @@ use map_assembly::MapBytes;
 use operator_book::Book;
 use std::alloc::Global;
 
-/// Settles books, the receipts of their callers (operator by operator) and MAPs with one another, and hands them back.
+/// Settles books, the receipts of their callers (operator by operator) and MAPs with one another,
+/// and hands them back.
 ///
-/// Ok comes exactly where they are settled, want of memory apart; else the first fault. Takes time linear in receipts
-/// and entries, and in the bytes of the MAPs times the operators. Where no memory is left to count the receipts, it takes
-/// time in proportion to the receipts times the entries.
+/// Ok comes exactly where they are settled, out of memory apart; else the first fault. Takes time
+/// linear in receipts and entries, and in the bytes of the MAPs times the operators. Where no
+/// memory is left to count the receipts, it takes time in proportion to the receipts times the
+/// entries.
 pub fn settle(
     alloc: Global,
     books: Vec<Book>,
@@ -34,7 +36,7 @@ pub fn settle(
     ensures not_settled { IfErr result (λ fault. fault ≢ NoMemory
         → ¬ IsSettled (map view_of books.items) receipts.items maps.items) }
 
-    // A receipt that strays, and an entry that was not told just once, are told also where no memory is left.
+    // A receipt that strays, and an entry that was not reported just once, are reported also if memory runs out.
     ensures strayed { (op index : ℕ) → (result ≡ Err (Strayed op index))
         ↔ IsFirstStrayed (map view_of books.items) receipts.items op index }
     ensures short { (op : ℕ) → (result ≡ Err (Short op))

@@ -12,7 +12,7 @@ use crate::same::{are_same_outputs, is_same_action};
 use operator_book::{Book, Entry};
 use plant::Op;
 
-/// Whether the entry at the receipt's index has its action and its outputs.
+/// Returns whether the entry at the receipt's index has its action and its outputs.
 fn stands(history: &[Entry], receipt: &Receipt) -> bool
     ensures { IsTrue result ↔ Stands history.now receipt.now }
 {
@@ -25,7 +25,7 @@ fn stands(history: &[Entry], receipt: &Receipt) -> bool
     }
 }
 
-/// The lesser of two numbers, or the one that is there.
+/// Returns the lesser of two numbers, or the one that is there.
 fn lesser(a: Option<usize>, b: Option<usize>) -> Option<usize>
     ensures { result ≡ lesser a b }
 {
@@ -36,7 +36,7 @@ fn lesser(a: Option<usize>, b: Option<usize>) -> Option<usize>
     }
 }
 
-/// Whether an index is greater than that of the receipt before.
+/// Returns whether an index is greater than that of the receipt before.
 fn is_greater(before: Option<usize>, index: usize) -> bool
     ensures { IsTrue result ↔ IsGreater before index }
 {
@@ -46,7 +46,7 @@ fn is_greater(before: Option<usize>, index: usize) -> bool
     }
 }
 
-/// The index of a receipt that strays.
+/// Returns the index of a receipt that strays.
 fn stray_index(history: &[Entry], before: Option<usize>, receipt: &Receipt) -> Option<usize>
     ensures { MatchOption result (Stands history.now receipt.now × IsGreater before receipt.now.index)
         (λ index. (receipt.now.index ≡ index) × IsStray history.now before receipt.now) }
@@ -58,7 +58,7 @@ fn stray_index(history: &[Entry], before: Option<usize>, receipt: &Receipt) -> O
     }
 }
 
-/// The least index of a caller's receipt that strays.
+/// Returns the least index of a caller's receipt that strays.
 fn least_of_caller(history: &[Entry], receipts: &[Receipt]) -> Option<usize>
     ensures { IsLeastOr (StraysBehind history.now None receipts.now)
         (StandBehind history.now None receipts.now) result }
@@ -72,7 +72,7 @@ fn least_of_caller(history: &[Entry], receipts: &[Receipt]) -> Option<usize>
     least
 }
 
-/// The least index of a receipt that strays, of all callers of an operator.
+/// Returns the least index of a receipt that strays, of all callers of an operator.
 fn least_of_callers(history: &[Entry], callers: &[Receipts]) -> Option<usize>
     ensures { IsLeastOr (Strays history.now callers.now) (AllStand history.now callers.now) result }
 {
@@ -83,7 +83,7 @@ fn least_of_callers(history: &[Entry], callers: &[Receipts]) -> Option<usize>
     least
 }
 
-/// The first receipt that strays: its operator and its index.
+/// Returns the first receipt that strays: its operator and its index.
 pub(crate) fn first_strayed(books: &[Book], receipts: &[Callers]) -> Option<(Op, usize)>
     requires { length books.now ≡ length receipts.now }
     ensures { MatchOption result (EachStands (map view_of books.now) receipts.now)

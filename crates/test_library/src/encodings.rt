@@ -29,7 +29,7 @@ const WHOLE: &[u8] = &[
     0x16, 0x01, 0x02, // grants per interval
 ];
 
-/// What it says.
+/// Returns the fields that the encoding says.
 fn whole_fields() -> FlowFields {
     FlowFields {
         reference: Some(258),
@@ -56,8 +56,8 @@ fn whole_fields() -> FlowFields {
     }
 }
 
-/// Whether an encoding says these fields. A function of its own, as those below: what the calls of it promise is then no part of each
-/// test's proof.
+/// Returns whether an encoding says these fields. A function of its own, as those below: what the
+/// calls of it promise is then no part of each test's proof.
 fn says(bytes: &[u8], wanted: FlowFields) -> bool {
     match read_flow(bytes) {
         Ok(flow) => flow.get_fields() == wanted,
@@ -76,7 +76,7 @@ const TURNED: &[u8] = &[
 /// The same as it is written: fields in ascending order.
 const ASCENDING: &[u8] = &[0x03, 0x02, 0x01, 0x01, 0x06, 0x01, 0x06];
 
-/// What both say.
+/// Returns the fields that both encodings say.
 fn turned_fields() -> FlowFields {
     FlowFields {
         sid: Some(257),
@@ -85,18 +85,18 @@ fn turned_fields() -> FlowFields {
     }
 }
 
-/// Whether a flow is written so.
+/// Returns whether a flow is written so.
 fn is_written(alloc: Global, flow: &FlowTlv, wanted: &[u8]) -> Result<bool, AllocError> {
     let bytes = write_flow(alloc, flow)?;
     Ok(bytes.as_slice() == wanted)
 }
 
-/// Whether a flow that is written is read back as it is.
+/// Returns whether a flow that is written is read back as it is.
 fn is_read_back(alloc: Global, flow: &FlowTlv) -> Result<bool, AllocError> {
     Ok(read_back(alloc, flow)? == *flow)
 }
 
-/// Whether the flow that bytes say is written so, and read back as it is.
+/// Returns whether the flow that bytes say is written so, and read back as it is.
 fn are_written(alloc: Global, bytes: &[u8], wanted: &[u8]) -> Result<bool, AllocError> {
     match &read_flow(bytes) {
         Ok(flow) => Ok(is_written(alloc, flow, wanted)? && is_read_back(alloc, flow)?),
@@ -132,7 +132,7 @@ fn sid_alone() -> FlowFields {
 /// A service class name of one letter.
 const ONE_LETTER: &[u8] = &[0x04, 0x02, 0x41, 0x00];
 
-/// Returns its field.
+/// Returns the field of the encoding.
 fn one_letter() -> FlowFields {
     FlowFields {
         class_name: ClassName::new(b"A"),

@@ -1,6 +1,6 @@
-//! Parts of a frame that give its MAP, and parts that are refused.
+//! Parts of a frame that give its MAP, and parts that are refused, of a new assembly and of one that is resumed.
 
-use map_assembly::{Gather, GatherFault};
+use map_assembly::{Gather, GatherFault, are_slices_of};
 use plant::{Op, Plant};
 use slice_scheduler::{Elements, ElementsFields, Iuc, Sids, Slice, Span, Spans};
 use slice_table::read_plant;
@@ -73,8 +73,11 @@ const IDLE: &[u8] = &[
     0xFF, 0xFC, 0x40, 0x00, 0x00, 0x01, 0x80, 0x08, 0x00, 0x01, 0x80, 0x28, 0x00, 0x01, 0xC0, 0x48,
 ];
 
-/// The operator, the frame and the part of each put, and its expected result.
-const PUTS: [(Op, u32, Part, Expected); 7] = [
+/// The operator, the frame and the part of a put, and its expected result.
+type Put = (Op, u32, Part, Expected);
+
+/// Puts of a plant of which nothing is put yet.
+const PUTS: &[Put] = &[
     (0, 0, Part::OfA, Expected::Waits),
     (0, 0, Part::OfA, Expected::Refused(GatherFault::PutTwice)),
     (
@@ -94,9 +97,41 @@ const PUTS: [(Op, u32, Part, Expected); 7] = [
     ),
 ];
 
-/// Does all puts of the table, and returns whether each result is as expected.
-fn all_as_expected(alloc: Global, gather: &mut Gather) -> Result<bool, AllocError> {
-    for (op, frame, part, wanted) in PUTS {
+/// The MAP of frame 7 in which both slices are idle: as that of frame 0, but that it begins 7 times 72 minislots later.
+const IDLE_IN_FRAME_7: &[u8] = &[
+    0x01, 0x01, 0x04, 0x00, 0x00, 0x00, 0x01, 0xF8, 0x00, 0x00, 0x01, 0xF8, 0x00, 0x00, 0x00, 0x00,
+    0xFF, 0xFC, 0x40, 0x00, 0x00, 0x01, 0x80, 0x08, 0x00, 0x01, 0x80, 0x28, 0x00, 0x01, 0xC0, 0x48,
+];
+
+/// Puts where the assembly goes on at frame 7, and each operator has the slice that the plant file gives to the other.
+const RESUMED: &[Put] = &[
+    (
+        0,
+        6,
+        Part::OfB,
+        Expected::Refused(GatherFault::Old { frame: 6 }),
+    ),
+    (
+        0,
+        8,
+        Part::OfB,
+        Expected::Refused(GatherFault::Early { frame: 8 }),
+    ),
+    (0, 7, Part::OfA, Expected::Refused(GatherFault::WrongSlice)),
+    (0, 7, Part::OfB, Expected::Waits),
+    (1, 7, Part::OfA, Expected::Map(IDLE_IN_FRAME_7)),
+    (
+        0,
+        7,
+        Part::OfB,
+        Expected::Refused(GatherFault::Old { frame: 7 }),
+    ),
+];
+
+/// Does all puts of a table, and returns whether each result is as expected.
+fn all_as_expected(alloc: Global, gather: &mut Gather, puts: &[Put]) -> Result<bool, AllocError> {
+    for put in puts {
+        let (op, frame, part, wanted) = *put;
         let elements = idle(alloc, slice_of(part))?;
         if !puts_as_expected(alloc, gather, op, frame, elements, wanted) {
             return Ok(false);
@@ -105,16 +140,41 @@ fn all_as_expected(alloc: Global, gather: &mut Gather) -> Result<bool, AllocErro
     Ok(true)
 }
 
-/// Does the same with a new gathering of a plant.
+/// Does the puts of a new assembly with that of a plant.
 fn all_as_expected_of(alloc: Global, plant: &Plant) -> Result<bool, AllocError> {
     let mut gather = Gather::new(alloc, plant)?;
-    all_as_expected(alloc, &mut gather)
+    all_as_expected(alloc, &mut gather, PUTS)
 }
 
-/// Does the same with the plant of operators A and B.
+/// Returns the assembly of a plant that goes on at a frame with these slices, or None where they or the frame are not valid.
+fn resumed(
+    alloc: Global,
+    plant: &Plant,
+    frame: u32,
+    slices: &[Slice],
+) -> Result<Option<Gather>, AllocError> {
+    if !are_slices_of(plant, slices) || frame < plant.consts().get_fields().channel.first_frame {
+        return Ok(None);
+    }
+    let slices = Vec::from_slice(alloc, slices)?;
+    Ok(Some(Gather::resume(alloc, plant, frame, slices)?))
+}
+
+/// Does the puts of a resumed assembly with that of a plant.
+fn all_as_expected_of_resumed(alloc: Global, plant: &Plant) -> Result<bool, AllocError> {
+    let slices = [slice_of(Part::OfB), slice_of(Part::OfA)];
+    match &mut resumed(alloc, plant, 7, &slices)? {
+        Some(gather) => all_as_expected(alloc, gather, RESUMED),
+        None => Ok(false),
+    }
+}
+
+/// Does all puts with the plant of operators A and B.
 fn all_as_expected_of_both(alloc: Global) -> Result<bool, AllocError> {
     match &read_plant(alloc, PLANT) {
-        Ok(plant) => all_as_expected_of(alloc, plant),
+        Ok(plant) => {
+            Ok(all_as_expected_of(alloc, plant)? && all_as_expected_of_resumed(alloc, plant)?)
+        }
         Err(_) => Ok(false),
     }
 }

@@ -1,5 +1,4 @@
-//! Worked examples of the layers below a book and of MAPs, as tests alone: what the program calls no function for, or what none of its
-//! lines shows; and library calls where one request for memory is refused. What the program shows is told by the cases of `tests/`.
+//! Tests of library calls that no run of the program shows: encodings, MAPs, and allocations that fail in the lower layers.
 #![tactic(auto)]
 
 #[cfg(test)]

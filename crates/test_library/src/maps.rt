@@ -104,7 +104,7 @@ const MAPS: [(&[u8], &[MapSpan], &[u16]); 3] = [
     (&PENDING, PENDING_SPANS, &[258]),
 ];
 
-/// Whether a MAP says these spans, and who waits.
+/// Returns whether a MAP says these spans, and who waits.
 fn says(alloc: Global, bytes: &[u8], spans: &[MapSpan], pending: &[u16]) -> bool {
     match &read_map(alloc, bytes) {
         Ok(map) => map.spans.as_slice() == spans && map.pending.as_slice() == pending,
@@ -112,7 +112,7 @@ fn says(alloc: Global, bytes: &[u8], spans: &[MapSpan], pending: &[u16]) -> bool
     }
 }
 
-/// What the header of `ALL_FIELDS` says.
+/// Returns what the header of `ALL_FIELDS` says.
 fn all_fields() -> MapHeader {
     MapHeader {
         channel: 7,
@@ -129,12 +129,12 @@ fn all_fields() -> MapHeader {
     }
 }
 
-/// Whether a MAP is such a header alone.
+/// Returns whether a MAP is such a header alone.
 fn is_all_fields(map: &MapView) -> bool {
     map.header == all_fields() && map.spans.as_slice().is_empty()
 }
 
-/// Whether `ALL_FIELDS` says its fields.
+/// Returns whether `ALL_FIELDS` says its fields.
 fn all_fields_are_read(alloc: Global) -> bool {
     match &read_map(alloc, &ALL_FIELDS) {
         Ok(map) => is_all_fields(map),
@@ -150,7 +150,7 @@ fn a_map_says_its_header_its_spans_and_who_waits(rt: HostRuntime) {
     }
 }
 
-/// Bytes that are no MAP, and what is wrong with them.
+/// Bytes that are not a MAP, and what is wrong with them.
 const FAULTS: [(&[u8], MapFault); 8] = [
     (&CUT, MapFault::Short),
     (&ONE_GRANT_15, MapFault::Short),
@@ -162,7 +162,7 @@ const FAULTS: [(&[u8], MapFault); 8] = [
     (&STRAYED, MapFault::AfterNull { at: 5 }),
 ];
 
-/// Whether this is wrong with the bytes of a MAP.
+/// Returns whether this is wrong with the bytes of a MAP.
 fn is_wrong_by(alloc: Global, bytes: &[u8], wanted: MapFault) -> bool {
     match &read_map(alloc, bytes) {
         Ok(_) => false,

@@ -4,12 +4,13 @@ use dsx_messages::{Code, Detail, Kind, Reply, ReplyFields, read_back, read_reply
 use std::alloc::{AllocError, Global};
 use std::process::Abort;
 
-/// Whether bytes are no reply. A function of its own: what the call promises is then no part of the test's proof.
+/// Returns whether bytes are not a reply. A function of its own: what the call promises is then no
+/// part of the test's proof.
 fn are_none(bytes: &[u8]) -> bool {
     read_reply(bytes).is_none()
 }
 
-/// Whether a reply that is written is read back as it is.
+/// Returns whether a reply that is written is read back as it is.
 fn is_read_back(alloc: Global, reply: &Reply) -> Result<bool, AllocError> {
     Ok(read_back(alloc, reply)? == *reply)
 }
@@ -42,7 +43,7 @@ fn has_fields(bytes: &[u8], wanted: ReplyFields) -> bool {
     }
 }
 
-/// Whether bytes are a reply, and it is read back.
+/// Returns whether bytes are a reply, and it is read back.
 fn are_read_back(alloc: Global, bytes: &[u8]) -> Result<bool, AllocError> {
     match &read_reply(bytes) {
         Some(reply) => is_read_back(alloc, reply),

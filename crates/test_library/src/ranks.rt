@@ -4,7 +4,8 @@ use grant_policy::{Policy, RankInput, Ranking, rank_by};
 use std::alloc::{AllocError, Global};
 use std::process::Abort;
 
-/// Whether a ranking whose closure calls `rank_by` gives an input this rank, and tells its policy.
+/// Returns whether a ranking whose closure calls `rank_by` gives an input this rank, and reports
+/// its policy.
 fn ranking_gives(
     alloc: Global,
     policy: Policy,
@@ -20,7 +21,7 @@ fn ranking_gives(
     Ok(ranking.rank(&input) == wanted && ranking.policy() == policy)
 }
 
-/// Whether a policy gives an input this rank, told by `rank_by` and by a ranking.
+/// Returns whether a policy gives an input this rank, reported by `rank_by` and by a ranking.
 fn gives(alloc: Global, policy: Policy, input: RankInput, wanted: u8) -> Result<bool, AllocError> {
     Ok(rank_by(policy, &input) == wanted && ranking_gives(alloc, policy, input, wanted)?)
 }
@@ -28,7 +29,7 @@ fn gives(alloc: Global, policy: Policy, input: RankInput, wanted: u8) -> Result<
 /// A policy, if it is one; a priority, an age and a backlog; and the rank that it gives them.
 type Row = (Option<Policy>, (u8, u8, u16), u8);
 
-/// Whether the policy gives that rank.
+/// Returns whether the policy gives that rank.
 fn holds(alloc: Global, row: Row) -> Result<bool, AllocError> {
     let (policy, (priority, age, backlog), wanted) = row;
     match policy {

@@ -16,7 +16,7 @@ fn read(fields: FlowFields) -> Result<ParamSet, Refusal>
     from_tlv(&FlowTlv::new(fields), &units())
 }
 
-/// All that a set may keep, and some kind of scheduling.
+/// Returns all that a set may keep, and some kind of scheduling.
 fn all(scheduling_type: Option<u8>) -> FlowFields
     ensures { AreInRange result }
 {
@@ -37,7 +37,7 @@ fn all(scheduling_type: Option<u8>) -> FlowFields
     }
 }
 
-/// What best effort keeps of it.
+/// Returns what best effort keeps of it.
 fn best_effort() -> ParamFields {
     ParamFields {
         scheduling: Scheduling::BestEffort,
@@ -55,7 +55,7 @@ fn best_effort() -> ParamFields {
     }
 }
 
-/// What polling keeps of it.
+/// Returns what polling keeps of it.
 fn polled(scheduling: Scheduling) -> ParamFields {
     ParamFields {
         scheduling,
@@ -65,7 +65,7 @@ fn polled(scheduling: Scheduling) -> ParamFields {
     }
 }
 
-/// What unsolicited grants keep of it.
+/// Returns what unsolicited grants keep of it.
 fn granted() -> ParamFields {
     ParamFields {
         scheduling: Scheduling::UnsolicitedGrant,
@@ -78,7 +78,7 @@ fn granted() -> ParamFields {
     }
 }
 
-/// Whether a kind of scheduling keeps this of it.
+/// Returns whether a kind of scheduling keeps this of it.
 fn keeps(number: Option<u8>, wanted: ParamFields) -> bool {
     match read(all(number)) {
         Ok(set) => set.get_fields() == wanted,
@@ -86,7 +86,7 @@ fn keeps(number: Option<u8>, wanted: ParamFields) -> bool {
     }
 }
 
-/// Whether polling that says no interval has one of a second.
+/// Returns whether polling that says no interval has one of a second.
 fn polls_each_second() -> bool {
     let slow = FlowFields {
         scheduling_type: Some(3),

@@ -3,6 +3,7 @@
 
 mod books;
 pub(crate) mod fixtures;
+mod live;
 mod opening;
 mod runs;
 mod settling;

@@ -1,5 +1,5 @@
-//! Runs as tests alone, of what no line of the program shows: books and cores, what threads share, cells of passes, and the program over readers and
-//! writers that fail. They stand in one crate, since each program of tests is linked anew with all that it reaches.
+//! Tests of what no run of the program shows: books, cores, threads, cells of passes, and readers and writers that fail. They
+//! are in one crate, since each test program is linked with all that it reaches.
 #![tactic(auto)]
 
 #[cfg(test)]

@@ -2,7 +2,7 @@
 //! for memory is refused.
 
 mod calls;
-mod cells;
+pub(crate) mod cells;
 mod pace;
 mod races;
 mod racing;

@@ -9,3 +9,4 @@ mod playing;
 mod refusals;
 mod runs;
 mod sharing;
+mod waiting;

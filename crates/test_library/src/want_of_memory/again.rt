@@ -13,7 +13,7 @@ macro_rules! again {
     };
 }
 
-/// Whether these are the bytes that are wanted.
+/// Returns whether these are the bytes that are wanted.
 pub(crate) fn are(bytes: &[u8], wanted: &[u8]) -> bool {
     bytes == wanted
 }

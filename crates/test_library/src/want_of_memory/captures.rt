@@ -52,7 +52,7 @@ const MAP: [u8; 40] = [
 /// The DSD-REQ.
 const DELETION: [u8; 9] = [21, 0, 2, 0, 0, 0, 0, 1, 1];
 
-/// A message of the modem arrives.
+/// Returns a message of the modem arrives.
 fn message(alloc: Global, bytes: &[u8]) -> Result<Step, AllocError> {
     Ok(Step::Arrive {
         modem: ONE,
@@ -60,7 +60,7 @@ fn message(alloc: Global, bytes: &[u8]) -> Result<Step, AllocError> {
     })
 }
 
-/// The reply of the first operator to the modem.
+/// Returns the reply of the first operator to the modem.
 fn reply(alloc: Global) -> Result<Out, AllocError> {
     Ok(Out::Of {
         op: 0,
@@ -71,7 +71,7 @@ fn reply(alloc: Global) -> Result<Out, AllocError> {
     })
 }
 
-/// The MAP of the first frame.
+/// Returns the MAP of the first frame.
 fn map(alloc: Global) -> Result<Out, AllocError> {
     Ok(Out::Map(MapBytes {
         frame: 0,
@@ -79,18 +79,18 @@ fn map(alloc: Global) -> Result<Out, AllocError> {
     }))
 }
 
-/// A capture of the plant of two operators.
+/// Returns a capture of the plant of two operators.
 fn capture_of(alloc: Global) -> Result<Capture, AllocError> {
     let plant = plant(alloc)?;
     Ok(Capture::open(alloc, plant.consts()))
 }
 
-/// Captures a step.
+/// Captures the message of a step.
 fn sent(alloc: Global, capture: &mut Capture, step: &Step) -> Result<(), AllocError> {
     again!(capture.sent(alloc, step))
 }
 
-/// Captures what is put out.
+/// Captures what a step outputs.
 fn told(alloc: Global, capture: &mut Capture, outs: &[Out]) -> Result<(), AllocError> {
     again!(capture.told(alloc, outs))
 }
@@ -101,7 +101,7 @@ fn send(alloc: Global, capture: &mut Capture, bytes: &[u8]) -> Result<(), AllocE
     sent(alloc, capture, &step)
 }
 
-/// Captures what is put out.
+/// Captures one output of a step.
 fn tell(alloc: Global, capture: &mut Capture, out: Out) -> Result<(), AllocError> {
     told(alloc, capture, &[out])
 }
@@ -115,25 +115,25 @@ fn first_flow(alloc: Global, capture: &mut Capture) -> Result<(), AllocError> {
     send(alloc, capture, &DELETION)
 }
 
-/// The bytes of the file.
+/// Returns the bytes of the file.
 fn file(alloc: Global, capture: &Capture) -> Result<Vec<u8>, AllocError> {
     again!(capture.to_bytes(alloc))
 }
 
-/// The digits of the file.
+/// Returns the digits of the file.
 fn digits(alloc: Global, capture: &Capture) -> Result<String, AllocError> {
     let file = file(alloc, capture)?;
     encode_upper(alloc, file.as_slice())
 }
 
-/// Whether the file of a capture is the one that is wanted, behind these.
+/// Returns whether the file of a capture is the one that is wanted, after these.
 fn is_first_flow(alloc: Global, capture: &mut Capture) -> Result<bool, AllocError> {
     first_flow(alloc, capture)?;
     let digits = digits(alloc, capture)?;
     Ok(digits.as_str() == FIRST_FLOW)
 }
 
-/// Whether the file of the first flow is the one that is wanted.
+/// Returns whether the file of the first flow is the one that is wanted.
 fn first_flow_is_captured(alloc: Global) -> Result<bool, AllocError> {
     let mut capture = capture_of(alloc)?;
     is_first_flow(alloc, &mut capture)

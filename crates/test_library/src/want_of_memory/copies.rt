@@ -1,4 +1,5 @@
-//! Copies of what a book puts out. No word of the program copies a whole output; what it copies, its runs show.
+//! Copies of what a book outputs. No command copies a whole output; what it copies, its
+//! runs show.
 
 use crate::want_of_memory::again::again;
 use dsx_messages::Modem;
@@ -8,12 +9,12 @@ use std::alloc::{AllocError, Global};
 use std::process::Abort;
 use tlv24::Bytes;
 
-/// Whether an output is copied at all. That the copy is the output is the clause of `copy`.
+/// Returns whether an output is copied at all. That the copy is the output is the clause of `copy`.
 fn is_copied(alloc: Global, output: Output) -> bool {
     again!(output.copy(alloc)).is_ok()
 }
 
-/// A grant, what is left of the slice, and a SID that waits.
+/// Returns a grant, what is left of the slice, and a SID that waits.
 fn elements(alloc: Global) -> Result<Elements, AllocError> {
     let grant = Span {
         sid: 257,
@@ -28,7 +29,7 @@ fn elements(alloc: Global) -> Result<Elements, AllocError> {
     }))
 }
 
-/// A frame.
+/// Returns an output that is a frame.
 fn frame(alloc: Global) -> Result<Output, AllocError> {
     Ok(Output::Frame {
         number: 7,
@@ -36,7 +37,7 @@ fn frame(alloc: Global) -> Result<Output, AllocError> {
     })
 }
 
-/// A reply.
+/// Returns an output that is a reply.
 fn reply(alloc: Global) -> Result<Output, AllocError> {
     Ok(Output::Reply {
         modem: Modem([2, 0, 0, 0, 0, 1]),

@@ -8,7 +8,7 @@ use slice_scheduler::{Elements, ElementsFields, Iuc, Sids, Slice, Span, Spans};
 use std::alloc::{AllocError, Global};
 use std::process::Abort;
 
-/// One idle span of a slice.
+/// Returns one idle span of a slice.
 fn idle(alloc: Global, slice: Slice) -> Result<Elements, AllocError> {
     let span = Span {
         sid: 0,
@@ -41,7 +41,7 @@ fn put(
     }
 }
 
-/// Whether a part is put, and comes to this MAP, or to none where no byte is wanted.
+/// Returns whether a part is put, and results in this MAP, or to none where no byte is wanted.
 fn comes_to(alloc: Global, gather: &mut Gather, op: Op, elements: Elements, wanted: &[u8]) -> bool {
     match &put(alloc, gather, op, elements) {
         Ok(Some(map)) => are(map.bytes.as_slice(), wanted),
@@ -50,7 +50,7 @@ fn comes_to(alloc: Global, gather: &mut Gather, op: Op, elements: Elements, want
     }
 }
 
-/// The same of an idle part of an operator.
+/// Returns the same of an idle part of an operator.
 fn idle_comes_to(
     alloc: Global,
     gather: &mut Gather,
@@ -62,7 +62,8 @@ fn idle_comes_to(
     Ok(comes_to(alloc, gather, op, elements, wanted))
 }
 
-/// Whether idle parts of both operators come to this MAP of the first frame, and the first of them to none.
+/// Returns whether idle parts of both operators result in this MAP of the first frame, and the
+/// first of them to none.
 fn come_to(
     alloc: Global,
     gather: &mut Gather,
@@ -74,12 +75,12 @@ fn come_to(
     Ok(first && second)
 }
 
-/// Nothing is put yet of a plant.
+/// Returns nothing is put yet of a plant.
 fn gather_of(alloc: Global, plant: &Plant) -> Result<Gather, AllocError> {
     again!(Gather::new(alloc, plant))
 }
 
-/// Nothing is put yet of the plant.
+/// Returns nothing is put yet of the plant.
 fn gather(alloc: Global) -> Result<Gather, AllocError> {
     let plant = plant(alloc)?;
     gather_of(alloc, &plant)
@@ -91,14 +92,14 @@ const IDLE: [u8; 32] = [
     0x80, 0x28, 0, 1, 0xC0, 0x48,
 ];
 
-/// Whether idle parts of the plant's slices come to their MAP.
+/// Returns whether idle parts of the plant's slices result in their MAP.
 fn idle_parts_come_to_a_map(alloc: Global) -> Result<bool, AllocError> {
     let mut gather = gather(alloc)?;
     let slices = [Slice::new(8, 32), Slice::new(40, 32)];
     come_to(alloc, &mut gather, &slices, &IDLE)
 }
 
-/// Gives other slices from the first frame on; whether they may be given.
+/// Gives new slices from the first frame on; whether they may be given.
 fn reslices(alloc: Global, gather: &mut Gather, slices: &[Slice]) -> Result<bool, AllocError> {
     if !gather.may_reslice(0, slices) {
         return Ok(false);
@@ -107,13 +108,13 @@ fn reslices(alloc: Global, gather: &mut Gather, slices: &[Slice]) -> Result<bool
     Ok(true)
 }
 
-/// The MAP of idle parts of the other slices.
+/// The MAP of idle parts of the new slices.
 const RESLICED: [u8; 32] = [
     1, 1, 4, 0, 0, 0, 0, 0, 0, 0, 0, 0, 0, 0, 0, 0, 0xFF, 0xFC, 0x40, 0x00, 0, 1, 0x80, 0x08, 0, 1,
     0x80, 0x18, 0, 1, 0xC0, 0x48,
 ];
 
-/// Whether idle parts of other slices come to their MAP.
+/// Returns whether idle parts of new slices result in their MAP.
 fn other_slices_are_given(alloc: Global) -> Result<bool, AllocError> {
     let mut gather = gather(alloc)?;
     let slices = [Slice::new(8, 16), Slice::new(24, 48)];
@@ -126,12 +127,12 @@ const GRANT_AND_WAIT: [u8; 32] = [
     0xC0, 0x48, 4, 9, 0x40, 0x48,
 ];
 
-/// What a MAP says, and once more where that finds no memory.
+/// Returns what a MAP says, and once more where that finds no memory.
 fn view(alloc: Global, bytes: &[u8]) -> Result<MapView, MapFault> {
     again!(read_map(alloc, bytes), MapFault::NoMemory)
 }
 
-/// Whether the MAP says two spans, and who waits.
+/// Returns whether the MAP says two spans, and who waits.
 fn grant_and_wait_are_read(alloc: Global) -> bool {
     match &view(alloc, &GRANT_AND_WAIT) {
         Ok(view) => {

@@ -16,7 +16,7 @@ const REPLY: [u8; 20] = [
     16, 0, 1, 0, 24, 14, 1, 2, 0, 1, 2, 4, 0, 0, 1, 1, 3, 2, 1, 1,
 ];
 
-/// Whether bytes are copied, and are the reply.
+/// Returns whether bytes are copied, and are the reply.
 fn is_copied(alloc: Global, bytes: &Bytes) -> bool {
     match &again!(bytes.copy(alloc)) {
         Ok(copied) => are(bytes.as_slice(), &REPLY) && are(copied.as_slice(), &REPLY),
@@ -24,7 +24,7 @@ fn is_copied(alloc: Global, bytes: &Bytes) -> bool {
     }
 }
 
-/// Whether the reply's bytes are made, and copied.
+/// Returns whether the reply's bytes are made, and copied.
 fn reply_bytes_are_copied(alloc: Global) -> bool {
     match &again!(Bytes::from_slice(alloc, &REPLY)) {
         Ok(bytes) => is_copied(alloc, bytes),
@@ -32,12 +32,12 @@ fn reply_bytes_are_copied(alloc: Global) -> bool {
     }
 }
 
-/// What is split, and once more where that finds no memory.
+/// Returns what is split, and once more where that finds no memory.
 fn split(alloc: Global, list: &[u8]) -> Result<Vec<Tlv>, TlvFault> {
     again!(Tlvs::split(alloc, list), TlvFault::NoMemory)
 }
 
-/// Whether these are an empty TLV of type 27, and one of type 31 with one byte.
+/// Returns whether these are an empty TLV of type 27, and one of type 31 with one byte.
 fn are_split(tlvs: &[Tlv]) -> bool {
     match tlvs {
         [first, second] => {
@@ -50,7 +50,7 @@ fn are_split(tlvs: &[Tlv]) -> bool {
     }
 }
 
-/// Whether the list of both is split.
+/// Returns whether the list of both is split.
 fn tlvs_are_split(alloc: Global) -> bool {
     match &split(alloc, &[27, 0, 31, 1, 7]) {
         Ok(tlvs) => are_split(tlvs.as_slice()),
@@ -61,7 +61,7 @@ fn tlvs_are_split(alloc: Global) -> bool {
 /// Reference 1, set types admitted and active, best effort.
 const ENCODING: [u8; 10] = [1, 2, 0, 1, 6, 1, 6, 15, 1, 2];
 
-/// Whether a flow is written so.
+/// Returns whether a flow is written so.
 fn is_encoded(alloc: Global, flow: &FlowTlv) -> bool {
     match &again!(write_flow(alloc, flow)) {
         Ok(written) => are(written.as_slice(), &ENCODING),
@@ -69,7 +69,7 @@ fn is_encoded(alloc: Global, flow: &FlowTlv) -> bool {
     }
 }
 
-/// Whether the flow that the encoding says is written so.
+/// Returns whether the flow that the encoding says is written so.
 fn flow_encoding_is_written(alloc: Global) -> bool {
     match &read_flow(&ENCODING) {
         Ok(flow) => is_encoded(alloc, flow),
@@ -77,17 +77,18 @@ fn flow_encoding_is_written(alloc: Global) -> bool {
     }
 }
 
-/// What bytes say, and once more where that finds no memory.
+/// Returns what bytes say, and once more where that finds no memory.
 fn message(alloc: Global, bytes: &[u8]) -> Result<Message, MessageFault> {
     again!(read(alloc, bytes), MessageFault::NoMemory)
 }
 
-/// Whether a flow is of reference 1 and of this set type.
+/// Returns whether a flow is of reference 1 and of this set type.
 fn is_one(flow: &FlowTlv, set_type: u8) -> bool {
     flow.get_reference() == Some(1) && flow.get_set_type() == Some(set_type)
 }
 
-/// Whether these are two flows of reference 1, the one with set type 2 and the other with 4.
+/// Returns whether these are two flows of reference 1, the one with set type 2 and the other with
+/// 4.
 fn are_two(flows: &[FlowTlv]) -> bool {
     match flows {
         [first, second] => is_one(first, 2) && is_one(second, 4),
@@ -95,7 +96,7 @@ fn are_two(flows: &[FlowTlv]) -> bool {
     }
 }
 
-/// Whether a message is the addition.
+/// Returns whether a message is the addition.
 fn is_addition(message: &Message) -> bool {
     match message {
         Message::Request(Request::Dsa { tid, flows }) => *tid == 1 && are_two(flows.as_slice()),
@@ -103,7 +104,7 @@ fn is_addition(message: &Message) -> bool {
     }
 }
 
-/// Whether the addition is read.
+/// Returns whether the addition is read.
 fn addition_is_read(alloc: Global) -> bool {
     match &message(alloc, &ADDITION) {
         Ok(message) => is_addition(message),
@@ -111,7 +112,7 @@ fn addition_is_read(alloc: Global) -> bool {
     }
 }
 
-/// Whether a reply's bytes are those of the reply.
+/// Returns whether a reply's bytes are those of the reply.
 fn is_spelled(alloc: Global, reply: &Reply) -> bool {
     match &again!(write_reply(alloc, reply)) {
         Ok(written) => are(written.as_slice(), &REPLY),
@@ -119,7 +120,7 @@ fn is_spelled(alloc: Global, reply: &Reply) -> bool {
     }
 }
 
-/// Whether the reply that the bytes say is written so.
+/// Returns whether the reply that the bytes say is written so.
 fn reply_is_written(alloc: Global) -> bool {
     match &read_reply(&REPLY) {
         Some(reply) => is_spelled(alloc, reply),

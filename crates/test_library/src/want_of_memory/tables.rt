@@ -1,4 +1,4 @@
-//! Ledgers, kept responses, and plant files.
+//! Ledgers, cached responses, and plant files.
 
 use crate::want_of_memory::again::{again, are};
 use admission::{Budget, Ledger};
@@ -15,7 +15,7 @@ const ONE: Modem = Modem([2, 0, 0, 0, 0, 1]);
 
 const THREE: Modem = Modem([2, 0, 0, 0, 0, 3]);
 
-/// Whether a ledger takes a flow's row.
+/// Returns whether a ledger takes a flow's row.
 fn takes(ledger: &mut Ledger, sfid: u32) -> bool {
     let budget = Budget {
         minislots: 5,
@@ -24,7 +24,7 @@ fn takes(ledger: &mut Ledger, sfid: u32) -> bool {
     ledger.add(sfid, budget).is_ok()
 }
 
-/// Whether a ledger of two rows is made, and takes two.
+/// Returns whether a ledger of two rows is made, and takes two.
 fn two_are_taken(alloc: Global) -> bool {
     match &mut again!(Ledger::new(alloc, 2)) {
         Ok(ledger) => takes(ledger, 257) && takes(ledger, 258),
@@ -32,12 +32,13 @@ fn two_are_taken(alloc: Global) -> bool {
     }
 }
 
-/// A table of two responses that are sent again at the first tick and given up at the second, empty yet.
+/// Returns a table of two responses that are retransmitted at the first tick and abandoned at the
+/// second, empty yet.
 fn kept(alloc: Global) -> Result<Kept, AllocError> {
     again!(Kept::new(alloc, 2, Timers::new(1, 1, 5)))
 }
 
-/// Whether a transaction with a reply of four bytes is begun.
+/// Returns whether a transaction with a reply of four bytes is begun.
 fn begins(
     alloc: Global,
     kept: &mut Kept,
@@ -49,14 +50,14 @@ fn begins(
     Ok(kept.begin(modem, 1, kind, reply, 257, true).is_ok())
 }
 
-/// Whether both are begun.
+/// Returns whether both are begun.
 fn both_begin(alloc: Global, kept: &mut Kept) -> Result<bool, AllocError> {
     let first = begins(alloc, kept, ONE, Kind::Dsa, [16, 0, 1, 0])?;
     let second = begins(alloc, kept, THREE, Kind::Dsc, [13, 0, 1, 0])?;
     Ok(first && second)
 }
 
-/// Whether a tick sends so many responses again, and gives up so many.
+/// Returns whether a tick sends so many responses again, and abandons so many.
 fn ticks(alloc: Global, kept: &mut Kept, resent: usize, given_up: usize) -> bool {
     match &again!(kept.tick(alloc)) {
         Ok(told) => {
@@ -66,12 +67,12 @@ fn ticks(alloc: Global, kept: &mut Kept, resent: usize, given_up: usize) -> bool
     }
 }
 
-/// Whether both are sent again, and then given up.
+/// Returns whether both are retransmitted, and then abandoned.
 fn run_out(alloc: Global, kept: &mut Kept) -> bool {
     ticks(alloc, kept, 2, 0) && ticks(alloc, kept, 0, 2) && kept.is_empty()
 }
 
-/// Whether a tick would send two responses again.
+/// Returns whether a tick would send two responses again.
 fn two_would_be_sent(alloc: Global, kept: &Kept) -> bool {
     match &again!(kept.resends(alloc)) {
         Ok(resends) => resends.as_slice().len() == 2,
@@ -79,7 +80,7 @@ fn two_would_be_sent(alloc: Global, kept: &Kept) -> bool {
     }
 }
 
-/// Whether an entry is copied, with the first reply.
+/// Returns whether an entry is copied, with the first reply.
 fn is_copied(alloc: Global, entry: &KeptEntry) -> bool {
     match &again!(entry.copy(alloc)) {
         Ok(copied) => are(copied.reply.as_slice(), &[16, 0, 1, 0]),
@@ -87,7 +88,7 @@ fn is_copied(alloc: Global, entry: &KeptEntry) -> bool {
     }
 }
 
-/// Whether the first entry is copied.
+/// Returns whether the first entry is copied.
 fn first_is_copied(alloc: Global, kept: &Kept) -> bool {
     match kept.entries() {
         [first, ..] => is_copied(alloc, first),
@@ -95,7 +96,8 @@ fn first_is_copied(alloc: Global, kept: &Kept) -> bool {
     }
 }
 
-/// Whether both are begun, copied, sent again and given up. A tick that is refused counts no timer on.
+/// Returns whether both are begun, copied, retransmitted and abandoned. A tick that is refused counts
+/// no timer on.
 fn both_go_their_way(alloc: Global, kept: &mut Kept) -> Result<bool, AllocError> {
     let begun = both_begin(alloc, kept)?;
     Ok(
@@ -106,13 +108,13 @@ fn both_go_their_way(alloc: Global, kept: &mut Kept) -> Result<bool, AllocError>
     )
 }
 
-/// The same of a table that is empty yet.
+/// Returns the same of a table that is empty yet.
 fn kept_go_their_way(alloc: Global) -> Result<bool, AllocError> {
     let mut kept = kept(alloc)?;
     both_go_their_way(alloc, &mut kept)
 }
 
-/// Whether a plant is the one of the text.
+/// Returns whether a plant is the one of the text.
 fn is_the_plant(plant: &Plant) -> bool {
     plant.operator_of(ONE) == Some(0)
         && plant.operator_of(THREE) == Some(1)
@@ -120,12 +122,12 @@ fn is_the_plant(plant: &Plant) -> bool {
         && plant.consts().get_fields().classes.as_slice().len() == 1
 }
 
-/// The plant of the text, and once more where that finds no memory.
+/// Returns the plant of the text, and once more where that finds no memory.
 fn plant_again(alloc: Global) -> Result<Plant, PlantFault> {
     again!(read_plant(alloc, CLASSED), PlantFault::NoMemory)
 }
 
-/// The plant of the text.
+/// Returns the plant of the text.
 pub(crate) fn plant(alloc: Global) -> Result<Plant, AllocError> {
     match plant_again(alloc) {
         Ok(plant) => Ok(plant),
@@ -133,7 +135,7 @@ pub(crate) fn plant(alloc: Global) -> Result<Plant, AllocError> {
     }
 }
 
-/// Whether the plant of the text is read.
+/// Returns whether the plant of the text is read.
 fn plant_is_read(alloc: Global) -> Result<bool, AllocError> {
     let plant = plant(alloc)?;
     Ok(is_the_plant(&plant))

@@ -75,7 +75,8 @@ fn counts(alloc: Global, book: &Book) -> Result<(usize, usize), AllocError> {
     Ok((book.history().len(), view.kept().len()))
 }
 
-/// Returns whether the book of operator A acts as expected, and then has so many entries and kept responses.
+/// Returns whether the book of operator A acts as expected, and then has so many entries and cached
+/// responses.
 fn book_does(
     alloc: Global,
     keys: &str,

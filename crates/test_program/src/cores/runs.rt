@@ -1,9 +1,9 @@
 //! Runs of many steps of a plant's core.
 
-use crate::cores::fixtures::Expected;
+use crate::cores::fixtures::{ADDITION, Expected, MODEM_OF_A, REPLY, is_output};
 use crate::cores::opening::{core, strict};
-use crate::cores::steps::{StepCall, are_outs, steps_of};
-use operator_book::Cause;
+use crate::cores::steps::{HALF, StepCall, are_outs, steps_of};
+use operator_book::{Cause, Output};
 use plant::Op;
 use plant_core::{CoreFault, PlantCore, RunStop};
 use run_model::Out;
@@ -69,5 +69,62 @@ fn core_goes_on(alloc: Global) -> Result<bool, AllocError> {
 #[test]
 fn a_run_stops_at_a_refused_step(rt: HostRuntime) -> Result<(), AllocError> {
     assert!(rt; core_goes_on(rt.alloc())?);
+    Ok(())
+}
+
+/// A step of each kind, and the collection that makes the MAP.
+const ALL_KINDS: &[StepCall] = &[
+    StepCall::Reslice(1, HALF),
+    StepCall::Arrive(MODEM_OF_A, ADDITION),
+    StepCall::Work(0),
+    StepCall::Tick(0),
+    StepCall::Tick(1),
+    StepCall::Collect(0),
+    StepCall::Collect(1),
+];
+
+/// Returns whether outputs are the reply to the addition, a frame of each operator, and their MAP.
+fn are_of_all_kinds(outs: &[Out]) -> bool {
+    match outs {
+        [
+            Out::Of {
+                op: 0,
+                output: reply,
+            },
+            Out::Of {
+                op: 0,
+                output: Output::Frame {
+                    number: 0,
+                    elements: _,
+                },
+            },
+            Out::Of {
+                op: 1,
+                output: Output::Frame {
+                    number: 0,
+                    elements: _,
+                },
+            },
+            Out::Map(made),
+        ] => is_output(reply, Expected::Reply(REPLY)) && made.frame == 0,
+        _ => false,
+    }
+}
+
+/// Returns whether a run of a step of each kind has the outputs of each.
+fn all_kinds_run(alloc: Global) -> Result<bool, AllocError> {
+    let Some(mut core) = core(alloc, strict!(alloc), strict!(alloc))? else {
+        return Ok(false);
+    };
+    let steps = steps_of(alloc, ALL_KINDS)?;
+    match core.run(alloc, steps.as_slice()) {
+        Ok(outs) => Ok(are_of_all_kinds(outs.as_slice())),
+        Err(_) => Ok(false),
+    }
+}
+
+#[test]
+fn a_run_does_a_step_of_each_kind(rt: HostRuntime) -> Result<(), AllocError> {
+    assert!(rt; all_kinds_run(rt.alloc())?);
     Ok(())
 }

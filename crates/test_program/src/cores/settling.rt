@@ -91,7 +91,7 @@ enum Maps {
     Idle,
 }
 
-/// Returns these MAPs.
+/// Returns the MAPs of this name.
 fn maps_of(alloc: Global, maps: Maps) -> Result<Vec<MapBytes>, AllocError> {
     match maps {
         Maps::None => Ok(Vec::new(alloc)),

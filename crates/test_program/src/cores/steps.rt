@@ -120,7 +120,7 @@ macro_rules! slices {
 }
 
 /// Half of A's minislots go to B.
-const HALF: &[SliceRow] = slices![(8, 16, 16), (24, 48, 32)];
+pub(crate) const HALF: &[SliceRow] = slices![(8, 16, 16), (24, 48, 32)];
 
 /// Slices that are refused for one reason each; then slices that are accepted, and others before these are in force.
 const RESLICES: &[Row] = &[

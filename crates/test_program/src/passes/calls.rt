@@ -15,7 +15,7 @@ use std::process::Abort;
 use std::sync::Wait;
 use std::test::Fail;
 
-/// A cell with two passes.
+/// Returns a cell with two passes.
 fn with_two(alloc: Global, book: Book) -> Option<(PassedCell, Pass, Pass)>
     ensures { IfSome result (λ r. IsOf (cell_of r.0) (pass_of r.1) × IsOf (cell_of r.0) (pass_of r.2)) }
 {
@@ -25,12 +25,12 @@ fn with_two(alloc: Global, book: Book) -> Option<(PassedCell, Pass, Pass)>
     Some((cell, one, two))
 }
 
-/// The place of an action that was done.
+/// Returns the place of an action that was done.
 fn place(answer: Result<Receipt, CellFault>) -> Option<usize> {
     Some(answer.ok()?.index)
 }
 
-/// Whether an arrival of a modem that is not of the row is refused.
+/// Returns whether an arrival of a modem that is not of the row is refused.
 fn refuses_stranger<R: Wait>(rt: &R, alloc: Global, cell: &PassedCell, pass: &mut Pass) -> bool
     requires { IsOf (cell_of cell.now) (pass_of pass.old) }
     ensures { IsOf (cell_of cell.now) (pass_of pass.new) }
@@ -43,7 +43,7 @@ fn refuses_stranger<R: Wait>(rt: &R, alloc: Global, cell: &PassedCell, pass: &mu
     answer.err() == Some(CellFault::Book(BookFault::NotMine { modem: STRANGER }))
 }
 
-/// Where an addition of the row's first modem is told to stand, which puts out nothing.
+/// Returns where an addition of the row's first modem is reported to be, which outputs nothing.
 fn arrives<R: Wait>(rt: &R, alloc: Global, cell: &PassedCell, pass: &mut Pass) -> Option<usize>
     requires { IsOf (cell_of cell.now) (pass_of pass.old) }
     ensures { IsOf (cell_of cell.now) (pass_of pass.new) }
@@ -57,7 +57,7 @@ fn arrives<R: Wait>(rt: &R, alloc: Global, cell: &PassedCell, pass: &mut Pass) -
     }
 }
 
-/// Whether the outputs are one reply of these digits.
+/// Returns whether the outputs are one reply of these digits.
 fn is_reply(alloc: Global, outputs: &[Output], digits: &str) -> Option<bool> {
     let [Output::Reply { modem: _, bytes }] = outputs else {
         return Some(false);
@@ -65,7 +65,7 @@ fn is_reply(alloc: Global, outputs: &[Output], digits: &str) -> Option<bool> {
     Some(encode_upper(alloc, bytes.as_slice()).ok()?.as_str() == digits)
 }
 
-/// Whether the first of the inbox is answered at once.
+/// Returns whether the first of the inbox is answered at once.
 fn replies<R: Wait>(rt: &R, alloc: Global, cell: &PassedCell, pass: &mut Pass) -> Option<bool>
     requires { IsOf (cell_of cell.now) (pass_of pass.old) }
     ensures { IsOf (cell_of cell.now) (pass_of pass.new) }
@@ -74,7 +74,8 @@ fn replies<R: Wait>(rt: &R, alloc: Global, cell: &PassedCell, pass: &mut Pass) -
     Some(receipt.index == 1 && is_reply(alloc, receipt.outputs.as_slice(), REPLY)?)
 }
 
-/// A reply is told at once. A cell that is always closed is seen here, since no clause can refuse it.
+/// A reply is reported at once. A cell that is always closed is seen here, since no clause can
+/// refuse it.
 #[test]
 fn passed_cell_always_closed(rt: HostRuntime) -> Result<(), Fail> {
     let alloc = rt.alloc();
@@ -86,7 +87,7 @@ fn passed_cell_always_closed(rt: HostRuntime) -> Result<(), Fail> {
     Ok(())
 }
 
-/// The faults of a tick with one pass and then of a call with another.
+/// Returns the faults of a tick with one pass and then of a call with another.
 fn refuses<R: Wait>(
     rt: &R,
     alloc: Global,
@@ -111,7 +112,8 @@ fn a_refused_turn_closes_the_cell(rt: HostRuntime) -> Result<(), Fail> {
     Ok(())
 }
 
-/// The places of two entries of one pass, and then of an entry of another that was told of them.
+/// Returns the places of two entries of one pass, and then of an entry of another that was reported
+/// of them.
 fn meets<R: Wait>(
     rt: &R,
     alloc: Global,

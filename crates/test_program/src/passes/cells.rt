@@ -47,31 +47,31 @@ macro_rules! strict {
 
 pub(crate) use strict;
 
-/// The plant of operator A alone, from this frame on.
+/// Returns the plant of operator A alone, from this frame on.
 fn plant_from(alloc: Global, first_frame: &str) -> Option<Plant> {
     let text = format!(in alloc; "{SHARED}{first_frame}\n{OPERATOR_A}").ok()?;
     read_plant(alloc, text.as_str()).ok()
 }
 
-/// The book of operator A, from this frame on.
+/// Returns the book of operator A, from this frame on.
 pub(crate) fn book_from(alloc: Global, first_frame: &str, ranking: Ranking) -> Option<Book> {
     let plant = plant_from(alloc, first_frame)?;
     let row = plant.rows().get(0)?;
     Book::open(alloc, row, plant.consts(), ranking).ok()
 }
 
-/// The book of operator A.
+/// Returns the book of operator A.
 pub(crate) fn book(alloc: Global, ranking: Ranking) -> Option<Book> {
     book_from(alloc, FIRST, ranking)
 }
 
-/// The message that adds a flow.
+/// Returns the message that adds a flow.
 pub(crate) fn addition(alloc: Global) -> Option<Heard> {
     let bytes = decode(alloc, ADDITION).ok()?;
     Some(Heard::Message(Bytes::from_slice(alloc, bytes.as_slice()).ok()?))
 }
 
-/// A cell round a book, with so many passes.
+/// Returns a cell round a book, with so many passes.
 pub(crate) fn opened(alloc: Global, book: Book, passes: usize) -> Option<(PassedCell, Vec<Pass>)>
     requires { (0 < passes) × (passes ≤ 64) }
     ensures { IfSome result (λ r. All (λ p. IsOf (cell_of r.0) (pass_of p)) r.1.items) }
@@ -82,7 +82,7 @@ pub(crate) fn opened(alloc: Global, book: Book, passes: usize) -> Option<(Passed
     Some((cell, passes))
 }
 
-/// The last of some passes.
+/// Returns the last of some passes.
 pub(crate) fn next_of(cell: &PassedCell, passes: &mut Vec<Pass>) -> Option<Pass>
     requires { All (λ p. IsOf (cell_of cell.now) (pass_of p)) passes.old.items }
     ensures one { IfSome result (λ p. IsOf (cell_of cell.now) (pass_of p)) }

@@ -1,5 +1,5 @@
 //! Many calls by many threads, on a cell of passes and on a book behind a lock. The test asserts that each call has its entry. It also
-//! prints how many calls a second were made, which nothing asserts: `tools/measure_passes.sh` makes a table of that.
+//! prints how many calls a second were made, which nothing asserts: `tools/measure/passes.sh` makes a table of that.
 
 use crate::passes::cells::{MODEM, addition, book, opened, strict};
 use crate::passes::teams::raced;
@@ -24,7 +24,7 @@ fn per_second(calls: usize, micros: u128) -> Option<u128> {
     48_000_000_000_u128.checked_div(micros)
 }
 
-/// An arrival of a modem's addition, work or a tick, in turn.
+/// Returns an arrival of a modem's addition, work or a tick, in turn.
 fn action(alloc: Global, turn: usize) -> Option<Action> {
     match turn % 3 {
         0 => Some(Action::Arrive {
@@ -49,7 +49,7 @@ fn act_locked<R: Wait>(
     }
 }
 
-/// How many calls a thread makes, and what they put out.
+/// How many calls a thread makes, and what they output.
 #[derive(Drop)]
 struct Shift {
     calls: usize,
@@ -79,7 +79,7 @@ fn work_locked<R: Threads + Wait + Sync>(
     thread::map_vec(rt, shifts, &|shift| work_on(rt, alloc, book, shift))
 }
 
-/// So many shifts, each of as many calls.
+/// Returns so many shifts, each of as many calls.
 fn shifts_of(alloc: Global, threads: usize) -> Option<Vec<Shift>> {
     let calls = CALLS.checked_div(threads)?;
     let mut shifts = Vec::new(alloc);
@@ -90,7 +90,7 @@ fn shifts_of(alloc: Global, threads: usize) -> Option<Vec<Shift>> {
     Some(shifts)
 }
 
-/// How many calls were answered in all.
+/// Returns how many calls were answered in all.
 fn made_in(shifts: &[Shift]) -> Option<usize> {
     let mut made = 0usize;
     for shift in shifts {
@@ -99,7 +99,7 @@ fn made_in(shifts: &[Shift]) -> Option<usize> {
     Some(made)
 }
 
-/// The calls a second of so many threads on a book behind a lock.
+/// Returns the calls a second of so many threads on a book behind a lock.
 fn locked_pace<R: Threads + Wait + Sync + Clock>(
     rt: &R,
     alloc: Global,
@@ -113,7 +113,7 @@ fn locked_pace<R: Threads + Wait + Sync + Clock>(
     per_second(made_in(shifts.as_slice())?, took)
 }
 
-/// The calls a second of so many threads on a cell, each with a pass.
+/// Returns the calls a second of so many threads on a cell, each with a pass.
 fn passed_pace<R: Threads + Wait + Sync + Clock>(
     rt: &R,
     alloc: Global,

@@ -1,4 +1,4 @@
-//! Cells that threads share, and the one history to which all that they were told belongs.
+//! Cells that threads share, and the one history to which all that they were reported belongs.
 
 ghost use Rattle.std.specs.Prelude.{All, IfSome};
 ghost use Rattle.plant_passes.specs.Passes.{IsOf};
@@ -16,7 +16,7 @@ use std::process::Abort;
 use std::sync::Wait;
 use std::test::Fail;
 
-/// Whether the entry at its place is just what a receipt tells.
+/// Returns whether the entry at its place is just what a receipt reports.
 fn stands(alloc: Global, history: &[Entry], receipt: &Receipt) -> Option<bool> {
     let Some(entry) = history.get(receipt.index) else {
         return Some(false);
@@ -26,7 +26,7 @@ fn stands(alloc: Global, history: &[Entry], receipt: &Receipt) -> Option<bool> {
     Some(told.as_str() == kept.as_str())
 }
 
-/// Whether each receipt stands in a history, and each entry has one.
+/// Returns whether each receipt is in a history, and each entry has one.
 fn fit(alloc: Global, history: &[Entry], receipts: &[Receipt]) -> Option<bool> {
     let mut told = vec![in alloc; false; history.len()].ok()?;
     for receipt in receipts {
@@ -41,7 +41,7 @@ fn fit(alloc: Global, history: &[Entry], receipts: &[Receipt]) -> Option<bool> {
     Some(receipts.len() == history.len())
 }
 
-/// Whether an entry is of one reply of these digits.
+/// Returns whether an entry is of one reply of these digits.
 fn is_reply(alloc: Global, entry: &Entry, digits: &str) -> Option<bool> {
     match entry.outputs.as_slice() {
         [Output::Reply { modem: _, bytes }] => {
@@ -51,7 +51,7 @@ fn is_reply(alloc: Global, entry: &Entry, digits: &str) -> Option<bool> {
     }
 }
 
-/// How many entries are of the addition's reply.
+/// Returns how many entries are of the addition's reply.
 fn replies(alloc: Global, history: &[Entry]) -> Option<usize> {
     let mut count = 0usize;
     for entry in history {
@@ -62,7 +62,8 @@ fn replies(alloc: Global, history: &[Entry]) -> Option<usize> {
     Some(count)
 }
 
-/// Whether all entries that gave out a frame did so in the order of frames, from this one on, up to that one.
+/// Returns whether all entries that gave out a frame did so in the order of frames, from this one
+/// on, up to that one.
 fn frames_follow(history: &[Entry], first: u32, end: u32) -> bool {
     let mut next = first;
     for entry in history {
@@ -103,7 +104,7 @@ fn settles(alloc: Global, book: Book, callers: Callers) -> Option<bool> {
     Some(settle(alloc, books, receipts, Vec::new(alloc)).is_ok())
 }
 
-/// The history of a cell whose passes are handed back.
+/// Returns the history of a cell whose passes are handed back.
 fn closed(cell: PassedCell, passes: Vec<Pass>) -> Option<Book>
     requires { All (λ p. IsOf (cell_of cell) (pass_of p)) passes.items }
 {
@@ -152,7 +153,7 @@ fn eight_threads_with_sixty_four_passes(rt: HostRuntime) -> Result<(), Fail> {
     Ok(())
 }
 
-/// Tells a pass what two others have seen, so that what it has seen begins with what either had.
+/// Shows a pass what two others have seen, so that what it has seen begins with what either had.
 fn tell_both(cell: &PassedCell, told: &mut Pass, one: &mut Pass, other: &mut Pass) -> Option<()>
     requires told { IsOf (cell_of cell.now) (pass_of told.old) }
     requires one { IsOf (cell_of cell.now) (pass_of one.old) }
@@ -166,7 +167,7 @@ fn tell_both(cell: &PassedCell, told: &mut Pass, one: &mut Pass, other: &mut Pas
     Some(())
 }
 
-/// The place of an action of a pass that was told what two others have seen.
+/// Returns the place of an action of a pass that was reported what two others have seen.
 fn after_both<R: Wait>(
     rt: &R,
     alloc: Global,

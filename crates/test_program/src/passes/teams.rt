@@ -20,7 +20,7 @@ pub(crate) struct Team {
     pub receipts: Vec<Receipt>,
 }
 
-/// An arrival of a modem's addition, work or a tick, in turn.
+/// Returns an arrival of a modem's addition, work or a tick, in turn.
 fn call<R: Wait>(
     rt: &R,
     alloc: Global,
@@ -63,7 +63,8 @@ fn call_on<R: Wait>(
     }
 }
 
-/// Keeps a pass beside others. Where there is no memory it is lost, and its cell never gives the book.
+/// Keeps a pass next to others. Where there is no memory it is lost, and its cell never gives the
+/// book.
 fn keep(cell: &PassedCell, passes: &mut Vec<Pass>, pass: Pass)
     requires others { All (λ p. IsOf (cell_of cell.now) (pass_of p)) passes.old.items }
     requires one { IsOf (cell_of cell.now) (pass_of pass) }
@@ -88,7 +89,7 @@ impl<R: Wait> Plays<R> for PassedCell {
     }
 }
 
-/// So many passes, taken from some.
+/// Returns so many passes, taken from some.
 fn team_of(
     alloc: Global,
     cell: &PassedCell,
@@ -111,7 +112,7 @@ fn team_of(
     })
 }
 
-/// Some teams, and one more of the same cell.
+/// Returns some teams, and one more of the same cell.
 fn with_team(cell: &PassedCell, mut teams: Vec<Team>, team: Team) -> Result<Vec<Team>, AllocError>
     requires others { All (λ team. All (λ p. IsOf (cell_of cell.now) (pass_of p)) team.passes.items) teams.items }
     requires one { All (λ p. IsOf (cell_of cell.now) (pass_of p)) team.passes.items }
@@ -122,7 +123,7 @@ fn with_team(cell: &PassedCell, mut teams: Vec<Team>, team: Team) -> Result<Vec<
     Ok(teams)
 }
 
-/// So many teams, each of so many of these passes.
+/// Returns so many teams, each of so many of these passes.
 fn teams_of(
     alloc: Global,
     cell: &PassedCell,
@@ -146,7 +147,7 @@ fn teams_of(
     Some(made)
 }
 
-/// The last of some teams.
+/// Returns the last of some teams.
 fn next_team(cell: &PassedCell, teams: &mut Vec<Team>) -> Option<Team>
     requires { All (λ team. All (λ p. IsOf (cell_of cell.now) (pass_of p)) team.passes.items) teams.old.items }
     ensures one { IfSome result (λ team. All (λ p. IsOf (cell_of cell.now) (pass_of p)) team.passes.items) }
@@ -157,7 +158,7 @@ fn next_team(cell: &PassedCell, teams: &mut Vec<Team>) -> Option<Team>
     teams.pop()
 }
 
-/// Some passes, and more of the same cell.
+/// Returns some passes, and more of the same cell.
 fn with_more(cell: &PassedCell, mut passes: Vec<Pass>, mut more: Vec<Pass>) -> Option<Vec<Pass>>
     requires { All (λ p. IsOf (cell_of cell.now) (pass_of p)) passes.items × All (λ p. IsOf (cell_of cell.now) (pass_of p)) more.items }
     ensures { IfSome result (λ all. All (λ p. IsOf (cell_of cell.now) (pass_of p)) all.items) }
@@ -168,7 +169,7 @@ fn with_more(cell: &PassedCell, mut passes: Vec<Pass>, mut more: Vec<Pass>) -> O
     }
 }
 
-/// All passes and receipts of some teams.
+/// Returns all passes and receipts of some teams.
 fn gathered(
     alloc: Global,
     cell: &PassedCell,

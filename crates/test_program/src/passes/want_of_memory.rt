@@ -1,6 +1,7 @@
-//! Calls of a cell where one request for memory is refused: the refused call answers want of memory by its name, and made once more
-//! it answers what it answers otherwise, or that the cell is closed where the request was made inside the turn. Want of memory
-//! elsewhere ends a test early. Without a refusal the tests show that the calls answer at all.
+//! Calls of a cell where one request for memory is refused: the refused call answers out of memory
+//! by its name, and made once more it answers what it answers otherwise, or that the cell is closed
+//! where the request was made inside the turn. Out of memory elsewhere ends a test early. Without a
+//! refusal the tests show that the calls answer at all.
 
 ghost use Rattle.std.specs.Prelude.{All, IfSome};
 ghost use Rattle.plant_passes.specs.Passes.{IsOf};
@@ -13,7 +14,7 @@ use std::alloc::Global;
 use std::sync::Wait;
 use std::test::Fail;
 
-/// A cell with two passes; where memory is refused, round the other book.
+/// Returns a cell with two passes; where memory is refused, round the other book.
 fn opened_again(alloc: Global, first: Book, spare: Book) -> Option<(PassedCell, Vec<Pass>)>
     ensures { IfSome result (λ r. All (λ p. IsOf (cell_of r.0) (pass_of p)) r.1.items) }
 {
@@ -23,7 +24,7 @@ fn opened_again(alloc: Global, first: Book, spare: Book) -> Option<(PassedCell, 
     }
 }
 
-/// Something is heard of the operator's first modem.
+/// Arrives with a message of the operator's first modem.
 fn arrive<R: Wait>(
     rt: &R,
     alloc: Global,
@@ -40,7 +41,7 @@ fn arrive<R: Wait>(
     cell.arrive(rt, alloc, pass, MODEM, heard)
 }
 
-/// Whether a receipt is told at this place: nothing where it is told at another.
+/// Returns whether a receipt is reported at this place: nothing where it is reported at another.
 fn stands(receipt: &Receipt, place: usize) -> Option<bool> {
     if receipt.index == place {
         Some(true)
@@ -49,7 +50,8 @@ fn stands(receipt: &Receipt, place: usize) -> Option<bool> {
     }
 }
 
-/// Whether an arrival that is made again stands at this place, or the cell is closed; nothing where it is answered otherwise.
+/// Returns whether an arrival that is made again is at this place, or the cell is closed; nothing
+/// where it is answered otherwise.
 fn arrives_second<R: Wait>(
     rt: &R,
     alloc: Global,
@@ -67,7 +69,7 @@ fn arrives_second<R: Wait>(
     }
 }
 
-/// The same of an arrival that is made again only where memory is refused.
+/// Returns the same of an arrival that is made again only where memory is refused.
 fn arrives_again<R: Wait>(
     rt: &R,
     alloc: Global,
@@ -85,7 +87,7 @@ fn arrives_again<R: Wait>(
     }
 }
 
-/// Whether two arrivals succeed, with passes that meet between them.
+/// Returns whether two arrivals succeed, with passes that meet between them.
 fn meets_between<R: Wait>(rt: &R, alloc: Global, cell: &PassedCell, mut passes: Vec<Pass>) -> bool
     requires { All (λ p. IsOf (cell_of cell.now) (pass_of p)) passes.items }
 {
@@ -105,7 +107,8 @@ fn meets_between<R: Wait>(rt: &R, alloc: Global, cell: &PassedCell, mut passes: 
     }
 }
 
-/// Whether the calls of a cell answer what they do with memory, each made again where it is refused.
+/// Returns whether the calls of a cell answer what they do with memory, each made again where it is
+/// refused.
 fn calls_again<R: Wait>(rt: &R, alloc: Global, first: Book, spare: Book) -> bool {
     match opened_again(alloc, first, spare) {
         Some((cell, passes)) => meets_between(rt, alloc, &cell, passes),

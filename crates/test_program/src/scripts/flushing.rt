@@ -100,7 +100,8 @@ MAP 0 01010400000000000000000000000000FFFC400000018008000180280001C048
 fault: line 4
 ";
 
-/// Answers with lines, fault lines and the answer to the last line, which no line feed ends, are flushed.
+/// Checks that lines, error lines and the answer to the last line, which no line feed ends, are
+/// flushed.
 #[test]
 fn answers_are_flushed(rt: HostRuntime) -> Result<(), Fail> {
     let alloc = rt.alloc();

@@ -10,8 +10,8 @@ use std::sync::Wait;
 use std::test::Fail;
 use std::thread::Threads;
 
-/// Asserts what words get where a read fails: the status and the text, and that this read is the last one. The read behind the last
-/// byte tells the end, and no read comes behind it.
+/// Asserts what words get where a read fails: the status and the text, and that this read is the
+/// last one. The read after the last byte reports the end, and no read comes after it.
 fn check_read(
     rt: &(impl Abort + Threads + Wait + Sync),
     alloc: Global,

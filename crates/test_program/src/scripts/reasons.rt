@@ -1,4 +1,5 @@
-//! Reasons of the library that no case of `tests/` has: of statuses, and of a plant at fault that is said to be well.
+//! Reasons of the library that no case of `tests/` has: of statuses, and of an invalid plant that
+//! is said to be well.
 
 use command_line::Word;
 use diagnostics::{Trouble, reason_of, reason_of_trouble};
@@ -15,7 +16,7 @@ fn a_key_of_a_flow_that_nothing_reads(rt: HostRuntime) -> Result<(), Fail> {
     let plant = changed(alloc, PLANT, policy, flow)?;
     let input = format!(in alloc; "{plant}---\nT\n")?;
     let reason = reason_of(alloc, Word::Run, input.as_str(), 0)?;
-    let wanted = "warning: nothing reads operator[0].flow[0].colour\n";
+    let wanted = "warning: line 21: unknown key operator[0].flow[0].colour\n";
     assert_eq!(rt; reason.as_str(), wanted);
     Ok(())
 }
@@ -25,24 +26,24 @@ fn causes_of_statuses_5_to_7(rt: HostRuntime) -> Result<(), Fail> {
     for (trouble, wanted) in [
         (
             Trouble::Memory,
-            "no memory was left: the run needs more than this process may have\n",
+            "out of memory: the run needs more memory than this process may use\n",
         ),
-        (Trouble::Read, "a read of standard input failed\n"),
+        (Trouble::Read, "reading standard input failed\n"),
         (
             Trouble::TooLong,
-            "the input has more than 1048576 bytes, and no more are read\n",
+            "the input is too long: at most 1048576 bytes are read\n",
         ),
         (
             Trouble::NoText { valid: 0 },
-            "the input is no UTF-8 text: byte 1 is of no character\n",
+            "the input is not UTF-8: byte 1 is invalid\n",
         ),
         (
             Trouble::Write,
-            "a write to standard output failed: what was written is not whole\n",
+            "writing to standard output failed: the output is incomplete\n",
         ),
         (
             Trouble::Strayed,
-            "what the threads did is not what the script says: the word run tells what it says\n",
+            "the threads did not follow the script: use run, which needs no threads\n",
         ),
     ] {
         let reason = reason_of_trouble(rt.alloc(), trouble)?;

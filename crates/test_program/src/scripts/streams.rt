@@ -72,7 +72,7 @@ impl Narrow {
         }
     }
 
-    /// Fails at one write and at all behind it.
+    /// Fails at one write and at all after it.
     pub(crate) fn failing_from(alloc: Global, takes: usize, fails_at: usize) -> Narrow {
         Narrow {
             held: Vec::new(alloc),

@@ -18,7 +18,7 @@ Q 020000000003 513 3
 T
 ";
 
-/// The plant with that script.
+/// Returns the plant with that script.
 pub(crate) fn script_input(alloc: Global) -> Result<String, AllocError> {
     format!(in alloc; "{PLANT}---\n{BOTH}")
 }

@@ -9,7 +9,7 @@ use std::test::Fail;
 use std::thread::Threads;
 use test_plants::PLANT;
 
-/// Fails at each read.
+/// A reader that fails at each read.
 #[derive(Drop)]
 struct Broken;
 
@@ -19,7 +19,7 @@ impl Read for Broken {
     }
 }
 
-/// Takes nothing, and fails.
+/// A writer that takes nothing and fails.
 #[derive(Drop)]
 struct Closed;
 
@@ -33,7 +33,8 @@ impl Write for Closed {
     }
 }
 
-/// The status that an input gets under `run`, with a writer for its reasons, and the answer.
+/// Returns the status that an input gets under `run`, with a writer for its reasons, and the
+/// answer.
 fn told<R: Threads + Wait + Sync, E: Write>(
     rt: &R,
     alloc: Global,
@@ -63,7 +64,7 @@ fn an_answer_and_its_reason(rt: HostRuntime) -> Result<(), Fail> {
     let (status, answer) = told(&rt, alloc, input.as_str(), &mut reasons);
     assert_eq!(rt; (status, answer.as_slice()), (4, wanted));
     let reason =
-        "line 37 of the input, 2 of the script, \"Z 0 8/32/32 40/32/32\": operator A is at frame 0: other slices from frame 0 on come too late\n";
+        "line 37 (script line 2), \"Z 0 8/32/32 40/32/32\": operator A is at frame 0: new slices must start at a later frame, not at 0\n";
     assert_eq!(rt; reasons.as_slice(), reason.as_bytes());
     // With reasons that are lost the others stay.
     let (status, answer) = told(&rt, alloc, input.as_str(), &mut Closed);
@@ -88,7 +89,7 @@ fn reads_and_writes_that_fail(rt: HostRuntime) -> Result<(), Fail> {
     assert_eq!(rt; answer.as_slice(), b"fault: io\n".as_slice());
     assert_eq!(rt;
         reasons.as_slice(),
-        b"a read of standard input failed\n".as_slice()
+        b"reading standard input failed\n".as_slice()
     );
     for words in [["one"].as_slice(), ["walk"].as_slice()] {
         let mut reasons = Vec::new(alloc);
@@ -103,8 +104,7 @@ fn reads_and_writes_that_fail(rt: HostRuntime) -> Result<(), Fail> {
             Ending::GoesOn,
         );
         assert_eq!(rt; status, 6);
-        let wanted =
-            b"a write to standard output failed: what was written is not whole\n".as_slice();
+        let wanted = b"writing to standard output failed: the output is incomplete\n".as_slice();
         assert_eq!(rt; reasons.as_slice(), wanted);
     }
     Ok(())

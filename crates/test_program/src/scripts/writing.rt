@@ -10,7 +10,7 @@ use std::sync::Wait;
 use std::test::Fail;
 use std::thread::Threads;
 
-/// The status that words get of the script with a writer, and what the writer holds.
+/// Returns the status that words get of the script with a writer, and what the writer holds.
 fn written<R: Threads + Wait + Sync>(
     rt: &R,
     alloc: Global,
@@ -23,7 +23,8 @@ fn written<R: Threads + Wait + Sync>(
     Ok((status, writer.held))
 }
 
-/// Asserts what words get where a write of a byte fails: what was written before stands, and the line of a failed write behind it.
+/// Asserts what words get where a write of a byte fails: what was written before exists, and the
+/// line of a failed write after it.
 fn check_write(
     rt: &(impl Abort + Threads + Wait + Sync),
     alloc: Global,
@@ -61,7 +62,8 @@ fn each_write_that_fails_is_status_6(rt: HostRuntime) -> Result<(), Fail> {
     Ok(())
 }
 
-/// A capture whose writer fails is not whole, and the line of a failed write stands behind what was written.
+/// A capture whose writer fails is not whole, and the line of a failed write is after what was
+/// written.
 #[test]
 fn each_write_of_a_capture_that_fails_is_status_6(rt: HostRuntime) -> Result<(), Fail> {
     let alloc = rt.alloc();
@@ -84,7 +86,7 @@ fn each_write_of_a_capture_that_fails_is_status_6(rt: HostRuntime) -> Result<(),
     Ok(())
 }
 
-/// A writer that takes no byte fails, and nothing can be told.
+/// A writer that takes no byte fails, and nothing can be reported.
 #[test]
 fn a_writer_that_takes_nothing_is_status_6(rt: HostRuntime) -> Result<(), Fail> {
     for (words, _status, _text) in CASES {
@@ -96,7 +98,7 @@ fn a_writer_that_takes_nothing_is_status_6(rt: HostRuntime) -> Result<(), Fail> 
     Ok(())
 }
 
-/// A writer that fails from one write on: nothing more is told.
+/// A writer that fails from one write on: nothing more is reported.
 #[test]
 fn a_write_that_fails_is_status_6(rt: HostRuntime) -> Result<(), Fail> {
     for fails_at in 0..=41 {

@@ -2,8 +2,10 @@
 
 ghost use Rattle.std.specs.Prelude.{◌<◌, ◌^◌};
 
+use crate::passes::cells::{FIRST, LAST, book_from};
 use crate::threads::opening::{modem, opened, strict};
-use operator_book::{Action, BookFault, Cause, Heard, Output};
+use dsx_messages::Modem;
+use operator_book::{Action, BookFault, Cause, Heard, Output, SliceRow, Unfit};
 use plant_workers::{CellFault, OpenGate, OperatorCell, Receipt};
 use slice_scheduler::{Elements, Iuc, Span};
 use std::alloc::{AllocError, Global};
@@ -27,7 +29,8 @@ const IDLE: [Span; 1] = [Span {
     len: 32,
 }];
 
-/// Whether an addition of the operator's first modem is answered by a receipt at this place that puts out nothing.
+/// Returns whether an addition of the operator's first modem is answered by a receipt at this place
+/// that outputs nothing.
 fn arrives<R: Wait>(
     rt: &R,
     alloc: Global,
@@ -41,7 +44,7 @@ fn arrives<R: Wait>(
     }
 }
 
-/// Whether the reply is all that is put out.
+/// Returns whether the reply is all that is output.
 fn is_reply(outputs: &[Output]) -> bool {
     match outputs {
         [Output::Reply { modem: _, bytes }] => bytes.as_slice() == REPLY.as_slice(),
@@ -49,7 +52,7 @@ fn is_reply(outputs: &[Output]) -> bool {
     }
 }
 
-/// Whether work is answered by a receipt at this place with the reply.
+/// Returns whether work is answered by a receipt at this place with the reply.
 fn replies<R: Wait>(rt: &R, alloc: Global, cell: &OperatorCell, index: usize) -> bool {
     match &cell.work(rt, alloc) {
         Ok(receipt) => receipt.index == index && is_reply(receipt.outputs.as_slice()),
@@ -57,7 +60,7 @@ fn replies<R: Wait>(rt: &R, alloc: Global, cell: &OperatorCell, index: usize) ->
     }
 }
 
-/// Whether silence at an empty inbox is all that is put out.
+/// Returns whether silence at an empty inbox is all that is output.
 fn is_idle(outputs: &[Output]) -> bool {
     match outputs {
         [Output::Silent { modem: _, cause }] => *cause == Cause::Idle,
@@ -65,15 +68,20 @@ fn is_idle(outputs: &[Output]) -> bool {
     }
 }
 
-/// Whether work is answered by a receipt at this place: there is nothing to do.
-fn idles<R: Wait>(rt: &R, alloc: Global, cell: &OperatorCell, index: usize) -> bool {
-    match &cell.work(rt, alloc) {
+/// Returns whether this is a receipt at this place for which there was nothing to do.
+pub(crate) fn has_idled(answer: &Result<Receipt, CellFault>, index: usize) -> bool {
+    match answer {
         Ok(receipt) => receipt.index == index && is_idle(receipt.outputs.as_slice()),
         Err(_) => false,
     }
 }
 
-/// Whether a frame is all that is put out.
+/// Returns whether work is answered by a receipt at this place: there is nothing to do.
+fn idles<R: Wait>(rt: &R, alloc: Global, cell: &OperatorCell, index: usize) -> bool {
+    has_idled(&cell.work(rt, alloc), index)
+}
+
+/// Returns whether a frame is all that is output.
 fn is_frame(outputs: &[Output], wanted: u32) -> bool {
     match outputs {
         [
@@ -86,20 +94,20 @@ fn is_frame(outputs: &[Output], wanted: u32) -> bool {
     }
 }
 
-/// Whether an answer is a receipt at this place with a frame.
-fn has_frame(answer: &Result<Receipt, CellFault>, index: usize, number: u32) -> bool {
+/// Returns whether an answer is a receipt at this place with a frame.
+pub(crate) fn has_frame(answer: &Result<Receipt, CellFault>, index: usize, number: u32) -> bool {
     match answer {
         Ok(receipt) => receipt.index == index && is_frame(receipt.outputs.as_slice(), number),
         Err(_) => false,
     }
 }
 
-/// Whether a tick is answered so.
+/// Returns whether a tick is answered so.
 fn ticks<R: Wait>(rt: &R, alloc: Global, cell: &OperatorCell, index: usize, number: u32) -> bool {
     has_frame(&cell.tick(rt, alloc), index, number)
 }
 
-/// Whether a tick in this turn is answered so.
+/// Returns whether a tick in this turn is answered so.
 fn ticks_at<R: Wait>(
     rt: &R,
     alloc: Global,
@@ -111,15 +119,15 @@ fn ticks_at<R: Wait>(
     has_frame(&answer, index, number)
 }
 
-/// Whether what is taken is an idle frame.
-fn is_taken(taken: &Option<(u32, Elements)>, wanted: u32) -> bool {
+/// Returns whether what is taken is an idle frame.
+pub(crate) fn is_taken(taken: &Option<(u32, Elements)>, wanted: u32) -> bool {
     match taken {
         Some((number, elements)) => { *number == wanted && elements.get_spans() == IDLE.as_slice() }
         None => false,
     }
 }
 
-/// Whether an idle frame is collected.
+/// Returns whether an idle frame is collected.
 fn collects<R: Wait>(rt: &R, alloc: Global, cell: &OperatorCell, number: u32) -> bool {
     match &cell.collect(rt, alloc) {
         Ok(taken) => is_taken(taken, number),
@@ -127,12 +135,12 @@ fn collects<R: Wait>(rt: &R, alloc: Global, cell: &OperatorCell, number: u32) ->
     }
 }
 
-/// Whether no frame waits to be collected.
+/// Returns whether no frame waits to be collected.
 fn collects_none<R: Wait>(rt: &R, alloc: Global, cell: &OperatorCell) -> bool {
     matches!(&cell.collect(rt, alloc), Ok(None))
 }
 
-/// Whether an idle frame is collected behind so many actions.
+/// Returns whether an idle frame is collected after so many actions.
 fn collects_behind<R: Wait>(
     rt: &R,
     alloc: Global,
@@ -146,7 +154,7 @@ fn collects_behind<R: Wait>(
     }
 }
 
-/// Whether a turn is refused by this.
+/// Returns whether a turn is refused by this.
 fn refuses<R: Wait>(
     rt: &R,
     alloc: Global,
@@ -161,7 +169,7 @@ fn refuses<R: Wait>(
     }
 }
 
-/// Whether work in this turn is refused since the turns have stopped.
+/// Returns whether work in this turn is refused since the turns have stopped.
 fn has_stopped<R: Wait>(rt: &R, alloc: Global, cell: &OperatorCell, index: usize) -> bool {
     refuses(
         rt,
@@ -173,7 +181,7 @@ fn has_stopped<R: Wait>(rt: &R, alloc: Global, cell: &OperatorCell, index: usize
     )
 }
 
-/// Whether a frame behind so many actions is refused since the turns have stopped.
+/// Returns whether a frame after so many actions is refused since the turns have stopped.
 fn has_stopped_collecting<R: Wait>(
     rt: &R,
     alloc: Global,
@@ -186,7 +194,7 @@ fn has_stopped_collecting<R: Wait>(
     }
 }
 
-/// Receipts and frames are answered.
+/// Checks that receipts and frames are returned.
 fn answers<R: Wait>(rt: &R, alloc: Global, cell: &OperatorCell) -> Result<bool, AllocError> {
     Ok(
         arrives(rt, alloc, cell, 0)?
@@ -198,13 +206,17 @@ fn answers<R: Wait>(rt: &R, alloc: Global, cell: &OperatorCell) -> Result<bool, 
     )
 }
 
-/// A place that the history has passed is told, with the operator and the place.
+/// Returns a place that the history has passed is reported, with the operator and the place. The
+/// turns go on.
 fn refuses_the_past<R: Wait>(rt: &R, alloc: Global, cell: &OperatorCell) -> bool {
     let passed = CellFault::Passed { op: 0, index: 0 };
-    idles(rt, alloc, cell, 0) && refuses(rt, alloc, cell, 0, Action::Work, passed)
+    idles(rt, alloc, cell, 0)
+        && refuses(rt, alloc, cell, 0, Action::Work, passed)
+        && ticks_at(rt, alloc, cell, 1, 0)
 }
 
-/// Where the turns have stopped each is refused, also one that would be past; what waits for no turn goes on.
+/// Returns where the turns have stopped each is refused, also one that would be past; what waits
+/// for no turn goes on.
 fn stops<R: Wait>(rt: &R, alloc: Global, cell: &OperatorCell) -> bool {
     let begun = idles(rt, alloc, cell, 0);
     cell.stop(rt);
@@ -216,25 +228,23 @@ fn stops<R: Wait>(rt: &R, alloc: Global, cell: &OperatorCell) -> bool {
         && idles(rt, alloc, cell, 1)
 }
 
-/// Whether the arrival of a modem of another operator is refused in this turn.
+/// Returns whether the arrival of a modem of another operator is refused in this turn.
 fn refuses_a_stranger<R: Wait>(rt: &R, alloc: Global, cell: &OperatorCell, index: usize) -> bool {
     let arrival = Action::Arrive {
         modem: modem(3),
-        heard: Heard::Request {
-            sid: 257,
-            minislots: 1,
-        },
+        heard: request(),
     };
     let stranger = CellFault::Book(BookFault::NotMine { modem: modem(3) });
     refuses(rt, alloc, cell, index, arrival, stranger)
 }
 
-/// A turn that is refused stops the cell: a modem of another operator, and then the turn that would have been next.
+/// Returns a turn that is refused stops the cell: a modem of another operator, and then the turn
+/// that would have been next.
 fn is_stopped_by_a_stranger<R: Wait>(rt: &R, alloc: Global, cell: &OperatorCell) -> bool {
     refuses_a_stranger(rt, alloc, cell, 0) && has_stopped(rt, alloc, cell, 0)
 }
 
-/// A cell with the book and the frames of another, which is taken apart.
+/// Returns a cell with the book and the frames of another, which is taken apart.
 fn again(cell: OperatorCell) -> OperatorCell
     requires { cell.op < 2 ^ 64 }
 {
@@ -242,14 +252,34 @@ fn again(cell: OperatorCell) -> OperatorCell
     OperatorCell::again(0, book, taken)
 }
 
-/// Two frames, of which the first is collected.
+/// Returns two frames, of which the first is collected.
 fn begins<R: Wait>(rt: &R, alloc: Global, cell: &OperatorCell) -> bool {
     ticks(rt, alloc, cell, 0, 0) && ticks(rt, alloc, cell, 1, 1) && collects(rt, alloc, cell, 0)
 }
 
-/// Taken apart and put together again, a cell goes on where it was: the frame that was collected is not given again.
+/// Checks that a cell that is taken apart and put together again goes on where it was: the frame that was collected is not given again.
 fn goes_on<R: Wait>(rt: &R, alloc: Global, cell: &OperatorCell) -> bool {
     collects(rt, alloc, cell, 1) && collects_none(rt, alloc, cell)
+}
+
+/// Returns a new cell with the book of another, which is taken apart, and how many frames that one had collected.
+fn renewed(cell: OperatorCell) -> (OperatorCell, usize)
+    requires { cell.op < 2 ^ 64 }
+{
+    let (book, taken) = cell.into_parts();
+    (OperatorCell::new(0, book), taken)
+}
+
+/// Returns whether a new cell collects none of the frames in its history, but the frame of a later tick.
+fn collects_later<R: Wait>(rt: &R, alloc: Global, cell: &OperatorCell) -> bool {
+    collects_none(rt, alloc, cell) && ticks(rt, alloc, cell, 2, 2) && collects(rt, alloc, cell, 2)
+}
+
+/// Returns whether one frame of two counts as collected, and a new cell with their book collects only a later frame.
+fn renews<R: Wait>(rt: &R, alloc: Global, cell: OperatorCell) -> bool {
+    let begun = begins(rt, alloc, &cell);
+    let (cell, taken) = renewed(cell);
+    begun && taken == 1 && collects_later(rt, alloc, &cell)
 }
 
 /// What a cell is tried on.
@@ -261,7 +291,8 @@ enum Case {
     Parts,
 }
 
-/// Whether a cell with nothing done does what is wanted of it, taken apart and put together again in the midst.
+/// Returns whether a cell with nothing done does what is wanted of it, taken apart and put together
+/// again in the midst.
 fn does<R: Wait>(
     rt: &R,
     alloc: Global,
@@ -282,12 +313,112 @@ fn does<R: Wait>(
     }
 }
 
-/// Whether the cell of operator A does what is wanted of it.
+/// Returns whether the cell of operator A does what is wanted of it.
 fn cell_does<R: Wait>(rt: &R, alloc: Global, case: &Case) -> Result<bool, AllocError> {
     match opened(alloc, strict!(alloc)) {
         Some(cell) => does(rt, alloc, cell, case),
         None => Ok(false),
     }
+}
+
+/// Returns whether the cell of operator A counts what it collects.
+fn cell_renews<R: Wait>(rt: &R, alloc: Global) -> Result<bool, AllocError> {
+    match opened(alloc, strict!(alloc)) {
+        Some(cell) => Ok(renews(rt, alloc, cell)),
+        None => Ok(false),
+    }
+}
+
+/// A call that the book refuses, as the table writes it.
+#[derive(Clone, Copy, Debug, PartialEq, Eq)]
+enum Call {
+    Arrive,
+    Tick,
+    ArriveInTurn,
+    TickInTurn,
+    ResliceInTurn,
+}
+
+/// The first frame of a plant, a call, and the book's fault.
+const REFUSALS: [(&str, Call, BookFault); 5] = [
+    (FIRST, Call::Arrive, STRANGER),
+    (FIRST, Call::ArriveInTurn, STRANGER),
+    (LAST, Call::Tick, BookFault::FramesSpent),
+    (LAST, Call::TickInTurn, BookFault::FramesSpent),
+    (FIRST, Call::ResliceInTurn, BookFault::Unfit(Unfit::NotPast)),
+];
+
+/// The fault of an arrival of operator B's modem.
+const STRANGER: BookFault = BookFault::NotMine {
+    modem: Modem([2, 0, 0, 0, 0, 3]),
+};
+
+/// Returns a request for a minislot.
+fn request() -> Heard {
+    Heard::Request {
+        sid: 257,
+        minislots: 1,
+    }
+}
+
+/// Returns the receipt or the fault of an action in the first turn.
+fn in_first_turn<R: Wait>(
+    rt: &R,
+    alloc: Global,
+    cell: &OperatorCell,
+    action: Action,
+) -> Result<Receipt, CellFault> {
+    cell.in_turn(rt, alloc, 0, action, &OpenGate)
+}
+
+/// Returns the receipt or the fault of a call.
+fn called<R: Wait>(
+    rt: &R,
+    alloc: Global,
+    cell: &OperatorCell,
+    call: Call,
+) -> Result<Receipt, CellFault> {
+    let modem = modem(3);
+    let row = SliceRow {
+        start: 8,
+        length: 32,
+        budget: 32,
+    };
+    match call {
+        Call::Arrive => cell.arrive(rt, alloc, modem, request()),
+        Call::Tick => cell.tick(rt, alloc),
+        Call::ArriveInTurn => {
+            let heard = request();
+            in_first_turn(rt, alloc, cell, Action::Arrive { modem, heard })
+        }
+        Call::TickInTurn => in_first_turn(rt, alloc, cell, Action::Tick),
+        Call::ResliceInTurn => in_first_turn(rt, alloc, cell, Action::Reslice { from: 0, row }),
+    }
+}
+
+/// Returns whether a call on a cell that begins at this frame is refused with this fault of the book.
+fn is_refused<R: Wait>(
+    rt: &R,
+    alloc: Global,
+    first_frame: &str,
+    call: Call,
+    wanted: BookFault,
+) -> Result<bool, AllocError> {
+    let Some(book) = book_from(alloc, first_frame, strict!(alloc)) else {
+        return Ok(false);
+    };
+    match &called(rt, alloc, &OperatorCell::new(0, book), call) {
+        Ok(_) => Ok(false),
+        Err(fault) => Ok(*fault == CellFault::Book(wanted)),
+    }
+}
+
+#[test]
+fn a_refused_call_returns_the_fault_of_the_book(rt: HostRuntime) -> Result<(), AllocError> {
+    for (first_frame, call, wanted) in REFUSALS {
+        assert!(rt; is_refused(&rt, rt.alloc(), first_frame, call, wanted)?);
+    }
+    Ok(())
 }
 
 #[test]
@@ -297,5 +428,6 @@ fn calls_on_a_cell_are_answered(rt: HostRuntime) -> Result<(), AllocError> {
     assert!(rt; cell_does(&rt, rt.alloc(), &Case::Stop)?);
     assert!(rt; cell_does(&rt, rt.alloc(), &Case::Stranger)?);
     assert!(rt; cell_does(&rt, rt.alloc(), &Case::Parts)?);
+    assert!(rt; cell_renews(&rt, rt.alloc())?);
     Ok(())
 }

@@ -6,7 +6,7 @@ use run_receipts::RunFault;
 use std::alloc::{AllocError, Global};
 use std::process::Abort;
 
-/// Whether this is the text of a fault.
+/// Returns whether this is the text of a fault.
 fn says(alloc: Global, fault: RunFault, wanted: &str) -> Result<bool, AllocError> {
     let text = format!(in alloc; "{fault}")?;
     Ok(text.as_str() == wanted)

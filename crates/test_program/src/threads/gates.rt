@@ -26,9 +26,12 @@ struct HoldingGate<'a, C: Clock> {
     passes: AtomicU64,
 }
 
-/// Waits until a count is no longer 0, ten seconds at most. Returns whether it is so.
-fn is_counted<C: Clock>(clock: &C, count: &AtomicU64) -> bool {
-    for _ in 0..10_000 {
+/// The milliseconds of a wait that only a wrong cell lets end.
+pub(crate) const LONG: u32 = 10_000;
+
+/// Waits until a count is not 0, for so many milliseconds at most. Returns whether it is not 0.
+pub(crate) fn is_counted<C: Clock>(clock: &C, count: &AtomicU64, millis: u32) -> bool {
+    for _ in 0..millis {
         if count.load(Ordering::SeqCst) > 0 {
             return true;
         }
@@ -40,12 +43,12 @@ fn is_counted<C: Clock>(clock: &C, count: &AtomicU64) -> bool {
 impl<R: Wait, C: Clock> Gate<R> for HoldingGate<'_, C> {
     fn inside(&self, _rt: &R, op: Op, index: usize) {
         if op == self.other && index == 0 {
-            let _held = is_counted(self.clock, &self.holds);
+            let _held = is_counted(self.clock, &self.holds, LONG);
         }
         if op == self.held && index == 1 {
             let is_first = self.releases.load(Ordering::SeqCst) == 0;
             self.holds.fetch_add(1, Ordering::SeqCst);
-            if is_counted(self.clock, &self.releases) && is_first {
+            if is_counted(self.clock, &self.releases, LONG) && is_first {
                 self.passes.fetch_add(1, Ordering::SeqCst);
             }
         }

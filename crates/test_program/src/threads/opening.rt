@@ -23,12 +23,12 @@ macro_rules! strict {
 
 pub(crate) use strict;
 
-/// The modem whose address ends with this byte.
+/// Returns the modem whose address ends with this byte.
 pub(crate) fn modem(last: u8) -> Modem {
     Modem([2, 0, 0, 0, 0, last])
 }
 
-/// The cell of a plant's first operator with nothing done.
+/// Returns the cell of a plant's first operator with nothing done.
 fn first_opened(alloc: Global, plant: &Plant, ranking: Ranking) -> Option<OperatorCell> {
     let row = plant.rows().get(0)?;
     match Book::open(alloc, row, plant.consts(), ranking) {
@@ -37,7 +37,7 @@ fn first_opened(alloc: Global, plant: &Plant, ranking: Ranking) -> Option<Operat
     }
 }
 
-/// The cell of operator A with nothing done.
+/// Returns the cell of operator A with nothing done.
 pub(crate) fn opened(alloc: Global, ranking: Ranking) -> Option<OperatorCell> {
     match read_plant(alloc, ALONE) {
         Ok(plant) => first_opened(alloc, &plant, ranking),

@@ -13,7 +13,7 @@ use std::sync::Wait;
 use std::thread::Threads;
 use test_plants::PLANT;
 
-/// A modem asks for minislots.
+/// Returns a modem requests minislots.
 fn asks(last: u8) -> Step {
     Step::Arrive {
         modem: modem(last),
@@ -24,7 +24,7 @@ fn asks(last: u8) -> Step {
     }
 }
 
-/// Whose modem is heard first.
+/// Whose modem is received first.
 #[derive(Clone, Copy, Debug, PartialEq, Eq)]
 pub(crate) enum Order {
     FirstIsA,
@@ -39,7 +39,8 @@ fn requests(order: Order) -> [Step; 2] {
     }
 }
 
-/// Returns the steps of a run: a modem of each operator asks for minislots; then each operator works, ticks, and has its frame collected.
+/// Returns the steps of a run: a modem of each operator requests minislots; then each operator
+/// works, ticks, and has its frame collected.
 pub(crate) fn steps_of_both(alloc: Global, order: Order) -> Result<Vec<Step>, AllocError> {
     let [first, second] = requests(order);
     let steps = [
@@ -55,7 +56,7 @@ pub(crate) fn steps_of_both(alloc: Global, order: Order) -> Result<Vec<Step>, Al
     Ok(Vec::from_array(alloc, steps)?)
 }
 
-/// Whether a run comes to so many MAPs, or to this fault.
+/// Returns whether a run results in so many MAPs, or to this fault.
 fn is_settled(settled: &Result<Settled, RunFault>, wanted: Result<usize, RunFault>) -> bool {
     match (settled, wanted) {
         (Ok(settled), Ok(maps)) => settled.maps.len() == maps,
@@ -64,7 +65,8 @@ fn is_settled(settled: &Result<Settled, RunFault>, wanted: Result<usize, RunFaul
     }
 }
 
-/// Whether a run of the steps on threads, over a plant with these rankings, comes to that.
+/// Returns whether a run of the steps on threads, over a plant with these rankings, results in
+/// that.
 fn run_comes_to<R: Threads + Wait + Sync, G: Gate<R> + Sync>(
     rt: &R,
     alloc: Global,

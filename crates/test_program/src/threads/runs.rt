@@ -12,8 +12,9 @@ const TOO_LARGE: usize = usize::MAX;
 /// A stack that is enough.
 const ENOUGH: usize = 2 * 1024 * 1024;
 
-/// Where one of the four threads cannot be made the run ends, and says that memory was wanting; where all can, it ends with a MAP. A run
-/// that always answers one fault, or collects no frame, is seen here, since no clause can refuse it.
+/// Where one of the four threads cannot be made the run ends, and says that memory ran out; where
+/// all can, it ends with a MAP. A run that always answers one fault, or collects no frame, is seen
+/// here, since no clause can refuse it.
 #[test]
 fn each_thread_refused_in_turn(rt: HostRuntime) -> Result<(), AllocError> {
     for refused in 0..4 {

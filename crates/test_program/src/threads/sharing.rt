@@ -13,7 +13,7 @@ use std::thread::{Builder, Threads};
 /// What a thread does with what threads share. A trait of its own, so that a thread that borrows it asks for no more of it
 /// than that it may be shared.
 trait Plays<R: Wait> {
-    /// Three calls, each with its receipt; none where one is refused.
+    /// Makes three calls, and returns their receipts, or None if one is refused.
     fn play(&self, rt: &R, alloc: Global, modem: Modem) -> Option<Receipts>;
 }
 
@@ -39,7 +39,7 @@ impl<R: Wait> Plays<R> for OperatorCell {
     }
 }
 
-/// Two threads play, each for a modem.
+/// Returns two threads play, each for a modem.
 fn race<R: Threads + Wait + Sync, P: Plays<R> + Sync>(
     rt: &R,
     alloc: Global,
@@ -61,7 +61,7 @@ fn race<R: Threads + Wait + Sync, P: Plays<R> + Sync>(
     )
 }
 
-/// Two threads play on a cell.
+/// Returns two threads play on a cell.
 fn race_on<R: Threads + Wait + Sync>(
     rt: &R,
     alloc: Global,
@@ -70,7 +70,7 @@ fn race_on<R: Threads + Wait + Sync>(
     race(rt, alloc, cell)
 }
 
-/// Whether these receipts of two callers settle over a book.
+/// Returns whether these receipts of two callers settle over a book.
 fn settles(
     alloc: Global,
     book: Book,
@@ -83,7 +83,7 @@ fn settles(
     Ok(settle(alloc, books, receipts, Vec::new(alloc)).is_ok())
 }
 
-/// Whether two threads that play on a cell make six entries, whose receipts settle.
+/// Returns whether two threads that play on a cell make six entries, whose receipts settle.
 fn two_threads_settle<R: Threads + Wait + Sync>(
     rt: &R,
     alloc: Global,
@@ -96,7 +96,7 @@ fn two_threads_settle<R: Threads + Wait + Sync>(
     Ok(book.history().len() == 6 && settles(alloc, book, first, second)?)
 }
 
-/// Whether two threads do so on the cell of operator A.
+/// Returns whether two threads do so on the cell of operator A.
 fn receipts_settle<R: Threads + Wait + Sync>(rt: &R, alloc: Global) -> Result<bool, AllocError> {
     match opened(alloc, strict!(alloc)) {
         Some(cell) => two_threads_settle(rt, alloc, cell),

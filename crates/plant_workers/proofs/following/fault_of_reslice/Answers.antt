@@ -3,8 +3,8 @@ use Rattle.std.proofs.lemmas.List.{length-map}
 use Rattle.cell_state.specs.HeldView.{book_of}
 use Rattle.plant_workers.proofs.following.fault_of_reslice.Goals as goal
 
-pub returns-in-None : goal.returns-in-None
-returns-in-None g c =
+pub returns-in-None-clause-of_run : goal.returns-in-None-clause-of_run
+returns-in-None-clause-of_run g c =
     let long = length-map c.args.helds.now book_of in
     let rows = ap length c.rows.ensures.value in
     record {
