@@ -1,5 +1,5 @@
 -- The command line as it is given to clap, and what clap makes of words by its own definitions. Only the crate's own
--- functions are stated by these; what the words come to is said in CommandLine.
+-- functions are stated by these; what the words result in is said in CommandLine.
 use Rattle.std.specs.Prelude.{◌≡◌, ◌≢◌, ⊤, List, Option, Some, true, codes}
 use Rattle.clap.specs.Words.{App, Kinds, Row, Rule, Text, fault_of, first_of, new_app, new_rule}
 use Rattle.clap.specs.Words.{subcommand_of, with_rule, with_subcommand}
@@ -9,7 +9,7 @@ use Rattle.command_line.specs.Order.{Order, one, check, run, threads, capture, s
 use Rattle.command_line.specs.declared.asked.WordsFault.{WordsFault}
 use Rattle.command_line.specs.declared.asked.WordsFault.TheVariants as fault
 
--- the words are read without the program's name before them, and one of the subcommands has to stand there
+-- the words are read without the program's name before them, and one of the subcommands has to be there
 abbrev pub top : App
 top = let a = new_app (codes "plant_script") in
     record a { top = record a.top { no_binary_name = true; subcommand_required = true } }
@@ -43,7 +43,7 @@ faults words = fault_of program words
 unfoldable pub entered : List Text → Option (Text × List Row)
 entered words = subcommand_of program words
 
--- a subcommand with its values stands for the order
+-- a subcommand with its values means the order
 abbrev pub StandsFor : Order → Text × List Row → Type 0
 StandsFor one s = s.0 ≡ codes "one"
 StandsFor check s = s.0 ≡ codes "check"
@@ -54,7 +54,7 @@ StandsFor serve s = s.0 ≡ codes "serve"
 StandsFor trace s = s.0 ≡ codes "trace"
 StandsFor (history name) s = (s.0 ≡ codes "history") × (first_of (codes "operator") s.1 ≡ Some name)
 
--- the fault that an error of clap of this kind comes to, or want of memory
+-- the fault that an error of clap of this kind results in, or out of memory
 abbrev pub IsFaultOf : ErrorKind → WordsFault → Type 0
 IsFaultOf k (fault.Help text) = k ≡ kind.DisplayHelp
 IsFaultOf k fault.Wrong = (k ≢ kind.DisplayHelp) × (k ≢ kind.OutOfMemory)

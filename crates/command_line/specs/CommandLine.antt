@@ -1,4 +1,4 @@
--- The words behind the program's name, and what they come to (own), with clap's reading of hyphens.
+-- The words after the program's name, and what they result in (implementation-specific), with clap's reading of hyphens.
 use Rattle.std.specs.Prelude.{◌≡◌, ◌≢◌, ◌⊎◌, ⊤, ℕ, List, [], ◌∷◌, ◌++◌, Option, Some, None, Result, Ok, Err, codes}
 use Rattle.std.specs.Prelude.{option_and_then, slice_get}
 use Rattle.std.specs.Str.{chars}
@@ -10,7 +10,7 @@ use Rattle.command_line.specs.declared.asked.WordsFault.TheVariants as fault
 
 -- ---- one word
 
--- two hyphens: no word behind them is a flag
+-- two hyphens: no word after them is a flag
 abbrev pub hyphens : List ℕ
 hyphens = codes "--"
 
@@ -18,7 +18,7 @@ hyphens = codes "--"
 abbrev pub first_flag : List ℕ → Option ℕ
 first_flag w = option_and_then (λ flags. slice_get (chars flags) 0) (short_of w)
 
--- the word is no flag: it is not the two hyphens, nor begun by them, and no character stands behind a single hyphen
+-- the word is not a flag: it is not the two hyphens, nor begun by them, and no character is behind a single hyphen
 pub record IsOperand (w : List ℕ) : Type 0 where
   pub no_end : w ≢ hyphens
   pub no_long : long_of w ≡ None
@@ -30,11 +30,11 @@ IsHelpFlag w = (w ≡ codes "--help") ⊎ (first_flag w ≡ Some 104)
 
 -- ---- the words
 
--- the name alone, or the two hyphens behind it
+-- the name alone, or the two hyphens after it
 abbrev pub StandsAlone : List ℕ → List (List ℕ) → Type 0
 StandsAlone name words = (words ≡ name ∷ []) ⊎ (words ≡ name ∷ hyphens ∷ [])
 
--- the words are those of the order; behind the two hyphens any word is the operator's name
+-- the words are those of the order; after the two hyphens any word is the operator's name
 abbrev pub Names : List (List ℕ) → Order → Type 0
 Names words one = StandsAlone (codes "one") words
 Names words check = StandsAlone (codes "check") words
@@ -57,7 +57,7 @@ MayLead (w ∷ []) = (w ≡ codes "one") ⊎ ((w ≡ codes "check") ⊎ ((w ≡ 
 MayLead (w ∷ u ∷ []) = (w ≡ codes "history") × IsOperand u
 MayLead (w ∷ u ∷ v ∷ rest) = ⊥
 
--- the words ask for help: a flag for it stands where a flag may, whatever follows it
+-- the words ask for help: a flag for it is where a flag may, whatever follows it
 pub record AsksHelp (words : List (List ℕ)) : Type 0 where
   pub before : List (List ℕ)
   pub flag : List ℕ
@@ -66,7 +66,7 @@ pub record AsksHelp (words : List (List ℕ)) : Type 0 where
   pub may_lead : MayLead before
   pub is_help : IsHelpFlag flag
 
--- Clap's own word `help`, with topics behind it or none. Clap promises help or a refusal, and not which it is.
+-- Clap's own word `help`, with topics after it or none. Clap promises help or a refusal, and not which it is.
 pub record IsHelpWord (words : List (List ℕ)) : Type 0 where
   pub topics : List (List ℕ)
   pub are : words ≡ codes "help" ∷ topics
@@ -79,25 +79,25 @@ pub record AreWrong (words : List (List ℕ)) : Type 0 where
 
 -- ---- answers
 
--- the words allow this fault; want of memory may come at any words
+-- the words allow this fault; out of memory may come at any words
 abbrev pub Allows : List (List ℕ) → WordsFault → Type 0
 Allows words (fault.Help text) = AsksHelp words ⊎ IsHelpWord words
 Allows words fault.Wrong = AreWrong words ⊎ IsHelpWord words
 Allows words fault.NoMemory = ⊤
 
--- the answer is the order, or want of memory
+-- the answer is the order, or out of memory
 abbrev pub GivesOrder : Order → Result Word WordsFault → Type 0
 GivesOrder o (Ok word) = order_of word ≡ o
 GivesOrder o (Err fault.NoMemory) = ⊤
 GivesOrder o (Err _) = ⊥
 
--- the answer is help, or want of memory
+-- the answer is help, or out of memory
 abbrev pub GivesHelp : Result Word WordsFault → Type 0
 GivesHelp (Err (fault.Help text)) = ⊤
 GivesHelp (Err fault.NoMemory) = ⊤
 GivesHelp _ = ⊥
 
--- the answer is that the words are wrong, or want of memory
+-- the answer is that the words are wrong, or out of memory
 abbrev pub GivesWrong : Result Word WordsFault → Type 0
 GivesWrong (Err fault.Wrong) = ⊤
 GivesWrong (Err fault.NoMemory) = ⊤

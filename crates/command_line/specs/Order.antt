@@ -4,7 +4,7 @@ use Rattle.command_line.specs.declared.asked.Word.{Word}
 use Rattle.command_line.specs.declared.asked.Word.TheVariants as word
 
 -- the messages of one modem, a check of a plant and a script, a run, a run on threads, a run's capture,
--- a plant in service, a run told in words, or one operator's history (own)
+-- a plant in service, a run reported in words, or one operator's history (implementation-specific)
 pub data Order : Type 0 where
   one : Order
   check : Order

@@ -1,44 +1,44 @@
-//! What the words ask for, and why they may ask for nothing.
+//! The commands of the program, and why a command line may have none.
 ghost use Rattle.std.specs.Prelude.{◌≡◌};
 ghost use Rattle.command_line.specs.declared.asked.WordsFault.TheVariants.{NoMemory};
 
 use std::alloc::AllocError;
 
-/// What the program is asked for.
+/// The command that the program is to carry out.
 #[derive(Clone, Copy, Debug, PartialEq, Eq)]
 pub enum Word<'a> {
-    /// Answer the messages of one modem, a line each.
+    /// Processes messages of one modem on a built-in plant.
     One,
-    /// Say whether a plant and a script are well.
+    /// Checks a plant file and a script, and runs nothing.
     Check,
-    /// Run a script over a plant.
+    /// Runs a script on a plant, and prints replies, frames and MAPs.
     Run,
-    /// Run a script over a plant on threads.
+    /// Runs a script as `Run` does, with a thread for each operator.
     Threads,
-    /// Write the run of a script over a plant as a capture.
+    /// Runs a script on a plant, and writes a pcap file.
     Capture,
-    /// Keep a plant running, and answer each line of a script as it comes.
+    /// Keeps a plant running, and processes each line as it arrives.
     Serve,
-    /// Run a script over a plant, and tell of each step which check decided and what came of it.
+    /// Runs a script on a plant, and explains what decided each step.
     Trace,
-    /// Tell an operator's history.
+    /// Runs a script on a plant, and prints the history of an operator.
     History {
         /// The operator's name, as it was written.
         operator: &'a str,
     },
 }
 
-/// Why the words ask for nothing that is run.
+/// Why a command line has no command that is carried out.
 #[derive(Debug, Drop)]
 pub enum WordsFault {
-    /// They ask for help.
+    /// It asks for help.
     Help {
         /// The help, as it is to be printed: lines, the last of them ended.
         text: String,
     },
-    /// They are neither an order nor a call for help.
+    /// It is invalid: neither a command nor a request for help.
     Wrong,
-    /// Memory ran out, whatever the words are.
+    /// The process is out of memory, whatever the command line is.
     NoMemory,
 }
 

@@ -7,7 +7,7 @@ ghost use Rattle.command_line.specs.ClapLine.{entered, faults, history_app, prog
 use clap::{Arg, ArgMatches, Command, Error};
 use std::alloc::{AllocError, Global};
 
-/// What clap makes of `words`.
+/// Returns what clap reads in `words`.
 pub fn matches_of<'a>(alloc: Global, words: &'a [&'a str]) -> Result<ArgMatches<'a>, Error>
     ensures taken { IfOk result (λ m. faults (texts words.entry.now) ≡ []) }
     ensures rows { IfOk result (λ m. subcommand_rows_of m ≡ entered (texts words.entry.now)) }
@@ -17,71 +17,109 @@ pub fn matches_of<'a>(alloc: Global, words: &'a [&'a str]) -> Result<ArgMatches<
     command.try_get_matches_from(words)
 }
 
-/// What help of a subcommand says of its input and of its exit statuses.
-const ONE_INPUT: &str = "Standard input: messages in hexadecimal, a line each.
-
-    plant_script one < messages.txt
-
-Exit status: 0 all well, 4 a line at fault, 5 want of memory, 6 a read or a write that failed.";
-
-const CHECK_INPUT: &str =
-    "Standard input: a plant file, a line --- and a script. The answer is `ok` or one line `fault:`.
-
-    plant_script check < script.txt
-
-Exit status: 0 all well, 3 a plant at fault, 4 a line at fault, 5 want of memory, 6 a read or a write that failed.";
-
-const RUN_INPUT: &str = "Standard input: a plant file, a line --- and a script.
+/// The end of the help of the program: its input, and where help of a command is.
+const PROGRAM_INPUT: &str =
+    "The program reads a plant file (TOML), a line --- and a script from standard input:
 
     plant_script run < script.txt
 
-Exit status: 0 all well, 3 a plant at fault, 4 a line at fault or a step that is refused, 5 want of memory, 6 a read or
-a write that failed.";
+A line of a script is a message of a modem, `M ADDRESS MESSAGE`, a bandwidth request, `Q ADDRESS SID MINISLOTS`, the
+next frame, `T` or `T OPERATOR`, or new slices, `Z FRAME START/LENGTH/BUDGET ..`, one for each operator.
 
+`plant_script COMMAND --help` describes a command. Standard error says why the exit status is not 0.
+
+Exit status: 0 success, 2 invalid command line, 3 invalid plant file, 4 invalid line, 5 out of memory, 6 I/O error,
+7 internal error of `threads`.";
+
+/// The end of the help of `one`.
+const ONE_INPUT: &str = "Standard input: messages in hexadecimal, one a line.
+Standard output: for each message the reply, or `S` and the reason why there is none. An accepted
+acknowledgement has no line.
+
+    plant_script one < messages.txt
+
+Exit status: 0 success, 4 invalid line, 5 out of memory, 6 I/O error.";
+
+/// The end of the help of `check`: the policies are here, since a plant file is what is checked.
+const CHECK_INPUT: &str =
+    "Standard input: a plant file, a line --- and a script; the script may be left out.
+Standard output: `ok`, or a line `fault:` with the first fault.
+Standard error: all faults, each with its line number, and warnings of unknown keys. They do not change the status.
+
+    plant_script check < script.txt
+
+The key `policy` of an operator orders the grants of its flows:
+
+    policy = \"strict\"    the greater traffic priority first. Of two flows of equal priority, the one with the lower
+                         SFID goes first, and can starve the other.
+    policy = \"aged\"      as strict, but a flow that waits gains one rank, an eighth of a priority, in each
+    step = 10            `step` frames, up to rank 63. At most 255 frames count.
+    policy = \"short\"     the smaller backlog first.
+
+Exit status: 0 success, 3 invalid plant file, 4 invalid line, 5 out of memory, 6 I/O error.";
+
+/// The end of the help of `run`.
+const RUN_INPUT: &str = "Standard input: a plant file, a line --- and a script.
+Standard output: `R` for each reply, `S` where there is none, `F` for each frame of an operator, and `MAP` for each MAP.
+
+    plant_script run < script.txt
+    sed 's/^policy = \"strict\"/policy = \"aged\"\\nstep = 10/' script.txt | plant_script run
+
+The second command runs the same script with the policy aged in place of strict (`check --help` has the policies).
+
+Exit status: 0 success, 3 invalid plant file, 4 invalid line or refused step, 5 out of memory, 6 I/O error.";
+
+/// The end of the help of `threads`.
 const THREADS_INPUT: &str = "Standard input: a plant file, a line --- and a script.
+Standard output: as of `run`, written when all threads have ended.
 
     plant_script threads < script.txt
 
-Exit status: 0 all well, 3 a plant at fault, 4 a line at fault or a step that is refused, 5 want of memory, 6 a read or
-a write that failed, 7 threads that strayed from the script.";
+Exit status: 0 success, 3 invalid plant file, 4 invalid line or refused step, 5 out of memory, 6 I/O error,
+7 internal error: the threads did not follow the script.";
 
-const CAPTURE_INPUT: &str =
-    "Standard input: a plant file, a line --- and a script. Standard output: a pcap file of DOCSIS frames, with what the
-modems send, the replies and the MAPs. At a step that is refused the file ends, with those of the steps before it.
+/// The end of the help of `capture`.
+const CAPTURE_INPUT: &str = "Standard input: a plant file, a line --- and a script.
+Standard output: a pcap file of DOCSIS frames, with the messages of the modems, the replies and the MAPs. If a step is
+refused, the file ends before it. If the plant file or a line is invalid, a line `fault:` takes the place of the file.
 
     plant_script capture < script.txt > run.pcap
 
-Exit status: 0 all well, 3 a plant at fault, 4 a line at fault (of both one line `fault:` is told in place of the file)
-or a step that is refused, 5 want of memory, 6 a read or a write that failed.";
+Exit status: 0 success, 3 invalid plant file, 4 invalid line or refused step, 5 out of memory, 6 I/O error.";
 
+/// The end of the help of `serve`.
 const SERVE_INPUT: &str =
-    "Standard input: a plant file, a line --- and lines of a script, for as long as there are any. Each line is answered at
-once: its output is flushed before the next line is read. A line at fault (no step, a step that is refused, or more than
-4,096 bytes) is told as `fault: line n`, want of memory as `fault: memory`, and the plant goes on. Lines are counted from 1
-behind the line ---. No history is kept: memory does not grow with the number of lines.
+    "Standard input: a plant file, a line --- and lines of a script, as long as there are any.
+Standard output: as of `run`. The output of a line is flushed before the next line is read.
 
     (cat plant.toml; echo ---; cat) | plant_script serve
 
-Exit status: 0 the end of the input, 3 a plant at fault, 5 want of memory before the first line, 6 a read or a write that
-failed, or a plant file that is too long or no UTF-8.";
+For an invalid line (not a line of a script, a refused step, or more than 4,096 bytes) it prints `fault: line n`, and
+for a failed allocation `fault: memory`. It continues with the next line. Lines are counted from 1 after the line ---.
+The program keeps no history: its memory does not grow with the number of lines.
 
-const TRACE_INPUT: &str =
-    "Standard input: a plant file, a line --- and a script. Standard output: each line of the script, and for each of its
-steps the check that decided it, with its number and its name, what was put out, and why nothing was. Every book keeps
-its history, as for `threads`.
+Exit status: 0 end of the input, 3 invalid plant file, 5 out of memory before the first line, 6 I/O error, or a plant
+file that is too long or not UTF-8.";
+
+/// The end of the help of `trace`.
+const TRACE_INPUT: &str = "Standard input: a plant file, a line --- and a script.
+Standard output: each line of the script. For each of its steps: the check that decided it, with its number and name,
+the output, and why there is none. The program keeps the history of each operator in memory, as for `threads`.
 
     plant_script trace < script.txt
 
-Exit status: 0 all well, 3 a plant at fault, 4 a line at fault or a step that is refused, 5 want of memory, 6 a read or
-a write that failed.";
+Exit status: 0 success, 3 invalid plant file, 4 invalid line or refused step, 5 out of memory, 6 I/O error.";
 
+/// The end of the help of `history`.
 const HISTORY_INPUT: &str = "Standard input: a plant file, a line --- and a script.
+Standard output: each step of this operator, with its output.
 
     plant_script history A < script.txt
 
-Exit status: 0 all well, 2 an operator that the plant does not have, 3 a plant at fault, 4 a line at fault or a step that
-is refused, 5 want of memory, 6 a read or a write that failed.";
+Exit status: 0 success, 2 unknown operator, 3 invalid plant file, 4 invalid line or refused step, 5 out of memory,
+6 I/O error.";
 
+/// Returns the command line of the program, with all its commands.
 fn clap_command<'a>(alloc: Global) -> Result<Command<'a>, AllocError>
     ensures { IfOk result (λ c. app_of c ≡ program) }
 {
@@ -91,7 +129,7 @@ fn clap_command<'a>(alloc: Global) -> Result<Command<'a>, AllocError>
     plain.subcommand(history_command(alloc)?)
 }
 
-/// With the first of the words: `one`, `check`, `run` and `threads`.
+/// Adds the commands `one`, `check`, `run` and `threads`.
 fn with_first_words<'a>(alloc: Global, command: Command<'a>) -> Result<Command<'a>, AllocError>
     ensures { IfOk result (λ c. app_of c ≡ with_first_words (app_of command.entry)) }
 {
@@ -99,27 +137,33 @@ fn with_first_words<'a>(alloc: Global, command: Command<'a>) -> Result<Command<'
         alloc,
         command,
         "one",
-        "Answer the messages of one modem, a line each",
+        "Process messages of one modem on a built-in plant",
         ONE_INPUT,
     )?;
     let check = with_word(
         alloc,
         one,
         "check",
-        "Say whether a plant and a script are well",
+        "Check a plant file and a script, and run nothing",
         CHECK_INPUT,
     )?;
-    let run = with_word(alloc, check, "run", "Run a script over a plant", RUN_INPUT)?;
+    let run = with_word(
+        alloc,
+        check,
+        "run",
+        "Run a script on a plant, and print replies, frames and MAPs",
+        RUN_INPUT,
+    )?;
     with_word(
         alloc,
         run,
         "threads",
-        "Run a script over a plant, on a thread for each operator",
+        "Run a script as run does, with a thread for each operator",
         THREADS_INPUT,
     )
 }
 
-/// With the words behind those that have no operand: `capture`, `serve` and `trace`.
+/// Adds the commands `capture`, `serve` and `trace`.
 fn with_later_words<'a>(alloc: Global, command: Command<'a>) -> Result<Command<'a>, AllocError>
     ensures { IfOk result (λ c. app_of c ≡ with_later_words (app_of command.entry)) }
 {
@@ -127,26 +171,26 @@ fn with_later_words<'a>(alloc: Global, command: Command<'a>) -> Result<Command<'
         alloc,
         command,
         "capture",
-        "Run a script over a plant, and write the run as a pcap file",
+        "Run a script on a plant, and write a pcap file",
         CAPTURE_INPUT,
     )?;
     let serve = with_word(
         alloc,
         capture,
         "serve",
-        "Keep a plant running: answer each line of a script as it comes",
+        "Keep a plant running, and process each line as it arrives",
         SERVE_INPUT,
     )?;
     with_word(
         alloc,
         serve,
         "trace",
-        "Run a script over a plant, and tell in words what decided each step and what came of it",
+        "Run a script on a plant, and explain what decided each step",
         TRACE_INPUT,
     )
 }
 
-/// With a word that has no operand.
+/// Adds a command that has no operand.
 fn with_word<'a>(
     alloc: Global,
     command: Command<'a>,
@@ -159,33 +203,37 @@ fn with_word<'a>(
     command.subcommand(plain_command(alloc, name, about, input))
 }
 
+/// Returns the command line of the program without its commands.
 fn top_command<'a>(alloc: Global) -> Result<Command<'a>, AllocError>
     ensures { IfOk result (λ c. app_of c ≡ top) }
 {
     Command::new(alloc, "plant_script")
-        .about("Run a cable plant's upstream by a script")
+        .about("Schedule one DOCSIS upstream channel that several operators share")
+        .after_help(PROGRAM_INPUT)
         .no_binary_name(true)
         .subcommand_required(true)
         .bin_name("plant_script")
 }
 
+/// Returns a command without an operand.
 fn plain_command<'a>(alloc: Global, name: &'a str, about: &'a str, input: &'a str) -> Command<'a>
     ensures { app_of result ≡ new_app name.entry.now }
 {
     Command::new(alloc, name).about(about).after_help(input)
 }
 
+/// Returns the command `history`, whose operand is the name of an operator.
 fn history_command<'a>(alloc: Global) -> Result<Command<'a>, AllocError>
     ensures { IfOk result (λ c. app_of c ≡ history_app) }
 {
     let operator = Arg::new(alloc, "operator")
         .value_name("OPERATOR")
         .required(true)
-        .help("The operator's name");
+        .help("Name of the operator in the plant file");
     plain_command(
         alloc,
         "history",
-        "Tell an operator's history",
+        "Run a script on a plant, and print the history of an operator",
         HISTORY_INPUT,
     )
     .arg(operator)

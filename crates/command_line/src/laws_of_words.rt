@@ -1,10 +1,10 @@
-//! Laws of what words come to. They need no value, and run nothing.
+//! Laws of what words result in. They need no value, and run nothing.
 ghost use Rattle.std.specs.Prelude.{◌≡◌, ◌≢◌, ◌⊎◌, List, ℕ, [], ◌∷◌, codes};
 ghost use Rattle.command_line.specs.Order.{Order, one, check, run, threads, capture, serve, trace, history};
 ghost use Rattle.command_line.specs.CommandLine.{AreWrong, AsksHelp, IsHelpWord, Names};
 
-/// All words are an order's, ask for help, begin with clap's own `help`, or are wrong; of these they are one alone, and
-/// of one order.
+/// States that all words are an order's, ask for help, begin with clap's own `help`, or are wrong;
+/// of these they are one alone, and of one order.
 pub fn words_come_to_one()
     ensures some { (words : List (List ℕ)) → ((o : Order) × Names words o)
         ⊎ (AsksHelp words ⊎ (IsHelpWord words ⊎ AreWrong words)) }
@@ -15,7 +15,8 @@ pub fn words_come_to_one()
     ensures asked_not_help { (words : List (List ℕ)) → AsksHelp words → IsHelpWord words → ⊥ }
 {}
 
-/// A word that stands alone names its order; so does `history` before a name that begins with no hyphen (45).
+/// States that a word that is present alone names its order; so does `history` before a name that
+/// begins with no hyphen (45).
 pub fn orders_are_named()
     ensures one { Names (codes "one" ∷ []) one }
     ensures check { Names (codes "check" ∷ []) check }
@@ -29,7 +30,7 @@ pub fn orders_are_named()
         → Names (codes "history" ∷ name ∷ []) (history name) }
 {}
 
-/// The flags ask for help, alone, behind an order's word and behind its operand.
+/// States that the flags ask for help, alone, after a command and after its operand.
 pub fn help_is_asked()
     ensures long { AsksHelp (codes "--help" ∷ []) }
     ensures short { AsksHelp (codes "-h" ∷ []) }
@@ -37,7 +38,7 @@ pub fn help_is_asked()
     ensures operand { AsksHelp (codes "history" ∷ codes "A" ∷ codes "-h" ∷ []) }
 {}
 
-/// No word, an unknown word, and a word too many or too few are wrong.
+/// States that no word, an unknown word, and a word too many or too few are wrong.
 pub fn others_are_wrong()
     ensures none { AreWrong [] }
     ensures unknown { AreWrong (codes "wrong" ∷ []) }

@@ -1,4 +1,4 @@
-//! The words after the plant program's name: which order they give.
+//! The command line of the program: which command it has, and the help.
 #![tactic(auto)]
 
 mod asked;

@@ -1,4 +1,4 @@
-//! The words after the program's name, read as an order.
+//! Reading of the command line.
 ghost use Rattle.std.specs.Prelude.{◌≡◌, ◌≢◌, IfOk, IfErr, IfSome, IfNone, IsSomeAnd};
 ghost use Rattle.clap.specs.Walk.{texts};
 ghost use Rattle.clap.specs.Words.{found_of, kind_of, rows_of, subcommand_rows_of};
@@ -12,10 +12,10 @@ use clap::error::ErrorKind;
 use clap::{ArgMatches, Error};
 use std::alloc::{AllocError, Global};
 
-/// Reads the words that follow the program's name, which is not among them.
+/// Parses the words that follow the program's name, which is not among them.
 ///
-/// An `Err` is help that was asked for, wrong words, or want of memory, which may come at any words. Of help's text no
-/// clause says more than that it is there: clap promises nothing of it.
+/// An `Err` is help that was asked for, an invalid command line, or a failed allocation, which any command line may meet. No
+/// clause says more of the text of help than that it is there: clap promises nothing of it.
 pub fn read_words<'a>(alloc: Global, words: &'a [&'a str]) -> Result<Word<'a>, WordsFault>
     ensures ok { IfOk result (λ word. Names (texts words.entry.now) (order_of word)) }
     ensures fault { IfErr result (Allows (texts words.entry.now)) }
@@ -29,7 +29,7 @@ pub fn read_words<'a>(alloc: Global, words: &'a [&'a str]) -> Result<Word<'a>, W
     }
 }
 
-/// The order that the matches' subcommand stands for, if it stands for one.
+/// Returns the command that the matches' subcommand is, if it is one.
 fn word_of<'a>(matches: &ArgMatches<'a>) -> Option<Word<'a>>
     ensures some { IfSome result (λ w.
         IsSomeAnd (subcommand_rows_of matches.now) (StandsFor (order_of w))) }
@@ -61,7 +61,7 @@ fn word_named<'a>(name: &str, inner: &ArgMatches<'a>) -> Option<Word<'a>>
     }
 }
 
-/// What a failed parse says of the words. The text of help is clap's own, of which clap promises nothing.
+/// Returns what a failed parse says of the command line. The text of help is clap's own, of which clap promises nothing.
 fn fault_of_error(alloc: Global, error: &Error) -> WordsFault
     ensures { IsFaultOf (kind_of error.now) result }
 {
@@ -75,8 +75,8 @@ fn fault_of_error(alloc: Global, error: &Error) -> WordsFault
     }
 }
 
-/// What clap says of words that give no order: its message and the usage. Of the text no clause says anything: clap
-/// promises nothing of it. Empty where the words give an order.
+/// Returns what clap says of an invalid command line: its message and the usage. No clause says what the text is: clap
+/// promises nothing of it. Empty where the command line is valid.
 pub fn text_of_wrong<'a>(alloc: Global, words: &'a [&'a str]) -> Result<String, AllocError> {
     match matches_of(alloc, words) {
         Ok(_matches) => Ok(String::new(alloc)),

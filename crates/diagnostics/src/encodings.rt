@@ -1,7 +1,7 @@
 //! What is wrong with a flow encoding of a plant file, and what a provisioned flow needs.
 
 use crate::reason::{Part, Reason};
-use crate::tree::{named, number, table_at, text};
+use crate::tree::{named, number, table_at, text, values};
 use crate::values::{Letters, first_beside};
 use admission::Budget;
 use dsx_messages::Code;
@@ -11,21 +11,43 @@ use slice_table::{Field, Place};
 use tlv24::{FlowTlv, TlvFault, read_flow};
 use toml::Table;
 
-/// Says why hexadecimal is none.
+/// Says why a text cannot be decoded as hexadecimal.
 pub(crate) fn say_no_hex(reason: &mut Reason, digits: &str, fault: FromHexError) {
     match (fault, first_beside(digits, Letters::Hexadecimal)) {
         (FromHexError::OutOfMemory, _) => reason.is_lost = true,
         (_, Some((before, c))) => {
             let place = (before as u64).saturating_add(1);
             reason.say(
-                "{} at digit {} is no hexadecimal digit",
-                &[Part::Letter(c), Part::Number(place)],
+                "character {}, {}, is not a hexadecimal digit",
+                &[Part::Number(place), Part::Letter(c)],
             );
         }
         (_, None) => reason.say(
-            "{} digits are no whole bytes",
+            "it must have an even number of hexadecimal digits, not {}",
             &[Part::Number(digits.len() as u64)],
         ),
+    }
+}
+
+/// Returns the lengths that a subtype may have, in words.
+fn length_of(subtype: u8) -> &'static str {
+    match subtype {
+        1 | 3 | 19 => "must have length 2",
+        4 => "must have a length from 2 to 16",
+        5 => "must have length 6",
+        6 | 7 | 15 | 22 => "must have length 1",
+        _ => "must have length 4",
+    }
+}
+
+/// Returns the values that a subtype may have, in words.
+fn range_of(subtype: u8) -> &'static str {
+    match subtype {
+        1 | 2 => "must not be 0",
+        4 => "must be a name and one byte 0 at its end",
+        5 => "must be 01 01 parameter 02 01 code",
+        7 => "must be from 0 to 7",
+        _ => "is out of range",
     }
 }
 
@@ -41,17 +63,17 @@ fn say_subtype(reason: &mut Reason, subtype: u8, wrong: &str) {
 fn say_no_encoding(reason: &mut Reason, fault: TlvFault) {
     match fault {
         TlvFault::Cut { at } => reason.say(
-            "the TLV at byte {} reaches behind the end",
+            "the TLV at byte {} is longer than the rest of the encoding",
             &[Part::Number(at as u64)],
         ),
-        TlvFault::WrongLength { subtype } => say_subtype(reason, subtype, "has a wrong length"),
-        TlvFault::Twice { subtype } => say_subtype(reason, subtype, "stands twice"),
-        TlvFault::Range { subtype } => say_subtype(reason, subtype, "is out of its range"),
+        TlvFault::WrongLength { subtype } => say_subtype(reason, subtype, length_of(subtype)),
+        TlvFault::Twice { subtype } => say_subtype(reason, subtype, "is repeated"),
+        TlvFault::Range { subtype } => say_subtype(reason, subtype, range_of(subtype)),
         TlvFault::NoMemory => reason.is_lost = true,
     }
 }
 
-/// The flow encoding of bytes. None where there is none, and the reason says why.
+/// Returns the flow encoding of bytes. `None` where they are none, and the reason says why.
 fn encoding_of(reason: &mut Reason, bytes: &[u8]) -> Option<FlowTlv> {
     match read_flow(bytes) {
         Ok(flow) => Some(flow),
@@ -62,7 +84,7 @@ fn encoding_of(reason: &mut Reason, bytes: &[u8]) -> Option<FlowTlv> {
     }
 }
 
-/// The flow encoding in hexadecimal. None where there is none, and the reason says why.
+/// Returns the flow encoding in hexadecimal. `None` where it is none, and the reason says why.
 pub(crate) fn encoding_in(reason: &mut Reason, digits: &str) -> Option<FlowTlv> {
     match hex::decode(reason.alloc, digits) {
         Ok(bytes) => encoding_of(reason, bytes.as_slice()),
@@ -73,7 +95,7 @@ pub(crate) fn encoding_in(reason: &mut Reason, digits: &str) -> Option<FlowTlv> 
     }
 }
 
-/// The first of the subtypes 1 to 6 that an encoding states.
+/// Returns the first of the subtypes 1 to 6 that an encoding states.
 pub(crate) fn stated_below_7(flow: &FlowTlv) -> Option<u8> {
     if flow.get_reference().is_some() {
         Some(1)
@@ -92,7 +114,7 @@ pub(crate) fn stated_below_7(flow: &FlowTlv) -> Option<u8> {
     }
 }
 
-/// How long a frame is and how much a minislot carries, where the keys say it.
+/// Returns how long a frame is and how much a minislot carries, if both keys are valid.
 pub(crate) fn units_of(document: &Table) -> Option<Units> {
     let plant = table_at(document, Place::Plant)?;
     match (
@@ -106,22 +128,44 @@ pub(crate) fn units_of(document: &Table) -> Option<Units> {
     }
 }
 
-/// The encoding of the class of a name. None where there is none, and the reason says why.
-fn class_encoding(reason: &mut Reason, document: &Table, name: &str) -> Option<FlowTlv> {
-    let digits = match named(document, "class", name) {
-        Some(table) => text(table, Field::Encoding),
-        None => None,
-    };
-    match digits {
-        Some(digits) => encoding_in(reason, digits),
-        None => {
-            reason.say("no class is called {}", &[Part::Quoted(name)]);
-            None
+/// Returns whether each class has a name that a flow can have. Else the class that a flow names may be one of the others.
+fn have_names(document: &Table) -> bool {
+    for class in values(document, "class") {
+        let name = match class.as_table() {
+            Some(table) => text(table, Field::Name).unwrap_or(""),
+            None => "",
+        };
+        if name.is_empty() || first_beside(name, Letters::Alphanumeric).is_some() {
+            return false;
         }
+    }
+    match document.get("class") {
+        Some(value) => value.as_array().is_some(),
+        None => true,
     }
 }
 
-/// What a flow asks for: its encoding over that of its class, where it names one. None where that has none, and the reason says why.
+/// Returns the encoding of the class of a name. `None` where there is none, and the reason says why, unless a class is invalid: that
+/// is said of the class.
+fn class_encoding(reason: &mut Reason, document: &Table, name: &str) -> Option<FlowTlv> {
+    let Some(class) = named(document, "class", name) else {
+        if !have_names(document) {
+            return None;
+        }
+        reason.say(
+            "unknown class {}: add a table [[class]] of this name",
+            &[Part::Quoted(name)],
+        );
+        return None;
+    };
+    let mut of_class = Reason::new(reason.alloc);
+    let flow = encoding_in(&mut of_class, text(class, Field::Encoding)?);
+    reason.is_lost |= of_class.is_lost;
+    flow
+}
+
+/// Returns what a flow asks for: its encoding over that of its class, where it names one. `None` where that has none, and the
+/// reason says why.
 fn asked(reason: &mut Reason, document: &Table, stated: FlowTlv) -> Option<FlowTlv> {
     match stated.get_class_name() {
         Some(class) => {
@@ -133,18 +177,18 @@ fn asked(reason: &mut Reason, document: &Table, stated: FlowTlv) -> Option<FlowT
     }
 }
 
-/// Says that a set type is none of a provisioned flow.
+/// Says that a set type is not one of a provisioned flow.
 fn say_set_type(reason: &mut Reason, set_type: Option<u8>) {
     match set_type {
         Some(other) => reason.say(
-            "its set type, subtype 6, is {} and none of 1, 3 and 7",
+            "subtype 6 (set type) must be 1, 3 or 7, not {}",
             &[Part::Number(u64::from(other))],
         ),
-        None => reason.say("its set type, subtype 6, is missing: it is 1, 3 or 7", &[]),
+        None => reason.say("subtype 6 (set type) is missing: it must be 1, 3 or 7", &[]),
     }
 }
 
-/// The parameter set that a flow asks for. None where it is refused, and the reason says why.
+/// Returns the parameter set that a flow asks for. `None` where it is refused, and the reason says why.
 fn set_of(reason: &mut Reason, asked: &FlowTlv, units: Units) -> Option<ParamSet> {
     match from_tlv(asked, &units) {
         Ok(set) => Some(set),
@@ -152,7 +196,7 @@ fn set_of(reason: &mut Reason, asked: &FlowTlv, units: Units) -> Option<ParamSet
             let wrong = if code == Code::RejectRequiredParameterNotPresent {
                 "is missing"
             } else {
-                "is out of its range"
+                "has an invalid value"
             };
             say_subtype(reason, subtype, wrong);
             None
@@ -160,7 +204,8 @@ fn set_of(reason: &mut Reason, asked: &FlowTlv, units: Units) -> Option<ParamSet
     }
 }
 
-/// What a provisioned flow needs of each frame. None where it has no admitted set, and where it is wrong: then the reason says why.
+/// Returns what a provisioned flow needs of each frame. `None` where it has no admitted set, and where it is invalid: then the
+/// reason says why.
 pub(crate) fn need_of(
     reason: &mut Reason,
     document: &Table,

@@ -1,167 +1,270 @@
-//! What is wrong with all keys of a plant file together.
+//! What is wrong with the keys of a plant file together, where each of them is valid.
 
+use crate::file::{File, say_where};
 use crate::reason::{Part, Reason};
-use crate::tree::{named, number, pair, values, values_below};
-use dsx_messages::Modem;
+use crate::report::Report;
+use crate::tree::{number, pair, table_at, values, values_below};
 use hex::FromHex;
 use plant::OperatorName;
-use slice_table::Field;
-use toml::{Table, Value};
+use slice_table::{Field, Key, Place};
+use toml::Value;
 
-/// The two numbers under a key of the operator of this name; zeros where they are not there.
-fn pair_of(document: &Table, name: &str, field: Field) -> (u64, u64) {
-    match named(document, "operator", name) {
-        Some(table) => pair(table, field).unwrap_or((0, 0)),
-        None => (0, 0),
-    }
-}
-
-/// The name of an operator as a text.
+/// Returns the name of an operator as a text.
 pub(crate) fn name_of(name: &OperatorName) -> &str {
     str::from_utf8(name.as_slice()).unwrap_or("")
 }
 
-/// Says which numbers an operator has, or is to have.
-fn say_numbers<'a>(reason: &mut Reason, name: &'a str, has: &'a str, range: (u64, u64)) {
+/// An operator in a message about two of them: its name, a line if one is known, and its first and last number.
+#[derive(Clone, Copy)]
+pub(crate) struct Side<'a> {
+    pub(crate) name: &'a str,
+    pub(crate) line: Option<u64>,
+    pub(crate) range: (u64, u64),
+}
+
+/// Says the name of an operator, and a line if one is known.
+fn say_side<'a>(reason: &mut Reason, side: Side<'a>) {
+    reason.say("{}", &[Part::Words(side.name)]);
+    if let Some(line) = side.line {
+        reason.say(" (line {})", &[Part::Number(line)]);
+    }
+}
+
+/// Says that the numbers of two operators overlap: what these are called under their key, and each of them.
+pub(crate) fn say_overlap<'a>(
+    reason: &mut Reason,
+    key: &'a str,
+    each: &'a str,
+    a: Side<'a>,
+    b: Side<'a>,
+) {
+    reason.say("operators ", &[]);
+    say_side(reason, a);
+    reason.say(" and ", &[]);
+    say_side(reason, b);
     reason.say(
-        "{} {} {} to {}",
+        ": {} overlap: {} {} to {} and {} to {}",
         &[
-            Part::Words(name),
-            Part::Words(has),
-            Part::Number(range.0),
-            Part::Number(range.1),
+            Part::Words(key),
+            Part::Words(each),
+            Part::Number(a.range.0),
+            Part::Number(a.range.1),
+            Part::Number(b.range.0),
+            Part::Number(b.range.1),
         ],
     );
 }
 
-/// Says that the numbers which two operators have, or are to have, under a key meet. The words behind a name say which numbers these are.
-pub(crate) fn say_meeting<'a>(
-    reason: &mut Reason,
-    key: &'a str,
-    has: (&'a str, &'a str),
-    names: (&'a str, &'a str),
-    ranges: ((u64, u64), (u64, u64)),
-) {
-    let (a, b) = names;
-    reason.say(
-        "operators {} and {}: their {} meet: ",
-        &[Part::Words(a), Part::Words(b), Part::Words(key)],
-    );
-    say_numbers(reason, a, has.0, ranges.0);
-    reason.say(", ", &[]);
-    say_numbers(reason, b, has.1, ranges.1);
+/// Returns whether two ranges have a number in common.
+fn do_overlap(a: (u64, u64), b: (u64, u64)) -> bool {
+    a.0 <= b.1 && b.0 <= a.1
 }
 
-/// The first and the last minislot of an operator's slice.
-fn slice_of(document: &Table, name: &str) -> (u64, u64) {
-    let (start, length) = pair_of(document, name, Field::Slice);
-    (start, start.saturating_add(length).saturating_sub(1))
-}
-
-/// Says that slices of two operators have a minislot in common.
-pub(crate) fn say_slices_meet(
-    reason: &mut Reason,
-    document: &Table,
-    a: OperatorName,
-    b: OperatorName,
-) {
-    let (a, b) = (name_of(&a), name_of(&b));
-    let ranges = (slice_of(document, a), slice_of(document, b));
-    let has = ("has the minislots", "has");
-    say_meeting(reason, "slices", has, (a, b), ranges);
-}
-
-/// Says that ranges of identifiers of two operators have a number in common.
-pub(crate) fn say_ranges_meet(
-    reason: &mut Reason,
-    document: &Table,
-    field: Field,
-    a: OperatorName,
-    b: OperatorName,
-) {
-    let (a, b) = (name_of(&a), name_of(&b));
-    let ranges = (pair_of(document, a, field), pair_of(document, b, field));
-    say_meeting(reason, field.text(), ("has", "has"), (a, b), ranges);
-}
-
-/// Whether a value is the address of a modem.
-fn is_address_of(value: &Value, modem: Modem) -> bool {
-    match value.as_str() {
-        Some(text) => match <[u8; 6] as FromHex>::from_hex(text) {
-            Ok(address) => address == modem.0,
-            Err(_fault) => false,
-        },
-        None => false,
+/// Returns the first and the last number under a key of an operator: of a slice its minislots.
+fn range_at(file: &File<'_>, operator: usize, field: Field) -> (u64, u64) {
+    let Some(table) = table_at(file.document, Place::Operator(operator)) else {
+        return (1, 0);
+    };
+    let (first, second) = pair(table, field).unwrap_or((1, 0));
+    match field {
+        Field::Slice => (first, first.saturating_add(second).saturating_sub(1)),
+        _ => (first, second),
     }
 }
 
-/// Says at which places of an operator's modems an address stands, up to the second place of all.
-fn say_places(
-    reason: &mut Reason,
-    number: usize,
-    operator: &Value,
-    modem: Modem,
-    found: &mut usize,
-) {
-    for (place, value) in values_below(operator, "modems").iter().enumerate() {
-        if *found < 2 && is_address_of(value, modem) {
-            let lead = if *found == 0 { ": as" } else { " and as" };
-            *found += 1;
-            reason.say(
-                "{} operator[{}].modems[{}]",
-                &[
-                    Part::Words(lead),
-                    Part::Number(number as u64),
-                    Part::Number(place as u64),
-                ],
-            );
+/// Returns an operator in a message about a key of two operators.
+fn side_of<'a>(file: &'a File<'_>, operator: usize, field: Field) -> Side<'a> {
+    let place = Place::Operator(operator);
+    Side {
+        name: file.name_at(place).unwrap_or(""),
+        line: file.lines.line_of(Key::Entry(place, field)),
+        range: range_at(file, operator, field),
+    }
+}
+
+/// Returns what the ranges under a key are called, and what each number is.
+fn words_of(field: Field) -> (&'static str, &'static str) {
+    match field {
+        Field::Slice => ("slices", "minislots"),
+        Field::Sids => ("sids", "SIDs"),
+        _ => ("sfids", "SFIDs"),
+    }
+}
+
+/// Adds that two operators have numbers under a key in common, if they do.
+fn add_pair(report: &mut Report, file: &File<'_>, field: Field, a: usize, b: usize) {
+    if do_overlap(range_at(file, a, field), range_at(file, b, field)) {
+        let (key, each) = words_of(field);
+        let mut message = Reason::new(report.alloc());
+        let (a, b) = (side_of(file, a, field), side_of(file, b, field));
+        say_overlap(&mut message, key, each, a, b);
+        report.add(&message);
+    }
+}
+
+/// Adds each later operator that has numbers under a key in common with one.
+fn add_later(report: &mut Report, file: &File<'_>, field: Field, a: usize, count: usize) {
+    for b in 0..count {
+        if b > a {
+            add_pair(report, file, field, a, b);
         }
     }
 }
 
-/// Says that an address stands twice, and where.
-pub(crate) fn say_modem_twice(reason: &mut Reason, document: &Table, modem: Modem) {
-    reason.say("modem {} is listed twice", &[Part::Modem(modem)]);
-    let mut found = 0;
-    for (number, operator) in values(document, "operator").iter().enumerate() {
-        say_places(reason, number, operator, modem, &mut found);
+/// Adds each two operators that have numbers under a key in common.
+fn add_pairs(report: &mut Report, file: &File<'_>, field: Field) {
+    let count = values(file.document, "operator").len();
+    for a in 0..count {
+        add_later(report, file, field, a, count);
     }
 }
 
-/// Says that there are more elements than a MAP has.
-pub(crate) fn say_too_many_elements(reason: &mut Reason, document: &Table, total: usize) {
-    let (count, total) = (values(document, "operator").len() as u64, total as u64);
-    let others = count.saturating_mul(2).saturating_add(3);
-    reason.say(
-        "a MAP could need {} elements and has at most 240: the keys elements of all {} operators are together {}, two more for each operator and three more are {}",
-        &[
-            Part::Number(total),
-            Part::Number(count),
-            Part::Number(total.saturating_sub(others)),
-            Part::Number(others),
-        ],
-    );
+/// An address, and where it is listed. Addresses are ordered by their digits, and then by their places.
+type Listed = (u64, usize, usize);
+
+/// Returns the number that an address in hexadecimal is.
+fn address_of(value: &Value) -> Option<u64> {
+    let [a, b, c, d, e, f] = <[u8; 6] as FromHex>::from_hex(value.as_str()?).ok()?;
+    Some(u64::from_be_bytes([0, 0, a, b, c, d, e, f]))
+}
+
+/// Lists the addresses of an operator.
+fn list_modems(report: &mut Report, listed: &mut Vec<Listed>, operator: usize, value: &Value) {
+    for (item, modem) in values_below(value, "modems").iter().enumerate() {
+        if let Some(address) = address_of(modem) {
+            if listed.push((address, operator, item)).is_err() {
+                report.lose();
+            }
+        }
+    }
+}
+
+/// Returns the addresses of all operators, each after those that are less.
+fn all_modems(report: &mut Report, file: &File<'_>) -> Vec<Listed> {
+    let mut listed = Vec::new(report.alloc());
+    for (operator, value) in values(file.document, "operator").iter().enumerate() {
+        list_modems(report, &mut listed, operator, value);
+    }
+    listed.as_mut_slice().sort_unstable();
+    listed
+}
+
+/// Says where an address is listed.
+fn say_listed(reason: &mut Reason, file: &File<'_>, listed: Listed) {
+    let (_address, operator, item) = listed;
+    let place = Place::Operator(operator);
+    let item = item as u64;
+    reason.say("{}.modems[{}]", &[Part::Place(place), Part::Number(item)]);
+    if let Some(line) = file.lines.line_of_item(place, Field::Modems, item) {
+        reason.say(" (line {})", &[Part::Number(line)]);
+    }
+}
+
+/// Adds that an address is listed in two places.
+fn add_twice(report: &mut Report, file: &File<'_>, a: Listed, b: Listed) {
+    let mut message = Reason::new(report.alloc());
+    if report.is_open() {
+        let text = match value_of(file, a) {
+            Some(value) => value.as_str().unwrap_or(""),
+            None => "",
+        };
+        message.say("modem {} is listed twice: ", &[Part::Words(text)]);
+        say_listed(&mut message, file, a);
+        message.say(" and ", &[]);
+        say_listed(&mut message, file, b);
+    } else {
+        message.say("modem", &[]);
+    }
+    report.add(&message);
+}
+
+/// Returns the value of an address at its place.
+fn value_of<'f>(file: &'f File<'_>, listed: Listed) -> Option<&'f Value> {
+    let (_address, operator, item) = listed;
+    values_below(values(file.document, "operator").get(operator)?, "modems").get(item)
+}
+
+/// Adds each modem that is listed twice.
+fn add_modems_twice(report: &mut Report, file: &File<'_>) {
+    let listed = all_modems(report, file);
+    let mut before: Option<Listed> = None;
+    for modem in listed.as_slice() {
+        match before {
+            Some(earlier) if earlier.0 == modem.0 => add_twice(report, file, earlier, *modem),
+            _ => {}
+        }
+        before = Some(*modem);
+    }
+}
+
+/// Returns a number under a key of an operator.
+fn number_at(file: &File<'_>, operator: usize, field: Field) -> u64 {
+    match table_at(file.document, Place::Operator(operator)) {
+        Some(table) => number(table, field).unwrap_or(0),
+        None => 0,
+    }
+}
+
+/// Adds that a MAP could need more elements than it has, if it could.
+fn add_elements(report: &mut Report, file: &File<'_>) {
+    let operators = values(file.document, "operator").len();
+    let mut quotas = 0u64;
+    for operator in 0..operators {
+        quotas = quotas.saturating_add(number_at(file, operator, Field::Elements));
+    }
+    let others = (operators as u64).saturating_mul(2).saturating_add(3);
+    let total = quotas.saturating_add(others);
+    if total > 240 {
+        let mut message = Reason::new(report.alloc());
+        message.say(
+            "a MAP could need {} elements, and has at most 240: {} from elements, 2 for each of the {} operators, and 3: lower elements by {} in total",
+            &[
+                Part::Number(total),
+                Part::Number(quotas),
+                Part::Number(operators as u64),
+                Part::Number(total.saturating_sub(240)),
+            ],
+        );
+        report.add(&message);
+    }
 }
 
 /// Says that a budget is more than its slice.
-pub(crate) fn say_over_slice(reason: &mut Reason, name: &str, budget: u64, length: u64) {
+pub(crate) fn say_over_slice(reason: &mut Reason, budget: u64, length: u64) {
     reason.say(
-        "operator {}: its budget is {} minislots, its slice has {}",
-        &[
-            Part::Words(name),
-            Part::Number(budget),
-            Part::Number(length),
-        ],
+        "budget {} is too large: the slice has {} minislots",
+        &[Part::Number(budget), Part::Number(length)],
     );
 }
 
-/// Says that the budget of an operator is more than its slice.
-pub(crate) fn say_budget_over_slice(reason: &mut Reason, document: &Table, operator: OperatorName) {
-    let name = name_of(&operator);
-    let (_start, length) = pair_of(document, name, Field::Slice);
-    let budget = match named(document, "operator", name) {
-        Some(table) => number(table, Field::Budget).unwrap_or(0),
-        None => 0,
-    };
-    say_over_slice(reason, name, budget, length);
+/// Adds that the budget of an operator is more than its slice, if it is.
+fn add_budget(report: &mut Report, file: &File<'_>, operator: usize) {
+    let (first, last) = range_at(file, operator, Field::Slice);
+    let length = last.saturating_add(1).saturating_sub(first);
+    let budget = number_at(file, operator, Field::Budget);
+    if budget > length {
+        let place = Place::Operator(operator);
+        let mut message = Reason::new(report.alloc());
+        let line = file.lines.line_of(Key::Entry(place, Field::Budget));
+        say_where(&mut message, file, place, line);
+        say_over_slice(&mut message, budget, length);
+        report.add(&message);
+    }
+}
+
+/// Adds each operator whose budget is more than its slice.
+fn add_budgets(report: &mut Report, file: &File<'_>) {
+    for operator in 0..values(file.document, "operator").len() {
+        add_budget(report, file, operator);
+    }
+}
+
+/// Adds what is wrong with the keys of a plant file together, except its provisioned flows.
+pub(crate) fn add_joint_faults(report: &mut Report, file: &File<'_>) {
+    add_pairs(report, file, Field::Slice);
+    add_pairs(report, file, Field::Sids);
+    add_pairs(report, file, Field::Sfids);
+    add_modems_twice(report, file);
+    add_elements(report, file);
+    add_budgets(report, file);
 }

@@ -1,18 +1,22 @@
-//! Reasons of the program's exit statuses, in words of a plant owner. They are made afresh from what was read, and only where
-//! something was at fault; no clause says what they are, tests do.
+//! What the program says on standard error: why its exit status is not 0, and warnings of unknown keys. The text is made anew
+//! from the input, and only where something is wrong. No clause says what it is; tests do.
 #![tactic(auto)]
 
 mod encodings;
+mod file;
 mod joint;
 mod keys;
 mod lines;
 mod parts;
+mod places;
 mod plain;
 mod plants;
 mod provisioned;
 mod reason;
 mod reasons;
 mod refusals;
+mod report;
+mod scan;
 mod show;
 mod tree;
 mod unread;

@@ -1,8 +1,9 @@
-//! The lines of a script, and of the input of the word `one`: the steps that they say, or why they say none.
+//! The lines of a script, and of the input of `one`: their steps, or why they are invalid.
 
 use crate::encodings::say_no_hex;
 use crate::joint::name_of;
 use crate::reason::{Part, Reason};
+use crate::report::Report;
 use crate::values::{Letters, first_beside, say_address};
 use dsx_messages::Modem;
 use hex::FromHex;
@@ -11,7 +12,7 @@ use plant::{Op, OperatorRow, Plant};
 use run_model::{SliceRows, Step};
 use tlv24::Bytes;
 
-/// A step, and the number of the line that says it; the first line has number 1.
+/// A step, and the number of its line; the first line has number 1.
 #[derive(Drop)]
 pub(crate) struct LineStep {
     pub(crate) number: usize,
@@ -22,22 +23,24 @@ pub(crate) struct LineStep {
 #[derive(Drop)]
 pub(crate) struct Steps {
     /// The number of the line that was read last.
-    pub(crate) number: usize,
-    /// The steps up to there.
+    number: usize,
+    /// The steps up to there, or up to the first invalid line.
     pub(crate) steps: Vec<LineStep>,
+    /// Whether no line so far is invalid.
+    is_valid: bool,
 }
 
 impl Steps {
-    /// Adds a step of the line.
+    /// Adds a step of the line that was read last.
     fn put(&mut self, reason: &mut Reason, step: Step) {
         let number = self.number;
-        if self.steps.push(LineStep { number, step }).is_err() {
+        if self.is_valid && self.steps.push(LineStep { number, step }).is_err() {
             reason.is_lost = true;
         }
     }
 }
 
-/// The bytes of a message. None where there are none, and the reason says why.
+/// Returns the bytes of a message. `None` where the field is invalid, and the reason says why.
 fn message_in(reason: &mut Reason, field: &str) -> Option<Bytes> {
     if field == "-" {
         return Some(Bytes::from_vec(Vec::new(reason.alloc)));
@@ -45,34 +48,38 @@ fn message_in(reason: &mut Reason, field: &str) -> Option<Bytes> {
     match hex::decode(reason.alloc, field) {
         Ok(bytes) => Some(Bytes::from_vec(bytes)),
         Err(fault) => {
-            reason.say("the message: ", &[]);
+            reason.say("message is invalid: ", &[]);
             say_no_hex(reason, field, fault);
             None
         }
     }
 }
 
-/// The modem of an address, and its operator. None where there is none, and the reason says why.
+/// Returns the modem of an address, and its operator. `None` where there is none, and the reason says why.
 fn sender_in(reason: &mut Reason, plant: &Plant, field: &str) -> Option<(Modem, Op)> {
     let Ok(address) = <[u8; 6] as FromHex>::from_hex(field) else {
-        reason.say("the address {} ", &[Part::Quoted(field)]);
-        say_address(reason, field);
+        let mut what = Reason::new(reason.alloc);
+        what.say("address", &[]);
+        say_address(reason, &what, field);
         return None;
     };
     let modem = Modem(address);
     match plant.operator_of(modem) {
         Some(op) => Some((modem, op)),
         None => {
-            reason.say("no operator lists the modem {}", &[Part::Modem(modem)]);
+            reason.say(
+                "unknown modem {}: add it to modems of an operator",
+                &[Part::Modem(modem)],
+            );
             None
         }
     }
 }
 
-/// Says that no operator has a name, and which names there are.
+/// Says that no operator has a name, and which names the operators have.
 pub(crate) fn say_stranger(reason: &mut Reason, rows: &[OperatorRow], name: &str) {
     reason.say(
-        "no operator of the plant is called {}: they are called ",
+        "unknown operator {}: the operators are ",
         &[Part::Quoted(name)],
     );
     let mut lead = "";
@@ -83,12 +90,12 @@ pub(crate) fn say_stranger(reason: &mut Reason, rows: &[OperatorRow], name: &str
     }
 }
 
-/// Whether an operator has this name.
+/// Returns whether an operator has this name.
 fn is_called(row: &OperatorRow, name: &str) -> bool {
     row.get_fields().name.as_slice() == name.as_bytes()
 }
 
-/// The operator of a name. None where there is none, and the reason says so.
+/// Returns the operator of a name. `None` where there is none, and the reason says so.
 fn operator_in(reason: &mut Reason, plant: &Plant, field: &str) -> Option<Op> {
     for (op, row) in plant.rows().iter().enumerate() {
         if is_called(row, field) {
@@ -99,7 +106,16 @@ fn operator_in(reason: &mut Reason, plant: &Plant, field: &str) -> Option<Op> {
     None
 }
 
-/// A decimal number, called so in a reason: at most so many digits, and at most `most`. None where there is none, and the reason says why.
+/// Says that a field is not a number up to `most`.
+fn say_no_number<'a>(reason: &mut Reason, name: &'a str, most: u64, field: &'a str) {
+    reason.say(
+        "{} must be an integer from 0 to {}, not {}",
+        &[Part::Words(name), Part::Number(most), Part::Quoted(field)],
+    );
+}
+
+/// Returns the number of a field of this name: decimal, at most so many digits, and at most `most`. `None` where the field is
+/// none, and the reason says why.
 fn number_in<'a>(
     reason: &mut Reason,
     name: &'a str,
@@ -108,25 +124,16 @@ fn number_in<'a>(
     field: &'a str,
 ) -> Option<u64> {
     let number = field.parse::<u64>().unwrap_or(u64::MAX);
-    if field.is_empty() || first_beside(field, Letters::Decimal).is_some() {
-        reason.say(
-            "{} {} is no decimal number",
-            &[Part::Words(name), Part::Quoted(field)],
-        );
-    } else if number > most {
-        reason.say(
-            "{} {} is over {}",
-            &[Part::Words(name), Part::Words(field), Part::Number(most)],
-        );
+    let is_decimal = !field.is_empty() && first_beside(field, Letters::Decimal).is_none();
+    if !is_decimal || number > most {
+        say_no_number(reason, name, most, field);
     } else if field.len() > digits {
-        let (count, digits) = (field.len() as u64, digits as u64);
         reason.say(
-            "{} {} is {} digits, at most {}",
+            "{} must have at most {} digits, not {}",
             &[
                 Part::Words(name),
-                Part::Words(field),
-                Part::Number(count),
-                Part::Number(digits),
+                Part::Number(digits as u64),
+                Part::Quoted(field),
             ],
         );
     } else {
@@ -135,23 +142,23 @@ fn number_in<'a>(
     None
 }
 
-/// A number of at most 5 digits, up to 65,535. None where there is none, and the reason says why.
+/// Returns a number of at most 5 digits, up to 65,535. `None` where the field is none, and the reason says why.
 fn short_in(reason: &mut Reason, name: &str, field: &str) -> Option<u16> {
     let number = number_in(reason, name, 5, 65_535, field)?;
     Some(u16::try_from(number).unwrap_or(0))
 }
 
-/// Adds the steps of what is heard of a modem.
+/// Adds the steps of what is received from a modem.
 fn put_heard(reason: &mut Reason, steps: &mut Steps, sender: (Modem, Op), heard: Heard) {
     let (modem, op) = sender;
     steps.put(reason, Step::Arrive { modem, heard });
     steps.put(reason, Step::Work { op });
 }
 
-/// Says that a word has other fields behind it than those it is to have.
+/// Says that a command has another number of fields than it must have.
 fn say_other_fields(reason: &mut Reason, wanted: &str, fields: &[&str]) {
     reason.say(
-        "{}, here are {}",
+        "{}, not {}",
         &[Part::Words(wanted), Part::Number(fields.len() as u64)],
     );
 }
@@ -159,7 +166,7 @@ fn say_other_fields(reason: &mut Reason, wanted: &str, fields: &[&str]) {
 /// Adds the steps of a message.
 fn put_message(reason: &mut Reason, plant: &Plant, fields: &[&str], steps: &mut Steps) {
     let [address, message] = fields else {
-        let wanted = "M has two fields behind it, an address and a message";
+        let wanted = "M must have 2 fields, address message";
         say_other_fields(reason, wanted, fields);
         return;
     };
@@ -170,17 +177,17 @@ fn put_message(reason: &mut Reason, plant: &Plant, fields: &[&str], steps: &mut 
     }
 }
 
-/// What a request for minislots asks for. None where that is not said, and the reason says why.
+/// Returns a bandwidth request. `None` where a field is invalid, and the reason says why.
 fn request_in(reason: &mut Reason, sid: &str, minislots: &str) -> Option<Heard> {
-    let sid = short_in(reason, "SID", sid)?;
+    let sid = short_in(reason, "sid", sid)?;
     let minislots = short_in(reason, "minislots", minislots)?;
     Some(Heard::Request { sid, minislots })
 }
 
-/// Adds the steps of a request for minislots.
+/// Adds the steps of a bandwidth request.
 fn put_request(reason: &mut Reason, plant: &Plant, fields: &[&str], steps: &mut Steps) {
     let [address, sid, minislots] = fields else {
-        let wanted = "Q has three fields behind it, an address, a SID and minislots";
+        let wanted = "Q must have 3 fields, address sid minislots";
         say_other_fields(reason, wanted, fields);
         return;
     };
@@ -214,17 +221,17 @@ fn put_ticked(reason: &mut Reason, plant: &Plant, fields: &[&str], steps: &mut S
             }
         }
         _ => {
-            let wanted = "T has at most one field behind it, an operator's name";
+            let wanted = "T must have no field, or 1, the name of an operator";
             say_other_fields(reason, wanted, fields);
         }
     }
 }
 
-/// The three numbers of a slice and a budget. None where there are none, and the reason says why.
+/// Returns the slice and the budget of three numbers. `None` where one is invalid, and the reason says why.
 fn row_in(reason: &mut Reason, start: &str, length: &str, budget: &str) -> Option<SliceRow> {
-    let start = short_in(reason, "the start", start)?;
-    let length = short_in(reason, "the length", length)?;
-    let budget = short_in(reason, "the budget", budget)?;
+    let start = short_in(reason, "start", start)?;
+    let length = short_in(reason, "length", length)?;
+    let budget = short_in(reason, "budget", budget)?;
     Some(SliceRow {
         start,
         length,
@@ -232,14 +239,14 @@ fn row_in(reason: &mut Reason, start: &str, length: &str, budget: &str) -> Optio
     })
 }
 
-/// A slice and a budget. None where there are none, and the reason says why.
+/// Parses `START/LENGTH/BUDGET`. `None` where the field is invalid, and the reason says why.
 fn share_in(reason: &mut Reason, field: &str) -> Option<SliceRow> {
     let mut parts = field.split('/');
     match (parts.next(), parts.next(), parts.next(), parts.next()) {
         (Some(start), Some(length), Some(budget), None) => row_in(reason, start, length, budget),
         _ => {
             reason.say(
-                "{} is no start/length/budget, three numbers",
+                "each slice must be start/length/budget, not {}",
                 &[Part::Quoted(field)],
             );
             None
@@ -247,7 +254,7 @@ fn share_in(reason: &mut Reason, field: &str) -> Option<SliceRow> {
     }
 }
 
-/// The slices and budgets of fields, up to the first field that says none: then the reason says why.
+/// Returns the slices and budgets of fields, up to the first that is invalid: then the reason says why.
 fn shares_in(reason: &mut Reason, fields: &[&str]) -> SliceRows {
     let mut rows = Vec::new(reason.alloc);
     for field in fields {
@@ -263,7 +270,7 @@ fn shares_in(reason: &mut Reason, fields: &[&str]) -> SliceRows {
     SliceRows::from_vec(rows)
 }
 
-/// Adds the step of other slices from a frame on, a slice and a budget of each operator.
+/// Adds the step of new slices from a frame on, a slice and a budget of each operator.
 fn put_slices(reason: &mut Reason, plant: &Plant, from: u64, fields: &[&str], steps: &mut Steps) {
     let (wanted, count) = (plant.rows().len(), fields.len());
     if wanted == count {
@@ -272,21 +279,21 @@ fn put_slices(reason: &mut Reason, plant: &Plant, from: u64, fields: &[&str], st
         steps.put(reason, Step::Reslice { from, rows });
     } else {
         reason.say(
-            "Z has a start/length/budget for each of the {} operators, here are {}",
+            "Z must have {} slices start/length/budget, one for each operator, not {}",
             &[Part::Number(wanted as u64), Part::Number(count as u64)],
         );
     }
 }
 
-/// Adds the step of other slices.
+/// Adds the step of new slices.
 fn put_resliced(reason: &mut Reason, plant: &Plant, fields: &[&str], steps: &mut Steps) {
     match fields {
         [] => reason.say(
-            "Z has behind it the first frame and a start/length/budget of each operator",
+            "Z must have a frame and a slice start/length/budget for each operator",
             &[],
         ),
         [from, fields @ ..] => {
-            let (name, most) = ("the first frame", u64::from(u32::MAX));
+            let (name, most) = ("frame", u64::from(u32::MAX));
             if let Some(from) = number_in(reason, name, 10, most, from) {
                 put_slices(reason, plant, from, fields, steps);
             }
@@ -294,19 +301,20 @@ fn put_resliced(reason: &mut Reason, plant: &Plant, fields: &[&str], steps: &mut
     }
 }
 
-/// Says that a first field is no word of a script.
+/// Says that a first field is not a command of a script.
 fn say_no_word(reason: &mut Reason, word: &str) {
     match word {
         "---" => reason.say(
-            "the line --- stands once, between the plant file and the script",
+            "only one line --- is allowed, between the plant file and the script",
             &[],
         ),
         "m" | "q" | "t" | "z" => reason.say(
-            "a line begins with M, Q, T or Z, a capital letter",
-            &[],
+            "unknown command {}: write it as a capital letter",
+            &[Part::Quoted(word)],
         ),
+        _ if word.starts_with('#') => reason.say("a script has no comments: remove the line", &[]),
         _ => reason.say(
-            "a line begins with M, Q, T or Z, not with {}",
+            "unknown command {}: a line must begin with M, Q, T or Z",
             &[Part::Quoted(word)],
         ),
     }
@@ -326,24 +334,24 @@ fn put_fields(reason: &mut Reason, plant: &Plant, fields: &[&str], steps: &mut S
     }
 }
 
-/// What is wrong with how a line is ended or parted, whatever its fields say.
+/// Returns what is wrong with how a line ends or is separated into fields, whatever these are.
 fn parted_wrong(line: &str) -> Option<&'static str> {
     if line.ends_with('\r') {
-        Some("it ends in a carriage return (CRLF): lines end in a line feed alone")
+        Some("it ends in a carriage return (CRLF): end lines with LF alone")
     } else if line.contains('\t') {
-        Some("it has a tab: one space parts two fields")
+        Some("it has a tab: separate fields by one space")
     } else if line.starts_with(' ') {
-        Some("it begins with a space")
+        Some("it begins with a space: remove it")
     } else if line.ends_with(' ') {
-        Some("it ends in a space")
+        Some("it ends in a space: remove it")
     } else if line.contains("  ") {
-        Some("two spaces stand together: one space parts two fields")
+        Some("it has two spaces in a row: separate fields by one space")
     } else {
         None
     }
 }
 
-/// The fields of a line.
+/// Returns the fields of a line.
 fn fields_of<'a>(reason: &mut Reason, line: &'a str) -> Vec<&'a str> {
     let mut fields = Vec::new(reason.alloc);
     for field in line.split(' ') {
@@ -354,7 +362,7 @@ fn fields_of<'a>(reason: &mut Reason, line: &'a str) -> Vec<&'a str> {
     fields
 }
 
-/// Adds the steps of a line. An empty one says nothing; of one at fault the reason says why.
+/// Adds the steps of a line. An empty line has none; of an invalid line the reason says why.
 fn put_line(reason: &mut Reason, plant: &Plant, line: &str, steps: &mut Steps) {
     if line.is_empty() {
         return;
@@ -368,22 +376,57 @@ fn put_line(reason: &mut Reason, plant: &Plant, line: &str, steps: &mut Steps) {
     }
 }
 
-/// The steps of a script up to the first line at fault, if there is one: then its number is that of this line, and the reason says why.
-pub(crate) fn steps_of(reason: &mut Reason, plant: &Plant, script: &str) -> Steps {
+/// Adds that a line is invalid, if the reason says why.
+fn add_invalid(report: &mut Report, bar: usize, number: usize, line: &str, wrong: &Reason) {
+    if !wrong.is_silent() {
+        let mut message = Reason::new(report.alloc());
+        if report.is_open() {
+            say_line(&mut message, bar, number, line);
+        }
+        message.say("{}", &[Part::Told(wrong)]);
+        report.add(&message);
+    }
+}
+
+/// Says which line a message is about. Where a plant file comes before a script, its lines are counted from the input's first
+/// and from the script's first.
+pub(crate) fn say_line<'a>(reason: &mut Reason, bar: usize, number: usize, line: &'a str) {
+    let in_input = number.saturating_add(bar) as u64;
+    if bar > 0 {
+        reason.say(
+            "line {} (script line {}), {}: ",
+            &[
+                Part::Number(in_input),
+                Part::Number(number as u64),
+                Part::Quoted(line),
+            ],
+        );
+    } else {
+        reason.say(
+            "line {}, {}: ",
+            &[Part::Number(in_input), Part::Quoted(line)],
+        );
+    }
+}
+
+/// Returns the steps of a script, and adds each of its invalid lines. The line of three dashes has the number `bar`.
+pub(crate) fn steps_of(report: &mut Report, plant: &Plant, script: &str, bar: usize) -> Steps {
     let mut steps = Steps {
         number: 0,
-        steps: Vec::new(reason.alloc),
+        steps: Vec::new(report.alloc()),
+        is_valid: true,
     };
     for line in script.split('\n') {
-        if reason.is_silent() {
-            steps.number = steps.number.saturating_add(1);
-            put_line(reason, plant, line, &mut steps);
-        }
+        steps.number = steps.number.saturating_add(1);
+        let mut wrong = Reason::new(report.alloc());
+        put_line(&mut wrong, plant, line, &mut steps);
+        steps.is_valid &= wrong.is_silent();
+        add_invalid(report, bar, steps.number, line, &wrong);
     }
     steps
 }
 
-/// Says why a line of the input of `one` is no message, where it is none.
+/// Says why a line of the input of `one` is not a message, if it is none.
 fn say_no_message(reason: &mut Reason, line: &str) {
     if line.is_empty() {
         return;
@@ -396,13 +439,13 @@ fn say_no_message(reason: &mut Reason, line: &str) {
     }
 }
 
-/// The number of the first line of the input of `one` that is no message. The reason says why it is none.
-pub(crate) fn first_no_message(reason: &mut Reason, input: &str) -> Option<usize> {
-    for (place, line) in input.split('\n').enumerate() {
-        say_no_message(reason, line);
-        if !reason.is_silent() {
-            return Some(place.saturating_add(1));
-        }
+/// Adds each line of the input of `one` that is not a message.
+pub(crate) fn add_no_messages(report: &mut Report, input: &str) {
+    let mut number = 0usize;
+    for line in input.split('\n') {
+        number = number.saturating_add(1);
+        let mut wrong = Reason::new(report.alloc());
+        say_no_message(&mut wrong, line);
+        add_invalid(report, 0, number, line, &wrong);
     }
-    None
 }

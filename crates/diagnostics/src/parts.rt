@@ -3,20 +3,20 @@
 /// The parts of an input.
 #[derive(Clone, Copy)]
 pub(crate) struct Parts<'a> {
-    /// What stands before the first line of three dashes, or all.
+    /// What is before the first line of three dashes, or all.
     pub(crate) plant: &'a str,
-    /// What stands behind it; none where there is no such line.
+    /// What is after it; none where there is no such line.
     pub(crate) script: Option<&'a str>,
     /// The number of that line, counted from 1.
     pub(crate) bar: usize,
 }
 
-/// The number of the last line of a text, counted from 1.
+/// Returns the number of the last line of a text, counted from 1.
 pub(crate) fn last_line(text: &str) -> usize {
     text.matches('\n').count().saturating_add(1)
 }
 
-/// The parts where the plant file is not empty: its last line has no end here.
+/// Returns the parts where the plant file is not empty: its last line has no end here.
 fn parts_behind<'a>(input: &'a str, plant: &'a str, script: &'a str) -> Parts<'a> {
     let with_end = plant.len().saturating_add(1);
     Parts {
@@ -26,7 +26,7 @@ fn parts_behind<'a>(input: &'a str, plant: &'a str, script: &'a str) -> Parts<'a
     }
 }
 
-/// The parts of an input.
+/// Returns the parts of an input.
 pub(crate) fn parts_of(input: &str) -> Parts<'_> {
     let at_head = if input == "---" {
         Some("")

@@ -14,7 +14,8 @@ struct Known {
 }
 
 impl Known {
-    /// The keys of the table that a line begins. None where it begins no table, or one that nothing reads.
+    /// Returns the keys of the table that a line begins. None where it begins no table, or one that
+    /// nothing reads.
     fn of_head(&self, line: &str) -> Option<&[Field]> {
         match line {
             "[plant]" => Some(&self.plant),
@@ -26,7 +27,8 @@ impl Known {
     }
 }
 
-/// Whether a line is one of these keys with a value that holds no table and ends no later than the line, but for an array's.
+/// Returns whether a line is one of these keys with a value that holds no table and ends no later
+/// than the line, except an array's.
 fn is_entry(line: &str, fields: &[Field]) -> bool {
     match line.split_once('=') {
         Some((key, value)) => {
@@ -38,8 +40,9 @@ fn is_entry(line: &str, fields: &[Field]) -> bool {
     }
 }
 
-/// Whether each line of a plant file is empty, a comment, the head of a table that is read, or a key of that table that is read:
-/// then nothing in it is unread. Of a file that is written in another way nothing is said.
+/// Returns whether each line of a plant file is empty, a comment, the head of a table that is read,
+/// or a key of that table that is read: then nothing in it is unread. Of a file that is written in
+/// another way nothing is said.
 pub(crate) fn is_plain(text: &str) -> bool {
     let known = Known {
         plant: plant_fields(),

@@ -1,37 +1,47 @@
-//! Why a plant file is at fault.
+//! What is wrong with a plant file.
 
-use crate::joint::{
-    say_budget_over_slice, say_modem_twice, say_ranges_meet, say_slices_meet, say_too_many_elements,
-};
-use crate::keys::{say_bad_value, say_missing};
+use crate::file::File;
+use crate::joint::add_joint_faults;
+use crate::keys::add_key_faults;
 use crate::parts::{Parts, last_line};
-use crate::provisioned::say_provisioned_over;
+use crate::provisioned::add_provisioned_faults;
 use crate::reason::{Part, Reason};
-use slice_table::{Field, PlantFault};
-use toml::Table;
+use crate::report::Report;
+use slice_table::PlantFault;
 
-/// Says what the fault is of a plant file that is TOML.
-pub(crate) fn say_fault(reason: &mut Reason, document: &Table, fault: PlantFault) {
-    match fault {
-        PlantFault::Missing { key } => say_missing(reason, document, key),
-        PlantFault::BadValue { key } => say_bad_value(reason, document, key),
-        PlantFault::SlicesMeet { a, b } => say_slices_meet(reason, document, a, b),
-        PlantFault::SidsMeet { a, b } => say_ranges_meet(reason, document, Field::Sids, a, b),
-        PlantFault::SfidsMeet { a, b } => say_ranges_meet(reason, document, Field::Sfids, a, b),
-        PlantFault::ModemTwice { modem } => say_modem_twice(reason, document, modem),
-        PlantFault::TooManyElements { total } => say_too_many_elements(reason, document, total),
-        PlantFault::BudgetOverSlice { operator } => {
-            say_budget_over_slice(reason, document, operator);
-        }
-        PlantFault::ProvisionedOver { operator } => {
-            say_provisioned_over(reason, document, operator);
-        }
-        PlantFault::NotToml => reason.say("the plant file is no TOML", &[]),
-        PlantFault::NoMemory => reason.is_lost = true,
+/// The most faults of a plant file that are written.
+const MOST: u64 = 100;
+
+/// Says a fault as its crate prints it.
+fn say_printed(reason: &mut Reason, fault: PlantFault) {
+    match format!(in reason.alloc; "{fault}") {
+        Ok(text) => reason.say("{}\n", &[Part::Words(text.as_str())]),
+        Err(_full) => reason.is_lost = true,
     }
 }
 
-/// Says why a plant file is no TOML: where, and what the line says.
+/// Says all faults of a plant file that is TOML, of which one is given: first of each key, and where no key has one, of all
+/// keys together.
+pub(crate) fn say_faults(reason: &mut Reason, file: &File<'_>, fault: PlantFault) {
+    let mut report = Report::new(reason.alloc, MOST);
+    match fault {
+        PlantFault::NotToml | PlantFault::NoMemory => {}
+        PlantFault::Missing { .. } | PlantFault::BadValue { .. } => {
+            add_key_faults(&mut report, file);
+        }
+        _ => {
+            add_joint_faults(&mut report, file);
+            add_provisioned_faults(&mut report, file);
+        }
+    }
+    if report.is_empty() {
+        say_printed(reason, fault);
+    } else {
+        report.say(reason, "fault", "faults");
+    }
+}
+
+/// Says why a plant file is not TOML: where, and what the line says.
 pub(crate) fn say_no_toml<'a>(reason: &mut Reason, plant: &'a str, error: &'a toml::de::Error) {
     let start = match error.span() {
         Some(span) => span.start,
@@ -43,7 +53,7 @@ pub(crate) fn say_no_toml<'a>(reason: &mut Reason, plant: &'a str, error: &'a to
     let column = (in_line.chars().count() as u64).saturating_add(1);
     let line = plant.lines().nth(number.saturating_sub(1)).unwrap_or("");
     reason.say(
-        "the plant file is no TOML: line {}, column {}: {}: {}\n",
+        "line {}, column {}: not valid TOML: {}: {}\n",
         &[
             Part::Number(number as u64),
             Part::Number(column),
@@ -53,21 +63,21 @@ pub(crate) fn say_no_toml<'a>(reason: &mut Reason, plant: &'a str, error: &'a to
     );
 }
 
-/// Whether a line is three dashes but for blanks and a carriage return.
+/// Returns whether a line is three dashes except for blanks and a carriage return.
 fn is_nearly_bar(line: &str) -> bool {
     line != "---" && line.trim() == "---"
 }
 
-/// Says why a line of this number is no line of three dashes, where it is nearly one.
+/// Says why a line of this number is not a line of three dashes, where it nearly is.
 fn say_nearly_bar(reason: &mut Reason, number: u64, line: &str) {
     if line == "---\r" {
         reason.say(
-            "line {} is --- and a carriage return (CRLF): lines end in a line feed alone\n",
+            "line {}: --- is followed by a carriage return (CRLF): end lines with LF alone\n",
             &[Part::Number(number)],
         );
     } else {
         reason.say(
-            "line {} is {}: no blank stands beside the three dashes\n",
+            "line {}: remove the blanks around --- in {}\n",
             &[Part::Number(number), Part::Quoted(line)],
         );
     }
@@ -79,7 +89,7 @@ pub(crate) fn say_no_bar(reason: &mut Reason, parts: &Parts<'_>) {
         return;
     }
     reason.say(
-        "no line is --- alone, so all of the input was read as the plant file\n",
+        "no line is ---, so the whole input was read as the plant file: write --- before the script\n",
         &[],
     );
     let mut number = 0u64;

@@ -1,12 +1,12 @@
 //! Provisioned flows that do not fit their operator's keys.
 
 use crate::encodings::{need_of, units_of};
-use crate::joint::name_of;
+use crate::file::{File, say_where};
 use crate::reason::{Part, Reason};
-use crate::tree::{named, number, pair, text, values};
+use crate::report::Report;
+use crate::tree::{number, pair, table_at, text, values};
 use param_sets::Units;
-use plant::OperatorName;
-use slice_table::Field;
+use slice_table::{Field, Key, Place};
 use toml::{Table, Value};
 
 /// What the provisioned flows of an operator need together.
@@ -36,7 +36,7 @@ fn add_flow(
     }
 }
 
-/// What provisioned flows need together. Where one of them is wrong the reason says why.
+/// Returns what provisioned flows need together. Where one of them is invalid the reason says why.
 fn demand_of(reason: &mut Reason, document: &Table, units: Units, flows: &[Value]) -> Demand {
     let mut demand = Demand {
         flows: flows.len() as u64,
@@ -50,88 +50,116 @@ fn demand_of(reason: &mut Reason, document: &Table, units: Units, flows: &[Value
     demand
 }
 
-/// How many numbers stand under a key of an operator that is a range.
+/// Returns how many numbers an operator has under a key that is a range.
 fn count(table: &Table, field: Field) -> u64 {
     let (first, last) = pair(table, field).unwrap_or((1, 0));
     last.saturating_add(1).saturating_sub(first)
 }
 
-/// How much there is under a key that flows need something of.
-fn room(table: &Table, field: Field) -> u64 {
+/// Says that a range has too few numbers for the provisioned flows.
+fn say_few(reason: &mut Reason, table: &Table, field: Field, need: u64, what: &str) {
+    let room = count(table, field);
+    if need > room {
+        reason.say(
+            "{} must have at least {} numbers, not {}: {} {}",
+            &[
+                Part::Words(field.text()),
+                Part::Number(need),
+                Part::Number(room),
+                Part::Number(need),
+                Part::Words(what),
+            ],
+        );
+    }
+}
+
+/// Says that a limit is too small for the provisioned flows.
+fn say_small(reason: &mut Reason, table: &Table, field: Field, need: u64, what: &str) {
+    let room = number(table, field).unwrap_or(0);
+    if need > room {
+        reason.say(
+            "{} {} is too small: {} {}",
+            &[
+                Part::Words(field.text()),
+                Part::Number(room),
+                Part::Number(need),
+                Part::Words(what),
+            ],
+        );
+    }
+}
+
+/// Says that the provisioned flows do not fit what an operator has under a key, if they do not.
+fn say_over(reason: &mut Reason, table: &Table, demand: Demand, field: Field) {
     match field {
-        Field::Sfids | Field::Sids => count(table, field),
-        _ => number(table, field).unwrap_or(0),
-    }
-}
-
-/// Says that provisioned flows need more of something than there is under a key, where that is so and nothing was said before.
-fn say_over(reason: &mut Reason, table: &Table, flows: u64, what: &str, need: u64, field: Field) {
-    let room = room(table, field);
-    if need <= room || !reason.is_silent() {
-        return;
-    }
-    let verb = match field {
-        Field::Sfids | Field::Sids => "has",
-        _ => "is",
-    };
-    reason.say(
-        "its {} provisioned flows need {} {}, its {} {} {}",
-        &[
-            Part::Number(flows),
-            Part::Number(need),
-            Part::Words(what),
-            Part::Words(field.text()),
-            Part::Words(verb),
-            Part::Number(room),
-        ],
-    );
-}
-
-/// Says which key an operator's provisioned flows do not fit, the first one.
-fn say_first_over(reason: &mut Reason, table: &Table, demand: Demand) {
-    let flows = demand.flows;
-    say_over(reason, table, flows, "flows", flows, Field::Flows);
-    say_over(reason, table, flows, "SFIDs", flows, Field::Sfids);
-    say_over(reason, table, flows, "SIDs", demand.sids, Field::Sids);
-    let minislots = demand.minislots;
-    say_over(
-        reason,
-        table,
-        flows,
-        "minislots of a frame",
-        minislots,
-        Field::Budget,
-    );
-    let elements = demand.elements;
-    say_over(
-        reason,
-        table,
-        flows,
-        "elements of a MAP",
-        elements,
-        Field::Elements,
-    );
-}
-
-/// Says of an operator of this name which key its provisioned flows do not fit. Says nothing where they cannot be read.
-fn say_over_of(reason: &mut Reason, document: &Table, name: &str) {
-    if let (Some(table), Some(units)) = (named(document, "operator", name), units_of(document)) {
-        let mut wrong = Reason::new(reason.alloc);
-        let demand = demand_of(&mut wrong, document, units, values(table, "flow"));
-        reason.is_lost |= wrong.is_lost;
-        if wrong.is_silent() {
-            say_first_over(reason, table, demand);
+        Field::Flows => say_small(reason, table, field, demand.flows, "flows are provisioned"),
+        Field::Sfids => say_few(reason, table, field, demand.flows, "flows are provisioned"),
+        Field::Sids => {
+            let what = "provisioned flows have an admitted set";
+            say_few(reason, table, field, demand.sids, what);
+        }
+        Field::Budget => {
+            let what = "minislots are committed to provisioned flows";
+            say_small(reason, table, field, demand.minislots, what);
+        }
+        _ => {
+            let what = "elements are committed to provisioned flows";
+            say_small(reason, table, field, demand.elements, what);
         }
     }
 }
 
-/// Says that provisioned flows do not fit.
-pub(crate) fn say_provisioned_over(reason: &mut Reason, document: &Table, operator: OperatorName) {
-    let name = name_of(&operator);
-    let mut over = Reason::new(reason.alloc);
-    say_over_of(&mut over, document, name);
-    if over.is_silent() {
-        over.say("its provisioned flows do not fit", &[]);
+/// Adds that the provisioned flows do not fit what an operator has under a key, if they do not.
+fn add_over(
+    report: &mut Report,
+    file: &File<'_>,
+    place: Place,
+    table: &Table,
+    demand: Demand,
+    field: Field,
+) {
+    let mut wrong = Reason::new(report.alloc());
+    say_over(&mut wrong, table, demand, field);
+    if !wrong.is_silent() {
+        let mut message = Reason::new(report.alloc());
+        let line = file.lines.line_of(Key::Entry(place, field));
+        say_where(&mut message, file, place, line);
+        message.say("{}", &[Part::Told(&wrong)]);
+        report.add(&message);
     }
-    reason.say("operator {}: {}", &[Part::Words(name), Part::Told(&over)]);
+}
+
+/// Adds each key of an operator that its provisioned flows do not fit. Adds nothing where a flow is invalid.
+fn add_operator(report: &mut Report, file: &File<'_>, units: Units, operator: usize) {
+    let place = Place::Operator(operator);
+    let Some(table) = table_at(file.document, place) else {
+        return;
+    };
+    let mut wrong = Reason::new(report.alloc());
+    let flows = values(table, "flow");
+    let demand = demand_of(&mut wrong, file.document, units, flows);
+    if wrong.is_lost {
+        report.lose();
+    }
+    if !wrong.is_silent() {
+        return;
+    }
+    for field in [
+        Field::Flows,
+        Field::Sfids,
+        Field::Sids,
+        Field::Budget,
+        Field::Elements,
+    ] {
+        add_over(report, file, place, table, demand, field);
+    }
+}
+
+/// Adds each key of each operator that its provisioned flows do not fit.
+pub(crate) fn add_provisioned_faults(report: &mut Report, file: &File<'_>) {
+    if let Some(units) = units_of(file.document) {
+        for operator in 0..values(file.document, "operator").len() {
+            add_operator(report, file, units, operator);
+        }
+    }
 }

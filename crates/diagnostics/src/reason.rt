@@ -1,4 +1,4 @@
-//! A reason as it is put into words.
+//! The text of a message on standard error.
 
 use crate::show::put_shown;
 use dsx_messages::Modem;
@@ -26,19 +26,21 @@ pub(crate) enum Part<'a> {
     Modem(Modem),
     /// A value as TOML writes it, cut where it is long.
     Value(&'a Value),
+    /// A value with its type, as in `the string "24"`, cut where it is long. An integer has no type before it.
+    Typed(&'a Value),
     /// What another reason says.
     Told(&'a Reason),
     /// What another reason says, cut where it is long.
     Cut(&'a Reason),
 }
 
-/// A reason as it is put into words. Where no memory is left it is lost, and goes on to be said in vain.
+/// The text of a message. After a failed allocation it is lost, and takes further sentences without effect.
 #[derive(Drop)]
 pub(crate) struct Reason {
     /// Where its memory is from.
     pub(crate) alloc: Global,
     text: String,
-    /// Whether no memory was left for it.
+    /// Whether an allocation for it failed.
     pub(crate) is_lost: bool,
 }
 
@@ -48,7 +50,7 @@ fn put_printed<T: Display>(text: &mut String, printed: &T) -> Result<(), AllocEr
 }
 
 impl Reason {
-    /// A reason that says nothing yet.
+    /// Returns a reason that says nothing yet.
     pub(crate) fn new(alloc: Global) -> Reason {
         Reason {
             alloc,
@@ -57,12 +59,12 @@ impl Reason {
         }
     }
 
-    /// Whether nothing was said or lost.
+    /// Returns whether nothing was said or lost.
     pub(crate) fn is_silent(&self) -> bool {
         self.text.is_empty() && !self.is_lost
     }
 
-    /// The whole text, or else that no memory was left for it.
+    /// Returns the whole text, or an error if an allocation for it failed.
     pub(crate) fn told(self) -> Result<String, AllocError> {
         match self {
             Reason {
@@ -74,7 +76,7 @@ impl Reason {
         }
     }
 
-    /// The text so far.
+    /// Returns the text so far, or an error if an allocation for it failed.
     fn so_far(&self) -> Result<&str, AllocError> {
         if self.is_lost {
             Err(AllocError)
@@ -87,6 +89,19 @@ impl Reason {
     fn put_value(&mut self, value: &Value) -> Result<(), AllocError> {
         let written = format!(in self.alloc; "{value}")?;
         put_shown(&mut self.text, written.as_str())
+    }
+
+    /// Adds a value with its type.
+    fn put_typed(&mut self, value: &Value) -> Result<(), AllocError> {
+        if value.is_table() {
+            return self.text.push_str("a table");
+        }
+        if !value.is_integer() {
+            self.text.push_str("the ")?;
+            self.text.push_str(value.type_str())?;
+            self.text.push(' ')?;
+        }
+        self.put_value(value)
     }
 
     /// Adds a text between quotation marks, cut where it is long.
@@ -107,12 +122,13 @@ impl Reason {
             Part::Place(place) => put_printed(&mut self.text, &place),
             Part::Modem(modem) => put_printed(&mut self.text, &modem),
             Part::Value(value) => self.put_value(value),
+            Part::Typed(value) => self.put_typed(value),
             Part::Told(told) => self.text.push_str(told.so_far()?),
             Part::Cut(told) => put_shown(&mut self.text, told.so_far()?),
         }
     }
 
-    /// Adds a sentence.
+    /// Adds a sentence with its gaps filled.
     fn put(&mut self, sentence: &str, parts: &[Part<'_>]) -> Result<(), AllocError> {
         for (gap, words) in sentence.split("{}").enumerate() {
             self.text.push_str(words)?;
@@ -123,7 +139,7 @@ impl Reason {
         Ok(())
     }
 
-    /// Says a sentence, each `{}` of which is filled by the next part. It has as many gaps as there are parts.
+    /// Adds a sentence, each `{}` of which is filled by the next part. It has as many gaps as there are parts.
     pub(crate) fn say(&mut self, sentence: &str, parts: &[Part<'_>]) {
         if self.put(sentence, parts).is_err() {
             self.is_lost = true;

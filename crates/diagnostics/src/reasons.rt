@@ -1,11 +1,13 @@
-//! The reasons of a status.
+//! What the program says on standard error: why its status is not 0, and warnings.
 
-use crate::lines::{first_no_message, say_stranger, steps_of};
+use crate::file::File;
+use crate::lines::{LineStep, add_no_messages, say_line, say_stranger, steps_of};
 use crate::parts::{Parts, parts_of};
 use crate::plain::is_plain;
-use crate::plants::{say_fault, say_no_bar, say_no_toml};
+use crate::plants::{say_faults, say_no_bar, say_no_toml};
 use crate::reason::{Part, Reason};
 use crate::refusals::refused_of;
+use crate::report::Report;
 use crate::unread::say_all_unread;
 use command_line::{Word, text_of_wrong};
 use plant::Plant;
@@ -13,91 +15,84 @@ use slice_table::{PlantFault, read_plant};
 use std::alloc::{AllocError, Global};
 use toml::Table;
 
-/// Why a run came to no end.
+/// The most invalid lines that are written.
+const MOST_LINES: u64 = 20;
+
+/// Why a run did not end as its input says.
 #[derive(Clone, Copy)]
 pub enum Trouble {
-    /// No memory was left.
+    /// The process is out of memory.
     Memory,
     /// A read failed.
     Read,
-    /// The input has more bytes than are read.
+    /// The input has more bytes than the program reads.
     TooLong,
-    /// The input is no UTF-8 behind so many bytes.
+    /// The input is not UTF-8: only so many bytes at its start are.
     NoText { valid: usize },
     /// A write failed.
     Write,
-    /// The threads strayed from the script.
+    /// The threads did not follow the script.
     Strayed,
 }
 
-/// The reason of a run that came to no end.
+/// Returns the message of a run that did not end as its input says.
 pub fn reason_of_trouble(alloc: Global, trouble: Trouble) -> Result<String, AllocError> {
     let mut reason = Reason::new(alloc);
     let sentence = match trouble {
-        Trouble::Memory => "no memory was left: the run needs more than this process may have\n",
-        Trouble::Read => "a read of standard input failed\n",
-        Trouble::TooLong => "the input has more than 1048576 bytes, and no more are read\n",
+        Trouble::Memory => "out of memory: the run needs more memory than this process may use\n",
+        Trouble::Read => "reading standard input failed\n",
+        Trouble::TooLong => "the input is too long: at most 1048576 bytes are read\n",
         Trouble::NoText { valid } => {
             let place = (valid as u64).saturating_add(1);
-            reason.say(
-                "the input is no UTF-8 text: byte {}",
-                &[Part::Number(place)],
-            );
-            " is of no character\n"
+            reason.say("the input is not UTF-8: byte {}", &[Part::Number(place)]);
+            " is invalid\n"
         }
-        Trouble::Write => "a write to standard output failed: what was written is not whole\n",
+        Trouble::Write => "writing to standard output failed: the output is incomplete\n",
         Trouble::Strayed => {
-            "what the threads did is not what the script says: the word run tells what it says\n"
+            "the threads did not follow the script: use run, which needs no threads\n"
         }
     };
     reason.say(sentence, &[]);
     reason.told()
 }
 
-/// The reason of words that give no order: clap's own message and usage, and where a script is read.
+/// Returns the message of an invalid command line: clap's message and usage, and where the input is read.
 pub fn reason_of_words<'a>(alloc: Global, words: &'a [&'a str]) -> Result<String, AllocError> {
     let mut reason = text_of_wrong(alloc, words)?;
     reason.push_str(
-        "\nA plant file and a script are read from standard input: plant_script run < script.txt\n",
+        "\nThe program reads a plant file and a script from standard input: plant_script run < script.txt\n",
     )?;
     Ok(reason)
 }
 
-/// Says what is wrong with a line at fault. The lines of a script are counted on from that of the three dashes.
-fn say_line<'a>(reason: &mut Reason, text: &'a str, bar: usize, number: usize, wrong: &'a Reason) {
-    let line = text.split('\n').nth(number.saturating_sub(1)).unwrap_or("");
-    let in_input = number.saturating_add(bar) as u64;
-    reason.say("line {}", &[Part::Number(in_input)]);
-    if bar > 0 {
-        reason.say(
-            " of the input, {} of the script",
-            &[Part::Number(number as u64)],
-        );
-    }
-    reason.say(", {}: {}\n", &[Part::Quoted(line), Part::Told(wrong)]);
-}
-
-/// The number of the first line of a script at fault: one of another shape, or else one of which a step is refused. The reason says why.
-fn line_wrong(reason: &mut Reason, plant: Plant, script: &str) -> usize {
-    let steps = steps_of(reason, &plant, script);
-    if reason.is_silent() {
-        refused_of(reason, plant, steps.steps)
-    } else {
-        steps.number
-    }
-}
-
-/// Says why a script is at fault.
+/// Says which invalid lines a script has, or if it has none, which step is refused.
 fn say_script(reason: &mut Reason, plant: Plant, parts: &Parts<'_>) {
     let script = parts.script.unwrap_or("");
-    let mut wrong = Reason::new(reason.alloc);
-    let number = line_wrong(&mut wrong, plant, script);
-    if !wrong.is_silent() {
-        say_line(reason, script, parts.bar, number, &wrong);
+    let mut report = Report::new(reason.alloc, MOST_LINES);
+    let steps = steps_of(&mut report, &plant, script, parts.bar);
+    if report.is_empty() {
+        say_refused(reason, plant, parts, steps.steps);
+    } else {
+        report.say(reason, "invalid line", "invalid lines");
     }
 }
 
-/// Whether it is the script that a status of a plant that is well tells of.
+/// Says which step is refused.
+fn say_refused(reason: &mut Reason, plant: Plant, parts: &Parts<'_>, steps: Vec<LineStep>) {
+    let mut wrong = Reason::new(reason.alloc);
+    let number = refused_of(&mut wrong, plant, steps);
+    if !wrong.is_silent() {
+        let script = parts.script.unwrap_or("");
+        let line = script
+            .split('\n')
+            .nth(number.saturating_sub(1))
+            .unwrap_or("");
+        say_line(reason, parts.bar, number, line);
+        reason.say("{}\n", &[Part::Told(&wrong)]);
+    }
+}
+
+/// Returns whether a status of a valid plant is about the script.
 fn is_of_script(word: Word<'_>, status: u8) -> bool {
     match word {
         Word::Serve => false,
@@ -105,7 +100,7 @@ fn is_of_script(word: Word<'_>, status: u8) -> bool {
     }
 }
 
-/// Says why a plant that is well has no answer, where that is not for its script.
+/// Says why a valid plant has a status, where that is not about its script.
 fn say_beside_script(
     reason: &mut Reason,
     word: Word<'_>,
@@ -124,7 +119,7 @@ fn say_beside_script(
     }
 }
 
-/// Says why a plant that is well has no answer.
+/// Says why a valid plant has a status.
 fn say_behind_plant(
     reason: &mut Reason,
     word: Word<'_>,
@@ -139,22 +134,22 @@ fn say_behind_plant(
     }
 }
 
-/// Says why a plant file is at fault.
-fn say_plant(reason: &mut Reason, document: &Table, parts: &Parts<'_>, fault: PlantFault) {
+/// Says what is wrong with a plant file.
+fn say_plant(reason: &mut Reason, file: &File<'_>, parts: &Parts<'_>, fault: PlantFault) {
     match (parts.plant.trim().is_empty(), parts.script) {
         (true, None) => reason.say(
-            "the input is empty: a plant file is read from standard input, then a line ---, then a script\n",
+            "the input is empty: write a plant file, a line --- and a script to standard input\n",
             &[],
         ),
-        (true, Some(_)) => reason.say("no plant file stands before the line ---\n", &[]),
-        (false, _) => {
-            say_fault(reason, document, fault);
-            reason.say("\n", &[]);
-        }
+        (true, Some(_)) => reason.say(
+            "no plant file before the line ---: write the plant file first\n",
+            &[],
+        ),
+        (false, _) => say_faults(reason, file, fault),
     }
 }
 
-/// The parts of the input under a word. Of `serve` the input is the plant file: what stands behind it is read as it comes.
+/// Returns the parts of the input of a command. Of `serve` the input is the plant file: the lines after it are read as they come.
 fn parts_under<'a>(word: Word<'_>, input: &'a str) -> Parts<'a> {
     let parts = parts_of(input);
     match (word, parts.script) {
@@ -167,22 +162,16 @@ fn parts_under<'a>(word: Word<'_>, input: &'a str) -> Parts<'a> {
     }
 }
 
-/// Says why a status of a plant file that is TOML is what it is.
-fn say_status(
-    reason: &mut Reason,
-    word: Word<'_>,
-    document: &Table,
-    parts: &Parts<'_>,
-    status: u8,
-) {
+/// Says why a plant file that is TOML has a status.
+fn say_status(reason: &mut Reason, word: Word<'_>, file: &File<'_>, parts: &Parts<'_>, status: u8) {
     match read_plant(reason.alloc, parts.plant) {
         Ok(plant) => say_behind_plant(reason, word, plant, parts, status),
         Err(PlantFault::NoMemory) => reason.is_lost = true,
-        Err(fault) => say_plant(reason, document, parts, fault),
+        Err(fault) => say_plant(reason, file, parts, fault),
     }
 }
 
-/// Says why a status of a plant file that is TOML is what it is, and what nothing reads of that file.
+/// Says which keys of a plant file that is TOML are not known, and why it has a status.
 fn say_document(
     reason: &mut Reason,
     word: Word<'_>,
@@ -190,13 +179,14 @@ fn say_document(
     parts: &Parts<'_>,
     status: u8,
 ) {
+    let file = File::new(reason, document, parts.plant);
+    say_all_unread(reason, &file);
     if status != 0 || parts.script.is_none() {
-        say_status(reason, word, document, parts, status);
+        say_status(reason, word, &file, parts, status);
     }
-    say_all_unread(reason, document);
 }
 
-/// Says why a plant file is no TOML.
+/// Says why a plant file is not TOML.
 fn say_no_table(reason: &mut Reason, parts: &Parts<'_>, error: &toml::de::Error) {
     if error.is_memory() {
         reason.is_lost = true;
@@ -206,7 +196,7 @@ fn say_no_table(reason: &mut Reason, parts: &Parts<'_>, error: &toml::de::Error)
     }
 }
 
-/// Says the reason of the status that an input of a plant and a script has.
+/// Says why an input of a plant and a script has a status.
 fn say_of_plant(reason: &mut Reason, word: Word<'_>, input: &str, status: u8) {
     let parts = parts_under(word, input);
     if status == 0 && parts.script.is_some() && is_plain(parts.plant) {
@@ -218,16 +208,16 @@ fn say_of_plant(reason: &mut Reason, word: Word<'_>, input: &str, status: u8) {
     }
 }
 
-/// Says which line of the input of `one` is no message.
+/// Says which lines of the input of `one` are not messages.
 fn say_of_one(reason: &mut Reason, input: &str) {
-    let mut wrong = Reason::new(reason.alloc);
-    if let Some(number) = first_no_message(&mut wrong, input) {
-        say_line(reason, input, 0, number, &wrong);
-    }
+    let mut report = Report::new(reason.alloc, MOST_LINES);
+    add_no_messages(&mut report, input);
+    report.say(reason, "invalid line", "invalid lines");
 }
 
-/// The reason of the status that an input has under a word; of status 0 what nothing reads of its plant file. Empty where there is
-/// nothing to say. Under `serve` the input may be the plant file alone, and the lines behind it have no reason here.
+/// Returns why an input has a status under a command, and warnings of unknown keys of its plant file. Empty where there is
+/// nothing to say. All invalid keys of a plant file are named, and all invalid lines of a script, up to a limit. The input of
+/// `serve` may be the plant file alone, and the lines after it have no message here.
 pub fn reason_of(
     alloc: Global,
     word: Word<'_>,

@@ -3,7 +3,7 @@
 ghost use Rattle.plant.specs.Plant.{IsPlant};
 ghost use Rattle.plant_core.specs.CoreView.{core_view};
 
-use crate::joint::{name_of, say_meeting, say_over_slice};
+use crate::joint::{Side, name_of, say_over_slice, say_overlap};
 use crate::lines::LineStep;
 use crate::reason::{Part, Reason};
 use crate::values::say_slice;
@@ -11,9 +11,9 @@ use grant_policy::{RankInput, Ranking, rank_by};
 use operator_book::{Action, BookFault, Entry, SliceRow};
 use plant::{Op, Plant};
 use plant_core::{CoreFault, CoreOpenFault, PlantCore, ResliceFault};
-use run_model::Step;
+use run_model::{SliceRows, Step};
 
-/// What a refused step asked for, as far as a reason tells it.
+/// What a refused step asked for, as far as a reason says it.
 #[derive(Drop)]
 struct Asked {
     op: Op,
@@ -21,7 +21,7 @@ struct Asked {
     rows: Vec<SliceRow>,
 }
 
-/// What a step asks for.
+/// Returns what a step asks for.
 fn asked_of(reason: &mut Reason, step: &Step) -> Asked {
     let mut asked = Asked {
         op: 0,
@@ -41,7 +41,7 @@ fn asked_of(reason: &mut Reason, step: &Step) -> Asked {
     asked
 }
 
-/// An operator's name.
+/// Returns the name of an operator.
 fn name_at(plant: &Plant, op: Op) -> &str {
     match plant.rows().get(op) {
         Some(row) => name_of(&row.get_fields().name),
@@ -49,7 +49,7 @@ fn name_at(plant: &Plant, op: Op) -> &str {
     }
 }
 
-/// How many ticks stand in a history.
+/// Returns how many ticks a history has.
 fn ticks_in(history: &[Entry]) -> u64 {
     let mut ticks = 0u64;
     for entry in history {
@@ -60,7 +60,7 @@ fn ticks_in(history: &[Entry]) -> u64 {
     ticks
 }
 
-/// An operator's frame number: one on from the first for each of its ticks.
+/// Returns an operator's frame number: the first, and one more for each of its ticks.
 fn frame_of(core: &PlantCore, op: Op) -> u64 {
     let first = u64::from(core.plant().consts().get_fields().channel.first_frame);
     let ticks = match core.history(op) {
@@ -70,7 +70,7 @@ fn frame_of(core: &PlantCore, op: Op) -> u64 {
     first.saturating_add(ticks)
 }
 
-/// The slice that was asked for an operator, and its budget.
+/// Returns the slice that was asked for an operator, and its budget.
 fn row_at(asked: &Asked, op: Op) -> SliceRow {
     match asked.rows.as_slice().get(op) {
         Some(row) => *row,
@@ -82,36 +82,39 @@ fn row_at(asked: &Asked, op: Op) -> SliceRow {
     }
 }
 
-/// Says that a slice does not lie behind the head and within the frame.
-fn say_off_frame(reason: &mut Reason, plant: &Plant, row: SliceRow, name: &str) {
+/// Says why a slice is not after the head and within the frame.
+fn say_off_frame(reason: &mut Reason, plant: &Plant, row: SliceRow) {
     let channel = &plant.consts().get_fields().channel;
     let (head, frame) = (u64::from(channel.head), u64::from(channel.frame_minislots));
-    reason.say("operator {}: its slice ", &[Part::Words(name)]);
     let slice = (u64::from(row.start), u64::from(row.length));
     say_slice(reason, slice, head, frame);
 }
 
-/// The first and the last minislot of a slice.
+/// Returns the first and the last minislot of a slice.
 fn minislots_of(row: SliceRow) -> (u64, u64) {
     let start = u64::from(row.start);
     (start, (start + u64::from(row.length)).saturating_sub(1))
 }
 
-/// Says that two slices have a minislot in common.
-fn say_slices_meet(reason: &mut Reason, plant: &Plant, asked: &Asked, a: Op, b: Op) {
-    let names = (name_at(plant, a), name_at(plant, b));
-    let ranges = (
-        minislots_of(row_at(asked, a)),
-        minislots_of(row_at(asked, b)),
-    );
-    let has = ("gets the minislots", "gets");
-    say_meeting(reason, "slices", has, names, ranges);
+/// Returns an operator in a message about the slices of two.
+fn side_of<'a>(plant: &'a Plant, asked: &Asked, op: Op) -> Side<'a> {
+    Side {
+        name: name_at(plant, op),
+        line: None,
+        range: minislots_of(row_at(asked, op)),
+    }
 }
 
-/// Says that an operator is past the frame from which on other slices were asked for.
+/// Says that two slices have a minislot in common.
+fn say_slices_meet(reason: &mut Reason, plant: &Plant, asked: &Asked, a: Op, b: Op) {
+    let (a, b) = (side_of(plant, asked, a), side_of(plant, asked, b));
+    say_overlap(reason, "slices", "minislots", a, b);
+}
+
+/// Says that an operator is past the frame from which on new slices were asked for.
 fn say_past(reason: &mut Reason, core: &PlantCore, op: Op, from: u32) {
     reason.say(
-        "operator {} is at frame {}: other slices from frame {} on come too late",
+        "operator {} is at frame {}: new slices must start at a later frame, not at {}",
         &[
             Part::Words(name_at(core.plant(), op)),
             Part::Number(frame_of(core, op)),
@@ -120,56 +123,115 @@ fn say_past(reason: &mut Reason, core: &PlantCore, op: Op, from: u32) {
     );
 }
 
-/// Says why the slice that was asked for an operator, and its budget, are not given.
-fn say_row(reason: &mut Reason, plant: &Plant, op: Op, row: SliceRow, fault: ResliceFault) {
-    let name = name_at(plant, op);
-    let budget = u64::from(row.budget);
-    match fault {
-        ResliceFault::OffFrame { .. } => say_off_frame(reason, plant, row, name),
-        ResliceFault::BudgetOverSlice { .. } => {
-            say_over_slice(reason, name, budget, u64::from(row.length));
+/// Returns the rows that were asked for, with another budget of an operator.
+fn rows_with(reason: &mut Reason, asked: &Asked, op: Op, budget: u16) -> SliceRows {
+    let mut rows = Vec::new(reason.alloc);
+    for (place, row) in asked.rows.as_slice().iter().enumerate() {
+        let mut row = *row;
+        if place == op {
+            row.budget = budget;
         }
-        _ => reason.say(
-            "operator {}: its flows are committed more minislots of a frame than its budget, {}",
-            &[Part::Words(name), Part::Number(budget)],
+        if rows.push(row).is_err() {
+            reason.is_lost = true;
+        }
+    }
+    SliceRows::from_vec(rows)
+}
+
+/// Returns the least budget up to an operator's slice that is not refused as too small: what its flows have committed. `None`
+/// where all are. The core is of no use afterwards.
+fn least_budget(reason: &mut Reason, core: &mut PlantCore, asked: &Asked, op: Op) -> Option<u16>
+    requires { IsPlant (core_view core.old).plant }
+{
+    let row = row_at(asked, op);
+    let mut outs = Vec::new(reason.alloc);
+    for budget in row.budget..row.length {
+        let budget = budget.saturating_add(1);
+        let rows = rows_with(reason, asked, op, budget);
+        let from = asked.from;
+        match core.step_over(reason.alloc, Step::Reslice { from, rows }, &mut outs) {
+            Err(CoreFault::Reslice(ResliceFault::Unfit { op: unfit })) if unfit == op => {}
+            Err(CoreFault::NoMemory) => {
+                reason.is_lost = true;
+                return None;
+            }
+            _ => return Some(budget),
+        }
+    }
+    None
+}
+
+/// Says that the budget that was asked for an operator is less than what its flows have committed.
+fn say_unfit(reason: &mut Reason, core: &mut PlantCore, asked: &Asked, op: Op)
+    requires { IsPlant (core_view core.old).plant }
+{
+    let row = row_at(asked, op);
+    reason.say(
+        "operator {}: budget {} is too small: ",
+        &[
+            Part::Words(name_at(core.plant(), op)),
+            Part::Number(u64::from(row.budget)),
+        ],
+    );
+    match least_budget(reason, core, asked, op) {
+        Some(committed) => reason.say(
+            "{} minislots are committed",
+            &[Part::Number(u64::from(committed))],
+        ),
+        None => reason.say(
+            "more than {} minislots are committed",
+            &[Part::Number(u64::from(row.length))],
         ),
     }
 }
 
-/// Says why other slices are refused.
+/// Says why the slice that was asked for an operator, and its budget, are refused.
+fn say_row(reason: &mut Reason, plant: &Plant, op: Op, row: SliceRow, fault: ResliceFault) {
+    reason.say("operator {}: ", &[Part::Words(name_at(plant, op))]);
+    match fault {
+        ResliceFault::OffFrame { .. } => say_off_frame(reason, plant, row),
+        _ => say_over_slice(reason, u64::from(row.budget), u64::from(row.length)),
+    }
+}
+
+/// Says why new slices are refused.
 fn say_reslice(reason: &mut Reason, core: &PlantCore, asked: &Asked, fault: ResliceFault) {
     let plant = core.plant();
     match fault {
-        ResliceFault::Count => reason.say("there is not one slice for each operator", &[]),
+        ResliceFault::Count => reason.say("Z must have a slice for each operator", &[]),
         ResliceFault::NotPast { op } => say_past(reason, core, op, asked.from),
         ResliceFault::Unfinished { op } => reason.say(
-            "operator {}, at frame {}, still waits for the first frame of an earlier Z",
+            "operator {} is at frame {}, and slices of an earlier Z have not started: send this line when they have",
             &[
                 Part::Words(name_at(plant, op)),
                 Part::Number(frame_of(core, op)),
             ],
         ),
         ResliceFault::SlicesMeet { a, b } => say_slices_meet(reason, plant, asked, a, b),
-        ResliceFault::OffFrame { op }
-        | ResliceFault::BudgetOverSlice { op }
-        | ResliceFault::Unfit { op } => say_row(reason, plant, op, row_at(asked, op), fault),
+        ResliceFault::OffFrame { op } | ResliceFault::BudgetOverSlice { op } => {
+            say_row(reason, plant, op, row_at(asked, op), fault);
+        }
+        ResliceFault::Unfit { .. } => reason.say("a budget is too small", &[]),
     }
 }
 
 /// Says why a step is refused.
-fn say_core(reason: &mut Reason, core: &PlantCore, asked: &Asked, fault: CoreFault) {
+fn say_core(reason: &mut Reason, core: &mut PlantCore, asked: &Asked, fault: CoreFault)
+    requires { IsPlant (core_view core.old).plant }
+{
     match fault {
         CoreFault::NoMemory => reason.is_lost = true,
+        CoreFault::Reslice(ResliceFault::Unfit { op }) => say_unfit(reason, core, asked, op),
         CoreFault::Reslice(fault) => say_reslice(reason, core, asked, fault),
         CoreFault::Book(BookFault::FramesSpent) => reason.say(
-            "operator {} is at frame 4294967295, the last frame number: no tick follows",
+            "operator {} is at frame 4294967295, the last one: no tick can follow",
             &[Part::Words(name_at(core.plant(), asked.op))],
         ),
         _ => reason.say("the step is refused", &[]),
     }
 }
 
-/// Runs steps up to the first that is refused. Answers the number of its line, and the reason says why.
+/// Runs steps up to the first that is refused. Returns the number of its line, and the reason says why.
 fn first_refused(reason: &mut Reason, core: &mut PlantCore, steps: Vec<LineStep>) -> usize
     requires { IsPlant (core_view core.old).plant }
 {
@@ -177,6 +239,7 @@ fn first_refused(reason: &mut Reason, core: &mut PlantCore, steps: Vec<LineStep>
     for LineStep { number, step } in steps {
         let asked = asked_of(reason, &step);
         if let Err(fault) = core.step_over(reason.alloc, step, &mut outs) {
+            core.always();
             say_core(reason, core, &asked, fault);
             return number;
         }
@@ -184,7 +247,8 @@ fn first_refused(reason: &mut Reason, core: &mut PlantCore, steps: Vec<LineStep>
     0
 }
 
-/// Runs the steps on the core of a plant and its rankings. Answers the number of the first that is refused, and the reason says why.
+/// Runs the steps on the core of a plant and its rankings. Returns the number of the line of the first that is refused, and the
+/// reason says why.
 fn refused_by(
     reason: &mut Reason,
     plant: Plant,
@@ -203,7 +267,7 @@ fn refused_by(
     }
 }
 
-/// Runs the steps on the plant's core. Answers the number of the first that is refused, and the reason says why.
+/// Runs the steps on the plant's core. Returns the number of the line of the first that is refused, and the reason says why.
 pub(crate) fn refused_of(reason: &mut Reason, plant: Plant, steps: Vec<LineStep>) -> usize {
     let mut rankings = Vec::new(reason.alloc);
     for row in plant.rows() {

@@ -1,9 +1,9 @@
-//! What stands at places of a plant file that is TOML.
+//! The values at places of a plant file that is TOML.
 
-use slice_table::{Field, Key, Place};
+use slice_table::{Field, Place};
 use toml::{Table, Value};
 
-/// What stands in a table's place.
+/// Returns the value at a table's place.
 pub(crate) fn value_at(document: &Table, place: Place) -> Option<&Value> {
     match place {
         Place::Plant => document.get("plant"),
@@ -16,22 +16,12 @@ pub(crate) fn value_at(document: &Table, place: Place) -> Option<&Value> {
     }
 }
 
-/// The table at a place.
+/// Returns the table at a place.
 pub(crate) fn table_at(document: &Table, place: Place) -> Option<&Table> {
     value_at(document, place)?.as_table()
 }
 
-/// What stands under a key.
-pub(crate) fn value_of(document: &Table, key: Key) -> Option<&Value> {
-    match key {
-        Key::Classes => document.get("class"),
-        Key::Operators => document.get("operator"),
-        Key::Table(place) => value_at(document, place),
-        Key::Entry(place, field) => table_at(document, place)?.get(field.text()),
-    }
-}
-
-/// The number of 0 or more that a value is.
+/// Returns the number of 0 or more that a value is.
 pub(crate) fn natural(value: &Value) -> Option<u64> {
     match value.as_integer() {
         Some(number) if number >= 0 => Some(number as u64),
@@ -39,12 +29,12 @@ pub(crate) fn natural(value: &Value) -> Option<u64> {
     }
 }
 
-/// The number of 0 or more under a key.
+/// Returns the number of 0 or more under a key.
 pub(crate) fn number(table: &Table, field: Field) -> Option<u64> {
     natural(table.get(field.text())?)
 }
 
-/// The two numbers that a value is.
+/// Returns the two numbers that a value is.
 pub(crate) fn pair_in(value: &Value) -> Option<(u64, u64)> {
     let [a, b] = values_in(value) else {
         return None;
@@ -55,12 +45,12 @@ pub(crate) fn pair_in(value: &Value) -> Option<(u64, u64)> {
     }
 }
 
-/// The two numbers under a key.
+/// Returns the two numbers under a key.
 pub(crate) fn pair(table: &Table, field: Field) -> Option<(u64, u64)> {
     pair_in(table.get(field.text())?)
 }
 
-/// The values of an array; none where there is no such array.
+/// Returns the values of an array; none where there is no such array.
 pub(crate) fn values<'a>(table: &'a Table, name: &str) -> &'a [Value] {
     match table.get(name) {
         Some(value) => values_in(value),
@@ -68,7 +58,7 @@ pub(crate) fn values<'a>(table: &'a Table, name: &str) -> &'a [Value] {
     }
 }
 
-/// The values of an array; none where it is none.
+/// Returns the values of an array; none where the value is not an array.
 pub(crate) fn values_in(value: &Value) -> &[Value] {
     match value.as_array() {
         Some(values) => values.as_slice(),
@@ -76,7 +66,7 @@ pub(crate) fn values_in(value: &Value) -> &[Value] {
     }
 }
 
-/// The values of an array of a table; none where it is no table, or has no such array.
+/// Returns the values of an array of a table; none where it is not a table, or has no such array.
 pub(crate) fn values_below<'a>(value: &'a Value, name: &str) -> &'a [Value] {
     match value.as_table() {
         Some(table) => values(table, name),
@@ -84,12 +74,12 @@ pub(crate) fn values_below<'a>(value: &'a Value, name: &str) -> &'a [Value] {
     }
 }
 
-/// The text under a key.
+/// Returns the text under a key.
 pub(crate) fn text(table: &Table, field: Field) -> Option<&str> {
     table.get(field.text())?.as_str()
 }
 
-/// Whether a value is a table of this name.
+/// Returns whether a value is a table of this name.
 fn is_called(value: &Value, name: &str) -> bool {
     match value.as_table() {
         Some(table) => text(table, Field::Name) == Some(name),
@@ -97,7 +87,7 @@ fn is_called(value: &Value, name: &str) -> bool {
     }
 }
 
-/// The place of the first table that has this name.
+/// Returns the place of the first table that has this name.
 pub(crate) fn place_of(values: &[Value], name: &str) -> Option<usize> {
     for (place, value) in values.iter().enumerate() {
         if is_called(value, name) {
@@ -107,7 +97,7 @@ pub(crate) fn place_of(values: &[Value], name: &str) -> Option<usize> {
     None
 }
 
-/// The first table of an array that has this name.
+/// Returns the first table of an array that has this name.
 pub(crate) fn named<'a>(document: &'a Table, array: &str, name: &str) -> Option<&'a Table> {
     let values = values(document, array);
     values.get(place_of(values, name)?)?.as_table()

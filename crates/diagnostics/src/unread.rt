@@ -1,15 +1,20 @@
-//! Keys and tables of a plant file that nothing reads.
+//! Keys and tables of a plant file that are not known: the program reads none of them.
 
+use crate::file::File;
 use crate::reason::{Part, Reason};
+use crate::report::Report;
 use crate::tree::{values, values_below, values_in};
 use crate::wanted::has;
 use plant_file_laws::{class_fields, flow_fields, operator_fields, plant_fields};
 use slice_table::{Field, Place};
 use strsim::osa_distance;
-use toml::{Table, Value};
+use toml::Value;
 
-/// The tables that stand at the head of a plant file.
+/// The tables that are at the head of a plant file.
 const AT_HEAD: [&str; 3] = ["plant", "class", "operator"];
+
+/// The most unknown keys that are written.
+const MOST: u64 = 100;
 
 /// The most letters by which a key that is meant differs from what is written.
 const NEAR: usize = 2;
@@ -23,7 +28,7 @@ pub(crate) struct Nearest<'a> {
 }
 
 impl<'a> Nearest<'a> {
-    /// None of no words.
+    /// Starts with no word to compare.
     pub(crate) fn new(word: &'a str) -> Nearest<'a> {
         Nearest {
             word,
@@ -60,55 +65,83 @@ impl<'a> Nearest<'a> {
     }
 }
 
-/// The table that has a key of this name.
+/// Returns the table that has a key of this name, as a file writes it.
 fn table_with(word: &str) -> Option<&'static str> {
     if has(&operator_fields(), word) {
-        Some("operator")
+        Some("[[operator]]")
     } else if has(&plant_fields(), word) {
-        Some("plant")
+        Some("[plant]")
     } else if has(&flow_fields(), word) {
-        Some("operator.flow")
+        Some("[[operator.flow]]")
     } else {
         None
     }
 }
 
-/// Says that nothing reads a key: what it is called, and what may be meant.
-fn say_unread(reason: &mut Reason, name: &Reason, nearest: &Nearest<'_>) {
-    reason.say("warning: nothing reads {}", &[Part::Cut(name)]);
+/// Says what may be meant by a key or a table that is not known.
+fn say_meant(reason: &mut Reason, nearest: &Nearest<'_>) {
     let word = nearest.word;
     if let Some(near) = nearest.found {
-        reason.say(": is {} meant?", &[Part::Words(near)]);
+        reason.say(" (did you mean {}?)", &[Part::Words(near)]);
+    } else if word == "flow" {
+        reason.say(" (did you mean [[operator.flow]]?)", &[]);
     } else if let Some(table) = table_with(word) {
         reason.say(
-            ": {} is a key of the table {}",
+            " ({} belongs in {})",
             &[Part::Words(word), Part::Words(table)],
         );
     }
-    reason.say("\n", &[]);
 }
 
-/// Says that nothing reads a key of a table.
-fn say_unread_key(reason: &mut Reason, word: &str, place: Place, fields: &[Field]) {
-    let mut name = Reason::new(reason.alloc);
-    name.say("{}.{}", &[Part::Place(place), Part::Words(word)]);
+/// Adds the warning of a key or a table that is not known: its line, what it is, its name, and what may be meant.
+fn add_unread(
+    report: &mut Report,
+    line: Option<u64>,
+    kind: &str,
+    name: &Reason,
+    nearest: &Nearest<'_>,
+) {
+    let mut message = Reason::new(report.alloc());
+    message.say("warning: ", &[]);
+    if let Some(line) = line {
+        message.say("line {}: ", &[Part::Number(line)]);
+    }
+    message.say("unknown {} {}", &[Part::Words(kind), Part::Cut(name)]);
+    say_meant(&mut message, nearest);
+    report.add(&message);
+}
+
+/// Adds the warning of a key of a table.
+fn add_unread_key(
+    report: &mut Report,
+    file: &File<'_>,
+    word: &str,
+    place: Place,
+    fields: &[Field],
+) {
+    let mut name = Reason::new(report.alloc());
     let mut nearest = Nearest::new(word);
-    nearest.try_fields(reason, fields);
-    say_unread(reason, &name, &nearest);
+    let mut line = None;
+    if report.is_open() {
+        name.say("{}.{}", &[Part::Place(place), Part::Words(word)]);
+        nearest.try_fields(&mut name, fields);
+        line = file.lines.line_in(place, word);
+    }
+    add_unread(report, line, "key", &name, &nearest);
 }
 
-/// Says which keys of a table nothing reads, where it is one.
-fn say_table(reason: &mut Reason, value: &Value, place: Place, fields: &[Field]) {
+/// Adds the keys of a table that are not known, where it is one.
+fn add_table(report: &mut Report, file: &File<'_>, value: &Value, place: Place, fields: &[Field]) {
     if let Some(table) = value.as_table() {
         for (key, _value) in table.iter() {
             if !has(fields, key.as_str()) {
-                say_unread_key(reason, key.as_str(), place, fields);
+                add_unread_key(report, file, key.as_str(), place, fields);
             }
         }
     }
 }
 
-/// Whether a value is an array that has a table.
+/// Returns whether a value is an array that has a table.
 fn has_tables(value: &Value) -> bool {
     for value in values_in(value) {
         if value.is_table() {
@@ -118,59 +151,67 @@ fn has_tables(value: &Value) -> bool {
     false
 }
 
-/// Says that nothing reads a key at the head of a file, by its name as a file writes it.
-fn say_unread_head(reason: &mut Reason, word: &str, value: &Value) {
-    let written = if has_tables(value) {
-        "[[{}]]"
+/// Adds the warning of a key or a table at the top of a file, by its name as a file writes it.
+fn add_unread_at_top(report: &mut Report, file: &File<'_>, word: &str, value: &Value) {
+    let (kind, written) = if has_tables(value) {
+        ("table", "[[{}]]")
     } else if value.is_table() {
-        "[{}]"
+        ("table", "[{}]")
     } else {
-        "{}"
+        ("key", "{}")
     };
-    let mut name = Reason::new(reason.alloc);
-    name.say(written, &[Part::Words(word)]);
+    let mut name = Reason::new(report.alloc());
     let mut nearest = Nearest::new(word);
-    nearest.try_words(reason, &AT_HEAD);
-    say_unread(reason, &name, &nearest);
+    let mut line = None;
+    if report.is_open() {
+        name.say(written, &[Part::Words(word)]);
+        nearest.try_words(&mut name, &AT_HEAD);
+        line = file.lines.line_at_top(word);
+    }
+    add_unread(report, line, kind, &name, &nearest);
 }
 
-/// Says which tables and keys at the head of a file nothing reads.
-fn say_head(reason: &mut Reason, document: &Table) {
-    for (key, value) in document.iter() {
+/// Adds the tables and keys at the top of a file that are not known.
+fn add_top(report: &mut Report, file: &File<'_>) {
+    for (key, value) in file.document.iter() {
         if !AT_HEAD.contains(&key.as_str()) {
-            say_unread_head(reason, key.as_str(), value);
+            add_unread_at_top(report, file, key.as_str(), value);
         }
     }
 }
 
-/// Says which keys of classes nothing reads.
-fn say_classes(reason: &mut Reason, document: &Table) {
-    for (class, value) in values(document, "class").iter().enumerate() {
-        say_table(reason, value, Place::Class(class), &class_fields());
+/// Adds the keys of classes that are not known.
+fn add_classes(report: &mut Report, file: &File<'_>) {
+    for (class, value) in values(file.document, "class").iter().enumerate() {
+        add_table(report, file, value, Place::Class(class), &class_fields());
     }
 }
 
-/// Says which keys of an operator's provisioned flows nothing reads.
-fn say_flows(reason: &mut Reason, operator: usize, flows: &[Value]) {
+/// Adds the keys of an operator's provisioned flows that are not known.
+fn add_flows(report: &mut Report, file: &File<'_>, operator: usize, flows: &[Value]) {
     for (flow, value) in flows.iter().enumerate() {
-        say_table(reason, value, Place::Flow(operator, flow), &flow_fields());
+        let place = Place::Flow(operator, flow);
+        add_table(report, file, value, place, &flow_fields());
     }
 }
 
-/// Says which keys of operators and of their flows nothing reads.
-fn say_operators(reason: &mut Reason, document: &Table) {
-    for (operator, value) in values(document, "operator").iter().enumerate() {
-        say_table(reason, value, Place::Operator(operator), &operator_fields());
-        say_flows(reason, operator, values_below(value, "flow"));
+/// Adds the keys of operators and of their flows that are not known.
+fn add_operators(report: &mut Report, file: &File<'_>) {
+    for (operator, value) in values(file.document, "operator").iter().enumerate() {
+        let place = Place::Operator(operator);
+        add_table(report, file, value, place, &operator_fields());
+        add_flows(report, file, operator, values_below(value, "flow"));
     }
 }
 
-/// Says in a line of each key and each table of a plant file that nothing reads it, with the key that may be meant.
-pub(crate) fn say_all_unread(reason: &mut Reason, document: &Table) {
-    say_head(reason, document);
-    if let Some(value) = document.get("plant") {
-        say_table(reason, value, Place::Plant, &plant_fields());
+/// Says in a line of each key and each table of a plant file that it is not known, and which key may be meant.
+pub(crate) fn say_all_unread(reason: &mut Reason, file: &File<'_>) {
+    let mut report = Report::new(reason.alloc, MOST);
+    add_top(&mut report, file);
+    if let Some(value) = file.document.get("plant") {
+        add_table(&mut report, file, value, Place::Plant, &plant_fields());
     }
-    say_classes(reason, document);
-    say_operators(reason, document);
+    add_classes(&mut report, file);
+    add_operators(&mut report, file);
+    report.say(reason, "unknown key", "unknown keys");
 }

@@ -1,71 +1,122 @@
 //! What is wrong with a value of a plant file: numbers, ranges, slices, names and addresses.
 
+use crate::file::File;
 use crate::reason::{Part, Reason};
-use crate::tree::{natural, number, pair_in, place_of, table_at, values};
-use slice_table::{Field, Place};
-use toml::{Table, Value};
+use crate::tree::{natural, pair_in, place_of, values};
+use crate::wanted::{bounds_of, say_must};
+use slice_table::{Field, Key, Place};
+use toml::Value;
 
-/// Says what is wrong with two numbers that are to be a range of identifiers up to `most`.
-pub(crate) fn say_range(reason: &mut Reason, value: &Value, most: u64) {
-    match pair_in(value) {
-        None => {}
-        Some((0, _last)) => reason.say("the first is less than 1", &[]),
-        Some((first, last)) => {
-            if last > most {
-                reason.say("{} is over {}", &[Part::Number(last), Part::Number(most)]);
-            } else {
-                reason.say(
-                    "the first, {}, is greater than the last, {}",
-                    &[Part::Number(first), Part::Number(last)],
-                );
-            }
-        }
+/// Returns the least and the greatest integer under a key, as far as they are known.
+fn limits_of(file: &File<'_>, field: Field) -> (u64, u64) {
+    match bounds_of(field) {
+        Some(limits) => limits,
+        None => (0, file.frame().unwrap_or(4_096)),
     }
 }
 
-/// Says what is wrong with a slice, behind what it is called, where the head and the frame have so many minislots.
+/// Says what is wrong with a value that must be an integer.
+pub(crate) fn say_number<'v>(
+    reason: &mut Reason,
+    file: &File<'_>,
+    place: Place,
+    field: Field,
+    value: &'v Value,
+) {
+    let (low, high) = limits_of(file, field);
+    match natural(value) {
+        Some(number) if low <= number && number <= high => {}
+        _ => say_must(reason, file, place, field, value),
+    }
+}
+
+/// Returns the greatest identifier of a range under a key.
+fn greatest_of(field: Field) -> u64 {
+    match field {
+        Field::Sids => 8_191,
+        _ => 4_294_967_295,
+    }
+}
+
+/// Says what is wrong with a value that must be a range of identifiers.
+pub(crate) fn say_range<'v>(
+    reason: &mut Reason,
+    file: &File<'_>,
+    place: Place,
+    field: Field,
+    value: &'v Value,
+) {
+    let most = greatest_of(field);
+    let Some((first, last)) = pair_in(value) else {
+        return say_must(reason, file, place, field, value);
+    };
+    let wrong = if first == 0 {
+        "first must be at least 1"
+    } else if last > most {
+        return say_over(reason, field, value, most);
+    } else if first > last {
+        "first must not be greater than last"
+    } else {
+        return;
+    };
+    reason.say(
+        "{} {}: {}",
+        &[
+            Part::Words(field.text()),
+            Part::Value(value),
+            Part::Words(wrong),
+        ],
+    );
+}
+
+/// Says that the last identifier of a range is over the greatest.
+fn say_over<'v>(reason: &mut Reason, field: Field, value: &'v Value, most: u64) {
+    reason.say(
+        "{} {}: last must be at most {}",
+        &[
+            Part::Words(field.text()),
+            Part::Value(value),
+            Part::Number(most),
+        ],
+    );
+}
+
+/// Says what is wrong with a slice, after what it is called, where the head and the frame have so
+/// many minislots.
 pub(crate) fn say_slice(reason: &mut Reason, slice: (u64, u64), head: u64, frame: u64) {
     let (start, length) = slice;
+    let end = start.saturating_add(length);
     if length == 0 {
-        reason.say("has no minislot", &[]);
+        reason.say("length must be at least 1", &[]);
     } else if start < head {
         reason.say(
-            "begins at minislot {}, the head has {} minislots",
-            &[Part::Number(start), Part::Number(head)],
+            "start must be at least {}, after the head",
+            &[Part::Number(head)],
         );
-    } else {
+    } else if end > frame {
         reason.say(
-            "needs {} minislots of a frame, the frame has {}",
-            &[
-                Part::Number(start.saturating_add(length)),
-                Part::Number(frame),
-            ],
+            "start + length must be at most {} (frame_minislots), not {}",
+            &[Part::Number(frame), Part::Number(end)],
         );
     }
 }
 
-/// How many minislots the head and the frame have, where the keys say it.
-fn frame_of(document: &Table) -> Option<(u64, u64)> {
-    let plant = table_at(document, Place::Plant)?;
-    let head = number(plant, Field::Head)?;
-    Some((head, number(plant, Field::FrameMinislots)?))
-}
-
-/// Says what is wrong with two numbers that are to be a slice.
-pub(crate) fn say_slice_value(reason: &mut Reason, document: &Table, value: &Value) {
-    if let (Some((head, frame)), Some(slice)) = (frame_of(document), pair_in(value)) {
-        reason.say("it ", &[]);
-        say_slice(reason, slice, head, frame);
-    }
-}
-
-/// Says what is wrong with a head that is a number.
-pub(crate) fn say_head(reason: &mut Reason, document: &Table) {
-    if let Some((head, frame)) = frame_of(document) {
-        reason.say(
-            "the head has {} minislots, the frame has {}",
-            &[Part::Number(head), Part::Number(frame)],
-        );
+/// Says what is wrong with a value that must be a slice. Where the head or the frame is invalid, its length alone is judged.
+pub(crate) fn say_slice_value<'v>(
+    reason: &mut Reason,
+    file: &File<'_>,
+    place: Place,
+    field: Field,
+    value: &'v Value,
+) {
+    let Some(slice) = pair_in(value) else {
+        return say_must(reason, file, place, field, value);
+    };
+    let (head, frame) = file.head_and_frame().unwrap_or((0, u64::MAX));
+    let mut wrong = Reason::new(reason.alloc);
+    say_slice(&mut wrong, slice, head, frame);
+    if !wrong.is_silent() {
+        reason.say("slice {}: {}", &[Part::Value(value), Part::Told(&wrong)]);
     }
 }
 
@@ -81,7 +132,7 @@ pub(crate) enum Letters {
 }
 
 impl Letters {
-    /// Whether a character is one of these.
+    /// Returns whether a character is one of these.
     fn has(self, c: char) -> bool {
         match self {
             Letters::Decimal => c.is_ascii_digit(),
@@ -91,7 +142,7 @@ impl Letters {
     }
 }
 
-/// The first character of a text that it may not have, and how many stand before it.
+/// Returns the first character of a text that it may not have, and how many characters come before it.
 pub(crate) fn first_beside(text: &str, letters: Letters) -> Option<(usize, char)> {
     for (before, c) in text.chars().enumerate() {
         if !letters.has(c) {
@@ -101,78 +152,120 @@ pub(crate) fn first_beside(text: &str, letters: Letters) -> Option<(usize, char)
     None
 }
 
-/// Says what is wrong with a name of at most so many letters and digits. It may be that a table of the same array before it has it.
-pub(crate) fn say_name(
-    reason: &mut Reason,
-    document: &Table,
-    array: &str,
-    most: u64,
-    value: &Value,
-) {
-    let Some(name) = value.as_str() else {
+/// Returns the array that a place is in, the number of its table there, and the most characters of a name in it.
+fn array_of(place: Place) -> (&'static str, usize, u64) {
+    match place {
+        Place::Class(class) => ("class", class, 15),
+        Place::Operator(operator) => ("operator", operator, 16),
+        _ => ("operator", 0, 16),
+    }
+}
+
+/// Returns the place of a table of the array that a place is in.
+fn place_in_array(place: Place, number: usize) -> Place {
+    match place {
+        Place::Class(_) => Place::Class(number),
+        _ => Place::Operator(number),
+    }
+}
+
+/// Says that an earlier table of the same array has a name.
+fn say_taken(reason: &mut Reason, file: &File<'_>, place: Place, name: &str) {
+    let (array, number, _most) = array_of(place);
+    let Some(first) = place_of(values(file.document, array), name) else {
         return;
     };
+    if first < number {
+        let other = place_in_array(place, first);
+        reason.say(
+            "name \"{}\" is taken by {}",
+            &[Part::Words(name), Part::Place(other)],
+        );
+        if let Some(line) = file.lines.line_of(Key::Entry(other, Field::Name)) {
+            reason.say(", line {}", &[Part::Number(line)]);
+        }
+        reason.say(": choose another name", &[]);
+    }
+}
+
+/// Says what is wrong with a value that must be a name.
+pub(crate) fn say_name<'v>(
+    reason: &mut Reason,
+    file: &File<'_>,
+    place: Place,
+    field: Field,
+    value: &'v Value,
+) {
+    let Some(name) = value.as_str() else {
+        return say_must(reason, file, place, field, value);
+    };
+    let (_array, _number, most) = array_of(place);
     let count = name.chars().count() as u64;
-    if count == 0 {
-        reason.say("it is empty", &[]);
-    } else if let Some((_before, c)) = first_beside(name, Letters::Alphanumeric) {
-        reason.say("{} is no letter or digit of ASCII", &[Part::Letter(c)]);
+    if let Some((_before, c)) = first_beside(name, Letters::Alphanumeric) {
+        say_must(reason, file, place, field, value);
+        reason.say(" (invalid character {})", &[Part::Letter(c)]);
+    } else if count == 0 {
+        say_must(reason, file, place, field, value);
     } else if count > most {
-        reason.say(
-            "it has {} characters, at most {} are allowed",
-            &[Part::Number(count), Part::Number(most)],
-        );
+        say_must(reason, file, place, field, value);
+        reason.say(" ({} characters)", &[Part::Number(count)]);
     } else {
-        say_earlier(reason, document, array, name);
+        say_taken(reason, file, place, name);
     }
 }
 
-/// Says that another table of an array has a name.
-fn say_earlier(reason: &mut Reason, document: &Table, array: &str, name: &str) {
-    if let Some(first) = place_of(values(document, array), name) {
-        reason.say(
-            "{}[{}] has this name already",
-            &[Part::Words(array), Part::Number(first as u64)],
-        );
-    }
-}
-
-/// Whether a text is an address.
+/// Returns whether a text is an address.
 pub(crate) fn is_address(text: &str) -> bool {
     text.len() == 12 && first_beside(text, Letters::Hexadecimal).is_none()
 }
 
-/// Says what is wrong with a text that is no address, behind what it is called.
-pub(crate) fn say_address(reason: &mut Reason, text: &str) {
+/// Returns a text without the characters that separate the bytes of an address.
+fn without_separators(reason: &mut Reason, text: &str) -> String {
+    let mut digits = String::new(reason.alloc);
+    for c in text.chars() {
+        if c != ':' && c != '.' && c != '-' && digits.push(c).is_err() {
+            reason.is_lost = true;
+        }
+    }
+    digits
+}
+
+/// Says that a text is not an address, if it is none: what is called so must be one.
+pub(crate) fn say_address<'a>(reason: &mut Reason, what: &'a Reason, text: &'a str) {
+    if is_address(text) {
+        return;
+    }
+    let digits = without_separators(reason, text);
+    if is_address(digits.as_str()) {
+        reason.say(
+            "{} must be 12 hexadecimal digits without separators: write {}, not {}",
+            &[
+                Part::Told(what),
+                Part::Words(digits.as_str()),
+                Part::Quoted(text),
+            ],
+        );
+        return;
+    }
+    reason.say(
+        "{} must be 12 hexadecimal digits, not {}",
+        &[Part::Told(what), Part::Quoted(text)],
+    );
     match first_beside(text, Letters::Hexadecimal) {
-        Some((_before, c)) => reason.say(
-            "has {}, which is no hexadecimal digit",
-            &[Part::Letter(c)],
-        ),
-        None => reason.say("is {} digits, not 12", &[Part::Number(text.len() as u64)]),
+        Some((_before, c)) => reason.say(" (invalid character {})", &[Part::Letter(c)]),
+        None => reason.say(" ({} digits)", &[Part::Number(text.len() as u64)]),
     }
 }
 
 /// Says what is wrong with an item of a list of addresses.
-fn say_item(reason: &mut Reason, number: usize, value: &Value) {
-    let number = Part::Number(number as u64);
+pub(crate) fn say_item(reason: &mut Reason, number: u64, value: &Value) {
+    let mut what = Reason::new(reason.alloc);
+    what.say("modems[{}]", &[Part::Number(number)]);
     match value.as_str() {
-        None => reason.say("[{}]: {} is no text", &[number, Part::Value(value)]),
-        Some(address) => {
-            if !is_address(address) {
-                reason.say("[{}]: {} ", &[number, Part::Quoted(address)]);
-                say_address(reason, address);
-            }
-        }
-    }
-}
-
-/// Says which item of a list of addresses is none, and what is wrong with the first.
-pub(crate) fn say_items(reason: &mut Reason, items: &[Value]) {
-    for (number, value) in items.iter().enumerate() {
-        say_item(reason, number, value);
-        if !reason.is_silent() {
-            return;
-        }
+        None => reason.say(
+            "{} must be a string of 12 hexadecimal digits, not {}",
+            &[Part::Told(&what), Part::Typed(value)],
+        ),
+        Some(address) => say_address(reason, &what, address),
     }
 }

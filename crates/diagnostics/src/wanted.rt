@@ -1,8 +1,10 @@
-//! What may stand under each key of a plant file, in words.
+//! What each key of a plant file must be, in words.
 
+use crate::file::File;
+use crate::reason::{Part, Reason};
 use slice_table::{Field, Place};
 
-/// Whether one of the keys has this name.
+/// Returns whether one of the keys has this name.
 pub(crate) fn has(fields: &[Field], word: &str) -> bool {
     for field in fields {
         if field.text() == word {
@@ -12,47 +14,80 @@ pub(crate) fn has(fields: &[Field], word: &str) -> bool {
     false
 }
 
-/// What may stand under a key of the table `plant`.
-fn wanted_of_plant(field: Field) -> &'static str {
+/// Returns the least and the greatest integer under a key. `None` where the key has no integer, and for the head, whose
+/// greatest depends on the frame.
+pub(crate) fn bounds_of(field: Field) -> Option<(u64, u64)> {
     match field {
-        Field::FrameMinislots => "the minislots of a frame, 1 to 4096",
-        Field::Head => "the minislots at the head of a frame, 0 to frame_minislots",
-        Field::FrameUs => "the microseconds of a frame, 1 to 1000000",
-        Field::BytesPerMinislot => "the bytes of a minislot, 1 to 65535",
-        Field::ShortMax => "the most minislots of a short grant, 0 to 4096",
-        Field::Channel | Field::UcdCount | Field::Resends => "a number, 0 to 255",
-        Field::AckWait | Field::Hold => "a number of ticks, 1 to 65535",
-        Field::FirstFrame => "a frame number, 0 to 4294967295",
-        _ => "a number, 0 to 15",
+        Field::FrameMinislots => Some((1, 4_096)),
+        Field::FrameUs => Some((1, 1_000_000)),
+        Field::BytesPerMinislot | Field::AckWait | Field::Hold => Some((1, 65_535)),
+        Field::ShortMax | Field::Budget => Some((0, 4_096)),
+        Field::Channel | Field::UcdCount | Field::Resends => Some((0, 255)),
+        Field::RangingStart | Field::RangingEnd => Some((0, 15)),
+        Field::DataStart | Field::DataEnd => Some((0, 15)),
+        Field::FirstFrame => Some((0, 4_294_967_295)),
+        Field::Flows => Some((1, 1_024)),
+        Field::Transactions | Field::Inbox => Some((1, 256)),
+        Field::Elements => Some((0, 235)),
+        Field::Step => Some((1, 255)),
+        _ => None,
     }
 }
 
-/// What may stand under a key of an operator.
-fn wanted_of_operator(field: Field) -> &'static str {
-    match field {
-        Field::Name => "a text of 1 to 16 letters or digits",
-        Field::Slice => "two numbers, [start, length] in minislots",
-        Field::Sfids => "two numbers, [first, last], 1 to 4294967295",
-        Field::Sids => "two numbers, [first, last], 1 to 8191",
-        Field::Flows => "a number, 1 to 1024",
-        Field::Transactions | Field::Inbox => "a number, 1 to 256",
-        Field::Budget => "a number of minislots, 0 to 4096",
-        Field::Elements => "a number of elements, 0 to 235",
-        Field::Policy => "\"strict\", \"aged\" or \"short\"",
-        Field::Step => "a number, 1 to 255, since the policy is \"aged\"",
-        Field::Modems => "1 to 1024 addresses of 12 hexadecimal digits",
-        _ => "an array of tables, [[operator.flow]]",
-    }
-}
-
-/// What may stand under a key.
-pub(crate) fn wanted(place: Place, field: Field) -> &'static str {
+/// Returns what a key must be that has no integer.
+fn wanted_of(place: Place, field: Field) -> &'static str {
     match (place, field) {
-        (Place::Plant, field) => wanted_of_plant(field),
-        (Place::Operator(_), field) => wanted_of_operator(field),
-        (Place::Class(_), Field::Name) => "a text of 1 to 15 letters or digits",
-        (Place::Class(_), _) => "a text, a flow encoding in hexadecimal without subtypes 1 to 6",
-        (Place::Flow(..), Field::Modem) => "a text, the address of one of this operator's modems",
-        (Place::Flow(..), _) => "a text, a flow encoding in hexadecimal with set type 1, 3 or 7",
+        (Place::Class(_), Field::Name) => "a string of 1 to 15 ASCII letters or digits",
+        (_, Field::Name) => "a string of 1 to 16 ASCII letters or digits",
+        (_, Field::Slice) => "two integers, [start, length], in minislots",
+        (_, Field::Sfids) => "two integers, [first, last], from 1 to 4294967295",
+        (_, Field::Sids) => "two integers, [first, last], from 1 to 8191",
+        (_, Field::Policy) => "\"strict\", \"aged\" or \"short\"",
+        (_, Field::Modems) =>
+            "an array of 1 to 1024 addresses, each a string of 12 hexadecimal digits",
+        (_, Field::Flow) => "an array of tables: write [[operator.flow]]",
+        (_, Field::Modem) =>
+            "the address of a modem of this operator, a string of 12 hexadecimal digits",
+        _ => "a flow encoding, a string of hexadecimal digits",
     }
+}
+
+/// Says what the head must be.
+fn say_wanted_head(reason: &mut Reason, file: &File<'_>) {
+    match file.frame() {
+        Some(frame) => reason.say(
+            "an integer from 0 to {} (frame_minislots)",
+            &[Part::Number(frame)],
+        ),
+        None => reason.say("an integer from 0 to frame_minislots", &[]),
+    }
+}
+
+/// Says what a key must be.
+pub(crate) fn say_wanted(reason: &mut Reason, file: &File<'_>, place: Place, field: Field) {
+    match (field, bounds_of(field)) {
+        (Field::Head, _) => say_wanted_head(reason, file),
+        (Field::Step, Some((low, high))) => reason.say(
+            "an integer from {} to {}, since policy is \"aged\"",
+            &[Part::Number(low), Part::Number(high)],
+        ),
+        (_, Some((low, high))) => reason.say(
+            "an integer from {} to {}",
+            &[Part::Number(low), Part::Number(high)],
+        ),
+        _ => reason.say("{}", &[Part::Words(wanted_of(place, field))]),
+    }
+}
+
+/// Says that a value is not what its key must be.
+pub(crate) fn say_must<'v>(
+    reason: &mut Reason,
+    file: &File<'_>,
+    place: Place,
+    field: Field,
+    value: &'v toml::Value,
+) {
+    reason.say("{} must be ", &[Part::Words(field.text())]);
+    say_wanted(reason, file, place, field);
+    reason.say(", not {}", &[Part::Typed(value)]);
 }

@@ -1,4 +1,4 @@
-//! The plant's program, started: its words and standard streams are handed to `plant_script`.
+//! The executable: passes its arguments and standard streams to `plant_script`.
 #![tactic(auto)]
 
 use plant_script::{Ending, behind_name, exit_code, run_program_with_reasons};
@@ -9,11 +9,11 @@ use std::sync::Wait;
 use std::thread::Threads;
 use std::{env, io};
 
-/// What is told a person at a terminal.
+/// What is reported a person at a terminal.
 const AWAITED: &[u8] =
     b"a plant file, a line --- and a script are read from here, up to Ctrl-D (run has --help)\n";
 
-/// An input of which the first read tells what is awaited, where a person types it.
+/// An input of which the first read reports what is awaited, where a person types it.
 #[derive(Drop)]
 struct PromptingReader<'a, R, N> {
     reader: R,
@@ -29,7 +29,8 @@ impl<R: Read, N: Write> Read for PromptingReader<'_, R, N> {
     }
 }
 
-/// An output that notes whether its reader has gone, as behind `| head -1`: then nobody is told that a write failed.
+/// An output that notes whether its reader has gone, as after `| head -1`: then nobody is reported
+/// that a write failed.
 #[derive(Drop)]
 struct BrokenPipeWatch<W> {
     writer: W,
@@ -70,7 +71,7 @@ fn main(rt: HostRuntime) -> ExitCode {
     exit_code(run(&rt, note, &mut reasons))
 }
 
-/// The status that the program answers to its words.
+/// Returns the status that the program answers to its words.
 fn run<N: Write>(
     rt: &(impl Env + Input + Print + AllocGlobal + Threads + Wait + Sync),
     note: Option<&mut N>,
