@@ -1,1 +1,1 @@
-"""Checks of the prose of the repository's documents. tools/check_prose runs them."""
+"""Checks the prose of the documents and of the doc comments of crates."""

@@ -1,4 +1,4 @@
-"""The checks of a document: words, sentences, lines, cells, links and names of files."""
+"""Checks a document: words, sentences, lines, cells, links and names of files."""
 
 import re
 from dataclasses import dataclass
@@ -6,10 +6,14 @@ from dataclasses import dataclass
 from .markdown import CODE, COMMAND, anchor_of, links_of, plain, split_document
 from .words import crossed_out
 
-KINDS = ("word", "sentence", "line", "cell", "link", "file")
 MOST_COLUMNS, MOST_WORDS_OF_CELL = 100, 12
-MOST_WORDS, MOST_WORDS_OF_README = 35, 30
+MOST_WORDS = 35
+# The documents that have another limit of words in a sentence.
+MOST_WORDS_OF = {"README.md": 30, "docs/ARCHITECTURE.md": 25, "docs/MODEL.md": 25, "docs/PROVED.md": 25}
 END_OF_SENTENCE = re.compile(r"(?<=[.!?])[\"')*]*\s+(?=[\"'(*]*[A-Z\d" + CODE + COMMAND + "])")
+# The documents that name definitions, functions and clauses, and the code spans that do so.
+NAMING = ("docs/ARCHITECTURE.md", "docs/MODEL.md", "docs/PROVED.md")
+NAMES = re.compile(r"[A-Za-z_]\w*(?:(?:::| )\w+)*")
 # A path of the repository, from its root, and a document named alone.
 PATH = re.compile(r"(?<![\w./-])(?:\./)?((?:docs|tools|crates|examples|tests|\.ci)/[\w./*-]*[\w*])")
 DOCUMENT = re.compile(r"(?<![\w./-])([A-Z][A-Z-]*\.md)\b")
@@ -26,10 +30,11 @@ class Finding:
 def findings_of(root, path):
     """Returns what is wrong in a document, in the order of its lines."""
     document = split_document(path.read_text())
-    most_words = MOST_WORDS_OF_README if path == root / "README.md" else MOST_WORDS
+    name = str(path.relative_to(root)) if path.is_relative_to(root) else ""
+    most_words = MOST_WORDS_OF.get(name, MOST_WORDS)
     found = [
         *word_findings(document), *sentence_findings(document, most_words), *line_findings(document), *cell_findings(document),
-        *link_findings(document, path), *file_findings(document, root, path),
+        *link_findings(document, path), *file_findings(document, root, path), *(name_findings(document, root) if name in NAMING else ()),
     ]  # fmt: skip
     return sorted(found, key=lambda finding: finding.line)
 
@@ -100,3 +105,23 @@ def file_findings(document, root, path):
         for name in DOCUMENT.findall(text):
             if not any((folder / name).exists() for folder in (root, root / "docs", path.parent)):
                 yield Finding(line, "file", f"there is no {name}")
+
+
+def names_of_crates(root):
+    """Returns all words of the crates' sources and definitions, and the names of crates and of their files."""
+    names = {path.name for path in root.iterdir()}
+    for path in [*root.glob("crates/*"), *root.glob("crates/*/*"), *root.glob("crates/*/specs/*"), *root.glob("crates/*/src/*")]:
+        names |= {path.name, path.stem}
+        if path.suffix in (".rt", ".antt"):
+            names.update(re.findall(r"\w+", path.read_text()))
+    return names
+
+
+def name_findings(document, root):
+    known = names_of_crates(root)
+    for line, text in texts(document):
+        for span in re.findall("`([^`]*)`", text):
+            if NAMES.fullmatch(span):
+                for name in re.findall(r"\w+", span):
+                    if name not in known:
+                        yield Finding(line, "name", f"no crate has {name}")

@@ -1,1 +1,1 @@
-"""A slow, plain reference of the rules, written from the documents alone, by someone who had not seen the crates."""
+"""Implements the rules a second time, slowly and plainly, from the documents alone: its author had not seen the crates."""

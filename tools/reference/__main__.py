@@ -1,18 +1,25 @@
-"""Does what the built program does, slowly: python3 tools/reference WORD.. <INPUT"""
+"""Runs the second implementation with the arguments of the program: python3 tools/reference COMMAND .. < INPUT
 
+Python that is started with a folder does not find the package around it. So it is started again, as the wrappers start the other tools.
+"""
+
+import os
 import pathlib
 import sys
 
-sys.path.insert(0, str(pathlib.Path(__file__).resolve().parent.parent))
-
-from compare_program import reference_answer  # noqa: E402
-from reference.program import MOST_INPUT  # noqa: E402
+TOP = pathlib.Path(__file__).resolve().parents[2]
 
 
 def main():
+    from .answers import reference_answer
+    from .program import MOST_INPUT
+
     status, text = reference_answer(sys.argv[1:], sys.stdin.buffer.read(MOST_INPUT + 1))
     sys.stdout.buffer.write(text)
     sys.exit(status)
 
 
-main()
+if __package__:
+    main()
+else:
+    os.execve(sys.executable, [sys.executable, "-P", "-m", "tools.reference", *sys.argv[1:]], {**os.environ, "PYTHONPATH": str(TOP)})

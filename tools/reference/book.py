@@ -1,4 +1,4 @@
-"""One operator's book: its flows, kept responses and inbox, and what becomes of a message, a request and a tick."""
+"""Keeps one operator's book: its flows, cached responses and inbox. Handles a message, a bandwidth request and a tick."""
 
 from dataclasses import dataclass, field
 from typing import Optional
@@ -15,7 +15,7 @@ LAST_FRAME = 4_294_967_295
 
 
 class StepRefused(Exception):
-    """A step that is not done: a tick past the last frame, or other slices that do not fit."""
+    """Reports a step that is refused: a tick past the last frame, or a slice change that does not fit."""
 
 
 @dataclass
@@ -42,7 +42,7 @@ class Flow:
 
 @dataclass
 class Entry:
-    """A kept response. It waits for its acknowledgement, or is held; `ticks` are those until something becomes of it."""
+    """A cached response. It waits for its acknowledgement, or is held. After `ticks` ticks it is retransmitted or dropped."""
     modem: str
     tid: int
     kind: str
@@ -74,7 +74,7 @@ class Book:
 
 
 def open_book(plant, row):
-    """A book with the provisioned flows, and nothing else."""
+    """Returns a book with the provisioned flows, and nothing else."""
     start, length = row.slice
     book = Book(plant, row, plant.first_frame, Share(start, length, row.budget))
     for provisioned in row.provisioned:
@@ -118,10 +118,10 @@ def all_committed(book, without=None):
     return sum(minislots for minislots, _ in needs), sum(elements for _, elements in needs)
 
 
-# What is heard
+# What is received
 
 def arrive(book, modem, heard):
-    """Something a modem sends comes to the end of the inbox; a full one drops it."""
+    """Puts something that a modem sends at the end of the inbox. A full one drops it."""
     if len(book.inbox) >= book.row.inbox:
         return [("S", modem, "InboxFull")]
     book.inbox.append((modem, heard))
@@ -129,7 +129,7 @@ def arrive(book, modem, heard):
 
 
 def work(book):
-    """The first of the inbox is handled: a message's bytes, or a request's SID and minislots."""
+    """Handles the first of the inbox: a message's bytes, or a bandwidth request's SID and minislots."""
     if not book.inbox:
         return [("S", None, "Idle")]
     modem, heard = book.inbox.pop(0)
@@ -144,7 +144,7 @@ def work(book):
 
 
 def handle_message(book, modem, message):
-    """The response to a request, None to an acknowledgement that is taken, else NoAnswer."""
+    """Returns the response to a request, or None to an acknowledgement that is accepted. Raises NoAnswer otherwise."""
     kind, body = read_header(message)
     tid = int.from_bytes(body[:2], "big")
     if kind in ACKNOWLEDGEMENTS:
@@ -210,7 +210,7 @@ def answer_request(book, modem, tid, kind, body):
 
 
 def keep(book, modem, tid, kind, response, sfid):
-    """A DSA or DSC that was answered 0 waits for its acknowledgement; all others are held."""
+    """Caches a response. A DSA or DSC with code 0 waits for its acknowledgement; all others are held."""
     if sfid is not None and kind != "DSD":
         book.kept.append(Entry(modem, tid, kind, response, True, book.plant.ack_wait, book.plant.resends, sfid))
     else:
@@ -257,7 +257,7 @@ def change_flow(book, modem, tid, body):
 
 
 def delete_flow(book, modem, tid, body):
-    """The body is two reserved bytes, the SFID, and TLVs that are not read."""
+    """Handles a DSD-REQ. Its body is two reserved bytes, the SFID, and TLVs that are not read."""
     flow = flow_of_modem(book, modem, int.from_bytes(body[2:6], "big"))
     if flow.provisioned is not None:
         met("deletion: a provisioned flow")
@@ -300,7 +300,7 @@ def flow_of_modem(book, modem, sfid):
 
 
 def judge_set_type(kind, flows):
-    """Check 13."""
+    """Judges check 13."""
     if len(flows) > 1:
         return
     if SET_TYPE not in flows[0]:
@@ -310,7 +310,7 @@ def judge_set_type(kind, flows):
 
 
 def asked_sets(book, flows):
-    """Check 14: the admitted and the active set that are asked for."""
+    """Returns the admitted and the active set that are requested (check 14)."""
     if flows[0][SET_TYPE] == 0:
         met("asked: no set")
         return None, None
@@ -329,14 +329,14 @@ def asked_sets(book, flows):
 
 
 def judge_active(flows, admitted, active):
-    """Check 15."""
+    """Judges check 15."""
     failing = first_failing(active, admitted)
     if failing is not None:
         raise Refused(15, INVALID, failing, flows[0])
 
 
 def judge_provisioned(flow, flows, admitted):
-    """Check 16."""
+    """Judges check 16."""
     if flow.provisioned is None:
         return
     failing = first_failing(admitted, flow.provisioned)
@@ -405,7 +405,7 @@ def take_back(book, flow, why):
 # Ticks
 
 def tick(book):
-    """The responses that are sent again, then the frame; then the frame number rises."""
+    """Returns the responses that are retransmitted, then the frame, and increases the frame number."""
     if book.frame == LAST_FRAME:
         met("tick: past the last frame")
         raise StepRefused
@@ -416,7 +416,7 @@ def tick(book):
 
 
 def next_frame(book):
-    """The frame number rises, and the share that waited for this frame takes force."""
+    """Increases the frame number. The share that waited for this frame takes effect."""
     book.frame += 1
     if book.next_share is not None and book.next_share[0] == book.frame:
         met("tick: another slice takes force")
@@ -424,7 +424,7 @@ def next_frame(book):
 
 
 def count_kept(book):
-    """Counts the ticks of all entries; gives up, forgets, and answers which are sent again."""
+    """Counts the ticks of all entries: abandons, drops, and returns those that are retransmitted."""
     resent = []
     for entry in list(book.kept):
         entry.ticks -= 1
@@ -458,7 +458,7 @@ def schedule_frame(book):
 # Another slice and budget
 
 def unfit(book, start, share):
-    """Why another slice and budget from a frame on are refused, or None."""
+    """Returns why a new slice and budget from a frame on are refused, or None."""
     plant = book.plant
     if start <= book.frame:
         return "the frame is not behind the present one"

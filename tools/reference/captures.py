@@ -1,4 +1,4 @@
-"""The word `capture`: a run as a pcap file of DOCSIS management frames."""
+"""Runs the command `capture`: writes a run as a pcap file of DOCSIS management frames."""
 
 import zlib
 
@@ -12,7 +12,7 @@ LONGEST = 65_511
 
 
 def captured(data):
-    """The exit status of `capture`, and the file; or the line of a fault."""
+    """Returns the exit status of `capture`, and the file; or the line of a fault."""
     try:
         plant, script = judged_plant(text_of(data))
         steps = judged_script(plant, script)
@@ -21,26 +21,26 @@ def captured(data):
     core, capture = Core(plant), Capture(plant)
     for _, step in steps:
         try:
-            told = core.step(*step)
+            lines = core.step(*step)
         except StepRefused:
             return LINE, capture.file
-        capture.add(step, told)
+        capture.add(step, lines)
     met("status 0 of capture")
     return 0, capture.file
 
 
 class Capture:
-    """A file so far. A packet that is no MAP stands at the begin of the frame whose MAP comes next."""
+    """A file so far. A packet other than a MAP has the time at which the frame of the next MAP begins."""
 
     def __init__(self, plant):
         self.next, self.frame_us = plant.first_frame, plant.frame_us
         self.file = little(0xA1B2C3D4, 4) + little(2, 2) + little(4, 2) + bytes(8) + little(65_541, 4) + little(143, 4)
 
-    def add(self, step, told):
+    def add(self, step, lines):
         what, *detail = step
         if what == "arrive" and isinstance(detail[2], bytes):
             self.message(CMTS, bytes.fromhex(detail[1]), detail[2])
-        for kind, who, *rest in (line.split(" ") for line in told):
+        for kind, who, *rest in (line.split(" ") for line in lines):
             if kind == "R":
                 self.message(bytes.fromhex(who), CMTS, bytes.fromhex(rest[0]))
             elif kind == "MAP":
@@ -61,7 +61,7 @@ class Capture:
 
 
 def framed(target, source, kind, payload):
-    """A management message in its MAC frame."""
+    """Returns a management message in its MAC frame."""
     version = 2 if kind in DYNAMIC_SERVICE else 1
     body = target + source + (6 + len(payload)).to_bytes(2, "big") + bytes([0, 0, 3, version, kind, 0]) + payload
     header = b"\xC2\x00" + (len(body) + 4).to_bytes(2, "big")
@@ -69,7 +69,7 @@ def framed(target, source, kind, payload):
 
 
 def header_sum(data):
-    """The CRC of X.25."""
+    """Returns the CRC of X.25."""
     rest = 0xFFFF
     for byte in data:
         rest ^= byte

@@ -1,4 +1,4 @@
-"""Counts what the reference met, so that the generator can be steered towards what it seldom meets."""
+"""Counts what the second implementation reached, so that the generator can be steered towards what is rare."""
 
 from collections import Counter
 
@@ -10,9 +10,9 @@ def met(what):
 
 
 class MetFault(Exception):
-    """A fault that is counted under `told` wherever it is met, with what it says as fields."""
+    """Reports a fault that is counted under `name` wherever it is reached. What it says is its fields."""
 
-    def __init__(self, told, **fields):
+    def __init__(self, name, **fields):
         super().__init__(*fields.values())
         self.__dict__.update(fields)
-        met(told)
+        met(name)

@@ -1,4 +1,4 @@
-"""TLVs, and the upstream flow encoding (Annex C, type 24)."""
+"""Reads TLVs and the upstream flow encoding (Annex C, type 24)."""
 
 from .coverage import MetFault, met
 
@@ -14,14 +14,14 @@ POLLING_INTERVAL, POLL_JITTER, GRANT_SIZE, GRANT_INTERVAL, GRANT_JITTER, GRANTS 
 
 
 class FlowFault(MetFault):
-    """The first fault of a flow encoding: its kind, the subtype (None for a cut), and the fields that stood before it."""
+    """Reports the first fault of a flow encoding: its kind, the subtype (None for a cut), and the fields before it."""
 
     def __init__(self, kind, subtype, before):
         super().__init__(f"flow encoding: {kind}" + (f" {subtype}" if subtype else ""), kind=kind, subtype=subtype, before=before)
 
 
 def split_tlvs(data):
-    """The whole TLVs that the bytes begin with, as pairs of type and value, and whether a cut follows them."""
+    """Returns the whole TLVs that the bytes begin with, as pairs of type and value, and whether a cut follows them."""
     tlvs, place = [], 0
     while place < len(data):
         if place + 1 >= len(data) or place + 2 + data[place + 1] > len(data):
@@ -37,7 +37,7 @@ def number_of(value):
 
 
 def in_range(subtype, value):
-    """Whether a value of the right length is one that the subtype takes."""
+    """Tests whether a value of the right length is one that the subtype takes."""
     if subtype in (REFERENCE, SFID):
         return number_of(value) != 0
     if subtype == CLASS_NAME:
@@ -50,7 +50,7 @@ def in_range(subtype, value):
 
 
 def field_of(subtype, value):
-    """What a field says: a class name without its last byte, else a number. Of error encodings only that they stood there."""
+    """Returns the value of a field: a class name without its last byte, or a number. Of error encodings it returns only that they are there."""
     if subtype == CLASS_NAME:
         return value[:-1]
     if subtype == ERRORS:
@@ -59,7 +59,7 @@ def field_of(subtype, value):
 
 
 def read_flow(data):
-    """The fields of a flow encoding by subtype, or FlowFault. Subtypes that are not known are skipped."""
+    """Returns the fields of a flow encoding by subtype, or raises FlowFault. Unknown subtypes are skipped."""
     tlvs, cut = split_tlvs(data)
     fields = {}
     for subtype, value in tlvs:

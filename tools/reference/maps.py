@@ -1,4 +1,4 @@
-"""The MAP of a frame (6.4.4), version 1, from all operators' parts."""
+"""Makes the MAP of a frame (6.4.4), version 1, from the parts of all operators."""
 
 from .coverage import met
 
@@ -11,7 +11,7 @@ def element(sid, code, offset):
 
 
 def unheld_runs(spans, head, frame_minislots):
-    """The starts of the runs of minislots behind the head that no slice holds; a span is (SID, IUC, start, length)."""
+    """Returns the starts of the runs of minislots after the head that no slice holds. A span is (SID, IUC, start, length)."""
     starts, place = [], head
     for _, _, start, length in spans:
         if start > place:
@@ -23,7 +23,7 @@ def unheld_runs(spans, head, frame_minislots):
 
 
 def map_of(plant, frame, parts):
-    """The bytes of a frame's MAP; a part is an operator's spans, in order, and its grants pending."""
+    """Returns the bytes of a frame's MAP; a part is an operator's spans, in order, and its grants pending."""
     parts = sorted(parts, key=lambda part: part[0][0][2])
     spans = [span for part_spans, _ in parts for span in part_spans]
     elements = [element(ALL_MODEMS, REQUEST, 0)] if plant.head > 0 else []

@@ -1,4 +1,4 @@
-"""Dynamic service messages (6.4.12 to 6.4.22), confirmation codes, and the replies."""
+"""Reads dynamic service messages (6.4.12 to 6.4.22), and writes the replies with their confirmation codes."""
 
 from .coverage import MetFault, met
 from .encodings import ERRORS, REFERENCE, SFID, SID, FlowFault, read_flow, split_tlvs, tlv
@@ -8,7 +8,7 @@ DSA_REQ, DSA_ACK, DSC_REQ, DSC_ACK, DSD_REQ = 15, 17, 18, 20, 21
 RESPONSE = {"DSA": 16, "DSC": 19, "DSD": 22}
 REQUESTS = {DSA_REQ: "DSA", DSC_REQ: "DSC", DSD_REQ: "DSD"}
 ACKNOWLEDGEMENTS = {DSA_ACK: "DSA", DSC_ACK: "DSC"}
-# Bytes behind the type byte that must be there.
+# Bytes after the type byte that must be there.
 FIXED_PART = {DSA_REQ: 2, DSC_REQ: 2, DSA_ACK: 3, DSC_ACK: 3, DSD_REQ: 8}
 
 FLOW = 24
@@ -29,7 +29,7 @@ class NoAnswer(MetFault):
 
 
 class Refused(Exception):
-    """A request is refused with this code. Where a subtype is named, `flow` are the fields of the encoding at fault."""
+    """Reports that a request is refused with this code. If a subtype is named, `flow` has the fields of the invalid encoding."""
 
     def __init__(self, check, code, subtype=None, flow=None):
         super().__init__(check, code, subtype)
@@ -37,7 +37,7 @@ class Refused(Exception):
 
 
 def read_header(message):
-    """Check 0: the message's type and what follows it."""
+    """Returns the message's type and what follows it (check 0)."""
     if not message:
         raise NoAnswer("Empty")
     if message[0] not in FIXED_PART:
@@ -48,7 +48,7 @@ def read_header(message):
 
 
 def read_flows(body):
-    """The flow encodings of a DSA-REQ or DSC-REQ, from the bytes behind its transaction ID (check 4)."""
+    """Returns the flow encodings of a DSA-REQ or DSC-REQ, from the bytes after its transaction ID (check 4)."""
     tlvs, cut = split_tlvs(body)
     if cut:
         met("message: cut")
@@ -81,7 +81,7 @@ def identifier_tlv(kind, number):
 
 
 def reply(kind, tid, code, tlvs=b""):
-    """A response. That to a DSD-REQ ends with a reserved byte and has no TLV."""
+    """Returns a response. That to a DSD-REQ ends with a reserved byte and has no TLV."""
     fixed = bytes([RESPONSE[kind]]) + write_number(tid, 2) + bytes([code])
     return fixed + (b"\x00" if kind == "DSD" else tlvs)
 
@@ -99,7 +99,7 @@ def changed_reply(tid, sfid, sid):
 
 
 def refusal(kind, tid, refused):
-    """The response of a refusal. One that names a subtype says of which flow, where that is told, and the error encodings."""
+    """Returns the response of a refusal. One that names a subtype has the flow, if it is known, and the error encodings."""
     if refused.subtype is None:
         return reply(kind, tid, refused.code)
     identifier = refused.flow.get(IDENTIFIER[kind])

@@ -1,4 +1,4 @@
-"""The plant file: what it says, or its first fault."""
+"""Reads the plant file, or finds its first fault."""
 
 import re
 import tomllib
@@ -16,9 +16,9 @@ MOST_ELEMENTS = 240
 
 class PlantFault(MetFault):
     def __init__(self, number, *detail):
-        told = " ".join(str(part) for part in detail)
-        where = " " + re.sub(r"\[\d+\]", "[]", told) if number in (2, 3) else ""
-        super().__init__(f"plant fault {number}{where}", number=number, detail=told)
+        text = " ".join(str(part) for part in detail)
+        where = " " + re.sub(r"\[\d+\]", "[]", text) if number in (2, 3) else ""
+        super().__init__(f"plant fault {number}{where}", number=number, detail=text)
 
 
 @dataclass
@@ -89,7 +89,7 @@ def read_toml(text):
 
 
 def has_small_integers(value):
-    """TOML's integers are of 64 bits; Python's reader takes greater ones, which are no TOML."""
+    """Finds integers of more than 64 bits, which Python's reader accepts and TOML does not."""
     if isinstance(value, dict):
         return all(has_small_integers(item) for item in value.values())
     if isinstance(value, list):
@@ -138,7 +138,7 @@ def text(table, place, key, fits):
 
 
 def array_of(table, place, key, least, greatest, may_be_absent=False):
-    """The items of an array of tables. Each item is judged to be a table when its turn comes."""
+    """Returns the items of an array of tables. Each item is judged to be a table when its turn comes."""
     if may_be_absent and key not in table:
         return []
     if key not in table:
@@ -163,7 +163,7 @@ def is_address(value):
 
 
 def flow_of_text(value):
-    """The fields of a flow encoding written in hexadecimal, or None."""
+    """Returns the fields of a flow encoding written in hexadecimal, or None."""
     if not isinstance(value, str) or re.fullmatch("([0-9A-Fa-f]{2})*", value) is None:
         return None
     try:
@@ -253,7 +253,7 @@ def read_provisioned(plant, row, place, table):
 
 
 def provisioned_set(plant, value):
-    """The parameter set and the set type of a provisioned flow's encoding, or None where it gives none."""
+    """Returns the parameter set and the set type of a provisioned flow's encoding, or None if it gives none."""
     fields = flow_of_text(value)
     if fields is None or fields.get(SET_TYPE) not in (1, 3, 7):
         return None
@@ -281,7 +281,7 @@ def judge_pairs(plant, fault, range_of):
 
 
 def have_common(one, other):
-    """Whether two ranges, each from its first to its last number, have a number in common."""
+    """Tests whether two ranges, each from its first to its last number, have a number in common."""
     return one[0] <= other[1] and other[0] <= one[1]
 
 

@@ -1,4 +1,4 @@
-"""The words of the program: what each prints, and its exit status."""
+"""Runs the commands of the program: what each prints, and its exit status."""
 
 import re
 
@@ -9,7 +9,7 @@ from .plant import PlantFault, is_address, read_plant
 
 MOST_INPUT = 1_048_576
 WORDS, PLANT, LINE, IO = 2, 3, 4, 6
-HELP = "The words are: one, check, run, threads, capture, trace, history OP\n"
+HELP = "The words are: one, check, run, serve, threads, capture, trace, history OP\n"
 
 PLANT_OF_ONE = """
 [plant]
@@ -42,7 +42,7 @@ class Fault(MetFault):
 
 
 def answer(words, data):
-    """The exit status and the text for the words behind the program's name and the bytes of its input."""
+    """Returns the exit status and the text for the program's arguments and the bytes of its input."""
     out = []
     try:
         do_words(words, data, out)
@@ -79,7 +79,7 @@ def text_of(data):
 
 
 def lines_of(text):
-    """The lines, each ended by LF, which the last may lack."""
+    """Returns the lines. Each ends with LF, which the last may lack."""
     lines = text.split("\n")
     return lines[:-1] if lines[-1] == "" else lines
 
@@ -108,7 +108,7 @@ def message_of_one(place, line):
 
 
 def message_of(field):
-    """The bytes that a field says: `-` none, else hexadecimal; None where it says none."""
+    """Returns the bytes that a field has: `-` none, else hexadecimal; None if it has none."""
     if field == "-":
         return b""
     if re.fullmatch("([0-9A-Fa-f]{2})+", field) is None:
@@ -134,17 +134,17 @@ def do_run(text, out):
 
 
 def do_threads(text, out):
-    """The lines of `run`, those of each operator together, in the order of the operators, then the MAPs; a fault is told alone."""
+    """Returns the lines of `run`, those of each operator together, in their order, then the MAPs. A fault is printed alone."""
     plant, script = judged_plant(text)
-    said = []
-    Core(plant).run(judged_script(plant, script), said.append)
+    lines = []
+    Core(plant).run(judged_script(plant, script), lines.append)
     for row in plant.rows:
-        out.extend(line for line in said if is_of(row, *line.split(" ")[:2]))
-    out.extend(line for line in said if line.startswith("MAP "))
+        out.extend(line for line in lines if is_of(row, *line.split(" ")[:2]))
+    out.extend(line for line in lines if line.startswith("MAP "))
 
 
 def is_of(row, kind, who):
-    """Whether a line is an operator's: a reply or a cause of one of its modems, or its frame."""
+    """Tests whether a line is an operator's: a reply or a cause of one of its modems, or its frame."""
     return kind in ("R", "S") and who in row.modems or kind == "F" and who == row.name
 
 
@@ -169,7 +169,7 @@ def judged_plant(text):
 
 
 def split_input(text):
-    """The plant file up to the first line `---`, and the lines of the script behind it."""
+    """Returns the plant file up to the first line `---`, and the lines of the script after it."""
     lines = text.split("\n")
     if "---" not in lines:
         return text, []
@@ -178,7 +178,7 @@ def split_input(text):
 
 
 def judged_script(plant, lines):
-    """The steps of a script with the number of each step's line."""
+    """Returns the steps of a script with the number of each step's line."""
     steps = []
     for place, line in enumerate(lines, 1):
         if line == "":
@@ -192,7 +192,7 @@ def judged_script(plant, lines):
 
 
 def steps_of(plant, fields):
-    """The steps of a line, or None where it is at fault."""
+    """Returns the steps of a line, or None if it is invalid."""
     if fields[0] == "M" and len(fields) == 3:
         return heard(plant, fields[1], message_of(fields[2]))
     if fields[0] == "Q" and len(fields) == 4:
@@ -210,7 +210,7 @@ def steps_of(plant, fields):
 
 
 def heard(plant, address, what):
-    """The steps of a message or a request: it arrives, and its operator works."""
+    """Returns the steps of a message or a request: it arrives, and its operator works."""
     if what is None or not is_address(address):
         return None
     for place, row in enumerate(plant.rows):
@@ -270,7 +270,7 @@ class Core:
         return lines + self.collect(place, frame, spans, pending)
 
     def collect(self, place, frame, spans, pending):
-        """An operator's part of a frame; the last part gives the MAP."""
+        """Returns an operator's part of a frame; the last part gives the MAP."""
         parts = self.parts.setdefault(frame, {})
         parts[place] = (spans, pending)
         if len(parts) < len(self.books):
@@ -278,7 +278,7 @@ class Core:
         return [f"MAP {frame} {hexadecimal(map_of(self.plant, frame, list(self.parts.pop(frame).values())))}"]
 
     def other_slices(self, start, shares):
-        """All operators get their new slices, or none."""
+        """Gives all operators their new slices, or none."""
         for book, share in zip(self.books, shares):
             why = unfit(book, start, share)
             if why is not None:

@@ -1,4 +1,4 @@
-"""Ranks, and the schedule of a slice for one frame (7.2)."""
+"""Ranks flows, and schedules a slice for one frame (7.2)."""
 
 from .coverage import met
 from .encodings import GRANT_INTERVAL, GRANT_SIZE, GRANTS, POLLING_INTERVAL, PRIORITY, SCHEDULING
@@ -16,7 +16,7 @@ def rank_of(policy, step, priority, age, backlog):
 
 
 def interval_of(params, plant):
-    """The frames from one grant or poll to the next, or None for a best-effort flow."""
+    """Returns the frames from one grant or poll to the next, or None for a best-effort flow."""
     if params[SCHEDULING] == UNSOLICITED:
         return frames_of(params[GRANT_INTERVAL], plant.frame_us)
     if params[SCHEDULING] in POLLING:
@@ -30,7 +30,7 @@ def is_due(flow, frame, plant):
 
 
 def due_lengths(flow, plant):
-    """The lengths of what a due flow is given: each unsolicited grant, or one minislot to be polled in."""
+    """Returns the lengths of what a due flow is given: each unsolicited grant, or one minislot to be polled in."""
     if flow.active[SCHEDULING] == UNSOLICITED:
         return [minislots_of(flow.active[GRANT_SIZE], plant.bytes_per_minislot)] * flow.active[GRANTS]
     return [1]
@@ -41,7 +41,7 @@ def base_of(flow, plant):
 
 
 def in_order(flows, row, frame):
-    """The flows, those that go before others first: by greater rank, then by smaller SFID."""
+    """Returns the flows, those that go before others first: by greater rank, then by smaller SFID."""
     def place(flow):
         rank = rank_of(row.policy, row.step, flow.active[PRIORITY], frame - flow.since, flow.backlog)
         return -rank, flow.sfid
@@ -49,7 +49,7 @@ def in_order(flows, row, frame):
 
 
 def grants_of(asking, due, length, plant):
-    """The grant of each asking flow by SFID: its base, and of the room what those before it leave, up to what it asks."""
+    """Returns the grant of each asking flow by SFID: its base, and of the room what those before it leave, up to what it asks."""
     room = length - sum(sum(due_lengths(flow, plant)) for flow in due) - sum(base_of(flow, plant) for flow in asking)
     grants = {}
     for flow in asking:
@@ -65,7 +65,7 @@ def grant_code(length, plant):
 
 
 def schedule(flows, row, frame, start, length, plant):
-    """The spans (SID, IUC, start, length) of a frame's slice, the SIDs pending, and the grants by SFID."""
+    """Returns the spans (SID, IUC, start, length) of a frame's slice, the SIDs pending, and the grants by SFID."""
     active = sorted((flow for flow in flows if flow.active is not None), key=lambda flow: flow.sfid)
     due = [flow for flow in active if is_due(flow, frame, plant)]
     asking = in_order([flow for flow in active if flow.backlog > 0], row, frame)

@@ -1,4 +1,4 @@
-"""Parameter sets: what a flow may ask for, what that needs, and when one is within another."""
+"""Judges parameter sets: what a flow may request, what that needs, and when one is within another."""
 
 from .coverage import MetFault, met
 from .encodings import (BURST, CLASS_NAME, GRANT_INTERVAL, GRANT_JITTER, GRANT_SIZE, GRANTS, POLICY, POLL_JITTER,
@@ -28,7 +28,7 @@ class NoSet(MetFault):
 
 
 def overridden(fields, classes):
-    """The encoding's own fields, and of the subtypes 7 to 22 that it does not state those of the class that it names."""
+    """Returns the encoding's own fields, and of the subtypes 7 to 22 that it does not state those of the class that it names."""
     if CLASS_NAME not in fields:
         return fields
     of_class = {subtype: value for subtype, value in classes[fields[CLASS_NAME]].items() if 7 <= subtype <= 22}
@@ -36,7 +36,7 @@ def overridden(fields, classes):
 
 
 def parameter_set(fields, frame_us):
-    """The parameter set that an encoding asks for: its scheduling type and the subtypes that this kind keeps; else NoSet."""
+    """Returns the parameter set that an encoding requests: its scheduling type and the subtypes that this kind keeps. Raises NoSet if it has none."""
     scheduling = fields.get(SCHEDULING, BEST_EFFORT)
     for subtype in REQUIRED.get(scheduling, ()):
         if subtype not in fields:
@@ -91,12 +91,12 @@ def need_of(params, plant):
 
 
 def rate_is_greater(one, other):
-    """Of Maximum Sustained Traffic Rates: 0 means no limit."""
+    """Tests whether one Maximum Sustained Traffic Rate is above another. 0 means no limit."""
     return other != 0 and (one == 0 or one > other)
 
 
 def first_failing(one, other):
-    """The subtype by which one set is not within another, or None where it is within."""
+    """Returns the subtype by which one set is not within another, or None if it is within."""
     if one is None:
         return None
     if other is None or one[SCHEDULING] != other[SCHEDULING]:

@@ -1,4 +1,4 @@
-"""The word `trace`: of each message, the check that decided it. What else the program says of a step is not fixed."""
+"""Runs the command `trace`: of each message, the check that decided it. The other lines of the program are not compared."""
 
 import re
 from collections import Counter
@@ -16,7 +16,7 @@ NAMES = (
 
 
 def traced(data):
-    """The exit status of `trace`, and the lines that are fixed: those of checks, and that of a fault."""
+    """Returns the exit status of `trace`, and the lines that are fixed: those of checks, and that of a fault."""
     try:
         plant, script = judged_plant(text_of(data))
         steps = judged_script(plant, script)
@@ -35,14 +35,14 @@ def traced(data):
 def decided(core, step):
     """Does a step, and answers the check that decided it, if one did."""
     before = Counter(coverage.COUNTS)
-    told = core.step(*step)
-    if any(line.startswith("S ") and line.split(" ")[2] in UNREAD for line in told):
+    lines = core.step(*step)
+    if any(line.startswith("S ") and line.split(" ")[2] in UNREAD for line in lines):
         return [0]
     found = [re.fullmatch("(?:DSA|DSC|DSD) check ([0-9]+)(?:: .*)?", what) for what in coverage.COUNTS - before]
     return [int(check.group(1)) for check in found if check]
 
 
 def fixed(text):
-    """The lines of the program's text that are fixed."""
+    """Returns the lines of the program's text that are fixed."""
     lines = text.decode().splitlines(keepends=True)
     return "".join(line for line in lines if line.startswith(("  check ", "fault: "))).encode()

@@ -1,1 +1,1 @@
-"""What tools/plant_view shows: the lines of a run, their sums, the page, the picture."""
+"""Draws the output of a run: reads its lines, sums them, and makes the page or the picture of tools/plant_view."""

@@ -1,9 +1,9 @@
-"""Slices, budgets and what is committed of them, from the plant file; and from the script behind `---`, where there is one."""
+"""Finds slices, budgets and what is committed of them, from the plant file and from the script after `---`, if there is one."""
 
 from dataclasses import dataclass, field
 
-from reference.book import LAST_FRAME, StepRefused, all_committed, count_kept, next_frame
-from reference.program import Core, judged_plant, judged_script
+from tools.reference.book import LAST_FRAME, StepRefused, all_committed, count_kept, next_frame
+from tools.reference.program import Core, judged_plant, judged_script
 
 
 @dataclass
@@ -23,7 +23,7 @@ class Budgets:
     shares: dict = field(default_factory=dict)
 
     def at(self, name, frame):
-        """The share of an operator in a frame, or None."""
+        """Returns the share of an operator in a frame, or None."""
         found = None
         for start, share in self.shares.get(name, []):
             if start > frame:
@@ -61,7 +61,7 @@ class Ledger(Core):
 
 
 def read_budgets(text):
-    """The budgets that an input of `run` says; its Fault where it is none."""
+    """Reads the budgets of an input of `run`, or raises its Fault."""
     plant, script = judged_plant(text)
     budgets = Budgets(plant, {modem: row.name for row in plant.rows for modem in row.modems})
     ledger = Ledger(plant)

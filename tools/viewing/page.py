@@ -1,39 +1,77 @@
-"""The page: one file with all that it needs."""
+"""Makes the page: one file with all that it needs."""
 
 import html
 import json
 import pathlib
+import re
 
-from message_words import CODES
-from reference.messages import RESPONSE
+from tools.messages.words import CODES
+from tools.reference.messages import RESPONSE
 
-from .colours import colours, ink_on
-from .said import frame_of, part_of
+from .axis import slice_changes, time_of
+from .run_output import frame_of, part_of
+from .styles import MARKS, PATTERNS, TILE, Style, styles, swatch
 
 TEMPLATE = pathlib.Path(__file__).with_name("page.html")
 DIGITS = "0123456789abcdefghijklmnopqrstuvwxyz"
-# Points of a course, and rows of the table of modems, at the most.
-POINTS, MODEMS = 240, 200
+# At most so many points of a course, rows of the table of modems, and buttons of slice changes.
+POINTS, MODEMS, CHANGES = 240, 200, 24
 
 
-def page(title, said, sums, budgets):
-    inks = colours(len(said.names))
-    fault = f'<p class="fault">The run ended with {html.escape(said.fault)}.</p>' if said.fault else ""
+def page(title, run, sums, budgets, highlighted=None):
+    """Returns the page. The operator `highlighted` is highlighted at first."""
+    of_names = styles(len(run.names))
+    fault = f'<p class="fault">The run ended with {html.escape(run.fault)}.</p>' if run.fault else ""
     parts = {
-        "title": html.escape(title), "summary": html.escape(summary(said)), "fault": fault,
-        "operators": operators_table(said, sums, budgets, inks), "replies": replies_table(sums), "causes": causes_table(sums, budgets),
-        "data": data_of(said, budgets, inks)}
-    text = TEMPLATE.read_text()
-    for key, value in parts.items():
-        text = text.replace("{{" + key + "}}", value)
-    return text
+        "title": html.escape(title), "summary": html.escape(summary(run)), "fault": fault, "changes": changes_list(run),
+        "choices": choices(run.names), "legend": legend(run.names, of_names), "keys": keys(of_names), "time": time_note(budgets),
+        "operators": operators_table(run, sums, budgets, of_names), "replies": replies_table(sums), "causes": causes_table(sums, budgets),
+        "data": data_of(run, budgets, of_names, highlighted)}
+    return re.sub(r"\{\{(\w+)\}\}", lambda found: parts[found[1]], TEMPLATE.read_text())
 
 
-def summary(said):
-    numbers = said.numbers()
+def summary(run):
+    numbers = run.numbers()
     frames = f"{counted(len(numbers), 'frame')}, {numbers[0]} to {numbers[-1]}" if numbers else "no frame"
-    return (f"{frames}; {counted(len(said.names), 'operator')}; {counted(said.maps, 'MAP')}; {counted(len(said.replies), 'reply', 'replies')}; "
-            f"{counted(len(said.causes), 'silent cause')}")
+    return (f"{frames}; {counted(len(run.names), 'operator')}; {counted(run.maps, 'MAP')}; {counted(len(run.replies), 'reply', 'replies')}; "
+            f"{counted(len(run.causes), 'drop reason')}")
+
+
+def time_note(budgets):
+    if budgets.plant is None:
+        return "<p>The length of a frame is in the plant file: with --plant the frames have times.</p>"
+    return f"<p>A frame has {budgets.plant.frame_us:,} microseconds. Its time is its number times that.</p>"
+
+
+def changes_list(run):
+    """Returns buttons that lead to the frames at which slices change, or nothing."""
+    changes = slice_changes(run)
+    if not changes:
+        return ""
+    buttons = " ".join(f'<button type="button" class="to" data-frame="{number}">{number}</button>' for number in changes[:CHANGES])
+    more = f" and {len(changes) - CHANGES:,} more" if len(changes) > CHANGES else ""
+    return f"<p>Slices change at frame {buttons}{more}.</p>"
+
+
+def choices(names):
+    return "".join(f"<option>{html.escape(name)}</option>" for name in names)
+
+
+def legend(names, of_names):
+    """Returns a button for each operator, with its style and its whole name."""
+    return "\n".join(f'<button type="button" class="operator" aria-pressed="false">{swatch(style)} {html.escape(name)}</button>'
+                     for name, style in zip(names, of_names))
+
+
+def keys(of_names):
+    """Returns what the drawings mean, in the style of the first operator."""
+    style = of_names[0] if of_names else Style("#888888", "plain")
+    stripes = f"repeating-linear-gradient(135deg, {style.colour} 0 4px, {style.ink} 4px 5px)"
+    kinds = ((f"background: {style.colour}", "grant, with its SID"), (f"background: {stripes}", "poll"),
+             (f"background: {style.colour}; opacity: .2", "idle"), ("border-bottom: 4px solid var(--wait); border-radius: 0", "a grant is pending"),
+             ("background: var(--head)", "head: every modem may send a request"),
+             ("height: 0; border-top: 2px dashed var(--ink); border-radius: 0", "slices change"))
+    return "\n".join(f'<span class="key"><i style="{how}"></i>{what}</span>' for how, what in kinds)
 
 
 def counted(number, one, many=None):
@@ -42,20 +80,28 @@ def counted(number, one, many=None):
 
 # The frames, as the page's script reads them
 
-def data_of(said, budgets, inks):
+def data_of(run, budgets, of_names, highlighted):
     places, rows = {}, []
-    for number in said.numbers():
-        indices = [index_of(places, said.frames[name].get(number)) for name in said.names]
-        rows.append(f"{number} " + " ".join(indices))
-    operators = [{"name": name, "colour": colour, "ink": ink_on(colour)} for name, colour in zip(said.names, inks)]
-    minislots, head = frame_of(said, budgets)
-    data = {"minislots": minislots, "head": head, "operators": operators, "parts": list(places),
-            "rows": "\n".join(rows)}
+    for number in run.numbers():
+        indices = [index_of(places, run.frames[name].get(number)) for name in run.names]
+        time = time_of(number, budgets.plant.frame_us) if budgets.plant else "-"
+        rows.append(f"{number} {time} " + " ".join(indices))
+    operators = [{"name": name, "colour": style.colour, "ink": style.ink, "pattern": style.pattern, "least": least_slice(run.frames[name])}
+                 for name, style in zip(run.names, of_names)]
+    minislots, head = frame_of(run, budgets)
+    data = {"minislots": minislots, "head": head, "operators": operators, "patterns": PATTERNS, "tile": TILE, "marks": MARKS,
+            "highlighted": run.names.index(highlighted) if highlighted in run.names else -1,
+            "changes": slice_changes(run), "parts": list(places), "rows": "\n".join(rows)}
     return json.dumps(data, separators=(",", ":")).replace("<", "\\u003c")
 
 
+def least_slice(frames):
+    """Returns the length of the shortest slice in the frames of an operator."""
+    return min(part_of(elements).length for elements in set(frames.values()))
+
+
 def index_of(places, elements):
-    """Where a part stands among all that differ, to base 36."""
+    """Returns the place of a part among all that differ, to base 36."""
     if elements is None:
         return "-"
     return base_36(places.setdefault(packed(elements), len(places)))
@@ -78,7 +124,7 @@ def base_36(number):
 # The tables
 
 def table(heads, rows):
-    """A table whose texts stand left and whose numbers stand right."""
+    """Returns a table with texts on the left of their cells and numbers on the right."""
     lines = ["<tr>" + "".join(f"<th{' class=text' if is_text else ''}>{name}</th>" for name, is_text in heads) + "</tr>"]
     for row in rows:
         cells = (f"<td{' class=text' if is_text else ''}>{cell}</td>" for cell, (_, is_text) in zip(row, heads))
@@ -90,27 +136,27 @@ def percent(part, whole):
     return f"{100 * part / whole:.0f} %" if whole else "–"
 
 
-def operators_table(said, sums, budgets, inks):
+def operators_table(run, sums, budgets, of_names):
     heads = [("operator", True), ("slice", True), ("budget", False), ("committed", False), ("of the budget", False), ("given", False),
-             ("of the slice", False), ("in the course of the frames", True), ("polls", False), ("short grants", False), ("long grants", False),
+             ("of the slice", False), ("use by frame", True), ("polls", False), ("short grants", False), ("long grants", False),
              ("frames with pending", False)]
     rows = []
-    for of, colour in zip(sums.operators, inks):
+    for of, style in zip(sums.operators, of_names):
         last = max(of.filled)
         share = budgets.at(of.name, last)
-        part = part_of(said.frames[of.name][last])
+        part = part_of(run.frames[of.name][last])
         known = share is not None and share.committed is not None
-        rows.append([f'<i class="swatch" style="background: {colour}"></i>{html.escape(of.name)}', f"{part.start} to {part.start + part.length - 1}",
+        rows.append([f"{swatch(style)} {html.escape(of.name)}", f"{part.start} to {part.start + part.length - 1}",
                      share.budget if share else "–", share.committed if known else "–", percent(share.committed, share.budget) if known else "–",
-                     f"{of.given:,}", percent(of.given, of.of_slice), course(of, budgets, colour), f"{of.polls:,}", f"{of.short_grants:,}",
+                     f"{of.given:,}", percent(of.given, of.of_slice), course(of, budgets, style.colour), f"{of.polls:,}", f"{of.short_grants:,}",
                      f"{of.long_grants:,}", f"{of.pending_frames:,}"])
-    note = "Slice, budget and committed are those of the last frame; given are the minislots of grants and polls in all frames. " \
-           "The course: the area is how much of the slice was given" + (", the line how much of the budget was committed." if budgets.plant else ".")
+    note = "Slice, budget and committed are those of the last frame. Given are the minislots of grants and polls in all frames. " \
+           "In the drawing, the area is how much of the slice was given" + (", and the line how much of the budget was committed." if budgets.plant else ".")
     return f"<p>{note}</p>" + table(heads, rows)
 
 
 def course(of, budgets, colour):
-    """How full an operator's slice was, frame by frame, and its budget, as a small drawing; where there are many frames, means of some."""
+    """Returns a small drawing of how full an operator's slice and its budget were, frame by frame; if there are many frames, means of some."""
     numbers = sorted(of.filled)
     size = max(1, -(-len(numbers) // POINTS))
     some = [numbers[place:place + size] for place in range(0, len(numbers), size)]
@@ -123,7 +169,7 @@ def course(of, budgets, colour):
 
 
 def points(shares):
-    """Each share as a step that is as wide as its frames."""
+    """Returns each share as a step that is as wide as its frames."""
     wide = 240 / len(shares)
     return " ".join(f"{place * wide:.1f},{25 - 24 * share:.1f} {(place + 1) * wide:.1f},{25 - 24 * share:.1f}" for place, share in enumerate(shares))
 
@@ -144,7 +190,7 @@ def replies_table(sums):
 def causes_table(sums, budgets):
     names = sorted({cause for _, cause in sums.causes})
     if not names:
-        return "<p>No silent cause.</p>"
+        return "<p>No drop reason.</p>"
     by_modem = {}
     for (modem, cause), count in sums.causes.items():
         by_modem.setdefault(modem, {})[cause] = count

@@ -1,16 +1,16 @@
-"""Counts of a run: by operator, by frame, by modem."""
+"""Counts what a run printed: by operator, by frame, by modem."""
 
 from collections import Counter
 from dataclasses import dataclass, field
 
-from .said import part_of
+from .run_output import part_of
 
 REQUEST, SHORT_GRANT = 1, 5
 
 
 @dataclass
 class OperatorSums:
-    """What an operator's frames come to. `given` and `of_slice` are minislots; `filled` has both by frame."""
+    """Sums of an operator's frames. `given` and `of_slice` are minislots; `filled` has both by frame."""
     name: str
     frames: int = 0
     of_slice: int = 0
@@ -35,8 +35,8 @@ class Sums:
     causes: Counter
 
 
-def sums_of(said):
-    return Sums([sums_of_operator(name, said.frames[name]) for name in said.names], Counter(said.replies), Counter(said.causes))
+def sums_of(run):
+    return Sums([sums_of_operator(name, run.frames[name]) for name in run.names], Counter(run.replies), Counter(run.causes))
 
 
 def sums_of_operator(name, frames):
@@ -56,8 +56,8 @@ def sums_of_operator(name, frames):
     return sums
 
 
-def csv_lines(said, sums, budgets):
-    """All numbers, one a line, with what they are of."""
+def csv_lines(run, sums, budgets):
+    """Yields all numbers, one a line, with what they are of."""
     yield "table,frame,operator,modem,what,number"
     for of in sums.operators:
         for what in ("frames", "of_slice", "given", "polls", "short_grants", "long_grants", "pending_frames", "most_pending"):
@@ -71,7 +71,7 @@ def csv_lines(said, sums, budgets):
         yield f"reply,,{budgets.operator_of.get(modem, '')},{modem},{response} {code},{count}"
     for (modem, cause), count in sorted(sums.causes.items()):
         yield f"silent,,{budgets.operator_of.get(modem, '')},{modem},{cause},{count}"
-    yield f"run,,,,maps,{said.maps}"
+    yield f"run,,,,maps,{run.maps}"
 
 
 def share_lines(name, number, share):

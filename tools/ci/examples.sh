@@ -1,0 +1,15 @@
+#!/bin/bash
+# Checks every output in examples/: the second implementation prints for each input what the file next to it has, and so does the
+# program, if it is built. Each README shows what is printed. A's lines next to a flood of B are A's lines alone, and the picture
+# shows these two runs.
+# Usage: tools/ci/examples.sh [PROGRAM]     Needs bash and python3.
+set -euo pipefail
+
+top=$(cd "$(dirname "$(readlink -f "$0")")/../.." && pwd)
+PYTHONPATH=$top python3 -P -m tools.ci.check_examples "$@"
+
+isolation=$top/examples/isolation
+of_a() { grep -E '^([RS] 02000000000[12]|F A) ' "$1"; }
+cmp <(of_a "$isolation/run_flood.out") <(of_a "$isolation/run_alone.out")
+"$top/tools/plant_view" --plant "$isolation/run_flood.txt" --svg "A next to a flood of B=$isolation/run_flood.out" \
+    "A alone=$isolation/run_alone.out" | cmp - "$top/docs/isolation.svg"

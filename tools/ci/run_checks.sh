@@ -1,0 +1,77 @@
+#!/bin/bash
+# Runs all checks of the repository but the proofs. Each prints what is wrong and ends this script.
+#
+#   - clauses, documents, lists of crates, doc comments and examples
+#   - the cases of tests/, by the second implementation, and by the program if it is built
+#   - the generator: a seed gives the same case twice, and tools/compare/handwritten_inputs reaches each check of the rules
+#   - the program, if it is built: compared with the second implementation by each command, and the exit statuses and messages;
+#     served behind a socket if socat is installed; its captures read by tshark if that is installed
+#   - the tests of the tools (tools/ci/run_tests.sh)
+#
+# Usage: tools/ci/run_checks.sh     Needs bash and Python 3.11. Takes 2 minutes; with the program, socat and tshark a minute more.
+set -euo pipefail
+
+tools=$(cd "$(dirname "$(readlink -f "$0")")/.." && pwd)
+program=$tools/../crates/plant_program/out/plant_program
+work=$(mktemp -d)
+trap 'rm -rf "$work"' EXIT
+
+# Runs a command, and prints its output if it fails.
+quietly() {
+    "$@" >"$work/output" 2>&1 || { cat "$work/output" >&2; echo "failed: ${1#"$tools/"}" >&2; exit 1; }
+}
+
+# No clause has a line over 160 columns.
+"$tools/ci/clause_widths" --most 0 || { "$tools/ci/clause_widths" --list >&2; exit 1; }
+quietly "$tools/ci/check_prose"
+quietly "$tools/ci/crate_lists" --check
+quietly "$tools/ci/doc_comments"
+quietly "$tools/ci/examples.sh"
+quietly "$tools/ci/cases"
+if "$tools/ci/cases" "$(type -P true)" >"$work/output"; then
+    echo 'tools/ci/cases does not notice a program that prints nothing' >&2
+    exit 1
+fi
+[ "$(python3 "$tools/reference" check <"$tools/../examples/plant_p2.toml")" = ok ]
+
+for seed in 1 71 1011; do
+    "$tools/compare/generate_case" "$seed" >"$work/once"
+    PYTHONHASHSEED=$seed "$tools/compare/generate_case" "$seed" | cmp - "$work/once"
+done
+"$tools/compare/handwritten_inputs" --met >"$work/met"
+for check in DSA\ {1..9} DSA\ {13,14,15,17,18,19,20,21,22} DSC\ {1..16} DSC\ {19..22} DSD\ {1,2,3,10,11,12,22}; do
+    grep -q " ${check/ / check }\(:\|$\)" "$work/met" || { echo "tools/compare/handwritten_inputs does not reach $check" >&2; exit 1; }
+done
+echo 'the second implementation agrees with the documents, and the generator with itself'
+
+if [ -x "$program" ]; then
+    "$tools/compare/generated_cases" 0 50
+    "$tools/compare/generated_cases" --threads 0 50
+    "$tools/compare/generated_cases" --capture 0 50
+    "$tools/compare/generated_cases" --trace 0 50
+    quietly "$tools/compare/threads_as_run"
+    quietly "$tools/compare/handwritten_inputs" --compare
+    quietly "$tools/compare/odd_spellings"
+    quietly "$tools/ci/statuses.sh"
+    quietly "$tools/compare/serve_as_run"
+    quietly "$tools/measure/latency" --fast "$program" 2000
+    quietly "$tools/ci/reasons"
+    quietly "$tools/ci/fault_lists" 0 25
+    echo 'the program agrees with the second implementation'
+    if command -v socat >/dev/null; then
+        quietly "$tools/compare/serve_behind_socat"
+        echo 'a plant behind a socket, also one restored from its record, answers as run'
+    else
+        echo 'socat is not installed: no plant was served behind a socket'
+    fi
+    if command -v tshark >/dev/null; then
+        quietly "$tools/compare/captures_in_tshark"
+        echo 'tshark reads the captures of the examples as run prints them'
+    else
+        echo 'tshark is not installed: nothing has read the captures'
+    fi
+else
+    echo 'the program is not built: it was not compared'
+fi
+
+"$tools/ci/run_tests.sh"

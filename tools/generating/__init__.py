@@ -1,1 +1,0 @@
-"""Generated cases: plants, scripts and messages, by seed."""

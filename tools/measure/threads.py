@@ -1,0 +1,49 @@
+"""Measures the seconds of `threads` and of `run`, five runs each in turn, and prints a table.
+
+    tools/measure/threads [--program PROGRAM] [INPUT ..]
+
+Without INPUT it measures 20,000 lines on 8 operators, and 110 ticks of one operator with 1,024 flows.
+"""
+
+import argparse
+import pathlib
+import statistics
+import time
+
+from tools.compare.program import PROGRAM, program_answer
+from tools.measure.large_script import of_flows, of_operators
+
+RUNS = 5
+
+
+def seconds(program, word, data):
+    began = time.perf_counter()
+    program_answer(program, [word], data)
+    return time.perf_counter() - began
+
+
+def inputs(paths):
+    """Returns each input with its name."""
+    if paths:
+        return [(path.stem, path.read_bytes()) for path in paths]
+    return [
+        ("20,000 lines, 8 operators", of_operators().encode()),
+        ("110 ticks, 1,024 flows", of_flows(110).encode()),
+    ]
+
+
+def main():
+    parser = argparse.ArgumentParser("threads", description=__doc__)
+    parser.add_argument("--program", default=PROGRAM)
+    parser.add_argument("inputs", nargs="*", type=pathlib.Path)
+    options = parser.parse_args()
+    print("| input | `run`, seconds | `threads`, seconds | times |")
+    print("|---|---|---|---|")
+    for name, data in inputs(options.inputs):
+        turns = [(seconds(options.program, "run", data), seconds(options.program, "threads", data)) for _ in range(RUNS)]
+        run, threads = (statistics.median(turn[kind] for turn in turns) for kind in (0, 1))
+        print(f"| {name} | {run:.3f} | {threads:.3f} | {threads / run:.1f} |")
+
+
+if __name__ == "__main__":
+    main()

@@ -1,0 +1,1 @@
+"""Translates messages between words and bytes."""

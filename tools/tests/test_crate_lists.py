@@ -1,0 +1,112 @@
+"""Tests tools/ci/crate_lists: what it writes into a small repository, and that it notices each kind of difference."""
+
+import pathlib
+import subprocess
+import tempfile
+import unittest
+
+from tools import ROOT
+
+CRATES = """# NAME: what it depends on
+# Part: Tests
+trials: low
+# Part: Low ones
+low:
+# Part: High ones
+middle: low toml
+high: low middle
+"""
+SOURCES = {
+    "low": ("lib", "//! The lowest crate. It has more to say.\nmod a;\n"), "trials": ("lib", "//! Tests of the lowest crate.\n"),
+    "middle": ("lib", "//! A crate with a sentence that\n//! goes on.\n"), "high": ("main", "//! The program.\n"),
+}  # fmt: skip
+PAGE = """# Page
+
+<!-- generated: {} -->
+old
+<!-- end -->
+
+## low
+
+## `middle`
+
+After.
+"""
+
+
+class Lists(unittest.TestCase):
+    def setUp(self):
+        folder = tempfile.TemporaryDirectory()
+        self.addCleanup(folder.cleanup)
+        self.root = pathlib.Path(folder.name)
+        (self.root / "docs").mkdir()
+        (self.root / "crates.txt").write_text(CRATES)
+        for name, (file, text) in SOURCES.items():
+            (self.root / "crates" / name / "src").mkdir(parents=True)
+            (self.root / "crates" / name / "src" / (file + ".rt")).write_text(text)
+        (self.root / "crates/middle/specs").mkdir()
+
+    def run_tool(self, *options):
+        done = subprocess.run([ROOT / "tools/ci/crate_lists", "--root", self.root, *options], capture_output=True, text=True, check=False)
+        return done.returncode, done.stdout + done.stderr
+
+    def written(self, block):
+        """Returns what the tool writes between the marks of a block."""
+        page = self.root / "docs/PAGE.md"
+        page.write_text(PAGE.format(block))
+        self.assertEqual(self.run_tool(), (0, ""))
+        self.assertEqual(self.run_tool("--check"), (0, ""))
+        before, rest = page.read_text().split(f"<!-- generated: {block} -->\n\n")
+        lines, after = rest.split("\n\n<!-- end -->\n")
+        self.assertEqual((before, after), tuple(PAGE.split("<!-- generated: {} -->\nold\n<!-- end -->\n")))
+        return lines
+
+    def test_crates(self):
+        self.assertEqual(self.written("crates"), "\n".join((
+            "**Low ones**", "", "- `low`: The lowest crate.", "",
+            "**High ones**", "", "- `middle`: A crate with a sentence that goes on. Uses `toml`.", "- `high`: The program.", "",
+            "**Tests**", "", "- `trials`: Tests of the lowest crate.",
+        )))  # fmt: skip
+
+    def test_graph_leaves_out_what_is_reached_through_another(self):
+        self.assertEqual(self.written("graph"), "```\n 3  high   → middle\n 2  trials → low\n    middle → low\n 1  low\n```")
+
+    def test_specs_names_crates_with_definitions(self):
+        self.assertEqual(self.written("specs"), "- High ones: [middle](#middle)")
+
+    def test_libraries(self):
+        self.assertEqual(self.written("libraries"), "`toml`")
+
+    def test_a_crate_without_a_chapter(self):
+        (self.root / "docs/PAGE.md").write_text(PAGE.format("chapters"))
+        self.assertEqual(self.run_tool("--check"), (1, "no chapter of high\n"))
+        (self.root / "docs/PAGE.md").write_text(PAGE.format("chapters") + "\n### high\n")
+        self.assertEqual(self.run_tool(), (0, ""))
+        self.assertIn("- Low ones: [low](#low)\n- High ones: [middle](#middle), [high](#high)\n", (self.root / "docs/PAGE.md").read_text())
+
+    def test_check_changes_nothing_and_notices(self):
+        page = self.root / "docs/PAGE.md"
+        page.write_text(PAGE.format("crates"))
+        self.run_tool()
+        text = page.read_text()
+        (self.root / "crates/high/src/main.rt").write_text("//! Another program.\n")
+        status, output = self.run_tool("--check")
+        self.assertEqual(status, 1)
+        self.assertIn("-- `high`: The program.\n+- `high`: Another program.\n", output)
+        self.assertEqual(page.read_text(), text)
+
+    def test_a_moved_dependency(self):
+        self.written("graph")
+        (self.root / "crates.txt").write_text(CRATES.replace("high: low middle", "high: low"))
+        self.assertEqual(self.run_tool("--check")[0], 1)
+
+    def test_faults(self):
+        for file, text, message in (
+            ("crates.txt", "low:\n", "crates.txt: low has no part\n"),
+            ("crates/low/src/lib.rt", "mod a;\n", "crates/low: the source has no doc comment `//!` with a sentence\n"),
+            ("docs/PAGE.md", PAGE.format("other"), "there is no block other: it is one of crates, graph, chapters, specs, libraries\n"),
+        ):
+            self.setUp()
+            (self.root / "docs/PAGE.md").write_text(PAGE.format("crates"))
+            (self.root / file).write_text(text)
+            self.assertEqual(self.run_tool("--check"), (1, message))

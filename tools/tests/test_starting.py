@@ -1,0 +1,340 @@
+"""Tests the two commands at the top, plant_script and prove, and how a service starts. A small script takes the place of rt and prints what
+rt prints, so nothing is proved or compiled here. Then each edit of the scripts in EDITS must fail a test.
+"""
+
+import io
+import os
+import pathlib
+import shutil
+import subprocess
+import sys
+import tempfile
+import time
+import unittest
+
+from tools import ROOT
+
+SCRIPTS = {name: (ROOT / name).read_text() for name in ("plant_script", "prove", "examples/serving/serve_plant.sh")}
+COMMANDS = "sh bash env readlink dirname find head tail awk mktemp rm cat flock cp mkdir".split()
+PROGRAM = "crates/plant_program/out/plant_program"
+TIMEOUT = 10  # seconds
+
+# Takes the place of rt. Files next to it say what it does: `status` the program's status, `silent` that the run gave no answer,
+# `unproved` a crate that is not proved, `edits` a source that changes while rt is at work.
+RT = r"""#!/bin/sh
+here=$(dirname -- "$(readlink -f -- "$0")")
+for word; do printf '%s|' "$word"; done >>"$here/calls"
+echo "${PWD##*/}" >>"$here/calls"
+case "$1 $2" in
+'try --')
+    shift 2
+    [ ! -e "$here/silent" ] || { echo 'checked: no-answer: 1048577 bytes of output'; echo 'run=no-answer runners=0 proved=no'; exit 6; } >&2
+    printf 'words:'; printf ' <%s>' "$@"; echo
+    cat
+    echo 'checked: a line of the program that looks like one of rt' >&2
+    echo 'a reason of the program' >&2
+    status=$(cat "$here/status")
+    { echo "checked: ended status=$status"; echo 'races: not looked for'; echo "run=ended status=$status runners=1 races=unchecked proved=no"; } >&2
+    exit "$status" ;;
+'all check')
+    [ ! -e "$here/edits" ] || echo >>"$(cat "$here/edits")"
+    echo 'rt: waiting for another rt to finish in lists'
+    printf '== lists\nfn lists::new: proved\nlogic=proved tests=0 functions=3 statements=trusted\n'
+    if [ -e "$here/unproved" ]; then
+        printf '== tlv24\nfn tlv24::read: not proved\nlogic=not-proved functions=9\n== plant_program\n== summary\nlists: ok\ntlv24: failed (1)\n'
+        printf 'plant_program: not run, since tlv24 failed\n(1: not proved or not passed)\n1 of 3 crates ok\n'
+        exit 1
+    fi
+    printf '== tlv24\nlogic=proved functions=40 statements=trusted\n== plant_program\nlogic=proved functions=2 statements=trusted\n'
+    printf '== summary\nlists: ok\ntlv24: ok\nplant_program: ok\n3 of 3 crates ok\n' ;;
+'run --jobs')
+    echo 'logic=proved functions=2 target=x86_64 statements=trusted' >&2
+    mkdir -p out
+    cp "$here/program" out/plant_program ;;
+*) exit 99 ;;
+esac
+"""
+# Takes the place of the proved program.
+PROVED = """#!/bin/sh
+printf 'proved:'; printf ' <%s>' "$@"; echo
+cat
+echo 'a proved reason' >&2
+exit 3
+"""
+
+
+class Place:
+    """A small repository with the scripts, in a folder whose name has a blank, and a path of commands on which rt may be."""
+
+    def __init__(self, folder, has_rt=True):
+        self.top, self.bin, self.rt, self.temporary = (pathlib.Path(folder) / name for name in ("a plant", "bin", "rt", "temporary"))
+        for folder in (self.top / "crates/plant_program/src", self.top / "crates/tlv24/src", self.top / "crates/lists/src", self.bin, self.rt, self.temporary):
+            folder.mkdir(parents=True)
+        for name, text in SCRIPTS.items():
+            self.write(name, text).chmod(0o755)
+        self.write("crates.txt", "# NAME: what it uses\nlists:\ntlv24: lists\nplant_program: tlv24\n")
+        for crate in ("lists", "tlv24"):
+            self.write(f"crates/{crate}/src/lib.rt", "")
+        self.write("crates/plant_program/src/main.rt", "")
+        for command in COMMANDS:
+            (self.bin / command).symlink_to(shutil.which(command))
+        (self.bin / "python3").symlink_to(sys.executable)
+        for name, text in (("rt", RT), ("program", PROVED), ("status", "0"), ("calls", "")):
+            (self.rt / name).write_text(text)
+        (self.rt / "rt").chmod(0o755)
+        (self.rt / "program").chmod(0o755)
+        if has_rt:
+            (self.bin / "rt").symlink_to(self.rt / "rt")
+
+    def write(self, name, text):
+        file = self.top / name
+        file.parent.mkdir(parents=True, exist_ok=True)
+        file.write_text(text)
+        return file
+
+    def build(self):
+        """Puts the proved program there, newer than each source and older than what is written from now on."""
+        program, now = self.write(PROGRAM, PROVED), time.time()
+        program.chmod(0o755)
+        os.utime(program, (now - 500, now - 500))
+        for file in [self.top / "crates.txt", *self.top.glob("crates/*/src/*")]:
+            os.utime(file, (now - 1000, now - 1000))
+
+    def calls(self):
+        return (self.rt / "calls").read_text().splitlines()
+
+    def run(self, *words, given=b"", folder=None, **environment):
+        """Runs a script of the repository, and returns its status, standard output and standard error."""
+        environment = {"PATH": str(self.bin), "TMPDIR": str(self.temporary), **environment}
+        how = {"cwd": folder or self.top, "env": environment, "capture_output": True, "timeout": TIMEOUT, "check": False}
+        how |= {"input": given} if isinstance(given, bytes) else {"stdin": given}
+        done = subprocess.run([str(self.top / words[0]), *words[1:]], **how)
+        return done.returncode, done.stdout.decode(), done.stderr.decode()
+
+
+class Starting(unittest.TestCase):
+    def setUp(self):
+        folder = tempfile.TemporaryDirectory()
+        self.addCleanup(folder.cleanup)
+        self.folder = pathlib.Path(folder.name)
+
+    def place(self, **how):
+        return Place(self.folder / str(len(list(self.folder.iterdir()))), **how)
+
+    def one_line(self, text, *parts):
+        """Checks that the text is one line with all these parts."""
+        self.assertEqual(len(text.splitlines()), 1, text)
+        for part in parts:
+            self.assertIn(part, text)
+
+
+class Unproved(Starting):
+    def test_output_errors_and_status_of_the_program_are_passed_on(self):
+        place = self.place()
+        for status in range(8):
+            (place.rt / "status").write_text(str(status))
+            got, output, errors = place.run("plant_script", "history", "A B", given=b"one\n\ntwo")
+            message, *reasons = errors.splitlines()
+            self.assertEqual(got, status)
+            self.assertEqual(output, "words: <history> <A B>\none\n\ntwo")
+            self.one_line(message, "plant_script:", "not of a proved program", "two minutes", "./prove")
+            self.assertEqual(reasons, ["checked: a line of the program that looks like one of rt", "a reason of the program"])
+
+    def test_nothing_else_is_started_and_nothing_is_left(self):
+        place = self.place()
+        before = sorted(place.top.rglob("*"))
+        place.run("plant_script", "run")
+        self.assertEqual(place.calls(), ["try|--|run|plant_program"])
+        self.assertEqual(sorted(place.top.rglob("*")), before)
+        self.assertEqual(list(place.temporary.iterdir()), [])
+
+    def test_a_run_with_no_answer_has_a_status_that_the_program_has_not(self):
+        place = self.place()
+        (place.rt / "silent").write_text("")
+        status, output, errors = place.run("plant_script", "run")
+        self.assertEqual((status, output), (125, ""))
+        self.assertIn("checked: no-answer: 1048577 bytes of output", errors)
+        self.assertIn("./prove", errors.splitlines()[-1])
+
+    def test_help_waits_for_no_input(self):
+        place = self.place()
+        reading, writing = os.pipe()
+        for words in (["--help"], ["run", "-h"], ["help"], ["serve", "--help"], []):
+            self.assertEqual(place.run("plant_script", *words, given=reading)[0], 0)
+        os.close(reading)
+        os.close(writing)
+
+    def test_no_more_of_an_input_is_read_than_the_program_takes(self):
+        place = self.place()
+        with open("/dev/zero", "rb") as endless:
+            self.assertEqual(len(place.run("plant_script", "one", given=endless)[1]), len("words: <one>\n") + 1048577)
+
+    def test_serve_is_refused(self):
+        place = self.place()
+        status, output, errors = place.run("plant_script", "serve")
+        self.assertEqual((status, output, place.calls()), (126, "", []))
+        self.one_line(errors, "serve", "not built", "./prove")
+
+    def test_a_service_is_refused(self):
+        place = self.place()
+        plant = place.write("plant.toml", "")
+        for environment in ({}, {"PLANT_SCRIPT": str(place.top / "plant_script")}):
+            room = place.top / f"room{len(environment)}"
+            room.mkdir()
+            status, output, errors = place.run("examples/serving/serve_plant.sh", str(plant), str(room), **environment)
+            self.assertEqual((status, output, place.calls()), (126, "", []), errors)
+            self.assertIn("not built", errors)
+            self.assertIn("prove", errors)
+
+    def test_without_rt_it_says_what_to_do(self):
+        place = self.place(has_rt=False)
+        status, output, errors = place.run("plant_script", "run")
+        self.assertEqual((status, output), (127, ""))
+        for part in ("no command rt", "./prove", "README.md", "tools/reference run"):
+            self.assertIn(part, errors)
+
+
+class Proved(Starting):
+    def test_the_proved_program_runs(self):
+        place = self.place()
+        place.build()
+        (self.folder / "link").symlink_to(place.top / "plant_script")
+        place.write("crates/plant_program/out/rlib/lib.rt", "")
+        for folder in (place.top, self.folder):
+            self.assertEqual(place.run("plant_script", "run", "a b", given=b"in", folder=folder), (3, "proved: <run> <a b>\nin", "a proved reason\n"))
+        done = subprocess.run([self.folder / "link", "one"], input=b"", capture_output=True, check=False)
+        self.assertEqual((done.returncode, done.stdout), (3, b"proved: <one>\n"))
+        self.assertEqual(place.calls(), [])
+
+    def test_a_newer_source_is_named_and_the_program_runs(self):
+        for source in ("crates/tlv24/src/lib.rt", "crates/lists/specs/Listed.antt", "crates.txt"):
+            place = self.place()
+            place.build()
+            place.write(source, "lists:")
+            status, output, errors = place.run("plant_script", "serve", given=b"in")
+            message, reason = errors.splitlines()
+            self.assertEqual((status, output, reason, place.calls()), (3, "proved: <serve>\nin", "a proved reason", []))
+            self.one_line(message, source, "newer", "./prove")
+
+    def test_elsewhere_the_whole_path_of_prove_is_named(self):
+        place = self.place()
+        self.assertIn(f"{place.top.resolve()}/prove", place.run("plant_script", "run", folder=self.folder)[2])
+
+
+class Proving(Starting):
+    def test_crates_then_the_program_are_proved(self):
+        place = self.place()
+        status, output, errors = place.run("prove", "--jobs", "3")
+        self.assertEqual((status, errors), (0, ""))
+        self.assertEqual(place.calls(), ["all|check|--jobs|3|a plant", "run|--jobs|1|--|one|plant_program"])
+        lines = output.splitlines()
+        self.one_line(lines[0], "3 crates", "3 at a time")
+        self.one_line(lines[1], "rt: waiting for another rt to finish in lists")
+        for at, crate in enumerate(("lists", "tlv24", "plant_program"), 1):
+            self.one_line(lines[at + 1], f"{at} of 3 crates", "0 min", crate)
+        self.assertIn("rt says: 3 of 3 crates ok", output)
+        self.assertIn("proved in this run: 45", output)
+        self.assertIn("logic=proved functions=2 target=x86_64 statements=trusted", output)
+        self.assertIn(PROGRAM, lines[-1])
+        self.assertEqual(place.run("plant_script", "run"), (3, "proved: <run>\n", "a proved reason\n"))
+        self.assertIn("fn lists::new: proved", (place.top / "crates/plant_program/out/prove.log").read_text())
+
+    def test_it_does_nothing_where_nothing_is_newer(self):
+        place = self.place()
+        place.build()
+        status, output, _ = place.run("prove")
+        self.assertEqual((status, place.calls()), (0, []))
+        self.one_line(output, "nothing to do", "--again")
+        self.assertEqual(place.run("prove", "--again", RT_JOBS="2")[0], 0)
+        self.assertEqual(place.calls()[0], "all|check|--jobs|2|a plant")
+
+    def test_a_crate_that_is_not_proved_is_named_and_no_program_is_built(self):
+        place = self.place()
+        (place.rt / "unproved").write_text("")
+        status, output, _ = place.run("prove", "--jobs", "1")
+        self.assertEqual((status, len(place.calls()), (place.top / PROGRAM).exists()), (1, 1, False))
+        for part in ("tlv24: failed (1)", "fn tlv24::read: not proved", "plant_program: not run, since tlv24 failed", "prove.log"):
+            self.assertIn(part, output)
+        self.assertNotIn("proved and built", output)
+
+    def test_a_source_that_changes_meanwhile_is_newer(self):
+        place = self.place()
+        (place.rt / "edits").write_text(str(place.top / "crates/tlv24/src/lib.rt"))
+        self.assertEqual(place.run("prove", "--jobs", "1")[0], 0)
+        self.one_line(place.run("plant_script", "run")[2].splitlines()[0], "crates/tlv24/src/lib.rt", "newer")
+        (place.rt / "edits").unlink()
+        self.assertEqual(place.run("prove", "--jobs", "1")[0], 0)
+        self.assertEqual(len(place.calls()), 4)
+
+    def test_without_rt_it_says_what_to_do(self):
+        status, output, errors = self.place(has_rt=False).run("prove")
+        self.assertEqual((status, output), (127, ""))
+        for part in ("no command rt", "README.md"):
+            self.assertIn(part, errors)
+
+    def test_wrong_arguments_are_refused(self):
+        place = self.place()
+        for words in (["--jobs", "0"], ["--jobs", "many"], ["all"]):
+            self.assertEqual(place.run("prove", *words)[0], 2)
+        self.assertEqual(place.calls(), [])
+
+
+# Each edit of a script is a fault that a check must notice.
+EDITS = [
+    ("plant_script", '    say "not built, so', '    : "'),
+    ("plant_script", "program_errors >&2", 'cat "$work/errors" >&2'),
+    ("plant_script", "while (NR > 0", "while (NR > 9"),
+    ("plant_script", "NR > 0 && line[NR] ~ /^(run=|", "line[NR] ~ /^(a |run=|"),
+    ("plant_script", '        exit 125\n        ;;', '        exit "$status"\n        ;;'),
+    ("plant_script", '"run=ended status=$status "*)', "*proved=no)"),
+    ("plant_script", 'exit "$status"\n}', "exit 0\n}"),
+    ("plant_script", 'exec rt try -- "$@"', "exec rt try -- $*"),
+    ("plant_script", 'exec rt try -- "$@") <"$work/input"', 'exec rt try -- "$@") </dev/null'),
+    ("plant_script", "trap 'rm -rf \"$work\"' EXIT", ":"),
+    ("plant_script", "head -c $((most_input + 1))", "head -c $most_input"),
+    ("plant_script", "        -h | --help) return 0 ;;\n", ""),
+    ("plant_script", 'if [ "${1-}" = serve ]', "if false"),
+    ("plant_script", "if ! command -v rt >/dev/null; then", "if false; then"),
+    ("plant_script", '    exec "$program" "$@"', '    [ -z "$source" ] || "$prove"\n    exec "$program" "$@"'),
+    ("plant_script", '    [ -z "$source" ] || say', "    true || say"),
+    ("plant_script", "-name out -prune -o ", ""),
+    ("plant_script", "-o -name '*.antt' ", ""),
+    ("plant_script", "prove=./prove", "prove=prove"),
+    ("plant_script", '[ "$(pwd -P)" != "$here" ] || ', ""),
+    ("prove", '["all", "check", "--jobs", str(jobs)]', '["all", "check", "--jobs", "1"]'),
+    ("prove", 'if line.startswith("rt: waiting"):', "if not line:"),
+    ("prove", "            log.write(line)\n", ""),
+    ("prove", "ns=(started, started)", "None"),
+    ("prove", "if is_up_to_date() and not arguments.again:", "if is_up_to_date():"),
+    ("prove", "if is_up_to_date() and not arguments.again:", "if False:"),
+    ("prove", "is_built = prove_crates(jobs, log) and build_program(log)", "is_built = [prove_crates(jobs, log), build_program(log)]"),
+    ("prove", 'if line.startswith("logic="):', 'if line.startswith("proved"):'),
+    ("prove", "    return sum(int(found[1])", "    return len([found[1]"),
+    ("prove", "        say_last_lines(progress.lines", "        len(progress.lines"),
+    ("prove", 'self.done()} of {self.crates} crates, {self.minutes()}: {self.crate}"', 'self.crates} of {self.crates} crates, {self.minutes()}: {self.crate}"'),
+    ("examples/serving/serve_plant.sh", "    exit 126\n", "    exit 2\n"),
+]
+
+
+def suite(first=Unproved):
+    """Returns all checks, those of the class `first` before the others."""
+    classes = sorted((Unproved, Proved, Proving), key=lambda it: it is not first)
+    return unittest.TestSuite(map(unittest.defaultTestLoader.loadTestsFromTestCase, classes))
+
+
+def is_noticed(name, old, new):
+    """Returns whether a check fails once the script has the edit."""
+    text = SCRIPTS[name]
+    assert text.count(old) == 1, f"{name} has {text.count(old)} times: {old}"
+    SCRIPTS[name] = text.replace(old, new)
+    try:
+        first = Proving if name == "prove" else Unproved
+        return not unittest.TextTestRunner(stream=io.StringIO(), failfast=True).run(suite(first)).wasSuccessful()
+    finally:
+        SCRIPTS[name] = text
+
+
+class Edits(unittest.TestCase):
+    def test_each_edit_is_noticed(self):
+        unnoticed = [edit for edit in EDITS if not is_noticed(*edit)]
+        self.assertEqual(unnoticed, [])
