@@ -238,6 +238,7 @@ impl Ledger {
         ensures within { length self.now.rows ≤ self.now.room }
         ensures numbers { All FitsU32 (values_of self.now.rows) }
     {
+        // For the proof: what the type keeps, which is known where a field is read.
         let _ = &self.rows;
     }
 

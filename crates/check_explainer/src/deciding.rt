@@ -78,6 +78,7 @@ impl OperatorSnapshot {
         ensures decides { IfOk result (λ check. IsDecidedBy self.now modem (said_by request.now) check
             (verdict self.now modem request.now)) }
     {
+        // For the proof: what always holds of `self`.
         self.always_sound();
         let subjects = self.subjects(alloc, request)?;
         let admitted = self.sets(alloc, Use::Admit, request)?;

@@ -277,6 +277,7 @@ impl OperatorSnapshot {
         ensures value { result ≡ committed_elements self.now.consts.units self.now.state.flows }
         ensures few { result ≤ 65535 }
     {
+        // For the proof: what the type of `self.row.get_fields().elements` keeps.
         let _quota = self.row.get_fields().elements;
         elements_of(self.consts.get_fields().units, self.state.flows())
     }
@@ -286,6 +287,7 @@ impl OperatorSnapshot {
         ensures value { result ≡ committed_minislots self.now.consts.units self.now.state.flows }
         ensures few { result ≤ 65535 }
     {
+        // For the proof: what the type of `self.state.share().budget` keeps.
         let _budget = self.state.share().budget;
         minislots_of(self.consts.get_fields().units, self.state.flows())
     }

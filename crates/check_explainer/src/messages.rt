@@ -196,6 +196,7 @@ impl OperatorSnapshot {
         ensures decides { IfSome result (λ check. (bytes : List ℕ) → AreBytes bytes → reading.now ≡ message_of bytes
             → IsHandledBy self.now modem reading.now check (handle self.now modem (heards.Message bytes))) }
     {
+        // For the proof: what always holds of `self`.
         self.always_sound();
         self.first_message_check(&MESSAGE_CHECKS, modem, reading)
             .copied()

@@ -109,6 +109,7 @@ impl OperatorSnapshot {
         ensures { IfOk result (λ operator_snapshot. operator_snapshot
             ≡ operator book.now.kept.book.consts book.now.kept.book.row book.now.kept.book.state) }
     {
+        // For the proof: what always holds of `book`.
         book.always_sound();
         let copied = copied_from(alloc, book)?;
         let used = used_in(alloc, copied.state.flows())?;
@@ -146,6 +147,7 @@ impl OperatorSnapshot {
     pub fn always_sound(&self)
         ensures { IsSound self.now }
     {
+        // For the proof: what the type keeps, which is known where a field is read.
         let _ = &self.state;
     }
 }

@@ -104,6 +104,7 @@ impl Reply {
         ensures well_formed { IsWellFormed self.now }
         ensures widths { FitsReply self.now }
     {
+        // For the proof: what the type of `self.fields.tid` keeps.
         let _tid = self.fields.tid;
         detail_fits(self.fields.detail);
     }

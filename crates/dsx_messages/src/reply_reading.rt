@@ -88,6 +88,8 @@ pub fn read_back(alloc: Global, reply: &Reply) -> Result<Reply, AllocError>
     ensures { IfOk result (λ again. again ≡ reply.now) }
 {
     let bytes = write_reply(alloc, reply)?;
+    // For the proof: the detail goes with the kind and the code, and each number has the width of
+    // its field.
     reply.fits();
     match read_reply(&bytes) {
         Some(again) => Ok(again),

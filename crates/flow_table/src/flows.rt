@@ -227,6 +227,7 @@ impl Flows {
         ensures within { length self.now.flows ≤ self.now.capacity }
         ensures own_sids { HaveOwnSids self.now.flows }
     {
+        // For the proof: what the type keeps, which is known where a field is read.
         let _ = &self.capacity;
     }
 }

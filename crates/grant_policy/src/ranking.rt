@@ -41,6 +41,7 @@ impl Ranking {
         ensures value { result ≡ rank_of self.now.policy input.now }
         ensures bound { result ≤ 63 }
     {
+        // For the proof: the ranges that every input keeps.
         input.ranges();
         (self.rank)(*input)
     }

@@ -53,10 +53,12 @@ impl LiveCore {
         ensures ok { OnOk result (GoesOn (Reslices from rows.now) (live_view self.old) (live_view self.new) []) }
         ensures err { OnErr result (live_view self.new ≡ live_view self.old) }
     {
+        // For the proof: what always holds of `self`.
         self.always();
         let slices = slices_of(alloc, rows)?;
         self.gather.reslice(alloc, from, slices)?;
         self.gather.let_go();
+        // For the proof: what always holds of `self.gather`.
         self.gather.always();
         give(&mut self.desks, from, rows);
         Ok(())

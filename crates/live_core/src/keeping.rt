@@ -18,6 +18,7 @@ impl LiveCore {
         ensures gathering { IsGathering (live_view self.now).gathering }
         ensures let_go { has_begun (live_view self.now).gathering ≡ false }
     {
+        // For the proof: what the type of `self.routes.plant().rows()` keeps.
         let _rows = self.routes.plant().rows();
         self.gather.always();
     }

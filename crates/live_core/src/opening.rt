@@ -59,6 +59,7 @@ impl LiveCore {
         let first_frame = plant.consts().get_fields().channel.first_frame;
         match LiveCore::resume(alloc, plant, first_frame, lives) {
             Ok(core) => {
+                // For the proof: what always holds of `core`.
                 core.always();
                 Ok(core)
             }

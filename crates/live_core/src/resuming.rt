@@ -112,6 +112,7 @@ fn goes_along(live: &Live, op: Op, frame: u32, from: Option<u32>) -> Result<(), 
     ensures alike { OnOk result (WaitsFrom from live.now) }
     ensures fault { IfErr result (IsOdd frame from op live.now) }
 {
+    // For the proof: what always holds of `live`.
     live.always();
     if !is_at(live, frame) {
         return Err(ResumeFault::NotAtFrame { op });
@@ -190,6 +191,7 @@ fn gather_of(
     ensures started { OnOk result (plant.now.consts.channel.first_frame ≤ frame) }
     ensures fault { IfErr result (IsResumeFault plant.now frame (map sound_of lives.now)) }
 {
+    // For the proof: what the type of `plant.rows()` keeps.
     let _rows = plant.rows();
     if frame < plant.consts().get_fields().channel.first_frame {
         return Err(ResumeFault::BeforeFirstFrame);
@@ -198,12 +200,14 @@ fn gather_of(
     let mut gather = Gather::resume(alloc, plant, frame, slices)?;
     match from {
         None => {
+            // For the proof: what always holds of `gather`.
             gather.always();
             Ok(gather)
         }
         Some(from) => {
             let later = valid_later(alloc, plant, lives)?;
             gather.reslice(alloc, from, later)?;
+            // For the proof: what always holds of `gather`.
             gather.always();
             Ok(gather)
         }
@@ -229,6 +233,7 @@ impl LiveCore {
             (start_with plant frame (map sound_of lives.items)) [] [] (live_view core)) }
         ensures fault { IfErr result (IsResumeFault plant frame (map sound_of lives.items)) }
     {
+        // For the proof: what the type of `plant.rows()` keeps.
         let _rows = plant.rows();
         let from = first_from(lives.as_slice());
         go_together(lives.as_slice(), frame, from)?;

@@ -36,6 +36,7 @@ impl LiveCore {
         ensures err { OnErr result (live_view self.new ≡ live_view self.old) }
         ensures fault { IsTold result (act_fault op action (slice_get (live_view self.old).books op)) }
     {
+        // For the proof: what always holds of `self`.
         self.always();
         if op >= self.desks.len() {
             return Err(CoreFault::UnknownOperator { op });
@@ -74,6 +75,7 @@ impl LiveCore {
         ensures err { OnErr result (live_view self.new ≡ live_view self.old) }
         ensures fault { IsTold result (collect_fault op (slice_get (live_view self.old).queues op)) }
     {
+        // For the proof: what always holds of `self`.
         self.always();
         if op >= self.desks.len() {
             return Err(CoreFault::UnknownOperator { op });
@@ -82,6 +84,7 @@ impl LiveCore {
         match self.desks[op].collect_into(alloc, op, gather, outs) {
             Ok(()) => {
                 gather.let_go();
+                // For the proof: what always holds of `gather`.
                 gather.always();
                 Ok(())
             }
@@ -126,6 +129,7 @@ impl LiveCore {
         ensures outs { OnErr result (outs.new.items ≡ []) }
         ensures fault { IsTold result (step_fault (live_view self.old) step) }
     {
+        // For the proof: what always holds of `self`.
         self.always();
         outs.clear();
         self.step_into(alloc, step, outs)?;
@@ -139,6 +143,7 @@ impl LiveCore {
         ensures err { OnErr result (live_view self.new ≡ live_view self.old) }
         ensures fault { IsTold result (step_fault (live_view self.old) step) }
     {
+        // For the proof: what always holds of `self`.
         self.always();
         let mut outs = Vec::new(alloc);
         self.step_into(alloc, step, &mut outs)?;

@@ -125,6 +125,7 @@ fn slice_of(row: &OperatorRow) -> Slice
     ensures some { 1 ≤ result.length }
 {
     let slice = row.get_fields().slice;
+    // For the proof: what the type of `slice.get_length()` keeps.
     let _length = slice.get_length();
     slice
 }
@@ -251,6 +252,7 @@ impl Gather {
         ensures ok { OnOk result (self.new ≡ after_put self.old op elements) }
         ensures err { IfErr result (λ back. (back ≡ elements) × (self.new ≡ self.old)) }
     {
+        // For the proof: what always holds of `elements`.
         elements.always();
         let queue = &mut self.queues[op];
         match queue.push(elements) {
@@ -275,6 +277,7 @@ impl Gather {
         ensures bytes { IfOk result (λ bytes. IsMapOf self.now.channel frame self.now.quotas
             (frame_slices self.now frame) (frame_parts self.now op part.now) bytes.items) }
     {
+        // For the proof: what always holds of `part`.
         part.always();
         let slicing = slices_at(&self.slices, self.reslicings.as_slice(), frame);
         let queues = self.queues.as_slice();
@@ -360,6 +363,7 @@ impl Gather {
     pub fn always(&self)
         ensures { IsGathering self.now }
     {
+        // For the proof: what the type keeps, as the check knows where a field is read.
         let _ = &self.channel;
     }
 

@@ -217,6 +217,7 @@ impl Book {
     pub fn always_replayed(&self)
         ensures { IsReplayed self.now.kept.book }
     {
+        // For the proof: what always holds of `self.kept`.
         self.kept.always();
     }
 
@@ -226,6 +227,7 @@ impl Book {
     pub fn always_sound(&self)
         ensures { IsSound self.now.kept.book }
     {
+        // For the proof: what always holds of `self.kept`.
         self.kept.always();
     }
 }

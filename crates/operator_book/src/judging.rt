@@ -69,6 +69,7 @@ impl Machine {
         ensures bound { length (own_step self.now action.now).outputs ≤ result }
         ensures few { result ≤ 65537 }
     {
+        // For the proof: what the type of `self.row.get_fields()` keeps.
         let _row = self.row.get_fields();
         match action {
             Action::Tick => 1 + self.kept.resend_count(),

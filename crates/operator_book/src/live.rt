@@ -63,6 +63,7 @@ impl SoundMachine {
         requires { IsRowOf consts.now row.now }
         ensures { IfOk result (λ sound. sound ≡ operator consts.now row.now (opened consts.now row.now)) }
     {
+        // For the proof: a machine is opened sound.
         opened_is_sound();
         let _some = row.get_fields().slice.get_length();
         let machine = Machine::open(alloc, row, consts)?;
@@ -73,6 +74,7 @@ impl SoundMachine {
     fn always(&self)
         ensures { IsSound self.now }
     {
+        // For the proof: what the type keeps, which is known where a field is read.
         let _ = &self.machine;
     }
 
@@ -92,6 +94,7 @@ impl SoundMachine {
         ensures twice { IfOk result (λ both. both.twice ≡ twice) }
         ensures err { OnErr result (self.new ≡ self.old) }
     {
+        // For the proof: an action that is not refused leaves a sound state.
         step_keeps_sound();
         self.machine.step_with(alloc, twice, ranking, action)
     }
@@ -102,6 +105,7 @@ impl SoundMachine {
         requires { unfit_from self.old.consts self.old.state from row ≡ None }
         ensures { self.new ≡ after_step self.old (actions.Reslice from row) }
     {
+        // For the proof: an action that is not refused leaves a sound state.
         step_keeps_sound();
         self.machine.reslice(from, row);
     }
@@ -181,6 +185,7 @@ impl Live {
     pub fn always(&self)
         ensures { IsSound self.now.sound }
     {
+        // For the proof: what always holds of `self.sound`.
         self.sound.always();
     }
 

@@ -58,6 +58,7 @@ impl Logged {
         requires { IsRowOf consts.now row.now }
         ensures { IfOk result (λ held. held.book ≡ opened_book row.now consts.now) }
     {
+        // For the proof: what the type of `row.get_fields().slice.get_length()` keeps.
         let _some = row.get_fields().slice.get_length();
         Ok(Logged {
             machine: Machine::open(alloc, row, consts)?,
@@ -78,6 +79,7 @@ impl Logged {
         ensures outputs { IfOk result (λ outputs. outputs.items ≡ outputs_of self.old.book action) }
         ensures err { OnErr result (self.new.book ≡ self.old.book) }
     {
+        // For the proof: what always holds of `self`.
         self.always();
         room_for_one(&mut self.history)?;
         let both = self.machine.step(alloc, true, ranking, &action)?;
@@ -115,6 +117,7 @@ impl Logged {
         ensures replay { IsReplayed self.now.book }
         ensures sound { IsSound self.now.book }
     {
+        // For the proof: the replay of a history is sound, whatever was done.
         replay_is_sound();
         let _ = &self.history;
     }

@@ -67,6 +67,7 @@ fn put_provision(
         return Ok(());
     };
     let sid = sid_for(row, flows, sets);
+    // For the proof: what always holds of `flows`.
     flows.always();
     let flow = opened_flow(
         consts.get_fields().channel.first_frame,

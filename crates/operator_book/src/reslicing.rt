@@ -47,6 +47,7 @@ impl Machine {
         requires { unfit_from self.old.consts self.old.state from row ≡ None }
         ensures { self.new ≡ with_state self.old (resliced self.old.state from row) }
     {
+        // For the proof: what the type of `self.consts.get_fields()` keeps.
         let _consts = self.consts.get_fields();
         self.next = Some(NextShare {
             from,

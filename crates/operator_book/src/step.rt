@@ -30,6 +30,7 @@ impl Machine {
             Action::Arrive { modem, heard } => self.arrive(alloc, twice, *modem, heard),
             Action::Work => self.work(alloc, twice),
             Action::Tick => {
+                // For the proof: what the type of `self.frame` keeps.
                 let _frame = self.frame;
                 self.tick(alloc, twice, ranking)
             }
@@ -60,6 +61,7 @@ impl Machine {
             Action::Arrive { modem, heard } => self.take_in(alloc, twice, modem, heard),
             Action::Work => self.work(alloc, twice),
             Action::Tick => {
+                // For the proof: what the type of `self.frame` keeps.
                 let _frame = self.frame;
                 self.tick(alloc, twice, ranking)
             }

@@ -75,6 +75,7 @@ impl Machine {
         ensures elements { IfOk result (λ served. served.elements ≡ elements_in self.now) }
         ensures granted { IfOk result (λ served. served.granted ≡ granted_in self.now) }
     {
+        // For the proof: the slice in force can serve the flows.
         schedule_can_serve();
         given_up_have_no_grants();
         let consts = self.consts.get_fields();
@@ -184,6 +185,7 @@ impl Machine {
         ensures { Does twice self.old self.new result (ticked self.old) }
     {
         let plan = self.frame_plan(alloc, ranking)?;
+        // For the proof: what the type of `self.row.get_fields()` keeps.
         let _row = self.row.get_fields();
         let rooms = rooms_for(alloc, self.kept.resend_count())?;
         let resends = self.kept.resends(alloc)?;

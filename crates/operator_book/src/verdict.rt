@@ -129,6 +129,7 @@ impl Machine {
         ensures value { result ≡ number }
         ensures range { result ≤ 8191 }
     {
+        // For the proof: what the type of `self.row.get_fields()` keeps.
         let _row = self.row.get_fields();
         number as u16
     }
@@ -192,6 +193,7 @@ impl Machine {
         let (Some(sfid), Some(sid)) = (sfid, sid) else {
             return no_room(Kind::Dsa, tid);
         };
+        // For the proof: what always holds of `self.flows`.
         self.flows.always();
         let sid = self.sid_of(sid);
         let flow = new_flow(modem, self.frame, addition.sets, sid);
@@ -219,6 +221,7 @@ impl Machine {
         ensures value { result ≡ changed self.now tid change.now }
         ensures puts { MayPut (table_of self.now) result }
     {
+        // For the proof: what always holds of `self.flows`.
         self.flows.always();
         if !wants_sid(change) {
             return self.changed_with(tid, change, change.flow.sid, false);
@@ -260,6 +263,7 @@ impl Machine {
         match change_of(&self.consts, &self.flows, t, encodings) {
             Err(reply) => Verdict::Refused { reply },
             Ok(change) => {
+                // For the proof: what the type of `self.row.get_fields()` keeps.
                 let _row = self.row.get_fields();
                 self.changed(tid, &change)
             }

@@ -48,6 +48,7 @@ fn put_told(alloc: Global, packets: &mut Vec<Packet>, out: &Out) -> Result<(), A
             op: _,
             output: Output::Reply { modem, bytes },
         } => {
+            // For the proof: an address has six bytes.
             always_six(*modem);
             let bytes = bytes.copy(alloc)?;
             packets.push(Packet::Reply {
@@ -111,6 +112,7 @@ impl Capture {
             heard: Heard::Message(bytes),
         } = step
         {
+            // For the proof: an address has six bytes.
             always_six(*modem);
             let bytes = bytes.copy(alloc)?;
             self.packets.push(Packet::Sent {

@@ -20,5 +20,6 @@ pub enum Packet {
 pub(crate) fn always_six(modem: Modem)
     ensures { length modem.0 ≡ 6 }
 {
+    // For the proof: what the type of `modem.0` keeps.
     let _address = modem.0;
 }

@@ -5,6 +5,7 @@ use Rattle.operator_model.specs.declared.action.SliceRow.{SliceRow}
 use Rattle.operator_model.specs.declared.action.Action.TheVariants as actions
 use Rattle.operator_model.specs.Replay.{BookView, acted}
 use Rattle.run_model.specs.OwnSteps.{slice_of}
+use Rattle.run_model.specs.Places.{AtEachPlace}
 
 -- a row's slice is one
 abbrev pub IsOfASlice : SliceRow → Type 0
@@ -13,7 +14,7 @@ IsOfASlice row = IsSlice (slice_of row)
 -- each book has become what its row makes of it
 pub record HaveTakenAs (after : BookView → SliceRow → BookView) (rows : List SliceRow) (old new : List BookView) : Type 0 where
   pub one_each : length new ≡ length old
-  pub taken : (i : ℕ) (row : SliceRow) (book : BookView) → slice_get rows i ≡ Some row → slice_get old i ≡ Some book → slice_get new i ≡ Some (after book row)
+  pub taken : AtEachPlace rows old (λ i row book. slice_get new i ≡ Some (after book row))
 
 -- each book has taken its row
 abbrev pub HaveTaken : ℕ → List SliceRow → List BookView → List BookView → Type 0

@@ -111,6 +111,7 @@ impl Desk {
         ensures value { IfOk result (IsOldest (book_at self.now).history self.now.collected) }
         ensures some { OnErr result (IsSome (slice_get (waiting_at self.now) 0)) }
     {
+        // For the proof: what always holds of `self.book`.
         self.book.always_replayed();
         oldest_from(alloc, self.book.history(), self.collected)
     }

@@ -90,6 +90,7 @@ impl PlantCore {
         ensures ok { OnOk result (Reslices from rows.now (core_view self.old) (core_view self.new) []) }
         ensures err { OnErr result (core_view self.new ≡ core_view self.old) }
     {
+        // For the proof: what always holds of `self`.
         self.always();
         make_room(&mut self.desks)?;
         let slices = slices_of(alloc, rows)?;

@@ -18,6 +18,7 @@ impl PlantCore {
         ensures plant { IsPlant (core_view self.now).plant }
         ensures gathering { IsGathering (core_view self.now).gathering }
     {
+        // For the proof: what always holds of `self.routes`.
         self.routes.always();
         self.gather.always();
     }

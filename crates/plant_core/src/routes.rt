@@ -91,6 +91,7 @@ impl Routes {
     pub(crate) fn always(&self)
         ensures { IsPlant self.now }
     {
+        // For the proof: what the type of `self.plant.rows()` keeps.
         let _rows = self.plant.rows();
     }
 }

@@ -39,6 +39,7 @@ impl PlantCore {
         ensures outs { OnErr result (outs.new.items ≡ []) }
         ensures fault { IsTold result (step_fault (core_view self.old) step) }
     {
+        // For the proof: what always holds of `self`.
         self.always();
         outs.clear();
         self.step_into(alloc, step, outs)?;
@@ -57,6 +58,7 @@ impl PlantCore {
     {
         let mut outs = Vec::new(alloc);
         for (at, step) in steps.iter().enumerate() {
+            // For the proof: what always holds of `self`.
             self.always();
             if let Err(fault) = self.step_copied(alloc, step, &mut outs) {
                 return Err(RunStop { at, fault, outs });

@@ -70,6 +70,7 @@ impl PlantCore {
         ensures err { OnErr result (core_view self.new ≡ core_view self.old) }
         ensures fault { IsTold result (act_fault op action (slice_get (core_view self.old).books op)) }
     {
+        // For the proof: what always holds of `self`.
         self.always();
         if op >= self.desks.len() {
             return Err(CoreFault::UnknownOperator { op });
@@ -111,6 +112,7 @@ impl PlantCore {
         ensures err { OnErr result (core_view self.new ≡ core_view self.old) }
         ensures fault { IsTold result (collect_fault op (slice_get (core_view self.old).queues op)) }
     {
+        // For the proof: what always holds of `self`.
         self.always();
         if op >= self.desks.len() {
             return Err(CoreFault::UnknownOperator { op });
@@ -148,6 +150,7 @@ impl PlantCore {
         ensures err { OnErr result (core_view self.new ≡ core_view self.old) }
         ensures fault { IsTold result (step_fault (core_view self.old) step) }
     {
+        // For the proof: what always holds of `self`.
         self.always();
         let mut outs = Vec::new(alloc);
         self.step_into(alloc, step, &mut outs)?;

@@ -6,6 +6,7 @@ use Rattle.operator_model.specs.Replay.{BookView, actions_of}
 use Rattle.run_model.specs.declared.step.Step.{Step}
 use Rattle.run_model.specs.OwnSteps.{own_steps}
 use Rattle.run_model.specs.IsStateAfter.{IsBookAfter}
+use Rattle.run_model.specs.Places.{AtEachPlace}
 use Rattle.run_receipts.specs.declared.run_fault.RunFault.{RunFault}
 use Rattle.run_receipts.specs.declared.run_fault.RunFault.TheVariants.{Strayed, MapStrayed}
 use Rattle.run_audit.specs.declared.placing.Placing.{Placing}
@@ -21,9 +22,7 @@ pub record DifferFirst {A : Type 0} (xs ys : List A) (place : ℕ) : Type 0 wher
 
 -- each operator's book is what its own machine makes of its own steps
 abbrev pub AreOwn : PlantFields → List Step → List BookView → Type 0
-AreOwn plant steps books =
-    (i : ℕ) (row : RowFields) (book : BookView) → slice_get plant.rows i ≡ Some row → slice_get books i ≡ Some book
-    → IsBookAfter plant steps i row book
+AreOwn plant steps books = AtEachPlace plant.rows books (IsBookAfter plant steps)
 
 -- a book is of another row, or of a plant with other constants
 abbrev pub IsOfAnother : PlantFields → RowFields → BookView → Type 0

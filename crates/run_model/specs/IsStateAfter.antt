@@ -14,6 +14,7 @@ use Rattle.run_model.specs.OwnSteps.{own_steps, maps_in, collects_of, reslicings
 use Rattle.run_model.specs.Starts.{Start, first_start, StandAtOneFrame}
 use Rattle.run_model.specs.IsTraceOf.{isolated_run_from, IsTraceFrom}
 use Rattle.run_model.specs.Ordered.{OrderedFrom}
+use Rattle.run_model.specs.Places.{AtEachOperator, AtEachPlace}
 
 -- what contracts see of a core: the plant, each operator's book, the frames of each that wait to be collected, and what is
 -- gathered
@@ -59,7 +60,7 @@ pub record IsGatheredFrom (plant : PlantFields) (start : Start) (steps : List St
   pub reslicings_are : gathering.reslicings ≡ start.waiting ++ reslicings_of steps
   pub one_each : length gathering.queues ≡ length plant.rows
   pub next_is : gathering.next ≡ start.frame + length (maps_in outs)
-  pub collected : (i : ℕ) (row : RowFields) → slice_get plant.rows i ≡ Some row → collects_of i steps ≤ length (frames_of (isolated_run_from plant.consts start row i steps).outputs)
+  pub collected : AtEachOperator plant (λ i row. collects_of i steps ≤ length (frames_of (isolated_run_from plant.consts start row i steps).outputs))
 
 pub record IsStateAfterFrom (plant : PlantFields) (start : Start) (steps : List Step) (outs : List Out) (core : CoreView) : Type 0 where
   pub at_one_frame : StandAtOneFrame plant start
@@ -68,7 +69,7 @@ pub record IsStateAfterFrom (plant : PlantFields) (start : Start) (steps : List 
   pub ordered : OrderedFrom plant start steps outs
   pub one_book : length core.books ≡ length plant.rows
   pub one_queue : length core.queues ≡ length plant.rows
-  pub books : (i : ℕ) (row : RowFields) (book : BookView) → slice_get plant.rows i ≡ Some row → slice_get core.books i ≡ Some book → IsBookFrom plant start steps i row book
+  pub books : AtEachPlace plant.rows core.books (IsBookFrom plant start steps)
   pub frames : (i : ℕ) (row : RowFields) (waiting : List (ℕ × ElementsFields)) (put : List ElementsFields) → slice_get plant.rows i ≡ Some row
       → slice_get core.queues i ≡ Some waiting → slice_get core.gathering.queues i ≡ Some put → AreFramesFrom plant start steps (length (maps_in outs)) i row waiting put
   pub gathered : IsGatheredFrom plant start steps outs core.gathering

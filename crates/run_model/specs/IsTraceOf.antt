@@ -1,5 +1,5 @@
 -- What a run of a plant shows: to each operator its own machine run alone, and MAPs of these machines' frames (implementation-specific).
-use Rattle.std.specs.Prelude.{◌≡◌, ℕ, ◌<◌, ◌≤◌, List, map, length, All, slice_get, Option, Some, None, if◌then◌else◌, filter_map, ◌∷◌, [], ◌==◌}
+use Rattle.std.specs.Prelude.{◌≡◌, ℕ, ◌<◌, ◌≤◌, List, map, length, All, Option, Some, None, if◌then◌else◌, filter_map, ◌∷◌, [], ◌==◌}
 use Rattle.std.specs.List.{range_with_len}
 use Rattle.slice_scheduler.specs.declared.elements.ElementsFields.{ElementsFields}
 use Rattle.plant.specs.declared.consts.ConstsFields.{ConstsFields}
@@ -18,6 +18,7 @@ use Rattle.run_model.specs.declared.step.Out.{Out}
 use Rattle.run_model.specs.declared.step.Out.TheVariants as out
 use Rattle.run_model.specs.OwnSteps.{own_steps, answers_of, maps_in, collects_of}
 use Rattle.run_model.specs.Starts.{Start, first_start}
+use Rattle.run_model.specs.Places.{AtEachOperator, AtEachPlace}
 
 -- the operator's own machine, run alone on its own steps from where it starts
 abbrev pub isolated_run_from : ConstsFields → Start → RowFields → ℕ → List Step → StepResult
@@ -41,8 +42,7 @@ elements_in frame outputs = filter_map (frame_if frame) outputs
 -- these are the operators' parts of a frame, in the plant's order: each the frame of that operator's machine run alone
 pub record ArePartsFrom (plant : PlantFields) (start : Start) (steps : List Step) (frame : ℕ) (parts : List ElementsFields) : Type 0 where
   pub one_each : length parts ≡ length plant.rows
-  pub own : (i : ℕ) (row : RowFields) (part : ElementsFields) → slice_get plant.rows i ≡ Some row → slice_get parts i ≡ Some part
-      → elements_in frame (isolated_run_from plant.consts start row i steps).outputs ≡ part ∷ []
+  pub own : AtEachPlace plant.rows parts (λ i row part. elements_in frame (isolated_run_from plant.consts start row i steps).outputs ≡ part ∷ [])
 
 -- ---- MAPs
 
@@ -72,7 +72,7 @@ IsUnder count (out.Map made) = Unit {0}
 -- to each operator its answers are those of its own machine run alone from where it starts, and the MAPs are of these machines'
 -- frames; nothing is under anybody else
 pub record IsTraceFrom (plant : PlantFields) (start : Start) (steps : List Step) (outs : List Out) : Type 0 where
-  pub answers : (i : ℕ) (row : RowFields) → slice_get plant.rows i ≡ Some row → answers_of i outs ≡ (isolated_run_from plant.consts start row i steps).outputs
+  pub answers : AtEachOperator plant (λ i row. answers_of i outs ≡ (isolated_run_from plant.consts start row i steps).outputs)
   pub maps : AreMapsFrom plant start steps (maps_in outs)
   pub under_plant : All (IsUnder (length plant.rows)) outs
 

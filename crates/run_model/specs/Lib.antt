@@ -10,4 +10,5 @@ pub mod Opened
 pub mod Run
 pub mod SharedOut
 pub mod Periods
+pub mod Places
 pub mod Changing

@@ -7,6 +7,7 @@ use Rattle.operator_model.specs.State.{OperatorState, opened, operator}
 use Rattle.operator_model.specs.Slices.{SliceFrom, waiting_slice}
 use Rattle.operator_model.specs.Sound.{IsSound}
 use Rattle.map_assembly.specs.declared.slicing.Reslicing.{Reslicing}
+use Rattle.run_model.specs.Places.{AtEachOperator}
 
 -- where a run starts: the frame of its first MAP, the state of each row's operator, and the slice changes that wait
 pub record Start : Type 0 where
@@ -32,10 +33,10 @@ own_of i r = record { from = r.from; slice = slice_else (slice_get r.slicing i) 
 
 -- all operators are at the frame of the first MAP
 abbrev pub StandAtOneFrame : PlantFields → Start → Type 0
-StandAtOneFrame plant start = (i : ℕ) (row : RowFields) → slice_get plant.rows i ≡ Some row → (start.state row).frame ≡ start.frame
+StandAtOneFrame plant start = AtEachOperator plant (λ i row. (start.state row).frame ≡ start.frame)
 
 -- each state is sound under its row, all are at one frame, and what waits of each is its own slice of the changes that wait
 pub record IsStart (plant : PlantFields) (start : Start) : Type 0 where
-  pub sound : (i : ℕ) (row : RowFields) → slice_get plant.rows i ≡ Some row → IsSound (operator plant.consts row (start.state row))
+  pub sound : AtEachOperator plant (λ i row. IsSound (operator plant.consts row (start.state row)))
   pub at_one_frame : StandAtOneFrame plant start
-  pub waits : (i : ℕ) (row : RowFields) → slice_get plant.rows i ≡ Some row → map (own_of i) start.waiting ≡ waiting_slice (start.state row).next
+  pub waits : AtEachOperator plant (λ i row. map (own_of i) start.waiting ≡ waiting_slice (start.state row).next)

@@ -18,6 +18,7 @@ use Rattle.run_model.specs.declared.step.Out.{Out}
 use Rattle.run_model.specs.declared.step.Out.TheVariants as outs
 use Rattle.run_model.specs.OwnSteps.{under, slice_of}
 use Rattle.run_model.specs.IsStateAfter.{CoreView, frames_of}
+use Rattle.run_model.specs.Places.{AtEachPlace}
 
 -- the operator at place i acts by its own machine, its frames wait to be collected, and all else is as it was
 pub record Acts (i : ℕ) (action : Action) (old new : CoreView) (now : List Out) : Type 0 where
@@ -54,8 +55,7 @@ HaveSlicesApart rows = AllPairs (λ a b. slices_overlap (slice_of a) (slice_of b
 
 -- no book refuses its row
 abbrev pub NoneRefuses : ℕ → List BookView → List SliceRow → Type 0
-NoneRefuses from books rows = (i : ℕ) (row : SliceRow) (book : BookView)
-    → slice_get rows i ≡ Some row → slice_get books i ≡ Some book → unfit_from book.consts book.state from row ≡ None
+NoneRefuses from books rows = AtEachPlace rows books (λ i row book. unfit_from book.consts book.state from row ≡ None)
 
 -- each operator takes its own row, and the assembly the slices, from that frame on
 pub record Reslices (from : ℕ) (rows : List SliceRow) (old new : CoreView) (now : List Out) : Type 0 where
@@ -63,7 +63,7 @@ pub record Reslices (from : ℕ) (rows : List SliceRow) (old new : CoreView) (no
   pub apart : HaveSlicesApart rows
   pub fit : NoneRefuses from old.books rows
   pub books : length new.books ≡ length old.books
-  pub acted_is : (i : ℕ) (row : SliceRow) (book : BookView) → slice_get rows i ≡ Some row → slice_get old.books i ≡ Some book → slice_get new.books i ≡ Some (acted book (actions.Reslice from row))
+  pub acted_is : AtEachPlace rows old.books (λ i row book. slice_get new.books i ≡ Some (acted book (actions.Reslice from row)))
   pub plant_is : new.plant ≡ old.plant
   pub queues_are : new.queues ≡ old.queues
   pub gathering_is : new.gathering ≡ resliced old.gathering from (map slice_of rows)

@@ -23,7 +23,8 @@ pub fn waiting_frames_fit()
         → slice_get core.queues i ≡ Some ((frame, part) ∷ waiting) → put_fault core.gathering i frame part ≡ None }
 {}
 
-/// States that Nor does it where the operators started in states that are sound under their rows.
+/// States the same of a run that starts anywhere, where the operators start in states that are sound
+/// under their rows.
 pub fn waiting_frames_fit_from()
     ensures { (plant : PlantFields) (start : Start) (steps : List Step) (outs : List Out) (core : CoreView) (i frame : ℕ)
         (part : ElementsFields) (waiting : List (ℕ × ElementsFields)) → IsStart plant start
@@ -31,7 +32,7 @@ pub fn waiting_frames_fit_from()
         → slice_get core.queues i ≡ Some ((frame, part) ∷ waiting) → put_fault core.gathering i frame part ≡ None }
 {}
 
-/// States that Slices of which no two overlap and that each operator's book takes are taken by the
+/// States that slices of which no two overlap and that each operator's book takes are taken by the
 /// assembly too.
 pub fn slices_that_books_take_fit()
     ensures { (plant : PlantFields) (steps : List Step) (outs : List Out) (core : CoreView) (from : ℕ)

@@ -29,6 +29,7 @@ fn taken(at: &At, flow: &Flowing) -> u32
     ensures value { result ≡ taken_of at.now flow.now }
     ensures within { taken_of at.now flow.now ≤ need_at at.now flow.now }
 {
+    // For the proof: what the type of `flow.set.get_fields()` keeps.
     let _fields = flow.set.get_fields();
     minislots_due(at, flow) + u32::from(base(at, flow))
 }
@@ -70,6 +71,7 @@ fn always_claims(flow: &Flowing, at: &At, ranking: &Ranking)
     requires { IsPast at.now.frame flow.now }
     ensures { IsClaim (claim_of ranking.now.policy at.now flow.now) }
 {
+    // For the proof: no policy ranks above 63.
     rank_at_most_63();
     let _priority = flow.set.get_priority();
     let _backlog = flow.backlog;
@@ -91,6 +93,7 @@ pub(crate) fn claims(
 {
     let mut claims = Vec::with_capacity(alloc, flows.len())?;
     for flow in flows {
+        // For the proof: what this flow claims has the numbers of a claim.
         always_claims(flow, at, ranking);
         if 0 < flow.backlog {
             claims.push(claim(flow, at, ranking))?;

@@ -80,6 +80,7 @@ impl Elements {
     pub fn always(&self)
         ensures { IsTiled self.now }
     {
+        // For the proof: what the type keeps, which is known where a field is read.
         let _ = &self.fields;
     }
 

@@ -66,6 +66,7 @@ impl At {
         ensures in_range { self.now.slice.start + self.now.slice.length ≤ 4096 }
     {
         let slice = self.fields.slice;
+        // For the proof: what the type of `slice.get_length()` keeps.
         let _length = slice.get_length();
         slice
     }

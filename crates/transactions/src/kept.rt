@@ -50,6 +50,7 @@ impl Kept {
     pub fn new(alloc: Global, capacity: u32, timers: Timers) -> Result<Kept, AllocError>
         ensures { IfOk result (λ kept. kept ≡ record { capacity = capacity; waits = timers; entries = [] }) }
     {
+        // For the proof: what always holds of `timers`.
         timers.always();
         Ok(Kept {
             capacity,
@@ -91,6 +92,7 @@ impl Kept {
             ↔ ((length self.old.entries < self.old.capacity) × IsSome (find (is_of modem tid) self.old.entries)) }
         ensures err { OnErr result (self.new ≡ self.old) }
     {
+        // For the proof: what the type keeps, which is known where a field is read.
         let _ = &self.capacity;
         if self.is_full() {
             return Err(KeptFault::Full);

@@ -46,6 +46,7 @@ impl Timers {
     pub fn always(&self)
         ensures { IsLasting self.now }
     {
+        // For the proof: what the type keeps, which is known where a field is read.
         let _ = &self.ack_wait;
     }
 
