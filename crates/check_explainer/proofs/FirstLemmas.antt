@@ -8,7 +8,7 @@ use Rattle.dsx_messages.specs.declared.message.Request.{Request}
 use Rattle.operator_model.specs.State.{Operator}
 use Rattle.operator_model.specs.Sound.{IsSound}
 use Rattle.operator_model.specs.Verdict.{verdict}
-use Rattle.check_table.specs.First.{IsFirst}
+use Rattle.lists.specs.First.{IsFirst}
 use Rattle.check_table.specs.Said.{Said, said_by}
 use Rattle.check_table.specs.Holding.{Holds}
 use Rattle.check_table.specs.Table.{table, IsDecidedBy}

@@ -20,7 +20,7 @@ use Rattle.operator_model.specs.declared.output.Cause.TheVariants as causes
 use Rattle.operator_model.specs.State.{Operator}
 use Rattle.operator_model.specs.Sound.{IsSound}
 use Rattle.operator_model.specs.Handle.{handle}
-use Rattle.check_table.specs.First.{IsFirst}
+use Rattle.lists.specs.First.{IsFirst}
 use Rattle.check_table.specs.Said.{said_by}
 use Rattle.check_table.specs.Messages.{Reading, IsNoAck, IsRequest, IsKept, IsUnread, HoldsOf, message_table, IsHandledBy}
 use Rattle.check_table.specs.declared.check.MessageCheck.{MessageCheck}

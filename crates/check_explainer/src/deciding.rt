@@ -3,7 +3,7 @@
 ghost use Rattle.std.specs.Prelude.{◌≡◌, find, Some, IfOk};
 ghost use Rattle.std.specs.Option.{option_copied};
 ghost use Rattle.operator_model.specs.Verdict.{verdict};
-ghost use Rattle.check_table.specs.First.{IsFirst};
+ghost use Rattle.lists.specs.First.{IsFirst};
 ghost use Rattle.check_table.specs.Said.{said_by};
 ghost use Rattle.check_table.specs.Holding.{Holds};
 ghost use Rattle.check_table.specs.Table.{table, IsDecidedBy};

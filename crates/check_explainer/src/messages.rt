@@ -8,7 +8,7 @@ ghost use Rattle.dsx_messages.specs.Reading.{message_of};
 ghost use Rattle.transactions.specs.Entry.{is_of};
 ghost use Rattle.operator_model.specs.declared.heard.Heard.TheVariants as heards;
 ghost use Rattle.operator_model.specs.Handle.{handle};
-ghost use Rattle.check_table.specs.First.{IsFirst};
+ghost use Rattle.lists.specs.First.{IsFirst};
 ghost use Rattle.check_table.specs.Said.{said_by};
 ghost use Rattle.check_table.specs.Messages.{HoldsOf, message_table, IsHandledBy};
 ghost use Rattle.check_explainer.specs.Messages.{HasNoCheck, transaction_in, is_unread, is_of_cmts_in, is_kept_in, is_faulty, is_request, does_hold_of, message_test};

@@ -22,7 +22,7 @@ use Rattle.operator_model.specs.declared.verdict.Transaction.{Transaction}
 use Rattle.operator_model.specs.declared.verdict.Verdict.TheVariants.{Refused}
 use Rattle.operator_model.specs.State.{Operator}
 use Rattle.operator_model.specs.Asked.{transaction, id_of, refusal_naming, stated, number_in, is_same, has_set_type, stand_together, first_of, is_unclassed, first_unless, first_encoding}
-use Rattle.check_table.specs.First.{IsFirst}
+use Rattle.lists.specs.First.{IsFirst}
 use Rattle.check_table.specs.Said.{Said, identifier, told_identifier, identifier_subtype}
 use Rattle.check_table.specs.Holding.{NamesUnknownClass, AreTwoAndFour}
 use Rattle.check_table.specs.Answering.{refused, naming}

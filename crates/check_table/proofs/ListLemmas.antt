@@ -4,7 +4,7 @@ use Rattle.std.specs.Prelude.{Contains, Any, find, MatchOption}
 use Rattle.std.specs.List.{AllByRecursion, list_all, slice_index_or}
 use Rattle.std.proofs.lemmas.Bool.{cond_both, and_parts, and_cases, true≢false}
 use Rattle.std.proofs.lemmas.List.Elements.{All-nil, All-cons, All-contains, All-from_recursion, recursion_from_All, Contains-append_right}
-use Rattle.check_table.specs.First.{IsFirst}
+use Rattle.lists.specs.First.{IsFirst}
 
 module _ {X : Type 0} where
   -- ---- what is contained

@@ -37,7 +37,7 @@ use Rattle.operator_model.specs.Verdict.{verdict, errored}
 use Rattle.operator_model.specs.Handle.{StepResult, repeated, new_unless, transacted, carried_out, is_of_cmts, message_handled, handle}
 use Rattle.check_table.specs.declared.check.MessageCheck.{MessageCheck}
 use Rattle.check_table.specs.declared.check.MessageCheck.TheVariants.{Unread, OfCmts, Repeated, KeptFull, Faulty, Judged}
-use Rattle.check_table.specs.First.{IsFirst}
+use Rattle.lists.specs.First.{IsFirst}
 use Rattle.check_table.specs.Said.{said_by}
 use Rattle.check_table.specs.Messages.{IsNoAck, IsRequest, IsKept, IsUnread, IsRefusedFor, IsRepeatOf, HoldsOf, AnswersOf, message_table, IsHandledBy}
 use Rattle.check_table.proofs.ListLemmas.{find-first, first_none, all_more}

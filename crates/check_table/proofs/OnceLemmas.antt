@@ -17,7 +17,7 @@ use Rattle.operator_model.specs.declared.verdict.Verdict.{Verdict}
 use Rattle.operator_model.specs.State.{Operator}
 use Rattle.operator_model.specs.Asked.{is_same, stand_together}
 use Rattle.operator_model.proofs.MapLemmas.{Ascends}
-use Rattle.check_table.specs.First.{IsFirst}
+use Rattle.lists.specs.First.{IsFirst}
 use Rattle.check_table.specs.Said.{Said, identifier, told_identifier, Names, IsOfFlow, IsRefused, Admits, Activates, IsSetWhere}
 use Rattle.check_table.specs.Holding.{Holds, AreTwoAndFour, NamesUnknownClass, GivesNoSet}
 use Rattle.check_table.specs.Answering.{IsAdded, GetsSid, IsChanged, IsDeleted, IsAccepted, Answers}

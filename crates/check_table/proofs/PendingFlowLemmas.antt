@@ -12,7 +12,8 @@ use Rattle.flow_table.specs.declared.flow.Flow.{Flow}
 use Rattle.flow_table.specs.declared.flow.Pending.{Pending}
 use Rattle.flow_table.specs.Flow.{with_pending, acknowledged, without_pending, taken_back, granted}
 use Rattle.flow_table.specs.Table.{flow_at}
-use Rattle.operator_model.specs.Handle.{put_if, change_at, without_flow, undone, flows_acked}
+use Rattle.operator_model.specs.Handle.{without_flow, undone, flows_acked}
+use Rattle.flow_table.specs.Moved.{change_if, change_at}
 use Rattle.operator_model.specs.Frame.{all_undone, all_granted}
 use Rattle.operator_model.specs.Sound.{IsWaitingOf}
 use Rattle.operator_model.proofs.MapLemmas.{Ascends, at-insert_same, at-remove_same}
@@ -38,7 +39,7 @@ taken_back_none flow (Some pending) is = refl
 changed_none : (k : ℕ) (change : Flow → Flow) (flows : List (ℕ × Flow)) → ((flow : Flow) → (change flow).pending ≡ None) → ¬ IsPending (change_at k change flows) k
 changed_none k change flows clears = by (flow_at k flows) refl
   where
-    by : (o : Option Flow) → flow_at k flows ≡ o → ¬ IsPending (put_if k change flows o) k
+    by : (o : Option Flow) → flow_at k flows ≡ o → ¬ IsPending (change_if k change flows o) k
     by None is pending = none-some pending.0 (sym is ∙ pending.1)
     by (Some old) is pending =
         let same : change old ≡ pending.0 = same_Some (change old) pending.0 (sym (at-insert_same flows k (change old)) ∙ pending.1) in
@@ -86,7 +87,7 @@ still_pending {row} {frame} units (g ∷ given_up) flows q are have pending =
 granted_pending : (q k frame minislots : ℕ) (flows : List (ℕ × Flow)) → IsPending (change_at k (granted minislots frame) flows) q → IsPending flows q
 granted_pending q k frame minislots flows pending = by (cases_eq q k)
   where
-    here : (o : Option Flow) → flow_at k flows ≡ o → IsPending (put_if k (granted minislots frame) flows o) k → IsPending flows k
+    here : (o : Option Flow) → flow_at k flows ≡ o → IsPending (change_if k (granted minislots frame) flows o) k → IsPending flows k
     here None is was = was
     here (Some old) is was =
         let same : granted minislots frame old ≡ was.0 = same_Some (granted minislots frame old) was.0 (sym (at-insert_same flows k (granted minislots frame old)) ∙ was.1) in

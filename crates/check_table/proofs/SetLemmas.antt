@@ -4,6 +4,7 @@ use Rattle.std.specs.Prelude.{Contains, MatchResult}
 use Rattle.std.specs.List.{AllByRecursion}
 use Rattle.std.proofs.lemmas.Bool.{cond_both, cond-true, cond-false, and_parts, and_from, eqb-true, eq-eqb, true≢false, false≢true}
 use Rattle.std.proofs.lemmas.List.Elements.{All-from_recursion, All-contains}
+use Rattle.lists.specs.Results.{◌>>=◌}
 use Rattle.tlv24.specs.declared.fields.FlowFields.{FlowFields}
 use Rattle.dsx_messages.specs.declared.modem.Modem.{Modem}
 use Rattle.dsx_messages.specs.declared.kind.Kind.{Kind}
@@ -21,7 +22,7 @@ use Rattle.flow_table.specs.declared.flow.Flow.{Flow}
 use Rattle.operator_model.specs.declared.verdict.AskedSets.{AskedSets}
 use Rattle.operator_model.specs.declared.verdict.Verdict.TheVariants.{Refused}
 use Rattle.operator_model.specs.State.{Operator}
-use Rattle.operator_model.specs.Asked.{◌>>=◌, refusal_naming, is_same, has_set_type, set_unless, set_over_class, set_of, is_change, asked_by_one, in_order, asked_by_two, asked_sets, failing_active, failing_admitted, nested_unless, nested_sets}
+use Rattle.operator_model.specs.Asked.{refusal_naming, is_same, has_set_type, set_unless, set_over_class, set_of, is_change, asked_by_one, in_order, asked_by_two, asked_sets, failing_active, failing_admitted, nested_unless, nested_sets}
 use Rattle.check_table.specs.Said.{IsAbout, AsksFor, IsRefused, Admits, Activates, IsSetWhere}
 use Rattle.check_table.specs.Holding.{NamesUnknownClass, IsTaken, GivesNoSet}
 use Rattle.check_table.specs.Answering.{set_type_code}

@@ -18,7 +18,7 @@ use Rattle.flow_table.specs.Table.{sfids_of, sids_of}
 use Rattle.operator_model.specs.declared.verdict.Verdict.{Verdict}
 use Rattle.operator_model.specs.declared.verdict.Verdict.TheVariants.{Refused, Put, Deleted}
 use Rattle.operator_model.specs.State.{Operator}
-use Rattle.check_table.specs.First.{IsFirst}
+use Rattle.lists.specs.First.{IsFirst}
 use Rattle.check_table.specs.Said.{Said, told_identifier, identifier_subtype, Names, IsOfFlow, IsAbout, IsRefused, IsToBeAdmitted, IsToBeActive}
 use Rattle.check_table.specs.Holding.{NamesUnknownClass, GivesNoSet}
 use Rattle.check_table.specs.declared.check.Check.{Check}

@@ -1,4 +1,3 @@
-pub mod First
 pub mod Said
 pub mod Holding
 pub mod Answering

@@ -3,7 +3,7 @@ use Rattle.std.specs.Prelude.{List, [], ◌∷◌}
 use Rattle.dsx_messages.specs.declared.modem.Modem.{Modem}
 use Rattle.operator_model.specs.declared.verdict.Verdict.{Verdict}
 use Rattle.operator_model.specs.State.{Operator}
-use Rattle.check_table.specs.First.{IsFirst}
+use Rattle.lists.specs.First.{IsFirst}
 use Rattle.check_table.specs.Said.{Said}
 use Rattle.check_table.specs.Holding.{Holds}
 use Rattle.check_table.specs.Answering.{Answers}

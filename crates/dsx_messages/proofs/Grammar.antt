@@ -5,6 +5,7 @@ use Rattle.std.specs.Option.{option_map}
 use Rattle.std.specs.List.{find, AllByRecursion}
 use Rattle.std.proofs.lemmas.List.{take_at, drop_at}
 use Rattle.std.proofs.lemmas.Bool.{eqb-true, eqb-false}
+use Rattle.lists.specs.Results.{◌>>=◌}
 use Rattle.tlv24.specs.declared.tlv.Tlv.{Tlv}
 use Rattle.tlv24.specs.declared.tlv.TlvFault.TheVariants.{Cut}
 use Rattle.tlv24.specs.declared.fields.FlowFields.{FlowFields}
@@ -23,7 +24,7 @@ use Rattle.dsx_messages.specs.declared.fault.MessageFault.{MessageFault}
 use Rattle.dsx_messages.specs.declared.fault.MessageFault.TheVariants as faults
 use Rattle.dsx_messages.specs.MessageType.{dsa_req, dsa_ack, dsc_req, dsc_ack, dsd_req}
 use Rattle.dsx_messages.specs.TlvType.{upstream_service_flow}
-use Rattle.dsx_messages.specs.Reading.{◌>>=◌, Gives, is_left_out, left_out_in, flow_told, flow_in, flows_after, flows_unless, flows_in_front, flows_in, with_flows, flows_request_of, deletion_of, ack_of, message_of}
+use Rattle.dsx_messages.specs.Reading.{Gives, is_left_out, left_out_in, flow_told, flow_in, flows_after, flows_unless, flows_in_front, flows_in, with_flows, flows_request_of, deletion_of, ack_of, message_of}
 use Rattle.dsx_messages.specs.Message.{IsHeaded, AreSaid, SaysFlows, SaysSfid, Says, HasType, IsShortBody, IsForeign, IsRequest, IsFirstMessageFault}
 use Rattle.dsx_messages.proofs.Passes.{values-flow, values-other}
 

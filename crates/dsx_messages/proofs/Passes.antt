@@ -1,5 +1,6 @@
 -- The two passes over the TLVs of a request.
 use Rattle.std.proofs.Common.{◌≡◌, ◌≢◌, ℕ, ◌+◌, ◌-◌, ◌<◌, ◌≤◌, Bool, true, false, cond, eqb, List, [], ◌∷◌, ◌++◌, length, Option, Some, None, Result, Ok, Err, refl, sym, ap, ◌∙◌, arith}
+use Rattle.lists.specs.Results.{◌>>=◌}
 use Rattle.tlv24.specs.declared.tlv.Tlv.{Tlv}
 use Rattle.tlv24.specs.declared.fields.FlowFields.{FlowFields}
 use Rattle.tlv24.specs.Tlv.{tlv, Front, first_of, front_of}
@@ -9,7 +10,7 @@ use Rattle.dsx_messages.specs.TlvType.{upstream_service_flow}
 use Rattle.dsx_messages.specs.declared.kind.Kind.{Kind}
 use Rattle.dsx_messages.specs.declared.fault.MessageFault.{MessageFault}
 use Rattle.dsx_messages.specs.declared.fault.MessageFault.TheVariants as faults
-use Rattle.dsx_messages.specs.Reading.{◌>>=◌, Fails, is_left_out, left_out_in, flow_in, flows_after}
+use Rattle.dsx_messages.specs.Reading.{Fails, is_left_out, left_out_in, flow_in, flows_after}
 use Rattle.dsx_messages.specs.Survey.{first_some, left_out_kind, flow_count, IsSurveyed, IsCutSurvey, IsSurveyedUpTo}
 
 -- ---- values of flow encodings

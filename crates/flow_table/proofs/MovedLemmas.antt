@@ -13,19 +13,19 @@ use Rattle.flow_table.specs.declared.flows.Moved.{Moved}
 use Rattle.flow_table.specs.Flow.{committed_of}
 use Rattle.flow_table.specs.Table.{flow_at, sid_if, is_sid, with_flow}
 use Rattle.flow_table.specs.Index.{IsIndex, IsFlowTable, without_sid_of, rows_of}
-use Rattle.flow_table.specs.Moved.{moved_if, moved_at, told_of}
+use Rattle.flow_table.specs.Moved.{change_if, change_at, told_of}
 use Rattle.flow_table.proofs.EntryLemmas.{written, put_same, length_put_there}
 use Rattle.flow_table.proofs.RowLemmas.{rows_put}
 use Rattle.flow_table.proofs.IndexLemmas.{index_changed, is_sid_yes, changed_room, row_room, table_put}
 
 -- a flow that is written in place, where there is one
 pub moved_some : (flows : List (ℕ × Flow)) (sfid : ℕ) (change : Flow → Flow) (old : Flow) → IsStrictlySortedBy nat_cmp (keys_of flows) → flow_at sfid flows ≡ Some old
-    → set_value (is_at (nat_cmp sfid)) flows (change old) ≡ moved_at sfid change flows
+    → set_value (is_at (nat_cmp sfid)) flows (change old) ≡ change_at sfid change flows
 moved_some flows sfid change old s at =
-    written flows sfid (change old) s (subst IsSome (sym at) refl) ∙ sym (ap (moved_if sfid change flows) at)
+    written flows sfid (change old) s (subst IsSome (sym at) refl) ∙ sym (ap (change_if sfid change flows) at)
 
-pub moved_none : (flows : List (ℕ × Flow)) (sfid : ℕ) (change : Flow → Flow) → flow_at sfid flows ≡ None → flows ≡ moved_at sfid change flows
-moved_none flows sfid change at = sym (ap (moved_if sfid change flows) at)
+pub moved_none : (flows : List (ℕ × Flow)) (sfid : ℕ) (change : Flow → Flow) → flow_at sfid flows ≡ None → flows ≡ change_at sfid change flows
+moved_none flows sfid change at = sym (ap (change_if sfid change flows) at)
 
 -- the index without a SID that the flow has still
 same_index : (o : Option ℕ) (index : List (ℕ × ℕ)) → without_sid_of o o index ≡ index
@@ -55,10 +55,10 @@ module _ {capacity : ℕ} {units : UnitSizes} {flows : List (ℕ × Flow)} {inde
       }
 
   pub table_moved : ((f : Flow) → (change f).sid ≡ f.sid) → ((f : Flow) → committed_of units (change f) ≡ committed_of units f)
-      → IsFlowTable capacity units (moved_at sfid change flows) index ledger
+      → IsFlowTable capacity units (change_at sfid change flows) index ledger
   table_moved sid committed = by (flow_at sfid flows) refl
     where
-      by : (o : Option Flow) → flow_at sfid flows ≡ o → IsFlowTable capacity units (moved_if sfid change flows o) index ledger
+      by : (o : Option Flow) → flow_at sfid flows ≡ o → IsFlowTable capacity units (change_if sfid change flows o) index ledger
       by None at = kept
       by (Some old) at = some_moved old at (sid old) (committed old)
 
@@ -78,12 +78,12 @@ module _ {capacity : ℕ} {units : UnitSizes} {flows : List (ℕ × Flow)} {inde
 
   pub told_table : ((old : Flow) → flow_at sfid flows ≡ Some old → IfSome (change old).sid (λ sid. sid_if (flow_at sfid flows) ≡ Some sid))
       → (moved : Moved) → Some moved ≡ told_of units change (flow_at sfid flows)
-      → IsFlowTable capacity units (moved_at sfid change flows) (without_sid_of moved.had moved.has index)
+      → IsFlowTable capacity units (change_at sfid change flows) (without_sid_of moved.had moved.has index)
       (record { room = ledger.room; rows = insert_entry nat_cmp ledger.rows sfid moved.committed })
   told_table keeps moved = by (flow_at sfid flows) refl
     where
       by : (o : Option Flow) → flow_at sfid flows ≡ o → Some moved ≡ told_of units change o
-          → IsFlowTable capacity units (moved_if sfid change flows o) (without_sid_of moved.had moved.has index)
+          → IsFlowTable capacity units (change_if sfid change flows o) (without_sid_of moved.had moved.has index)
           (record { room = ledger.room; rows = insert_entry nat_cmp ledger.rows sfid moved.committed })
       by None at told = absurd (none-some moved (sym told))
       by (Some old) at told =

@@ -1,6 +1,5 @@
 -- What a request and a grant make of the flows (implementation-specific).
-use Rattle.std.specs.Prelude.{ℕ, Bool, List, Option, Some, None}
-use Rattle.dsx_messages.specs.declared.modem.Modem.{Modem}
+use Rattle.std.specs.Prelude.{ℕ, List, Option, Some, None}
 use Rattle.flow_table.specs.declared.flow.Flow.{Flow}
 use Rattle.flow_table.specs.declared.flow.Asker.{Asker}
 use Rattle.param_sets.specs.Units.{UnitSizes}
@@ -9,12 +8,12 @@ use Rattle.flow_table.specs.Flow.{asks_for_grants, committed_of}
 use Rattle.flow_table.specs.Table.{flow_at, with_flow}
 
 -- the flow of an SFID is changed so, if there is one
-abbrev pub moved_if : ℕ → (Flow → Flow) → List (ℕ × Flow) → Option Flow → List (ℕ × Flow)
-moved_if sfid change flows None = flows
-moved_if sfid change flows (Some flow) = with_flow sfid (change flow) flows
+abbrev pub change_if : ℕ → (Flow → Flow) → List (ℕ × Flow) → Option Flow → List (ℕ × Flow)
+change_if sfid change flows None = flows
+change_if sfid change flows (Some flow) = with_flow sfid (change flow) flows
 
-abbrev pub moved_at : ℕ → (Flow → Flow) → List (ℕ × Flow) → List (ℕ × Flow)
-moved_at sfid change flows = moved_if sfid change flows (flow_at sfid flows)
+abbrev pub change_at : ℕ → (Flow → Flow) → List (ℕ × Flow) → List (ℕ × Flow)
+change_at sfid change flows = change_if sfid change flows (flow_at sfid flows)
 
 -- what the index and the ledger have to know of a flow that is changed so: the SIDs that it had and has, and what it has committed
 abbrev pub told_of : UnitSizes → (Flow → Flow) → Option Flow → Option Moved

@@ -11,7 +11,7 @@ ghost use Rattle.flow_table.specs.Table.{flow_at, flow_with, sid_if, sfids_of, s
 ghost use Rattle.flow_table.specs.Flow.{acknowledged, taken_back, requested, granted};
 ghost use Rattle.flow_table.specs.Gap.{gap_from};
 ghost use Rattle.flow_table.specs.Index.{with_sid_of, without_sid_of};
-ghost use Rattle.flow_table.specs.Moved.{moved_at, told_of, asker_of};
+ghost use Rattle.flow_table.specs.Moved.{change_at, told_of, asker_of};
 
 use crate::flow::{Asker, Flow};
 use admission::{Budget, IdRange, Ledger, Over};
@@ -152,7 +152,7 @@ impl Flows {
 
     /// Acknowledges in a frame what waits of the flow of an SFID, if there is one, in place. Takes no memory.
     pub fn acknowledge(&mut self, sfid: u32, frame: u32)
-        ensures { self.new ≡ record self.old { flows = moved_at sfid (acknowledged frame) self.old.flows } }
+        ensures { self.new ≡ record self.old { flows = change_at sfid (acknowledged frame) self.old.flows } }
     {
         if let Some(moved) = acknowledge_in(&mut self.by_sfid, self.units, sfid, frame) {
             free(&mut self.by_sid, moved.had, moved.has);
@@ -162,7 +162,7 @@ impl Flows {
 
     /// Takes back what waits of the flow of an SFID, if there is one, in place. Takes no memory.
     pub fn take_back(&mut self, sfid: u32)
-        ensures { self.new ≡ record self.old { flows = moved_at sfid taken_back self.old.flows } }
+        ensures { self.new ≡ record self.old { flows = change_at sfid taken_back self.old.flows } }
     {
         if let Some(moved) = take_back_in(&mut self.by_sfid, self.units, sfid) {
             free(&mut self.by_sid, moved.had, moved.has);
@@ -173,7 +173,7 @@ impl Flows {
     /// Takes the minislots that the modem requests in this frame as the backlog. It waits since
     /// this frame if there was none before.
     pub fn request(&mut self, sfid: u32, minislots: u16, frame: u32)
-        ensures { self.new ≡ record self.old { flows = moved_at sfid (requested minislots frame) self.old.flows } }
+        ensures { self.new ≡ record self.old { flows = change_at sfid (requested minislots frame) self.old.flows } }
     {
         request_in(&mut self.by_sfid, sfid, minislots, frame);
     }
@@ -182,7 +182,7 @@ impl Flows {
     /// frame.
     pub fn grant(&mut self, sfid: u32, minislots: u16, frame: u32)
         requires { frame < 4294967295 }
-        ensures { self.new ≡ record self.old { flows = moved_at sfid (granted minislots frame) self.old.flows } }
+        ensures { self.new ≡ record self.old { flows = change_at sfid (granted minislots frame) self.old.flows } }
     {
         grant_in(&mut self.by_sfid, sfid, minislots, frame);
     }
@@ -432,7 +432,7 @@ fn acknowledge_in(
     sfid: u32,
     frame: u32,
 ) -> Option<Moved>
-    ensures flows { by_sfid.new.entries ≡ moved_at sfid (acknowledged frame) by_sfid.old.entries }
+    ensures flows { by_sfid.new.entries ≡ change_at sfid (acknowledged frame) by_sfid.old.entries }
     ensures told { result ≡ told_of units (acknowledged frame) (flow_at sfid by_sfid.old.entries) }
 {
     let flow = by_sfid.get_mut(&sfid)?;
@@ -448,7 +448,7 @@ fn acknowledge_in(
 
 /// Takes back what waits of the flow of an SFID, where there is one.
 fn take_back_in(by_sfid: &mut BTreeMap<u32, Flow>, units: Units, sfid: u32) -> Option<Moved>
-    ensures flows { by_sfid.new.entries ≡ moved_at sfid taken_back by_sfid.old.entries }
+    ensures flows { by_sfid.new.entries ≡ change_at sfid taken_back by_sfid.old.entries }
     ensures told { result ≡ told_of units taken_back (flow_at sfid by_sfid.old.entries) }
 {
     let flow = by_sfid.get_mut(&sfid)?;
@@ -464,7 +464,7 @@ fn take_back_in(by_sfid: &mut BTreeMap<u32, Flow>, units: Units, sfid: u32) -> O
 
 /// Makes so many minislots the backlog of the flow of an SFID, where there is one.
 fn request_in(by_sfid: &mut BTreeMap<u32, Flow>, sfid: u32, minislots: u16, frame: u32)
-    ensures { by_sfid.new.entries ≡ moved_at sfid (requested minislots frame) by_sfid.old.entries }
+    ensures { by_sfid.new.entries ≡ change_at sfid (requested minislots frame) by_sfid.old.entries }
 {
     if let Some(flow) = by_sfid.get_mut(&sfid) {
         flow.request(minislots, frame);
@@ -474,7 +474,7 @@ fn request_in(by_sfid: &mut BTreeMap<u32, Flow>, sfid: u32, minislots: u16, fram
 /// Takes so many granted minislots off the backlog of the flow of an SFID, if there is one.
 fn grant_in(by_sfid: &mut BTreeMap<u32, Flow>, sfid: u32, minislots: u16, frame: u32)
     requires { frame < 4294967295 }
-    ensures { by_sfid.new.entries ≡ moved_at sfid (granted minislots frame) by_sfid.old.entries }
+    ensures { by_sfid.new.entries ≡ change_at sfid (granted minislots frame) by_sfid.old.entries }
 {
     if let Some(flow) = by_sfid.get_mut(&sfid) {
         flow.grant(minislots, frame);

@@ -14,9 +14,7 @@ use Rattle.std.proofs.lemmas.List.Elements.{All-contains}
 use Rattle.admission.specs.Free.{Numbers, IsLeastFree, IsIn}
 use Rattle.flow_table.specs.declared.flow.Flow.{Flow}
 use Rattle.flow_table.specs.Table.{FlowTable, sids_of, flow_at, sid_if, with_flow, MayStand}
-use Rattle.flow_table.specs.Moved.{moved_if, moved_at}
 use Rattle.flow_table.proofs.IndexLemmas.{sid_used}
-use Rattle.operator_model.specs.Handle.{put_if, change_at}
 
 -- ---- how many flows there are with one more, or with another in its place
 
@@ -104,12 +102,3 @@ opened_may_stand table sfid range flow sorted room free = record {
     unused_sid : (o : Option ℕ) → IfSome o (IsLeastFree range (sids_of table.flows)) → IfSome o (λ sid. (¬ Contains (sids_of table.flows) sid) ⊎ (sid_if (flow_at sfid table.flows) ≡ Some sid))
     unused_sid None h = tt
     unused_sid (Some sid) h = inl h.free.unused
-
--- ---- a flow that is changed in its place
-
-pub moved_is_changed : (sfid : ℕ) (change : Flow → Flow) (flows : List (ℕ × Flow)) → moved_at sfid change flows ≡ change_at sfid change flows
-moved_is_changed sfid change flows = by (flow_at sfid flows)
-  where
-    by : (o : Option Flow) → moved_if sfid change flows o ≡ put_if sfid change flows o
-    by None = refl
-    by (Some flow) = refl

@@ -21,7 +21,8 @@ use Rattle.operator_model.specs.declared.verdict.Verdict.{Verdict}
 use Rattle.operator_model.specs.declared.verdict.Verdict.TheVariants.{Put}
 use Rattle.operator_model.specs.Asked.{transaction, addition_of, change_of}
 use Rattle.operator_model.specs.Frame.{at_frame, flows_left}
-use Rattle.operator_model.specs.Handle.{StepResult, change_at, transacted}
+use Rattle.operator_model.specs.Handle.{StepResult, transacted}
+use Rattle.flow_table.specs.Moved.{change_at}
 use Rattle.operator_model.specs.Handle as handling
 use Rattle.operator_model.specs.Machine as machines
 use Rattle.operator_model.specs.Verdict.{limit_of}

@@ -38,7 +38,6 @@ impl Machine {
     }
 
     /// Makes the pending sets of a flow its sets.
-    #[tactic(auto, using(crate::proofs::Room::moved_is_changed))]
     fn commit(&mut self, sfid: u32)
         ensures { self.new ≡ with_change self.old sfid (acknowledged self.old.state.frame) }
     {
@@ -46,7 +45,6 @@ impl Machine {
     }
 
     /// Undoes what a transaction asked for.
-    #[tactic(auto, using(crate::proofs::Room::moved_is_changed))]
     pub(crate) fn undo(&mut self, kind: Kind, sfid: u32)
         ensures { self.new ≡ with_flows self.old (undone kind sfid self.old.state.flows) }
     {

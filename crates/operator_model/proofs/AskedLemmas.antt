@@ -1,6 +1,7 @@
 -- What is asked for is nested, and of a flow that waits for nothing.
 use Rattle.std.proofs.Common.{◌≡◌, ℕ, ◌==◌, ◌&&◌, not, false, List, [], ◌∷◌, Option, Some, None, Result, Ok, Err, IfOk, IfSome, is_some, refl}
 use Rattle.std.proofs.lemmas.Bool.{cond_both}
+use Rattle.lists.specs.Results.{◌>>=◌}
 use Rattle.tlv24.specs.Subtype.{reference_subtype, sfid_subtype}
 use Rattle.tlv24.specs.declared.fields.FlowFields.{FlowFields}
 use Rattle.dsx_messages.specs.declared.code.Code.TheVariants as codes
@@ -22,7 +23,7 @@ use Rattle.operator_model.specs.declared.verdict.Transaction.{Transaction}
 use Rattle.operator_model.specs.declared.verdict.AskedSets.{AskedSets}
 use Rattle.operator_model.specs.declared.verdict.Addition.{Addition}
 use Rattle.operator_model.specs.declared.verdict.Change.{Change}
-use Rattle.operator_model.specs.Asked.{◌>>=◌, stated, refusal_naming, first_encoding, free_flow, has_set_type, set_unless, set_over_class, set_of, is_change, asked_by_type, asked_by_one, asked_by_two, asked_sets, failing_active, failing_admitted, nested_unless, nested_sets, addition_of, change_of}
+use Rattle.operator_model.specs.Asked.{stated, refusal_naming, first_encoding, free_flow, has_set_type, set_unless, set_over_class, set_of, is_change, asked_by_type, asked_by_one, asked_by_two, asked_sets, failing_active, failing_admitted, nested_unless, nested_sets, addition_of, change_of}
 use Rattle.operator_model.specs.Sound.{KeepsItsKind, AreOfTheirKinds}
 use Rattle.operator_model.proofs.KindLemmas.{read_kind}
 

@@ -8,7 +8,8 @@ use Rattle.plant.specs.declared.operator_row.RowFields.{RowFields}
 use Rattle.flow_table.specs.declared.flow.Flow.{Flow}
 use Rattle.flow_table.specs.Flow.{taken_back}
 use Rattle.flow_table.specs.Table.{flow_at, with_flow}
-use Rattle.operator_model.specs.Handle.{put_if, change_at, without_flow, undone}
+use Rattle.operator_model.specs.Handle.{without_flow, undone}
+use Rattle.flow_table.specs.Moved.{change_if, change_at}
 use Rattle.operator_model.specs.Sound.{IsSoundFlow}
 use Rattle.operator_model.proofs.MapLemmas.{at-insert_same, at-insert_other, at-remove_other}
 use Rattle.operator_model.proofs.FlowsLemmas.{AreFlows, MayPut-again, put-AreFlows, sound-there, without-AreFlows, CommitLess, same-CommitLess, without-CommitLess, put-CommitLess}
@@ -37,7 +38,7 @@ module _ {row : RowFields} {units : UnitSizes} {frame : ℕ} {flows : List (ℕ 
   pub change-MayStep : (k : ℕ) (change : Flow → Flow) → ((old : Flow) → IsSoundFlow frame old → MayFollow units frame old (change old)) → MayStep row units frame flows (change_at k change flows)
   change-MayStep k change follows = by (flow_at k flows) refl
     where
-      by : (o : Option Flow) → flow_at k flows ≡ o → MayStep row units frame flows (put_if k change flows o)
+      by : (o : Option Flow) → flow_at k flows ≡ o → MayStep row units frame flows (change_if k change flows o)
       by None is = stay-MayStep
       by (Some old) is = put-MayStep k old (change old) is (follows old (sound-there are k old is))
 
@@ -52,7 +53,7 @@ module _ (q k : ℕ) (apart : q ≡ k → ⊥) (flows : List (ℕ × Flow)) wher
   pub at-change_other : (change : Flow → Flow) → flow_at q (change_at k change flows) ≡ flow_at q flows
   at-change_other change = by (flow_at k flows)
     where
-      by : (o : Option Flow) → flow_at q (put_if k change flows o) ≡ flow_at q flows
+      by : (o : Option Flow) → flow_at q (change_if k change flows o) ≡ flow_at q flows
       by None = refl
       by (Some old) = at-insert_other q k apart flows (change old)
 
@@ -66,7 +67,7 @@ pub kept-change : (P : Flow → Type 0) (q k : ℕ) (change : Flow → Flow) (fl
     → IsSome (flow_at q flows) × IfSome (flow_at q flows) P → IsSome (flow_at q (change_at k change flows)) × IfSome (flow_at q (change_at k change flows)) P
 kept-change P q k change flows keeps has = by (cases_eq q k)
   where
-    here : (o : Option Flow) → flow_at k flows ≡ o → IsSome o × IfSome o P → IsSome (flow_at k (put_if k change flows o)) × IfSome (flow_at k (put_if k change flows o)) P
+    here : (o : Option Flow) → flow_at k flows ≡ o → IsSome o × IfSome o P → IsSome (flow_at k (change_if k change flows o)) × IfSome (flow_at k (change_if k change flows o)) P
     here None is h = subst (λ (o : Option Flow). IsSome o × IfSome o P) (sym is) h
     here (Some old) is h = subst (λ (o : Option Flow). IsSome o × IfSome o P) (sym (at-insert_same flows k (change old))) (refl, keeps old h.1)
 

@@ -16,7 +16,8 @@ use Rattle.flow_table.specs.Flow.{asks_for_grants, requested}
 use Rattle.flow_table.specs.Flow as flows
 use Rattle.flow_table.specs.Table.{flow_at, flow_with, is_sid, with_flow}
 use Rattle.operator_model.specs.State.{Operator, operator}
-use Rattle.operator_model.specs.Handle.{StepResult, put_if, flows_acked, acked_if, acked, asked_of_flow}
+use Rattle.operator_model.specs.Handle.{StepResult, flows_acked, acked_if, acked, asked_of_flow}
+use Rattle.flow_table.specs.Moved.{change_if}
 use Rattle.operator_model.specs.Sound.{IsWaitingOf, HasItsFlow, IsSound}
 use Rattle.operator_model.proofs.EntryLemmas.{at-find}
 use Rattle.operator_model.proofs.FlowsLemmas.{sound-there}
@@ -89,7 +90,7 @@ module _ (op : Operator) (sound : IsSound op) where
           let change : Flow → Flow = requested minislots op.state.frame in
           let waiting : All (HasItsFlow (with_flow entry.0 (change entry.1) op.state.flows)) op.state.kept = λ k d lt waits.
           subst (λ (fs : List (ℕ × Flow)). IsSome (flow_at (get_or op.state.kept k d).sfid fs) × IfSome (flow_at (get_or op.state.kept k d).sfid fs) (IsWaitingOf (get_or op.state.kept k d).kind))
-          (ap (put_if entry.0 change op.state.flows) there)
+          (ap (change_if entry.0 change op.state.flows) there)
           (kept-change (IsWaitingOf (get_or op.state.kept k d).kind) (get_or op.state.kept k d).sfid entry.0 change op.state.flows (λ old h. waits_still (get_or op.state.kept k d).kind old (change old) refl refl h) (sound.waiting k d lt waits)) in
           cond_both (not (same_modem entry.1.modem modem)) _ _ (λ (ran : StepResult). IsSound (operator op.consts op.row ran.state)) (λ _. sound)
           (λ _. cond_both (not (asks_for_grants entry.1.sets.active)) _ _ (λ (ran : StepResult). IsSound (operator op.consts op.row ran.state)) (λ _. sound)

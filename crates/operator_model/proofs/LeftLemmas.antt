@@ -19,7 +19,8 @@ use Rattle.plant.specs.declared.operator_row.RowFields.{RowFields}
 use Rattle.flow_table.specs.declared.flow.Flow.{Flow}
 use Rattle.flow_table.specs.Flow.{granted}
 use Rattle.flow_table.specs.Table.{flow_at}
-use Rattle.operator_model.specs.Handle.{change_at, undone}
+use Rattle.operator_model.specs.Handle.{undone}
+use Rattle.flow_table.specs.Moved.{change_at}
 use Rattle.operator_model.specs.Frame.{all_undone, all_granted}
 use Rattle.operator_model.specs.Sound.{IsSoundFlow, IsWaitingOf, HasItsFlow, HaveOwnFlows}
 use Rattle.operator_model.proofs.FlowsLemmas.{AreFlows, then-CommitLess, same-CommitLess}

@@ -17,7 +17,8 @@ use Rattle.flow_table.specs.declared.flow.Pending.{Pending}
 use Rattle.flow_table.specs.Flow.{without_pending, taken_back}
 use Rattle.flow_table.specs.Table.{flow_at, flowing_of_set, flowing_in}
 use Rattle.operator_model.specs.State.{Operator}
-use Rattle.operator_model.specs.Handle.{put_if, undone}
+use Rattle.operator_model.specs.Handle.{undone}
+use Rattle.flow_table.specs.Moved.{change_if}
 use Rattle.operator_model.specs.Frame.{all_undone, flows_left}
 use Rattle.operator_model.specs.Sound.{IsSoundPending, IsSoundFlow, IsWaitingOf, IsSound}
 use Rattle.operator_model.proofs.EntryLemmas.{read-insert, read-remove}
@@ -64,7 +65,7 @@ module _ {row : RowFields} {frame : ℕ} {flows : List (ℕ × Flow)} (are : Are
       by kind None is some waits = absurd (true≢false (sym some))
       by Dsa (Some flow) is some waits = read-remove flowing_of flows g.sfid flow is (new_flows_not g.sfid flow waits)
       by Dsc (Some flow) is some waits =
-          ap (λ (o : Option Flow). flowing_in (put_if g.sfid taken_back flows o)) is
+          ap (λ (o : Option Flow). flowing_in (change_if g.sfid taken_back flows o)) is
           ∙ read-insert flowing_of flows g.sfid (taken_back flow) flow are.ascending is (taken_back_same g.sfid frame flow (sound-there are g.sfid flow is))
       by Dsd (Some flow) is some waits = absurd waits
 

@@ -5,6 +5,7 @@
 use Rattle.std.specs.Prelude.{◌==◌, ◌&&◌, ◌||◌, ℕ, Bool, true, false, not, List, [], ◌∷◌, find, Option, Some, None, Result, Ok, Err, is_some, is_none, if◌then◌else◌}
 use Rattle.std.specs.Option.{option_map}
 use Rattle.std.specs.List.{list_all}
+use Rattle.lists.specs.Results.{◌>>=◌}
 use Rattle.tlv24.specs.Subtype.{reference_subtype, sfid_subtype, class_name_subtype, set_type_subtype, scheduling_type_subtype}
 use Rattle.tlv24.specs.declared.fields.FlowFields.{FlowFields}
 use Rattle.dsx_messages.specs.declared.modem.Modem.{Modem}
@@ -33,12 +34,6 @@ use Rattle.operator_model.specs.declared.verdict.Transaction.{Transaction}
 use Rattle.operator_model.specs.declared.verdict.AskedSets.{AskedSets}
 use Rattle.operator_model.specs.declared.verdict.Addition.{Addition}
 use Rattle.operator_model.specs.declared.verdict.Change.{Change}
-
--- what a check answers: the reply of a refusal, or what the next check goes on with
-infixl 10 ◌>>=◌
-abbrev pub ◌>>=◌ : {A B : Type 0} → Result A ReplyFields → (A → Result B ReplyFields) → Result B ReplyFields
-(Ok x) >>= f = f x
-(Err reply) >>= f = Err reply
 
 abbrev pub transaction : Modem → Kind → ℕ → Transaction
 transaction modem kind tid = record { modem = modem; kind = kind; tid = tid }

@@ -16,7 +16,8 @@ use Rattle.operator_model.specs.declared.output.Output.TheVariants as outputs
 use Rattle.operator_model.specs.declared.share.Share.{Share}
 use Rattle.operator_model.specs.declared.share.NextShare.{NextShare}
 use Rattle.operator_model.specs.State.{OperatorState, Operator}
-use Rattle.operator_model.specs.Handle.{StepResult, change_at, undone}
+use Rattle.operator_model.specs.Handle.{StepResult, undone}
+use Rattle.flow_table.specs.Moved.{change_at}
 
 -- ---- timers
 

@@ -25,7 +25,8 @@ use Rattle.plant.specs.declared.consts.ConstsFields.{ConstsFields}
 use Rattle.plant.specs.Row.{same_modem}
 use Rattle.flow_table.specs.declared.flow.Flow.{Flow}
 use Rattle.flow_table.specs.Flow.{asks_for_grants, acknowledged, taken_back, requested}
-use Rattle.flow_table.specs.Table.{flow_at, flow_with, with_flow}
+use Rattle.flow_table.specs.Table.{flow_with, with_flow}
+use Rattle.flow_table.specs.Moved.{change_at}
 use Rattle.operator_model.specs.declared.heard.Heard.{Heard}
 use Rattle.operator_model.specs.declared.heard.Heard.TheVariants as heards
 use Rattle.operator_model.specs.declared.output.Cause.{Cause}
@@ -52,14 +53,6 @@ abbrev pub told : OperatorState → Modem → List ℕ → StepResult
 told state modem bytes = record { state = state; outputs = outputs.Reply modem bytes ∷ [] }
 
 -- ---- flows that change
-
--- the flow of an SFID is changed so, if there is one
-abbrev pub put_if : ℕ → (Flow → Flow) → List (ℕ × Flow) → Option Flow → List (ℕ × Flow)
-put_if sfid change flows None = flows
-put_if sfid change flows (Some flow) = with_flow sfid (change flow) flows
-
-abbrev pub change_at : ℕ → (Flow → Flow) → List (ℕ × Flow) → List (ℕ × Flow)
-change_at sfid change flows = put_if sfid change flows (flow_at sfid flows)
 
 abbrev pub without_flow : ℕ → List (ℕ × Flow) → List (ℕ × Flow)
 without_flow sfid flows = remove_entry (is_at (nat_cmp sfid)) flows

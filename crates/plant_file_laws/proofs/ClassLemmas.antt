@@ -5,6 +5,7 @@ use Rattle.std.specs.List.{list_any}
 use Rattle.std.proofs.lemmas.Bool.{true≢false}
 use Rattle.std.proofs.lemmas.List.{get_or_append_left, get_or_push}
 use Rattle.toml.specs.Data.{Data, string, array, table, Items, Members, get_member, get_item, as_array}
+use Rattle.lists.specs.Results.{◌>>=◌}
 use Rattle.tlv24.specs.Flow.{flow_of}
 use Rattle.tlv24.specs.declared.fields.FlowFields.{FlowFields}
 use Rattle.tlv24.specs.declared.fault.FlowFault.{FlowFault}
@@ -16,7 +17,7 @@ use Rattle.slice_table.specs.declared.plant_key.Field.TheVariants as field
 use Rattle.slice_table.specs.declared.plant_key.Place.{Place}
 use Rattle.slice_table.specs.declared.plant_key.Place.TheVariants as place
 use Rattle.plant.specs.Classes.{is_named}
-use Rattle.slice_table.specs.Tree.{◌>>=◌, each, items_len, expected, checked, at_field, text_at, bytes_at, table_of}
+use Rattle.slice_table.specs.Tree.{each, items_len, expected, checked, at_field, text_at, bytes_at, table_of}
 use Rattle.slice_table.specs.ReadConsts.{is_class_name, class_name_at, states_parameters, parameters_in, class_encoding_at, class_read, classes_in, classes_if}
 use Rattle.slice_table.proofs.Parsed.{ok_same, bind_ok}
 use Rattle.slice_table.proofs.Values.{at_most}

@@ -3,6 +3,7 @@ use Rattle.std.proofs.Common.{◌≡◌, ◌⊎◌, ◌↔◌, codes, List, [], 
 use Rattle.std.specs.List.{AllByRecursion}
 use Rattle.std.proofs.lemmas.List.Elements.{All-from_recursion, recursion_from_All}
 use Rattle.toml.specs.Data.{Data, Members, get_member}
+use Rattle.lists.specs.Results.{◌>>=◌}
 use Rattle.plant.specs.declared.consts.ConstsFields.{ConstsFields}
 use Rattle.plant.specs.declared.operator_row.RowFields.{RowFields}
 use Rattle.plant.specs.declared.plant.PlantFields.{PlantFields}
@@ -10,7 +11,7 @@ use Rattle.slice_table.specs.declared.plant_fault.PlantFault.{PlantFault}
 use Rattle.slice_table.specs.declared.plant_key.Key.{Key}
 use Rattle.slice_table.specs.declared.plant_key.Key.TheVariants.{Classes, Operators}
 use Rattle.slice_table.specs.declared.plant_key.Place.TheVariants as place
-use Rattle.slice_table.specs.Tree.{Read, ◌>>=◌}
+use Rattle.slice_table.specs.Tree.{Read}
 use Rattle.slice_table.specs.Checks.{rows_fault, unless}
 use Rattle.slice_table.specs.ReadConsts.{plant_keys_of, classes_if, with_classes, consts_of}
 use Rattle.slice_table.specs.ReadRows.{rows_of}
@@ -20,7 +21,7 @@ use Rattle.slice_table.proofs.Parsed.{ok_same, bind_ok}
 use Rattle.slice_table.proofs.SaidKeys.{bind_both}
 use Rattle.slice_table.proofs.SaidConsts.{consts_are}
 use Rattle.slice_table.proofs.SaidRows.{rows_are}
-use Rattle.plant_file_laws.specs.First.{IsFirst}
+use Rattle.lists.specs.First.{IsFirst}
 use Rattle.plant_file_laws.specs.Held.{items_in, held}
 use Rattle.plant_file_laws.specs.Keys.{keys_of, keys_at, plant_fields, in_turn, class_keys, operator_keys}
 use Rattle.plant_file_laws.specs.Faults.{IsMissing, IsWrong, IsAtFault, IsToldAs, IsOfTheFirstKey, IsOfAllKeys, AreRight}

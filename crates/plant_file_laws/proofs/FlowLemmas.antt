@@ -3,6 +3,7 @@ use Rattle.std.proofs.Common.{◌≡◌, ℕ, suc, ◌+◌, true, List, [], ◌�
 use Rattle.std.proofs.Common.{IsSome}
 use Rattle.toml.specs.Data.{Data, string, array, table, Items, Members, get_item, as_str, as_array}
 use Rattle.hex.specs.Hex.{decode_sized}
+use Rattle.lists.specs.Results.{◌>>=◌}
 use Rattle.dsx_messages.specs.declared.modem.Modem.{Modem}
 use Rattle.plant.specs.declared.consts.ConstsFields.{ConstsFields}
 use Rattle.plant.specs.declared.provision.Provision.{Provision}
@@ -14,7 +15,7 @@ use Rattle.slice_table.specs.declared.plant_key.Place.{Place}
 use Rattle.slice_table.specs.declared.plant_key.Place.TheVariants as place
 use Rattle.plant.specs.Provisioned.{sets_of_encoding}
 use Rattle.plant.specs.Row.{is_listed}
-use Rattle.slice_table.specs.Tree.{Read, ◌>>=◌, each, required, expected, checked, at_field, bytes_at, modem_in, modem_of, modem_at, table_of}
+use Rattle.slice_table.specs.Tree.{Read, each, required, expected, checked, at_field, bytes_at, modem_in, modem_of, modem_at, table_of}
 use Rattle.slice_table.specs.ReadRows.{own_modem_at, has_sets, provision_at, provision_read, provisions_in, provisions_if}
 use Rattle.slice_table.specs.Says.{SaysConsts, SaysModems}
 use Rattle.slice_table.proofs.Parsed.{ok_same, bind_ok, required_ok, checked_ok}

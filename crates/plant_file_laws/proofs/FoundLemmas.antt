@@ -2,11 +2,12 @@
 use Rattle.std.proofs.Common.{◌≡◌, Bool, true, false, ℕ, suc, ◌+◌, add-zero, List, [], ◌∷◌, ◌++◌, inl, inr, Option, Some, None, Ok, Err, refl, sym, ap, ◌∙◌, subst, arith}
 use Rattle.std.specs.List.{AllByRecursion}
 use Rattle.toml.specs.Data.{Data, Items, no_items, item, Members, get_item}
+use Rattle.lists.specs.Results.{◌>>=◌}
 use Rattle.slice_table.specs.declared.plant_fault.PlantFault.{PlantFault}
 use Rattle.slice_table.specs.declared.plant_fault.PlantFault.TheVariants.{Missing, BadValue}
 use Rattle.slice_table.specs.declared.plant_key.Key.{Key}
-use Rattle.slice_table.specs.Tree.{Read, ◌>>=◌, each, required, expected, checked}
-use Rattle.plant_file_laws.specs.First.{IsFirst}
+use Rattle.slice_table.specs.Tree.{Read, each, required, expected, checked}
+use Rattle.lists.specs.First.{IsFirst}
 use Rattle.plant_file_laws.specs.Held.{held}
 use Rattle.plant_file_laws.specs.Keys.{in_turn}
 use Rattle.plant_file_laws.specs.Stands.{MayStand, MustStand}

@@ -3,6 +3,7 @@ use Rattle.std.proofs.Common.{◌≡◌, ℕ, pos, ◌≤◌, ◌↔◌, nat_le,
 use Rattle.std.proofs.lemmas.Bool.{and_parts, true≢false}
 use Rattle.toml.specs.Data.{Data, string, integer, array, table, Members, as_array, as_table, as_str}
 use Rattle.hex.specs.Hex.{decode_of}
+use Rattle.lists.specs.Results.{◌>>=◌}
 use Rattle.admission.specs.Free.{Numbers}
 use Rattle.slice_scheduler.specs.Minislots.{Minislots}
 use Rattle.plant.specs.declared.consts.ConstsFields.{ConstsFields}
@@ -15,7 +16,7 @@ use Rattle.slice_table.specs.declared.plant_key.Key.{Key}
 use Rattle.slice_table.specs.declared.plant_key.Key.TheVariants.{Table, Entry}
 use Rattle.slice_table.specs.declared.ranges.Bounds.{Bounds}
 use Rattle.slice_table.specs.Ranges.{range_of, default_of}
-use Rattle.slice_table.specs.Tree.{Read, ◌>>=◌, required, expected, checked, at_field, natural, number_of, number_if, number_at, number_in, pair_in, array_at, pair_at, text_at, decoded, bytes_at, table_of}
+use Rattle.slice_table.specs.Tree.{Read, required, expected, checked, at_field, natural, number_of, number_if, number_at, number_in, pair_in, array_at, pair_at, text_at, decoded, bytes_at, table_of}
 use Rattle.slice_table.specs.ReadRows.{is_range, range_at, is_within, slice_at}
 use Rattle.slice_table.specs.Says.{SaysConsts, SaysSlice, two}
 use Rattle.slice_table.proofs.Parsed.{ok_same, bind_ok, required_ok}

@@ -8,6 +8,7 @@ use Rattle.std.proofs.lemmas.Bool.{true≢false, false≢true}
 use Rattle.std.proofs.lemmas.List.{get_or_append_left, get_or_push}
 use Rattle.std.proofs.lemmas.Slice.Eq.{bytes_eq-Decides}
 use Rattle.toml.specs.Data.{Data, string, array, table, Items, no_items, item, Members, get_member, get_item, as_str, as_array}
+use Rattle.lists.specs.Results.{◌>>=◌}
 use Rattle.dsx_messages.specs.declared.modem.Modem.{Modem}
 use Rattle.grant_policy.specs.declared.policy.Policy.{Policy}
 use Rattle.grant_policy.specs.declared.policy.Policy.TheVariants.{Strict, Short}
@@ -20,7 +21,7 @@ use Rattle.slice_table.specs.declared.plant_key.Field.{Field}
 use Rattle.slice_table.specs.declared.plant_key.Field.TheVariants as field
 use Rattle.slice_table.specs.declared.plant_key.Place.{Place}
 use Rattle.slice_table.specs.declared.plant_key.Place.TheVariants as place
-use Rattle.slice_table.specs.Tree.{Read, ◌>>=◌, each, items_len, required, expected, checked, at_field, number_in, text_at, array_at, modem_of, table_of}
+use Rattle.slice_table.specs.Tree.{Read, each, items_len, required, expected, checked, at_field, number_in, text_at, array_at, modem_of, table_of}
 use Rattle.slice_table.specs.ReadRows.{is_operator_name, is_called, name_at, slice_at, range_at, aged_at, policy_named, policy_at, modem_read, modems_at, provisions_if, row_at, row_read, rows_of}
 use Rattle.slice_table.specs.Says.{IsAddress, SayInTurn, SaysConsts}
 use Rattle.slice_table.proofs.Values.{at_most}

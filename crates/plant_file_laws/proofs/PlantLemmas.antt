@@ -2,11 +2,12 @@
 use Rattle.std.proofs.Common.{◌≡◌, ◌↔◌, ℕ, codes, List, [], ◌∷◌, ◌++◌, inl, inr, Option, Some, None, Ok, refl, sym, ap, ◌∙◌, subst}
 use Rattle.std.specs.Prelude.{map}
 use Rattle.toml.specs.Data.{Data, table, Members, get_member}
+use Rattle.lists.specs.Results.{◌>>=◌}
 use Rattle.slice_table.specs.declared.plant_key.Field.{Field}
 use Rattle.slice_table.specs.declared.plant_key.Field.TheVariants as field
 use Rattle.slice_table.specs.declared.plant_key.Place.TheVariants as place
 use Rattle.slice_table.specs.declared.plant_key.Key.TheVariants.{Table, Entry}
-use Rattle.slice_table.specs.Tree.{Read, ◌>>=◌, required, at_field, number_at, number_in, table_of}
+use Rattle.slice_table.specs.Tree.{Read, required, at_field, number_at, number_in, table_of}
 use Rattle.slice_table.specs.ReadConsts.{units_at, backoffs_at, timers_at, plant_keys_at, plant_keys_of}
 use Rattle.slice_table.specs.Says.{SaysNumberIn}
 use Rattle.slice_table.proofs.SaidKeys.{number_in_is, table_said, under}

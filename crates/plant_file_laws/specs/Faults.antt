@@ -8,7 +8,7 @@ use Rattle.slice_table.specs.declared.plant_fault.PlantFault.TheVariants.{Missin
 use Rattle.slice_table.specs.declared.plant_key.Key.{Key}
 use Rattle.slice_table.specs.Checks.{rows_fault}
 use Rattle.slice_table.specs.Says.{SaysConsts, SaysRows}
-use Rattle.plant_file_laws.specs.First.{IsFirst}
+use Rattle.lists.specs.First.{IsFirst}
 use Rattle.plant_file_laws.specs.Held.{held}
 use Rattle.plant_file_laws.specs.Keys.{keys_of}
 use Rattle.plant_file_laws.specs.Stands.{MayStand, MustStand}

@@ -12,7 +12,8 @@ use Rattle.run_audit.specs.declared.placing.Placing.{Placing}
 use Rattle.run_audit.specs.Placings.{puts_of}
 use Rattle.run_audit.specs.Outs.{due_of}
 use Rattle.run_audit.specs.Straying.{ArePut, IsPutStray}
-use Rattle.run_audit.specs.Numbering.{lesser, AllAreNumbered, IsMissed}
+use Rattle.run_audit.specs.Numbering.{AllAreNumbered, IsMissed}
+use Rattle.run_receipts.specs.Straying.{lesser}
 
 -- each of the first operators put what was due
 abbrev pub ArePutBelow : List Step → List BookView → List Placing → ℕ → Type 0

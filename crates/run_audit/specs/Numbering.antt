@@ -1,5 +1,5 @@
 -- Frames by their numbers (implementation-specific).
-use Rattle.std.specs.Prelude.{◌≡◌, ℕ, ◌+◌, min, List, slice_get, Option, Some, None}
+use Rattle.std.specs.Prelude.{◌≡◌, ℕ, ◌+◌, List, slice_get, Some}
 use Rattle.slice_scheduler.specs.declared.elements.ElementsFields.{ElementsFields}
 use Rattle.operator_model.specs.Replay.{BookView}
 use Rattle.run_model.specs.declared.step.Step.{Step}
@@ -20,9 +20,3 @@ pub record IsMissed (first : ℕ) (puts due : List (ℕ × ElementsFields)) (fra
   pub place : ℕ
   pub frame_is : frame ≡ first + place
   pub differ : DifferFirst puts due place
-
--- the lesser of two numbers, where they are there
-abbrev pub lesser : Option ℕ → Option ℕ → Option ℕ
-lesser None b = b
-lesser (Some a) None = Some a
-lesser (Some a) (Some b) = Some (min a b)

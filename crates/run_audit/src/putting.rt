@@ -8,7 +8,8 @@ ghost use Rattle.plant_core.specs.Waiting.{frames_in, IsOneFrame};
 ghost use Rattle.run_receipts.specs.Framing.{frame_of};
 ghost use Rattle.run_audit.specs.Placings.{put_by, puts_of};
 ghost use Rattle.run_audit.specs.Straying.{ArePut, IsPutStray};
-ghost use Rattle.run_audit.specs.Numbering.{AllAreNumbered, IsMissed, lesser};
+ghost use Rattle.run_audit.specs.Numbering.{AllAreNumbered, IsMissed};
+ghost use Rattle.run_receipts.specs.Straying.{lesser};
 
 use crate::due::{behind_due, next_due};
 use crate::placing::Placing;

@@ -7,7 +7,7 @@ use Rattle.plant.specs.declared.plant.PlantFields.{PlantFields}
 use Rattle.run_model.specs.declared.step.Step.{Step}
 use Rattle.run_model.specs.declared.step.Step.TheVariants as steps
 use Rattle.run_audit.specs.Outcome.{is_tick_of, ticks_of}
-use Rattle.run_audit.specs.Numbering.{lesser}
+use Rattle.run_receipts.specs.Straying.{lesser}
 use Rattle.run_plan.specs.Spending.{IsSpentAt, IsOwnSpent, NoneSpentBefore, IsFirstSpent}
 
 pub tick_is : (op : ℕ) (step : Step) → is_tick_of op step ≡ true → step ≡ steps.Tick op

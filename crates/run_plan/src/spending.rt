@@ -2,7 +2,7 @@
 
 ghost use Rattle.std.specs.Prelude.{◌≡◌, length, MatchOption};
 ghost use Rattle.run_audit.specs.Outcome.{is_tick_of};
-ghost use Rattle.run_audit.specs.Numbering.{lesser};
+ghost use Rattle.run_receipts.specs.Straying.{lesser};
 ghost use Rattle.run_plan.specs.Spending.{IsOwnSpent, NoneSpentBefore, IsFirstSpent, is_reslice, before_reslice};
 
 use plant::{Op, Plant};

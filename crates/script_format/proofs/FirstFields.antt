@@ -6,6 +6,7 @@ use Rattle.std.proofs.Common.{eq-eqb}
 use Rattle.hex.specs.Hex.{decode_sized}
 use Rattle.hex.specs.declared.error.FromHexError.{FromHexError}
 use Rattle.hex.proofs.HexLemmas.{decode_sized-ok}
+use Rattle.lists.specs.Results.{◌>>=◌}
 use Rattle.dsx_messages.specs.declared.modem.Modem.{Modem}
 use Rattle.plant.specs.declared.plant.PlantFields.{PlantFields}
 use Rattle.plant.specs.Roster.{holder}
@@ -13,7 +14,7 @@ use Rattle.operator_model.specs.declared.heard.Heard.TheVariants.{Message, Reque
 use Rattle.script_format.specs.declared.fields.FieldFault.{FieldFault}
 use Rattle.script_format.specs.declared.fields.FieldFault.TheVariants.{Shape}
 use Rattle.script_format.specs.declared.script.Sender.{Sender}
-use Rattle.script_format.specs.Fields.{Read, ◌>>=◌, short_in, bytes_in}
+use Rattle.script_format.specs.Fields.{Read, short_in, bytes_in}
 use Rattle.script_format.specs.Lines.{parts_of}
 use Rattle.script_format.specs.Script.{sender_at, sender_of, sender_in, heard_steps, message_steps, request_steps}
 use Rattle.script_format.specs.Senders.{sender_first}

@@ -2,6 +2,7 @@
 use Rattle.std.proofs.Common.{◌≡◌, ℕ, zero, suc, ◌+◌, ◌<◌, List, [], ◌∷◌, ◌++◌, length, drop, Bool, true, false, if◌then◌else◌, codes, Ok, Err, refl, sym, ap, ◌∙◌, add-one, arith}
 use Rattle.std.specs.Str.{bytes_eq}
 use Rattle.std.proofs.lemmas.Slice.Eq.{bytes_eq-Decides}
+use Rattle.lists.specs.Results.{◌>>=◌}
 use Rattle.script_format.specs.Lines.{parts_of}
 use Rattle.script_format.proofs.Splits.{field_first}
 use Rattle.plant.specs.declared.operator_row.RowFields.{RowFields}
@@ -10,7 +11,7 @@ use Rattle.operator_model.specs.declared.action.SliceRow.{SliceRow}
 use Rattle.script_format.specs.declared.fields.FieldFault.{FieldFault}
 use Rattle.script_format.specs.declared.fields.FieldFault.TheVariants.{Shape, NoMemory}
 use Rattle.script_format.specs.declared.script.LineStep.{LineStep}
-use Rattle.script_format.specs.Fields.{Read, ◌>>=◌, Fails, behind}
+use Rattle.script_format.specs.Fields.{Read, Fails, behind}
 use Rattle.script_format.specs.Script.{tick_steps, all_ticks, message_steps, request_steps, ticked_steps, resliced_steps, steps_in, share_in, shares_after, line_steps, steps_after}
 
 -- an element stands at each place

@@ -10,12 +10,6 @@ use Rattle.script_format.specs.declared.fields.FieldFault.TheVariants.{Shape, No
 abbrev pub Read : Type 0 → Type 0
 Read A = Result A FieldFault
 
--- one reading after another
-infixl 10 ◌>>=◌
-abbrev pub ◌>>=◌ : {A B : Type 0} → Read A → (A → Read B) → Read B
-(Ok x) >>= f = f x
-(Err fault) >>= f = Err fault
-
 -- what a call answered, seen by view, is what is read, unless there was no memory
 abbrev pub Fails : {B : Type 0} → FieldFault → Read B → Type 0
 Fails NoMemory read = Unit {0}
@@ -24,11 +18,6 @@ Fails Shape read = read ≡ Err Shape
 abbrev pub Gives : {A B : Type 0} → (A → B) → Read A → Read B → Type 0
 Gives view (Ok x) read = read ≡ Ok (view x)
 Gives view (Err fault) read = Fails fault read
-
--- a call's answer, seen by view
-abbrev pub seen : {A B : Type 0} → (A → B) → Read A → Read B
-seen view (Ok x) = Ok (view x)
-seen view (Err fault) = Err fault
 
 -- what is read, after what was read before
 abbrev pub behind : {A : Type 0} → List A → Read (List A) → Read (List A)

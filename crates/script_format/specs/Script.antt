@@ -4,6 +4,7 @@ use Rattle.std.specs.List.{position_from}
 use Rattle.std.specs.Str.{bytes_eq}
 use Rattle.hex.specs.Hex.{decode_sized}
 use Rattle.hex.specs.declared.error.FromHexError.{FromHexError}
+use Rattle.lists.specs.Results.{◌>>=◌}
 use Rattle.dsx_messages.specs.declared.modem.Modem.{Modem}
 use Rattle.plant.specs.declared.operator_row.RowFields.{RowFields}
 use Rattle.plant.specs.declared.plant.PlantFields.{PlantFields}
@@ -17,7 +18,7 @@ use Rattle.script_format.specs.declared.fields.FieldFault.TheVariants.{Shape}
 use Rattle.script_format.specs.declared.script.LineStep.{LineStep}
 use Rattle.script_format.specs.declared.script.Sender.{Sender}
 use Rattle.script_format.specs.Lines.{parts_of, lines_of, fields_of}
-use Rattle.script_format.specs.Fields.{Read, ◌>>=◌, required, two_of, three_of, number_in, short_in, bytes_in}
+use Rattle.script_format.specs.Fields.{Read, required, two_of, three_of, number_in, short_in, bytes_in}
 
 -- ---- names
 

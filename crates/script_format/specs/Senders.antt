@@ -1,9 +1,10 @@
 -- The sender in the first field of a line (implementation-specific).
 use Rattle.std.specs.Prelude.{ℕ, List, [], ◌∷◌, Ok, Err}
+use Rattle.lists.specs.Results.{◌>>=◌}
 use Rattle.plant.specs.declared.plant.PlantFields.{PlantFields}
 use Rattle.script_format.specs.declared.fields.FieldFault.TheVariants.{Shape}
 use Rattle.script_format.specs.declared.script.Sender.{Sender}
-use Rattle.script_format.specs.Fields.{Read, ◌>>=◌}
+use Rattle.script_format.specs.Fields.{Read}
 use Rattle.script_format.specs.Script.{sender_in}
 
 -- a modem of the plant in the first field, and the fields after it, of which there is one at least

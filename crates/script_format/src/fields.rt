@@ -1,7 +1,8 @@
 //! What is in a field of a script's line.
 
 ghost use Rattle.std.specs.Prelude.{◌≡◌, ◌≤◌, [], ◌∷◌, map, MatchOption, IfOk};
-ghost use Rattle.script_format.specs.Fields.{Gives, seen, three_of, number_in, short_in, bytes_in};
+ghost use Rattle.lists.specs.Results.{result_map};
+ghost use Rattle.script_format.specs.Fields.{Gives, three_of, number_in, short_in, bytes_in};
 ghost use Rattle.script_format.specs.Lines.{fields_of};
 ghost use Rattle.script_format.specs.declared.fields.FieldFault.TheVariants.{NoMemory};
 
@@ -64,7 +65,7 @@ pub fn word_and_rest(line: &[u8]) -> Option<(&[u8], &[u8])>
 
 /// Returns three fields, if there are just three.
 pub fn three_of<'a>(fields: &[&'a [u8]]) -> Result<(&'a [u8], &'a [u8], &'a [u8]), FieldFault>
-    ensures { seen (λ p. (p.0.now, p.1.now, p.2.now)) result ≡ three_of (map (λ field. field.now) fields.now) }
+    ensures { result_map (λ p. (p.0.now, p.1.now, p.2.now)) result ≡ three_of (map (λ field. field.now) fields.now) }
 {
     match fields {
         [a, b, c] => Ok((*a, *b, *c)),

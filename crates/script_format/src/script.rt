@@ -2,8 +2,9 @@
 
 ghost use Rattle.std.specs.Prelude.{◌≡◌, [], ◌∷◌, map, Err, IfErr};
 ghost use Rattle.std.specs.List.{position_from};
+ghost use Rattle.lists.specs.Results.{result_map};
 ghost use Rattle.script_format.specs.declared.fields.FieldFault.TheVariants.{Shape, NoMemory};
-ghost use Rattle.script_format.specs.Fields.{Gives, seen, behind};
+ghost use Rattle.script_format.specs.Fields.{Gives, behind};
 ghost use Rattle.script_format.specs.Lines.{fields_of};
 ghost use Rattle.script_format.specs.Script.{sender_in, is_named, operator_in, heard_steps, message_steps, request_steps, tick_steps, all_ticks, ticked_steps, share_in, shares_after, shares_in, resliced_steps, steps_in, line_steps, steps_after, steps_of};
 ghost use Rattle.script_format.specs.Senders.{sender_first};
@@ -54,7 +55,7 @@ fn sender_in(plant: &Plant, field: &[u8]) -> Result<Sender, FieldFault>
 #[tactic(auto, using(crate::proofs::FirstFields::sender_lacks, crate::proofs::FirstFields::sender_unparted))]
 #[inline(always)]
 fn sender_first<'a>(plant: &Plant, line: &'a [u8]) -> Result<(Sender, &'a [u8]), FieldFault>
-    ensures { seen (λ p. (p.0, fields_of p.1.now)) result ≡ sender_first plant.now (fields_of line.now) }
+    ensures { result_map (λ p. (p.0, fields_of p.1.now)) result ≡ sender_first plant.now (fields_of line.now) }
 {
     if line.len() < 13 || line[12] != b' ' {
         return Err(FieldFault::Shape);

@@ -4,7 +4,8 @@ use Rattle.std.proofs.lemmas.List.{drop_all, drop_more}
 use Rattle.toml.specs.Data.{Data}
 use Rattle.toml.specs.View.{view, items_view}
 use Rattle.toml.specs.declared.value.Value.{Value}
-use Rattle.slice_table.specs.Tree.{Read, ◌>>=◌, each}
+use Rattle.lists.specs.Results.{◌>>=◌}
+use Rattle.slice_table.specs.Tree.{Read, each}
 
 -- what is left at a value is what it is read as, and then the others
 pub at_value : {A : Type 0} (read : List A → Data → Read A) (values : List Value) (i : ℕ) (v : Value) (done : List A) (all : Read (List A))

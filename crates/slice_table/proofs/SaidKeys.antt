@@ -6,6 +6,7 @@ use Rattle.std.proofs.lemmas.Slice.Eq.{bytes_eq-Decides}
 use Rattle.toml.specs.Data.{Data, string, integer, float, boolean, datetime, array, table, Items, no_items, item, Members, as_str, as_array, as_table}
 use Rattle.hex.specs.Hex.{decode_of, decode_sized}
 use Rattle.hex.specs.declared.error.FromHexError.{FromHexError}
+use Rattle.lists.specs.Results.{◌>>=◌}
 use Rattle.dsx_messages.specs.declared.modem.Modem.{Modem}
 use Rattle.admission.specs.Free.{Numbers}
 use Rattle.grant_policy.specs.declared.policy.Policy.{Policy}
@@ -18,7 +19,7 @@ use Rattle.slice_table.specs.declared.plant_key.Place.{Place}
 use Rattle.slice_table.specs.declared.plant_key.Key.{Key}
 use Rattle.slice_table.specs.declared.plant_key.Key.TheVariants.{Table, Entry}
 use Rattle.slice_table.specs.Ranges.{range_of, default_of}
-use Rattle.slice_table.specs.Tree.{Read, ◌>>=◌, each, required, expected, checked, at_field, natural, number_of, number_if, number_at, number_in, both, pair_in, array_at, pair_at, text_at, decoded, bytes_at, modem_in, modem_of, table_of}
+use Rattle.slice_table.specs.Tree.{Read, each, required, expected, checked, at_field, natural, number_of, number_if, number_at, number_in, both, pair_in, array_at, pair_at, text_at, decoded, bytes_at, modem_in, modem_of, table_of}
 use Rattle.slice_table.specs.ReadRows.{is_within, slice_at, is_range, range_at, aged_at, policy_named, policy_at}
 use Rattle.slice_table.specs.Says.{SaysNumber, SaysNumberIn, two, SaysBytes, IsAddress, SayInTurn, SaysSlice, SaysRange, SaysPolicy}
 use Rattle.slice_table.proofs.Parsed.{ok_same, bind_ok, required_ok, expected_ok, checked_ok}

@@ -3,6 +3,7 @@ use Rattle.std.specs.Prelude.{codes, ℕ, ◌≤◌, ◌&&◌, nat_le, Bool, not
 use Rattle.std.specs.Char.{is_ascii_alphanumeric}
 use Rattle.std.specs.List.{list_all, list_any}
 use Rattle.toml.specs.Data.{Data, Members, get_member, as_array}
+use Rattle.lists.specs.Results.{◌>>=◌}
 use Rattle.tlv24.specs.declared.fields.FlowFields.{FlowFields}
 use Rattle.tlv24.specs.declared.fault.FlowFault.{FlowFault}
 use Rattle.tlv24.specs.Flow.{flow_of}
@@ -20,7 +21,7 @@ use Rattle.slice_table.specs.declared.plant_key.Place.TheVariants as place
 use Rattle.slice_table.specs.declared.plant_key.Field.TheVariants as field
 use Rattle.plant.specs.Classes.{is_named}
 use Rattle.plant.specs.Consts.{IsChannel}
-use Rattle.slice_table.specs.Tree.{Read, ◌>>=◌, each, items_len, required, expected, checked, number_at, number_in, text_at, bytes_at, table_of}
+use Rattle.slice_table.specs.Tree.{Read, each, items_len, required, expected, checked, number_at, number_in, text_at, bytes_at, table_of}
 
 -- ---- the table `plant`
 

@@ -1,9 +1,10 @@
 -- What a plant file says: the plant of its text, or the first fault (implementation-specific).
 use Rattle.std.specs.Prelude.{Option, Some, None, Err}
 use Rattle.toml.specs.Data.{Members}
+use Rattle.lists.specs.Results.{◌>>=◌}
 use Rattle.plant.specs.declared.plant.PlantFields.{PlantFields}
 use Rattle.slice_table.specs.declared.plant_fault.PlantFault.TheVariants.{NotToml}
-use Rattle.slice_table.specs.Tree.{Read, ◌>>=◌}
+use Rattle.slice_table.specs.Tree.{Read}
 use Rattle.slice_table.specs.ReadConsts.{consts_of}
 use Rattle.slice_table.specs.ReadRows.{rows_of}
 use Rattle.slice_table.specs.Checks.{rows_fault, unless}

@@ -4,6 +4,7 @@ use Rattle.std.specs.Char.{is_ascii_alphanumeric}
 use Rattle.std.specs.List.{list_all, list_any}
 use Rattle.std.specs.Str.{bytes_eq}
 use Rattle.toml.specs.Data.{Data, Members, get_member, as_array}
+use Rattle.lists.specs.Results.{◌>>=◌}
 use Rattle.dsx_messages.specs.declared.modem.Modem.{Modem}
 use Rattle.admission.specs.Free.{Numbers}
 use Rattle.grant_policy.specs.declared.policy.Policy.{Policy}
@@ -22,7 +23,7 @@ use Rattle.slice_table.specs.declared.ranges.Bounds.{Bounds}
 use Rattle.plant.specs.Provisioned.{sets_of_encoding}
 use Rattle.plant.specs.Row.{is_listed}
 use Rattle.slice_table.specs.Ranges.{range_of}
-use Rattle.slice_table.specs.Tree.{Read, ◌>>=◌, each, items_len, required, expected, checked, at_field, number_in, pair_at, text_at, bytes_at, array_at, modem_of, modem_at, table_of}
+use Rattle.slice_table.specs.Tree.{Read, each, items_len, required, expected, checked, at_field, number_in, pair_at, text_at, bytes_at, array_at, modem_of, modem_at, table_of}
 
 -- ---- an operator's own keys
 

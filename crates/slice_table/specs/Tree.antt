@@ -3,6 +3,7 @@ use Rattle.std.specs.Prelude.{◌≡◌, ℕ, suc, ◌++◌, [], ◌∷◌, pos,
 use Rattle.toml.specs.Data.{Data, integer, Items, no_items, item, Members, get_member, as_str, as_array, as_table}
 use Rattle.hex.specs.Hex.{decode_of, decode_sized}
 use Rattle.hex.specs.declared.error.FromHexError.{FromHexError}
+use Rattle.lists.specs.Results.{◌>>=◌}
 use Rattle.dsx_messages.specs.declared.modem.Modem.{Modem}
 use Rattle.slice_table.specs.declared.plant_fault.PlantFault.{PlantFault}
 use Rattle.slice_table.specs.declared.plant_fault.PlantFault.TheVariants.{Missing, BadValue, NoMemory}
@@ -19,12 +20,6 @@ use Rattle.slice_table.specs.Ranges.{range_of, default_of}
 abbrev pub Read : Type 0 → Type 0
 Read A = Result A PlantFault
 
--- one reading after another
-infixl 10 ◌>>=◌
-abbrev pub ◌>>=◌ : {A B : Type 0} → Read A → (A → Read B) → Read B
-(Ok x) >>= f = f x
-(Err fault) >>= f = Err fault
-
 -- what a call answered, seen by view, is what is read, unless there was no memory
 abbrev pub Fails : {B : Type 0} → PlantFault → Read B → Type 0
 Fails NoMemory read = Unit {0}
@@ -33,11 +28,6 @@ Fails fault read = read ≡ Err fault
 abbrev pub Gives : {A B : Type 0} → (A → B) → Read A → Read B → Type 0
 Gives view (Ok x) read = read ≡ Ok (view x)
 Gives view (Err fault) read = Fails fault read
-
--- a call's answer, seen by view
-abbrev pub seen : {A B : Type 0} → (A → B) → Read A → Read B
-seen view (Ok x) = Ok (view x)
-seen view (Err fault) = Err fault
 
 -- the items of an array one after the other, each with those read before it
 abbrev pub each : {A : Type 0} → (List A → Data → Read A) → List A → Items → Read (List A)

@@ -3,7 +3,8 @@
 ghost use Rattle.std.specs.Prelude.{◌≡◌, ◌≤◌, option_map, Some, IfOk};
 ghost use Rattle.toml.specs.Data.{get_member, as_array, as_table};
 ghost use Rattle.toml.specs.View.{view, table_view, items_view};
-ghost use Rattle.slice_table.specs.Tree.{Gives, seen, required, expected, array_at, modem_at, at_field, natural, number_of, number_at, number_in, pair_in, pair_at, text_at, bytes_at, modem_of, table_of};
+ghost use Rattle.lists.specs.Results.{result_map};
+ghost use Rattle.slice_table.specs.Tree.{Gives, required, expected, array_at, modem_at, at_field, natural, number_of, number_at, number_in, pair_in, pair_at, text_at, bytes_at, modem_of, table_of};
 ghost use Rattle.slice_table.specs.Ranges.{range_of, default_of};
 ghost use Rattle.slice_table.specs.declared.plant_key.Key.TheVariants.{Entry};
 
@@ -24,7 +25,7 @@ pub(crate) fn entry<'a>(table: &'a Table, name: &str) -> Option<&'a Value>
 
 /// Returns what is under a key that is required.
 fn required(table: &Table, place: Place, field: Field) -> Result<&Value, PlantFault>
-    ensures { seen (λ v. view v.now) result ≡ required (Entry place field) (at_field field (table_view table.now)) }
+    ensures { result_map (λ v. view v.now) result ≡ required (Entry place field) (at_field field (table_view table.now)) }
 {
     match entry(table, field.text()) {
         Some(value) => Ok(value),
@@ -102,7 +103,7 @@ fn pair_in(values: &[Value]) -> Option<(u64, u64)>
 
 /// Returns the values of an array.
 pub(crate) fn array_of(value: &Value, key: Key) -> Result<&[Value], PlantFault>
-    ensures { seen (λ vs. items_view vs.now) result ≡ expected key (as_array (view value.now)) }
+    ensures { result_map (λ vs. items_view vs.now) result ≡ expected key (as_array (view value.now)) }
 {
     match value.as_array() {
         Some(values) => Ok(values.as_slice()),
@@ -113,7 +114,7 @@ pub(crate) fn array_of(value: &Value, key: Key) -> Result<&[Value], PlantFault>
 /// Returns the values of the array under a key that is required.
 #[tactic(auto, unfolding(crate::specs::Tree::array_at))]
 pub(crate) fn array_at(table: &Table, place: Place, field: Field) -> Result<&[Value], PlantFault>
-    ensures { seen (λ vs. items_view vs.now) result ≡ array_at place field (table_view table.now) }
+    ensures { result_map (λ vs. items_view vs.now) result ≡ array_at place field (table_view table.now) }
 {
     let value = required(table, place, field)?;
     array_of(value, Key::Entry(place, field))
@@ -131,7 +132,7 @@ pub(crate) fn pair_at(table: &Table, place: Place, field: Field) -> Result<(u64,
 /// Returns the text under a key that is required.
 #[tactic(auto, unfolding(crate::specs::Tree::text_at))]
 pub(crate) fn text_at(table: &Table, place: Place, field: Field) -> Result<&str, PlantFault>
-    ensures { seen (λ s. s.now) result ≡ text_at place field (table_view table.now) }
+    ensures { result_map (λ s. s.now) result ≡ text_at place field (table_view table.now) }
 {
     let value = required(table, place, field)?;
     match value.as_str() {
@@ -184,7 +185,7 @@ pub(crate) fn modem_at(table: &Table, place: Place, field: Field) -> Result<Mode
 /// Returns the table that a value is.
 #[tactic(auto, unfolding(crate::specs::Tree::table_of))]
 pub(crate) fn table_of(value: &Value, place: Place) -> Result<&Table, PlantFault>
-    ensures { seen (λ t. table_view t.now) result ≡ table_of place (view value.now) }
+    ensures { result_map (λ t. table_view t.now) result ≡ table_of place (view value.now) }
 {
     match value.as_table() {
         Some(table) => Ok(table),

@@ -11,7 +11,7 @@ use Rattle.operator_model.specs.declared.heard.Arrival.{Arrival}
 use Rattle.operator_model.specs.Replay.{BookView}
 use Rattle.operator_model.specs.State.{Operator, operator}
 use Rattle.operator_model.specs.Verdict.{verdict}
-use Rattle.check_table.specs.First.{IsFirst}
+use Rattle.lists.specs.First.{IsFirst}
 use Rattle.check_table.specs.Said.{said_by}
 use Rattle.check_table.specs.Table.{IsDecidedBy}
 use Rattle.check_table.specs.Messages.{Reading, HoldsOf, message_table}

@@ -4,7 +4,7 @@ ghost use Rattle.std.specs.Prelude.{◌≡◌, ◌≢◌, None, Err, IfOk, OnErr
 ghost use Rattle.dsx_messages.specs.declared.fault.MessageFault.TheVariants.{NoMemory};
 ghost use Rattle.dsx_messages.specs.Reading.{message_of};
 ghost use Rattle.check_table.specs.declared.check.MessageCheck.TheVariants.{Judged};
-ghost use Rattle.check_table.specs.First.{IsFirst};
+ghost use Rattle.lists.specs.First.{IsFirst};
 ghost use Rattle.check_table.specs.Messages.{HoldsOf, message_table};
 ghost use Rattle.plant_core.specs.CoreView.{core_view};
 ghost use Rattle.plant_core.specs.Faults.{step_fault};
