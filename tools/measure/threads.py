@@ -1,11 +1,13 @@
-"""Measures the seconds of `threads` and of `run`, five runs each in turn, and prints a table.
+"""Measures the seconds of `threads` and of `run`, five runs each in turn, and prints a table with the machine's load.
 
     tools/measure/threads [--program PROGRAM] [INPUT ..]
 
-Without INPUT it measures 20,000 lines on 8 operators, and 110 ticks of one operator with 1,024 flows.
+Without INPUT it measures 20,000 lines on 8 operators, and 110 ticks of one operator with 1,024 flows. The load of a row is
+the system's average of the last minute, taken before its runs: what else the machine did then.
 """
 
 import argparse
+import os
 import pathlib
 import statistics
 import time
@@ -37,12 +39,14 @@ def main():
     parser.add_argument("--program", default=PROGRAM)
     parser.add_argument("inputs", nargs="*", type=pathlib.Path)
     options = parser.parse_args()
-    print("| input | `run`, seconds | `threads`, seconds | times |")
-    print("|---|---|---|---|")
+    print(f"{os.cpu_count()} processors\n")
+    print("| input | `run`, seconds | `threads`, seconds | times | load |")
+    print("|---|---|---|---|---|")
     for name, data in inputs(options.inputs):
+        load = os.getloadavg()[0]
         turns = [(seconds(options.program, "run", data), seconds(options.program, "threads", data)) for _ in range(RUNS)]
         run, threads = (statistics.median(turn[kind] for turn in turns) for kind in (0, 1))
-        print(f"| {name} | {run:.3f} | {threads:.3f} | {threads / run:.1f} |")
+        print(f"| {name} | {run:.3f} | {threads:.3f} | {threads / run:.1f} | {load:.1f} |")
 
 
 if __name__ == "__main__":
