@@ -12,28 +12,36 @@ use Rattle.operator_book.specs.declared.book.BookFault.TheVariants.{NotMine, Fra
 use Rattle.run_receipts.specs.declared.receipt.Receipt.{Receipt}
 use Rattle.cell_state.specs.declared.cell_fault.CellFault.{CellFault}
 use Rattle.cell_state.specs.declared.cell_fault.CellFault.TheVariants.{Book, Passed, Stopped, Closed}
-use Rattle.plant_passes.specs.Words.{entry_of, mark}
-use Rattle.plant_passes.specs.Passes.{PassView, Acts, LooksOn, EndsCell, RefusesBeforeTurn, RefusesTurn, RefusesArrival, state_seen}
+use Rattle.plant_passes.specs.Histories.{entry_of, mark_entry}
+use Rattle.plant_passes.specs.Passes.{PassView, ActsInTurn, LooksOn, EndsCell, RefusesBeforeTurn, RefusesTurn, RefusesArrival, state_seen}
 use Rattle.plant_passes.proofs.Again.{begins_again}
 
 -- an action after a look, told by a copy of it
-pub acts_later : (p q s : PassView) (action told : Action) (r : Receipt) → LooksOn p q → q.ended ≡ p.ended → told ≡ action → Acts q action r s → Acts p action record { index = r.index; action = told; outputs = r.outputs } s
+pub acts_later : (p q s : PassView) (action told : Action) (r : Receipt) → LooksOn p q → q.ended_cell ≡ p.ended_cell → told ≡ action
+    → ActsInTurn q action r s → ActsInTurn p action record { index = r.index; action = told; outputs = r.outputs } s
 acts_later p q s action told r look same is acts =
-    let all : q.seen ++ acts.seen.0 ≡ p.seen ++ (look.seen.0 ++ acts.seen.0) = ap (λ l. l ++ acts.seen.0) look.seen.1 ∙ append_assoc p.seen look.seen.0 acts.seen.0 in record {
-      same = record { cell = acts.same.cell ∙ look.same.cell; me = acts.same.me ∙ look.same.me; origin = acts.same.origin ∙ look.same.origin };
+    let all : q.seen ++ acts.between ≡ p.seen ++ (look.seen.0 ++ acts.between) =
+    ap (λ l. l ++ acts.between) look.seen.1 ∙ append_assoc p.seen look.seen.0 acts.between in record {
+      same = record {
+        cell = acts.same.cell ∙ look.same.cell;
+        number = acts.same.number ∙ look.same.number;
+        origin = acts.same.origin ∙ look.same.origin;
+      };
       action_is = is;
-      seen = (look.seen.0 ++ acts.seen.0, acts.seen.1 ∙ (λ i. all i ++ mark (look.same.me i) (entry_of action r.outputs) ∷ []), acts.seen.2 ∙ ap length all);
+      between = look.seen.0 ++ acts.between;
+      seen = acts.seen ∙ (λ i. all i ++ mark_entry (look.same.number i) (entry_of action r.outputs) ∷ []);
+      index_is = acts.index_is ∙ ap length all;
       made = acts.made ∙ ap (λ l. l ++ r.index ∷ []) look.made;
       own = acts.own;
       run = acts.run;
       going = acts.going;
-      ended = acts.ended ∙ same;
+      ended_cell = acts.ended_cell ∙ same;
     }
 
 -- one look after another
 looks_later : (p q s : PassView) → LooksOn p q → LooksOn q s → LooksOn p s
 looks_later p q s a b = record {
-  same = record { cell = b.same.cell ∙ a.same.cell; me = b.same.me ∙ a.same.me; origin = b.same.origin ∙ a.same.origin };
+  same = record { cell = b.same.cell ∙ a.same.cell; number = b.same.number ∙ a.same.number; origin = b.same.origin ∙ a.same.origin };
   seen = begins_again p.seen q.seen s.seen a.seen b.seen;
   made = b.made ∙ a.made;
   own = b.own;
@@ -41,7 +49,8 @@ looks_later p q s a b = record {
 }
 
 -- an arrival that is refused in its turn, after a look
-pub refused_later : (p q s : PassView) (fault : CellFault) → LooksOn p q → q.ended ≡ p.ended → RefusesTurn q fault s → RefusesArrival p fault s
+pub refused_later : (p q s : PassView) (fault : CellFault) → LooksOn p q → q.ended_cell ≡ p.ended_cell → RefusesTurn q fault s
+    → RefusesArrival p fault s
 refused_later p q s (Book (NotMine modem)) look same h = absurd h
 refused_later p q s (Book FramesSpent) look same h = ((looks_later p q s look h.0.0, h.0.1, h.0.2), h.1)
 refused_later p q s (Book (Unfit why)) look same h = absurd h
@@ -51,7 +60,8 @@ refused_later p q s (Stopped op) look same h = absurd h
 refused_later p q s Closed look same h = (looks_later p q s look h.0, h.1, h.2 ∙ same)
 
 -- an arrival that is refused before its turn
-pub refused_early : (p q : PassView) (fault : CellFault) → LooksOn p q → q.ended ≡ p.ended → RefusesBeforeTurn q fault → RefusesArrival p fault q
+pub refused_early : (p q : PassView) (fault : CellFault) → LooksOn p q → q.ended_cell ≡ p.ended_cell → RefusesBeforeTurn q fault
+    → RefusesArrival p fault q
 refused_early p q (Book (NotMine modem)) look same h = absurd h
 refused_early p q (Book FramesSpent) look same h = absurd h
 refused_early p q (Book (Unfit why)) look same h = absurd h

@@ -6,82 +6,83 @@ use mathlib.Core.Option.{some, some-injective, some-ne-none}
 use lib.ListN.{get_elem?}
 use Rattle.atomic_table.proofs.Lists.{set_else}
 use Rattle.operator_model.specs.declared.action.Entry.{Entry}
-use Rattle.plant_passes.specs.declared.view.Mark.{Mark}
-use Rattle.plant_passes.specs.declared.view.View.{View}
-use Rattle.plant_passes.specs.Words.{mark, marks, entries, places_from, places, StartsWith, BeginsAll, longer, parts_of, spent}
+use Rattle.plant_passes.specs.declared.view.MarkedEntry.{MarkedEntry}
+use Rattle.plant_passes.specs.declared.view.Knowledge.{Knowledge}
+use Rattle.plant_passes.specs.Histories.{mark_entry, mark_entries, entries, places_from, places, StartsWith, StartsWithAll, longer}
+use Rattle.plant_passes.specs.Seats.{passes_of, no_pass}
 
-pub begins_self : (log : List Mark) → StartsWith log log
+pub begins_self : (log : List MarkedEntry) → StartsWith log log
 begins_self log = ([], sym (append-nil log))
 
-pub begins_more : (log ext seen : List Mark) → StartsWith log seen → StartsWith (log ++ ext) seen
+pub begins_more : (log ext seen : List MarkedEntry) → StartsWith log seen → StartsWith (log ++ ext) seen
 begins_more log ext seen h = (h.0 ++ ext, ap (λ l. l ++ ext) h.1 ∙ append_assoc seen h.0 ext)
 
-pub begins_all_more : (log ext : List Mark) (ls : List (List Mark)) → BeginsAll log ls → BeginsAll (log ++ ext) ls
+pub begins_all_more : (log ext : List MarkedEntry) (ls : List (List MarkedEntry)) → StartsWithAll log ls → StartsWithAll (log ++ ext) ls
 begins_all_more log ext [] h = tt
 begins_all_more log ext (l ∷ ls) h = (begins_more log ext l h.0, begins_all_more log ext ls h.1)
 
-whole_at : (log seen rest : List Mark) → log ≡ seen ++ rest → length log ≤ length seen → seen ≡ log
+whole_at : (log seen rest : List MarkedEntry) → log ≡ seen ++ rest → length log ≤ length seen → seen ≡ log
 whole_at log seen [] e h = sym (e ∙ append-nil seen)
 whole_at log seen (x ∷ rest) e h = absurd (omega (arith, ap length e, length-append seen (x ∷ rest)))
 
-pub begins_whole : (log seen : List Mark) → StartsWith log seen → length log ≤ length seen → seen ≡ log
+pub begins_whole : (log seen : List MarkedEntry) → StartsWith log seen → length log ≤ length seen → seen ≡ log
 begins_whole log seen h le = whole_at log seen h.0 h.1 le
 
-pub begins_length : (log seen : List Mark) → StartsWith log seen → length seen ≤ length log
+pub begins_length : (log seen : List MarkedEntry) → StartsWith log seen → length seen ≤ length log
 begins_length log seen h = omega (arith, ap length h.1, length-append seen h.0)
 
-pub longer_begins : (log a b : List Mark) → StartsWith log a → StartsWith log b → StartsWith log (longer a b)
+pub longer_begins : (log a b : List MarkedEntry) → StartsWith log a → StartsWith log b → StartsWith log (longer a b)
 longer_begins log a b p q = cond_both _ b a (StartsWith log) (λ _. q) (λ _. p)
 
 -- where one of the two is the whole log, so is the longer
-pub longer_whole_left : (log a b : List Mark) → a ≡ log → StartsWith log b → longer a b ≡ log
+pub longer_whole_left : (log a b : List MarkedEntry) → a ≡ log → StartsWith log b → longer a b ≡ log
 longer_whole_left log a b e q = cond_both _ b a (λ l. l ≡ log) (λ t. absurd (omega (arith, ltb-true _ _ t, begins_length log b q, ap length e))) (λ _. e)
 
-pub longer_whole_right : (log a b : List Mark) → StartsWith log a → b ≡ log → longer a b ≡ log
+pub longer_whole_right : (log a b : List MarkedEntry) → StartsWith log a → b ≡ log → longer a b ≡ log
 longer_whole_right log a b p e = cond_both _ b a (λ l. l ≡ log) (λ _. e) (λ f. begins_whole log a p (omega (arith, ltb-false _ _ f, ap length e)))
 
 cond_append : (c : Bool) (n : ℕ) (a b t : List ℕ) → a ≡ b ++ t → cond c (n ∷ a) a ≡ cond c (n ∷ b) b ++ t
 cond_append true n a b t e = ap (λ l. n ∷ l) e
 cond_append false n a b t e = e
 
-places_push : (by n : ℕ) (log : List Mark) (m : Mark) → places_from by n (log ++ m ∷ []) ≡ places_from by n log ++ places_from by (n + length log) (m ∷ [])
+places_push : (by n : ℕ) (log : List MarkedEntry) (m : MarkedEntry) → places_from by n (log ++ m ∷ []) ≡ places_from by n log ++ places_from by (n + length log) (m ∷ [])
 places_push by n [] m = ap (λ (k : ℕ). places_from by k (m ∷ [])) (let e : n ≡ n + 0 = omega arith in e)
 places_push by n (x ∷ log) m = cond_append (eqb x.by by) n _ _ _ (places_push by (n + 1) log m ∙ ap (λ (k : ℕ). places_from by (n + 1) log ++ places_from by k (m ∷ [])) (let e : (n + 1) + length log ≡ n + length (x ∷ log) = omega arith in e))
 
-pub places_other : (by : ℕ) (log : List Mark) (m : Mark) → m.by ≢ by → places by (log ++ m ∷ []) ≡ places by log
+pub places_other : (by : ℕ) (log : List MarkedEntry) (m : MarkedEntry) → m.by ≢ by → places by (log ++ m ∷ []) ≡ places by log
 places_other by log m ne = places_push by 0 log m ∙ (ap (λ (c : Bool). places by log ++ cond c ((0 + length log) ∷ []) []) (ne_eqb m.by by ne) ∙ append-nil (places by log))
 
-pub places_own : (by : ℕ) (log : List Mark) (e : Entry) → places by (log ++ mark by e ∷ []) ≡ places by log ++ length log ∷ []
-places_own by log e = places_push by 0 log (mark by e) ∙ (ap (λ (c : Bool). places by log ++ cond c ((0 + length log) ∷ []) []) (eq-eqb by by refl) ∙ ap (λ (k : ℕ). places by log ++ k ∷ []) (let e : 0 + length log ≡ length log = omega arith in e))
+pub places_own : (by : ℕ) (log : List MarkedEntry) (e : Entry) → places by (log ++ mark_entry by e ∷ []) ≡ places by log ++ length log ∷ []
+places_own by log e = places_push by 0 log (mark_entry by e) ∙ (ap (λ (c : Bool). places by log ++ cond c ((0 + length log) ∷ []) []) (eq-eqb by by refl) ∙ ap (λ (k : ℕ). places by log ++ k ∷ []) (let e : 0 + length log ≡ length log = omega arith in e))
 
-pub places_past : (by n : ℕ) (l : List Entry) → 0 < by → places_from by n (marks 0 l) ≡ []
+pub places_past : (by n : ℕ) (l : List Entry) → 0 < by → places_from by n (mark_entries 0 l) ≡ []
 places_past by n [] h = refl
-places_past by n (e ∷ l) h = ap (λ (c : Bool). cond c (n ∷ places_from by (n + 1) (marks 0 l)) (places_from by (n + 1) (marks 0 l))) (ne_eqb 0 by (λ is. omega arith)) ∙ places_past by (n + 1) l h
+places_past by n (e ∷ l) h = ap (λ (c : Bool). cond c (n ∷ places_from by (n + 1) (mark_entries 0 l)) (places_from by (n + 1) (mark_entries 0 l))) (ne_eqb 0 by (λ is. omega arith)) ∙ places_past by (n + 1) l h
 
-pub entries_push : (log : List Mark) (by : ℕ) (e : Entry) → entries (log ++ mark by e ∷ []) ≡ entries log ++ e ∷ []
-entries_push log by e = map-append (λ (m : Mark). m.entry) log (mark by e ∷ [])
+pub entries_push : (log : List MarkedEntry) (by : ℕ) (e : Entry) → entries (log ++ mark_entry by e ∷ []) ≡ entries log ++ e ∷ []
+entries_push log by e = map-append (λ (m : MarkedEntry). m.entry) log (mark_entry by e ∷ [])
 
-pub entries_marks : (by : ℕ) (l : List Entry) → entries (marks by l) ≡ l
+pub entries_marks : (by : ℕ) (l : List Entry) → entries (mark_entries by l) ≡ l
 entries_marks by [] = refl
 entries_marks by (e ∷ l) = ap (λ (t : List Entry). e ∷ t) (entries_marks by l)
 
-pub length_marks : (by : ℕ) (l : List Entry) → length (marks by l) ≡ length l
+pub length_marks : (by : ℕ) (l : List Entry) → length (mark_entries by l) ≡ length l
 length_marks by [] = refl
 length_marks by (e ∷ l) = ap suc (length_marks by l)
 
--- lists of views
+-- lists of what seats know
 
-pub parts_set : {X : Type 0} (vs : List (View X)) (j : ℕ) (v w : View X) → get_elem? vs j ≡ some v → parts_of (set vs j w) + v.parts ≡ parts_of vs + w.parts
-parts_set [] j v w e = absurd (some-ne-none v (sym e))
-parts_set (x ∷ xs) zero v w e = let is : x.parts ≡ v.parts = ap (λ u. u.parts) (some-injective x v e) in omega arith
-parts_set (x ∷ xs) (suc j) v w e = let h : parts_of (set xs j w) + v.parts ≡ parts_of xs + w.parts = parts_set xs j v w e in omega arith
+pub passes_set : {X : Type 0} (vs : List (Knowledge X)) (j : ℕ) (v w : Knowledge X) → get_elem? vs j ≡ some v → passes_of (set vs j w) + v.passes ≡ passes_of vs + w.passes
+passes_set [] j v w e = absurd (some-ne-none v (sym e))
+passes_set (x ∷ xs) zero v w e = let is : x.passes ≡ v.passes = ap (λ u. u.passes) (some-injective x v e) in omega arith
+passes_set (x ∷ xs) (suc j) v w e = let h : passes_of (set xs j w) + v.passes ≡ passes_of xs + w.passes = passes_set xs j v w e in omega arith
 
-pub parts_append : {X : Type 0} (vs : List (View X)) (w : View X) → parts_of (vs ++ w ∷ []) ≡ parts_of vs + w.parts
-parts_append [] w = omega arith
-parts_append (x ∷ xs) w = let h : parts_of (xs ++ w ∷ []) ≡ parts_of xs + w.parts = parts_append xs w in omega arith
+pub passes_append : {X : Type 0} (vs : List (Knowledge X)) (w : Knowledge X) → passes_of (vs ++ w ∷ []) ≡ passes_of vs + w.passes
+passes_append [] w = omega arith
+passes_append (x ∷ xs) w = let h : passes_of (xs ++ w ∷ []) ≡ passes_of xs + w.passes = passes_append xs w in omega arith
 
-parts_one : {X : Type 0} (vs : List (View X)) (j : ℕ) (v : View X) → get_elem? vs j ≡ some v → v.parts ≤ parts_of vs
-parts_one vs j v e = omega (arith, parts_set vs j v spent e)
+passes_one : {X : Type 0} (vs : List (Knowledge X)) (j : ℕ) (v : Knowledge X) → get_elem? vs j ≡ some v → v.passes ≤ passes_of vs
+passes_one vs j v e = omega (arith, passes_set vs j v no_pass e)
 
 pub set_at : {A : Type 0} (l : List A) (i : ℕ) (a b : A) → get_elem? l i ≡ some a → get_elem? (set l i b) i ≡ some b
 set_at [] i a b e = absurd (some-ne-none a (sym e))
@@ -102,6 +103,6 @@ at_below [] i a e = absurd (some-ne-none a (sym e))
 at_below (x ∷ xs) zero a e = omega arith
 at_below (x ∷ xs) (suc i) a e = let h = at_below xs i a e in omega arith
 
--- two seats have no more parts than all
-pub parts_two : {X : Type 0} (vs : List (View X)) (j k : ℕ) (v w : View X) → j ≢ k → get_elem? vs j ≡ some v → get_elem? vs k ≡ some w → v.parts + w.parts ≤ parts_of vs
-parts_two vs j k v w ne p q = let h = parts_set vs j v spent p in let o : w.parts ≤ parts_of (set vs j spent) = parts_one (set vs j spent) k w (set_else vs j k spent (λ e. ne (sym e)) ∙ q) in omega arith
+-- two seats count for no more passes than all
+pub passes_two : {X : Type 0} (vs : List (Knowledge X)) (j k : ℕ) (v w : Knowledge X) → j ≢ k → get_elem? vs j ≡ some v → get_elem? vs k ≡ some w → v.passes + w.passes ≤ passes_of vs
+passes_two vs j k v w ne p q = let h = passes_set vs j v no_pass p in let o : w.passes ≤ passes_of (set vs j no_pass) = passes_one (set vs j no_pass) k w (set_else vs j k no_pass (λ e. ne (sym e)) ∙ q) in omega arith

@@ -6,71 +6,89 @@ use mathlib.Core.Logic.{dite}
 use native.Mathlib.Decide.{ℕ_discrete}
 use lib.ListN.{get_elem?}
 use prog.Atomic.{either}
-use Rattle.atomic_table.specs.Table.{State, Me, Act, Valid, step, keeps, takes, gives, stepped, carried_after, opening, Allows, Splits, Joins}
+use Rattle.atomic_table.specs.Table.{State, Act, Valid, step, keeps, takes, gives, stepped, carried_after, opening, Allows, Splits, Joins}
 use Rattle.atomic_table.proofs.Lists.{at_set, set_else, set_again, at_longer, at_last}
 use Rattle.operator_model.specs.declared.action.Entry.{Entry}
 use Rattle.plant_passes.specs.declared.view.Origin.{Origin}
-use Rattle.plant_passes.specs.Runs.{origin_of, IsRun}
-use Rattle.plant_passes.specs.declared.view.Mark.{Mark}
-use Rattle.plant_passes.specs.declared.view.View.{View}
-use Rattle.plant_passes.specs.declared.view.Held.{Held}
-use Rattle.plant_passes.specs.Words.{closing, mark, marks, entries, places, StartsWith, BeginsAll, opener, dealer, dealt, copy, joined, spent}
-use Rattle.plant_passes.specs.Rule.{Progress, Knows, IsDrawn, Apart, Expert, IsBookAfter, IsOut, Serves}
-use Rattle.plant_passes.specs.Steps.{drawn, drew, looked, grown, advanced, shut_by, shut}
-use Rattle.plant_passes.proofs.Logs.{begins_self, begins_more, begins_all_more, longer_begins, longer_whole_left, longer_whole_right, places_other, places_own, places_past, entries_push, entries_marks, length_marks, parts_set, parts_append, set_at, at_one, at_end, parts_two}
+use Rattle.plant_passes.specs.Runs.{origin_of, IsOwnRun}
+use Rattle.plant_passes.specs.declared.view.MarkedEntry.{MarkedEntry}
+use Rattle.plant_passes.specs.declared.view.Knowledge.{Knowledge}
+use Rattle.plant_passes.specs.declared.view.BookParts.{BookParts}
+use Rattle.plant_passes.specs.Histories.{mark_entry, mark_entries, entries, places, StartsWith, StartsWithAll}
+use Rattle.plant_passes.specs.Seats.{closing_mark, SeatNow, Knows, opener, after_giving, new_pass, copy_of, joint, no_pass}
+use Rattle.plant_passes.specs.Rule.{CellOpening, opening_of, Progress, IsOpen, CountsTurns, HasTicket, HasTurn, IsTrueOf, IsTicketOut, AreTicketsOut, AreTicketsApart, IsHistorySeen, IsBookAtHome, IsBookOut, IsCellTable}
+use Rattle.plant_passes.specs.Steps.{SeesHistory, with_ticket, DrawsTicket, LooksAtServing, with_entry, EndsTurn, after_closing, ClosesCell}
+use Rattle.plant_passes.proofs.Logs.{begins_self, begins_more, begins_all_more, longer_begins, longer_whole_left, longer_whole_right, places_other, places_own, places_past, entries_push, entries_marks, length_marks, passes_set, passes_append, set_at, at_one, at_end, passes_two}
 
 -- what a change of one view keeps
 
-pub seats_stay : {X : Type 0} (K : ℕ → View X → Type 0) (vs : List (View X)) (me : ℕ) (w : View X) → K me w → ((j : ℕ) (d : View X) → j ≢ me → get_elem? vs j ≡ some d → K j d) → (j : ℕ) (d : View X) → get_elem? (set vs me w) j ≡ some d → K j d
-seats_stay {X} K vs me w mine others j d e = ⊎_elim (λ (t : (j ≡ me) × (w ≡ d)). subst (λ (x : ℕ × View X). K x.0 x.1) (λ i. (sym t.0 i, t.1 i)) mine)
+pub seats_stay : {X : Type 0} (K : ℕ → Knowledge X → Type 0) (vs : List (Knowledge X)) (me : ℕ) (w : Knowledge X) → K me w → ((j : ℕ) (d : Knowledge X) → j ≢ me → get_elem? vs j ≡ some d → K j d) → (j : ℕ) (d : Knowledge X) → get_elem? (set vs me w) j ≡ some d → K j d
+seats_stay {X} K vs me w mine others j d e = ⊎_elim (λ (t : (j ≡ me) × (w ≡ d)). subst (λ (x : ℕ × Knowledge X). K x.0 x.1) (λ i. (sym t.0 i, t.1 i)) mine)
     (λ (t : (j ≢ me) × (get_elem? vs j ≡ some d)). others j d t.0 t.1) (at_set vs me j w d e)
 
--- the ticket of the view w is that of v, or one that nobody has
-abbrev IsTicket : {X : Type 0} → List (View X) → View X → View X → Type 0
-IsTicket {X} vs v w = (t : ℕ) → w.ticket ≡ Some t → (v.ticket ≡ Some t) ⊎ ((k : ℕ) (d : View X) → get_elem? vs k ≡ some d → d.ticket ≢ Some t)
+-- the ticket of w is that of v, or one that nobody has
+abbrev IsTicket : {X : Type 0} → List (Knowledge X) → Knowledge X → Knowledge X → Type 0
+IsTicket {X} vs v w = (t : ℕ) → w.ticket ≡ Some t
+    → (v.ticket ≡ Some t) ⊎ ((k : ℕ) (d : Knowledge X) → Knows vs k d → d.ticket ≢ Some t)
 
 -- a seat other than `me` has no ticket of w
-other_ticket : {X : Type 0} (vs : List (View X)) (me : ℕ) (v w : View X) → Apart vs → get_elem? vs me ≡ some v → IsTicket vs v w → (k : ℕ) (d : View X) (t : ℕ) → me ≢ k → get_elem? vs k ≡ some d → w.ticket ≡ Some t → d.ticket ≢ Some t
-other_ticket {X} vs me v w apart at is k d t ne there e = ⊎_elim (λ (h : v.ticket ≡ Some t). apart me k v d t ne at there h) (λ (h : (k : ℕ) (d : View X) → get_elem? vs k ≡ some d → d.ticket ≢ Some t). h k d there) (is t e)
+other_ticket : {X : Type 0} (vs : List (Knowledge X)) (me : ℕ) (v w : Knowledge X) → AreTicketsApart vs → Knows vs me v → IsTicket vs v w
+    → (k : ℕ) (d : Knowledge X) (t : ℕ) → me ≢ k → Knows vs k d → w.ticket ≡ Some t → d.ticket ≢ Some t
+other_ticket {X} vs me v w apart at is k d t ne there e = ⊎_elim (λ (h : v.ticket ≡ Some t). apart me k v d t ne at there h)
+    (λ (h : (k : ℕ) (d : Knowledge X) → Knows vs k d → d.ticket ≢ Some t). h k d there) (is t e)
 
-pub apart_stay : {X : Type 0} (vs : List (View X)) (me : ℕ) (v w : View X) → Apart vs → get_elem? vs me ≡ some v → IsTicket vs v w → Apart (set vs me w)
+pub apart_stay : {X : Type 0} (vs : List (Knowledge X)) (me : ℕ) (v w : Knowledge X) → AreTicketsApart vs → Knows vs me v → IsTicket vs v w
+    → AreTicketsApart (set vs me w)
 apart_stay {X} vs me v w apart at is j k x y t ne ej ek tj tk = ⊎_elim
     (λ (a : (j ≡ me) × (w ≡ x)). ⊎_elim
     (λ (b : (k ≡ me) × (w ≡ y)). ne (a.0 ∙ sym b.0))
-    (λ (b : (k ≢ me) × (get_elem? vs k ≡ some y)). other_ticket vs me v w apart at is k y t (λ e. b.0 (sym e)) b.1 (ap (λ (u : View X). u.ticket) a.1 ∙ tj) tk)
+    (λ (b : (k ≢ me) × (get_elem? vs k ≡ some y)).
+    other_ticket vs me v w apart at is k y t (λ e. b.0 (sym e)) b.1 (ap (λ (u : Knowledge X). u.ticket) a.1 ∙ tj) tk)
     (at_set vs me k w y ek))
     (λ (a : (j ≢ me) × (get_elem? vs j ≡ some x)). ⊎_elim
-    (λ (b : (k ≡ me) × (w ≡ y)). other_ticket vs me v w apart at is j x t (λ e. a.0 (sym e)) a.1 (ap (λ (u : View X). u.ticket) b.1 ∙ tk) tj)
+    (λ (b : (k ≡ me) × (w ≡ y)).
+    other_ticket vs me v w apart at is j x t (λ e. a.0 (sym e)) a.1 (ap (λ (u : Knowledge X). u.ticket) b.1 ∙ tk) tj)
     (λ (b : (k ≢ me) × (get_elem? vs k ≡ some y)). apart j k x y t ne a.1 b.1 tj tk)
     (at_set vs me k w y ek))
     (at_set vs me j w x ej)
 
-pub expert_stays : {X : Type 0} (log : List Mark) (vs : List (View X)) (me : ℕ) (v w : View X) → Expert log vs → get_elem? vs me ≡ some v → (0 < v.parts → v.seen ≡ log → (0 < w.parts) × (w.seen ≡ log)) → Expert log (set vs me w)
-expert_stays {X} log vs me v w x at still = dite (ℕ_discrete x.0 me)
-    (λ e. let here : get_elem? vs me ≡ some x.1 = subst (λ (k : ℕ). get_elem? vs k ≡ some x.1) e x.2 in
-    let same : x.1 ≡ v = at_one vs me x.1 v here at in
-    let p = still (subst (λ (u : View X). 0 < u.parts) same x.3) (ap (λ (u : View X). u.seen) (sym same) ∙ x.4) in
-    (me, w, set_at vs me v w at, p.0, p.1))
-    (λ ne. (x.0, x.1, set_else vs me x.0 w ne ∙ x.2, x.3, x.4))
+pub seen_stays : {X : Type 0} (history : List MarkedEntry) (vs : List (Knowledge X)) (me : ℕ) (v w : Knowledge X)
+    → IsHistorySeen history vs → Knows vs me v
+    → (0 < v.passes → v.seen ≡ history → (0 < w.passes) × (w.seen ≡ history)) → IsHistorySeen history (set vs me w)
+seen_stays {X} history vs me v w x at still = dite (ℕ_discrete x.seat me)
+    (λ e. let here : Knows vs me x.known = subst (λ (k : ℕ). Knows vs k x.known) e x.knows in
+    let same : x.known ≡ v = at_one vs me x.known v here at in
+    let p = still (subst (λ (u : Knowledge X). 0 < u.passes) same x.passes) (ap (λ (u : Knowledge X). u.seen) (sym same) ∙ x.whole) in
+    record { seat = me; known = w; knows = set_at vs me v w at; passes = p.0; whole = p.1 })
+    (λ ne. record { seat = x.seat; known = x.known; knows = set_else vs me x.seat w ne ∙ x.knows; passes = x.passes; whole = x.whole })
 
-pub held_stays : {X : Type 0} (vs : List (View X)) (me : ℕ) (v w : View X) → IsOut vs → get_elem? vs me ≡ some v → (v.holds ≡ true → w.holds ≡ true) → IsOut (set vs me w)
-held_stays {X} vs me v w x at still = dite (ℕ_discrete x.0 me)
-    (λ e. let here : get_elem? vs me ≡ some x.1 = subst (λ (k : ℕ). get_elem? vs k ≡ some x.1) e x.2 in
-    let same : x.1 ≡ v = at_one vs me x.1 v here at in
-    (me, w, set_at vs me v w at, still (ap (λ (u : View X). u.holds) (sym same) ∙ x.3)))
-    (λ ne. (x.0, x.1, set_else vs me x.0 w ne ∙ x.2, x.3))
+pub out_stays : {X : Type 0} (vs : List (Knowledge X)) (me : ℕ) (v w : Knowledge X) → IsBookOut vs → Knows vs me v
+    → (v.holds_book ≡ true → w.holds_book ≡ true) → IsBookOut (set vs me w)
+out_stays {X} vs me v w x at still = dite (ℕ_discrete x.seat me)
+    (λ e. let here : Knows vs me x.known = subst (λ (k : ℕ). Knows vs k x.known) e x.knows in
+    let same : x.known ≡ v = at_one vs me x.known v here at in
+    record { seat = me; known = w; knows = set_at vs me v w at; holds = still (ap (λ (u : Knowledge X). u.holds_book) (sym same) ∙ x.holds) })
+    (λ ne. record { seat = x.seat; known = x.known; knows = set_else vs me x.seat w ne ∙ x.knows; holds = x.holds })
 
 -- a ticket that is out stays out, where the one seat that changes keeps it
-pub drawn_stays : {X : Type 0} (vs : List (View X)) (me : ℕ) (v w : View X) (t : ℕ) → IsDrawn t vs → get_elem? vs me ≡ some v → (v.ticket ≡ Some t → w.ticket ≡ Some t) → IsDrawn t (set vs me w)
-drawn_stays {X} vs me v w t x at still = dite (ℕ_discrete x.0 me)
-    (λ e. let here : get_elem? vs me ≡ some x.1 = subst (λ (k : ℕ). get_elem? vs k ≡ some x.1) e x.2 in
-    let same : x.1 ≡ v = at_one vs me x.1 v here at in
-    (me, w, set_at vs me v w at, still (ap (λ (u : View X). u.ticket) (sym same) ∙ x.3)))
-    (λ ne. (x.0, x.1, set_else vs me x.0 w ne ∙ x.2, x.3))
+pub ticket_stays : {X : Type 0} (vs : List (Knowledge X)) (me : ℕ) (v w : Knowledge X) (t : ℕ) → IsTicketOut t vs → Knows vs me v
+    → (v.ticket ≡ Some t → w.ticket ≡ Some t) → IsTicketOut t (set vs me w)
+ticket_stays {X} vs me v w t x at still = dite (ℕ_discrete x.seat me)
+    (λ e. let here : Knows vs me x.known = subst (λ (k : ℕ). Knows vs k x.known) e x.knows in
+    let same : x.known ≡ v = at_one vs me x.known v here at in
+    record { seat = me; known = w; knows = set_at vs me v w at; ticket_is = still (ap (λ (u : Knowledge X). u.ticket) (sym same) ∙ x.ticket_is) })
+    (λ ne. record { seat = x.seat; known = x.known; knows = set_else vs me x.seat w ne ∙ x.knows; ticket_is = x.ticket_is })
 
--- it stays out where a seat is added
-pub drawn_longer : {X : Type 0} (vs : List (View X)) (w : View X) (t : ℕ) → IsDrawn t vs → IsDrawn t (vs ++ w ∷ [])
-drawn_longer vs w t x = (x.0, x.1, at_longer vs (w ∷ []) x.0 x.1 x.2, x.3)
+-- each of these stays where a seat is added
+pub ticket_longer : {X : Type 0} (vs : List (Knowledge X)) (w : Knowledge X) (t : ℕ) → IsTicketOut t vs → IsTicketOut t (vs ++ w ∷ [])
+ticket_longer vs w t x = record { seat = x.seat; known = x.known; knows = at_longer vs (w ∷ []) x.seat x.known x.knows; ticket_is = x.ticket_is }
+
+pub seen_longer : {X : Type 0} (history : List MarkedEntry) (vs : List (Knowledge X)) (w : Knowledge X) → IsHistorySeen history vs → IsHistorySeen history (vs ++ w ∷ [])
+seen_longer history vs w x =
+    record { seat = x.seat; known = x.known; knows = at_longer vs (w ∷ []) x.seat x.known x.knows; passes = x.passes; whole = x.whole }
+
+pub out_longer : {X : Type 0} (vs : List (Knowledge X)) (w : Knowledge X) → IsBookOut vs → IsBookOut (vs ++ w ∷ [])
+out_longer vs w x = record { seat = x.seat; known = x.known; knows = at_longer vs (w ∷ []) x.seat x.known x.knows; holds = x.holds }
 
 has_ticket : (o : Option ℕ) (n : ℕ) → Dec (o ≡ Some n)
 has_ticket None n = no (λ e. cc)
@@ -87,159 +105,253 @@ slot_is : {S : Type 0} (hs : List (maths.Option S)) (a b : maths.Option S) → l
 slot_is [] a b e h = absurd (omega arith)
 slot_is (x ∷ hs) a b e h = some-injective a b h
 
-module _ (X : Type 0) (origin : Origin) (beside : X) (passes : ℕ) where
+module _ (X : Type 0) (cell : CellOpening X) where
   abbrev S : Type 0
-  S = Option (Held X)
+  S = Option (BookParts X)
 
   abbrev M : Type 0
-  M = Me (Option (Held X)) (View X)
+  M = SeatNow X
 
   abbrev St : Type 0
-  St = State S (View X)
+  St = State S (Knowledge X)
 
   abbrev Rule : St → Type 0
-  Rule = Serves origin beside passes
+  Rule = IsCellTable cell
 
-  abbrev Known : Progress → ℕ → View X → Type 0
-  Known = Knows origin beside
-
-  -- each ticket of this cell is out at one of these seats
-  abbrev AreDrawn : Progress → List (View X) → Type 0
-  AreDrawn now views = now.serving ≢ closing → (t : ℕ) → now.serving ≤ t → t < now.tickets → IsDrawn t views
+  abbrev Known : Progress → ℕ → Knowledge X → Type 0
+  Known = IsTrueOf cell
 
   serving_is : (s : St) (r : Rule s) → get_or s.words 0 0 ≡ r.now.serving
   serving_is s r = ap (λ (ws : List ℕ). get_or ws 0 0) r.words
 
-  tickets_are : (s : St) (r : Rule s) → get_or s.words 1 0 ≡ r.now.tickets
+  tickets_are : (s : St) (r : Rule s) → get_or s.words 1 0 ≡ r.now.next_ticket
   tickets_are s r = ap (λ (ws : List ℕ). get_or ws 1 0) r.words
 
-  -- a step of the seat `id`, whose view was v and is w, after which the cell has come so far
-  moved : (s : St) (r : Rule s) (id : ℕ) (v w : View X) (hs : List (maths.Option S)) (now : Progress)
-      → get_elem? s.views id ≡ some v → now.tickets < closing → (now.serving ≢ closing → (now.serving ≡ length now.log) × (now.serving ≤ now.tickets))
+  -- a step of the seat `id`, which knew v and knows w, after which the cell has come so far
+  moved : (s : St) (r : Rule s) (id : ℕ) (v w : Knowledge X) (hs : List (maths.Option S)) (now : Progress)
+      → Knows s.views id v → now.next_ticket < closing_mark → (IsOpen now → CountsTurns now)
       → Known now id w
-      → ((j : ℕ) (d : View X) → j ≢ id → get_elem? s.views j ≡ some d → Known now j d)
-      → AreDrawn now (set s.views id w)
-      → IsTicket s.views v w → w.parts ≡ v.parts → Expert now.log (set s.views id w)
-      → ((x : ℕ) → 0 < x → x ≤ now.left → places x now.log ≡ [])
-      → ((y : S) → get_elem? hs 0 ≡ some (some y) → IsBookAfter origin beside now.log y)
-      → (get_elem? hs 0 ≡ some none → IsOut (set s.views id w))
-      → IsRun origin (entries now.log)
-      → Rule record { words = now.serving ∷ now.tickets ∷ []; homes = hs; views = set s.views id w }
-  moved s r id v w hs now at few going mine others out_there ticket part expert fresh home out run =
-      let sum = parts_set s.views id v w at in
+      → ((j : ℕ) (d : Knowledge X) → j ≢ id → Knows s.views j d → Known now j d)
+      → AreTicketsOut now (set s.views id w)
+      → IsTicket s.views v w → w.passes ≡ v.passes → IsHistorySeen now.history (set s.views id w)
+      → ((x : ℕ) → 0 < x → x ≤ now.not_given → places x now.history ≡ [])
+      → ((y : S) → get_elem? hs 0 ≡ some (some y) → IsBookAtHome cell now.history y)
+      → (get_elem? hs 0 ≡ some none → IsBookOut (set s.views id w))
+      → IsOwnRun cell.origin (entries now.history)
+      → Rule record { words = now.serving ∷ now.next_ticket ∷ []; homes = hs; views = set s.views id w }
+  moved s r id v w hs now at few turns mine others out_there ticket part whole unmade home out run =
+      let sum = passes_set s.views id v w at in
       let before = r.total in record {
         now = now;
         words = refl;
         few = few;
-        going = going;
+        turns = turns;
         each_seat = seats_stay (Known now) s.views id w mine others;
         each_ticket = out_there;
         apart = apart_stay s.views id v w r.apart at ticket;
         total = omega arith;
-        expert = expert;
-        fresh = fresh;
+        whole = whole;
+        unmade = unmade;
         home = home;
         out = out;
         run = run;
       }
 
   -- a look, which changes no word, and after which the history is the same
-  unmoved : (s : St) (r : Rule s) (id : ℕ) (v w : View X) (hs : List (maths.Option S))
-      → get_elem? s.views id ≡ some v
+  unmoved : (s : St) (r : Rule s) (id : ℕ) (v w : Knowledge X) (hs : List (maths.Option S))
+      → Knows s.views id v
       → Known r.now id w
-      → AreDrawn r.now (set s.views id w)
-      → IsTicket s.views v w → w.parts ≡ v.parts → (v.seen ≡ r.now.log → w.seen ≡ r.now.log)
-      → ((y : S) → get_elem? hs 0 ≡ some (some y) → IsBookAfter origin beside r.now.log y)
-      → (get_elem? hs 0 ≡ some none → IsOut (set s.views id w))
+      → AreTicketsOut r.now (set s.views id w)
+      → IsTicket s.views v w → w.passes ≡ v.passes → (v.seen ≡ r.now.history → w.seen ≡ r.now.history)
+      → ((y : S) → get_elem? hs 0 ≡ some (some y) → IsBookAtHome cell r.now.history y)
+      → (get_elem? hs 0 ≡ some none → IsBookOut (set s.views id w))
       → Rule record { words = set s.words 0 r.now.serving; homes = hs; views = set s.views id w }
   unmoved s r id v w hs at mine out_there ticket part seen home out =
       subst (λ (ws : List ℕ). Rule record { words = set ws 0 r.now.serving; homes = hs; views = set s.views id w }) (sym r.words)
-      (moved s r id v w hs r.now at r.few r.going mine (λ j d _. r.each_seat j d) out_there ticket part
-      (expert_stays r.now.log s.views id v w r.expert at (λ p e. (omega arith, seen e))) r.fresh home out r.run)
+      (moved s r id v w hs r.now at r.few r.turns mine (λ j d _. r.each_seat j d) out_there ticket part
+      (seen_stays r.now.history s.views id v w r.whole at (λ p e. (omega arith, seen e))) r.unmade home out r.run)
 
   -- where it is the seat's turn, the book is at home
-  at_home : (s : St) (r : Rule s) (id : ℕ) (v : View X) → get_elem? s.views id ≡ some v → length s.homes ≡ 1 → v.holds ≡ false → v.ticket ≡ Some r.now.serving → (y : S) × (get_elem? s.homes 0 ≡ some (some y))
+  at_home : (s : St) (r : Rule s) (id : ℕ) (v : Knowledge X) → Knows s.views id v → length s.homes ≡ 1 → v.holds_book ≡ false
+      → v.ticket ≡ Some r.now.serving → (y : S) × (get_elem? s.homes 0 ≡ some (some y))
   at_home s r id v at one idle mine = ⊎_elim
       (λ (e : get_elem? s.homes 0 ≡ some none). let x = r.out e in
-      let theirs = (r.each_seat x.0 x.1 x.2).turn x.3 in
-      dite (ℕ_discrete x.0 id)
-      (λ same. let is : x.1 ≡ v = at_one s.views id x.1 v (subst (λ (k : ℕ). get_elem? s.views k ≡ some x.1) same x.2) at in
-      let h : true ≡ false = sym x.3 ∙ (ap (λ (u : View X). u.holds) is ∙ idle) in absurd (cc h))
-      (λ ne. absurd (r.apart x.0 id x.1 v r.now.serving ne x.2 at theirs.1 mine)))
+      let theirs = (r.each_seat x.seat x.known x.knows).turn x.holds in
+      dite (ℕ_discrete x.seat id)
+      (λ same. let is : x.known ≡ v = at_one s.views id x.known v (subst (λ (k : ℕ). Knows s.views k x.known) same x.knows) at in
+      let h : true ≡ false = sym x.holds ∙ (ap (λ (u : Knowledge X). u.holds_book) is ∙ idle) in absurd (cc h))
+      (λ ne. absurd (r.apart x.seat id x.known v r.now.serving ne x.knows at theirs.ticket mine)))
       (λ h. h)
       (slot_cases s.homes one)
 
-  runs : (log : List Mark) (v : View X) → IsRun origin (entries log) → v.origin ≡ origin → IsRun v.origin (entries log)
-  runs log v run named = subst (λ (o : Origin). IsRun o (entries log)) (sym named) run
+  -- w has the number, the passes, the opening and the entries of v
+  record IsAlike (v w : Knowledge X) : Type 0 where
+    number : w.number ≡ v.number
+    passes : w.passes ≡ v.passes
+    opens : w.opens ≡ v.opens
+    origin : w.origin ≡ v.origin
+    ranking : w.ranking ≡ v.ranking
+    made : w.made ≡ v.made
 
-  -- the result of a look that finds n
-  abbrev IsTraceOf : St → ℕ → ℕ → M → Type 0
-  IsTraceOf s n id me = (w : View X) × (a : Act S) × Valid s.homes me.1 a × Rule (stepped s 0 n id me.1 w a)
-      × looked (step 1 0 0 0 none) me n (w, carried_after me.1 a)
+  ticket_again : (now : Progress) (v w : Knowledge X) (t : ℕ) → IsAlike v w → HasTicket now v t → HasTicket now w t
+  ticket_again now v w t alike h = record {
+    drawn = h.drawn;
+    unused = h.unused;
+    number = subst (λ (n : ℕ). 0 < n) (sym alike.number) h.number;
+    passes = subst (λ (n : ℕ). 0 < n) (sym alike.passes) h.passes;
+  }
 
-  look_shut : (s : St) (r : Rule s) (id : ℕ) (me : M) → get_elem? s.views id ≡ some me.0 → me.0.holds ≡ false → r.now.serving ≡ closing → IsTraceOf s r.now.serving id me
+  -- what a seat knows is true, where it was of what it knew before, and is of what changed
+  known_again : (now : Progress) (seat : ℕ) (v w : Knowledge X) → IsAlike v w → Known now seat v
+      → StartsWith now.history w.seen → StartsWithAll now.history w.reported
+      → ((t : ℕ) → w.ticket ≡ Some t → HasTicket now w t)
+      → (w.holds_book ≡ true → HasTurn now w)
+      → (w.closed ≡ true → now.serving ≡ closing_mark)
+      → Known now seat w
+  known_again now seat v w alike k seen reported ticket turn closed = record {
+    seen = seen;
+    reported = reported;
+    pass = λ here. let p = k.pass (subst (λ (n : ℕ). 0 < n) alike.number here) in record {
+      given = subst (λ (n : ℕ). now.not_given < n) (sym alike.number) p.given;
+      seat_is = ap now.seat_of alike.number ∙ p.seat_is;
+      made = alike.made ∙ (p.made ∙ ap (λ (n : ℕ). places n now.history) (sym alike.number));
+      origin = alike.origin ∙ p.origin;
+      ranking = alike.ranking ∙ p.ranking;
+    };
+    opener = λ is. let o = k.opener (sym alike.opens ∙ is) in record {
+      seat_is = o.seat_is;
+      passes = alike.passes ∙ o.passes;
+      number = alike.number ∙ o.number;
+      origin = alike.origin ∙ o.origin;
+      ranking = alike.ranking ∙ o.ranking;
+    };
+    ticket = ticket;
+    turn = turn;
+    closed = closed;
+  }
+
+  -- a seat that has seen the history of the table, and of which the rest stayed
+  sees : (s : St) (r : Rule s) (id : ℕ) (v w : Knowledge X) → Knows s.views id v → IsAlike v w
+      → w.seen ≡ r.now.history → w.reported ≡ v.reported → w.ended_cell ≡ v.ended_cell → SeesHistory v w
+  sees s r id v w at alike seen reported ended =
+      let k = r.each_seat id v at in record {
+        number = alike.number;
+        passes = alike.passes;
+        opens = alike.opens;
+        ended_cell = ended;
+        origin = alike.origin;
+        ranking = alike.ranking;
+        made = alike.made;
+        seen = subst (λ l. StartsWith l v.seen) (sym seen) k.seen;
+        same_reports = reported;
+        reported = subst (λ l. StartsWithAll l v.reported) (sym seen) k.reported;
+        own = λ here. alike.made ∙ ((k.pass here).made ∙ (λ i. places (sym alike.number i) (sym seen i)));
+        run = λ here. let e = alike.origin ∙ (k.pass here).origin in
+            subst (λ (p : Origin × List MarkedEntry). IsOwnRun p.0 (entries p.1)) (λ i. (sym e i, sym seen i)) r.run;
+      }
+
+  -- what a look that finds n leaves
+  abbrev AfterLook : St → ℕ → ℕ → M → Type 0
+  AfterLook s n id me = (w : Knowledge X) × (a : Act S) × Valid s.homes me.1 a × Rule (stepped s 0 n id me.1 w a)
+      × LooksAtServing (step 1 0 0 0 none) me n (w, carried_after me.1 a)
+
+  look_shut : (s : St) (r : Rule s) (id : ℕ) (me : M) → Knows s.views id me.0 → me.0.holds_book ≡ false
+      → r.now.serving ≡ closing_mark → AfterLook s r.now.serving id me
   look_shut s r id me at idle e =
-      let v : View X = me.0 in
+      let v : Knowledge X = me.0 in
       let k = r.each_seat id v at in
-      let w : View X = record v { seen = r.now.log; ticket = None; holds = false; closed = true } in (
+      let w : Knowledge X = record v { seen = r.now.history; ticket = None; holds_book = false; closed = true } in
+      let alike : IsAlike v w = record { number = refl; passes = refl; opens = refl; origin = refl; ranking = refl; made = refl } in (
         w,
         keeps,
         tt,
         unmoved s r id v w s.homes at
-            record { seen = begins_self r.now.log; told = k.told; named = k.named; opener = k.opener; ticket = λ t h. absurd (cc h); turn = λ h. absurd (cc h); closed = λ _. e }
-            (λ going. absurd (going e)) (λ t h. absurd (cc h)) refl (λ _. refl) r.home (λ h. held_stays s.views id v w (r.out h) at (λ t. let c : true ≡ false = sym t ∙ idle in absurd (cc c))),
+            (known_again r.now id v w alike k (begins_self r.now.history) k.reported (λ t h. absurd (cc h)) (λ h. absurd (cc h)) (λ _. e))
+            (λ going. absurd (going e)) (λ t h. absurd (cc h)) refl (λ _. refl) r.home
+            (λ h. out_stays s.views id v w (r.out h) at (λ t. let c : true ≡ false = sym t ∙ idle in absurd (cc c))),
         (
-          record { me = refl; parts = refl; opens = refl; ended = refl; origin = refl; rest_is = refl; made = refl; seen = k.seen; kept = refl; told = k.told; own = λ p. (k.named p).0; run = λ p. runs r.now.log v r.run (k.named p).1 },
-          record { shut = λ _. e; closed = λ _. (refl, refl, refl, refl); mine = λ ne _. absurd (ne e); other = λ ne _. absurd (ne e) },
+          sees s r id v w at alike refl refl refl,
+          record {
+            shut = λ _. e;
+            closed = λ _. record { ticket = refl; holds_book = refl; closed = refl; hand_is = refl };
+            mine = λ ne _. absurd (ne e);
+            other = λ ne _. absurd (ne e);
+          },
         ),
       )
 
-  look_other : (s : St) (r : Rule s) (id : ℕ) (me : M) → get_elem? s.views id ≡ some me.0 → me.0.holds ≡ false → r.now.serving ≢ closing → me.0.ticket ≢ Some r.now.serving → IsTraceOf s r.now.serving id me
+  look_other : (s : St) (r : Rule s) (id : ℕ) (me : M) → Knows s.views id me.0 → me.0.holds_book ≡ false
+      → IsOpen r.now → me.0.ticket ≢ Some r.now.serving → AfterLook s r.now.serving id me
   look_other s r id me at idle going no_turn =
-      let v : View X = me.0 in
+      let v : Knowledge X = me.0 in
       let k = r.each_seat id v at in
-      let w : View X = record v { seen = r.now.log; holds = false; closed = false } in (
+      let w : Knowledge X = record v { seen = r.now.history; holds_book = false; closed = false } in
+      let alike : IsAlike v w = record { number = refl; passes = refl; opens = refl; origin = refl; ranking = refl; made = refl } in (
         w,
         keeps,
         tt,
         unmoved s r id v w s.homes at
-            record { seen = begins_self r.now.log; told = k.told; named = k.named; opener = k.opener; ticket = k.ticket; turn = λ h. absurd (cc h); closed = λ h. absurd (cc h) }
-            (λ _ t low high. drawn_stays s.views id v w t (r.each_ticket going t low high) at (λ h. h)) (λ t h. inl h) refl (λ _. refl) r.home
-            (λ h. held_stays s.views id v w (r.out h) at (λ t. let c : true ≡ false = sym t ∙ idle in absurd (cc c))),
+            (known_again r.now id v w alike k (begins_self r.now.history) k.reported (λ t h. ticket_again r.now v w t alike (k.ticket t h))
+            (λ h. absurd (cc h)) (λ h. absurd (cc h)))
+            (λ _ t low high. ticket_stays s.views id v w t (r.each_ticket going t low high) at (λ h. h)) (λ t h. inl h) refl (λ _. refl) r.home
+            (λ h. out_stays s.views id v w (r.out h) at (λ t. let c : true ≡ false = sym t ∙ idle in absurd (cc c))),
         (
-          record { me = refl; parts = refl; opens = refl; ended = refl; origin = refl; rest_is = refl; made = refl; seen = k.seen; kept = refl; told = k.told; own = λ p. (k.named p).0; run = λ p. runs r.now.log v r.run (k.named p).1 },
-          record { shut = k.closed; closed = λ e. absurd (going e); mine = λ _ t. absurd (no_turn t); other = λ _ _. (refl, refl, refl, refl) },
+          sees s r id v w at alike refl refl refl,
+          record {
+            shut = k.closed;
+            closed = λ e. absurd (going e);
+            mine = λ _ t. absurd (no_turn t);
+            other = λ _ _. record { ticket = refl; holds_book = refl; closed = refl; hand_is = refl };
+          },
         ),
       )
 
-  look_mine : (s : St) (r : Rule s) (id : ℕ) (me : M) → get_elem? s.views id ≡ some me.0 → length s.homes ≡ 1 → me.0.holds ≡ false → r.now.serving ≢ closing → me.0.ticket ≡ Some r.now.serving → IsTraceOf s r.now.serving id me
+  look_mine : (s : St) (r : Rule s) (id : ℕ) (me : M) → Knows s.views id me.0 → length s.homes ≡ 1 → me.0.holds_book ≡ false
+      → IsOpen r.now → me.0.ticket ≡ Some r.now.serving → AfterLook s r.now.serving id me
   look_mine s r id me at one idle going turn =
-      let v : View X = me.0 in
+      let v : Knowledge X = me.0 in
       let k = r.each_seat id v at in
-      let w : View X = record v { seen = r.now.log; holds = true; closed = false } in
-      let named = k.named (k.ticket r.now.serving turn).2 in
+      let w : Knowledge X = record v { seen = r.now.history; holds_book = true; closed = false } in
+      let alike : IsAlike v w = record { number = refl; passes = refl; opens = refl; origin = refl; ranking = refl; made = refl } in
+      let pass = k.pass (k.ticket r.now.serving turn).number in
       let y = at_home s r id v at one idle turn in
       let b = r.home y.0 y.1 in (
         w,
         takes 0 y.0,
         y.1,
         unmoved s r id v w (set s.homes 0 none) at
-            record { seen = begins_self r.now.log; told = k.told; named = k.named; opener = k.opener; ticket = k.ticket; turn = λ _. (going, turn, refl); closed = λ h. absurd (cc h) }
-            (λ _ t low high. drawn_stays s.views id v w t (r.each_ticket going t low high) at (λ h. h)) (λ t h. inl h) refl (λ _. refl)
-            (λ z h. let c = slot_is s.homes none (some z) one h in absurd (some-ne-none z (sym c))) (λ _. (id, w, set_at s.views id v w at, refl)),
+            (known_again r.now id v w alike k (begins_self r.now.history) k.reported (λ t h. ticket_again r.now v w t alike (k.ticket t h))
+            (λ _. record { going = going; ticket = turn; seen = refl }) (λ h. absurd (cc h)))
+            (λ _ t low high. ticket_stays s.views id v w t (r.each_ticket going t low high) at (λ h. h)) (λ t h. inl h) refl (λ _. refl)
+            (λ z h. let c = slot_is s.homes none (some z) one h in absurd (some-ne-none z (sym c)))
+            (λ _. record { seat = id; known = w; knows = set_at s.views id v w at; holds = refl }),
         (
-          record { me = refl; parts = refl; opens = refl; ended = refl; origin = refl; rest_is = refl; made = refl; seen = k.seen; kept = refl; told = k.told; own = λ p. (k.named p).0; run = λ p. runs r.now.log v r.run (k.named p).1 },
+          sees s r id v w at alike refl refl refl,
           record {
             shut = k.closed;
             closed = λ e. absurd (going e);
-            mine = λ _ _. (turn, refl, refl, (r.going going).0, (b.0, ap (λ z. (0, z) ∷ me.1) b.1, b.2, b.3 ∙ sym named.1, named.4 ∙ ap Some (sym b.4)));
+            mine = λ _ _. record {
+              ticket_is = turn;
+              holds_book = refl;
+              closed = refl;
+              place = (r.turns going).counts;
+              book = record {
+                book = b.book;
+                hand_is = ap (λ z. (0, z) ∷ me.1) b.slot_is;
+                history_is = b.history_is;
+                origin = b.origin ∙ sym pass.origin;
+                ranking = pass.ranking ∙ ap Some (sym b.ranking);
+              };
+            };
             other = λ _ ne. absurd (ne turn);
           },
         ),
       )
 
-  pub looks : (slots id : ℕ) (me : M) → slots ≡ 1 → me.0.holds ≡ false → Allows Rule slots id me 0 (λ x. x) (looked (step slots 0 0 0 none) me)
-  looks slots id me one idle s r homes at small = subst (λ (n : ℕ). IsTraceOf s n id me) (sym (serving_is s r)) (dite (ℕ_discrete r.now.serving closing)
+  pub looks : (slots id : ℕ) (me : M) → slots ≡ 1 → me.0.holds_book ≡ false
+      → Allows Rule slots id me 0 (λ x. x) (LooksAtServing (step slots 0 0 0 none) me)
+  looks slots id me one idle s r homes at small = subst (λ (n : ℕ). AfterLook s n id me) (sym (serving_is s r))
+      (dite (ℕ_discrete r.now.serving closing_mark)
       (λ e. look_shut s r id me at idle e)
       (λ going. elim (has_ticket me.0.ticket r.now.serving) [
         | yes t ↦ look_mine s r id me at (homes ∙ one) idle going t
@@ -247,208 +359,262 @@ module _ (X : Type 0) (origin : Origin) (beside : X) (passes : ℕ) where
       ]))
 
   -- what a seat knows, where one more ticket was drawn
-  more_tickets : (now : Progress) (n j : ℕ) (d : View X) → now.tickets ≤ n → Known now j d → Known (record now { tickets = n }) j d
+  more_tickets : (now : Progress) (n j : ℕ) (d : Knowledge X) → now.next_ticket ≤ n → Known now j d → Known (record now { next_ticket = n }) j d
   more_tickets now n j d le k = record {
     seen = k.seen;
-    told = k.told;
-    named = k.named;
-    opener = k.opener;
-    ticket = λ t e. let x = k.ticket t e in (omega arith, x.1, x.2, x.3);
-    turn = k.turn;
+    reported = k.reported;
+    pass = λ p. let x = k.pass p in record { given = x.given; seat_is = x.seat_is; made = x.made; origin = x.origin; ranking = x.ranking };
+    opener = λ h. let x = k.opener h in record { seat_is = x.seat_is; passes = x.passes; number = x.number; origin = x.origin; ranking = x.ranking };
+    ticket = λ t e. let x = k.ticket t e in record {
+      drawn = (let low = x.drawn in omega arith);
+      unused = x.unused;
+      number = x.number;
+      passes = x.passes;
+    };
+    turn = λ h. let x = k.turn h in record { going = x.going; ticket = x.ticket; seen = x.seen };
     closed = k.closed;
   }
 
-  draw_hit : (s : St) (r : Rule s) (id : ℕ) (me : M) (new : ℕ) → get_elem? s.views id ≡ some me.0 → new ≡ r.now.tickets + 1 → new < closing → me.0.holds ≡ false → me.0.ticket ≡ None → 0 < me.0.me → 0 < me.0.parts
-      → Rule (stepped s 1 new id me.1 (drawn me.0 r.now.tickets) keeps)
-  draw_hit s r id me new at up few idle free named part =
-      let v : View X = me.0 in
-      let w : View X = drawn v r.now.tickets in
+  draw_hit : (s : St) (r : Rule s) (id : ℕ) (me : M) (new : ℕ) → Knows s.views id me.0 → new ≡ r.now.next_ticket + 1 → new < closing_mark
+      → me.0.holds_book ≡ false → me.0.ticket ≡ None → 0 < me.0.number → 0 < me.0.passes
+      → Rule (stepped s 1 new id me.1 (with_ticket me.0 r.now.next_ticket) keeps)
+  draw_hit s r id me new at up few idle free numbered part =
+      let v : Knowledge X = me.0 in
+      let w : Knowledge X = with_ticket v r.now.next_ticket in
       let k = r.each_seat id v at in
-      let now : Progress = record r.now { tickets = new } in
+      let now : Progress = record r.now { next_ticket = new } in
+      let more = more_tickets r.now new id v (omega arith) k in
+      let alike : IsAlike v w = record { number = refl; passes = refl; opens = refl; origin = refl; ranking = refl; made = refl } in
       subst (λ (ws : List ℕ). Rule record { words = set ws 1 new; homes = s.homes; views = set s.views id w }) (sym r.words)
-      (moved s r id v w s.homes now at few (λ going. let x = r.going going in (x.0, omega arith))
-      record {
-        seen = k.seen;
-        told = k.told;
-        named = k.named;
-        opener = k.opener;
-        ticket = λ t e. let is : r.now.tickets ≡ t = cc e in (omega arith, (λ going. let x = (r.going going).1 in omega arith), named, part);
-        turn = λ h. let c : true ≡ false = sym h ∙ idle in absurd (cc c);
-        closed = k.closed;
-      }
+      (moved s r id v w s.homes now at few
+      (λ going. let x = r.turns going in record { counts = x.counts; drawn = (let low = x.drawn in omega arith) })
+      (known_again now id v w alike more k.seen k.reported
+      (λ t e. let is : r.now.next_ticket ≡ t = cc e in record {
+        drawn = omega arith;
+        unused = λ going. let low = (r.turns going).drawn in omega arith;
+        number = numbered;
+        passes = part;
+      })
+      (λ h. let c : true ≡ false = sym h ∙ idle in absurd (cc c))
+      k.closed)
       (λ j d _ there. more_tickets r.now new j d (omega arith) (r.each_seat j d there))
-      (λ going t low high. dite (ℕ_discrete t r.now.tickets)
-      (λ e. (id, w, set_at s.views id v w at, ap Some (sym e)))
-      (λ ne. drawn_stays s.views id v w t (r.each_ticket going t low (omega arith)) at (λ h. let c = sym free ∙ h in absurd (cc c))))
-      (λ t e. let is : r.now.tickets ≡ t = cc e in inr (λ j d there h. let x = (r.each_seat j d there).ticket t h in omega arith))
-      refl (expert_stays r.now.log s.views id v w r.expert at (λ p e. (p, e))) r.fresh r.home
-      (λ h. held_stays s.views id v w (r.out h) at (λ h. h)) r.run)
+      (λ going t low high. dite (ℕ_discrete t r.now.next_ticket)
+      (λ e. record { seat = id; known = w; knows = set_at s.views id v w at; ticket_is = ap Some (sym e) })
+      (λ ne. ticket_stays s.views id v w t (r.each_ticket going t low (omega arith)) at (λ h. let c = sym free ∙ h in absurd (cc c))))
+      (λ t e. let is : r.now.next_ticket ≡ t = cc e in inr (λ j d there h. let x = ((r.each_seat j d there).ticket t h).drawn in omega arith))
+      refl (seen_stays r.now.history s.views id v w r.whole at (λ p e. (p, e))) r.unmade r.home
+      (λ h. out_stays s.views id v w (r.out h) at (λ h. h)) r.run)
 
-  draw_miss : (s : St) (r : Rule s) (id : ℕ) (me : M) → get_elem? s.views id ≡ some me.0 → Rule (stepped s 1 r.now.tickets id me.1 me.0 keeps)
+  draw_miss : (s : St) (r : Rule s) (id : ℕ) (me : M) → Knows s.views id me.0 → Rule (stepped s 1 r.now.next_ticket id me.1 me.0 keeps)
   draw_miss s r id me at =
-      let same : s.words ≡ set s.words 1 r.now.tickets = r.words ∙ ap (λ (ws : List ℕ). set ws 1 r.now.tickets) (sym r.words) in
-      subst (λ (p : List ℕ × List (View X)). Rule record { words = p.0; homes = s.homes; views = p.1 }) (λ i. (same i, sym (set_again s.views id me.0 at) i)) r
+      let same : s.words ≡ set s.words 1 r.now.next_ticket = r.words ∙ ap (λ (ws : List ℕ). set ws 1 r.now.next_ticket) (sym r.words) in
+      subst (λ (p : List ℕ × List (Knowledge X)). Rule record { words = p.0; homes = s.homes; views = p.1 })
+      (λ i. (same i, sym (set_again s.views id me.0 at) i)) r
 
-  -- the result of a draw that finds n
-  abbrev Drew : St → ℕ → ℕ → M → ℕ → ℕ → Type 0
-  Drew s n id me old new = (w : View X) × (a : Act S) × Valid s.homes me.1 a × Rule (stepped s 1 (either (eqb n old) new n) id me.1 w a)
-      × drew (step 1 1 old new none) me n (w, carried_after me.1 a)
+  -- what a draw that finds n leaves
+  abbrev AfterDraw : St → ℕ → ℕ → M → ℕ → ℕ → Type 0
+  AfterDraw s n id me old new = (w : Knowledge X) × (a : Act S) × Valid s.homes me.1 a
+      × Rule (stepped s 1 (either (eqb n old) new n) id me.1 w a) × DrawsTicket (step 1 1 old new none) me n (w, carried_after me.1 a)
 
-  pub draws : (slots id : ℕ) (me : M) (old new : ℕ) → new ≡ old + 1 → new < closing → me.0.holds ≡ false → me.0.ticket ≡ None → 0 < me.0.me → 0 < me.0.parts
-      → Allows Rule slots id me 1 (λ x. either (eqb x old) new x) (drew (step slots 1 old new none) me)
-  draws slots id me old new up few idle free named part s r homes at small = subst (λ (n : ℕ). Drew s n id me old new) (sym (tickets_are s r)) (dite (ℕ_discrete r.now.tickets old)
+  pub draws : (slots id : ℕ) (me : M) (old new : ℕ) → new ≡ old + 1 → new < closing_mark
+      → me.0.holds_book ≡ false → me.0.ticket ≡ None → 0 < me.0.number → 0 < me.0.passes
+      → Allows Rule slots id me 1 (λ x. either (eqb x old) new x) (DrawsTicket (step slots 1 old new none) me)
+  draws slots id me old new up few idle free numbered part s r homes at small = subst (λ (n : ℕ). AfterDraw s n id me old new) (sym (tickets_are s r))
+      (dite (ℕ_discrete r.now.next_ticket old)
       (λ hit. (
-        drawn me.0 r.now.tickets,
+        with_ticket me.0 r.now.next_ticket,
         keeps,
         tt,
-        subst (λ b. Rule (stepped s 1 (either b new r.now.tickets) id me.1 (drawn me.0 r.now.tickets) keeps)) (sym (eq-eqb r.now.tickets old hit)) (draw_hit s r id me new at (omega arith) few idle free named part),
-        ((λ _. ap (λ t. (drawn me.0 t, me.1)) hit), λ miss. absurd (miss hit)),
+        subst (λ b. Rule (stepped s 1 (either b new r.now.next_ticket) id me.1 (with_ticket me.0 r.now.next_ticket) keeps)) (sym (eq-eqb r.now.next_ticket old hit))
+            (draw_hit s r id me new at (omega arith) few idle free numbered part),
+        ((λ _. ap (λ t. (with_ticket me.0 t, me.1)) hit), λ miss. absurd (miss hit)),
       ))
       (λ miss. (
         me.0,
         keeps,
         tt,
-        subst (λ b. Rule (stepped s 1 (either b new r.now.tickets) id me.1 me.0 keeps)) (sym (ne_eqb r.now.tickets old miss)) (draw_miss s r id me at),
+        subst (λ b. Rule (stepped s 1 (either b new r.now.next_ticket) id me.1 me.0 keeps)) (sym (ne_eqb r.now.next_ticket old miss)) (draw_miss s r id me at),
         ((λ hit. absurd (miss hit)), λ _. refl),
       )))
 
   -- how far a cell has come, once the seat whose turn it is has added an entry of its own
-  abbrev grown_by : Progress → View X → Entry → ℕ → Progress
-  grown_by now v e n = record now { log = now.log ++ mark v.me e ∷ []; serving = n }
+  abbrev grown_by : Progress → Knowledge X → Entry → ℕ → Progress
+  grown_by now v e n = record now { history = now.history ++ mark_entry v.number e ∷ []; serving = n }
 
   -- what the other seats know then
-  others_grow : (s : St) (r : Rule s) (id : ℕ) (v : View X) (e : Entry) (n : ℕ) → n ≡ r.now.serving + 1 → get_elem? s.views id ≡ some v → v.holds ≡ true → 0 < v.me → (j : ℕ) (d : View X) → j ≢ id → get_elem? s.views j ≡ some d
+  others_grow : (s : St) (r : Rule s) (id : ℕ) (v : Knowledge X) (e : Entry) (n : ℕ) → n ≡ r.now.serving + 1 → Knows s.views id v
+      → v.holds_book ≡ true → 0 < v.number → (j : ℕ) (d : Knowledge X) → j ≢ id → Knows s.views j d
       → Known (grown_by r.now v e n) j d
   others_grow s r id v e n up at holds here j d ne there =
       let k = r.each_seat id v at in
       let mine = k.turn holds in
       let o = r.each_seat j d there in
-      let not_mine : d.ticket ≢ Some r.now.serving = λ h. r.apart j id d v r.now.serving ne there at h mine.1 in record {
-        seen = begins_more r.now.log (mark v.me e ∷ []) d.seen o.seen;
-        told = begins_all_more r.now.log (mark v.me e ∷ []) d.told o.told;
-        named = λ p. let x = o.named p in (
-          x.0 ∙ sym (places_other d.me r.now.log (mark v.me e) (λ same. ne (sym x.2 ∙ (ap r.now.seat (sym same) ∙ (k.named here).2)))),
-          x.1,
-          x.2,
-          x.3,
-          x.4,
-        );
-        opener = o.opener;
+      let not_mine : d.ticket ≢ Some r.now.serving = λ h. r.apart j id d v r.now.serving ne there at h mine.ticket in record {
+        seen = begins_more r.now.history (mark_entry v.number e ∷ []) d.seen o.seen;
+        reported = begins_all_more r.now.history (mark_entry v.number e ∷ []) d.reported o.reported;
+        pass = λ p. let x = o.pass p in
+            let other : v.number ≢ d.number = λ same. ne (sym x.seat_is ∙ (ap r.now.seat_of (sym same) ∙ (k.pass here).seat_is)) in record {
+              given = x.given;
+              seat_is = x.seat_is;
+              made = x.made ∙ sym (places_other d.number r.now.history (mark_entry v.number e) other);
+              origin = x.origin;
+              ranking = x.ranking;
+            };
+        opener = λ h. let x = o.opener h in record { seat_is = x.seat_is; passes = x.passes; number = x.number; origin = x.origin; ranking = x.ranking };
         ticket = λ t h. let x = o.ticket t h in
             let far : t ≢ r.now.serving = λ same. not_mine (h ∙ ap Some same) in
-            let above = x.1 mine.0 in
-            (x.0, (λ _. omega arith), x.2, x.3);
-        turn = λ h. absurd (not_mine (o.turn h).1);
-        closed = λ h. absurd (mine.0 (o.closed h));
+            let above = x.unused mine.going in record {
+              drawn = x.drawn;
+              unused = λ _. omega arith;
+              number = x.number;
+              passes = x.passes;
+            };
+        turn = λ h. absurd (not_mine (o.turn h).ticket);
+        closed = λ h. absurd (mine.going (o.closed h));
       }
 
-  pub advance_keeps : (s : St) (r : Rule s) (id : ℕ) (v : View X) (c : List (ℕ × S)) (b : Held X) (e : Entry) (n : ℕ) → v.rest ≡ Some b.rest → get_elem? s.views id ≡ some v → length s.homes ≡ 1
-      → v.holds ≡ true → 0 < v.me → n ≡ r.now.serving + 1 → b.kept.book.history ≡ entries v.seen ++ e ∷ [] → origin_of b.kept.book ≡ v.origin → IsRun (origin_of b.kept.book) b.kept.book.history
-      → Rule (stepped s 0 n id ((0, Some b) ∷ c) (grown v e) gives)
+  pub advance_keeps : (s : St) (r : Rule s) (id : ℕ) (v : Knowledge X) (c : List (ℕ × S)) (b : BookParts X) (e : Entry) (n : ℕ)
+      → v.ranking ≡ Some b.ranking → Knows s.views id v → length s.homes ≡ 1
+      → v.holds_book ≡ true → 0 < v.number → n ≡ r.now.serving + 1
+      → b.kept.book.history ≡ entries v.seen ++ e ∷ [] → origin_of b.kept.book ≡ v.origin
+      → IsOwnRun (origin_of b.kept.book) b.kept.book.history
+      → Rule (stepped s 0 n id ((0, Some b) ∷ c) (with_entry v e) gives)
   advance_keeps s r id v c b e n has at one holds here up history book run =
       let k = r.each_seat id v at in
-      let named = k.named here in
-      let same_rest : b.rest ≡ beside = let z = sym has ∙ named.4 in cc z in
+      let pass = k.pass here in
+      let same_ranking : b.ranking ≡ cell.ranking = let z = sym has ∙ pass.ranking in cc z in
       let mine = k.turn holds in
-      let place = (r.going mine.0).0 in
-      let ticket = k.ticket r.now.serving mine.1 in
-      let below = ticket.0 in
+      let place = (r.turns mine.going).counts in
+      let ticket = k.ticket r.now.serving mine.ticket in
+      let below = ticket.drawn in
       let now : Progress = grown_by r.now v e n in
-      let w : View X = grown v e in
-      let seen : w.seen ≡ now.log = ap (λ l. l ++ mark v.me e ∷ []) mine.2 in
-      let count : length now.log ≡ length r.now.log + 1 = length-append r.now.log (mark v.me e ∷ []) in
-      let line : b.kept.book.history ≡ entries now.log = history ∙ (ap (λ l. entries l ++ e ∷ []) mine.2 ∙ sym (entries_push r.now.log v.me e)) in
+      let w : Knowledge X = with_entry v e in
+      let seen : w.seen ≡ now.history = ap (λ l. l ++ mark_entry v.number e ∷ []) mine.seen in
+      let count : length now.history ≡ length r.now.history + 1 = length-append r.now.history (mark_entry v.number e ∷ []) in
+      let line : b.kept.book.history ≡ entries now.history =
+      history ∙ (ap (λ l. entries l ++ e ∷ []) mine.seen ∙ sym (entries_push r.now.history v.number e)) in
       subst (λ (ws : List ℕ). Rule record { words = set ws 0 n; homes = set s.homes 0 (some (Some b)); views = set s.views id w }) (sym r.words)
-      (moved s r id v w (set s.homes 0 (some (Some b))) now at r.few (λ _. (omega arith, omega arith))
+      (moved s r id v w (set s.homes 0 (some (Some b))) now at r.few (λ _. record { counts = omega arith; drawn = omega arith })
       record {
-        seen = subst (StartsWith now.log) (sym seen) (begins_self now.log);
-        told = begins_all_more r.now.log (mark v.me e ∷ []) v.told k.told;
-        named = λ p. ((λ i. named.0 i ++ length (mine.2 i) ∷ []) ∙ sym (places_own v.me r.now.log e), named.1, named.2, named.3, named.4);
-        opener = k.opener;
+        seen = subst (StartsWith now.history) (sym seen) (begins_self now.history);
+        reported = begins_all_more r.now.history (mark_entry v.number e ∷ []) v.reported k.reported;
+        pass = λ p. record {
+          given = pass.given;
+          seat_is = pass.seat_is;
+          made = (λ i. pass.made i ++ length (mine.seen i) ∷ []) ∙ sym (places_own v.number r.now.history e);
+          origin = pass.origin;
+          ranking = pass.ranking;
+        };
+        opener = λ h. let x = k.opener h in record { seat_is = x.seat_is; passes = x.passes; number = x.number; origin = x.origin; ranking = x.ranking };
         ticket = λ t h. absurd (cc h);
         turn = λ h. absurd (cc h);
-        closed = λ h. absurd (mine.0 (k.closed h));
+        closed = λ h. absurd (mine.going (k.closed h));
       }
       (others_grow s r id v e n up at holds here)
-      (λ _ t low high. drawn_stays s.views id v w t (r.each_ticket mine.0 t (omega arith) high) at
-      (λ h. let z = sym mine.1 ∙ h in let is : r.now.serving ≡ t = cc z in absurd (omega arith)))
-      (λ t h. absurd (cc h)) refl (id, w, set_at s.views id v w at, ticket.3, seen)
-      (λ x p q. places_other x r.now.log (mark v.me e) (λ same. let far = named.3 in omega arith) ∙ r.fresh x p q)
-      (λ y h. let is = some-injective (Some b) y (slot_is s.homes (some (Some b)) (some y) one h) in (b, sym is, line, book ∙ named.1, same_rest))
+      (λ _ t low high. ticket_stays s.views id v w t (r.each_ticket mine.going t (omega arith) high) at
+      (λ h. let z = sym mine.ticket ∙ h in let is : r.now.serving ≡ t = cc z in absurd (omega arith)))
+      (λ t h. absurd (cc h)) refl record { seat = id; known = w; knows = set_at s.views id v w at; passes = ticket.passes; whole = seen }
+      (λ x p q. places_other x r.now.history (mark_entry v.number e) (λ same. let far = pass.given in omega arith) ∙ r.unmade x p q)
+      (λ y h. let is = some-injective (Some b) y (slot_is s.homes (some (Some b)) (some y) one h) in
+      record { book = b; slot_is = sym is; history_is = line; origin = book ∙ pass.origin; ranking = same_ranking })
       (λ h. absurd (some-ne-none (Some b) (some-injective (some (Some b)) none (ap some (slot_is s.homes (some (Some b)) none one h)))))
-      (subst (λ (p : Origin × List Entry). IsRun p.0 p.1) (λ i. ((book ∙ named.1) i, line i)) run))
+      (subst (λ (p : Origin × List Entry). IsOwnRun p.0 p.1) (λ i. ((book ∙ pass.origin) i, line i)) run))
 
-  pub advances : (slots id : ℕ) (me : M) (t n : ℕ) (c : List (ℕ × S)) (b : Held X) (e : Entry) → me.0.rest ≡ Some b.rest → slots ≡ 1 → me.0.holds ≡ true → me.0.ticket ≡ Some t → 0 < me.0.me → n ≡ t + 1
-      → me.1 ≡ (0, Some b) ∷ c → b.kept.book.history ≡ entries me.0.seen ++ e ∷ [] → origin_of b.kept.book ≡ me.0.origin → IsRun (origin_of b.kept.book) b.kept.book.history
-      → Allows Rule slots id me 0 (λ _. n) (λ _. advanced (step slots 0 n 0 none) me n)
-  advances slots id me t n c b e has one holds turn here up hand history book run = subst (λ (x : List (ℕ × S)). Allows Rule slots id (me.0, x) 0 (λ _. n) (λ _. advanced (step slots 0 n 0 none) (me.0, x) n)) (sym hand)
+  pub advances : (slots id : ℕ) (me : M) (t n : ℕ) (c : List (ℕ × S)) (b : BookParts X) (e : Entry) → me.0.ranking ≡ Some b.ranking → slots ≡ 1
+      → me.0.holds_book ≡ true → me.0.ticket ≡ Some t → 0 < me.0.number → n ≡ t + 1
+      → me.1 ≡ (0, Some b) ∷ c → b.kept.book.history ≡ entries me.0.seen ++ e ∷ [] → origin_of b.kept.book ≡ me.0.origin
+      → IsOwnRun (origin_of b.kept.book) b.kept.book.history
+      → Allows Rule slots id me 0 (λ _. n) (λ _. EndsTurn (step slots 0 n 0 none) me n)
+  advances slots id me t n c b e has one holds turn here up in_hand history book run =
+      subst (λ (x : List (ℕ × S)). Allows Rule slots id (me.0, x) 0 (λ _. n) (λ _. EndsTurn (step slots 0 n 0 none) (me.0, x) n)) (sym in_hand)
       (λ s r homes at small.
-      let now : r.now.serving ≡ t = let k = r.each_seat id me.0 at in let a = sym (k.turn holds).1 ∙ turn in cc a in
-      (grown me.0 e, gives, tt, advance_keeps s r id me.0 c b e n has at (homes ∙ one) holds here (omega arith) history book run, (e, history, refl)))
+      let now : r.now.serving ≡ t = let k = r.each_seat id me.0 at in let a = sym (k.turn holds).ticket ∙ turn in cc a in
+      (with_entry me.0 e, gives, tt, advance_keeps s r id me.0 c b e n has at (homes ∙ one) holds here (omega arith) history book run, (e, history, refl)))
 
-  shut_keeps : (s : St) (r : Rule s) (id : ℕ) (v : View X) (c : List (ℕ × S)) (b : Held X) (n : ℕ) → v.rest ≡ Some b.rest → get_elem? s.views id ≡ some v → length s.homes ≡ 1
-      → v.holds ≡ true → 0 < v.me → n ≡ closing → b.kept.book.history ≡ entries v.seen → origin_of b.kept.book ≡ v.origin → Rule (stepped s 0 n id ((0, Some b) ∷ c) (shut_by v) gives)
+  shut_keeps : (s : St) (r : Rule s) (id : ℕ) (v : Knowledge X) (c : List (ℕ × S)) (b : BookParts X) (n : ℕ) → v.ranking ≡ Some b.ranking
+      → Knows s.views id v → length s.homes ≡ 1 → v.holds_book ≡ true → 0 < v.number → n ≡ closing_mark
+      → b.kept.book.history ≡ entries v.seen → origin_of b.kept.book ≡ v.origin
+      → Rule (stepped s 0 n id ((0, Some b) ∷ c) (after_closing v) gives)
   shut_keeps s r id v c b n has at one holds here is history book =
       let k = r.each_seat id v at in
-      let named = k.named here in
-      let same_rest : b.rest ≡ beside = let z = sym has ∙ named.4 in cc z in
+      let pass = k.pass here in
+      let same_ranking : b.ranking ≡ cell.ranking = let z = sym has ∙ pass.ranking in cc z in
       let mine = k.turn holds in
-      let w : View X = shut_by v in
+      let w : Knowledge X = after_closing v in
       let now : Progress = record r.now { serving = n } in
       subst (λ (ws : List ℕ). Rule record { words = set ws 0 n; homes = set s.homes 0 (some (Some b)); views = set s.views id w }) (sym r.words)
       (moved s r id v w (set s.homes 0 (some (Some b))) now at r.few (λ going. absurd (going is))
-      record { seen = k.seen; told = k.told; named = k.named; opener = k.opener; ticket = λ t h. absurd (cc h); turn = λ h. absurd (cc h); closed = λ _. is }
+      record {
+        seen = k.seen;
+        reported = k.reported;
+        pass = λ p. record { given = pass.given; seat_is = pass.seat_is; made = pass.made; origin = pass.origin; ranking = pass.ranking };
+        opener = λ h. let x = k.opener h in record { seat_is = x.seat_is; passes = x.passes; number = x.number; origin = x.origin; ranking = x.ranking };
+        ticket = λ t h. absurd (cc h);
+        turn = λ h. absurd (cc h);
+        closed = λ _. is;
+      }
       (λ j d ne there. let o = r.each_seat j d there in record {
         seen = o.seen;
-        told = o.told;
-        named = o.named;
-        opener = o.opener;
-        ticket = λ t h. let x = o.ticket t h in (x.0, (λ going. absurd (going is)), x.2, x.3);
-        turn = λ h. absurd (r.apart j id d v r.now.serving ne there at (o.turn h).1 mine.1);
+        reported = o.reported;
+        pass = λ p. let x = o.pass p in record { given = x.given; seat_is = x.seat_is; made = x.made; origin = x.origin; ranking = x.ranking };
+        opener = λ h. let x = o.opener h in record { seat_is = x.seat_is; passes = x.passes; number = x.number; origin = x.origin; ranking = x.ranking };
+        ticket = λ t h. let x = o.ticket t h in record { drawn = x.drawn; unused = λ going. absurd (going is); number = x.number; passes = x.passes };
+        turn = λ h. absurd (r.apart j id d v r.now.serving ne there at (o.turn h).ticket mine.ticket);
         closed = λ _. is;
       })
       (λ going. absurd (going is))
-      (λ t h. absurd (cc h)) refl (expert_stays r.now.log s.views id v w r.expert at (λ p e. (p, e))) r.fresh
-      (λ y h. let e = some-injective (Some b) y (slot_is s.homes (some (Some b)) (some y) one h) in (b, sym e, history ∙ ap entries mine.2, book ∙ named.1, same_rest))
+      (λ t h. absurd (cc h)) refl (seen_stays r.now.history s.views id v w r.whole at (λ p e. (p, e))) r.unmade
+      (λ y h. let e = some-injective (Some b) y (slot_is s.homes (some (Some b)) (some y) one h) in
+      record { book = b; slot_is = sym e; history_is = history ∙ ap entries mine.seen; origin = book ∙ pass.origin; ranking = same_ranking })
       (λ h. absurd (some-ne-none (Some b) (slot_is s.homes (some (Some b)) none one h)))
       r.run)
 
-  pub shuts : (slots id : ℕ) (me : M) (n : ℕ) (c : List (ℕ × S)) (b : Held X) → me.0.rest ≡ Some b.rest → slots ≡ 1 → me.0.holds ≡ true → 0 < me.0.me → n ≡ closing
+  pub shuts : (slots id : ℕ) (me : M) (n : ℕ) (c : List (ℕ × S)) (b : BookParts X) → me.0.ranking ≡ Some b.ranking → slots ≡ 1
+      → me.0.holds_book ≡ true → 0 < me.0.number → n ≡ closing_mark
       → me.1 ≡ (0, Some b) ∷ c → b.kept.book.history ≡ entries me.0.seen → origin_of b.kept.book ≡ me.0.origin
-      → Allows Rule slots id me 0 (λ _. n) (λ _. shut (step slots 0 n 0 none) me n)
-  shuts slots id me n c b has one holds here is hand history book = subst (λ (x : List (ℕ × S)). Allows Rule slots id (me.0, x) 0 (λ _. n) (λ _. shut (step slots 0 n 0 none) (me.0, x) n)) (sym hand)
-      (λ s r homes at small. (shut_by me.0, gives, tt, shut_keeps s r id me.0 c b n has at (homes ∙ one) holds here is history book, refl))
+      → Allows Rule slots id me 0 (λ _. n) (λ _. ClosesCell (step slots 0 n 0 none) me n)
+  shuts slots id me n c b has one holds here is in_hand history book =
+      subst (λ (x : List (ℕ × S)). Allows Rule slots id (me.0, x) 0 (λ _. n) (λ _. ClosesCell (step slots 0 n 0 none) (me.0, x) n)) (sym in_hand)
+      (λ s r homes at small. (after_closing me.0, gives, tt, shut_keeps s r id me.0 c b n has at (homes ∙ one) holds here is history book, refl))
 
-  apart_more : (vs : List (View X)) (w : View X) → Apart vs → w.ticket ≡ None → Apart (vs ++ w ∷ [])
+  apart_more : (vs : List (Knowledge X)) (w : Knowledge X) → AreTicketsApart vs → w.ticket ≡ None → AreTicketsApart (vs ++ w ∷ [])
   apart_more vs w apart none_here j l x y t ne ej el tj tl = ⊎_elim
       (λ (a : get_elem? vs j ≡ some x). ⊎_elim
       (λ (b : get_elem? vs l ≡ some y). apart j l x y t ne a b tj tl)
-      (λ (b : (l ≡ length vs) × (w ≡ y)). let h = sym none_here ∙ (ap (λ (u : View X). u.ticket) b.1 ∙ tl) in cc h)
+      (λ (b : (l ≡ length vs) × (w ≡ y)). let h = sym none_here ∙ (ap (λ (u : Knowledge X). u.ticket) b.1 ∙ tl) in cc h)
       (at_end vs w y l el))
-      (λ (a : (j ≡ length vs) × (w ≡ x)). let h = sym none_here ∙ (ap (λ (u : View X). u.ticket) a.1 ∙ tj) in cc h)
+      (λ (a : (j ≡ length vs) × (w ≡ x)). let h = sym none_here ∙ (ap (λ (u : Knowledge X). u.ticket) a.1 ∙ tj) in cc h)
       (at_end vs w x j ej)
 
-  -- a new seat comes with a copy of what v has seen, and has no ticket and no part
-  pub tells : (id : ℕ) (v : View X) → Splits Rule id v v (copy v)
-  tells id v s r at =
+  -- a new seat comes with a copy of what v has seen, and has no ticket and counts for no pass
+  pub copies : (id : ℕ) (v : Knowledge X) → Splits Rule id v v (copy_of v)
+  copies id v s r at =
       let k = r.each_seat id v at in
-      let w : View X = copy v in
-      subst (λ (vs : List (View X)). Rule record { words = s.words; homes = s.homes; views = vs ++ w ∷ [] }) (sym (set_again s.views id v at)) record {
+      let w : Knowledge X = copy_of v in
+      subst (λ (vs : List (Knowledge X)). Rule record { words = s.words; homes = s.homes; views = vs ++ w ∷ [] }) (sym (set_again s.views id v at)) record {
         now = r.now;
         words = r.words;
         few = r.few;
-        going = r.going;
+        turns = r.turns;
         each_seat = λ j d e. ⊎_elim (r.each_seat j d)
             (λ (t : (j ≡ length s.views) × (w ≡ d)). subst (Known r.now j) t.1
-            record { seen = k.seen; told = tt; named = λ p. absurd (omega arith); opener = λ h. absurd (cc h); ticket = λ t h. absurd (cc h); turn = λ h. absurd (cc h); closed = k.closed })
+            record {
+              seen = k.seen;
+              reported = tt;
+              pass = λ p. absurd (omega arith);
+              opener = λ h. absurd (cc h);
+              ticket = λ t h. absurd (cc h);
+              turn = λ h. absurd (cc h);
+              closed = k.closed;
+            })
             (at_end s.views w d j e);
-        each_ticket = λ going t low high. drawn_longer s.views w t (r.each_ticket going t low high);
+        each_ticket = λ going t low high. ticket_longer s.views w t (r.each_ticket going t low high);
         apart = apart_more s.views w r.apart refl;
-        total = let sum = parts_append s.views w in let before = r.total in omega arith;
-        expert = let x = r.expert in (x.0, x.1, at_longer s.views (w ∷ []) x.0 x.1 x.2, x.3, x.4);
-        fresh = r.fresh;
+        total = let sum = passes_append s.views w in let before = r.total in omega arith;
+        whole = seen_longer r.now.history s.views w r.whole;
+        unmade = r.unmade;
         home = r.home;
-        out = λ h. let x = r.out h in (x.0, x.1, at_longer s.views (w ∷ []) x.0 x.1 x.2, x.3);
+        out = λ h. out_longer s.views w (r.out h);
         run = r.run;
       }
 
@@ -456,53 +622,83 @@ module _ (X : Type 0) (origin : Origin) (beside : X) (passes : ℕ) where
   seat_with seat number place x = cond (eqb x number) place (seat x)
 
   -- the opener gives a pass, whose number is what the opener has left
-  pub deals : (id : ℕ) (v : View X) → v.opens ≡ true → 0 < v.parts → Splits Rule id v (dealer v) (dealt v)
-  deals id v opening_it some_left s r at =
+  pub gives_pass : (id : ℕ) (v : Knowledge X) → v.opens ≡ true → 0 < v.passes → Splits Rule id v (after_giving v) (new_pass v)
+  gives_pass id v opening_it some_left s r at =
       let k = r.each_seat id v at in
       let o = k.opener opening_it in
-      let a : View X = dealer v in
-      let w : View X = dealt v in
-      let vs : List (View X) = set s.views id a in
-      let seat : ℕ → ℕ = seat_with r.now.seat v.parts (length vs) in
-      let now : Progress = record r.now { seat = seat; left = r.now.left - 1 } in
-      let K : ℕ → View X → Type 0 = Known now in record {
+      let left = o.passes in
+      let zero_number = o.number in
+      let a : Knowledge X = after_giving v in
+      let w : Knowledge X = new_pass v in
+      let vs : List (Knowledge X) = set s.views id a in
+      let seat_of : ℕ → ℕ = seat_with r.now.seat_of v.passes (length vs) in
+      let now : Progress = record r.now { seat_of = seat_of; not_given = r.now.not_given - 1 } in
+      let K : ℕ → Knowledge X → Type 0 = Known now in record {
         now = now;
         words = r.words;
         few = r.few;
-        going = r.going;
+        turns = λ going. let x = r.turns going in record { counts = x.counts; drawn = x.drawn };
         each_seat = λ j d e. ⊎_elim
             (λ (t : get_elem? vs j ≡ some d). seats_stay K s.views id a
-            record { seen = k.seen; told = k.told; named = λ p. let z = o.2 in absurd (omega arith); opener = λ _. (o.0, (let p = o.1 in omega arith), o.2, o.3, o.4); ticket = λ t h. let x = k.ticket t h in let z = o.2 in absurd (omega arith); turn = k.turn; closed = k.closed }
-            (λ i u ne there. let x = r.each_seat i u there in record {
-              seen = x.seen;
-              told = x.told;
-              named = λ p. let n = x.named p in let far = n.3 in let is = o.1 in (n.0, n.1, ap (λ c. cond c (length vs) (r.now.seat u.me)) (ne_eqb u.me v.parts (λ e. omega arith)) ∙ n.2, omega arith, n.4);
-              opener = λ h. absurd (ne ((x.opener h).0 ∙ sym o.0));
-              ticket = x.ticket;
-              turn = x.turn;
-              closed = x.closed;
-            }) j d t)
-            (λ (t : (j ≡ length vs) × (w ≡ d)). subst (λ (p : ℕ × View X). K p.0 p.1) (λ i. (sym t.0 i, t.1 i))
             record {
               seen = k.seen;
-              told = tt;
-              named = λ p. let is = o.1 in (sym (r.fresh v.parts some_left (omega arith)), o.3, ap (λ c. cond c (length vs) (r.now.seat v.parts)) (eq-eqb v.parts v.parts refl), omega arith, o.4);
+              reported = k.reported;
+              pass = λ p. absurd (omega arith);
+              opener = λ _. record { seat_is = o.seat_is; passes = omega arith; number = o.number; origin = o.origin; ranking = o.ranking };
+              ticket = λ t h. let x = (k.ticket t h).number in absurd (omega arith);
+              turn = λ h. let x = k.turn h in record { going = x.going; ticket = x.ticket; seen = x.seen };
+              closed = k.closed;
+            }
+            (λ i u ne there. let x = r.each_seat i u there in record {
+              seen = x.seen;
+              reported = x.reported;
+              pass = λ p. let n = x.pass p in
+                  let far = n.given in
+                  let other : u.number ≢ v.passes = λ e. omega arith in record {
+                    given = omega arith;
+                    seat_is = ap (λ c. cond c (length vs) (r.now.seat_of u.number)) (ne_eqb u.number v.passes other) ∙ n.seat_is;
+                    made = n.made;
+                    origin = n.origin;
+                    ranking = n.ranking;
+                  };
+              opener = λ h. absurd (ne ((x.opener h).seat_is ∙ sym o.seat_is));
+              ticket = λ t h. let n = x.ticket t h in record { drawn = n.drawn; unused = n.unused; number = n.number; passes = n.passes };
+              turn = λ h. let n = x.turn h in record { going = n.going; ticket = n.ticket; seen = n.seen };
+              closed = x.closed;
+            }) j d t)
+            (λ (t : (j ≡ length vs) × (w ≡ d)). subst (λ (p : ℕ × Knowledge X). K p.0 p.1) (λ i. (sym t.0 i, t.1 i))
+            record {
+              seen = k.seen;
+              reported = tt;
+              pass = λ p. record {
+                given = omega arith;
+                seat_is = ap (λ c. cond c (length vs) (r.now.seat_of v.passes)) (eq-eqb v.passes v.passes refl);
+                made = sym (r.unmade v.passes some_left (omega arith));
+                origin = o.origin;
+                ranking = o.ranking;
+              };
               opener = λ h. absurd (cc h);
               ticket = λ t h. absurd (cc h);
               turn = λ h. absurd (cc h);
               closed = λ h. absurd (cc h);
             })
             (at_end vs w d j e);
-        each_ticket = λ going t low high. drawn_longer vs w t (drawn_stays s.views id v a t (r.each_ticket going t low high) at (λ h. h));
+        each_ticket = λ going t low high. ticket_longer vs w t (ticket_stays s.views id v a t (r.each_ticket going t low high) at (λ h. h));
         apart = apart_more vs w (apart_stay s.views id v a r.apart at (λ t h. inl h)) refl;
-        total = let sum = parts_append vs w in let change = parts_set s.views id v a at in let before = r.total in omega arith;
-        expert = let x = r.expert in dite (ℕ_discrete x.0 id)
-            (λ e. let same : x.1 ≡ v = at_one s.views id x.1 v (subst (λ (k : ℕ). get_elem? s.views k ≡ some x.1) e x.2) at in
-            (length vs, w, at_last vs w (length vs) refl, (let one : 0 < 1 = omega arith in one), ap (λ (u : View X). u.seen) (sym same) ∙ x.4))
-            (λ ne. (x.0, x.1, at_longer vs (w ∷ []) x.0 x.1 (set_else s.views id x.0 a ne ∙ x.2), x.3, x.4));
-        fresh = λ x p q. r.fresh x p (omega arith);
+        total = let sum = passes_append vs w in let change = passes_set s.views id v a at in let before = r.total in omega arith;
+        whole = let x = r.whole in dite (ℕ_discrete x.seat id)
+            (λ e. let same : x.known ≡ v = at_one s.views id x.known v (subst (λ (k : ℕ). Knows s.views k x.known) e x.knows) at in record {
+              seat = length vs;
+              known = w;
+              knows = at_last vs w (length vs) refl;
+              passes = (let one : 0 < 1 = omega arith in one);
+              whole = ap (λ (u : Knowledge X). u.seen) (sym same) ∙ x.whole;
+            })
+            (λ ne. seen_longer r.now.history vs w
+            record { seat = x.seat; known = x.known; knows = set_else s.views id x.seat a ne ∙ x.knows; passes = x.passes; whole = x.whole });
+        unmade = λ x p q. r.unmade x p (omega arith);
         home = r.home;
-        out = λ h. let x = held_stays s.views id v a (r.out h) at (λ h. h) in (x.0, x.1, at_longer vs (w ∷ []) x.0 x.1 x.2, x.3);
+        out = λ h. out_longer vs w (out_stays s.views id v a (r.out h) at (λ h. h));
         run = r.run;
       }
 
@@ -510,106 +706,162 @@ module _ (X : Type 0) (origin : Origin) (beside : X) (passes : ℕ) where
   or_cases true b h = inl refl
   or_cases false b h = inr h
 
-  -- a seat of a pass takes in another, which has no ticket, and has then what both had
-  pub joins : (id : ℕ) (v : View X) (other : ℕ) (w : View X) → 0 < v.me → v.holds ≡ false → w.holds ≡ false → w.ticket ≡ None → Joins Rule id v other w (joined v w) spent
+  -- another seat is joined to that of a pass; the other has no ticket, and the pass has then what both had
+  pub joins : (id : ℕ) (v : Knowledge X) (other : ℕ) (w : Knowledge X) → 0 < v.number → v.holds_book ≡ false
+      → w.holds_book ≡ false → w.ticket ≡ None → Joins Rule id v other w (joint v w) no_pass
   joins id v other w here idle idle_too free s r at apart there =
       let k = r.each_seat id v at in
-      let both : View X = joined v w in
-      let vs : List (View X) = set s.views id both in
-      let at_other : get_elem? s.views other ≡ some w = sym (set_else s.views id other both apart) ∙ there in
+      let both : Knowledge X = joint v w in
+      let vs : List (Knowledge X) = set s.views id both in
+      let at_other : Knows s.views other w = sym (set_else s.views id other both apart) ∙ there in
       let o = r.each_seat other w at_other in
-      let at_both : get_elem? (set vs other spent) id ≡ some both = set_else vs other id spent (λ e. apart (sym e)) ∙ set_at s.views id v both at in
-      let K : ℕ → View X → Type 0 = Known r.now in record {
+      let at_both : Knows (set vs other no_pass) id both = set_else vs other id no_pass (λ e. apart (sym e)) ∙ set_at s.views id v both at in
+      let K : ℕ → Knowledge X → Type 0 = Known r.now in record {
         now = r.now;
         words = r.words;
         few = r.few;
-        going = r.going;
-        each_seat = seats_stay K vs other spent
-            record { seen = (r.now.log, refl); told = tt; named = λ p. absurd (omega arith); opener = λ h. absurd (cc h); ticket = λ t h. absurd (cc h); turn = λ h. absurd (cc h); closed = λ h. absurd (cc h) }
+        turns = r.turns;
+        each_seat = seats_stay K vs other no_pass
+            record {
+              seen = (r.now.history, refl);
+              reported = tt;
+              pass = λ p. absurd (omega arith);
+              opener = λ h. absurd (cc h);
+              ticket = λ t h. absurd (cc h);
+              turn = λ h. absurd (cc h);
+              closed = λ h. absurd (cc h);
+            }
             (λ j d _. seats_stay K s.views id both
             record {
-              seen = longer_begins r.now.log v.seen w.seen k.seen o.seen;
-              told = (k.seen, (o.seen, k.told));
-              named = k.named;
-              opener = λ h. let z = (k.opener h).2 in absurd (omega arith);
-              ticket = λ t h. let x = k.ticket t h in (x.0, x.1, x.2, (let p = x.3 in omega arith));
+              seen = longer_begins r.now.history v.seen w.seen k.seen o.seen;
+              reported = (k.seen, (o.seen, k.reported));
+              pass = λ p. let x = k.pass p in record { given = x.given; seat_is = x.seat_is; made = x.made; origin = x.origin; ranking = x.ranking };
+              opener = λ h. let z = (k.opener h).number in absurd (omega arith);
+              ticket = λ t h. let x = k.ticket t h in record {
+                drawn = x.drawn;
+                unused = x.unused;
+                number = x.number;
+                passes = (let p = x.passes in omega arith);
+              };
               turn = λ h. let c : true ≡ false = sym h ∙ idle in absurd (cc c);
               closed = λ h. ⊎_elim (λ e. k.closed e) (λ e. o.closed e) (or_cases v.closed w.closed h);
             }
             (λ i u _. r.each_seat i u) j d);
-        each_ticket = λ going t low high. drawn_stays vs other w spent t (drawn_stays s.views id v both t (r.each_ticket going t low high) at (λ h. h)) there (λ h. let c = sym free ∙ h in absurd (cc c));
-        apart = apart_stay vs other w spent (apart_stay s.views id v both r.apart at (λ t h. inl h)) there (λ t h. absurd (cc h));
-        total = let one = parts_set s.views id v both at in let two = parts_set vs other w spent there in let before = r.total in omega arith;
-        expert = let x = r.expert in dite (ℕ_discrete x.0 id)
-            (λ e. let same : x.1 ≡ v = at_one s.views id x.1 v (subst (λ (k : ℕ). get_elem? s.views k ≡ some x.1) e x.2) at in
-            let part = subst (λ (u : View X). 0 < u.parts) same x.3 in
-            (id, both, at_both, omega arith, longer_whole_left r.now.log v.seen w.seen (ap (λ (u : View X). u.seen) (sym same) ∙ x.4) o.seen))
-            (λ ne. dite (ℕ_discrete x.0 other)
-            (λ e. let same : x.1 ≡ w = at_one s.views other x.1 w (subst (λ (k : ℕ). get_elem? s.views k ≡ some x.1) e x.2) at_other in
-            let part = subst (λ (u : View X). 0 < u.parts) same x.3 in
-            (id, both, at_both, omega arith, longer_whole_right r.now.log v.seen w.seen k.seen (ap (λ (u : View X). u.seen) (sym same) ∙ x.4)))
-            (λ far. (x.0, x.1, set_else vs other x.0 spent far ∙ (set_else s.views id x.0 both ne ∙ x.2), x.3, x.4)));
-        fresh = r.fresh;
+        each_ticket = λ going t low high. ticket_stays vs other w no_pass t
+            (ticket_stays s.views id v both t (r.each_ticket going t low high) at (λ h. h)) there (λ h. let c = sym free ∙ h in absurd (cc c));
+        apart = apart_stay vs other w no_pass (apart_stay s.views id v both r.apart at (λ t h. inl h)) there (λ t h. absurd (cc h));
+        total = let one = passes_set s.views id v both at in
+            let two = passes_set vs other w no_pass there in
+            let before = r.total in omega arith;
+        whole = let x = r.whole in dite (ℕ_discrete x.seat id)
+            (λ e. let same : x.known ≡ v = at_one s.views id x.known v (subst (λ (k : ℕ). Knows s.views k x.known) e x.knows) at in
+            let part = subst (λ (u : Knowledge X). 0 < u.passes) same x.passes in
+            let seen = ap (λ (u : Knowledge X). u.seen) (sym same) ∙ x.whole in record {
+              seat = id;
+              known = both;
+              knows = at_both;
+              passes = omega arith;
+              whole = longer_whole_left r.now.history v.seen w.seen seen o.seen;
+            })
+            (λ ne. dite (ℕ_discrete x.seat other)
+            (λ e. let same : x.known ≡ w = at_one s.views other x.known w (subst (λ (k : ℕ). Knows s.views k x.known) e x.knows) at_other in
+            let part = subst (λ (u : Knowledge X). 0 < u.passes) same x.passes in
+            let seen = ap (λ (u : Knowledge X). u.seen) (sym same) ∙ x.whole in record {
+              seat = id;
+              known = both;
+              knows = at_both;
+              passes = omega arith;
+              whole = longer_whole_right r.now.history v.seen w.seen k.seen seen;
+            })
+            (λ far. record {
+              seat = x.seat;
+              known = x.known;
+              knows = set_else vs other x.seat no_pass far ∙ (set_else s.views id x.seat both ne ∙ x.knows);
+              passes = x.passes;
+              whole = x.whole;
+            }));
+        unmade = r.unmade;
         home = r.home;
-        out = λ h. held_stays vs other w spent (held_stays s.views id v both (r.out h) at (λ t. t)) there (λ t. let c : true ≡ false = sym t ∙ idle_too in absurd (cc c));
+        out = λ h. out_stays vs other w no_pass (out_stays s.views id v both (r.out h) at (λ t. t)) there
+            (λ t. let c : true ≡ false = sym t ∙ idle_too in absurd (cc c));
         run = r.run;
       }
 
-  -- who has every part and no turn knows the history whole, and the book is at home
-  pub ends : (s : St) → Rule s → (id : ℕ) (v : View X) → 0 < v.me → get_elem? s.views id ≡ some v → length s.homes ≡ 1 → passes ≤ v.parts → v.holds ≡ false
-      → (b : Held X) × (get_elem? s.homes 0 ≡ some (some (Some b))) × (b.kept.book.history ≡ entries v.seen) × BeginsAll v.seen v.told × (origin_of b.kept.book ≡ origin) × (v.rest ≡ Some b.rest) × (v.origin ≡ origin)
+  -- the book is at home, with the history that the seat has seen
+  pub record HasWholeBook (s : St) (v : Knowledge X) : Type 0 where
+    pub book : BookParts X
+    pub home : get_elem? s.homes 0 ≡ some (some (Some book))
+    pub history_is : book.kept.book.history ≡ entries v.seen
+    pub begins : StartsWithAll v.seen v.reported
+    pub origin : origin_of book.kept.book ≡ cell.origin
+    pub ranking : v.ranking ≡ Some book.ranking
+    pub known_origin : v.origin ≡ cell.origin
+
+  -- a seat that counts for every pass and has no turn knows the history whole, and the book is at home
+  pub ends : (s : St) → Rule s → (id : ℕ) (v : Knowledge X) → 0 < v.number → Knows s.views id v → length s.homes ≡ 1
+      → cell.passes ≤ v.passes → v.holds_book ≡ false → HasWholeBook s v
   ends s r id v here at one all idle =
-      let named = (r.each_seat id v at).named here in
+      let pass = (r.each_seat id v at).pass here in
       let total = r.total in
-      let x = r.expert in
-      let alone : (j : ℕ) (d : View X) → j ≢ id → get_elem? s.views j ≡ some d → 0 < d.parts → ⊥ = λ j d ne there some_part. let two = parts_two s.views id j v d (λ e. ne (sym e)) at there in absurd (omega arith) in
-      let whole : v.seen ≡ r.now.log = dite (ℕ_discrete x.0 id)
-      (λ e. ap (λ (u : View X). u.seen) (sym (at_one s.views id x.1 v (subst (λ (k : ℕ). get_elem? s.views k ≡ some x.1) e x.2) at)) ∙ x.4)
-      (λ ne. absurd (alone x.0 x.1 ne x.2 x.3)) in
+      let x = r.whole in
+      let alone : (j : ℕ) (d : Knowledge X) → j ≢ id → Knows s.views j d → 0 < d.passes → ⊥ = λ j d ne there some_part.
+      let two = passes_two s.views id j v d (λ e. ne (sym e)) at there in absurd (omega arith) in
+      let whole : v.seen ≡ r.now.history = dite (ℕ_discrete x.seat id)
+      (λ e. ap (λ (u : Knowledge X). u.seen) (sym (at_one s.views id x.known v (subst (λ (k : ℕ). Knows s.views k x.known) e x.knows) at)) ∙ x.whole)
+      (λ ne. absurd (alone x.seat x.known ne x.knows x.passes)) in
       let y : (y : S) × (get_elem? s.homes 0 ≡ some (some y)) = ⊎_elim
       (λ (e : get_elem? s.homes 0 ≡ some none). let h = r.out e in
-      let theirs = r.each_seat h.0 h.1 h.2 in
-      dite (ℕ_discrete h.0 id)
-      (λ same. let is : h.1 ≡ v = at_one s.views id h.1 v (subst (λ (k : ℕ). get_elem? s.views k ≡ some h.1) same h.2) at in
-      let c : true ≡ false = sym h.3 ∙ (ap (λ (u : View X). u.holds) is ∙ idle) in absurd (cc c))
-      (λ ne. absurd (alone h.0 h.1 ne h.2 (theirs.ticket r.now.serving (theirs.turn h.3).1).3)))
+      let theirs = r.each_seat h.seat h.known h.knows in
+      dite (ℕ_discrete h.seat id)
+      (λ same. let is : h.known ≡ v = at_one s.views id h.known v (subst (λ (k : ℕ). Knows s.views k h.known) same h.knows) at in
+      let c : true ≡ false = sym h.holds ∙ (ap (λ (u : Knowledge X). u.holds_book) is ∙ idle) in absurd (cc c))
+      (λ ne. absurd (alone h.seat h.known ne h.knows (theirs.ticket r.now.serving (theirs.turn h.holds).ticket).passes)))
       (λ h. h)
       (slot_cases s.homes one) in
-      let b = r.home y.0 y.1 in
-      (b.0, y.1 ∙ ap (λ z. some (some z)) b.1, b.2 ∙ ap entries (sym whole), subst (λ l. BeginsAll l v.told) (sym whole) (r.each_seat id v at).told, b.3, named.4 ∙ ap Some (sym b.4), named.1)
+      let b = r.home y.0 y.1 in record {
+        book = b.book;
+        home = y.1 ∙ ap (λ z. some (some z)) b.slot_is;
+        history_is = b.history_is ∙ ap entries (sym whole);
+        begins = subst (λ l. StartsWithAll l v.reported) (sym whole) (r.each_seat id v at).reported;
+        origin = b.origin;
+        ranking = pass.ranking ∙ ap Some (sym b.ranking);
+        known_origin = pass.origin;
+      }
 
--- a table that is made round a book, whose two words count the book's history
-pub begins : {X : Type 0} (held : Held X) (passes n : ℕ) → n ≡ length held.kept.book.history → n < closing → 0 < passes → IsRun (origin_of held.kept.book) held.kept.book.history
-    → Serves (origin_of held.kept.book) held.rest passes (opening (n ∷ n ∷ []) (Some held ∷ []) (opener held passes))
-begins {X} held passes n count few some_passes run =
-    let v : View X = opener held passes in
-    let past : List Entry = held.kept.book.history in
-    let log : List Mark = marks 0 past in
-    let now : Progress = record { log = log; serving = n; tickets = n; seat = λ _. 0; left = passes; opens = 0 } in record {
+-- a table that is made with a book, whose two words count the book's history
+pub begins : {X : Type 0} (book : BookParts X) (passes n : ℕ) → n ≡ length book.kept.book.history → n < closing_mark → 0 < passes
+    → IsOwnRun (origin_of book.kept.book) book.kept.book.history
+    → IsCellTable (opening_of book passes) (opening (n ∷ n ∷ []) (Some book ∷ []) (opener book passes))
+begins {X} book passes n count few some_passes run =
+    let v : Knowledge X = opener book passes in
+    let past : List Entry = book.kept.book.history in
+    let log : List MarkedEntry = mark_entries 0 past in
+    let now : Progress = record { history = log; serving = n; next_ticket = n; seat_of = λ _. 0; opener_seat = 0; not_given = passes } in record {
       now = now;
       words = refl;
       few = few;
-      going = λ _. (count ∙ sym (length_marks 0 past), omega arith);
-      each_seat = λ j d e. ⊎_elim (λ (t : get_elem? {A = View X} [] j ≡ some d). absurd (some-ne-none d (sym t)))
-          (λ (t : (j ≡ 0) × (v ≡ d)). subst (λ (p : ℕ × View X). Knows (origin_of held.kept.book) held.rest now p.0 p.1) (λ i. (sym t.0 i, t.1 i))
+      turns = λ _. record { counts = count ∙ sym (length_marks 0 past); drawn = omega arith };
+      each_seat = λ j d e. ⊎_elim (λ (t : get_elem? {A = Knowledge X} [] j ≡ some d). absurd (some-ne-none d (sym t)))
+          (λ (t : (j ≡ 0) × (v ≡ d)). subst (λ (p : ℕ × Knowledge X). IsTrueOf (opening_of book passes) now p.0 p.1) (λ i. (sym t.0 i, t.1 i))
           record {
             seen = begins_self log;
-            told = tt;
-            named = λ p. absurd (omega arith);
-            opener = λ _. (refl, refl, refl, refl, refl);
+            reported = tt;
+            pass = λ p. absurd (omega arith);
+            opener = λ _. record { seat_is = refl; passes = refl; number = refl; origin = refl; ranking = refl };
             ticket = λ t h. absurd (cc h);
             turn = λ h. absurd (cc h);
             closed = λ h. absurd (cc h);
           })
           (at_end [] v d j e);
       each_ticket = λ _ t low high. absurd (omega arith);
-      apart = λ j l x y t ne ej el tj tl. ⊎_elim (λ (t : get_elem? {A = View X} [] j ≡ some x). absurd (some-ne-none x (sym t)))
-          (λ (a : (j ≡ 0) × (v ≡ x)). let h = ap (λ (u : View X). u.ticket) a.1 ∙ tj in cc h)
+      apart = λ j l x y t ne ej el tj tl. ⊎_elim (λ (t : get_elem? {A = Knowledge X} [] j ≡ some x). absurd (some-ne-none x (sym t)))
+          (λ (a : (j ≡ 0) × (v ≡ x)). let h = ap (λ (u : Knowledge X). u.ticket) a.1 ∙ tj in cc h)
           (at_end [] v x j ej);
       total = omega arith;
-      expert = (0, v, refl, some_passes, refl);
-      fresh = λ x p _. places_past x 0 past p;
-      home = λ y h. let is = some-injective (Some held) y (some-injective (some (Some held)) (some y) h) in (held, sym is, sym (entries_marks 0 past), refl, refl);
-      out = λ h. absurd (some-ne-none (Some held) (some-injective (some (Some held)) none h));
-      run = subst (IsRun (origin_of held.kept.book)) (sym (entries_marks 0 past)) run;
+      whole = record { seat = 0; known = v; knows = refl; passes = some_passes; whole = refl };
+      unmade = λ x p _. places_past x 0 past p;
+      home = λ y h. let is = some-injective (Some book) y (some-injective (some (Some book)) (some y) h) in
+          record { book = book; slot_is = sym is; history_is = sym (entries_marks 0 past); origin = refl; ranking = refl };
+      out = λ h. absurd (some-ne-none (Some book) (some-injective (some (Some book)) none h));
+      run = subst (IsOwnRun (origin_of book.kept.book)) (sym (entries_marks 0 past)) run;
     }

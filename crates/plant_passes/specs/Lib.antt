@@ -1,5 +1,6 @@
 pub mod Runs
-pub mod Words
+pub mod Histories
+pub mod Seats
 pub mod Passes
 pub mod Steps
 pub mod Rule

@@ -15,8 +15,8 @@ abbrev pub own_machine : Origin → Operator
 own_machine origin = operator origin.consts origin.row (opened origin.consts origin.row)
 
 -- each entry was allowed at its place, and its outputs are the machine's
-abbrev pub IsRun : Origin → List Entry → Type 0
-IsRun origin history = AreTold (own_machine origin) history
+abbrev pub IsOwnRun : Origin → List Entry → Type 0
+IsOwnRun origin history = AreTold (own_machine origin) history
 
 -- the machine's state after this history
 abbrev pub state_after : Origin → List Entry → OperatorState

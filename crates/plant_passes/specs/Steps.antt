@@ -1,62 +1,113 @@
--- What each kind of step shows.
-use Rattle.std.specs.Prelude.{◌≡◌, ◌≢◌, ℕ, ◌<◌, true, false, List, [], ◌∷◌, ◌++◌, length, Some, None, Option}
-use Rattle.atomic_table.specs.Table.{Me, Step, rest}
+-- What each kind of step on a cell's table changes of the seat that takes it (implementation-specific).
+use Rattle.std.specs.Prelude.{◌≡◌, ◌≢◌, ℕ, ◌<◌, true, false, List, [], ◌∷◌, ◌++◌, length, Some, None}
+use Rattle.atomic_table.specs.Table.{rest}
 use Rattle.operator_model.specs.declared.action.Entry.{Entry}
-use Rattle.plant_passes.specs.Runs.{origin_of, IsRun}
-use Rattle.plant_passes.specs.declared.view.View.{View}
-use Rattle.plant_passes.specs.declared.view.Held.{Held}
-use Rattle.plant_passes.specs.Words.{closing, mark, entries, places, StartsWith, BeginsAll}
+use Rattle.plant_passes.specs.declared.view.Knowledge.{Knowledge}
+use Rattle.plant_passes.specs.declared.view.BookParts.{BookParts}
+use Rattle.plant_passes.specs.Runs.{origin_of, IsOwnRun}
+use Rattle.plant_passes.specs.Histories.{mark_entry, entries, places, StartsWith, StartsWithAll}
+use Rattle.plant_passes.specs.Seats.{closing_mark, CellSlot, CellStep, SeatNow, knowledge, hand}
 
--- the history so far was seen, which begins with all that was seen and reported of. What is one's own stays
-pub record Looks {X : Type 0} (v w : View X) : Type 0 where
-  pub me : w.me ≡ v.me
-  pub parts : w.parts ≡ v.parts
-  pub opens : w.opens ≡ v.opens
-  pub ended : w.ended ≡ v.ended
-  pub origin : w.origin ≡ v.origin
-  pub rest_is : w.rest ≡ v.rest
-  pub made : w.made ≡ v.made
-  pub seen : StartsWith w.seen v.seen
-  pub kept : w.told ≡ v.told
-  pub told : BeginsAll w.seen v.told
-  pub own : 0 < v.me → w.made ≡ places w.me w.seen
-  pub run : 0 < v.me → IsRun w.origin (entries w.seen)
+-- ---- a ticket is drawn
 
 module _ {X : Type 0} where
-  abbrev pub drawn : View X → ℕ → View X
-  drawn v t = record v { ticket = Some t }
+  abbrev pub with_ticket : Knowledge X → ℕ → Knowledge X
+  with_ticket known ticket = record known { ticket = Some ticket }
 
-  abbrev pub drew : Step (Option (Held X)) → Me (Option (Held X)) (View X) → ℕ → Me (Option (Held X)) (View X) → Type 0
-  drew st m r m' = (r ≡ st.first → m' ≡ (drawn m.0 st.first, m.1)) × (r ≢ st.first → m' ≡ m)
+  -- where the ticket word was the one that was expected, the seat has that ticket; else nothing changed
+  abbrev pub DrawsTicket : CellStep X → SeatNow X → ℕ → SeatNow X → Type 0
+  DrawsTicket step before found after =
+      (found ≡ step.first → after ≡ (with_ticket (knowledge before) step.first, hand before))
+      × (found ≢ step.first → after ≡ before)
 
-  -- the book in hand is that of the history that was seen
-  abbrev pub IsInHand : View X → List (ℕ × Option (Held X)) → List (ℕ × Option (Held X)) → Type 0
-  IsInHand w c c' = (b : Held X) × (c' ≡ (0, Some b) ∷ c) × (b.kept.book.history ≡ entries w.seen) × (origin_of b.kept.book ≡ w.origin) × (w.rest ≡ Some b.rest)
+-- ---- the serving word is looked at
 
-  pub record Turns (r : ℕ) (m m' : Me (Option (Held X)) (View X)) : Type 0 where
-    pub shut : m.0.closed ≡ true → r ≡ closing
-    pub closed : r ≡ closing → (m'.0.ticket ≡ None) × (m'.0.holds ≡ false) × (m'.0.closed ≡ true) × (m'.1 ≡ m.1)
-    pub mine : r ≢ closing → m.0.ticket ≡ Some r → (m'.0.ticket ≡ Some r) × (m'.0.holds ≡ true) × (m'.0.closed ≡ false) × (r ≡ length m'.0.seen) × IsInHand m'.0 m.1 m'.1
-    pub other : r ≢ closing → m.0.ticket ≢ Some r → (m'.0.ticket ≡ m.0.ticket) × (m'.0.holds ≡ false) × (m'.0.closed ≡ false) × (m'.1 ≡ m.1)
+-- The seat has seen the history so far, which begins with all that it had seen and that was reported to it. The rest of what it
+-- knows stays.
+pub record SeesHistory {X : Type 0} (before after : Knowledge X) : Type 0 where
+  pub number : after.number ≡ before.number
+  pub passes : after.passes ≡ before.passes
+  pub opens : after.opens ≡ before.opens
+  pub ended_cell : after.ended_cell ≡ before.ended_cell
+  pub origin : after.origin ≡ before.origin
+  pub ranking : after.ranking ≡ before.ranking
+  pub made : after.made ≡ before.made
+  pub seen : StartsWith after.seen before.seen
+  pub same_reports : after.reported ≡ before.reported
+  pub reported : StartsWithAll after.seen before.reported
+  pub own : 0 < before.number → after.made ≡ places after.number after.seen
+  pub run : 0 < before.number → IsOwnRun after.origin (entries after.seen)
 
-  abbrev pub looked : Step (Option (Held X)) → Me (Option (Held X)) (View X) → ℕ → Me (Option (Held X)) (View X) → Type 0
-  looked st m r m' = Looks m.0 m'.0 × Turns r m m'
+-- the book in hand, on top of these, is the one after the history that the seat has seen
+pub record HasBookInHand {X : Type 0} (now : SeatNow X) (below : List (ℕ × CellSlot X)) : Type 0 where
+  pub book : BookParts X
+  pub hand_is : hand now ≡ (0, Some book) ∷ below
+  pub history_is : book.kept.book.history ≡ entries (knowledge now).seen
+  pub origin : origin_of book.kept.book ≡ (knowledge now).origin
+  pub ranking : (knowledge now).ranking ≡ Some book.ranking
 
-  -- the view with an entry of its own at the end
-  abbrev pub grown : View X → Entry → View X
-  grown v e = record v { seen = v.seen ++ mark v.me e ∷ []; made = v.made ++ length v.seen ∷ []; ticket = None; holds = false }
+-- the cell is closed: the seat has no ticket any more
+pub record LosesTicket {X : Type 0} (before after : SeatNow X) : Type 0 where
+  pub ticket : (knowledge after).ticket ≡ None
+  pub holds_book : (knowledge after).holds_book ≡ false
+  pub closed : (knowledge after).closed ≡ true
+  pub hand_is : hand after ≡ hand before
+
+-- it is the turn of the seat's ticket, whose number counts the history: the seat takes the book out of the slot
+pub record TakesBook {X : Type 0} (ticket : ℕ) (before after : SeatNow X) : Type 0 where
+  pub ticket_is : (knowledge after).ticket ≡ Some ticket
+  pub holds_book : (knowledge after).holds_book ≡ true
+  pub closed : (knowledge after).closed ≡ false
+  pub place : ticket ≡ length (knowledge after).seen
+  pub book : HasBookInHand after (hand before)
+
+-- it is not the seat's turn: it keeps its ticket, if it has one
+pub record KeepsTicket {X : Type 0} (before after : SeatNow X) : Type 0 where
+  pub ticket : (knowledge after).ticket ≡ (knowledge before).ticket
+  pub holds_book : (knowledge after).holds_book ≡ false
+  pub closed : (knowledge after).closed ≡ false
+  pub hand_is : hand after ≡ hand before
+
+-- what a seat finds that looks at the serving word; one that knows the cell closed finds it closed again
+pub record FindsServing {X : Type 0} (serving : ℕ) (before after : SeatNow X) : Type 0 where
+  pub shut : (knowledge before).closed ≡ true → serving ≡ closing_mark
+  pub closed : serving ≡ closing_mark → LosesTicket before after
+  pub mine : serving ≢ closing_mark → (knowledge before).ticket ≡ Some serving → TakesBook serving before after
+  pub other : serving ≢ closing_mark → (knowledge before).ticket ≢ Some serving → KeepsTicket before after
+
+module _ {X : Type 0} where
+  abbrev pub LooksAtServing : CellStep X → SeatNow X → ℕ → SeatNow X → Type 0
+  LooksAtServing step before found after =
+      SeesHistory (knowledge before) (knowledge after) × FindsServing found before after
+
+  -- ---- a turn ends with an entry
+
+  -- the pass has one entry more, the last one, and no turn any more
+  abbrev pub with_entry : Knowledge X → Entry → Knowledge X
+  with_entry known entry = record known {
+    seen = known.seen ++ mark_entry known.number entry ∷ [];
+    made = known.made ++ length known.seen ∷ [];
+    ticket = None;
+    holds_book = false;
+  }
 
   -- the history of the book in hand
-  abbrev pub written : List (ℕ × Option (Held X)) → List Entry
-  written [] = []
-  written ((k, None) ∷ c) = []
-  written ((k, Some b) ∷ c) = b.kept.book.history
+  abbrev pub history_in_hand : List (ℕ × CellSlot X) → List Entry
+  history_in_hand [] = []
+  history_in_hand ((slot, None) ∷ below) = []
+  history_in_hand ((slot, Some book) ∷ below) = book.kept.book.history
 
-  abbrev pub advanced : Step (Option (Held X)) → Me (Option (Held X)) (View X) → ℕ → Me (Option (Held X)) (View X) → Type 0
-  advanced st m r m' = (e : Entry) × (written m.1 ≡ entries m.0.seen ++ e ∷ []) × (m' ≡ (grown m.0 e, rest m.1))
+  -- the book had one entry more than the seat has seen, and is put back
+  abbrev pub EndsTurn : CellStep X → SeatNow X → ℕ → SeatNow X → Type 0
+  EndsTurn step before stored after = (entry : Entry)
+      × (history_in_hand (hand before) ≡ entries (knowledge before).seen ++ entry ∷ [])
+      × (after ≡ (with_entry (knowledge before) entry, rest (hand before)))
 
-  abbrev pub shut_by : View X → View X
-  shut_by v = record v { ticket = None; holds = false; closed = true; ended = true }
+  -- ---- a turn ends with a refusal
 
-  abbrev pub shut : Step (Option (Held X)) → Me (Option (Held X)) (View X) → ℕ → Me (Option (Held X)) (View X) → Type 0
-  shut st m r m' = m' ≡ (shut_by m.0, rest m.1)
+  abbrev pub after_closing : Knowledge X → Knowledge X
+  after_closing known = record known { ticket = None; holds_book = false; closed = true; ended_cell = true }
+
+  -- the cell is closed, and the book is put back as it was
+  abbrev pub ClosesCell : CellStep X → SeatNow X → ℕ → SeatNow X → Type 0
+  ClosesCell step before stored after = after ≡ (after_closing (knowledge before), rest (hand before))

@@ -1,6 +1,7 @@
 //! The calls of a cell.
 
-ghost use Rattle.std.specs.Prelude.{◌≡◌, ◌≢◌, ◌↔◌, ◌<◌, ◌≤◌, true, Some, None, Err, All, map, vec_len, IfOk, OnErr, IfErr, OnOk, IsOk, IfSome, IsNone};
+ghost use Rattle.std.specs.Prelude.{◌≡◌, ◌≢◌, ◌↔◌, ◌<◌, ◌≤◌, true, Some, None, Err, All, map};
+ghost use Rattle.std.specs.Prelude.{vec_len, IfOk, OnErr, IfErr, OnOk, IsOk, IfSome, IsNone};
 ghost use Rattle.dsx_messages.specs.declared.modem.Modem.{Modem};
 ghost use Rattle.operator_model.specs.declared.action.Action.TheVariants as actions;
 ghost use Rattle.operator_model.specs.Machine.{stranger_of};
@@ -8,15 +9,16 @@ ghost use Rattle.operator_book.specs.ViewOf.{view_of};
 ghost use Rattle.operator_book.specs.declared.book.BookFault.TheVariants as faults;
 ghost use Rattle.cell_state.specs.declared.cell_fault.CellFault.TheVariants as refusals;
 ghost use Rattle.plant_passes.specs.Runs.{origin_of};
-ghost use Rattle.plant_passes.specs.Words.{marks};
-ghost use Rattle.plant_passes.specs.Passes.{IsOf, state_seen, first_passes, Acts, LooksOn, RefusesBeforeTurn, RefusesTurn, RefusesArrival, HasMet, IsLongest};
+ghost use Rattle.plant_passes.specs.Histories.{mark_entries};
+ghost use Rattle.plant_passes.specs.Passes.{IsOfCell, state_seen, first_passes, ActsInTurn, LooksOn};
+ghost use Rattle.plant_passes.specs.Passes.{RefusesBeforeTurn, RefusesTurn, RefusesArrival, HasMet, IsLongest};
 ghost use Rattle.plant_passes.specs.ViewOf.{cell_of, pass_of};
 
 use crate::dealing::{deal_out, gather, room_for, table_round};
 use crate::pass::{Pass, PassedCell};
-use crate::plays::{Look, Take, Tell};
+use crate::steps::{CopyStep, JoinStep, LookStep};
 use crate::turns;
-use crate::view::Held;
+use crate::view::BookParts;
 use cell_state::CellFault;
 use dsx_messages::Modem;
 use operator_book::{Action, Book, BookFault, Heard};
@@ -35,9 +37,9 @@ impl PassedCell {
         requires { (0 < passes) × (passes ≤ 64) }
         ensures cell { IfOk result (λ r. ((cell_of r.0).passes ≡ passes)
             × ((cell_of r.0).origin ≡ origin_of (view_of book))) }
-        ensures of { IfOk result (λ r. All (λ p. IsOf (cell_of r.0) (pass_of p)) r.1.items) }
+        ensures of { IfOk result (λ r. All (λ p. IsOfCell (cell_of r.0) (pass_of p)) r.1.items) }
         ensures passes { IfOk result (λ r. map pass_of r.1.items
-            ≡ first_passes (cell_of r.0).cell (cell_of r.0).origin (marks 0 (view_of book).history) passes) }
+            ≡ first_passes (cell_of r.0).cell (cell_of r.0).origin (mark_entries 0 (view_of book).history) passes) }
     {
         let room = room_for(alloc, &book, passes)?;
         let (table, giver) = table_round(alloc, book, room.slots, passes)?;
@@ -58,10 +60,10 @@ impl PassedCell {
         pass: &mut Pass,
         action: &Action,
     ) -> Result<Action, CellFault>
-        requires of { IsOf (cell_of self.now) (pass_of pass.old) }
-        ensures of { IsOf (cell_of self.now) (pass_of pass.new) }
+        requires of { IsOfCell (cell_of self.now) (pass_of pass.old) }
+        ensures of { IsOfCell (cell_of self.now) (pass_of pass.new) }
         ensures looks { LooksOn (pass_of pass.old) (pass_of pass.new) }
-        ensures ended { (pass_of pass.new).ended ≡ (pass_of pass.old).ended }
+        ensures ended_cell { (pass_of pass.new).ended_cell ≡ (pass_of pass.old).ended_cell }
         ensures copy { IfOk result (λ told. told ≡ action.now) }
         ensures err { IfErr result (RefusesBeforeTurn (pass_of pass.new)) }
         ensures mine { (stranger : Modem) → result ≢ Err (refusals.Book (faults.NotMine stranger)) }
@@ -87,9 +89,9 @@ impl PassedCell {
         modem: Modem,
         heard: Heard,
     ) -> Result<Receipt, CellFault>
-        requires of { IsOf (cell_of self.now) (pass_of pass.old) }
-        ensures of { IsOf (cell_of self.now) (pass_of pass.new) }
-        ensures ok { IfOk result (λ r. Acts (pass_of pass.old) (actions.Arrive modem heard) r (pass_of pass.new)) }
+        requires of { IsOfCell (cell_of self.now) (pass_of pass.old) }
+        ensures of { IsOfCell (cell_of self.now) (pass_of pass.new) }
+        ensures ok { IfOk result (λ r. ActsInTurn (pass_of pass.old) (actions.Arrive modem heard) r (pass_of pass.new)) }
         ensures err { IfErr result (λ fault. RefusesArrival (pass_of pass.old) fault (pass_of pass.new)) }
 
         // A stranger is refused first, and before a turn is drawn; whoever knows the cell closed is then reported so.
@@ -123,9 +125,9 @@ impl PassedCell {
         alloc: Global,
         pass: &mut Pass,
     ) -> Result<Receipt, CellFault>
-        requires of { IsOf (cell_of self.now) (pass_of pass.old) }
-        ensures of { IsOf (cell_of self.now) (pass_of pass.new) }
-        ensures ok { IfOk result (λ r. Acts (pass_of pass.old) actions.Work r (pass_of pass.new)) }
+        requires of { IsOfCell (cell_of self.now) (pass_of pass.old) }
+        ensures of { IsOfCell (cell_of self.now) (pass_of pass.new) }
+        ensures ok { IfOk result (λ r. ActsInTurn (pass_of pass.old) actions.Work r (pass_of pass.new)) }
         ensures err { IfErr result (λ fault. RefusesTurn (pass_of pass.old) fault (pass_of pass.new)) }
         ensures mine { (stranger : Modem) → result ≢ Err (refusals.Book (faults.NotMine stranger)) }
         ensures not_spent { result ≢ Err (refusals.Book faults.FramesSpent) }
@@ -154,9 +156,9 @@ impl PassedCell {
         alloc: Global,
         pass: &mut Pass,
     ) -> Result<Receipt, CellFault>
-        requires of { IsOf (cell_of self.now) (pass_of pass.old) }
-        ensures of { IsOf (cell_of self.now) (pass_of pass.new) }
-        ensures ok { IfOk result (λ r. Acts (pass_of pass.old) actions.Tick r (pass_of pass.new)) }
+        requires of { IsOfCell (cell_of self.now) (pass_of pass.old) }
+        ensures of { IsOfCell (cell_of self.now) (pass_of pass.new) }
+        ensures ok { IfOk result (λ r. ActsInTurn (pass_of pass.old) actions.Tick r (pass_of pass.new)) }
         ensures err { IfErr result (λ fault. RefusesTurn (pass_of pass.old) fault (pass_of pass.new)) }
         ensures mine { (stranger : Modem) → result ≢ Err (refusals.Book (faults.NotMine stranger)) }
         ensures memory { result ≡ Err (refusals.Book faults.NoMemory)
@@ -180,23 +182,23 @@ impl PassedCell {
 
     /// Shows a pass what another has seen. Takes no memory, so it is never refused.
     pub fn meet(&self, told: &mut Pass, teller: &mut Pass) -> Result<(), AllocError>
-        requires told { IsOf (cell_of self.now) (pass_of told.old) }
-        requires teller { IsOf (cell_of self.now) (pass_of teller.old) }
-        ensures of { IsOf (cell_of self.now) (pass_of told.new) × IsOf (cell_of self.now) (pass_of teller.new) }
+        requires told { IsOfCell (cell_of self.now) (pass_of told.old) }
+        requires teller { IsOfCell (cell_of self.now) (pass_of teller.old) }
+        ensures of { IsOfCell (cell_of self.now) (pass_of told.new) × IsOfCell (cell_of self.now) (pass_of teller.new) }
         ensures told { OnOk result (HasMet (pass_of told.old) (pass_of teller.old) (pass_of told.new)) }
         ensures teller { pass_of teller.new ≡ pass_of teller.old }
         ensures never_refused { IsOk result }
     {
         let shared = &self.table.shared;
-        let copy = shared.split_seat::<Tell>(&mut teller.seat);
-        shared.join_seat::<Take>(&mut told.seat, copy);
-        shared.load::<Look>(&mut told.seat, 0);
+        let copy = shared.split_seat::<CopyStep>(&mut teller.seat);
+        shared.join_seat::<JoinStep>(&mut told.seat, copy);
+        shared.load::<LookStep>(&mut told.seat, 0);
         Ok(())
     }
 
     /// Returns the book, where every pass of the cell is handed back. Takes no memory.
     pub fn close(self, mut passes: Vec<Pass>) -> Option<Book>
-        requires of { All (λ p. IsOf (cell_of self) (pass_of p)) passes.items }
+        requires of { All (λ p. IsOfCell (cell_of self) (pass_of p)) passes.items }
         ensures some { IfSome result (λ book. (origin_of (view_of book) ≡ (cell_of self).origin)
             × IsLongest (map pass_of passes.items) (view_of book).history) }
         ensures none { IsNone result ↔ (vec_len passes < (cell_of self).passes) }
@@ -214,10 +216,10 @@ impl PassedCell {
         };
         let collector = gather(&table.shared, first, passes);
         let mut closed = table.close_with(collector);
-        let held = closed.take(0);
+        let parts = closed.take(0);
         closed.free();
-        let Some(held) = held else { unreachable!() };
-        let Held { kept, rest } = held;
-        Some(Book::of_parts(kept, rest))
+        let Some(parts) = parts else { unreachable!() };
+        let BookParts { kept, ranking } = parts;
+        Some(Book::of_parts(kept, ranking))
     }
 }

@@ -1,15 +1,15 @@
-//! Passes, dealt out by a cell's first seat and taken in again.
+//! The passes of a cell: its first seat gives them, and at the end they are joined.
 
 ghost use Rattle.std.specs.Prelude.{◌≡◌, ◌<◌, ◌≤◌, true, [], ◌∷◌, ◌++◌, All, IfOk, map, vec_capacity};
 ghost use Rattle.operator_book.specs.ViewOf.{policy_of};
-ghost use Rattle.plant_passes.specs.Words.{opener};
-ghost use Rattle.plant_passes.specs.Passes.{told_by, first_passes};
-ghost use Rattle.plant_passes.specs.Turns.{Follows, Gathers};
+ghost use Rattle.plant_passes.specs.Seats.{opener};
+ghost use Rattle.plant_passes.specs.Passes.{pass_view, first_passes};
+ghost use Rattle.plant_passes.specs.Turns.{FollowsPolicy, Gathers};
 
 use crate::pass::Pass;
-use crate::plays::{Deal, Law, Take};
-use crate::turns::{Desk, Place, Slot};
-use crate::view::{Held, Key, View};
+use crate::steps::{CellRule, GiveStep, JoinStep};
+use crate::turns::{CellSeat, CellTable, Slot};
+use crate::view::{BookParts, CellKey, Knowledge};
 use atomic_table::Table;
 use grant_policy::Ranking;
 use operator_book::Book;
@@ -47,26 +47,33 @@ pub(crate) fn table_round(
     book: Book,
     mut slots: Vec<Slot>,
     passes: usize,
-) -> Result<(Table<Slot, View<Ranking>, Key<Ranking>, Law, Global>, Place), AllocError>
+) -> Result<
+    (
+        Table<Slot, Knowledge<Ranking>, CellKey<Ranking>, CellRule, Global>,
+        CellSeat,
+    ),
+    AllocError,
+>
     requires slots { (slots.items ≡ []) × (1 ≤ vec_capacity slots) }
     requires some { 0 < passes }
     ensures sizes { IfOk result (λ r. (r.0.shared.table_id.words ≡ 2) × (r.0.shared.table_id.slots ≡ 1)) }
-    ensures key { IfOk result (λ r. (r.0.shared.key.held.value.kept ≡ book.kept)
+    ensures key { IfOk result (λ r. (r.0.shared.key.book.value.kept ≡ book.kept)
         × (r.0.shared.key.passes ≡ passes)) }
     ensures own { IfOk result (λ r. r.1.table_id ≡ r.0.shared.table_id) }
     ensures first { IfOk result (λ r. r.1.me.0
-        ≡ opener (record { kept = book.kept; rest = book.ranking }) passes) }
-    ensures follows { IfOk result (λ r. Follows policy_of r.1.me.0) }
+        ≡ opener (record { kept = book.kept; ranking = book.ranking }) passes) }
+    ensures follows { IfOk result (λ r. FollowsPolicy policy_of r.1.me.0) }
 {
+    // For the proof: the state is the replay of the history.
     book.always_replayed();
     let start = book.history().len() as u64;
-    let (kept, rest) = book.into_parts();
-    let held = Held { kept, rest };
-    let key = Key {
-        held: Snapshot::of(&held),
+    let (kept, ranking) = book.into_parts();
+    let parts = BookParts { kept, ranking };
+    let key = CellKey {
+        book: Snapshot::of(&parts),
         passes,
     };
-    slots.push_reserved(Some(held));
+    slots.push_reserved(Some(parts));
     match Table::new(alloc, &[start, start], slots, &key) {
         Ok(made) => Ok(made),
         Err(refused) => {
@@ -76,43 +83,43 @@ pub(crate) fn table_round(
     }
 }
 
-/// Gives passes, until there are as many as are wanted.
+/// Gives passes until none is left, and returns them.
 pub(crate) fn deal_out(
-    desk: &Desk,
-    mut giver: Place,
+    table: &CellTable,
+    mut giver: CellSeat,
     mut given: Vec<Pass>,
     passes: usize,
 ) -> Vec<Pass>
-    requires own { (giver.table_id ≡ desk.now.table_id) × (desk.now.table_id.words ≡ 2) }
-    requires giver { (giver.me.0.opens ≡ true) × (giver.me.0.parts ≡ passes) × Follows policy_of giver.me.0 }
+    requires own { (giver.table_id ≡ table.now.table_id) × (table.now.table_id.words ≡ 2) }
+    requires giver { (giver.me.0.opens ≡ true) × (giver.me.0.passes ≡ passes) × FollowsPolicy policy_of giver.me.0 }
     requires room { (given.items ≡ []) × (passes ≤ vec_capacity given) }
-    ensures { map (λ p. told_by p.seat) result.items
-        ≡ first_passes desk.now.table_id giver.me.0.origin giver.me.0.seen passes }
+    ensures { map (λ p. pass_view p.seat) result.items
+        ≡ first_passes table.now.table_id giver.me.0.origin giver.me.0.seen passes }
 {
     let mut left = passes;
     while left > 0 {
-        let seat = desk.split_seat::<Deal>(&mut giver);
+        let seat = table.split_seat::<GiveStep>(&mut giver);
         given.push_reserved(Pass { seat });
         left -= 1;
     }
     given
 }
 
-/// Takes in each of the passes.
-pub(crate) fn gather(desk: &Desk, first: Pass, mut rest: Vec<Pass>) -> Place
-    requires desk { desk.now.table_id.words ≡ 2 }
-    requires own { (first.seat.table_id ≡ desk.now.table_id)
-        × All (λ p. p.seat.table_id ≡ desk.now.table_id) rest.items }
-    ensures own { result.table_id ≡ desk.now.table_id }
-    ensures gathers { Gathers (map (λ p. told_by p.seat) (rest.items ++ first ∷ [])) result.me.0 }
-    ensures follows { Follows policy_of result.me.0 }
+/// Joins each of the passes to the first, and returns its seat.
+pub(crate) fn gather(table: &CellTable, first: Pass, mut rest: Vec<Pass>) -> CellSeat
+    requires table { table.now.table_id.words ≡ 2 }
+    requires own { (first.seat.table_id ≡ table.now.table_id)
+        × All (λ p. p.seat.table_id ≡ table.now.table_id) rest.items }
+    ensures own { result.table_id ≡ table.now.table_id }
+    ensures gathers { Gathers (map (λ p. pass_view p.seat) (rest.items ++ first ∷ [])) result.me.0 }
+    ensures follows { FollowsPolicy policy_of result.me.0 }
 {
     let Pass {
         seat: mut collector,
     } = first;
     while let Some(pass) = rest.pop() {
         let Pass { seat } = pass;
-        desk.join_seat::<Take>(&mut collector, seat);
+        table.join_seat::<JoinStep>(&mut collector, seat);
     }
     collector
 }

@@ -4,11 +4,11 @@
 mod cell;
 mod dealing;
 mod pass;
-mod plays;
+mod steps;
 mod turns;
 mod view;
 
 pub use cell_state::CellFault;
 pub use pass::{Pass, PassedCell};
 pub use run_receipts::Receipt;
-pub use view::{Held, Key, Mark, Origin, View};
+pub use view::{BookParts, CellKey, Knowledge, MarkedEntry, Origin};

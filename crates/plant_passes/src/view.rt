@@ -1,50 +1,63 @@
-//! What the proofs say of a cell. No value of `Origin`, `Mark` or `View` is made.
+//! What the proofs say of a cell. No value of `Origin`, `MarkedEntry` or `Knowledge` is made.
 
 use operator_book::{Entry, Logged};
 use plant::{Consts, OperatorRow};
 use std::collections::LinkedList;
 use std::snapshot::Snapshot;
 
-/// What a book was opened with.
+/// The constants and the row that a book was opened with.
 pub struct Origin {
     pub consts: Consts,
     pub row: OperatorRow,
 }
 
 /// An entry, and the number of the pass that made it, or 0 for the book's own past.
-pub struct Mark {
+pub struct MarkedEntry {
     pub entry: Entry,
     pub by: u64,
 }
 
-/// What a seat knows: its pass's number and parts, the history that it has seen and was reported
-/// of, the places of its own entries in it, and its turn. `ended`: its own refused turn closed the
-/// cell. `rest` is what the book has next to what is kept.
-pub struct View<X> {
-    pub me: u64,
-    pub parts: u64,
+/// The knowledge of one seat of a cell's table. A seat is a pass, the opener that gives the passes,
+/// or a copy of what a pass has seen.
+pub struct Knowledge<X> {
+    /// The number of the pass, from 1 on, or 0 for any other seat.
+    pub number: u64,
+    /// How many passes it counts for: 1 for a pass, and more once others are joined to it.
+    pub passes: u64,
+    /// Whether it is the seat that gives the passes.
     pub opens: bool,
+    /// Whether it has found the cell closed.
     pub closed: bool,
-    pub ended: bool,
+    /// Whether a refused turn of its own has closed the cell.
+    pub ended_cell: bool,
+    /// What the book was opened with.
     pub origin: Origin,
-    pub seen: LinkedList<Mark>,
-    pub told: LinkedList<LinkedList<Mark>>,
+    /// The history that it has seen.
+    pub seen: LinkedList<MarkedEntry>,
+    /// The histories that other seats have reported to it.
+    pub reported: LinkedList<LinkedList<MarkedEntry>>,
+    /// The places of the pass's own entries.
     pub made: LinkedList<u64>,
+    /// The ticket that it has drawn and not yet used.
     pub ticket: Option<u64>,
-    pub holds: bool,
-    pub rest: Option<X>,
+    /// Whether it is its turn, and it has the book.
+    pub holds_book: bool,
+    /// The ranking of the book. The rule knows of it only that it stays the same.
+    pub ranking: Option<X>,
 }
 
-/// What the slot holds: what is kept, next to what the rule does not see.
+/// The parts of a book, as a cell's slot holds them: the machine with its history, and the ranking,
+/// of which the rule of a cell sees nothing.
 #[derive(Drop)]
-pub struct Held<X> {
+pub struct BookParts<X> {
     pub kept: Logged,
-    pub rest: X,
+    pub ranking: X,
 }
 
-/// Names what a cell is made of, for its rule: the book in its slot, and how many passes there are to be.
+/// The key of a cell, which its rule reads: the book that it was opened with, and how many passes
+/// there are.
 #[derive(Drop)]
-pub struct Key<X> {
-    pub held: Snapshot<Held<X>>,
+pub struct CellKey<X> {
+    pub book: Snapshot<BookParts<X>>,
     pub passes: usize,
 }

@@ -1,7 +1,7 @@
 //! Calls of a cell by one thread, with values that others worked out.
 
 ghost use Rattle.std.specs.Prelude.{IfSome};
-ghost use Rattle.plant_passes.specs.Passes.{IsOf};
+ghost use Rattle.plant_passes.specs.Passes.{IsOfCell};
 ghost use Rattle.plant_passes.specs.ViewOf.{cell_of, pass_of};
 
 use crate::passes::cells::{
@@ -17,7 +17,7 @@ use std::test::Fail;
 
 /// Returns a cell with two passes.
 fn with_two(alloc: Global, book: Book) -> Option<(PassedCell, Pass, Pass)>
-    ensures { IfSome result (λ r. IsOf (cell_of r.0) (pass_of r.1) × IsOf (cell_of r.0) (pass_of r.2)) }
+    ensures { IfSome result (λ r. IsOfCell (cell_of r.0) (pass_of r.1) × IsOfCell (cell_of r.0) (pass_of r.2)) }
 {
     let (cell, mut passes) = opened(alloc, book, 2)?;
     let one = next_of(&cell, &mut passes)?;
@@ -32,8 +32,8 @@ fn place(answer: Result<Receipt, CellFault>) -> Option<usize> {
 
 /// Returns whether an arrival of a modem that is not of the row is refused.
 fn refuses_stranger<R: Wait>(rt: &R, alloc: Global, cell: &PassedCell, pass: &mut Pass) -> bool
-    requires { IsOf (cell_of cell.now) (pass_of pass.old) }
-    ensures { IsOf (cell_of cell.now) (pass_of pass.new) }
+    requires { IsOfCell (cell_of cell.now) (pass_of pass.old) }
+    ensures { IsOfCell (cell_of cell.now) (pass_of pass.new) }
 {
     let heard = Heard::Request {
         sid: 257,
@@ -45,8 +45,8 @@ fn refuses_stranger<R: Wait>(rt: &R, alloc: Global, cell: &PassedCell, pass: &mu
 
 /// Returns where an addition of the row's first modem is reported to be, which outputs nothing.
 fn arrives<R: Wait>(rt: &R, alloc: Global, cell: &PassedCell, pass: &mut Pass) -> Option<usize>
-    requires { IsOf (cell_of cell.now) (pass_of pass.old) }
-    ensures { IsOf (cell_of cell.now) (pass_of pass.new) }
+    requires { IsOfCell (cell_of cell.now) (pass_of pass.old) }
+    ensures { IsOfCell (cell_of cell.now) (pass_of pass.new) }
 {
     let heard = addition(alloc)?;
     let receipt = cell.arrive(rt, alloc, pass, MODEM, heard).ok()?;
@@ -67,8 +67,8 @@ fn is_reply(alloc: Global, outputs: &[Output], digits: &str) -> Option<bool> {
 
 /// Returns whether the first of the inbox is answered at once.
 fn replies<R: Wait>(rt: &R, alloc: Global, cell: &PassedCell, pass: &mut Pass) -> Option<bool>
-    requires { IsOf (cell_of cell.now) (pass_of pass.old) }
-    ensures { IsOf (cell_of cell.now) (pass_of pass.new) }
+    requires { IsOfCell (cell_of cell.now) (pass_of pass.old) }
+    ensures { IsOfCell (cell_of cell.now) (pass_of pass.new) }
 {
     let receipt = cell.work(rt, alloc, pass).ok()?;
     Some(receipt.index == 1 && is_reply(alloc, receipt.outputs.as_slice(), REPLY)?)
@@ -95,7 +95,7 @@ fn refuses<R: Wait>(
     one: &mut Pass,
     two: &mut Pass,
 ) -> (Option<CellFault>, Option<CellFault>)
-    requires { IsOf (cell_of cell.now) (pass_of one.old) × IsOf (cell_of cell.now) (pass_of two.old) }
+    requires { IsOfCell (cell_of cell.now) (pass_of one.old) × IsOfCell (cell_of cell.now) (pass_of two.old) }
 {
     let ticked = cell.tick(rt, alloc, one).err();
     (ticked, cell.work(rt, alloc, two).err())
@@ -121,7 +121,7 @@ fn meets<R: Wait>(
     teller: &mut Pass,
     told: &mut Pass,
 ) -> Option<(usize, usize, usize)>
-    requires { IsOf (cell_of cell.now) (pass_of teller.old) × IsOf (cell_of cell.now) (pass_of told.old) }
+    requires { IsOfCell (cell_of cell.now) (pass_of teller.old) × IsOfCell (cell_of cell.now) (pass_of told.old) }
 {
     let first = place(cell.work(rt, alloc, teller))?;
     let second = place(cell.tick(rt, alloc, teller))?;

@@ -1,7 +1,7 @@
 //! Cells of one operator, and what their calls answer.
 
 ghost use Rattle.std.specs.Prelude.{◌<◌, ◌≤◌, All, IfSome, vec_len};
-ghost use Rattle.plant_passes.specs.Passes.{IsOf};
+ghost use Rattle.plant_passes.specs.Passes.{IsOfCell};
 ghost use Rattle.plant_passes.specs.ViewOf.{cell_of, pass_of};
 
 use dsx_messages::Modem;
@@ -74,7 +74,7 @@ pub(crate) fn addition(alloc: Global) -> Option<Heard> {
 /// Returns a cell round a book, with so many passes.
 pub(crate) fn opened(alloc: Global, book: Book, passes: usize) -> Option<(PassedCell, Vec<Pass>)>
     requires { (0 < passes) × (passes ≤ 64) }
-    ensures { IfSome result (λ r. All (λ p. IsOf (cell_of r.0) (pass_of p)) r.1.items) }
+    ensures { IfSome result (λ r. All (λ p. IsOfCell (cell_of r.0) (pass_of p)) r.1.items) }
 {
     let Ok((cell, passes)) = PassedCell::open(alloc, book, passes) else {
         return None;
@@ -84,9 +84,9 @@ pub(crate) fn opened(alloc: Global, book: Book, passes: usize) -> Option<(Passed
 
 /// Returns the last of some passes.
 pub(crate) fn next_of(cell: &PassedCell, passes: &mut Vec<Pass>) -> Option<Pass>
-    requires { All (λ p. IsOf (cell_of cell.now) (pass_of p)) passes.old.items }
-    ensures one { IfSome result (λ p. IsOf (cell_of cell.now) (pass_of p)) }
-    ensures others { All (λ p. IsOf (cell_of cell.now) (pass_of p)) passes.new.items }
+    requires { All (λ p. IsOfCell (cell_of cell.now) (pass_of p)) passes.old.items }
+    ensures one { IfSome result (λ p. IsOfCell (cell_of cell.now) (pass_of p)) }
+    ensures others { All (λ p. IsOfCell (cell_of cell.now) (pass_of p)) passes.new.items }
     ensures fewer { IfSome result (λ p. vec_len passes.new < vec_len passes.old) }
 {
     passes.pop()

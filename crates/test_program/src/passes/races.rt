@@ -1,8 +1,8 @@
 //! Cells that threads share, and the one history to which all that they were reported belongs.
 
 ghost use Rattle.std.specs.Prelude.{All, IfSome};
-ghost use Rattle.plant_passes.specs.Passes.{IsOf};
-ghost use Rattle.plant_passes.specs.Words.{StartsWith};
+ghost use Rattle.plant_passes.specs.Passes.{IsOfCell};
+ghost use Rattle.plant_passes.specs.Histories.{StartsWith};
 ghost use Rattle.plant_passes.specs.ViewOf.{cell_of, pass_of};
 
 use crate::passes::cells::{REPLY, book, next_of, opened, strict};
@@ -106,7 +106,7 @@ fn settles(alloc: Global, book: Book, callers: Callers) -> Option<bool> {
 
 /// Returns the history of a cell whose passes are handed back.
 fn closed(cell: PassedCell, passes: Vec<Pass>) -> Option<Book>
-    requires { All (λ p. IsOf (cell_of cell) (pass_of p)) passes.items }
+    requires { All (λ p. IsOfCell (cell_of cell) (pass_of p)) passes.items }
 {
     cell.close(passes)
 }
@@ -155,10 +155,10 @@ fn eight_threads_with_sixty_four_passes(rt: HostRuntime) -> Result<(), Fail> {
 
 /// Shows a pass what two others have seen, so that what it has seen begins with what either had.
 fn tell_both(cell: &PassedCell, told: &mut Pass, one: &mut Pass, other: &mut Pass) -> Option<()>
-    requires told { IsOf (cell_of cell.now) (pass_of told.old) }
-    requires one { IsOf (cell_of cell.now) (pass_of one.old) }
-    requires other { IsOf (cell_of cell.now) (pass_of other.old) }
-    ensures of { IsOf (cell_of cell.now) (pass_of told.new) }
+    requires told { IsOfCell (cell_of cell.now) (pass_of told.old) }
+    requires one { IsOfCell (cell_of cell.now) (pass_of one.old) }
+    requires other { IsOfCell (cell_of cell.now) (pass_of other.old) }
+    ensures of { IsOfCell (cell_of cell.now) (pass_of told.new) }
     ensures one { IfSome result (λ _. StartsWith (pass_of told.new).seen (pass_of one.old).seen) }
     ensures other { IfSome result (λ _. StartsWith (pass_of told.new).seen (pass_of other.old).seen) }
 {
@@ -175,8 +175,8 @@ fn after_both<R: Wait>(
     mut told: Pass,
     mut passes: Vec<Pass>,
 ) -> Option<usize>
-    requires told { IsOf (cell_of cell.now) (pass_of told) }
-    requires passes { All (λ p. IsOf (cell_of cell.now) (pass_of p)) passes.items }
+    requires told { IsOfCell (cell_of cell.now) (pass_of told) }
+    requires passes { All (λ p. IsOfCell (cell_of cell.now) (pass_of p)) passes.items }
 {
     let mut one = next_of(cell, &mut passes)?;
     let mut other = next_of(cell, &mut passes)?;

@@ -1,7 +1,7 @@
 //! Threads that each have passes of their own.
 
 ghost use Rattle.std.specs.Prelude.{◌<◌, All, IfOk, IfSome, vec_len};
-ghost use Rattle.plant_passes.specs.Passes.{IsOf};
+ghost use Rattle.plant_passes.specs.Passes.{IsOfCell};
 ghost use Rattle.plant_passes.specs.ViewOf.{cell_of, pass_of};
 
 use crate::passes::cells::{MODEM, addition, next_of};
@@ -28,8 +28,8 @@ fn call<R: Wait>(
     pass: &mut Pass,
     turn: usize,
 ) -> Result<Receipt, CellFault>
-    requires { IsOf (cell_of cell.now) (pass_of pass.old) }
-    ensures { IsOf (cell_of cell.now) (pass_of pass.new) }
+    requires { IsOfCell (cell_of cell.now) (pass_of pass.old) }
+    ensures { IsOfCell (cell_of cell.now) (pass_of pass.new) }
 {
     match turn % 3 {
         0 => match addition(alloc) {
@@ -50,8 +50,8 @@ fn call_on<R: Wait>(
     calls: usize,
     receipts: &mut Vec<Receipt>,
 )
-    requires { IsOf (cell_of cell.now) (pass_of pass.old) }
-    ensures { IsOf (cell_of cell.now) (pass_of pass.new) }
+    requires { IsOfCell (cell_of cell.now) (pass_of pass.old) }
+    ensures { IsOfCell (cell_of cell.now) (pass_of pass.new) }
 {
     for turn in 0..calls {
         let Ok(receipt) = call(rt, alloc, cell, pass, turn) else {
@@ -66,9 +66,9 @@ fn call_on<R: Wait>(
 /// Keeps a pass next to others. Where there is no memory it is lost, and its cell never gives the
 /// book.
 fn keep(cell: &PassedCell, passes: &mut Vec<Pass>, pass: Pass)
-    requires others { All (λ p. IsOf (cell_of cell.now) (pass_of p)) passes.old.items }
-    requires one { IsOf (cell_of cell.now) (pass_of pass) }
-    ensures { All (λ p. IsOf (cell_of cell.now) (pass_of p)) passes.new.items }
+    requires others { All (λ p. IsOfCell (cell_of cell.now) (pass_of p)) passes.old.items }
+    requires one { IsOfCell (cell_of cell.now) (pass_of pass) }
+    ensures { All (λ p. IsOfCell (cell_of cell.now) (pass_of p)) passes.new.items }
 {
     let _lost = passes.push(pass);
 }
@@ -76,7 +76,7 @@ fn keep(cell: &PassedCell, passes: &mut Vec<Pass>, pass: Pass)
 impl<R: Wait> Plays<R> for PassedCell {
     type Job = Team;
 
-    ghost suits = { λ cell team. All (λ p. IsOf (cell_of cell) (pass_of p)) team.passes.items };
+    ghost suits = { λ cell team. All (λ p. IsOfCell (cell_of cell) (pass_of p)) team.passes.items };
 
     fn play(&self, rt: &R, alloc: Global, mut team: Team) -> Team {
         let mut played = Vec::new(alloc);
@@ -97,9 +97,9 @@ fn team_of(
     each: usize,
     calls: usize,
 ) -> Option<Team>
-    requires { All (λ p. IsOf (cell_of cell.now) (pass_of p)) passes.old.items }
-    ensures one { IfSome result (λ team. All (λ p. IsOf (cell_of cell.now) (pass_of p)) team.passes.items) }
-    ensures others { All (λ p. IsOf (cell_of cell.now) (pass_of p)) passes.new.items }
+    requires { All (λ p. IsOfCell (cell_of cell.now) (pass_of p)) passes.old.items }
+    ensures one { IfSome result (λ team. All (λ p. IsOfCell (cell_of cell.now) (pass_of p)) team.passes.items) }
+    ensures others { All (λ p. IsOfCell (cell_of cell.now) (pass_of p)) passes.new.items }
 {
     let mut taken = Vec::new(alloc);
     for _ in 0..each {
@@ -114,9 +114,9 @@ fn team_of(
 
 /// Returns some teams, and one more of the same cell.
 fn with_team(cell: &PassedCell, mut teams: Vec<Team>, team: Team) -> Result<Vec<Team>, AllocError>
-    requires others { All (λ team. All (λ p. IsOf (cell_of cell.now) (pass_of p)) team.passes.items) teams.items }
-    requires one { All (λ p. IsOf (cell_of cell.now) (pass_of p)) team.passes.items }
-    ensures { IfOk result (λ all. All (λ team. All (λ p. IsOf (cell_of cell.now) (pass_of p)) team.passes.items)
+    requires others { All (λ team. All (λ p. IsOfCell (cell_of cell.now) (pass_of p)) team.passes.items) teams.items }
+    requires one { All (λ p. IsOfCell (cell_of cell.now) (pass_of p)) team.passes.items }
+    ensures { IfOk result (λ all. All (λ team. All (λ p. IsOfCell (cell_of cell.now) (pass_of p)) team.passes.items)
         all.items) }
 {
     teams.push(team)?;
@@ -132,8 +132,8 @@ fn teams_of(
     each: usize,
     calls: usize,
 ) -> Option<Vec<Team>>
-    requires { All (λ p. IsOf (cell_of cell.now) (pass_of p)) passes.items }
-    ensures { IfSome result (λ made. All (λ team. All (λ p. IsOf (cell_of cell.now) (pass_of p)) team.passes.items)
+    requires { All (λ p. IsOfCell (cell_of cell.now) (pass_of p)) passes.items }
+    ensures { IfSome result (λ made. All (λ team. All (λ p. IsOfCell (cell_of cell.now) (pass_of p)) team.passes.items)
         made.items) }
 {
     let mut made = Vec::new(alloc);
@@ -149,9 +149,9 @@ fn teams_of(
 
 /// Returns the last of some teams.
 fn next_team(cell: &PassedCell, teams: &mut Vec<Team>) -> Option<Team>
-    requires { All (λ team. All (λ p. IsOf (cell_of cell.now) (pass_of p)) team.passes.items) teams.old.items }
-    ensures one { IfSome result (λ team. All (λ p. IsOf (cell_of cell.now) (pass_of p)) team.passes.items) }
-    ensures others { All (λ team. All (λ p. IsOf (cell_of cell.now) (pass_of p)) team.passes.items)
+    requires { All (λ team. All (λ p. IsOfCell (cell_of cell.now) (pass_of p)) team.passes.items) teams.old.items }
+    ensures one { IfSome result (λ team. All (λ p. IsOfCell (cell_of cell.now) (pass_of p)) team.passes.items) }
+    ensures others { All (λ team. All (λ p. IsOfCell (cell_of cell.now) (pass_of p)) team.passes.items)
         teams.new.items }
     ensures fewer { IfSome result (λ team. vec_len teams.new < vec_len teams.old) }
 {
@@ -160,8 +160,8 @@ fn next_team(cell: &PassedCell, teams: &mut Vec<Team>) -> Option<Team>
 
 /// Returns some passes, and more of the same cell.
 fn with_more(cell: &PassedCell, mut passes: Vec<Pass>, mut more: Vec<Pass>) -> Option<Vec<Pass>>
-    requires { All (λ p. IsOf (cell_of cell.now) (pass_of p)) passes.items × All (λ p. IsOf (cell_of cell.now) (pass_of p)) more.items }
-    ensures { IfSome result (λ all. All (λ p. IsOf (cell_of cell.now) (pass_of p)) all.items) }
+    requires { All (λ p. IsOfCell (cell_of cell.now) (pass_of p)) passes.items × All (λ p. IsOfCell (cell_of cell.now) (pass_of p)) more.items }
+    ensures { IfSome result (λ all. All (λ p. IsOfCell (cell_of cell.now) (pass_of p)) all.items) }
 {
     match passes.append(&mut more) {
         Ok(()) => Some(passes),
@@ -175,8 +175,8 @@ fn gathered(
     cell: &PassedCell,
     mut teams: Vec<Team>,
 ) -> Option<(Vec<Pass>, Vec<Receipt>)>
-    requires { All (λ team. All (λ p. IsOf (cell_of cell.now) (pass_of p)) team.passes.items) teams.items }
-    ensures { IfSome result (λ r. All (λ p. IsOf (cell_of cell.now) (pass_of p)) r.0.items) }
+    requires { All (λ team. All (λ p. IsOfCell (cell_of cell.now) (pass_of p)) team.passes.items) teams.items }
+    ensures { IfSome result (λ r. All (λ p. IsOfCell (cell_of cell.now) (pass_of p)) r.0.items) }
 {
     let mut passes = Vec::new(alloc);
     let mut receipts = Vec::new(alloc);
@@ -194,8 +194,8 @@ fn race_on<R: Threads + Wait + Sync>(
     cell: &PassedCell,
     teams: Vec<Team>,
 ) -> Result<Vec<Team>, AllocError>
-    requires { All (λ team. All (λ p. IsOf (cell_of cell.now) (pass_of p)) team.passes.items) teams.items }
-    ensures { IfOk result (λ made. All (λ team. All (λ p. IsOf (cell_of cell.now) (pass_of p)) team.passes.items)
+    requires { All (λ team. All (λ p. IsOfCell (cell_of cell.now) (pass_of p)) team.passes.items) teams.items }
+    ensures { IfOk result (λ made. All (λ team. All (λ p. IsOfCell (cell_of cell.now) (pass_of p)) team.passes.items)
         made.items) }
 {
     race(rt, alloc, cell, teams)
@@ -210,8 +210,8 @@ pub(crate) fn raced<R: Threads + Wait + Sync>(
     threads: usize,
     calls: usize,
 ) -> Option<(Vec<Pass>, Vec<Receipt>)>
-    requires { All (λ p. IsOf (cell_of cell.now) (pass_of p)) passes.items }
-    ensures { IfSome result (λ r. All (λ p. IsOf (cell_of cell.now) (pass_of p)) r.0.items) }
+    requires { All (λ p. IsOfCell (cell_of cell.now) (pass_of p)) passes.items }
+    ensures { IfSome result (λ r. All (λ p. IsOfCell (cell_of cell.now) (pass_of p)) r.0.items) }
 {
     let each = passes.len().checked_div(threads)?;
     let teams = teams_of(alloc, cell, passes, threads, each, calls)?;

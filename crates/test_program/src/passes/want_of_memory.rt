@@ -4,7 +4,7 @@
 //! refusal the tests show that the calls answer at all.
 
 ghost use Rattle.std.specs.Prelude.{All, IfSome};
-ghost use Rattle.plant_passes.specs.Passes.{IsOf};
+ghost use Rattle.plant_passes.specs.Passes.{IsOfCell};
 ghost use Rattle.plant_passes.specs.ViewOf.{cell_of, pass_of};
 
 use crate::passes::cells::{MODEM, book, next_of, opened, strict};
@@ -16,7 +16,7 @@ use std::test::Fail;
 
 /// Returns a cell with two passes; where memory is refused, round the other book.
 fn opened_again(alloc: Global, first: Book, spare: Book) -> Option<(PassedCell, Vec<Pass>)>
-    ensures { IfSome result (λ r. All (λ p. IsOf (cell_of r.0) (pass_of p)) r.1.items) }
+    ensures { IfSome result (λ r. All (λ p. IsOfCell (cell_of r.0) (pass_of p)) r.1.items) }
 {
     match opened(alloc, first, 2) {
         Some(made) => Some(made),
@@ -31,8 +31,8 @@ fn arrive<R: Wait>(
     cell: &PassedCell,
     pass: &mut Pass,
 ) -> Result<Receipt, CellFault>
-    requires { IsOf (cell_of cell.now) (pass_of pass.old) }
-    ensures { IsOf (cell_of cell.now) (pass_of pass.new) }
+    requires { IsOfCell (cell_of cell.now) (pass_of pass.old) }
+    ensures { IsOfCell (cell_of cell.now) (pass_of pass.new) }
 {
     let heard = Heard::Request {
         sid: 257,
@@ -59,8 +59,8 @@ fn arrives_second<R: Wait>(
     pass: &mut Pass,
     place: usize,
 ) -> Option<bool>
-    requires { IsOf (cell_of cell.now) (pass_of pass.old) }
-    ensures { IsOf (cell_of cell.now) (pass_of pass.new) }
+    requires { IsOfCell (cell_of cell.now) (pass_of pass.old) }
+    ensures { IsOfCell (cell_of cell.now) (pass_of pass.new) }
 {
     match arrive(rt, alloc, cell, pass) {
         Ok(receipt) => stands(&receipt, place),
@@ -77,8 +77,8 @@ fn arrives_again<R: Wait>(
     pass: &mut Pass,
     place: usize,
 ) -> Option<bool>
-    requires { IsOf (cell_of cell.now) (pass_of pass.old) }
-    ensures { IsOf (cell_of cell.now) (pass_of pass.new) }
+    requires { IsOfCell (cell_of cell.now) (pass_of pass.old) }
+    ensures { IsOfCell (cell_of cell.now) (pass_of pass.new) }
 {
     match arrive(rt, alloc, cell, pass) {
         Err(CellFault::Book(BookFault::NoMemory)) => arrives_second(rt, alloc, cell, pass, place),
@@ -89,7 +89,7 @@ fn arrives_again<R: Wait>(
 
 /// Returns whether two arrivals succeed, with passes that meet between them.
 fn meets_between<R: Wait>(rt: &R, alloc: Global, cell: &PassedCell, mut passes: Vec<Pass>) -> bool
-    requires { All (λ p. IsOf (cell_of cell.now) (pass_of p)) passes.items }
+    requires { All (λ p. IsOfCell (cell_of cell.now) (pass_of p)) passes.items }
 {
     let Some(mut one) = next_of(cell, &mut passes) else {
         return false;

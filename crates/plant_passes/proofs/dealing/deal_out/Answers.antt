@@ -1,5 +1,5 @@
 use Rattle.std.proofs.Common.{rules, arith, ℕ, ◌<◌, sym, subst}
-use Rattle.plant_passes.proofs.Moves.{deals}
+use Rattle.plant_passes.proofs.Moves.{gives_pass}
 use Rattle.plant_passes.proofs.dealing.deal_out.Goals as goal
 
 pub split_seat-seat-requires : goal.split_seat-seat-requires
@@ -8,5 +8,5 @@ split_seat-seat-requires g c =
     let some_left : 0 < c.loop-left.left = omega arith in (
       search rules,
       search rules,
-      deals _ _ _ _ _ _ i.opens (subst (λ (n : ℕ). 0 < n) (sym i.parts) some_left),
+      gives_pass _ _ _ _ i.opens (subst (λ (n : ℕ). 0 < n) (sym i.passes) some_left),
     )

@@ -8,5 +8,6 @@ compare_exchange-found-requires g c =
     let i = c.requires.idle in (
       search rules,
       search rules,
-      draws _ _ _ _ _ _ _ _ _ refl (omega arith) (ap (λ m. m.0.holds) same ∙ i.1) (ap (λ m. m.0.ticket) same ∙ i.0) (subst (λ m. 0 < m.0.me) (sym same) i.2) (subst (λ m. 0 < m.0.parts) (sym same) i.3),
+      draws _ _ _ _ _ _ _ refl (omega arith) (ap (λ m. m.0.holds_book) same ∙ i.1) (ap (λ m. m.0.ticket) same ∙ i.0)
+          (subst (λ m. 0 < m.0.number) (sym same) i.2) (subst (λ m. 0 < m.0.passes) (sym same) i.3),
     )

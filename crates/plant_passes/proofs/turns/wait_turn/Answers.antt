@@ -4,7 +4,7 @@ use Rattle.plant_passes.proofs.Again.{waits_on, looks_on, mine_now}
 use Rattle.plant_passes.proofs.turns.wait_turn.Goals as goal
 
 pub load-now-requires : goal.load-now-requires
-load-now-requires g c = (search rules, search rules, looks _ _ _ _ _ _ _ (search rules) c.loop.invariant.1.holds)
+load-now-requires g c = (search rules, search rules, looks _ _ _ _ _ (search rules) c.loop.invariant.1.holds_book)
 
 pub returns-then-now-ticket-clause-turn : goal.returns-then-now-ticket-clause-turn
 returns-then-now-ticket-clause-turn g c = mine_now _ c.load-now.result _ _ c.loop.invariant.1 c.load-now.ensures.2.1 (search rules) (search rules)

@@ -1,12 +1,12 @@
 use Rattle.std.proofs.Common.{All, length}
-use Rattle.plant_passes.specs.Passes.{IsOf}
+use Rattle.plant_passes.specs.Passes.{IsOfCell}
 use Rattle.plant_passes.specs.ViewOf.{cell_of, pass_of}
 use Rattle.test_program.proofs.passes.teams.gathered.Given as goal
 
 abbrev pub invariant-loop-team : goal.invariant-loop-team
 invariant-loop-team g l = record {
-  left : All (λ team. All (λ p. IsOf (cell_of l.cell) (pass_of p)) team.passes.items) l.teams.items;
-  passes : All (λ p. IsOf (cell_of l.cell) (pass_of p)) l.passes.items;
+  left : All (λ team. All (λ p. IsOfCell (cell_of l.cell) (pass_of p)) team.passes.items) l.teams.items;
+  passes : All (λ p. IsOfCell (cell_of l.cell) (pass_of p)) l.passes.items;
 }
 
 abbrev pub decreases-loop-team : goal.decreases-loop-team
