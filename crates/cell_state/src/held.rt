@@ -54,6 +54,7 @@ impl Held {
             return Err(fault);
         }
         let index = self.count();
+        // For the proof: the state of the book is the replay of its history.
         self.desk.book.always_replayed();
         let Ok(told) = action.copy(alloc) else {
             return Err(BookFault::NoMemory);
@@ -77,6 +78,7 @@ impl Held {
         ensures stopped { self.new.stopped ≡ self.old.stopped }
         ensures err { OnErr result (waiting_of self.new ≡ waiting_of self.old) }
     {
+        // For the proof: the state of the book is the replay of its history.
         self.desk.book.always_replayed();
         let Some(oldest) = self.desk.oldest(alloc)? else {
             return Ok(None);

@@ -85,6 +85,7 @@ impl Held {
         ensures waiting { waiting_of result ≡ drop taken (frames_at (view_of book)) }
         ensures stopped { result.stopped ≡ false }
     {
+        // For the proof: each entry of the history outputs one frame at most.
         book.always_replayed();
         let collected = behind(book.history(), taken);
         Held {
@@ -102,6 +103,7 @@ impl Held {
     {
         let Held { desk, stopped: _ } = self;
         let Desk { book, collected } = desk;
+        // For the proof: each entry of the history outputs one frame at most.
         book.always_replayed();
         let taken = entries_with_frame(&book.history()[..collected]);
         (book, taken)

@@ -136,6 +136,7 @@ impl Assembly {
         let Ok(kept) = elements.copy(alloc) else {
             return Err(GatherFault::NoMemory);
         };
+        // For the proof: what always holds of the gathering, before it changes.
         self.gather.always();
         if make_room(&mut self.placings, &mut self.maps).is_err() {
             return Err(GatherFault::NoMemory);
@@ -171,6 +172,7 @@ impl Assembly {
         ensures same { result ≡ Ok false → self.new ≡ self.old }
         ensures err { OnErr result (self.new ≡ self.old) }
     {
+        // For the proof: what always holds of the gathering, before it changes.
         self.gather.always();
         if !are_slices(rows) {
             return Ok(false);
@@ -226,6 +228,7 @@ impl Assembly {
         ensures gathering { IsGathering self.now.gathering }
         ensures made { HaveMade (gathering_of self.now.plant) self.now.placings self.now.maps self.now.gathering }
     {
+        // For the proof: the plant is valid, and what always holds of the gathering.
         let _ = self.plant.rows();
         self.gather.always();
     }

@@ -64,6 +64,7 @@ fn first_map_stray(
     if !is_same_plant(assembly.plant(), plant) {
         return Some(plant.consts().get_fields().channel.first_frame);
     }
+    // For the proof: the MAPs are what the placings make of the plant.
     assembly.always();
     first_put_stray(books, assembly.placings(), steps)
 }
@@ -127,6 +128,7 @@ pub fn compare(
     if let Err(fault) = first_fault(plant, books, &assembly, steps) {
         return Err(fault);
     }
+    // For the proof: the MAPs are what the placings make of the plant.
     assembly.always();
     let Settled {
         books,

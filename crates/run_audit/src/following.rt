@@ -23,6 +23,7 @@ use run_receipts::is_same_heard;
 fn is_of(plant: &Plant, modem: Modem, op: Op) -> bool
     ensures { (row : RowFields) → slice_get plant.now.rows op ≡ Some row → result ≡ is_listed modem row.modems }
 {
+    // For the proof: a plant is valid, so a modem is listed by one operator only.
     let _rows = plant.rows();
     match plant.operator_of(modem) {
         Some(other) => other == op,
@@ -109,6 +110,7 @@ pub fn stray_at(plant: &Plant, op: Op, book: &Book, steps: &[Step]) -> Option<us
         → MatchOption result (IsBookAfter plant.now steps.now op row (view_of book.now))
         (StraysAt plant.now steps.now op row (view_of book.now)) }
 {
+    // For the proof: the state and the outputs of the book are those of its actions.
     book.always_replayed();
     if !is_same_row(book.row(), &plant.rows()[op])
         || !are_same_consts(book.consts(), plant.consts())

@@ -107,6 +107,7 @@ pub(crate) fn first_put_stray(books: &[Book], placings: &[Placing], steps: &[Ste
 {
     let mut least = None;
     for (op, book) in books.iter().enumerate() {
+        // For the proof: the frames of the history are numbered without a gap.
         book.always_replayed();
         let due = count_collects(op, steps);
         least = lesser(least, first_missed(op, book.history(), due, placings));

@@ -87,6 +87,7 @@ fn turn_of(
     ensures course { OnOk result ((row : RowFields) → slice_get plant.now.rows op ≡ Some row
         → IsCourse row op (take (at + 1) steps.now) course.new) }
 {
+    // For the proof: a plant is valid, so a modem is listed by one operator only.
     let _rows = plant.rows();
     match &steps[at] {
         Step::Arrive { modem, heard: _ } => {

@@ -61,6 +61,7 @@ pub fn frames_in<'a>(alloc: Global, history: &'a [Entry]) -> Result<Vec<Frame<'a
 fn frames_of_book<'a>(alloc: Global, book: &'a Book) -> Result<OwnFrames<'a>, AllocError>
     ensures { IfOk result (λ own. AreFramesOf own (view_of book.now)) }
 {
+    // For the proof: the frames of the history are numbered without a gap.
     book.always_replayed();
     frames_have_no_gap();
     Ok(OwnFrames {
