@@ -5,7 +5,8 @@
 #   - the cases of tests/, by the second implementation, and by the program if it is built
 #   - the generator: a seed gives the same case twice, and tools/compare/handwritten_inputs reaches each check of the rules
 #   - the program, if it is built: compared with the second implementation by each command, and the exit statuses and messages;
-#     served behind a socket if socat is installed; its captures read by tshark if that is installed
+#     the completions for shells, compared with its help; served behind a socket if socat is installed; its captures read by tshark if
+#     that is installed
 #   - the tests of the tools (tools/ci/run_tests.sh)
 #
 # Usage: tools/ci/run_checks.sh     Needs bash and Python 3.11. Takes 2 minutes; with the program, socat and tshark a minute more.
@@ -57,6 +58,7 @@ if [ -x "$program" ]; then
     quietly "$tools/measure/latency" --fast "$program" 2000
     quietly "$tools/ci/reasons"
     quietly "$tools/ci/fault_lists" 0 25
+    quietly "$tools/completions" --check
     echo 'the program agrees with the second implementation'
     if command -v socat >/dev/null; then
         quietly "$tools/compare/serve_behind_socat"
