@@ -1,0 +1,238 @@
+"""Tests packaging/serve_channel with a program of its own, a script of sh, and a pipe that stays open as systemd keeps it. Needs no systemd.
+
+tools/ci/package_trial tries the same script under systemd with the real program. The units' exposure is tested if systemd-analyze is there.
+"""
+
+import io
+import os
+import pathlib
+import re
+import shutil
+import signal
+import subprocess
+import tempfile
+import time
+import unittest
+
+from tools import ROOT
+
+SCRIPT = ROOT / "packaging/serve_channel"
+TEXTS = {"serve_channel": SCRIPT.read_text()}
+UNITS = ROOT / "packaging/systemd"
+SECONDS = 10
+# A test that waits fails after this time, once the script has an edit.
+SECONDS_OF_EDIT = 2
+MOST_EXPOSURE = 3.0
+# `check` refuses a plant with the word bad. `serve` answers each line; `die` kills it, and `slow` keeps it busy.
+PROGRAM = r"""#!/bin/sh
+case $1 in
+check) cat >"$FOLDER/checked"; if grep -q bad "$FOLDER/checked"; then echo fault: plant 1; echo a reason >&2; exit 3; fi; echo ok ;;
+serve) while read -r line && [ "$line" != --- ]; do echo "P $line"; done
+    while read -r line || [ -n "$line" ]; do
+        case $line in die) kill -9 $$ ;; slow) sleep 0.3 ;; esac
+        echo "A $line"
+    done
+    echo end; exit 6 ;;
+esac
+"""
+PLANT = "a = 1\nb = 2"
+
+
+def wait_until(holds):
+    end = time.monotonic() + SECONDS
+    while not holds():
+        if time.monotonic() > end:
+            raise AssertionError("too late")
+        time.sleep(0.01)
+
+
+class Channel(unittest.TestCase):
+    def setUp(self):
+        folder = tempfile.TemporaryDirectory()
+        self.addCleanup(folder.cleanup)
+        self.folder = pathlib.Path(folder.name)
+        self.script = self.write("serve_channel", TEXTS["serve_channel"], 0o755)
+        self.program = self.write("program", PROGRAM, 0o755)
+        self.answers = self.folder / "answers"
+        os.mkfifo(self.folder / "in")
+        self.pipe = os.open(self.folder / "in", os.O_RDWR)
+        self.addCleanup(os.close, self.pipe)
+
+    def write(self, name, text, mode=0o644):
+        path = self.folder / name
+        path.write_text(text)
+        path.chmod(mode)
+        return path
+
+    def start(self, plant=PLANT, words=None, **environment):
+        environment = {"PATH": os.environ["PATH"], "PLANT_SCRIPT": str(self.program), "FOLDER": str(self.folder), "ANSWERS": str(self.answers), **environment}
+        words = [self.write("plant.toml", plant)] if words is None else words
+        process = subprocess.Popen([self.script, *words], stdin=self.pipe, stdout=subprocess.PIPE, stderr=subprocess.PIPE, text=True, env=environment, start_new_session=True)
+        self.addCleanup(process.stdout.close)
+        self.addCleanup(process.stderr.close)
+        self.addCleanup(self.end, process)
+        return process
+
+    def end(self, process):
+        """Ends what a test left running."""
+        if process.poll() is None:
+            os.killpg(process.pid, signal.SIGKILL)
+            process.wait()
+
+    def send(self, text):
+        os.write(self.pipe, text.encode())
+
+    def wait_for(self, text):
+        wait_until(lambda: self.answers.exists() and self.answers.read_text() == text)
+
+    def stop(self, process):
+        """Ends the channel as systemd does: SIGTERM for each of its processes. Returns the exit status."""
+        os.killpg(process.pid, signal.SIGTERM)
+        return process.wait(SECONDS)
+
+    def refused(self, process):
+        """Returns the exit status of a channel that does not start, and what it said."""
+        status = process.wait(SECONDS)
+        return status, process.stderr.read()
+
+    def test_lines_of_clients_that_come_and_go_are_answered(self):
+        process = self.start()
+        self.wait_for("P a = 1\nP b = 2\n")
+        for line in ("one", "two"):
+            subprocess.run(["sh", "-c", f"echo {line} >in"], cwd=self.folder, check=True, timeout=SECONDS)
+        self.wait_for("P a = 1\nP b = 2\nA one\nA two\n")
+        self.assertEqual(self.stop(process), 6)
+
+    def test_the_plant_file_ends_at_its_separator(self):
+        self.start(plant="a = 1\n---\nT\nbad\n")
+        self.wait_for("P a = 1\n")
+        self.assertEqual((self.folder / "checked").read_text(), "a = 1\n---\n")
+
+    def test_a_stop_answers_what_has_come(self):
+        process = self.start()
+        self.send("slow\none\ntwo\n")
+        self.wait_for("P a = 1\nP b = 2\n")
+        time.sleep(0.1)
+        self.assertEqual(self.stop(process), 6)
+        self.assertEqual(self.answers.read_text(), "P a = 1\nP b = 2\nA slow\nA one\nA two\nend\n")
+
+    def test_a_stop_leaves_no_part_of_a_line(self):
+        process = self.start()
+        self.send("one\ntw")
+        self.wait_for("P a = 1\nP b = 2\nA one\n")
+        self.stop(process)
+        self.assertEqual(self.answers.read_text(), "P a = 1\nP b = 2\nA one\nend\n")
+
+    def test_bytes_that_are_no_text_are_passed_on(self):
+        self.start()
+        os.write(self.pipe, b"\xff\x00\n\none\n")
+        wait_until(lambda: self.answers.exists() and self.answers.read_bytes().endswith(b"A \xff\nA \nA one\n"))
+
+    def test_an_invalid_plant_file_is_refused_with_its_reason(self):
+        status, errors = self.refused(self.start(plant="bad"))
+        self.assertEqual(status, 3)
+        self.assertEqual(errors.splitlines()[:2], ["fault: plant 1", "a reason"])
+        self.assertIn("plant.toml is refused (status 3)", errors)
+        self.assertFalse(self.answers.exists())
+
+    def test_a_missing_plant_file_is_refused(self):
+        status, errors = self.refused(self.start(words=["/nowhere/plant.toml"]))
+        self.assertEqual((status, errors), (3, "serve_channel: cannot read the plant file /nowhere/plant.toml\n"))
+
+    def test_wrong_arguments_are_refused(self):
+        for words in ([], ["one", "two"]):
+            self.assertEqual(self.refused(self.start(words=words)), (2, "serve_channel: usage: serve_channel PLANT\n"))
+
+    def test_answers_that_cannot_be_written_are_refused(self):
+        self.assertEqual(self.refused(self.start(ANSWERS="/nowhere/answers"))[0], 6)
+
+    def test_answers_are_appended_and_a_cut_line_is_ended(self):
+        for before, after in (("", ""), ("whole\n", "whole\n"), ("cut", "cut\n")):
+            self.answers.write_text(before)
+            process = self.start()
+            self.wait_for(after + "P a = 1\nP b = 2\n")
+            self.stop(process)
+
+    def test_without_a_file_the_answers_go_to_standard_output(self):
+        process = self.start(ANSWERS="")
+        self.assertEqual([process.stdout.readline() for _ in range(2)], ["P a = 1\n", "P b = 2\n"])
+        self.assertFalse(self.answers.exists())
+
+    def test_the_end_of_the_program_is_the_end_of_the_script(self):
+        process = self.start()
+        self.send("die\n")
+        self.assertEqual(process.wait(SECONDS), -signal.SIGKILL)
+
+    def test_each_start_records_all_input(self):
+        (self.folder / "records").mkdir()
+        for lines in ("one\ntwo\n", "three\n"):
+            process = self.start(RECORDS=str(self.folder / "records"))
+            self.send(lines)
+            wait_until(lambda lines=lines: self.answers.exists() and self.answers.read_text().endswith("A " + lines.split()[-1] + "\n"))
+            self.stop(process)
+        self.assertEqual([path.read_text() for path in sorted((self.folder / "records").iterdir())],
+                         ["a = 1\nb = 2\n---\none\ntwo\n", "a = 1\nb = 2\n---\nthree\n"])
+
+    def test_readiness_is_reported_once_the_plant_file_is_checked(self):
+        (self.folder / "bin").mkdir()
+        self.write("bin/systemd-notify", '#!/bin/sh\n[ -e "$FOLDER/checked" ] && echo "$*" >"$FOLDER/notified"\n', 0o755)
+        how = {"NOTIFY_SOCKET": "/nowhere", "PATH": f"{self.folder}/bin:{os.environ['PATH']}"}
+        self.start(**how)
+        notified = self.folder / "notified"
+        wait_until(lambda: notified.exists() and notified.read_text() == f"--ready --status=serving {self.folder}/plant.toml\n")
+        notified.unlink()
+        self.refused(self.start(plant="bad", **how))
+        self.assertFalse(notified.exists())
+
+
+class Units(unittest.TestCase):
+    @unittest.skipUnless(shutil.which("systemd-analyze"), "systemd-analyze is not installed: the exposure of the unit was not tested")
+    def test_exposure(self):
+        done = subprocess.run(["systemd-analyze", "security", "--offline=true", "--no-pager", UNITS / "plant@.service"], capture_output=True, text=True, check=True)
+        self.assertLess(float(re.search(r"Overall exposure level .*?: (\d+\.\d+)", done.stdout)[1]), MOST_EXPOSURE)
+
+    def test_an_invalid_plant_file_is_not_tried_again(self):
+        self.assertRegex((UNITS / "plant@.service").read_text(), r"(?m)^RestartPreventExitStatus=2 3$")
+
+
+# Each edit of the script is a fault that the test which is named must notice.
+EDITS = [
+    ("a_stop_answers_what_has_come", "trap '' TERM\n", ""),
+    ("a_stop_answers_what_has_come", "trap - TERM && ", ""),
+    ("a_stop_leaves_no_part_of_a_line", "LC_ALL=C exec grep --text --line-buffered ''", "exec cat"),
+    ("bytes_that_are_no_text_are_passed_on", "--text --line-buffered", "--line-buffered"),
+    ("lines_of_clients_that_come_and_go_are_answered", "--text --line-buffered", "--text"),
+    ("the_plant_file_ends_at_its_separator", "/^---$/ { exit } ", ""),
+    ("the_plant_file_ends_at_its_separator", '"$plant" && echo ---; }', '"$plant"; }'),
+    ("a_missing_plant_file_is_refused", "    exit 3\n", "    exit 1\n"),
+    ("an_invalid_plant_file_is_refused_with_its_reason", '    exit "$status"\n', "    exit 1\n"),
+    ("an_invalid_plant_file_is_refused_with_its_reason", "check >&2\n", "check >/dev/null\n"),
+    ("an_invalid_plant_file_is_refused_with_its_reason", "status=${PIPESTATUS[1]}", "status=${PIPESTATUS[0]}"),
+    ("answers_that_cannot_be_written_are_refused", "|| exit 6", "|| true"),
+    ("answers_are_appended_and_a_cut_line_is_ended", "end_cut_line && exec", "exec"),
+    ("answers_are_appended_and_a_cut_line_is_ended", '[ -z "$(tail -c 1 -- "$ANSWERS")" ] || ', ""),
+    ("answers_are_appended_and_a_cut_line_is_ended", 'exec >>"$ANSWERS"', 'exec >"$ANSWERS"'),
+    ("each_start_records_all_input", 'plant_and_separator | tee -- "$record" && ', "plant_and_separator && "),
+    ("each_start_records_all_input", 'tee --append -- "$record" | ', ""),
+    ("each_start_records_all_input", "$(date --utc +%Y%m%dT%H%M%S.%3NZ)", "record"),
+    ("the_end_of_the_program_is_the_end_of_the_script", 'exec "$program" serve', '"$program" serve'),
+    ("readiness_is_reported_once_the_plant_file_is_checked", "systemd-notify --ready", "true --ready"),
+    ("wrong_arguments_are_refused", "    exit 2\n", "    exit 1\n"),
+]
+
+
+def is_noticed(test, old, new):
+    """Returns whether a test fails once the script has the edit."""
+    global SECONDS
+    text, seconds = TEXTS["serve_channel"], SECONDS
+    assert text.count(old) == 1, f"serve_channel has {text.count(old)} times: {old}"
+    TEXTS["serve_channel"], SECONDS = text.replace(old, new), SECONDS_OF_EDIT
+    try:
+        return not unittest.TextTestRunner(stream=io.StringIO()).run(Channel(f"test_{test}")).wasSuccessful()
+    finally:
+        TEXTS["serve_channel"], SECONDS = text, seconds
+
+
+class Edits(unittest.TestCase):
+    def test_each_edit_is_noticed(self):
+        self.assertEqual([edit for edit in EDITS if not is_noticed(*edit)], [])
