@@ -1,0 +1,327 @@
+"""Tries the Debian package in a container under systemd: installs, starts, stops, upgrades, removes and purges it.
+
+    tools/ci/package_trial PACKAGE.deb [--base FOLDER] [--keep]
+
+PACKAGE.deb is what tools/build_package built; the tarball must be next to it. The newer package of the upgrade is the same one with a
+later version. FOLDER is a Debian system that debootstrap filled before with the packages that container.py names; it is copied. Without
+--base, debootstrap fetches one. --keep keeps the copy, and prints where it is.
+
+Needs root, the network (without --base), and Debian's packages debootstrap, systemd-container, dpkg-dev and lintian. It is no part of
+.ci/run. Prints a line for each trial; exits with 1 if one fails. Takes half a minute with --base.
+"""
+
+import argparse
+import hashlib
+import os
+import pathlib
+import re
+import shutil
+import subprocess
+import sys
+import tempfile
+import time
+
+from tools import EXAMPLES, ROOT
+from tools.manual.documents import section
+from tools.packaging.container import Container, Failed, fill, run_here
+
+COMMANDS = {"debootstrap": "debootstrap", "systemd-nspawn": "systemd-container", "dpkg-deb": "dpkg-dev", "lintian": "lintian"}
+PLANT, LINES = (EXAMPLES / "isolation/run_flood.txt").read_text().split("---\n")
+MOST_EXPOSURE = 3.0
+WRITE_AT_ONCE = 4_096
+PAGES = ("plant_script", "plant_script-serve", "plant.toml")
+PACKAGE = "plant-script"
+
+
+def want(condition, what):
+    if not condition:
+        raise Failed(what)
+
+
+def answers(box, channel):
+    return (box.folder / f"var/lib/plant_script/{channel}/answers").read_text()
+
+
+def run_answers(box, lines, plant=PLANT):
+    """Returns what `run` prints for lines."""
+    return box.ask("plant_script run", plant + "---\n" + lines)
+
+
+def send(box, channel, lines):
+    """Writes lines into the pipe of a channel, from a client that then leaves."""
+    box.run(f"cat > /run/plant_script/{channel}/in", lines)
+
+
+def shown(box, unit, *names):
+    """Returns properties of a unit, in the order in which they are asked for."""
+    rows = dict(line.split("=", 1) for line in box.run(f"systemctl show {unit} " + " ".join(f"-p {name}" for name in names)).splitlines())
+    return [rows[name] for name in names]
+
+
+def wait_for_answers(box, channel, wanted):
+    box.wait_until(f"cat /var/lib/plant_script/{channel}/answers", lambda output: output == wanted, f"the answers of {channel} are not those of run")
+
+
+def set_plant(box, channel, text=PLANT):
+    box.write(f"/etc/plant_script/{channel}.toml", text)
+
+
+def lintian(package):
+    found = subprocess.run(["lintian", "--allow-root", "--display-info", package], capture_output=True, text=True, check=False).stdout
+    found = "\n".join(line for line in found.splitlines() if not line.startswith("N:"))
+    want(not found, f"lintian finds:\n{found}")
+    return "lintian finds nothing"
+
+
+def install(box, package):
+    box.copy(package, "/root/package.deb")
+    box.run("dpkg --install /root/package.deb")
+    build = dict(line.split(": ", 1) for line in box.run(f"cat /usr/share/doc/{PACKAGE}/build.txt").splitlines())
+    want(box.run(f"dpkg-query -W -f '${{Version}}' {PACKAGE}") == build["version"], "build.txt has another version")
+    want(hashlib.sha256((box.folder / "usr/bin/plant_script").read_bytes()).hexdigest() in build["program"], "build.txt is of another program")
+    want("plant_script <COMMAND>" in box.run("plant_script --help"), "the program has no help")
+    for page in PAGES:
+        want("Melfjits" in box.run(f"man {page}"), f"the page {page} has no text")
+    want(box.run("stat -c '%U %a' /etc/plant_script /var/lib/plant_script /run/plant_script").splitlines() == ["root 755"] * 3, "the folders are not root's")
+    want(not box.ask("systemctl list-units --no-legend --all 'plant@*'"), "the installation started a channel")
+    return f"installed {build['version']} ({build['program'].split(',')[0]})"
+
+
+def complete(box):
+    script = ". /usr/share/bash-completion/bash_completion; _completion_loader plant_script; COMP_WORDS=(plant_script s); COMP_CWORD=1;"
+    found = box.run(f"bash -c '{script} _plant_script; echo ${{COMPREPLY[*]}}'")
+    want(found == "serve\n", f"bash completes s to {found}")
+    return "bash completes commands"
+
+
+def verify_units(box):
+    found = box.ask("systemd-analyze verify plant@east.service plant@east.socket")
+    want(not found, f"systemd-analyze verify finds:\n{found}")
+    last = box.run("systemd-analyze security --offline=true --no-pager /usr/lib/systemd/system/plant@.service").splitlines()[-1]
+    want(float(re.search(r"(\d+\.\d+)", last)[1]) < MOST_EXPOSURE, f"systemd-analyze security says {last}")
+    return last.lstrip("→ ")
+
+
+def as_the_page_says(box):
+    """Runs the commands that docs/OPERATING.md gives for the first start, and stops the channel."""
+    box.run("set -e\n" + "\n".join(line for line in section(ROOT, "docs/OPERATING.md#first-start") if line.startswith("    ")))
+    output = box.wait_until("cat /var/lib/plant_script/east/answers", lambda output: "MAP " in output, "no MAP after the commands of the page")
+    want(re.fullmatch("R 020000000001 .*\nF A 0 .*\nF B 0 .*\nMAP 0 .*\n", output), f"the commands of the page give\n{output}")
+    box.run("systemctl disable --now plant@east.socket plant@east; rm /var/lib/plant_script/east/answers")
+    return "the commands of docs/OPERATING.md start a channel"
+
+
+def first_start(box):
+    set_plant(box, "east")
+    box.run("systemctl enable --now plant@east")
+    want(shown(box, "plant@east", "ActiveState", "StatusText") == ["active", "serving /etc/plant_script/east.toml"], "the channel is not ready")
+    want(box.run("stat -c '%F %U:%G %a' /run/plant_script/east/in") == "fifo root:_plant_script 620\n", "the pipe has other rights")
+    want(box.run("stat -c '%U:%G %a' /var/lib/plant_script/east/answers") == "_plant_script:_plant_script 640\n", "the answers have other rights")
+    rows = LINES.splitlines(keepends=True)
+    for at in range(0, len(rows), 7):
+        send(box, "east", "".join(rows[at:at + 7]))
+    wait_for_answers(box, "east", run_answers(box, LINES))
+    return f"{len(rows)} lines of {len(rows) // 7 + 1} clients are answered as by run"
+
+
+def invalid_line(box):
+    before = answers(box, "east")
+    send(box, "east", "X\n")
+    wait_for_answers(box, "east", before + f"fault: line {len(LINES.splitlines()) + 1}\n")
+    return "an invalid line is answered by its number"
+
+
+def rights(box):
+    box.run("useradd other; useradd --groups _plant_script member")
+    for user, is_allowed in (("other", False), ("member", True)):
+        for script in ("echo >> /run/plant_script/east/in", "cat /var/lib/plant_script/east/answers"):
+            status, _ = box.status_of(f"runuser -u {user} -- sh -c '{script}'")
+            want((status == 0) == is_allowed, f"{user}: {script} ended with status {status}")
+    want(box.status_of("runuser -u member -- cat /run/plant_script/east/in")[0], "a member may read the pipe")
+    return "members of the group write lines and read answers, others do not"
+
+
+def second_channel(box):
+    set_plant(box, "west")
+    before = answers(box, "east")
+    box.run("systemctl start plant@west")
+    send(box, "west", LINES)
+    wait_for_answers(box, "west", run_answers(box, LINES))
+    want(answers(box, "east") == before, "lines of one channel have answers in another")
+    box.run("systemctl stop plant@west.socket plant@west")
+    want(not (box.folder / "run/plant_script/west/in").exists() and box.status_of("test -e /run/plant_script/west/in")[0], "the pipe is still there")
+    return "a second channel runs next to the first"
+
+
+def killed(box):
+    """Kills the program, then the process that copies the lines; each time the channel starts anew, without its flows."""
+    for count, which in enumerate(("systemctl show -P MainPID plant@east", "for p in /proc/[0-9]*; do case $(tr '\\0' ' ' <$p/cmdline) in grep*) basename $p ;; esac; done"), 1):
+        box.run(f"kill -KILL $({which})")
+        box.wait_until("systemctl show -P NRestarts plant@east", lambda output, count=count: output == f"{count}\n", "no restart")
+        box.wait_until("systemctl is-active plant@east", lambda output: output == "active\n", "not active")
+        before = answers(box, "east")
+        want(before.endswith("\n"), "a line of the answers was cut off")
+        send(box, "east", "T\n")
+        wait_for_answers(box, "east", before + run_answers(box, "T\n"))
+    return "the channel restarts with the first frame if one of its processes is killed"
+
+
+def stopped_at_work(box):
+    """Stops the channel while it has much to do: what it got is answered whole, and nothing else."""
+    lines = "T\n" * 200_000
+    before = answers(box, "east")
+    box.run("systemctl restart plant@east")
+    sender = box.start("cat > /run/plant_script/east/in; echo sent")
+    sender.stdin.write(lines)
+    box.run("systemctl stop plant@east.socket plant@east")
+    sender.communicate()
+    want(shown(box, "plant@east", "ActiveState", "Result", "ExecMainStatus") == ["inactive", "success", "0"], "the channel did not end well")
+    done = answers(box, "east").removeprefix(before)
+    frames = done.count("MAP ")
+    want(0 < frames < 200_000 and done == run_answers(box, "T\n" * frames), "the answers are not those of whole lines")
+    return f"a stop in the middle of the work leaves whole answers ({frames} of 200,000 frames)"
+
+
+def invalid_plant(box):
+    set_plant(box, "bad", PLANT.replace('policy = "strict"', 'policy = "none"', 1))
+    want(box.status_of("systemctl start plant@bad")[0], "a channel with an invalid plant file starts")
+    want(shown(box, "plant@bad", "ActiveState", "ExecMainStatus", "NRestarts") == ["failed", "3", "0"], "an invalid plant file is tried again")
+    log = box.run("journalctl --unit plant@bad --output cat --no-pager")
+    want("fault: plant " in log and "/etc/plant_script/bad.toml is refused" in log, f"the journal has no reason:\n{log}")
+    send(box, "bad", "T\n")
+    box.wait_until("systemctl is-failed plant@bad.socket", lambda output: output == "failed\n", "the pipe stays, and nothing reads it")
+    set_plant(box, "bad")
+    box.run("systemctl reset-failed plant@bad.service plant@bad.socket; systemctl start plant@bad")
+    send(box, "bad", LINES)
+    wait_for_answers(box, "bad", run_answers(box, LINES))
+    box.run("systemctl stop plant@bad.socket plant@bad")
+    want(box.status_of("systemctl start plant@none")[0], "a channel without a plant file starts")
+    return "an invalid plant file is reported, and not tried again; once it is mended, the channel starts"
+
+
+def full_disk(box):
+    """Serves a channel whose answers do not fit on the disk."""
+    set_plant(box, "full")
+    box.run("mkdir -p /var/lib/plant_script/full; mount -t tmpfs -o size=64k,nr_inodes=9 none /var/lib/plant_script/full; systemctl start plant@full")
+    send(box, "full", "T\n" * 2000)
+    box.wait_until("systemctl show -P NRestarts plant@full", lambda output: output != "0\n", "the channel goes on with a full disk")
+    want("status=6" in box.run("journalctl --unit plant@full --output cat --no-pager"), "a full disk is not status 6")
+    box.run("systemctl stop plant@full.socket plant@full; umount /var/lib/plant_script/full; rm -r /var/lib/plant_script/full /etc/plant_script/full.toml")
+    return "a full disk ends the program with status 6, and the unit starts it again"
+
+
+def recorded(box):
+    box.write("/etc/systemd/system/plant@east.service.d/record.conf", "[Service]\nEnvironment=RECORDS=/var/lib/plant_script/east\n")
+    before = answers(box, "east")
+    box.run("systemctl daemon-reload; systemctl start plant@east")
+    send(box, "east", LINES)
+    wanted = run_answers(box, LINES)
+    wait_for_answers(box, "east", before + wanted)
+    box.run("systemctl stop plant@east")
+    want(box.run("cat /var/lib/plant_script/east/*.txt | plant_script run") == wanted, "the record does not give the answers")
+    return "run gives the same answers from a record"
+
+
+def rebooted(box):
+    box.stop()
+    box.boot()
+    box.wait_until("systemctl is-active plant@east", lambda output: output == "active\n", "the channel is not there after a reboot")
+    before = answers(box, "east")
+    send(box, "east", LINES)
+    wait_for_answers(box, "east", before + run_answers(box, LINES))
+    return "an enabled channel is there after a reboot"
+
+
+def newer(package, work):
+    """Returns the same package with a later version."""
+    run_here("dpkg-deb", "--raw-extract", package, work / "newer")
+    control = work / "newer/DEBIAN/control"
+    control.write_text(re.sub(r"(?m)^(Version: .*)$", r"\1.1", control.read_text()))
+    run_here("dpkg-deb", "--root-owner-group", "--build", work / "newer", work / "newer.deb")
+    return work / "newer.deb"
+
+
+def upgraded(box, package, work):
+    process, before = shown(box, "plant@east", "MainPID", "NRestarts"), answers(box, "east")
+    box.copy(newer(package, work), "/root/newer.deb")
+    box.run("dpkg --install /root/newer.deb")
+    want(box.run(f"dpkg-query -W -f '${{Version}}' {PACKAGE}").endswith(".1"), "the package has not the later version")
+    want(shown(box, "plant@east", "MainPID", "NRestarts") == process, "the upgrade restarted the channel")
+    send(box, "east", "T A\n")
+    box.wait_until("cat /var/lib/plant_script/east/answers", lambda output: len(output) > len(before), "no answer after the upgrade")
+    box.run("systemctl restart plant@east")
+    want(shown(box, "plant@east", "MainPID") != process[:1], "no restart")
+    return "an upgrade leaves the channel running; a restart takes the new program"
+
+
+def purged(box):
+    box.run(f"dpkg --remove {PACKAGE}")
+    left = box.run("systemctl list-units --no-legend --state=active,activating,deactivating 'plant@*'")
+    want(not left, f"left after the removal:\n{left}")
+    want(answers(box, "east"), "the answers are gone after the removal")
+    box.run(f"dpkg --purge {PACKAGE}")
+    left = box.run("find / -xdev '(' -path '*plant[-_]script*' -o -path '*/plant@*' ')' ! -path '/proc/*' ! -path '/var/log/*' ! -path '/var/cache/man/*'").split()
+    owners = ["/etc/plant_script", "/etc/plant_script/bad.toml", "/etc/plant_script/east.toml", "/etc/plant_script/west.toml",
+              "/etc/systemd/system/plant@east.service.d", "/etc/systemd/system/plant@east.service.d/record.conf"]
+    want(sorted(left) == owners, f"left after the purge: {left}")
+    return "a purge leaves only the owner's plant files and unit changes"
+
+
+def from_tarball(box, package):
+    tarball = next(package.parent.glob(package.name.removesuffix("_amd64.deb").replace("_", "-") + "-amd64.tar.gz"))
+    box.copy(tarball, "/root/package.tar.gz")
+    box.run("tar --extract --strip-components=1 --directory=/ --file=/root/package.tar.gz; systemd-sysusers; systemd-tmpfiles --create; systemctl daemon-reload")
+    box.run("rm -r /etc/systemd/system/plant@east.service.d; systemctl daemon-reload; systemctl start plant@east")
+    send(box, "east", LINES)
+    wait_for_answers(box, "east", run_answers(box, LINES))
+    return "the files of the tarball serve a channel"
+
+
+def trials(box, package, work):
+    """Yields a line for each trial."""
+    yield lintian(package)
+    yield install(box, package)
+    for trial in (complete, verify_units, as_the_page_says, first_start, invalid_line, rights, second_channel, killed, stopped_at_work, invalid_plant,
+                  full_disk, recorded, rebooted):
+        yield trial(box)
+    yield upgraded(box, package, work)
+    yield purged(box)
+    yield from_tarball(box, package)
+
+
+def read_arguments():
+    ask = argparse.ArgumentParser("package_trial", description=__doc__, formatter_class=argparse.RawDescriptionHelpFormatter)
+    ask.add_argument("package", metavar="PACKAGE.deb", type=pathlib.Path, help="the package")
+    ask.add_argument("--base", metavar="FOLDER", help="copy this Debian system in place of a new one")
+    ask.add_argument("--keep", action="store_true", help="keep the copy, and print where it is")
+    return ask.parse_args()
+
+
+def main():
+    asked = read_arguments()
+    missing = sorted(package for command, package in COMMANDS.items() if not shutil.which(command))
+    if missing:
+        sys.exit(f"package_trial: install Debian's packages {', '.join(missing)}")
+    if os.geteuid():
+        sys.exit("package_trial: needs root")
+    # (not /tmp, which may be in memory)
+    work = pathlib.Path(tempfile.mkdtemp(prefix="package_trial", dir="/var/tmp"))
+    started = time.monotonic()
+    try:
+        (work / "root").mkdir()
+        fill(work / "root", asked.base)
+        with Container(work / "root") as box:
+            for line in trials(box, asked.package, work):
+                print(line, flush=True)
+    except Failed as fault:
+        sys.exit(f"package_trial: failed: {fault}")
+    finally:
+        if asked.keep:
+            print(work)
+        else:
+            shutil.rmtree(work, ignore_errors=True)
+    print(f"the package passed all trials in {time.monotonic() - started:.0f} seconds")
+
+
+if __name__ == "__main__":
+    main()
