@@ -14,8 +14,8 @@ from tools import ROOT
 
 PROGRAM = ROOT / "crates/plant_program/out/plant_program"
 DOCUMENTS = ("README.md", "docs/GUIDE.md")
-# Not run: what proves or serves.
-NOT_RUN = ("./prove", ".ci/run", "serve_plant.sh", "mkdir /tmp/plant")
+# Not run: what proves, installs or serves.
+NOT_RUN = ("./prove", ".ci/run", "tools/build_package", "apt-get", "systemctl")
 # Files of the reader, with those that replace them.
 OF_THE_READER = {"my_channel.txt": "examples/every_key/check.txt", "INPUT": "examples/two_operators.txt"}
 
