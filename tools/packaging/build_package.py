@@ -33,7 +33,8 @@ PROVE_LOG = "crates/plant_program/out/prove.log"
 MAINTAINER = re.compile(r"^Maintainer: (.*)$", re.MULTILINE)
 # What the rules of the package read: from the repository, to the folder in which they run.
 FILES = {"packaging/debian": "debian", "packaging/systemd": "systemd", "packaging/completions": "completions",
-         "packaging/serve_channel": "serve_channel", "docs": "docs", "examples": "examples", "README.md": "README.md", "CHANGELOG.md": "CHANGELOG.md"}
+         "packaging/serve_channel": "serve_channel", "packaging/tick_channel": "tick_channel",
+         "docs": "docs", "examples": "examples", "README.md": "README.md", "CHANGELOG.md": "CHANGELOG.md"}
 COMMANDS = {"git": "git", "dpkg-buildpackage": "dpkg-dev", "dh": "debhelper"}
 
 

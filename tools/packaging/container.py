@@ -14,15 +14,22 @@ BOOT_SECONDS = 60
 COMMAND_SECONDS = 60
 
 
+LAST_LINES = 10
+
+
 class Failed(Exception):
     """A command failed, or something did not come in time."""
+
+
+def last_lines(text):
+    return "\n".join(text.splitlines()[-LAST_LINES:])
 
 
 def run_here(*words, **how):
     """Runs a command of this machine, and returns what it printed."""
     done = subprocess.run(words, stdout=subprocess.PIPE, stderr=subprocess.STDOUT, text=True, check=False, **how)
     if done.returncode:
-        raise Failed(f"{' '.join(map(str, words))} ended with status {done.returncode}:\n{done.stdout}")
+        raise Failed(f"{' '.join(map(str, words))} ended with status {done.returncode}:\n{last_lines(done.stdout)}")
     return done.stdout
 
 
@@ -100,7 +107,7 @@ class Container:
         """Returns what a script prints, which must succeed."""
         status, output = self.status_of(script, given)
         if status:
-            raise Failed(f"status {status}: {script}\n{output}")
+            raise Failed(f"status {status}: {script}\n{last_lines(output)}")
         return output
 
     def write(self, name, text):
@@ -116,6 +123,6 @@ class Container:
         end = time.monotonic() + COMMAND_SECONDS
         while not holds(output := self.ask(script)):
             if time.monotonic() > end:
-                raise Failed(f"{what}; last output:\n{output}")
+                raise Failed(f"{what}; last output:\n{last_lines(output)}")
             time.sleep(0.1)
         return output

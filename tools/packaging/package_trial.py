@@ -95,11 +95,14 @@ def complete(box):
 
 
 def verify_units(box):
-    found = box.ask("systemd-analyze verify plant@east.service plant@east.socket")
+    found = box.ask("systemd-analyze verify plant@east.service plant@east.socket plant-ticker@east.service")
     want(not found, f"systemd-analyze verify finds:\n{found}")
-    last = box.run("systemd-analyze security --offline=true --no-pager /usr/lib/systemd/system/plant@.service").splitlines()[-1]
-    want(float(re.search(r"(\d+\.\d+)", last)[1]) < MOST_EXPOSURE, f"systemd-analyze security says {last}")
-    return last.lstrip("→ ")
+    exposures = []
+    for unit in ("plant@", "plant-ticker@"):
+        last = box.run(f"systemd-analyze security --offline=true --no-pager /usr/lib/systemd/system/{unit}.service").splitlines()[-1]
+        exposures.append(float(re.search(r"(\d+\.\d+)", last)[1]))
+    want(max(exposures) < MOST_EXPOSURE, f"systemd-analyze security says {exposures}")
+    return f"systemd-analyze verify finds nothing in the units, and their exposures are {exposures}"
 
 
 def as_the_page_says(box):
@@ -199,11 +202,29 @@ def invalid_plant(box):
     return "an invalid plant file is reported, and not tried again; once it is mended, the channel starts"
 
 
+def ticked(box):
+    """Lets the ticker run, also through a restart of the channel."""
+    box.run("systemctl enable --now plant-ticker@east")
+    for _ in range(2):
+        before = answers(box, "east").count("MAP ")
+        time.sleep(2)
+        # (1,000 frames of 2 ms; a busy machine may be late by a fifth)
+        want(800 < answers(box, "east").count("MAP ") - before < 1_200, "not a MAP every 2 ms")
+        box.run("systemctl restart plant@east")
+        box.wait_until("systemctl is-active plant-ticker@east", lambda output: output == "active\n", "the ticker does not follow the channel")
+    box.run("kill -KILL $(systemctl show -P MainPID plant@east)")
+    box.wait_until("systemctl show -P NRestarts plant@east", lambda output: output == "1\n", "no restart")
+    box.wait_until("systemctl is-active plant-ticker@east", lambda output: output == "active\n", "the ticker does not follow the channel")
+    box.run("systemctl disable --now plant-ticker@east")
+    want(shown(box, "plant@east", "ActiveState") == ["active"], "the channel ends with its ticker")
+    return "the ticker gives a MAP every 2 ms, and follows the channel"
+
+
 def full_disk(box):
     """Serves a channel whose answers do not fit on the disk."""
     set_plant(box, "full")
     box.run("mkdir -p /var/lib/plant_script/full; mount -t tmpfs -o size=64k,nr_inodes=9 none /var/lib/plant_script/full; systemctl start plant@full")
-    send(box, "full", "T\n" * 2000)
+    send(box, "full", "T\n" * 20_000)
     box.wait_until("systemctl show -P NRestarts plant@full", lambda output: output != "0\n", "the channel goes on with a full disk")
     want("status=6" in box.run("journalctl --unit plant@full --output cat --no-pager"), "a full disk is not status 6")
     box.run("systemctl stop plant@full.socket plant@full; umount /var/lib/plant_script/full; rm -r /var/lib/plant_script/full /etc/plant_script/full.toml")
@@ -255,12 +276,13 @@ def upgraded(box, package, work):
 
 
 def purged(box):
+    box.run("systemctl enable plant-ticker@east")
     box.run(f"dpkg --remove {PACKAGE}")
     left = box.run("systemctl list-units --no-legend --state=active,activating,deactivating 'plant@*'")
     want(not left, f"left after the removal:\n{left}")
     want(answers(box, "east"), "the answers are gone after the removal")
     box.run(f"dpkg --purge {PACKAGE}")
-    left = box.run("find / -xdev '(' -path '*plant[-_]script*' -o -path '*/plant@*' ')' ! -path '/proc/*' ! -path '/var/log/*' ! -path '/var/cache/man/*'").split()
+    left = box.run("find / -xdev '(' -path '*plant[-_]script*' -o -path '*/plant@*' -o -path '*/plant-ticker@*' ')' ! -path '/proc/*' ! -path '/var/log/*' ! -path '/var/cache/man/*'").split()
     owners = ["/etc/plant_script", "/etc/plant_script/bad.toml", "/etc/plant_script/east.toml", "/etc/plant_script/west.toml",
               "/etc/systemd/system/plant@east.service.d", "/etc/systemd/system/plant@east.service.d/record.conf"]
     want(sorted(left) == owners, f"left after the purge: {left}")
@@ -281,7 +303,7 @@ def trials(box, package, work):
     """Yields a line for each trial."""
     yield lintian(package)
     yield install(box, package)
-    for trial in (complete, verify_units, as_the_page_says, first_start, invalid_line, rights, second_channel, killed, stopped_at_work, invalid_plant,
+    for trial in (complete, verify_units, as_the_page_says, first_start, invalid_line, rights, second_channel, killed, ticked, stopped_at_work, invalid_plant,
                   full_disk, recorded, rebooted):
         yield trial(box)
     yield upgraded(box, package, work)

@@ -18,6 +18,7 @@ from tools import ROOT
 from tools.packaging import build_package as TOOL
 
 PACKED = """etc/plant_script usr/bin/plant_script usr/lib/systemd/system/plant@.service usr/lib/systemd/system/plant@.socket
+usr/lib/systemd/system/plant-ticker@.service usr/libexec/plant_script/tick_channel
 usr/lib/sysusers.d/plant-script.conf usr/lib/tmpfiles.d/plant-script.conf usr/libexec/plant_script/serve_channel
 usr/share/bash-completion/completions/plant_script usr/share/doc/plant-script/FORMATS.md.gz usr/share/doc/plant-script/GLOSSARY.md.gz
 usr/share/doc/plant-script/OPERATING.md.gz usr/share/doc/plant-script/README.md.gz usr/share/doc/plant-script/RULES.md.gz
@@ -132,15 +133,15 @@ class Package(unittest.TestCase):
         (self.top / "files.tar").write_bytes(subprocess.run(["dpkg-deb", "--fsys-tarfile", self.package], capture_output=True, check=True).stdout)
         with tarfile.open(self.top / "files.tar") as tar:
             members = {entry.name.removeprefix("./"): entry for entry in tar if not entry.isdir() or entry.name == "./etc/plant_script"}
-            self.assertEqual(sorted(members), PACKED)
-            self.assertEqual({name for name, entry in members.items() if entry.mode & 0o111 and entry.isfile()}, {"usr/bin/plant_script", "usr/libexec/plant_script/serve_channel"})
+            self.assertEqual(sorted(members), sorted(PACKED))
+            self.assertEqual({name for name, entry in members.items() if entry.mode & 0o111 and entry.isfile()}, {"usr/bin/plant_script", "usr/libexec/plant_script/serve_channel", "usr/libexec/plant_script/tick_channel"})
             self.assertEqual(tar.extractfile(members["usr/bin/plant_script"]).read(), self.program.read_bytes())
 
     def test_the_tarball_has_the_same_files(self):
         self.assertRegex(self.tarball.name, r"^plant-script-0\.1~.*-1-amd64\.tar\.gz$")
         prefix = self.tarball.name.removesuffix("-amd64.tar.gz") + "/"
         with tarfile.open(self.tarball) as tar:
-            self.assertEqual(sorted(entry.name.removeprefix(prefix) for entry in tar if entry.isfile()), [name for name in PACKED if name != "etc/plant_script"])
+            self.assertEqual(sorted(entry.name.removeprefix(prefix) for entry in tar if entry.isfile()), sorted(name for name in PACKED if name != "etc/plant_script"))
             self.assertEqual({(entry.uid, entry.gid) for entry in tar}, {(0, 0)})
 
     def test_build_txt_and_sums(self):
