@@ -129,7 +129,8 @@ class Completions(unittest.TestCase):
         self.assertEqual(self.shell("zsh", "-n", self.path("_plant_script")), "")
         text = self.path("_plant_script").read_text()
         for part in ("#compdef plant_script\n", "'run:Run it\\: the operator'\"'\"'s part'", "'--input[Read FILE]:FILE:_files'", "'--json[Write JSON\\: a line each]'",
-                     "'--level[Set the level]:N:'", "'(-h --help)'{-h,--help}'[Print help]'", "        history) _arguments '(-h --help)'{-h,--help}'[Print help]' :OPERATOR: ;;"):
+                     "'--level[Set the level]:N:'", "'(-h --help)'{-h,--help}'[Print help]'", "        history) _arguments '(-h --help)'{-h,--help}'[Print help]' :OPERATOR: ;;",
+                     "        help) _describe command commands ;;\n"):
             self.assertIn(part, text)
 
     def test_check_names_what_differs(self):
@@ -141,7 +142,10 @@ class Completions(unittest.TestCase):
         path.write_text(text)
 
     def test_a_program_without_help_is_refused(self):
-        for program in ("/nowhere/program", "/usr/bin/true", "/usr/bin/false"):
+        failing = self.folder / "failing"
+        failing.write_text(PROGRAM.replace("esac\n", "esac\nexit 1\n"))
+        failing.chmod(0o755)
+        for program in ("/nowhere/program", "/usr/bin/true", failing):
             with self.assertRaises(TOOL.NoHelp):
                 TOOL.read_program(program)
         with self.assertRaises(TOOL.NoHelp):

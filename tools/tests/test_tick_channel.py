@@ -79,7 +79,10 @@ class Ticks(unittest.TestCase):
         os.set_blocking(self.pipe, False)
         self.assertLess(len(before) / 2 + len(self.rest()) / 2, 1_200)
         process.kill()
-        self.assertIn("no line for 1", process.stderr.read())
+        said = process.stderr.read().splitlines()
+        self.assertRegex(said[0], r"^tick_channel: no line for \d{4} milliseconds, or the clock was set back$")
+        # (a busy machine may stop it once more)
+        self.assertLess(len(said), 4)
 
     def test_refusals(self):
         for plant in ("", "frame_us = x", "frame_us = 2_000", "frame_us = 0x10", "frame_us = 0", "# frame_us = 1", "---\nframe_us = 1"):
