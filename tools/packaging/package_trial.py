@@ -206,10 +206,11 @@ def ticked(box):
     """Lets the ticker run, also through a restart of the channel."""
     box.run("systemctl enable --now plant-ticker@east")
     for _ in range(2):
-        before = answers(box, "east").count("MAP ")
+        before, started = answers(box, "east").count("MAP "), time.monotonic()
         time.sleep(2)
-        # (1,000 frames of 2 ms; a busy machine may be late by a fifth)
-        want(800 < answers(box, "east").count("MAP ") - before < 1_200, "not a MAP every 2 ms")
+        frames = (time.monotonic() - started) / 0.002
+        # (a busy machine answers late)
+        want(frames / 2 < answers(box, "east").count("MAP ") - before < frames * 2, "not a MAP every 2 ms")
         box.run("systemctl restart plant@east")
         box.wait_until("systemctl is-active plant-ticker@east", lambda output: output == "active\n", "the ticker does not follow the channel")
     box.run("kill -KILL $(systemctl show -P MainPID plant@east)")
