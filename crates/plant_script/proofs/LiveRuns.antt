@@ -28,8 +28,8 @@ ends_by live core None (ends.Refused number) is at = absurd at
 ends_by live core (Some line) (ends.Refused number) is at =
     let refused : IsSome (step_fault core line.step) = subst (λ (f : Option CoreFault). IsSome f) (sym (same_step_fault live core line.step is)) at.1 in
     inl ((refl, refused), ap (λ (n : ℕ). line_of (ends.Refused n)) at.0)
-ends_by live core None ends.NoMemory is at = inr (refl, refl)
-ends_by live core (Some line) ends.NoMemory is at = inr (refl, refl)
+ends_by live core None ends.NoMemory is at = absurd at
+ends_by live core (Some line) ends.NoMemory is at = inr (same_step_fault live core line.step is ∙ at, refl, refl)
 
 -- steps that are done from an opened core on are a run's
 pub run_ends : (plant : PlantFields) (lines : List LineStep) (live : CoreView) (end : StepsEnd) (status : ℕ) (w0 w1 w2 : Option (List ℕ)) → HasDone plant (first_start plant) [] [] lines live end w0 w1
@@ -64,10 +64,10 @@ run_told plant lines status w0 w1 ran = by ran.1.ends
     by : (ends : EndsBy run.core (slice_get lines run.at) status run.last) → IsTold plant Outs lines status (λ text. Appends w0 w1 text)
     by (inl well) = inl (ran.0, no_five run.core (slice_get lines run.at) status well.0, run, ran.2)
     by (inr want) =
-        let text_is : ran.0 ≡ outs_text plant run.outs ++ memory_line = run.text_is ∙ ap (λ (l : List ℕ). outs_text plant run.outs ++ l) want.1 in
+        let text_is : ran.0 ≡ outs_text plant run.outs ++ memory_line = run.text_is ∙ ap (λ (l : List ℕ). outs_text plant run.outs ++ l) want.2 in
         inr (
           outs_text plant run.outs,
-          want.0,
+          want.1,
           subst (λ (t : List ℕ). Appends w0 w1 t) text_is ran.2,
-          inr (subst (λ (t : List ℕ). IsRunOf plant lines (λ done told. outs_text plant told) 5 t) text_is (subst (λ (n : ℕ). IsRunOf plant lines (λ done told. outs_text plant told) n ran.0) want.0 run)),
+          inr (subst (λ (t : List ℕ). IsRunOf plant lines (λ done told. outs_text plant told) 5 t) text_is (subst (λ (n : ℕ). IsRunOf plant lines (λ done told. outs_text plant told) n ran.0) want.1 run)),
         )

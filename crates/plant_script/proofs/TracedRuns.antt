@@ -10,11 +10,11 @@ use Rattle.line_service.specs.declared.steps_end.StepsEnd.{StepsEnd}
 use Rattle.line_service.specs.declared.steps_end.StepsEnd.TheVariants as ends
 use Rattle.line_service.specs.Steps.{IsStepsEndAt}
 use Rattle.trace_report.specs.declared.decision.Decision.{Decision}
-use Rattle.trace_report.specs.Trace.{IsTraceEndAt, HasTraced}
+use Rattle.trace_report.specs.Trace.{HasNoWords, IsTraceEndAt, HasTraced}
 use Rattle.plant_script.specs.declared.task.Told.TheVariants.{Trace}
 use Rattle.plant_script.specs.Run.{memory_line, EndsBy}
 use Rattle.plant_script.specs.Ends.{status_of, line_of}
-use Rattle.plant_script.specs.Traced.{IsTracedRunOf, EndsTraced}
+use Rattle.plant_script.specs.Traced.{EndsTraceBy, IsTracedRunOf, EndsTraced}
 use Rattle.plant_script.specs.Task.{IsTold}
 use Rattle.plant_script.proofs.LiveRuns.{no_five}
 
@@ -24,13 +24,15 @@ ends_by core None ends.Done at = inl (refl, refl)
 ends_by core (Some line) ends.Done at = absurd at
 ends_by core None (ends.Refused number) at = absurd at
 ends_by core (Some line) (ends.Refused number) at = inl ((refl, at.1), ap (λ (n : ℕ). line_of (ends.Refused n)) at.0)
-ends_by core None ends.NoMemory at = inr (refl, refl)
-ends_by core (Some line) ends.NoMemory at = inr (refl, refl)
+ends_by core None ends.NoMemory at = absurd at
+ends_by core (Some line) ends.NoMemory at = inr (at, refl, refl)
 
 -- so does the trace, or it is out of memory for the words of the last step
-trace_ends_by : (core : CoreView) (next : Option LineStep) (decisions : List (Option Decision)) (text : List ℕ) (end : StepsEnd) → IsTraceEndAt core next decisions text end → EndsBy core next (status_of end) (line_of end)
-trace_ends_by core next decisions text end (inl at) = ends_by core next end at
-trace_ends_by core next decisions text end (inr words) = inr (ap status_of words.end_is, ap line_of words.end_is)
+trace_ends_by : (core : CoreView) (next : Option LineStep) (decisions : List (Option Decision)) (text : List ℕ) (end : StepsEnd) → IsTraceEndAt core next decisions text end
+    → EndsTraceBy core next decisions text (status_of end) (line_of end)
+trace_ends_by core next decisions text end (inl at) = inl (ends_by core next end at)
+trace_ends_by core next decisions text end (inr words) =
+    inr (subst (λ (e : StepsEnd). HasNoWords decisions text e) words.end_is words, ap status_of words.end_is, ap line_of words.end_is)
 
 -- what was told of the steps, and the last line behind it
 pub trace_ends : (plant : PlantFields) (lines : List LineStep) (core : CoreView) (end : StepsEnd) (status : ℕ) (w0 w1 w2 : Option (List ℕ)) → HasTraced plant lines core end w0 w1
@@ -47,7 +49,8 @@ trace_ends plant lines core end status w0 w1 w2 has is wrote = (
     told = has.text;
     is_text = has.is_text;
     last = line_of end;
-    ends = subst (λ (n : ℕ). EndsBy core (slice_get lines has.at) n (line_of end)) (sym is) (trace_ends_by core (slice_get lines has.at) has.decisions has.text end has.ends);
+    ends = subst (λ (n : ℕ). EndsTraceBy core (slice_get lines has.at) has.decisions has.text n (line_of end)) (sym is)
+        (trace_ends_by core (slice_get lines has.at) has.decisions has.text end has.ends);
     text_is = refl;
   },
   Appends-trans w0 w1 w2 has.text (line_of end) has.written wrote,
@@ -61,13 +64,18 @@ trace_told plant lines status w0 w1 ran = by ran.1.ends
     run : IsTracedRunOf plant lines status ran.0
     run = ran.1
 
-    by : (ends : EndsBy run.core (slice_get lines run.at) status run.last) → IsTold plant Trace lines status (λ text. Appends w0 w1 text)
-    by (inl well) = inl (ran.0, no_five run.core (slice_get lines run.at) status well.0, run, ran.2)
-    by (inr want) =
-        let text_is : ran.0 ≡ run.told ++ memory_line = run.text_is ∙ ap (λ (l : List ℕ). run.told ++ l) want.1 in
+    -- memory ran out for the next step, or for the words of the last one
+    out : status ≡ 5 → run.last ≡ memory_line → IsTold plant Trace lines status (λ text. Appends w0 w1 text)
+    out five last_is =
+        let text_is : ran.0 ≡ run.told ++ memory_line = run.text_is ∙ ap (λ (l : List ℕ). run.told ++ l) last_is in
         inr (
           run.told,
-          want.0,
+          five,
           subst (λ (t : List ℕ). Appends w0 w1 t) text_is ran.2,
-          inr (subst (λ (t : List ℕ). IsTracedRunOf plant lines 5 t) text_is (subst (λ (n : ℕ). IsTracedRunOf plant lines n ran.0) want.0 run)),
+          inr (subst (λ (t : List ℕ). IsTracedRunOf plant lines 5 t) text_is (subst (λ (n : ℕ). IsTracedRunOf plant lines n ran.0) five run)),
         )
+
+    by : (ends : EndsTraceBy run.core (slice_get lines run.at) run.decisions run.told status run.last) → IsTold plant Trace lines status (λ text. Appends w0 w1 text)
+    by (inl (inl well)) = inl (ran.0, no_five run.core (slice_get lines run.at) status well.0, run, ran.2)
+    by (inl (inr want)) = out want.1 want.2
+    by (inr words) = out words.1 words.2

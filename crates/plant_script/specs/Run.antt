@@ -24,10 +24,17 @@ last_line (Some line) = codes "fault: line " ++ (decimal line.number ++ 10 ∷ [
 abbrev pub memory_line : List ℕ
 memory_line = codes "fault: memory" ++ 10 ∷ []
 
--- The status of a run and its last line: the run ends, and the line of the refused step is written, if there is one; or memory was
--- wanting, which may be at any time and has status 5.
+-- An allocation for the next step failed: there is a next step, and the core does not refuse it. So no refusal is reported as out of
+-- memory, nor is the end of the run.
+abbrev pub IsOutOfMemory : CoreView → Option LineStep → Type 0
+IsOutOfMemory core None = ⊥
+IsOutOfMemory core (Some line) = step_fault core line.step ≡ None
+
+-- The status of a run and its last line: the run ends, and the line of the refused step is written, if there is one; or the next
+-- step is out of memory, with status 5.
 abbrev pub EndsBy : CoreView → Option LineStep → ℕ → List ℕ → Type 0
-EndsBy core next status last = (IsEnd core next status × (last ≡ last_line next)) ⊎ ((status ≡ 5) × (last ≡ memory_line))
+EndsBy core next status last =
+    (IsEnd core next status × (last ≡ last_line next)) ⊎ (IsOutOfMemory core next × (status ≡ 5) × (last ≡ memory_line))
 
 -- so many steps are done, one after the other, on a core of the plant as it is opened: the run shows to each operator its own
 -- machine run alone, with all outputs in order (`IsStateAfter`). What is said of them is written, and after it the last line.

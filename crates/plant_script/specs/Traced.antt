@@ -1,16 +1,24 @@
 -- A run that is reported in words, and what `trace` writes of it (implementation-specific).
-use Rattle.std.specs.Prelude.{◌≡◌, ℕ, List, [], ◌++◌, take, slice_get, Option}
+use Rattle.std.specs.Prelude.{◌≡◌, ◌⊎◌, ℕ, List, [], ◌++◌, take, slice_get, Option}
 use Rattle.plant.specs.declared.plant.PlantFields.{PlantFields}
 use Rattle.run_model.specs.declared.step.Out.{Out}
 use Rattle.run_model.specs.IsStateAfter.{CoreView, IsStateAfter}
 use Rattle.script_format.specs.declared.script.LineStep.{LineStep}
 use Rattle.script_format.specs.Script.{unnumbered}
 use Rattle.trace_report.specs.declared.decision.Decision.{Decision}
-use Rattle.trace_report.specs.Trace.{AreDecided, IsTraceText}
-use Rattle.plant_script.specs.Run.{EndsBy}
+use Rattle.line_service.specs.declared.steps_end.StepsEnd.TheVariants.{NoMemory}
+use Rattle.trace_report.specs.Trace.{AreDecided, IsTraceText, HasNoWords}
+use Rattle.plant_script.specs.Run.{memory_line, EndsBy}
+
+-- The status of a trace and its last line: those of its run; or an allocation failed for the words of the last step that is done,
+-- and the line that says so is before the last one.
+abbrev pub EndsTraceBy : CoreView → Option LineStep → List (Option Decision) → List ℕ → ℕ → List ℕ → Type 0
+EndsTraceBy core next decisions told status last =
+    EndsBy core next status last ⊎ (HasNoWords decisions told NoMemory × (status ≡ 5) × (last ≡ memory_line))
 
 -- So many steps are done, as in `IsRunOf`. For each there is what decided it, by the definitions of the checks and by the core as it was
--- before the step, and a line for it is written, one after the other, among words of which nothing is said. After them is the last line.
+-- before the step, and a line for it is written, one after the other. Before, between and after them are remarks: whole lines, of
+-- which none begins as the line of a check. After them is the last line.
 pub record IsTracedRunOf (plant : PlantFields) (lines : List LineStep) (status : ℕ) (text : List ℕ) : Type 0 where
   pub at : ℕ
   pub outs : List Out
@@ -21,7 +29,7 @@ pub record IsTracedRunOf (plant : PlantFields) (lines : List LineStep) (status :
   pub told : List ℕ
   pub is_text : IsTraceText decisions told
   pub last : List ℕ
-  pub ends : EndsBy core (slice_get lines at) status last
+  pub ends : EndsTraceBy core (slice_get lines at) decisions told status last
   pub text_is : text ≡ told ++ last
 
 -- what `trace` results in is written
