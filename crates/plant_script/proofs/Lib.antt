@@ -1,10 +1,12 @@
 pub mod CaptureRuns
 pub mod HalfDone
 pub mod LiveRuns
+pub mod RefusedSteps
 pub mod RunSoFar
 pub mod Services
 pub mod StepRuns
 pub mod Tasks
 pub mod Telling
+pub mod ThreadedRuns
 pub mod TracedRuns
 pub mod Unreadable

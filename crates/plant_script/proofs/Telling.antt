@@ -1,5 +1,5 @@
--- The lines of books and MAPs, one after the other, and what they tell of a run on threads.
-use Rattle.std.proofs.Common.{◌≡◌, inl, inr, ℕ, ◌+◌, ◌<◌, List, [], ◌∷◌, ◌++◌, length, map, drop, get_or, sym, ap, subst, ◌∙◌, append_assoc}
+-- The lines of books and MAPs, one after the other.
+use Rattle.std.proofs.Common.{◌≡◌, ℕ, ◌+◌, ◌<◌, List, [], ◌∷◌, ◌++◌, length, map, drop, get_or, sym, ap, subst, ◌∙◌, append_assoc}
 use Rattle.std.specs.Prelude.{slice_get}
 use Rattle.std.specs.List.{flat_map}
 use Rattle.std.proofs.lemmas.Grind.{flat_map-append}
@@ -11,18 +11,10 @@ use Rattle.operator_model.specs.declared.output.Output.{Output}
 use Rattle.operator_model.specs.Replay.{BookView}
 use Rattle.map_assembly.specs.declared.map_bytes.MapBytes.{MapBytes}
 use Rattle.run_model.specs.OwnSteps.{under}
-use Rattle.run_model.specs.declared.step.Step.{Step}
 use Rattle.run_model.specs.declared.step.Out.TheVariants as outs
 use Rattle.run_receipts.specs.OwnParts.{outputs_of}
-use Rattle.run_receipts.specs.declared.receipt.Receipt.{Receipt}
-use Rattle.run_receipts.specs.declared.run_fault.RunFault.{RunFault}
-use Rattle.run_audit.specs.Outcome.{IsOutcome}
 use Rattle.run_audit.specs.Outs.{outs_from, outs_of}
-use Rattle.script_format.specs.declared.script.LineStep.{LineStep}
-use Rattle.script_format.specs.Script.{unnumbered}
 use Rattle.script_format.specs.Text.{named, map_line, out_line, output_line, outs_text}
-use Rattle.plant_script.specs.declared.answer.Answer.{Answer}
-use Rattle.plant_script.specs.OnThreads.{TellsFault, IsThreadedRunOf}
 
 -- what is left of a list, seen by f, begins with what is read
 pub map_left : {X Y : Type 0} (f : X → Y) (xs : List X) (i : ℕ) (x : X) → i < length xs → x ≡ get_or xs i x
@@ -85,29 +77,3 @@ all_told plant books these maps those start first second empty begun grown same_
     ∙ (ap (λ (bs : List BookView). outs_text plant (outs_from 0 bs) ++ flat_map map_line those) same_books
     ∙ (ap (λ (ms : List MapBytes). outs_text plant (outs_from 0 books) ++ flat_map map_line ms) same_maps
     ∙ outs_told plant books maps)))
-
--- ---- the run
-
--- what is told of a run that is settled, by a plant that is the same
-pub settled_run : (plant shown : PlantFields) (lines : List LineStep) (steps : List Step) (books : List BookView) (receipts : List (List (List Receipt)))
-    (maps : List MapBytes) (answer : Answer) → shown ≡ plant → steps ≡ unnumbered lines → IsOutcome plant steps books receipts maps
-    → (answer.status ≡ 0) × (answer.text.items ≡ outs_text shown (outs_of books maps)) → IsThreadedRunOf plant lines answer.status answer.text.items
-settled_run plant shown lines steps books receipts maps answer same are outcome told = inl (
-  told.0,
-  record {
-    books = books;
-    receipts = receipts;
-    maps = maps;
-    outcome = subst (λ (s : List Step). IsOutcome plant s books receipts maps) are outcome;
-    text_is = told.1 ∙ ap (λ (p : PlantFields). outs_text p (outs_of books maps)) same;
-  },
-)
-
-pub fault_run : (plant shown : PlantFields) (lines these : List LineStep) (fault : RunFault) (answer : Answer) → shown ≡ plant → these ≡ lines
-    → TellsFault shown these fault answer.status answer.text.items → IsThreadedRunOf plant lines answer.status answer.text.items
-fault_run plant shown lines these fault answer same are told =
-    inr (
-      fault,
-      subst (λ (l : List LineStep). TellsFault plant l fault answer.status answer.text.items) are
-          (subst (λ (p : PlantFields). TellsFault p these fault answer.status answer.text.items) same told),
-    )

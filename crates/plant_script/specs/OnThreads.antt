@@ -4,14 +4,16 @@ use Rattle.std.specs.Fmt.{decimal}
 use Rattle.plant.specs.declared.plant.PlantFields.{PlantFields}
 use Rattle.operator_model.specs.Replay.{BookView}
 use Rattle.map_assembly.specs.declared.map_bytes.MapBytes.{MapBytes}
-use Rattle.run_model.specs.declared.step.Step.{Step}
-use Rattle.run_model.specs.declared.step.Step.TheVariants as steps
+use Rattle.plant_core.specs.declared.core_fault.CoreFault.{CoreFault}
+use Rattle.plant_core.specs.declared.core_fault.ResliceFault.{ResliceFault}
 use Rattle.run_receipts.specs.declared.receipt.Receipt.{Receipt}
 use Rattle.run_receipts.specs.declared.run_fault.RunFault.{RunFault}
 use Rattle.run_receipts.specs.declared.run_fault.RunFault.TheVariants as faults
 use Rattle.run_audit.specs.Outcome.{IsOutcome}
 use Rattle.run_audit.specs.Outs.{outs_of}
-use Rattle.run_plan.specs.Spending.{NoneSpentBefore, IsFirstSpent}
+use Rattle.run_plan.specs.Serving.{IsServable, IsFirstUnserved}
+use Rattle.run_plan.specs.Spending.{NoneSpentBefore, IsFirstSpent, before_reslice}
+use Rattle.plant_workers.specs.Faulting.{IsResliceFault, IsFault}
 use Rattle.script_format.specs.declared.script.LineStep.{LineStep}
 use Rattle.script_format.specs.Script.{unnumbered}
 use Rattle.script_format.specs.Text.{named, outs_text}
@@ -21,7 +23,8 @@ use Rattle.script_format.specs.Text.{named, outs_text}
 -- The run is what just these steps make of the plant (`IsOutcome`, which has `IsTraceOf`), and the text is the lines of what
 -- its books output, operator by operator, and then the lines of its MAPs. So each operator's lines are those of its own
 -- machine run alone, as in `run`.
-pub record HasSettled (plant : PlantFields) (lines : List LineStep) (text : List ℕ) : Type 0 where
+pub record HasSettled (plant : PlantFields) (lines : List LineStep) (status : ℕ) (text : List ℕ) : Type 0 where
+  pub status_is : status ≡ 0
   pub books : List BookView
   pub receipts : List (List (List Receipt))
   pub maps : List MapBytes
@@ -30,35 +33,19 @@ pub record HasSettled (plant : PlantFields) (lines : List LineStep) (text : List
 
 -- ---- the line of a step that is refused
 
--- the place of the first Tick that finds its operator's frame numbers spent, if there is one
-abbrev pub IsSpentPlace : PlantFields → List Step → Option ℕ → Type 0
-IsSpentPlace plant all None = NoneSpentBefore plant all (length all)
-IsSpentPlace plant all (Some place) = IsFirstSpent plant all place
+-- that the line of this number is refused
+abbrev pub ReportsLine : ℕ → ℕ → List ℕ → Type 0
+ReportsLine number status text = (status ≡ 4) × (text ≡ codes "fault: line " ++ (decimal number ++ 10 ∷ []))
 
-abbrev pub number_in : Option LineStep → Option ℕ
-number_in None = None
-number_in (Some line) = Some line.number
+-- that the line at this place of the script's steps is refused
+pub record ReportsPlace (lines : List LineStep) (place : ℕ) (status : ℕ) (text : List ℕ) : Type 0 where
+  pub line : LineStep
+  pub line_is : slice_get lines place ≡ Some line
+  pub reports : ReportsLine line.number status text
 
--- the number of the line at a place
-abbrev pub number_at : List LineStep → Option ℕ → Option ℕ
-number_at lines None = None
-number_at lines (Some place) = number_in (slice_get lines place)
+-- ---- the line of a run that strayed
 
--- the number of a line that gives new slices
-abbrev pub resliced_by : ℕ → Step → Option ℕ
-resliced_by number (steps.Arrive modem heard) = None
-resliced_by number (steps.Work op) = None
-resliced_by number (steps.Tick op) = None
-resliced_by number (steps.Collect op) = None
-resliced_by number (steps.Reslice from rows) = Some number
-
-abbrev pub resliced_in : Option LineStep → Option ℕ
-resliced_in None = None
-resliced_in (Some line) = resliced_by line.number line.step
-
--- ---- the line of a fault
-
--- a run that strayed, by an operator and a place
+-- by an operator and a place
 abbrev pub stray_line : List ℕ → List ℕ → List ℕ
 stray_line who place = codes "fault: strayed " ++ (who ++ (codes " " ++ (place ++ 10 ∷ [])))
 
@@ -67,33 +54,52 @@ abbrev pub place_text : Option ℕ → List ℕ
 place_text None = codes "-"
 place_text (Some place) = decimal place
 
--- that a line is invalid; or, where a fault is reported that no line of the script has, that the run strayed
-abbrev pub TellsLine : Option ℕ → ℕ → List ℕ → Type 0
-TellsLine (Some number) status text = (status ≡ 4) × (text ≡ codes "fault: line " ++ (decimal number ++ 10 ∷ []))
-TellsLine None status text = (status ≡ 7) × (text ≡ stray_line (codes "-") (codes "-"))
+-- that what the threads did is not what the steps say
+abbrev pub ReportsStray : List ℕ → List ℕ → ℕ → List ℕ → Type 0
+ReportsStray who place status text = (status ≡ 7) × (text ≡ stray_line who place)
 
--- the line of the first Tick that finds its operator's frame numbers spent
-abbrev pub TellsSpent : PlantFields → List LineStep → ℕ → List ℕ → Type 0
-TellsSpent plant lines status text =
-    (spent : Option ℕ) × IsSpentPlace plant (unnumbered lines) spent × TellsLine (number_at lines spent) status text
+-- ---- the line of a fault
+
+-- the Tick at this place, the first that finds its operator's frame numbers spent, is refused
+pub record ReportsSpent (plant : PlantFields) (lines : List LineStep) (place : ℕ) (status : ℕ) (text : List ℕ) : Type 0 where
+  pub first : IsFirstSpent plant (unnumbered lines) place
+  pub reports : ReportsPlace lines place status text
+
+-- the core refused a step: the first Tick that finds its operator's frame numbers spent; where there is none, the run strayed, of
+-- which neither an operator nor a place is known
+abbrev pub ReportsCore : PlantFields → List LineStep → ℕ → List ℕ → Type 0
+ReportsCore plant lines status text =
+    ((place : ℕ) × ReportsSpent plant lines place status text)
+    ⊎ (NoneSpentBefore plant (unnumbered lines) (length lines) × ReportsStray (codes "-") (codes "-") status text)
+
+-- the new slices of the line at this place are refused, for the core's own fault of them after the steps before
+pub record ReportsReslice (plant : PlantFields) (lines : List LineStep) (at : ℕ) (fault : ResliceFault) (status : ℕ) (text : List ℕ) : Type 0 where
+  pub refused : IsResliceFault plant (unnumbered lines) at fault
+  pub reports : ReportsPlace lines at status text
 
 -- A fault is reported by one line: 7 where what the threads did is not what the steps say, with the operator and the place in
 -- its history, or `-` and the frame of a MAP; 4 where a step is refused, a tick too many or new slices.
-abbrev pub TellsFault : PlantFields → List LineStep → RunFault → ℕ → List ℕ → Type 0
-TellsFault plant lines (faults.Strayed op index) status text =
-    (status ≡ 7) × (text ≡ stray_line (named (slice_get plant.rows op)) (place_text (Some index)))
-TellsFault plant lines (faults.Short op) status text =
-    (status ≡ 7) × (text ≡ stray_line (named (slice_get plant.rows op)) (place_text None))
-TellsFault plant lines (faults.MapStrayed frame) status text =
-    (status ≡ 7) × (text ≡ stray_line (codes "-") (decimal frame))
-TellsFault plant lines (faults.Core fault) status text = TellsSpent plant lines status text
-TellsFault plant lines (faults.ResliceRefused at fault) status text =
-    TellsLine (resliced_in (slice_get lines at)) status text
-TellsFault plant lines faults.NoMemory status text = ⊥
+abbrev pub ReportsFault : PlantFields → List LineStep → RunFault → ℕ → List ℕ → Type 0
+ReportsFault plant lines (faults.Strayed op index) status text =
+    ReportsStray (named (slice_get plant.rows op)) (place_text (Some index)) status text
+ReportsFault plant lines (faults.Short op) status text = ReportsStray (named (slice_get plant.rows op)) (place_text None) status text
+ReportsFault plant lines (faults.MapStrayed frame) status text = ReportsStray (codes "-") (decimal frame) status text
+ReportsFault plant lines (faults.Core fault) status text = ReportsCore plant lines status text
+ReportsFault plant lines (faults.ResliceRefused at fault) status text = ReportsReslice plant lines at fault status text
+ReportsFault plant lines faults.NoMemory status text = ⊥
+
+-- the run has a fault, which comes of just these steps (`IsFault`), and it is reported
+pub record HasFault (plant : PlantFields) (lines : List LineStep) (status : ℕ) (text : List ℕ) : Type 0 where
+  pub fault : RunFault
+  pub comes : IsFault plant (unnumbered lines) fault
+  pub reports : ReportsFault plant lines fault status text
 
 -- ---- both
 
--- the run is settled, and reported with status 0; or it is invalid, and nothing else is reported
-abbrev pub IsThreadedRunOf : PlantFields → List LineStep → ℕ → List ℕ → Type 0
-IsThreadedRunOf plant lines status text =
-    ((status ≡ 0) × HasSettled plant lines text) ⊎ ((fault : RunFault) × TellsFault plant lines fault status text)
+-- The run is settled, and reported with status 0; or it has a fault, and nothing else is reported. Steps that do not find what they
+-- ask for, and a Tick before any new slices that finds its operator's frame numbers spent, are refused before a thread starts.
+pub record IsThreadedRunOf (plant : PlantFields) (lines : List LineStep) (status : ℕ) (text : List ℕ) : Type 0 where
+  pub comes : HasSettled plant lines status text ⊎ HasFault plant lines status text
+  pub unserved : (fault : CoreFault) → IsFirstUnserved plant (unnumbered lines) fault → ReportsCore plant lines status text
+  pub spent : (place : ℕ) → IsServable plant (unnumbered lines) → IsFirstSpent plant (before_reslice (unnumbered lines)) place
+      → ReportsSpent plant lines place status text

@@ -1,6 +1,6 @@
 //! A script's run on threads.
 
-ghost use Rattle.std.specs.Prelude.{◌≡◌, ◌++◌, map, slice_get, IfOk, OnOk};
+ghost use Rattle.std.specs.Prelude.{◌≡◌, ◌<◌, ◌++◌, length, map, slice_get, IfOk, OnOk};
 ghost use Rattle.std.specs.List.{flat_map};
 ghost use Rattle.std.specs.String.{string_bytes};
 ghost use Rattle.operator_book.specs.ViewOf.{view_of, policy_of};
@@ -8,7 +8,8 @@ ghost use Rattle.run_audit.specs.Outs.{outs_from, outs_of};
 ghost use Rattle.run_receipts.specs.OwnParts.{outputs_of};
 ghost use Rattle.script_format.specs.Script.{unnumbered};
 ghost use Rattle.script_format.specs.Text.{named, map_line, output_line, outs_text};
-ghost use Rattle.plant_script.specs.OnThreads.{IsThreadedRunOf, TellsFault, TellsLine, TellsSpent, number_at, place_text, resliced_in, stray_line};
+ghost use Rattle.plant_workers.specs.Faulting.{IsFault};
+ghost use Rattle.plant_script.specs.OnThreads.{IsThreadedRunOf, ReportsCore, ReportsFault, ReportsPlace, ReportsStray, place_text};
 
 use crate::answer::Answer;
 use crate::check::answer_to_line;
@@ -109,48 +110,27 @@ fn answer_of_settled(alloc: Global, plant: &Plant, settled: &Settled) -> Result<
     Ok(Answer { status: 0, text })
 }
 
-/// Returns the number of the line at a place.
-fn number_at(lines: &[LineStep], place: Option<usize>) -> Option<u64>
-    ensures { result ≡ number_at lines.now place }
+/// Returns what is answered where the line at a place of the script's steps is refused.
+fn answer_to_place(alloc: Global, lines: &[LineStep], place: usize) -> Result<Answer, AllocError>
+    requires { place < length lines.now }
+    ensures { IfOk result (λ answer. ReportsPlace lines.now place answer.status answer.text.items) }
 {
-    let line = lines.get(place?)?;
-    Some(line.number)
+    answer_to_line(alloc, lines[place].number)
 }
 
-/// Returns the number of the line at a place, where that line gives new slices.
-fn resliced_at(lines: &[LineStep], at: usize) -> Option<u64>
-    ensures { result ≡ resliced_in (slice_get lines.now at) }
+/// Returns what is answered where the core refused a step: the line of the first Tick that finds
+/// its operator's frame numbers spent; where there is none, that the run strayed.
+fn answer_to_core(alloc: Global, plant: &Plant, lines: &[LineStep]) -> Result<Answer, AllocError>
+    ensures { IfOk result (λ answer. ReportsCore plant.now lines.now answer.status answer.text.items) }
 {
-    let line = lines.get(at)?;
-    match &line.step {
-        Step::Reslice { from: _, rows: _ } => Some(line.number),
-        _ => None,
-    }
-}
-
-/// Returns what is answered to a fault that a line of the script has, or none.
-fn answer_at(alloc: Global, number: Option<u64>) -> Result<Answer, AllocError>
-    ensures { IfOk result (λ answer. TellsLine number answer.status answer.text.items) }
-{
-    match number {
-        Some(number) => answer_to_line(alloc, number),
+    let steps = steps_in(alloc, lines)?;
+    match first_spent(plant, steps.as_slice()) {
+        Some(place) => answer_to_place(alloc, lines, place),
         None => Ok(Answer {
             status: 7,
             text: Vec::from_slice(alloc, b"fault: strayed - -\n")?,
         }),
     }
-}
-
-/// Returns what is answered where an operator has no frame number left: the line of the first Tick
-/// that finds it so.
-fn answer_to_spent(alloc: Global, plant: &Plant, lines: &[LineStep]) -> Result<Answer, AllocError>
-    ensures { IfOk result (λ answer. TellsSpent plant.now lines.now answer.status answer.text.items) }
-{
-    let steps = steps_in(alloc, lines)?;
-    answer_at(
-        alloc,
-        number_at(lines, first_spent(plant, steps.as_slice())),
-    )
 }
 
 /// Returns what is answered where an operator's history strays, at this place or at none.
@@ -160,8 +140,8 @@ fn answer_to_stray(
     op: Op,
     index: Option<usize>,
 ) -> Result<Answer, AllocError>
-    ensures { IfOk result (λ answer. (answer.status ≡ 7) × (answer.text.items
-        ≡ stray_line (named (slice_get plant.now.rows op)) (place_text index))) }
+    ensures { IfOk result (λ answer.
+        ReportsStray (named (slice_get plant.now.rows op)) (place_text index) answer.status answer.text.items) }
 {
     let mut text = String::from_str(alloc, "fault: strayed ")?;
     put_name(&mut text, plant, op)?;
@@ -173,14 +153,15 @@ fn answer_to_stray(
     Ok(Answer { status: 7, text })
 }
 
-/// Returns what is answered to a fault of the run.
+/// Returns what is answered to a fault that comes of the run's steps.
 fn answer_of_fault(
     alloc: Global,
     plant: &Plant,
     lines: &[LineStep],
     fault: RunFault,
 ) -> Result<Answer, AllocError>
-    ensures { IfOk result (λ answer. TellsFault plant.now lines.now fault answer.status answer.text.items) }
+    requires { IsFault plant.now (unnumbered lines.now) fault }
+    ensures { IfOk result (λ answer. ReportsFault plant.now lines.now fault answer.status answer.text.items) }
 {
     match fault {
         RunFault::Strayed { op, index } => answer_to_stray(alloc, plant, op, Some(index)),
@@ -191,8 +172,8 @@ fn answer_of_fault(
             Ok(Answer { status: 7, text })
         }
         RunFault::NoMemory | RunFault::Core(CoreFault::NoMemory) => Err(AllocError),
-        RunFault::Core(_) => answer_to_spent(alloc, plant, lines),
-        RunFault::ResliceRefused { at, fault: _ } => answer_at(alloc, resliced_at(lines, at)),
+        RunFault::Core(_) => answer_to_core(alloc, plant, lines),
+        RunFault::ResliceRefused { at, fault: _ } => answer_to_place(alloc, lines, at),
     }
 }
 

@@ -1,0 +1,107 @@
+-- Where a step of a run on threads is refused.
+use Rattle.std.proofs.Common.{◌≡◌, ◌⊎◌, inl, inr, ℕ, zero, suc, ◌<◌, ◌≤◌, List, [], ◌∷◌, ◌++◌, length, take, drop, get_or, map, Option, Some, None, refl, sym, ap, subst, ◌∙◌, arith}
+use Rattle.std.specs.Prelude.{slice_get, not}
+use Rattle.std.specs.List.{prefix_len}
+use Rattle.std.proofs.lemmas.Bool.{cases_order}
+use Rattle.std.proofs.lemmas.List.{length-map, take-append-le, take-append-drop}
+use Rattle.std.proofs.lemmas.Option.{slice_get-get_or, slice_get_within}
+use Rattle.plant.specs.declared.plant.PlantFields.{PlantFields}
+use Rattle.run_model.specs.declared.step.Step.{Step}
+use Rattle.run_model.specs.declared.step.Step.TheVariants as steps
+use Rattle.plant_core.specs.declared.core_fault.ResliceFault.{ResliceFault}
+use Rattle.run_receipts.specs.declared.run_fault.RunFault.TheVariants as faults
+use Rattle.run_audit.specs.Outcome.{ticks_of}
+use Rattle.run_plan.specs.Spending.{IsSpentAt, NoneSpentBefore, IsFirstSpent, is_reslice, before_reslice}
+use Rattle.plant_workers.specs.Faulting.{IsResliceFault, IsFault}
+use Rattle.script_format.specs.declared.script.LineStep.{LineStep}
+use Rattle.script_format.specs.Script.{unnumbered}
+use Rattle.plant_script.specs.OnThreads.{ReportsLine, ReportsPlace, ReportsSpent, ReportsCore}
+
+-- ---- the line at a place
+
+-- each step is of a line
+pub step_within : (lines : List LineStep) (place : ℕ) (step : Step) → slice_get (unnumbered lines) place ≡ Some step → place < length lines
+step_within lines place step is =
+    let within = slice_get_within (unnumbered lines) place step is in
+    omega (arith, within, length-map lines (λ (l : LineStep). l.step))
+
+-- what is read at the place is the line
+pub place_reported : (lines : List LineStep) (place : ℕ) (other : LineStep) (status : ℕ) (text : List ℕ) → place < length lines
+    → ReportsLine (get_or lines place other).number status text → ReportsPlace lines place status text
+place_reported lines place other status text lt reports = record { line = get_or lines place other; line_is = slice_get-get_or lines place other lt; reports = reports }
+
+-- the new slices that are refused are of a line
+pub resliced_within : (plant : PlantFields) (lines : List LineStep) (at : ℕ) (fault : ResliceFault) → IsResliceFault plant (unnumbered lines) at fault → at < length lines
+resliced_within plant lines at fault refused = step_within lines at (steps.Reslice refused.refused.from refused.refused.rows) refused.refused.step_is
+
+-- they are refused for a fault of these books
+pub reslice_of : (plant : PlantFields) (lines : List LineStep) (at : ℕ) (fault : ResliceFault) → IsFault plant (unnumbered lines) (faults.ResliceRefused at fault) → IsResliceFault plant (unnumbered lines) at fault
+reslice_of plant lines at fault (inl walk) = absurd walk
+reslice_of plant lines at fault (inr run) = run.1
+
+-- ---- the first Tick that finds its operator's frame numbers spent
+
+-- there is one
+pub one_first : (plant : PlantFields) (all : List Step) (p q : ℕ) → IsFirstSpent plant all p → IsFirstSpent plant all q → p ≡ q
+one_first plant all p q a b = by (cases_order p q)
+  where
+    by : (p ≡ q) ⊎ ((p < q) ⊎ (q < p)) → p ≡ q
+    by (inl same) = same
+    by (inr (inl lt)) = absurd (b.before p a.op lt a.known a.spent)
+    by (inr (inr lt)) = absurd (a.before q b.op lt b.known b.spent)
+
+get_front : {X : Type 0} (xs ys : List X) (i : ℕ) → i < length xs → slice_get (xs ++ ys) i ≡ slice_get xs i
+get_front [] ys i lt = absurd (omega (arith, lt))
+get_front (x ∷ xs) ys zero lt = refl
+get_front (x ∷ xs) ys (suc i) lt = get_front xs ys i (omega (arith, lt))
+
+module _ (first_frame : ℕ) (front back : List Step) where
+  ticks_front : (op i : ℕ) → i < length front → ticks_of op (take i (front ++ back)) ≡ ticks_of op (take i front)
+  ticks_front op i lt = ap (ticks_of op) (take-append-le i front back (omega (arith, lt)))
+
+  spent_whole : (op i : ℕ) → i < length front → IsSpentAt first_frame op front i → IsSpentAt first_frame op (front ++ back) i
+  spent_whole op i lt spent = record {
+    step_is = get_front front back i lt ∙ spent.step_is;
+    spent = let same = ticks_front op i lt in let most = spent.spent in omega (arith, same, most);
+  }
+
+  spent_front : (op i : ℕ) → i < length front → IsSpentAt first_frame op (front ++ back) i → IsSpentAt first_frame op front i
+  spent_front op i lt spent = record {
+    step_is = sym (get_front front back i lt) ∙ spent.step_is;
+    spent = let same = ticks_front op i lt in let most = spent.spent in omega (arith, same, most);
+  }
+
+-- the first of the steps in front is the first of all
+first_whole : (plant : PlantFields) (front back : List Step) (place : ℕ) → IsFirstSpent plant front place → IsFirstSpent plant (front ++ back) place
+first_whole plant front back place first =
+    let within = slice_get_within front place (steps.Tick first.op) first.spent.step_is in
+    record {
+      op = first.op;
+      known = first.known;
+      spent = spent_whole plant.consts.channel.first_frame front back first.op place within first.spent;
+      before = λ i op lt known spent. first.before i op lt known (spent_front plant.consts.channel.first_frame front back op i (omega (arith, lt, within)) spent);
+    }
+
+first_taken : (plant : PlantFields) (all : List Step) (k place : ℕ) → IsFirstSpent plant (take k all) place → IsFirstSpent plant all place
+first_taken plant all k place first = subst (λ (s : List Step). IsFirstSpent plant s place) (take-append-drop k all) (first_whole plant (take k all) (drop k all) place first)
+
+pub first_of_all : (plant : PlantFields) (all : List Step) (place : ℕ) → IsFirstSpent plant (before_reslice all) place → IsFirstSpent plant all place
+first_of_all plant all place first = first_taken plant all (prefix_len (λ step. not (is_reslice step)) all) place first
+
+-- ---- what is reported
+
+-- of these steps or of those that were handed in
+pub spent_reported : (plant : PlantFields) (lines : List LineStep) (all : List Step) (place : ℕ) (status : ℕ) (text : List ℕ) → all ≡ unnumbered lines → IsFirstSpent plant all place
+    → ReportsPlace lines place status text → ReportsCore plant lines status text
+spent_reported plant lines all place status text are first reports = inl (place, record { first = subst (λ (s : List Step). IsFirstSpent plant s place) are first; reports = reports })
+
+pub first_within : (plant : PlantFields) (lines : List LineStep) (all : List Step) (place : ℕ) → all ≡ unnumbered lines → IsFirstSpent plant all place → place < length lines
+first_within plant lines all place are first = step_within lines place (steps.Tick first.op) (ap (λ (s : List Step). slice_get s place) (sym are) ∙ first.spent.step_is)
+
+-- where there is one, it is the one that is reported
+pub core_spent : (plant : PlantFields) (lines : List LineStep) (place : ℕ) (status : ℕ) (text : List ℕ) → IsFirstSpent plant (unnumbered lines) place → ReportsCore plant lines status text
+    → ReportsSpent plant lines place status text
+core_spent plant lines place status text first (inl told) =
+    subst (λ (p : ℕ). ReportsSpent plant lines p status text) (one_first plant (unnumbered lines) told.0 place told.1.first first) told.1
+core_spent plant lines place status text first (inr none) =
+    absurd (none.0 place first.op (first_within plant lines (unnumbered lines) place refl first) first.known first.spent)
