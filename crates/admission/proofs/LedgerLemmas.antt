@@ -12,7 +12,7 @@ use Rattle.std.proofs.lemmas.List.Sums.{sum_by-cons, sum_by-le}
 use Rattle.std.proofs.lemmas.Map.Entries.{sum_by-insert_entry, sum_by-remove_entry, length-values_of}
 use Rattle.std.proofs.lemmas.Map.Views.{All-values-insert_entry, All-map-remove_entry}
 use Rattle.admission.specs.declared.budget.Budget.{Budget}
-use Rattle.admission.specs.Ledger.{IsAscending, FitsU32, minislots_of, elements_of}
+use Rattle.admission.specs.Ledger.{IsAscending, FitsU32, total_minislots, total_elements}
 use Rattle.admission.specs.Kept.{IsLedger, CanReplace}
 use Rattle.admission.specs.Place.{StandsAt, IsGap}
 use Rattle.admission.proofs.RowLemmas.{ascending_none, ascending-insert_entry, ascending-remove_entry}
@@ -68,10 +68,10 @@ module _ {room : ℕ} {rows : List (ℕ × Budget)} {capacity minislots elements
       omega (arith, sum_by-values_of f rows, sum_by-le f 4294967295 (values_of rows) all, length-values_of rows, kept.within, kept.small)
 
   -- the totals, with a row in place of the old one
-  pub minislots-insert_entry : (k m : ℕ) (v : Budget) → m + (budget_at rows k).minislots ≡ minislots + v.minislots → m ≡ minislots_of (insert_entry nat_cmp rows k v)
+  pub minislots-insert_entry : (k m : ℕ) (v : Budget) → m + (budget_at rows k).minislots ≡ minislots + v.minislots → m ≡ total_minislots (insert_entry nat_cmp rows k v)
   minislots-insert_entry k m v e = omega (arith, kept.minislots_are, sum-insert_entry (λ b. b.minislots) refl rows k v kept.ascending)
 
-  pub elements-insert_entry : (k m : ℕ) (v : Budget) → m + (budget_at rows k).elements ≡ elements + v.elements → m ≡ elements_of (insert_entry nat_cmp rows k v)
+  pub elements-insert_entry : (k m : ℕ) (v : Budget) → m + (budget_at rows k).elements ≡ elements + v.elements → m ≡ total_elements (insert_entry nat_cmp rows k v)
   elements-insert_entry k m v e = omega (arith, kept.elements_are, sum-insert_entry (λ b. b.elements) refl rows k v kept.ascending)
 
   -- the totals have the budget of each flow in them

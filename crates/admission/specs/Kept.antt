@@ -2,7 +2,7 @@
 use Rattle.std.specs.Prelude.{◌≡◌, ℕ, ◌+◌, ◌<◌, ◌≤◌, ◌^◌, List, length, All}
 use Rattle.std.specs.Map.{values_of}
 use Rattle.admission.specs.declared.budget.Budget.{Budget}
-use Rattle.admission.specs.Ledger.{IsAscending, FitsU32, minislots_of, elements_of}
+use Rattle.admission.specs.Ledger.{IsAscending, FitsU32, total_minislots, total_elements}
 
 -- what a ledger keeps of its room, its rows, the places that are reserved for them, and its totals
 pub record IsLedger (room : ℕ) (rows : List (ℕ × Budget)) (capacity minislots elements : ℕ) : Type 0 where
@@ -11,8 +11,8 @@ pub record IsLedger (room : ℕ) (rows : List (ℕ × Budget)) (capacity minislo
   pub within : length rows ≤ room
   pub reserved : room ≤ capacity
   pub numbers : All FitsU32 (values_of rows)
-  pub minislots_are : minislots ≡ minislots_of rows
-  pub elements_are : elements ≡ elements_of rows
+  pub minislots_are : minislots ≡ total_minislots rows
+  pub elements_are : elements ≡ total_elements rows
 
 -- the totals have the old budget in them, and another one fits
 pub record CanReplace (minislots elements : ℕ) (old : Budget) : Type 0 where

@@ -7,17 +7,17 @@ use Rattle.std.specs.BTreeMap.{is_at}
 use Rattle.admission.specs.declared.budget.Budget.{Budget}
 
 -- a row for each flow, its SFID and its budget, and for how many rows there is room
-pub record Committed : Type 0 where
+pub record LedgerView : Type 0 where
   pub room : ℕ
   pub rows : List (ℕ × Budget)
 
 -- the minislots of all rows
-abbrev pub minislots_of : List (ℕ × Budget) → ℕ
-minislots_of rows = sum_by (λ row. row.1.minislots) rows
+abbrev pub total_minislots : List (ℕ × Budget) → ℕ
+total_minislots rows = sum_by (λ row. row.1.minislots) rows
 
 -- the elements of all rows
-abbrev pub elements_of : List (ℕ × Budget) → ℕ
-elements_of rows = sum_by (λ row. row.1.elements) rows
+abbrev pub total_elements : List (ℕ × Budget) → ℕ
+total_elements rows = sum_by (λ row. row.1.elements) rows
 
 -- a row of this SFID exists
 abbrev pub HasRow : List (ℕ × Budget) → ℕ → Type 0

@@ -4,7 +4,7 @@ ghost use Rattle.std.specs.List.{insert};
 ghost use Rattle.std.specs.Ordering.{nat_cmp};
 ghost use Rattle.std.specs.Map.{lookup, remove_entry, values_of};
 ghost use Rattle.std.specs.BTreeMap.{insert_entry, is_at};
-ghost use Rattle.admission.specs.Ledger.{HasRow, IsAscending, FitsU32, minislots_of, elements_of};
+ghost use Rattle.admission.specs.Ledger.{HasRow, IsAscending, FitsU32, total_minislots, total_elements};
 ghost use Rattle.admission.specs.Kept.{CanReplace};
 ghost use Rattle.admission.specs.Place.{StandsAt, IsGap};
 
@@ -41,7 +41,7 @@ struct Totals {
 
 impl Totals {
     /// Returns the totals with the row `new` in place of the row `old`.
-    fn replaced(self, old: Budget, new: Budget) -> Totals
+    fn replace_row(self, old: Budget, new: Budget) -> Totals
         requires { CanReplace self.minislots self.elements old }
         ensures minislots { result.minislots + old.minislots ≡ self.minislots + new.minislots }
         ensures elements { result.elements + old.elements ≡ self.elements + new.elements }
@@ -80,10 +80,10 @@ pub struct Ledger {
 
 impl Model for Ledger {
     ghost use Rattle.std.specs.Prelude.{vec_capacity};
-    ghost use Rattle.admission.specs.Ledger.{Committed};
+    ghost use Rattle.admission.specs.Ledger.{LedgerView};
     ghost use Rattle.admission.specs.Kept.{IsLedger};
 
-    ghost Value = { Committed };
+    ghost Value = { LedgerView };
 
     ghost view = { λ ledger. record { room = ledger.room; rows = ledger.rows.items } };
 
@@ -126,8 +126,8 @@ impl Ledger {
         let Err(place) = self.place(sfid) else {
             return Err(LedgerFault::Twice);
         };
-        self.totals = self.totals.replaced(Budget::NOTHING, budget);
-        put(&mut self.rows, place, (sfid, budget));
+        self.totals = self.totals.replace_row(Budget::NOTHING, budget);
+        insert_row(&mut self.rows, place, (sfid, budget));
         Ok(())
     }
 
@@ -147,7 +147,7 @@ impl Ledger {
             return Err(LedgerFault::NotThere);
         };
         let old = self.rows[place].1;
-        self.totals = self.totals.replaced(old, budget);
+        self.totals = self.totals.replace_row(old, budget);
         self.rows[place] = (sfid, budget);
         Ok(())
     }
@@ -168,7 +168,7 @@ impl Ledger {
             return Err(LedgerFault::NotThere);
         };
         let (_, old) = self.rows.remove(place);
-        self.totals = self.totals.replaced(old, Budget::NOTHING);
+        self.totals = self.totals.replace_row(old, Budget::NOTHING);
         Ok(())
     }
 
@@ -176,26 +176,26 @@ impl Ledger {
     /// `limit`.
     pub fn fits(&self, limit: Budget, sfid: u32, budget: Budget) -> Result<(), Over>
         ensures elements { let after = insert_entry nat_cmp self.now.rows sfid budget in (result ≡ Err Over.Elements)
-            ↔ (limit.elements < elements_of after) }
+            ↔ (limit.elements < total_elements after) }
         ensures minislots { let after = insert_entry nat_cmp self.now.rows sfid budget in (result
-            ≡ Err Over.Minislots) ↔ ((elements_of after ≤ limit.elements) × (limit.minislots < minislots_of after)) }
+            ≡ Err Over.Minislots) ↔ ((total_elements after ≤ limit.elements) × (limit.minislots < total_minislots after)) }
         ensures ok { let after = insert_entry nat_cmp self.now.rows sfid budget in IsOk result
-            ↔ ((elements_of after ≤ limit.elements) × (minislots_of after ≤ limit.minislots)) }
+            ↔ ((total_elements after ≤ limit.elements) × (total_minislots after ≤ limit.minislots)) }
     {
         let old = self.get(sfid).unwrap_or(Budget::NOTHING);
-        self.totals.replaced(old, budget).within(limit)
+        self.totals.replace_row(old, budget).within(limit)
     }
 
     /// Returns the sum of all rows' minislots.
     pub fn total_minislots(&self) -> u64
-        ensures { result ≡ minislots_of self.now.rows }
+        ensures { result ≡ total_minislots self.now.rows }
     {
         self.totals.minislots
     }
 
     /// Returns the sum of all rows' elements.
     pub fn total_elements(&self) -> u64
-        ensures { result ≡ elements_of self.now.rows }
+        ensures { result ≡ total_elements self.now.rows }
     {
         self.totals.elements
     }
@@ -254,7 +254,7 @@ impl Ledger {
 }
 
 /// Puts a row at a place, into room that is there.
-fn put(rows: &mut Vec<(u32, Budget)>, place: usize, row: (u32, Budget))
+fn insert_row(rows: &mut Vec<(u32, Budget)>, place: usize, row: (u32, Budget))
     requires in_range { place ≤ vec_len rows.old }
     requires room { vec_len rows.old < vec_capacity rows.old }
     ensures items { rows.new.items ≡ insert rows.old.items place row }

@@ -11,7 +11,7 @@ use Rattle.slice_scheduler.specs.declared.elements.ElementsFields.{ElementsField
 use Rattle.operator_model.specs.declared.action.Entry.{Entry}
 use Rattle.operator_model.specs.declared.output.Output.{Output}
 use Rattle.operator_model.specs.declared.output.Output.TheVariants.{Reply, Silent, Frame}
-use Rattle.run_model.specs.IsStateAfter.{numbered, frames_of}
+use Rattle.run_model.specs.IsStateAfter.{frame_with_number, frames_of}
 use Rattle.plant_core.specs.Waiting.{frames_in, waiting_in, IsOneFrame}
 use Rattle.plant_core.proofs.WaitingLemmas.{waiting_more}
 use Rattle.cell_state.specs.Taking.{is_frame, has_frame}
@@ -20,12 +20,12 @@ abbrev pub Numbered : Type 0
 Numbered = ℕ × ElementsFields
 
 frames_cons : (entry : Entry) (h : List Entry) → frames_in (entry ∷ h) ≡ frames_of entry.outputs ++ frames_in h
-frames_cons entry h = filter_map-append numbered entry.outputs (flat_map (λ (e : Entry). e.outputs) h)
+frames_cons entry h = filter_map-append frame_with_number entry.outputs (flat_map (λ (e : Entry). e.outputs) h)
 
 frames_append : (xs ys : List Entry) → frames_in (xs ++ ys) ≡ frames_in xs ++ frames_in ys
 frames_append xs ys =
     ap frames_of (flat_map-append (λ (e : Entry). e.outputs) xs ys)
-    ∙ filter_map-append numbered (flat_map (λ (e : Entry). e.outputs) xs) (flat_map (λ (e : Entry). e.outputs) ys)
+    ∙ filter_map-append frame_with_number (flat_map (λ (e : Entry). e.outputs) xs) (flat_map (λ (e : Entry). e.outputs) ys)
 
 -- ---- how many
 

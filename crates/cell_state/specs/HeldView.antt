@@ -14,5 +14,5 @@ abbrev pub waiting_of : {D : Type 0} {F : D → Type 0} {m : _} → Held D F m �
 waiting_of held = waiting_at held.desk
 
 -- how many entries more its history has room for
-abbrev pub room_of : {D : Type 0} {F : D → Type 0} {m : _} → Held D F m → ℕ
-room_of held = held.desk.book.kept.spare
+abbrev pub history_room : {D : Type 0} {F : D → Type 0} {m : _} → Held D F m → ℕ
+history_room held = held.desk.book.kept.spare

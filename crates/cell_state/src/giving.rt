@@ -3,13 +3,13 @@
 ghost use Rattle.std.specs.Prelude.{◌≡◌, ◌<◌, ◌≤◌, ◌^◌, All, None, length, map, option_map, vec_len, vec_capacity, OnOk, OnErr};
 ghost use Rattle.operator_model.specs.declared.action.Action.TheVariants as actions;
 ghost use Rattle.operator_model.specs.Machine.{unfit_from};
-ghost use Rattle.operator_model.specs.Replay.{acted};
+ghost use Rattle.operator_model.specs.Replay.{book_after_action};
 ghost use Rattle.run_model.specs.Steps.{NoneRefuses};
 ghost use Rattle.plant_core.specs.declared.core_fault.CoreFault.TheVariants as core_faults;
-ghost use Rattle.plant_core.specs.Faults.{IsTold};
+ghost use Rattle.plant_core.specs.Faults.{IsReported};
 ghost use Rattle.plant_core.specs.Giving.{HaveTaken};
 ghost use Rattle.plant_core.specs.Reslicing.{reslice_fault};
-ghost use Rattle.cell_state.specs.HeldView.{book_of, waiting_of, room_of};
+ghost use Rattle.cell_state.specs.HeldView.{book_of, waiting_of, history_room};
 ghost use Rattle.cell_state.specs.Receiving.{IsReceiptOf};
 
 use crate::held::Held;
@@ -24,7 +24,7 @@ impl Held {
     /// Makes room for one more entry in the history.
     fn make_room(&mut self) -> Result<(), AllocError>
         requires within { self.old.desk.collected ≤ length (book_of self.old).history }
-        ensures room { OnOk result (0 < room_of self.new) }
+        ensures room { OnOk result (0 < history_room self.new) }
         ensures book { book_of self.new ≡ book_of self.old }
         ensures waiting { waiting_of self.new ≡ waiting_of self.old }
     {
@@ -35,9 +35,9 @@ impl Held {
     fn reslice(&mut self, alloc: Global, from: u32, row: SliceRow) -> Receipt
         requires within { self.old.desk.collected ≤ length (book_of self.old).history }
         requires fit { unfit_from (book_of self.old).consts (book_of self.old).state from row ≡ None }
-        requires room { 0 < room_of self.old }
+        requires room { 0 < history_room self.old }
         ensures receipt { IsReceiptOf (book_of self.old) (actions.Reslice from row) result }
-        ensures book { book_of self.new ≡ acted (book_of self.old) (actions.Reslice from row) }
+        ensures book { book_of self.new ≡ book_after_action (book_of self.old) (actions.Reslice from row) }
         ensures waiting { waiting_of self.new ≡ waiting_of self.old }
     {
         let index = self.count();
@@ -53,7 +53,7 @@ impl Held {
 /// Makes room for one more entry in each history.
 fn make_room(helds: &mut Vec<Held>) -> Result<(), AllocError>
     requires { vec_len helds.old < 2 ^ 64 }
-    ensures room { OnOk result (All (λ held. 0 < room_of held) helds.new.items) }
+    ensures room { OnOk result (All (λ held. 0 < history_room held) helds.new.items) }
     ensures books { map book_of helds.new.items ≡ map book_of helds.old.items }
     ensures waiting { map waiting_of helds.new.items ≡ map waiting_of helds.old.items }
 {
@@ -67,7 +67,7 @@ fn make_room(helds: &mut Vec<Held>) -> Result<(), AllocError>
 fn give(alloc: Global, helds: &mut Vec<Held>, told: &mut Vec<Told>, from: u32, rows: &[SliceRow])
     requires one_each { length rows.now ≡ vec_len helds.old }
     requires fit { NoneRefuses from (map book_of helds.old.items) rows.now }
-    requires room { All (λ held. 0 < room_of held) helds.old.items }
+    requires room { All (λ held. 0 < history_room held) helds.old.items }
     requires empty { vec_len told.old ≡ 0 }
     requires capacity { length rows.now ≤ vec_capacity told.old }
     ensures books { HaveTaken from rows.now (map book_of helds.old.items) (map book_of helds.new.items) }
@@ -114,7 +114,7 @@ pub fn reslice(
     ensures books { OnOk result (HaveTaken from rows.now (map book_of helds.old.items) (map book_of helds.new.items)) }
     ensures waiting { map waiting_of helds.new.items ≡ map waiting_of helds.old.items }
     ensures same { OnErr result (map book_of helds.new.items ≡ map book_of helds.old.items) }
-    ensures fault { IsTold result
+    ensures fault { IsReported result
         (option_map (λ fault. core_faults.Reslice fault) (reslice_fault from (map book_of helds.old.items) rows.now)) }
 {
     if let Some(fault) = reslice_fault(helds, from, rows) {

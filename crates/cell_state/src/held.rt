@@ -1,7 +1,7 @@
 //! The state that an operator's lock guards.
 
 ghost use Rattle.std.specs.Prelude.{◌≡◌, ◌≢◌, ◌↔◌, ◌++◌, ◌≤◌, length, Some, Err, IfOk, IfErr, IfSome, OnOk, OnErr};
-ghost use Rattle.operator_model.specs.Replay.{acted};
+ghost use Rattle.operator_model.specs.Replay.{book_after_action};
 ghost use Rattle.operator_book.specs.OfBook.{outputs_of};
 ghost use Rattle.operator_book.specs.declared.book.BookFault.{BookFault};
 ghost use Rattle.run_model.specs.IsStateAfter.{frames_of};
@@ -13,7 +13,7 @@ ghost use Rattle.cell_state.specs.Taking.{IsTaken, IsFrameOfSomeBook};
 use crate::refusing::refusal_of;
 use operator_book::BookFault;
 use operator_model::{Action, Outputs};
-use plant_core::Desk;
+use plant_core::OperatorSlot;
 use run_receipts::Receipt;
 use slice_scheduler::Elements;
 use std::alloc::{AllocError, Global};
@@ -23,7 +23,7 @@ use std::alloc::{AllocError, Global};
 /// (`Book::replay`), and the frames that wait are those after a place of it.
 #[derive(Drop)]
 pub struct Held {
-    pub desk: Desk,
+    pub desk: OperatorSlot,
     pub stopped: bool,
 }
 
@@ -40,7 +40,7 @@ impl Held {
         requires within { self.old.desk.collected ≤ length (book_of self.old).history }
         ensures receipt { IfOk result (IsReceiptOf (book_of self.old) action) }
         ensures some_book { IfOk result (IsOfSomeBook action) }
-        ensures book { OnOk result (book_of self.new ≡ acted (book_of self.old) action) }
+        ensures book { OnOk result (book_of self.new ≡ book_after_action (book_of self.old) action) }
         ensures waiting { OnOk result (waiting_of self.new
             ≡ waiting_of self.old ++ frames_of (outputs_of (book_of self.old) action)) }
         ensures refused { (fault : BookFault) → fault ≢ BookFault.NoMemory

@@ -9,7 +9,7 @@ ghost use Rattle.cell_state.specs.Taking.{frames_at, is_frame, has_frame};
 use crate::held::Held;
 use operator_book::Book;
 use operator_model::{Entry, Output};
-use plant_core::Desk;
+use plant_core::OperatorSlot;
 
 /// Returns whether an output is a frame.
 fn is_frame(output: &Output) -> bool
@@ -72,7 +72,7 @@ impl Held {
     {
         let collected = book.history().len();
         Held {
-            desk: Desk { book, collected },
+            desk: OperatorSlot { book, collected },
             stopped: false,
         }
     }
@@ -89,7 +89,7 @@ impl Held {
         book.always_replayed();
         let collected = behind(book.history(), taken);
         Held {
-            desk: Desk { book, collected },
+            desk: OperatorSlot { book, collected },
             stopped: false,
         }
     }
@@ -102,7 +102,7 @@ impl Held {
         ensures taken { waiting_of self ≡ drop result.1 (frames_at (view_of result.0)) }
     {
         let Held { desk, stopped: _ } = self;
-        let Desk { book, collected } = desk;
+        let OperatorSlot { book, collected } = desk;
         // For the proof: each entry of the history outputs one frame at most.
         book.always_replayed();
         let taken = entries_with_frame(&book.history()[..collected]);

@@ -1,7 +1,7 @@
 //! Turns at an operator's book.
 
 ghost use Rattle.std.specs.Prelude.{◌≡◌, ◌≢◌, ◌↔◌, ◌++◌, ◌≤◌, true, false, length, Some, Ok, Err, IfOk, IfErr, IfSome, OnOk, OnErr};
-ghost use Rattle.operator_model.specs.Replay.{acted};
+ghost use Rattle.operator_model.specs.Replay.{book_after_action};
 ghost use Rattle.operator_book.specs.OfBook.{outputs_of};
 ghost use Rattle.operator_book.specs.declared.book.BookFault.{BookFault};
 ghost use Rattle.run_model.specs.IsStateAfter.{frames_of};
@@ -36,7 +36,7 @@ impl Held {
         ensures index { IfOk result (λ receipt. receipt.index ≡ index) }
         ensures receipt { IfOk result (IsReceiptOf (book_of self.old) action) }
         ensures some_book { IfOk result (IsOfSomeBook action) }
-        ensures book { OnOk result (book_of self.new ≡ acted (book_of self.old) action) }
+        ensures book { OnOk result (book_of self.new ≡ book_after_action (book_of self.old) action) }
         ensures waiting { OnOk result (waiting_of self.new
             ≡ waiting_of self.old ++ frames_of (outputs_of (book_of self.old) action)) }
         ensures goes_on { OnOk result (self.new.stopped ≡ false) }

@@ -24,7 +24,7 @@ use Rattle.flow_table.specs.Table.{sfids_of, sids_of, sid_if}
 use Rattle.operator_model.specs.declared.share.NextShare.{NextShare}
 use Rattle.operator_model.specs.State.{Operator}
 use Rattle.operator_model.specs.Asked.{is_same, is_unclassed, stand_together}
-use Rattle.check_table.specs.Said.{Said, identifier, Names, IsOfFlow, IsAbout, AsksFor, set_asked, Admits, Activates, IsSetWhere, IsToBeAdmitted, IsToBeActive}
+use Rattle.check_table.specs.Said.{Said, identifier, NamesFlow, IsOfFlow, IsAbout, EncodingAsksFor, set_asked, Admits, Activates, IsSetWhere, IsToBeAdmitted, IsToBeActive}
 use Rattle.check_table.specs.Holding.{NamesUnknownClass, AreTwoAndFour, IsTaken, GivesNoSet, IsUsedUp, would_commit, WouldCommit, IsOverBudget, Holds}
 use Rattle.check_table.specs.declared.check.Check.{Check}
 use Rattle.check_table.specs.declared.check.Check.TheVariants as checks
@@ -35,7 +35,7 @@ use Rattle.check_table.proofs.RoomLemmas.{used_up, least_one, not_used_up}
 use Rattle.check_explainer.specs.declared.asking.Use.{Use}
 use Rattle.check_explainer.specs.declared.asking.Use.TheVariants.{Admit, Activate}
 use Rattle.check_explainer.specs.Asking.{is_addition, is_deletion, names, subject_of, is_named_in, subjects_of, is_for, ok_of, set_given, gives_for, sets_of}
-use Rattle.check_explainer.specs.Deciding.{is_empty, differs_from, is_alone, do_differ, has_no_identifier, is_taken, is_wrong_alone, is_err_of, gives_none, is_unknown, names_unknown, is_of_another, does_wait, is_outside, provisioned_of, is_outside_one, one_exceeds, has_no_sid, is_over_next, is_over_budget, does_hold}
+use Rattle.check_explainer.specs.Deciding.{is_empty, differs_from, is_alone, do_differ, has_no_identifier, is_taken, is_wrong_alone, is_err_of, gives_none, is_unknown, names_unknown, is_of_another, flow_waits, is_outside, provisioned_of, is_outside_one, one_exceeds, has_no_sid, is_over_next, is_over_budget, does_hold}
 use Rattle.check_explainer.proofs.ListLemmas.{any_decides, left_from, left_to, all_of}
 
 -- ---- single tests
@@ -145,7 +145,7 @@ module _ (consts : ConstsFields) (e : FlowFields) where
       (Decides-not (is_same e.set_type (Some 0)) (same_decides e.set_type (Some 0))) (err_decides (set_asked consts e)))
 
   -- the set that is given is the one that is asked for
-  pub given_is : (set : ParamFields) → set_given consts e ≡ Some set → AsksFor consts e set
+  pub given_is : (set : ParamFields) → set_given consts e ≡ Some set → EncodingAsksFor consts e set
   given_is set is = by (set_asked consts e) is
     where
       by : (o : Option (Result ParamFields Refusal)) → ok_of o ≡ Some set → o ≡ Some (Ok set)
@@ -153,12 +153,12 @@ module _ (consts : ConstsFields) (e : FlowFields) where
       by (Some (Ok s)) is = let same : s ≡ set = cc in ap (λ (x : ParamFields). Some (Ok x)) same
       by (Some (Err r)) is = absurd (none-some set is)
 
-  pub is_given : (set : ParamFields) → AsksFor consts e set → set_given consts e ≡ Some set
+  pub is_given : (set : ParamFields) → EncodingAsksFor consts e set → set_given consts e ≡ Some set
   is_given set is = ap ok_of is
 
 -- ---- the flows that a request is about
 
-names_decide : (kind : Kind) (es : List FlowFields) (fixed : Option ℕ) (sfid : ℕ) → Decides (names kind es fixed sfid) (Names kind es fixed sfid)
+names_decide : (kind : Kind) (es : List FlowFields) (fixed : Option ℕ) (sfid : ℕ) → Decides (names kind es fixed sfid) (NamesFlow kind es fixed sfid)
 names_decide Dsa es fixed sfid = ((λ is. absurd (false≢true is)), (λ h. absurd h))
 names_decide Dsc es fixed sfid =
     any_decides (λ (e : FlowFields). is_same e.sfid (Some sfid)) (λ (e : FlowFields). e.sfid ≡ Some sfid) (λ e. same_decides e.sfid (Some sfid)) es
@@ -226,7 +226,7 @@ module _ (u : Use) (op : Operator) (said : Said) where
       by : (o p : Option ParamFields) → p ≡ p → p ≡ o → is_some p ≡ true → (e : FlowFields) → Contains said.encodings e → IsFor u e → set_given op.consts e ≡ p → IsSet o
       by None p same is some e has is_for_it given = absurd (false≢true (subst (λ (x : Option ParamFields). is_some x ≡ true) is some))
       by (Some set) p same is some e has is_for_it given =
-          any_from (λ (x : FlowFields). IsFor u x × AsksFor op.consts x set) said.encodings e has (is_for_it, given_is op.consts e set (given ∙ is))
+          any_from (λ (x : FlowFields). IsFor u x × EncodingAsksFor op.consts x set) said.encodings e has (is_for_it, given_is op.consts e set (given ∙ is))
 
   set_given_in : (set : ParamFields) → IsSet (Some set) → Contains given_sets (Some set)
   set_given_in set is =
@@ -278,7 +278,7 @@ abbrev Waits : Option Flow → Type 0
 Waits None = ⊥
 Waits (Some flow) = IsSome flow.pending
 
-waits_decides : (o : Option Flow) → Decides (does_wait o) (Waits o)
+waits_decides : (o : Option Flow) → Decides (flow_waits o) (Waits o)
 waits_decides None = ((λ is. absurd (false≢true is)), (λ h. absurd h))
 waits_decides (Some flow) = some_decides flow.pending
 
@@ -345,7 +345,7 @@ module _ (op : Operator) (modem : Modem) (said : Said) where
   used = sfids_of op.state.flows
 
   abbrev Unknown : Kind → Type 0
-  Unknown kind = (sfid : ℕ) × Names kind said.encodings said.sfid sfid × (¬ Contains used sfid)
+  Unknown kind = (sfid : ℕ) × NamesFlow kind said.encodings said.sfid sfid × (¬ Contains used sfid)
 
   unknown_flow_right : Right checks.UnknownFlow
   unknown_flow_right = by said.kind refl
@@ -378,8 +378,8 @@ module _ (op : Operator) (modem : Modem) (said : Said) where
 
   flow_waits_right : Right checks.FlowWaits
   flow_waits_right =
-      Decides-like (list_any does_wait (subjects_of op said)) (of_flow Waits (λ h. h)) (λ h. to_subject Waits (Some h.1) (h.0, h.2) h.3)
-      (any_decides does_wait Waits waits_decides (subjects_of op said))
+      Decides-like (list_any flow_waits (subjects_of op said)) (of_flow Waits (λ h. h)) (λ h. to_subject Waits (Some h.1) (h.0, h.2) h.3)
+      (any_decides flow_waits Waits waits_decides (subjects_of op said))
 
   -- the sets that are to be admitted, and those that are to be active
   abbrev admitted : List (Option ParamFields)

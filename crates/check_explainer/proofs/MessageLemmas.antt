@@ -22,7 +22,7 @@ use Rattle.operator_model.specs.Sound.{IsSound}
 use Rattle.operator_model.specs.Handle.{handle}
 use Rattle.lists.specs.First.{IsFirst}
 use Rattle.check_table.specs.Said.{said_by}
-use Rattle.check_table.specs.Messages.{Reading, IsNoAck, IsRequest, IsKept, IsUnread, HoldsOf, message_table, IsHandledBy}
+use Rattle.check_table.specs.Messages.{Reading, IsNoAck, ReadsAsRequest, IsCachedEntry, IsUnread, HoldsOf, message_table, IsHandledBy}
 use Rattle.check_table.specs.declared.check.MessageCheck.{MessageCheck}
 use Rattle.check_table.specs.declared.check.MessageCheck.TheVariants.{Unread, OfCmts, Repeated, KeptFull, Faulty, Judged}
 use Rattle.check_table.proofs.ListLemmas.{find-first, first_one, first_contains, none_any, any_from}
@@ -33,7 +33,7 @@ use Rattle.check_explainer.specs.Messages.{HasNoCheck, transaction_in, is_unread
 
 -- ---- the transaction of a request
 
-transaction_from : (reading : Reading) (kind : Kind) (tid : ℕ) → IsRequest reading kind tid → transaction_in reading ≡ Some (kind, tid)
+transaction_from : (reading : Reading) (kind : Kind) (tid : ℕ) → ReadsAsRequest reading kind tid → transaction_in reading ≡ Some (kind, tid)
 transaction_from (Ok (messages.Request request)) kind tid is = let k = is.0 in let n = is.1 in cc
 transaction_from (Ok (messages.Ack k n code)) kind tid is = absurd is
 transaction_from (Err (faults.Tlv n k id fault)) kind tid is = let k = is.0 in let n = is.1 in cc
@@ -46,7 +46,7 @@ transaction_from (Err faults.NoMemory) kind tid is = absurd is
 same_parts : (a b : Kind × ℕ) → Some a ≡ Some b → (a.0 ≡ b.0) × (a.1 ≡ b.1)
 same_parts a b is = (ap (λ (o : Option (Kind × ℕ)). (unwrap_or o a).0) is, ap (λ (o : Option (Kind × ℕ)). (unwrap_or o a).1) is)
 
-transaction_to : (reading : Reading) (kind : Kind) (tid : ℕ) → transaction_in reading ≡ Some (kind, tid) → IsRequest reading kind tid
+transaction_to : (reading : Reading) (kind : Kind) (tid : ℕ) → transaction_in reading ≡ Some (kind, tid) → ReadsAsRequest reading kind tid
 transaction_to (Ok (messages.Request request)) kind tid is = same_parts ((said_by request).kind, (said_by request).tid) (kind, tid) is
 transaction_to (Ok (messages.Ack k n code)) kind tid is = cc
 transaction_to (Err (faults.Tlv n k id fault)) kind tid is = same_parts (k, n) (kind, tid) is
@@ -72,7 +72,7 @@ unread_to (Err (faults.Tlv n k id fault)) is = absurd (false≢true is)
 unread_to (Err (faults.LeftOut n k found)) is = absurd (false≢true is)
 unread_to (Err faults.NoMemory) is = absurd (false≢true is)
 
-faulty_from : (fault : MessageFault) (kind : Kind) (tid : ℕ) → IsRequest (Err fault) kind tid → is_faulty (Err fault) ≡ true
+faulty_from : (fault : MessageFault) (kind : Kind) (tid : ℕ) → ReadsAsRequest (Err fault) kind tid → is_faulty (Err fault) ≡ true
 faulty_from (faults.Tlv n k id fault) kind tid is = refl
 faulty_from (faults.LeftOut n k found) kind tid is = refl
 faulty_from faults.Empty kind tid is = absurd is
@@ -134,7 +134,7 @@ module _ (op : Operator) (modem : Modem) (reading : Reading) where
 
   -- a check of the transaction: there is one, and this holds of its ID
   abbrev HoldsOfTid : (ℕ → Type 0) → Type 0
-  HoldsOfTid P = (kind : Kind) × (tid : ℕ) × IsRequest reading kind tid × P tid
+  HoldsOfTid P = (kind : Kind) × (tid : ℕ) × ReadsAsRequest reading kind tid × P tid
 
   none_of : (P : ℕ → Type 0) → transaction_in reading ≡ None → ¬ HoldsOfTid P
   none_of P none h = let some = transaction_from reading h.0 h.1 h.2 in cc
@@ -160,7 +160,7 @@ module _ (op : Operator) (modem : Modem) (reading : Reading) where
   )
 
   abbrev IsKeptOf : ℕ → Type 0
-  IsKeptOf tid = (entry : KeptEntry) × IsKept op modem tid entry
+  IsKeptOf tid = (entry : KeptEntry) × IsCachedEntry op modem tid entry
 
   repeated_right : (o : Option (Kind × ℕ)) → transaction_in reading ≡ o → Decides (is_kept_in op modem o) (HoldsSo Repeated)
   repeated_right None none = ((λ is. absurd (false≢true is)), (λ h. absurd (none_of IsKeptOf none (h.0, h.1, h.3, (h.2, h.4)))))
@@ -177,7 +177,7 @@ module _ (op : Operator) (modem : Modem) (reading : Reading) where
   message_right KeptFull = full_right (transaction_in reading) refl
   message_right Faulty = (
     faulty_to op modem reading,
-    (λ h. ap is_faulty h.4 ∙ faulty_from h.2 h.0 h.1 (subst (λ (r : Reading). IsRequest r h.0 h.1) h.4 h.3)),
+    (λ h. ap is_faulty h.4 ∙ faulty_from h.2 h.0 h.1 (subst (λ (r : Reading). ReadsAsRequest r h.0 h.1) h.4 h.3)),
   )
   message_right Judged = (judged_to op modem reading, (λ h. ap is_request h.1))
 

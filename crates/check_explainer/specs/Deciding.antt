@@ -15,7 +15,7 @@ use Rattle.flow_table.specs.declared.flow.Flow.{Flow}
 use Rattle.flow_table.specs.Table.{sfids_of, sids_of, sid_if}
 use Rattle.operator_model.specs.declared.share.NextShare.{NextShare}
 use Rattle.operator_model.specs.State.{Operator}
-use Rattle.operator_model.specs.Asked.{is_same, has_set_type, number_in, is_unclassed, stand_together}
+use Rattle.operator_model.specs.Asked.{is_same, has_set_type, id_number, is_unclassed, stand_together}
 use Rattle.check_table.specs.Said.{Said, set_asked}
 use Rattle.check_table.specs.Holding.{would_commit}
 use Rattle.check_table.specs.declared.check.Check.{Check}
@@ -30,7 +30,7 @@ is_empty [] = true
 is_empty (x ∷ xs) = false
 
 abbrev pub differs_from : Kind → FlowFields → FlowFields → Bool
-differs_from kind a b = not (is_same (number_in kind a) (number_in kind b))
+differs_from kind a b = not (is_same (id_number kind a) (id_number kind b))
 
 abbrev pub is_alone : Kind → List FlowFields → FlowFields → Bool
 is_alone kind encodings a = list_any (differs_from kind a) encodings
@@ -39,7 +39,7 @@ abbrev pub do_differ : Kind → List FlowFields → Bool
 do_differ kind encodings = list_any (is_alone kind encodings) encodings
 
 abbrev pub has_no_identifier : Kind → FlowFields → Bool
-has_no_identifier kind encoding = is_none (number_in kind encoding)
+has_no_identifier kind encoding = is_none (id_number kind encoding)
 
 -- one of set type 0 is taken in a change alone
 abbrev pub is_taken : Kind → FlowFields → Bool
@@ -76,9 +76,9 @@ abbrev pub is_of_another : Modem → Option Flow → Bool
 is_of_another modem None = false
 is_of_another modem (Some flow) = not (same_modem flow.modem modem)
 
-abbrev pub does_wait : Option Flow → Bool
-does_wait None = false
-does_wait (Some flow) = is_some flow.pending
+abbrev pub flow_waits : Option Flow → Bool
+flow_waits None = false
+flow_waits (Some flow) = is_some flow.pending
 
 -- ---- the sets
 
@@ -125,7 +125,7 @@ does_hold checks.NotTogether op modem said = nat_lt 1 (length said.encodings) &&
 does_hold checks.NoIdentifier op modem said = list_any (has_no_identifier said.kind) said.encodings
 does_hold checks.UnknownFlow op modem said = names_unknown (sfids_of op.state.flows) said.kind said.encodings said.sfid
 does_hold checks.NotOwner op modem said = list_any (is_of_another modem) (subjects_of op said)
-does_hold checks.FlowWaits op modem said = list_any does_wait (subjects_of op said)
+does_hold checks.FlowWaits op modem said = list_any flow_waits (subjects_of op said)
 does_hold checks.WrongSetType op modem said = is_wrong_alone said.kind said.encodings
 does_hold checks.NoParameterSet op modem said = list_any (gives_none op.consts) said.encodings
 does_hold checks.ActiveNotWithin op modem said = list_any (is_outside_one (sets_of Admit op said)) (sets_of Activate op said)

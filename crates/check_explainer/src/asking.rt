@@ -96,7 +96,7 @@ fn is_for(for_use: Use, encoding: &FlowTlv) -> bool
 pub(crate) fn set_asked(consts: &Consts, encoding: &FlowTlv) -> Option<Result<ParamSet, Refusal>>
     ensures { result ≡ set_asked consts.now encoding.now }
 {
-    let asked = consts.asked(encoding)?;
+    let asked = consts.requested_encoding(encoding)?;
     Some(from_tlv(&asked, &consts.get_fields().units))
 }
 

@@ -6,7 +6,7 @@ ghost use Rattle.flow_table.specs.Table.{committed_minislots, committed_elements
 ghost use Rattle.operator_model.specs.Asked.{is_unclassed};
 ghost use Rattle.check_table.specs.Said.{said_by};
 ghost use Rattle.check_table.specs.Holding.{would_commit};
-ghost use Rattle.check_explainer.specs.Deciding.{do_differ, is_alone, differs_from, has_no_identifier, is_taken, is_wrong_alone, gives_none, is_unknown, names_unknown, is_of_another, does_wait, is_outside, is_outside_one, provisioned_of, one_exceeds, has_no_sid, is_over_budget, elements_over, minislots_over, does_hold};
+ghost use Rattle.check_explainer.specs.Deciding.{do_differ, is_alone, differs_from, has_no_identifier, is_taken, is_wrong_alone, gives_none, is_unknown, names_unknown, is_of_another, flow_waits, is_outside, is_outside_one, provisioned_of, one_exceeds, has_no_sid, is_over_budget, elements_over, minislots_over, does_hold};
 ghost use Rattle.check_explainer.specs.OperatorSnapshot.{AreAsked};
 
 use crate::asking::{encodings_of, is_addition, is_deletion, kind_of, set_asked};
@@ -14,7 +14,7 @@ use crate::operator_snapshot::OperatorSnapshot;
 use check_table::Check;
 use dsx_messages::{Kind, Modem, Request};
 use flow_table::Flow;
-use operator_model::{has_set_type, is_same, number_in, stand_together};
+use operator_model::{has_set_type, id_number, is_same, stand_together};
 use param_sets::{ParamSet, Units, need_if, within};
 use plant::Consts;
 use tlv24::FlowTlv;
@@ -30,7 +30,7 @@ pub(crate) struct RequestedSets {
 fn differs_from(kind: Kind, a: &FlowTlv, b: &FlowTlv) -> bool
     ensures { result ≡ differs_from kind a.now b.now }
 {
-    !is_same(number_in(kind, a), number_in(kind, b))
+    !is_same(id_number(kind, a), id_number(kind, b))
 }
 
 fn is_alone(kind: Kind, encodings: &[FlowTlv], a: &FlowTlv) -> bool
@@ -131,8 +131,8 @@ fn is_of_another(modem: Modem, flow: &Option<Flow>) -> bool
     }
 }
 
-fn does_wait(flow: &Option<Flow>) -> bool
-    ensures { result ≡ does_wait flow.now }
+fn flow_waits(flow: &Option<Flow>) -> bool
+    ensures { result ≡ flow_waits flow.now }
 {
     match flow {
         None => false,
@@ -214,7 +214,7 @@ fn one_unclassed(consts: &Consts, encodings: &[FlowTlv]) -> bool
 {
     encodings
         .iter()
-        .any(|encoding| consts.asked(encoding).is_none())
+        .any(|encoding| consts.requested_encoding(encoding).is_none())
 }
 
 fn one_has_no_identifier(kind: Kind, encodings: &[FlowTlv]) -> bool
@@ -222,7 +222,7 @@ fn one_has_no_identifier(kind: Kind, encodings: &[FlowTlv]) -> bool
 {
     encodings
         .iter()
-        .any(|encoding| number_in(kind, encoding).is_none())
+        .any(|encoding| id_number(kind, encoding).is_none())
 }
 
 fn one_gives_none(consts: &Consts, encodings: &[FlowTlv]) -> bool
@@ -240,9 +240,9 @@ fn one_is_of_another(modem: Modem, subjects: &[Option<Flow>]) -> bool
 }
 
 fn one_waits(subjects: &[Option<Flow>]) -> bool
-    ensures { result ≡ list_any does_wait subjects.now }
+    ensures { result ≡ list_any flow_waits subjects.now }
 {
-    subjects.iter().any(|flow| does_wait(flow))
+    subjects.iter().any(|flow| flow_waits(flow))
 }
 
 /// Returns whether one of the active sets is not within one of the admitted ones.

@@ -138,7 +138,7 @@ impl OperatorSnapshot {
     {
         match transaction {
             None => false,
-            Some((_kind, tid)) => one_is_of(modem, tid, self.state.kept()),
+            Some((_kind, tid)) => one_is_of(modem, tid, self.state.cached_responses()),
         }
     }
 
@@ -146,7 +146,7 @@ impl OperatorSnapshot {
     fn is_kept_full(&self) -> bool
         ensures { result ≡ nat_le self.now.row.transactions (length self.now.state.kept) }
     {
-        usize::from(self.row.get_fields().transactions) <= self.state.kept().len()
+        usize::from(self.row.get_fields().transactions) <= self.state.cached_responses().len()
     }
 
     /// Returns whether a check of a message holds.

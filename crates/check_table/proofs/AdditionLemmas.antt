@@ -20,8 +20,8 @@ use Rattle.operator_model.specs.declared.verdict.Addition.{Addition}
 use Rattle.operator_model.specs.declared.verdict.Verdict.TheVariants.{Refused, Put}
 use Rattle.operator_model.specs.State.{Operator}
 use Rattle.operator_model.specs.Sound.{IsSound}
-use Rattle.operator_model.specs.Asked.{transaction, refusal_naming, stated, first_encoding, asked_sets, nested_sets, addition_of}
-use Rattle.operator_model.specs.Verdict.{new_flow, added_reply, added_under, added, addition_verdict, verdict}
+use Rattle.operator_model.specs.Asked.{transaction, refusal_naming, stated_or_refusal, first_encoding, asked_sets, nested_sets, addition_of}
+use Rattle.operator_model.specs.Verdict.{new_flow, added_reply, added_under, addition_within_limit, addition_verdict, verdict}
 use Rattle.operator_model.proofs.FreshLemmas.{none-there}
 use Rattle.check_table.specs.Said.{Said, said_by, IsAbout, Admits, IsSetWhere}
 use Rattle.check_table.specs.Holding.{would_commit}
@@ -64,7 +64,7 @@ module _ (op : Operator) (sound : IsSound op) (modem : Modem) (tid : ℕ) (encod
       match_then (IsReady op modem Dsa tid an_addition encodings) IsAsked Decided (first_encoding (transaction modem Dsa tid) op.consts.classes encodings) _
       (encodings-view op modem Dsa tid an_addition encodings) (λ first ready.
       match_then (IsIdentified op modem Dsa tid an_addition encodings first) IsAsked Decided
-      (stated first.reference (refusal_naming (transaction modem Dsa tid) RejectRequiredParameterNotPresent first reference_subtype)) _
+      (stated_or_refusal first.reference (refusal_naming (transaction modem Dsa tid) RejectRequiredParameterNotPresent first reference_subtype)) _
       (identifier-view op modem Dsa tid an_addition encodings first ready) (λ reference identified.
       match_then (AreAsked op modem Dsa tid an_addition encodings) IsAsked Decided (asked_sets (transaction modem Dsa tid) op.consts encodings) _
       (asked-view op modem Dsa tid an_addition encodings first ready (no_flow identified.none)) (λ asked are.
@@ -132,8 +132,8 @@ module _ (op : Operator) (sound : IsSound op) (modem : Modem) (tid : ℕ) (encod
         same : addition.sets.admitted ≡ is.asked.admitted
         same = ap (λ (sets : SetsFields). sets.admitted) is.sets
 
-    added-decided : IsDecided op modem said (added op modem tid addition)
-    unfolding added
+    added-decided : IsDecided op modem said (addition_within_limit op modem tid addition)
+    unfolding addition_within_limit
     added-decided = cond_both (nat_le op.row.flows (length op.state.flows)) _ _ (IsDecided op modem said)
         (λ many. decided op modem said up_to_sets FlowsFull (NoSfidFree ∷ NoSidFree ∷ ElementsOver ∷ MinislotsOver ∷ Accepted ∷ []) _ refl is.none (refl, leb-true _ _ many) refl)
         (λ few. added-under (leb-false _ _ few) (least_free_of op.row.sfids (sfids_of op.state.flows)) (least_free_of op.row.sids (sids_of op.state.flows)) refl refl)

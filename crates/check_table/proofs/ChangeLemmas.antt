@@ -21,9 +21,9 @@ use Rattle.operator_model.specs.declared.verdict.Change.{Change}
 use Rattle.operator_model.specs.declared.verdict.Verdict.TheVariants.{Refused, Put}
 use Rattle.operator_model.specs.State.{Operator}
 use Rattle.operator_model.specs.Sound.{IsSound}
-use Rattle.operator_model.specs.Asked.{transaction, refusal_naming, stated, first_encoding, free_flow, asked_sets, nested_sets, change_of}
-use Rattle.operator_model.specs.Verdict.{changed_flow, changed_reply, changed_with, changed_with_new, wants_sid, changed, change_verdict, verdict}
-use Rattle.check_table.specs.Said.{Said, said_by, Names, IsOfFlow, IsAbout, IsSetWhere, Admits}
+use Rattle.operator_model.specs.Asked.{transaction, refusal_naming, stated_or_refusal, first_encoding, free_flow, asked_sets, nested_sets, change_of}
+use Rattle.operator_model.specs.Verdict.{changed_flow, changed_reply, changed_with, changed_with_new, wants_sid, change_within_limit, change_verdict, verdict}
+use Rattle.check_table.specs.Said.{Said, said_by, NamesFlow, IsOfFlow, IsAbout, IsSetWhere, Admits}
 use Rattle.check_table.specs.Holding.{would_commit}
 use Rattle.check_table.specs.Answering.{GetsSid, told_sid}
 use Rattle.check_table.specs.declared.check.Check.TheVariants.{FlowsFull, NoSfidFree, NoSidFree, ElementsOver, MinislotsOver, Accepted}
@@ -69,10 +69,10 @@ module _ (op : Operator) (sound : IsSound op) (modem : Modem) (tid : ℕ) (encod
       match_then (IsReady op modem Dsc tid a_change encodings) IsAsked Decided (first_encoding (transaction modem Dsc tid) op.consts.classes encodings) _
       (encodings-view op modem Dsc tid a_change encodings) (λ first ready.
       match_then (IsIdentified op modem Dsc tid a_change encodings first) IsAsked Decided
-      (stated first.sfid (refusal_naming (transaction modem Dsc tid) RejectRequiredParameterNotPresent first sfid_subtype)) _
+      (stated_or_refusal first.sfid (refusal_naming (transaction modem Dsc tid) RejectRequiredParameterNotPresent first sfid_subtype)) _
       (identifier-view op modem Dsc tid a_change encodings first ready) (λ sfid identified.
-      let named : Names Dsc encodings None sfid = any_from (λ (e : FlowFields). e.sfid ≡ Some sfid) encodings first ready.has identified.is in
-      let one : ((n : ℕ) → Names Dsc encodings None n → n ≡ sfid) = only ready sfid identified in
+      let named : NamesFlow Dsc encodings None sfid = any_from (λ (e : FlowFields). e.sfid ≡ Some sfid) encodings first ready.has identified.is in
+      let one : ((n : ℕ) → NamesFlow Dsc encodings None n → n ≡ sfid) = only ready sfid identified in
       match_then (IsFound op modem said sfid) IsAsked Decided (free_flow (transaction modem Dsc tid) (flow_at sfid op.state.flows)) _
       (free-found op modem said sound.ascending identified.none sfid named one) (λ flow found.
       let is_of : IsOfFlow op said sfid flow = is_of_flow op modem said sound.ascending identified.none sfid named one flow found.there in
@@ -93,7 +93,7 @@ module _ (op : Operator) (sound : IsSound op) (modem : Modem) (tid : ℕ) (encod
       })))))
     where
       only : {first : FlowFields} → IsReady op modem Dsc tid a_change encodings first → (sfid : ℕ) → IsIdentified op modem Dsc tid a_change encodings first sfid
-          → (n : ℕ) → Names Dsc encodings None n → n ≡ sfid
+          → (n : ℕ) → NamesFlow Dsc encodings None n → n ≡ sfid
       only ready sfid identified n h =
           let same = ready.same h.1 (h.0, h.2, h.3) in
           let mine = identified.is in
@@ -162,8 +162,8 @@ module _ (op : Operator) (sound : IsSound op) (modem : Modem) (tid : ℕ) (encod
     keeps None None content = (refl, refl)
     keeps None (Some set) content = absurd (true≢false content)
 
-    changed-decided : IsDecided op modem said (changed op tid change)
-    unfolding changed
+    changed-decided : IsDecided op modem said (change_within_limit op tid change)
+    unfolding change_within_limit
     changed-decided = cond_both (wants_sid change) _ _ (IsDecided op modem said)
         (λ wants. let both = wanting change.sets.admitted change.flow.sid wants in
         changed-new both.0.0 (sym same ∙ both.0.1) both.1 (least_free_of op.row.sids (sids_of op.state.flows)) refl)

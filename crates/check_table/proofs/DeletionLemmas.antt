@@ -13,7 +13,7 @@ use Rattle.operator_model.specs.State.{Operator}
 use Rattle.operator_model.specs.Sound.{IsSound}
 use Rattle.operator_model.specs.Asked.{transaction, free_flow}
 use Rattle.operator_model.specs.Verdict.{deletion_verdict, verdict}
-use Rattle.check_table.specs.Said.{Said, said_by, Admits, Activates, AsksFor}
+use Rattle.check_table.specs.Said.{Said, said_by, Admits, Activates, EncodingAsksFor}
 use Rattle.check_table.specs.Holding.{NamesUnknownClass, GivesNoSet}
 use Rattle.check_table.specs.declared.check.Check.TheVariants.{Accepted}
 use Rattle.check_table.proofs.ListLemmas.{contains-nothing, none_any, all_append}
@@ -48,15 +48,15 @@ module _ (op : Operator) (sound : IsSound op) (modem : Modem) (tid sfid : ℕ) w
         (
           none_any (GivesNoSet op.consts) [] tt,
           (
-            (λ h. none_any (λ e. Activates e × AsksFor op.consts e h.0) [] tt h.2),
+            (λ h. none_any (λ e. Activates e × EncodingAsksFor op.consts e h.0) [] tt h.2),
             (
-              (λ h. none_any (λ e. Admits e × AsksFor op.consts e h.1) [] tt h.4),
+              (λ h. none_any (λ e. Admits e × EncodingAsksFor op.consts e h.1) [] tt h.4),
               (
                 (λ h. cc),
                 (
                   (λ h. cc),
                   (
-                    (λ h. none_any (λ e. Admits e × AsksFor op.consts e h.1) [] tt h.3),
+                    (λ h. none_any (λ e. Admits e × EncodingAsksFor op.consts e h.1) [] tt h.3),
                     (
                       (λ h. h.1 refl),
                       ((λ h. h.1 refl), tt),

@@ -17,22 +17,22 @@ use Rattle.dsx_messages.specs.declared.reply.Detail.TheVariants.{Errored}
 use Rattle.dsx_messages.specs.declared.reply.ReplyFields.{ReplyFields}
 use Rattle.param_sets.specs.Overridden.{overridden_of}
 use Rattle.plant.specs.declared.class_table.Class.{Class}
-use Rattle.plant.specs.Classes.{is_named, asked_over}
+use Rattle.plant.specs.Classes.{is_class_named, asked_over}
 use Rattle.operator_model.specs.declared.verdict.Transaction.{Transaction}
 use Rattle.operator_model.specs.declared.verdict.Verdict.TheVariants.{Refused}
 use Rattle.operator_model.specs.State.{Operator}
-use Rattle.operator_model.specs.Asked.{transaction, id_of, refusal_naming, stated, number_in, is_same, has_set_type, stand_together, first_of, is_unclassed, first_unless, first_encoding}
+use Rattle.operator_model.specs.Asked.{transaction, id_of, refusal_naming, stated_or_refusal, id_number, is_same, has_set_type, stand_together, first_of, is_unclassed, first_unless, first_encoding}
 use Rattle.lists.specs.First.{IsFirst}
 use Rattle.check_table.specs.Said.{Said, identifier, told_identifier, identifier_subtype}
 use Rattle.check_table.specs.Holding.{NamesUnknownClass, AreTwoAndFour}
-use Rattle.check_table.specs.Answering.{refused, naming}
+use Rattle.check_table.specs.Answering.{refusal_verdict, naming}
 use Rattle.check_table.specs.declared.check.Check.TheVariants.{UnknownClass, NoEncoding, IdentifiersDiffer, NotTogether, NoIdentifier, UnknownFlow, NotOwner, FlowWaits, WrongSetType, NoParameterSet, ActiveNotWithin, AdmittedNotWithin, FlowsFull, NoSfidFree, NoSidFree, ElementsOver, MinislotsOver, Accepted}
 use Rattle.check_table.proofs.ListLemmas.{contains-here, contains-later, contains_cases, any_from, none_any, all_more, find-first, first_contains, all_pass, one_fails}
 use Rattle.check_table.proofs.TableLemmas.{of_shape, of_encodings, Fails, IsDecided, decided}
 
 -- ---- identifiers
 
-pub same_number : (kind : Kind) (e : FlowFields) → number_in kind e ≡ identifier kind e
+pub same_number : (kind : Kind) (e : FlowFields) → id_number kind e ≡ identifier kind e
 same_number Dsa e = refl
 same_number Dsc e = refl
 same_number Dsd e = refl
@@ -63,14 +63,14 @@ is_same_from a b is = subst (λ (c : Option ℕ). is_same a c ≡ true) is (is_s
 -- ---- classes
 
 module _ (classes : List Class) where
-  named_so : (name : List ℕ) (class : Class) → is_named name class ≡ true → class.name ≡ name
+  named_so : (name : List ℕ) (class : Class) → is_class_named name class ≡ true → class.name ≡ name
   named_so name class is = (bytes_eq-Decides class.name name).0 is
 
-  not_named_so : (name : List ℕ) (class : Class) → is_named name class ≡ false → class.name ≢ name
+  not_named_so : (name : List ℕ) (class : Class) → is_class_named name class ≡ false → class.name ≢ name
   not_named_so name class is same = true≢false (sym ((bytes_eq-Decides class.name name).1 same) ∙ is)
 
-  named-first : (name : List ℕ) → MatchOption (find (is_named name) classes) (AllByRecursion (λ class. ¬ (class.name ≡ name)) classes) (IsFirst (λ class. class.name ≡ name) classes)
-  named-first name = find-first (λ (class : Class). class.name ≡ name) (is_named name) (named_so name) (not_named_so name) classes
+  named-first : (name : List ℕ) → MatchOption (find (is_class_named name) classes) (AllByRecursion (λ class. ¬ (class.name ≡ name)) classes) (IsFirst (λ class. class.name ≡ name) classes)
+  named-first name = find-first (λ (class : Class). class.name ≡ name) (is_class_named name) (named_so name) (not_named_so name) classes
 
   -- the class of a name, or none
   abbrev over : FlowFields → Option Class → Option FlowFields
@@ -81,7 +81,7 @@ module _ (classes : List Class) where
     where
       go : (o : Option (List ℕ)) → e.class_name ≡ o → is_none (asked_over o e classes) ≡ true → NamesUnknownClass classes e
       go None names is = absurd (false≢true is)
-      go (Some name) names is = by (find (is_named name) classes) (named-first name) is
+      go (Some name) names is = by (find (is_class_named name) classes) (named-first name) is
         where
           by : (c : Option Class) → MatchOption c (AllByRecursion (λ class. ¬ (class.name ≡ name)) classes) (IsFirst (λ class. class.name ≡ name) classes)
               → is_none (over e c) ≡ true → NamesUnknownClass classes e
@@ -93,7 +93,7 @@ module _ (classes : List Class) where
     where
       go : (o : Option (List ℕ)) → e.class_name ≡ o → is_none (asked_over o e classes) ≡ false → ⊥
       go None names is = let is_some : e.class_name ≡ Some unknown.0 = unknown.1 in cc
-      go (Some name) names is = by (find (is_named name) classes) (named-first name) is
+      go (Some name) names is = by (find (is_class_named name) classes) (named-first name) is
         where
           by : (c : Option Class) → MatchOption c (AllByRecursion (λ class. ¬ (class.name ≡ name)) classes) (IsFirst (λ class. class.name ≡ name) classes)
               → is_none (over e c) ≡ false → ⊥
@@ -179,7 +179,7 @@ module _ (op : Operator) (modem : Modem) (kind : Kind) (tid : ℕ) (not_dsd : ki
   View encodings r = MatchResult r (IsReady encodings) (λ reply. IsDecided op modem (said_of encodings) (Refused reply))
 
   -- a refusal that names an encoding
-  pub named_refusal : (encodings : List FlowFields) (code : Code) (e : FlowFields) (subtype : ℕ) → Refused (refusal_naming trans code e subtype) ≡ refused (said_of encodings) code (naming (said_of encodings) e subtype)
+  pub named_refusal : (encodings : List FlowFields) (code : Code) (e : FlowFields) (subtype : ℕ) → Refused (refusal_naming trans code e subtype) ≡ refusal_verdict (said_of encodings) code (naming (said_of encodings) e subtype)
   named_refusal encodings code e subtype =
       ap (λ (id : Option FlowId). Refused (record { kind = kind; tid = tid; code = code; detail = Errored id subtype })) (same_id kind e)
 
@@ -188,7 +188,7 @@ module _ (op : Operator) (modem : Modem) (kind : Kind) (tid : ℕ) (not_dsd : ki
     es = first ∷ others
 
     abbrev agrees : FlowFields → Bool
-    agrees other = is_same (number_in kind first) (number_in kind other)
+    agrees other = is_same (id_number kind first) (id_number kind other)
 
     some_encoding : AllByRecursion (Fails op modem (said_of es)) (UnknownClass ∷ NoEncoding ∷ [])
     some_encoding = (none_any (NamesUnknownClass op.consts.classes) es known, ((λ h. cc (h.1)), tt))
@@ -199,7 +199,7 @@ module _ (op : Operator) (modem : Modem) (kind : Kind) (tid : ℕ) (not_dsd : ki
         by : (first ≡ e) ⊎ Contains others e → identifier kind e ≡ identifier kind first
         by (inl same) = ap (identifier kind) (sym same)
         by (inr later) =
-            sym (sym (same_number kind first) ∙ (is_same_true (number_in kind first) (number_in kind e) (all_pass agrees others is e later) ∙ same_number kind e))
+            sym (sym (same_number kind first) ∙ (is_same_true (id_number kind first) (id_number kind e) (all_pass agrees others is e later) ∙ same_number kind e))
 
     differ : list_all agrees others ≡ false
         → (a : FlowFields) × (b : FlowFields) × Contains es a × Contains es b × (identifier kind a ≢ identifier kind b)
@@ -209,7 +209,7 @@ module _ (op : Operator) (modem : Modem) (kind : Kind) (tid : ℕ) (not_dsd : ki
           other.0,
           contains-here first others,
           contains-later first others other.0 other.1,
-          λ same. true≢false (sym (is_same_from (number_in kind first) (number_in kind other.0) (same_number kind first ∙ (same ∙ sym (same_number kind other.0)))) ∙ other.2),
+          λ same. true≢false (sym (is_same_from (id_number kind first) (id_number kind other.0) (same_number kind first ∙ (same ∙ sym (same_number kind other.0)))) ∙ other.2),
         )
 
     of_one_flow : list_all agrees others ≡ true → AllByRecursion (Fails op modem (said_of es)) (UnknownClass ∷ NoEncoding ∷ IdentifiersDiffer ∷ [])
@@ -269,12 +269,12 @@ module _ (op : Operator) (modem : Modem) (kind : Kind) (tid : ℕ) (not_dsd : ki
     pub none : AllByRecursion (Fails op modem (said_of encodings)) of_encodings
 
   pub identifier-view : (encodings : List FlowFields) (first : FlowFields) → IsReady encodings first
-      → MatchResult (stated (identifier kind first) (refusal_naming trans RejectRequiredParameterNotPresent first (identifier_subtype kind))) (IsIdentified encodings first)
+      → MatchResult (stated_or_refusal (identifier kind first) (refusal_naming trans RejectRequiredParameterNotPresent first (identifier_subtype kind))) (IsIdentified encodings first)
       (λ reply. IsDecided op modem (said_of encodings) (Refused reply))
   identifier-view encodings first ready = by (identifier kind first) refl
     where
       by : (o : Option ℕ) → identifier kind first ≡ o
-          → MatchResult (stated o (refusal_naming trans RejectRequiredParameterNotPresent first (identifier_subtype kind))) (IsIdentified encodings first)
+          → MatchResult (stated_or_refusal o (refusal_naming trans RejectRequiredParameterNotPresent first (identifier_subtype kind))) (IsIdentified encodings first)
           (λ reply. IsDecided op modem (said_of encodings) (Refused reply))
       by None is =
           decided op modem (said_of encodings) of_shape NoIdentifier

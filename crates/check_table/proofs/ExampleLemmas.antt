@@ -23,9 +23,9 @@ use Rattle.operator_model.specs.Verdict.{new_flow}
 use Rattle.operator_model.specs.Worked.{first_modem, second_modem}
 use Rattle.plant.specs.Row.{same_modem}
 use Rattle.std.proofs.lemmas.Bool.{true≢false}
-use Rattle.check_table.specs.Said.{Said, said_by, identifier, Names, IsAbout, AsksFor, IsRefused, Admits, Activates, IsSetWhere}
+use Rattle.check_table.specs.Said.{Said, said_by, identifier, NamesFlow, IsAbout, EncodingAsksFor, EncodingIsRefused, Admits, Activates, IsSetWhere}
 use Rattle.check_table.specs.Holding.{would_commit, NamesUnknownClass, AreTwoAndFour, IsTaken, GivesNoSet}
-use Rattle.check_table.specs.Answering.{refused, naming, set_type_code}
+use Rattle.check_table.specs.Answering.{refusal_verdict, naming, set_type_code}
 use Rattle.check_table.specs.Table.{IsDecidedBy}
 use Rattle.check_table.specs.declared.check.Check.TheVariants.{UnknownClass, NoEncoding, IdentifiersDiffer, NotTogether, NoIdentifier, UnknownFlow, NotOwner, FlowWaits, WrongSetType, NoParameterSet, ActiveNotWithin, AdmittedNotWithin, FlowsFull, NoSfidFree, NoSidFree, ElementsOver, MinislotsOver, Accepted}
 use Rattle.check_table.proofs.ListLemmas.{contains-here, contains-later, contains_cases, contains-nothing, any_from, none_any, all_more, all_append, first-here}
@@ -39,11 +39,11 @@ module _ (op : Operator) (modem : Modem) (tid : ℕ) where
   abbrev adds : List FlowFields → Said
   adds es = said_by (requests.Dsa tid es)
 
-  pub nothing_added : IsDecidedBy op modem (adds []) NoEncoding (refused (adds []) RejectRequiredParameterNotPresent Nothing)
+  pub nothing_added : IsDecidedBy op modem (adds []) NoEncoding (refusal_verdict (adds []) RejectRequiredParameterNotPresent Nothing)
   nothing_added =
       decided_by op modem (adds []) (UnknownClass ∷ []) NoEncoding
       (IdentifiersDiffer ∷ NotTogether ∷ NoIdentifier ∷ UnknownFlow ∷ NotOwner ∷ FlowWaits ∷ WrongSetType ∷ NoParameterSet ∷ ActiveNotWithin ∷ AdmittedNotWithin ∷ FlowsFull ∷ NoSfidFree ∷ NoSidFree ∷ ElementsOver ∷ MinislotsOver ∷ Accepted ∷ [])
-      (refused (adds []) RejectRequiredParameterNotPresent Nothing) refl
+      (refusal_verdict (adds []) RejectRequiredParameterNotPresent Nothing) refl
       (none_any (NamesUnknownClass op.consts.classes) [] tt, tt) ((λ h. cc), refl) refl
 
   unclassed_fails : (e : FlowFields) → e.class_name ≡ None → ¬ NamesUnknownClass op.consts.classes e
@@ -56,19 +56,19 @@ module _ (op : Operator) (modem : Modem) (tid : ℕ) where
     two_named : AllByRecursion (Fails op modem (adds two)) (UnknownClass ∷ NoEncoding ∷ [])
     two_named = (none_any (NamesUnknownClass op.consts.classes) two (unclassed_fails a plain_a, (unclassed_fails b plain_b, tt)), ((λ h. cc (h.1)), tt))
 
-    pub two_differ : a.reference ≢ b.reference → IsDecidedBy op modem (adds two) IdentifiersDiffer (refused (adds two) RejectMultipleUpstreamFlows Nothing)
+    pub two_differ : a.reference ≢ b.reference → IsDecidedBy op modem (adds two) IdentifiersDiffer (refusal_verdict (adds two) RejectMultipleUpstreamFlows Nothing)
     two_differ apart =
         decided_by op modem (adds two) (UnknownClass ∷ NoEncoding ∷ []) IdentifiersDiffer
         (NotTogether ∷ NoIdentifier ∷ UnknownFlow ∷ NotOwner ∷ FlowWaits ∷ WrongSetType ∷ NoParameterSet ∷ ActiveNotWithin ∷ AdmittedNotWithin ∷ FlowsFull ∷ NoSfidFree ∷ NoSidFree ∷ ElementsOver ∷ MinislotsOver ∷ Accepted ∷ [])
-        (refused (adds two) RejectMultipleUpstreamFlows Nothing) refl two_named
+        (refusal_verdict (adds two) RejectMultipleUpstreamFlows Nothing) refl two_named
         (a, b, contains-here a (b ∷ []), contains-later a (b ∷ []) b (contains-here b []), apart) refl
 
     pub two_apart : AllByRecursion (λ e. e.reference ≡ a.reference) two → ¬ AreTwoAndFour (a.set_type ∷ b.set_type ∷ [])
-        → IsDecidedBy op modem (adds two) NotTogether (refused (adds two) RejectDuplicateReference Nothing)
+        → IsDecidedBy op modem (adds two) NotTogether (refusal_verdict (adds two) RejectDuplicateReference Nothing)
     two_apart same apart =
         decided_by op modem (adds two) (UnknownClass ∷ NoEncoding ∷ IdentifiersDiffer ∷ []) NotTogether
         (NoIdentifier ∷ UnknownFlow ∷ NotOwner ∷ FlowWaits ∷ WrongSetType ∷ NoParameterSet ∷ ActiveNotWithin ∷ AdmittedNotWithin ∷ FlowsFull ∷ NoSfidFree ∷ NoSidFree ∷ ElementsOver ∷ MinislotsOver ∷ Accepted ∷ [])
-        (refused (adds two) RejectDuplicateReference Nothing) refl
+        (refusal_verdict (adds two) RejectDuplicateReference Nothing) refl
         (all_more (Fails op modem (adds two)) (UnknownClass ∷ NoEncoding ∷ []) IdentifiersDiffer two_named
         (λ h. h.4 (each h.0 h.2 ∙ sym (each h.1 h.3)))) (omega arith, apart) refl
       where
@@ -77,7 +77,7 @@ module _ (op : Operator) (modem : Modem) (tid : ℕ) where
 
     -- the one of set type 2 and the other of set type 4, of one reference
     module _ (n : ℕ) (is_a : a.reference ≡ Some n) (is_b : b.reference ≡ Some n) (is_two : a.set_type ≡ Some 2) (is_four : b.set_type ≡ Some 4)
-        (x y : ParamFields) (asks_x : AsksFor op.consts a x) (asks_y : AsksFor op.consts b y) where
+        (x y : ParamFields) (asks_x : EncodingAsksFor op.consts a x) (asks_y : EncodingAsksFor op.consts b y) where
       two_one : (e : FlowFields) → Contains two e → e.reference ≡ Some n
       two_one e has =
           All-contains (λ (z : FlowFields). z.reference ≡ Some n) two e (All-from_recursion (λ (z : FlowFields). z.reference ≡ Some n) two (is_a, (is_b, tt))) has
@@ -101,25 +101,25 @@ module _ (op : Operator) (modem : Modem) (tid : ℕ) where
             (λ h. cc (h.1)),
             (
               none_any (GivesNoSet op.consts) two
-                  ((λ h. let no : IsRefused op.consts a h.1 = h.2 in cc), ((λ h. let no : IsRefused op.consts b h.1 = h.2 in cc), tt)),
+                  ((λ h. let no : EncodingIsRefused op.consts a h.1 = h.2 in cc), ((λ h. let no : EncodingIsRefused op.consts b h.1 = h.2 in cc), tt)),
               tt,
             ),
           )
 
       pub two_beyond : (subtype : ℕ) → first_failing y x ≡ Some subtype
-          → IsDecidedBy op modem (adds two) ActiveNotWithin (refused (adds two) RejectInvalidForContext (naming (adds two) a subtype))
+          → IsDecidedBy op modem (adds two) ActiveNotWithin (refusal_verdict (adds two) RejectInvalidForContext (naming (adds two) a subtype))
       two_beyond subtype fails =
           decided_by op modem (adds two) (up_to_flow ++ WrongSetType ∷ NoParameterSet ∷ []) ActiveNotWithin
           (AdmittedNotWithin ∷ FlowsFull ∷ NoSfidFree ∷ NoSidFree ∷ ElementsOver ∷ MinislotsOver ∷ Accepted ∷ [])
-          (refused (adds two) RejectInvalidForContext (naming (adds two) a subtype)) refl two_sets
+          (refusal_verdict (adds two) RejectInvalidForContext (naming (adds two) a subtype)) refl two_sets
           (y, x, active, admitted, λ within. let nothing = nothing_fails y x within in cc)
           (a, y, x, subtype, contains-here a (b ∷ []), active, admitted, fails, refl)
         where
           active : IsSetWhere Activates op.consts two (Some y)
-          active = any_from (λ (e : FlowFields). Activates e × AsksFor op.consts e y) two b (contains-later a (b ∷ []) b (contains-here b [])) (inl is_four, asks_y)
+          active = any_from (λ (e : FlowFields). Activates e × EncodingAsksFor op.consts e y) two b (contains-later a (b ∷ []) b (contains-here b [])) (inl is_four, asks_y)
 
           admitted : IsSetWhere Admits op.consts two (Some x)
-          admitted = any_from (λ (e : FlowFields). Admits e × AsksFor op.consts e x) two a (contains-here a (b ∷ [])) (inl is_two, asks_x)
+          admitted = any_from (λ (e : FlowFields). Admits e × EncodingAsksFor op.consts e x) two a (contains-here a (b ∷ [])) (inl is_two, asks_x)
 
   module _ (e : FlowFields) (plain : e.class_name ≡ None) where
     abbrev one : List FlowFields
@@ -137,11 +137,11 @@ module _ (op : Operator) (modem : Modem) (tid : ℕ) where
       ),
     )
 
-    pub one_unnamed : e.reference ≡ None → IsDecidedBy op modem (adds one) NoIdentifier (refused (adds one) RejectRequiredParameterNotPresent (Errored None 1))
+    pub one_unnamed : e.reference ≡ None → IsDecidedBy op modem (adds one) NoIdentifier (refusal_verdict (adds one) RejectRequiredParameterNotPresent (Errored None 1))
     one_unnamed none =
         decided_by op modem (adds one) of_shape NoIdentifier
         (UnknownFlow ∷ NotOwner ∷ FlowWaits ∷ WrongSetType ∷ NoParameterSet ∷ ActiveNotWithin ∷ AdmittedNotWithin ∷ FlowsFull ∷ NoSfidFree ∷ NoSidFree ∷ ElementsOver ∷ MinislotsOver ∷ Accepted ∷ [])
-        (refused (adds one) RejectRequiredParameterNotPresent (Errored None 1)) refl one_shape
+        (refusal_verdict (adds one) RejectRequiredParameterNotPresent (Errored None 1)) refl one_shape
         (any_from (λ (x : FlowFields). x.reference ≡ None) one e (contains-here e []) none) refl
 
     module _ (n : ℕ) (is : e.reference ≡ Some n) where
@@ -151,22 +151,22 @@ module _ (op : Operator) (modem : Modem) (tid : ℕ) where
           (all_more (Fails op modem (adds one)) of_shape NoIdentifier one_shape (none_any (λ (x : FlowFields). x.reference ≡ None) one ((λ h. cc), tt)))
           ((λ h. h.1), ((λ h. h.2.0), ((λ h. h.2.0), tt)))
 
-      pub one_mistyped : ¬ IsTaken Dsa e.set_type → IsDecidedBy op modem (adds one) WrongSetType (refused (adds one) (set_type_code e.set_type) (naming (adds one) e 6))
+      pub one_mistyped : ¬ IsTaken Dsa e.set_type → IsDecidedBy op modem (adds one) WrongSetType (refusal_verdict (adds one) (set_type_code e.set_type) (naming (adds one) e 6))
       one_mistyped untaken =
           decided_by op modem (adds one) up_to_flow WrongSetType
           (NoParameterSet ∷ ActiveNotWithin ∷ AdmittedNotWithin ∷ FlowsFull ∷ NoSfidFree ∷ NoSidFree ∷ ElementsOver ∷ MinislotsOver ∷ Accepted ∷ [])
-          (refused (adds one) (set_type_code e.set_type) (naming (adds one) e 6)) refl one_flow (e, refl, untaken) (e, refl, refl)
+          (refusal_verdict (adds one) (set_type_code e.set_type) (naming (adds one) e 6)) refl one_flow (e, refl, untaken) (e, refl, refl)
 
       pub one_typed : e.set_type ≡ Some 6 → AllByRecursion (Fails op modem (adds one)) (up_to_flow ++ WrongSetType ∷ [])
       one_typed six = all_more (Fails op modem (adds one)) up_to_flow WrongSetType one_flow
           (λ h. let same : e ≡ h.0 = cc in h.2 (inr (inl (sym (ap (λ (x : FlowFields). x.set_type) same) ∙ six))))
 
-      pub one_refused : e.set_type ≡ Some 6 → (r : Refusal) → IsRefused op.consts e r
-          → IsDecidedBy op modem (adds one) NoParameterSet (refused (adds one) r.code (naming (adds one) e r.subtype))
+      pub one_refused : e.set_type ≡ Some 6 → (r : Refusal) → EncodingIsRefused op.consts e r
+          → IsDecidedBy op modem (adds one) NoParameterSet (refusal_verdict (adds one) r.code (naming (adds one) e r.subtype))
       one_refused six r is_refused =
           decided_by op modem (adds one) (up_to_flow ++ WrongSetType ∷ []) NoParameterSet
           (ActiveNotWithin ∷ AdmittedNotWithin ∷ FlowsFull ∷ NoSfidFree ∷ NoSidFree ∷ ElementsOver ∷ MinislotsOver ∷ Accepted ∷ [])
-          (refused (adds one) r.code (naming (adds one) e r.subtype)) refl (one_typed six)
+          (refusal_verdict (adds one) r.code (naming (adds one) e r.subtype)) refl (one_typed six)
           (any_from (GivesNoSet op.consts) one e (contains-here e []) gives) (e, r, first-here (GivesNoSet op.consts) e [] gives, is_refused, refl)
         where
           gives : GivesNoSet op.consts e
@@ -174,15 +174,15 @@ module _ (op : Operator) (modem : Modem) (tid : ℕ) where
 
       -- ---- its set is read, and is admitted and active
 
-      module _ (six : e.set_type ≡ Some 6) (set : ParamFields) (asks : AsksFor op.consts e set) where
+      module _ (six : e.set_type ≡ Some 6) (set : ParamFields) (asks : EncodingAsksFor op.consts e set) where
         is_set : IsSetWhere Admits op.consts one (Some set)
-        is_set = any_from (λ (x : FlowFields). Admits x × AsksFor op.consts x set) one e (contains-here e []) (inr six, asks)
+        is_set = any_from (λ (x : FlowFields). Admits x × EncodingAsksFor op.consts x set) one e (contains-here e []) (inr six, asks)
 
         -- each set that is asked for is this one
         the_set : (P : FlowFields → Type 0) (x : ParamFields) → IsSetWhere P op.consts one (Some x) → x ≡ set
         the_set P x h =
             let same : h.1 ≡ e = only_one e h.1 e (h.0, h.2, h.3) (contains-here e []) in
-            let asked : AsksFor op.consts e x = subst (λ (y : FlowFields). AsksFor op.consts y x) same h.4.1 in
+            let asked : EncodingAsksFor op.consts e x = subst (λ (y : FlowFields). EncodingAsksFor op.consts y x) same h.4.1 in
             cc
 
         alone : (o : Option ParamFields) → IsSetWhere Admits op.consts one o → o ≡ Some set
@@ -192,36 +192,36 @@ module _ (op : Operator) (modem : Modem) (tid : ℕ) where
         pub one_set_read : AllByRecursion (Fails op modem (adds one)) up_to_sets
         one_set_read =
             all_append (Fails op modem (adds one)) (up_to_flow ++ WrongSetType ∷ []) (NoParameterSet ∷ ActiveNotWithin ∷ AdmittedNotWithin ∷ []) (one_typed six) (
-              none_any (GivesNoSet op.consts) one ((λ h. let refused : IsRefused op.consts e h.1 = h.2 in cc), tt),
+              none_any (GivesNoSet op.consts) one ((λ h. let refused : EncodingIsRefused op.consts e h.1 = h.2 in cc), tt),
               (
                 (λ h. h.4 (subst (λ (x : ParamFields). IsWithin x h.1) (sym (the_set Activates h.0 h.2)) (subst (IsWithin set) (sym (the_set Admits h.1 h.3)) (within_self set)))),
                 ((λ h. h.3.1.0), tt),
               ),
             )
 
-        pub too_many_flows : op.row.flows ≤ length op.state.flows → IsDecidedBy op modem (adds one) FlowsFull (refused (adds one) RejectTemporary Nothing)
+        pub too_many_flows : op.row.flows ≤ length op.state.flows → IsDecidedBy op modem (adds one) FlowsFull (refusal_verdict (adds one) RejectTemporary Nothing)
         too_many_flows many =
             decided_by op modem (adds one) up_to_sets FlowsFull (NoSfidFree ∷ NoSidFree ∷ ElementsOver ∷ MinislotsOver ∷ Accepted ∷ [])
-            (refused (adds one) RejectTemporary Nothing) refl one_set_read (refl, many) refl
+            (refusal_verdict (adds one) RejectTemporary Nothing) refl one_set_read (refl, many) refl
 
         module _ (few : length op.state.flows < op.row.flows) where
           with_room : AllByRecursion (Fails op modem (adds one)) (up_to_sets ++ FlowsFull ∷ [])
           with_room = all_more (Fails op modem (adds one)) up_to_sets FlowsFull one_set_read (λ h. let many = h.1 in absurd (omega arith))
 
-          pub sfids_used : least_free_of op.row.sfids (sfids_of op.state.flows) ≡ None → IsDecidedBy op modem (adds one) NoSfidFree (refused (adds one) RejectTemporary Nothing)
+          pub sfids_used : least_free_of op.row.sfids (sfids_of op.state.flows) ≡ None → IsDecidedBy op modem (adds one) NoSfidFree (refusal_verdict (adds one) RejectTemporary Nothing)
           sfids_used none =
               decided_by op modem (adds one) (up_to_sets ++ FlowsFull ∷ []) NoSfidFree (NoSidFree ∷ ElementsOver ∷ MinislotsOver ∷ Accepted ∷ [])
-              (refused (adds one) RejectTemporary Nothing) refl with_room (refl, used_up op.row.sfids (sfids_of op.state.flows) none) refl
+              (refusal_verdict (adds one) RejectTemporary Nothing) refl with_room (refl, used_up op.row.sfids (sfids_of op.state.flows) none) refl
 
           module _ (sfid : ℕ) (some_sfid : least_free_of op.row.sfids (sfids_of op.state.flows) ≡ Some sfid) where
             with_sfid : AllByRecursion (Fails op modem (adds one)) (up_to_sets ++ FlowsFull ∷ NoSfidFree ∷ [])
             with_sfid = all_more (Fails op modem (adds one)) (up_to_sets ++ FlowsFull ∷ []) NoSfidFree with_room
                 (λ h. not_used_up op.row.sfids (sfids_of op.state.flows) sfid (least_one op.row.sfids (sfids_of op.state.flows) sfid some_sfid) h.1)
 
-            pub sids_used : least_free_of op.row.sids (sids_of op.state.flows) ≡ None → IsDecidedBy op modem (adds one) NoSidFree (refused (adds one) RejectTemporary Nothing)
+            pub sids_used : least_free_of op.row.sids (sids_of op.state.flows) ≡ None → IsDecidedBy op modem (adds one) NoSidFree (refusal_verdict (adds one) RejectTemporary Nothing)
             sids_used none =
                 decided_by op modem (adds one) (up_to_sets ++ FlowsFull ∷ NoSfidFree ∷ []) NoSidFree (ElementsOver ∷ MinislotsOver ∷ Accepted ∷ [])
-                (refused (adds one) RejectTemporary Nothing) refl with_sfid
+                (refusal_verdict (adds one) RejectTemporary Nothing) refl with_sfid
                 (None, set, refl, is_set, refl, used_up op.row.sids (sids_of op.state.flows) none) refl
 
             module _ (sid : ℕ) (some_sid : least_free_of op.row.sids (sids_of op.state.flows) ≡ Some sid) where
@@ -230,10 +230,10 @@ module _ (op : Operator) (modem : Modem) (tid : ℕ) where
                   (λ h. not_used_up op.row.sids (sids_of op.state.flows) sid (least_one op.row.sids (sids_of op.state.flows) sid some_sid) h.5)
 
               pub elements_over : op.row.elements < would_commit (λ need. need.elements) op None (Some set)
-                  → IsDecidedBy op modem (adds one) ElementsOver (refused (adds one) RejectTemporary Nothing)
+                  → IsDecidedBy op modem (adds one) ElementsOver (refusal_verdict (adds one) RejectTemporary Nothing)
               elements_over over =
                   decided_by op modem (adds one) (up_to_sets ++ FlowsFull ∷ NoSfidFree ∷ NoSidFree ∷ []) ElementsOver (MinislotsOver ∷ Accepted ∷ [])
-                  (refused (adds one) RejectTemporary Nothing) refl with_sid
+                  (refusal_verdict (adds one) RejectTemporary Nothing) refl with_sid
                   (would_commit (λ need. need.elements) op None (Some set), (λ h. cc), (None, Some set, refl, is_set, refl), over) refl
 
               none_about : (o : Option Flow) → IsAbout op (adds one) o → o ≡ None
@@ -242,10 +242,10 @@ module _ (op : Operator) (modem : Modem) (tid : ℕ) where
 
               pub minislots_over : would_commit (λ need. need.elements) op None (Some set) ≤ op.row.elements
                   → op.state.share.budget < would_commit (λ need. need.minislots) op None (Some set)
-                  → IsDecidedBy op modem (adds one) MinislotsOver (refused (adds one) RejectTemporary Nothing)
+                  → IsDecidedBy op modem (adds one) MinislotsOver (refusal_verdict (adds one) RejectTemporary Nothing)
               minislots_over within over =
                   decided_by op modem (adds one) (up_to_sets ++ FlowsFull ∷ NoSfidFree ∷ NoSidFree ∷ ElementsOver ∷ []) MinislotsOver (Accepted ∷ [])
-                  (refused (adds one) RejectTemporary Nothing) refl
+                  (refusal_verdict (adds one) RejectTemporary Nothing) refl
                   (all_more (Fails op modem (adds one)) (up_to_sets ++ FlowsFull ∷ NoSfidFree ∷ NoSidFree ∷ []) ElementsOver with_sid
                   (λ h. let n = h.3 in
                   let same : h.0 ≡ would_commit (λ need. need.elements) op None (Some set) =
@@ -257,7 +257,7 @@ module _ (op : Operator) (modem : Modem) (tid : ℕ) where
   -- ---- changes
 
   -- one encoding that admits and activates a set of the one flow that stands
-  module _ (e : FlowFields) (plain : e.class_name ≡ None) (n : ℕ) (is : e.sfid ≡ Some n) (six : e.set_type ≡ Some 6) (set : ParamFields) (asks : AsksFor op.consts e set)
+  module _ (e : FlowFields) (plain : e.class_name ≡ None) (n : ℕ) (is : e.sfid ≡ Some n) (six : e.set_type ≡ Some 6) (set : ParamFields) (asks : EncodingAsksFor op.consts e set)
       (flow : Flow) (there : op.state.flows ≡ (n, flow) ∷ []) (mine : flow.modem ≡ modem) (rests : flow.pending ≡ None) where
     abbrev changes : Said
     changes = said_by (requests.Dsc tid (e ∷ []))
@@ -265,7 +265,7 @@ module _ (op : Operator) (modem : Modem) (tid : ℕ) where
     stands : Contains op.state.flows (n, flow)
     stands = subst (λ (flows : List (ℕ × Flow)). Contains flows (n, flow)) (sym there) (contains-here (n, flow) [])
 
-    named : (m : ℕ) → Names Dsc (e ∷ []) None m → m ≡ n
+    named : (m : ℕ) → NamesFlow Dsc (e ∷ []) None m → m ≡ n
     named m h =
         let same = only_one e h.1 e (h.0, h.2, h.3) (contains-here e []) in
         let other : h.1.sfid ≡ Some m = h.4 in
@@ -285,14 +285,14 @@ module _ (op : Operator) (modem : Modem) (tid : ℕ) where
     the_set_of : (P : FlowFields → Type 0) (x : ParamFields) → IsSetWhere P op.consts (e ∷ []) (Some x) → x ≡ set
     the_set_of P x h =
         let same : h.1 ≡ e = only_one e h.1 e (h.0, h.2, h.3) (contains-here e []) in
-        let asked : AsksFor op.consts e x = subst (λ (y : FlowFields). AsksFor op.consts y x) same h.4.1 in
+        let asked : EncodingAsksFor op.consts e x = subst (λ (y : FlowFields). EncodingAsksFor op.consts y x) same h.4.1 in
         cc
 
     sets_within : AllByRecursion (Fails op modem changes) (WrongSetType ∷ NoParameterSet ∷ ActiveNotWithin ∷ [])
     sets_within = (
       (λ h. let same : e ≡ h.0 = cc in h.2 (inr (inl (sym (ap (λ (x : FlowFields). x.set_type) same) ∙ six)))),
       (
-        none_any (GivesNoSet op.consts) (e ∷ []) ((λ h. let no : IsRefused op.consts e h.1 = h.2 in cc), tt),
+        none_any (GivesNoSet op.consts) (e ∷ []) ((λ h. let no : EncodingIsRefused op.consts e h.1 = h.2 in cc), tt),
         (
           (λ h. h.4 (subst (λ (x : ParamFields). IsWithin x h.1) (sym (the_set_of Activates h.0 h.2)) (subst (IsWithin set) (sym (the_set_of Admits h.1 h.3)) (within_self set)))),
           tt,
@@ -328,11 +328,11 @@ module _ (op : Operator) (modem : Modem) (tid : ℕ) where
     )
 
     pub change_beyond : (provisioned : ParamFields) → flow.sets.provisioned ≡ Some provisioned → (subtype : ℕ) → first_failing set provisioned ≡ Some subtype
-        → IsDecidedBy op modem changes AdmittedNotWithin (refused changes RejectAuthorizationFailure (naming changes e subtype))
+        → IsDecidedBy op modem changes AdmittedNotWithin (refusal_verdict changes RejectAuthorizationFailure (naming changes e subtype))
     change_beyond provisioned is_provisioned subtype fails =
         decided_by op modem changes (up_to_flow ++ WrongSetType ∷ NoParameterSet ∷ ActiveNotWithin ∷ []) AdmittedNotWithin
         (FlowsFull ∷ NoSfidFree ∷ NoSidFree ∷ ElementsOver ∷ MinislotsOver ∷ Accepted ∷ [])
-        (refused changes RejectAuthorizationFailure (naming changes e subtype)) refl change_within
+        (refusal_verdict changes RejectAuthorizationFailure (naming changes e subtype)) refl change_within
         (flow, set, provisioned, about, admitted, is_provisioned, λ within. let nothing = nothing_fails set provisioned within in cc)
         (e, flow, set, provisioned, subtype, contains-here e [], about, admitted, is_provisioned, fails, refl)
       where
@@ -340,7 +340,7 @@ module _ (op : Operator) (modem : Modem) (tid : ℕ) where
         about = (n, (any_from (λ (x : FlowFields). x.sfid ≡ Some n) (e ∷ []) e (contains-here e []) is, stands))
 
         admitted : IsSetWhere Admits op.consts (e ∷ []) (Some set)
-        admitted = any_from (λ (x : FlowFields). Admits x × AsksFor op.consts x set) (e ∷ []) e (contains-here e []) (inr six, asks)
+        admitted = any_from (λ (x : FlowFields). Admits x × EncodingAsksFor op.consts x set) (e ∷ []) e (contains-here e []) (inr six, asks)
 
   -- ---- deletions
 
@@ -354,11 +354,11 @@ module _ (op : Operator) (modem : Modem) (tid : ℕ) where
       ((λ h. h.0 refl), ((λ h. contains-nothing h.0 h.2), ((λ h. absurd (omega (arith, h.0))), (none_any (λ (x : FlowFields). identifier Dsd x ≡ None) [] tt, tt)))),
     )
 
-    pub none_deleted : ¬ Contains (sfids_of op.state.flows) sfid → IsDecidedBy op modem deletes UnknownFlow (refused deletes RejectFlowNotFound Nothing)
+    pub none_deleted : ¬ Contains (sfids_of op.state.flows) sfid → IsDecidedBy op modem deletes UnknownFlow (refusal_verdict deletes RejectFlowNotFound Nothing)
     none_deleted unknown =
         decided_by op modem deletes of_encodings UnknownFlow
         (NotOwner ∷ FlowWaits ∷ WrongSetType ∷ NoParameterSet ∷ ActiveNotWithin ∷ AdmittedNotWithin ∷ FlowsFull ∷ NoSfidFree ∷ NoSidFree ∷ ElementsOver ∷ MinislotsOver ∷ Accepted ∷ [])
-        (refused deletes RejectFlowNotFound Nothing) refl no_encodings (sfid, refl, unknown) refl
+        (refusal_verdict deletes RejectFlowNotFound Nothing) refl no_encodings (sfid, refl, unknown) refl
 
     module _ (flow : Flow) (there : op.state.flows ≡ (sfid, flow) ∷ []) where
       has : Contains op.state.flows (sfid, flow)
@@ -374,17 +374,17 @@ module _ (op : Operator) (modem : Modem) (tid : ℕ) where
           by (inl same) = sym (ap (λ (entry : ℕ × Flow). entry.1) same)
           by (inr none) = absurd (contains-nothing (n, f) none)
 
-      pub not_owned : flow.modem ≢ modem → IsDecidedBy op modem deletes NotOwner (refused deletes RejectNotOwner Nothing)
+      pub not_owned : flow.modem ≢ modem → IsDecidedBy op modem deletes NotOwner (refusal_verdict deletes RejectNotOwner Nothing)
       not_owned other =
           decided_by op modem deletes (of_encodings ++ UnknownFlow ∷ []) NotOwner
           (FlowWaits ∷ WrongSetType ∷ NoParameterSet ∷ ActiveNotWithin ∷ AdmittedNotWithin ∷ FlowsFull ∷ NoSfidFree ∷ NoSidFree ∷ ElementsOver ∷ MinislotsOver ∷ Accepted ∷ [])
-          (refused deletes RejectNotOwner Nothing) refl (all_more (Fails op modem deletes) of_encodings UnknownFlow no_encodings known) (sfid, flow, (refl, has), other) refl
+          (refusal_verdict deletes RejectNotOwner Nothing) refl (all_more (Fails op modem deletes) of_encodings UnknownFlow no_encodings known) (sfid, flow, (refl, has), other) refl
 
-      pub waits : flow.modem ≡ modem → IsSome flow.pending → IsDecidedBy op modem deletes FlowWaits (refused deletes RejectTemporary Nothing)
+      pub waits : flow.modem ≡ modem → IsSome flow.pending → IsDecidedBy op modem deletes FlowWaits (refusal_verdict deletes RejectTemporary Nothing)
       waits mine pending =
           decided_by op modem deletes (of_encodings ++ UnknownFlow ∷ NotOwner ∷ []) FlowWaits
           (WrongSetType ∷ NoParameterSet ∷ ActiveNotWithin ∷ AdmittedNotWithin ∷ FlowsFull ∷ NoSfidFree ∷ NoSidFree ∷ ElementsOver ∷ MinislotsOver ∷ Accepted ∷ [])
-          (refused deletes RejectTemporary Nothing) refl
+          (refusal_verdict deletes RejectTemporary Nothing) refl
           (all_more (Fails op modem deletes) (of_encodings ++ UnknownFlow ∷ []) NotOwner (all_more (Fails op modem deletes) of_encodings UnknownFlow no_encodings known)
           (λ h. h.3 (ap (λ (f : Flow). f.modem) (one_flow_there h.0 h.1 h.2.1) ∙ mine)))
           (sfid, flow, (refl, has), pending) refl

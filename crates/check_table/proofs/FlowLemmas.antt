@@ -16,7 +16,7 @@ use Rattle.operator_model.specs.State.{Operator}
 use Rattle.operator_model.specs.Asked.{transaction, free_flow}
 use Rattle.operator_model.proofs.MapLemmas.{Ascends, nat_cmp_equal, is_at_other, found_as}
 use Rattle.operator_model.proofs.FreshLemmas.{used_sfid}
-use Rattle.check_table.specs.Said.{Said, Names, IsOfFlow}
+use Rattle.check_table.specs.Said.{Said, NamesFlow, IsOfFlow}
 use Rattle.check_table.specs.declared.check.Check.TheVariants.{UnknownFlow, NotOwner, FlowWaits, WrongSetType, NoParameterSet, ActiveNotWithin, AdmittedNotWithin, FlowsFull, NoSfidFree, NoSidFree, ElementsOver, MinislotsOver, Accepted}
 use Rattle.check_table.proofs.ListLemmas.{contains_cases, contains-nothing, all_more}
 use Rattle.check_table.proofs.EntryLemmas.{at_contains, contained_at}
@@ -49,7 +49,7 @@ pub record IsFound (op : Operator) (modem : Modem) (said : Said) (sfid : ℕ) (f
   pub none : AllByRecursion (Fails op modem said) up_to_flow
 
 module _ (op : Operator) (modem : Modem) (said : Said) (s : Ascends op.state.flows) (none : AllByRecursion (Fails op modem said) of_encodings) (sfid : ℕ)
-    (named : Names said.kind said.encodings said.sfid sfid) (only : (n : ℕ) → Names said.kind said.encodings said.sfid n → n ≡ sfid) where
+    (named : NamesFlow said.kind said.encodings said.sfid sfid) (only : (n : ℕ) → NamesFlow said.kind said.encodings said.sfid n → n ≡ sfid) where
   module _ (flow : Flow) (there : flow_at sfid op.state.flows ≡ Some flow) where
     pub is_of_flow : IsOfFlow op said sfid flow
     is_of_flow = (named, at_contains op.state.flows sfid flow there)

@@ -16,13 +16,13 @@ use Rattle.operator_model.specs.Sound.{IsSound}
 use Rattle.operator_model.specs.Handle.{StepResult, silent}
 use Rattle.check_table.specs.Said.{said_by}
 use Rattle.check_table.specs.Table.{IsDecidedBy}
-use Rattle.check_table.specs.Messages.{Reading, IsRequest, IsKept, IsUnread, IsRefusedFor, IsRepeatOf, HoldsOf, AnswersOf, message_table, IsHandledBy}
+use Rattle.check_table.specs.Messages.{Reading, ReadsAsRequest, IsCachedEntry, IsUnread, IsRefusedFor, IsRepeatOf, HoldsOf, AnswersOf, message_table, IsHandledBy}
 use Rattle.check_table.specs.declared.check.MessageCheck.{MessageCheck}
 use Rattle.check_table.specs.declared.check.MessageCheck.TheVariants.{Unread, OfCmts, Repeated, KeptFull, Faulty, Judged}
 use Rattle.check_table.proofs.ListLemmas.{first_one}
 use Rattle.check_table.proofs.OnceLemmas.{decided_once}
 
-request_once : (reading : Reading) (k j : Kind) (m n : ℕ) → IsRequest reading k m → IsRequest reading j n → (k ≡ j) × (m ≡ n)
+request_once : (reading : Reading) (k j : Kind) (m n : ℕ) → ReadsAsRequest reading k m → ReadsAsRequest reading j n → (k ≡ j) × (m ≡ n)
 request_once (Ok (messages.Request request)) k j m n g h = (sym g.0 ∙ h.0, sym g.1 ∙ h.1)
 request_once (Ok (messages.Ack kind tid code)) k j m n g h = absurd g
 request_once (Err faults.Empty) k j m n g h = absurd g
@@ -66,7 +66,7 @@ module _ (op : Operator) (modem : Modem) where
     repeated_once : AnswersOf Repeated op modem reading v → AnswersOf Repeated op modem reading w → v ≡ w
     repeated_once g h =
         let one = request_once reading g.0 h.0 g.1 h.1 g.3 h.3 in
-        let kept : IsKept op modem h.1 g.2 = subst (λ (n : ℕ). IsKept op modem n g.2) one.1 g.4 in
+        let kept : IsCachedEntry op modem h.1 g.2 = subst (λ (n : ℕ). IsCachedEntry op modem n g.2) one.1 g.4 in
         let entry : g.2 ≡ h.2 = first_one (λ (e : KeptEntry). (e.modem ≡ modem) × (e.tid ≡ h.1)) op.state.kept g.2 h.2 kept h.4 in
         let answer : IsRepeatOf op modem h.0 h.2 v =
         subst (λ (e : KeptEntry). IsRepeatOf op modem h.0 e v) entry (subst (λ (k : Kind). IsRepeatOf op modem k g.2 v) one.0 g.5) in

@@ -33,13 +33,13 @@ use Rattle.operator_model.specs.declared.verdict.Verdict.{Verdict}
 use Rattle.operator_model.specs.declared.verdict.Verdict.TheVariants.{Refused}
 use Rattle.operator_model.specs.State.{Operator}
 use Rattle.operator_model.specs.Sound.{IsSound}
-use Rattle.operator_model.specs.Verdict.{verdict, errored}
-use Rattle.operator_model.specs.Handle.{StepResult, repeated, new_unless, transacted, carried_out, is_of_cmts, message_handled, handle}
+use Rattle.operator_model.specs.Verdict.{verdict, encoding_refusal}
+use Rattle.operator_model.specs.Handle.{StepResult, repeat_result, new_unless, transaction_result, carried_out, is_of_cmts, message_handled, handle}
 use Rattle.check_table.specs.declared.check.MessageCheck.{MessageCheck}
 use Rattle.check_table.specs.declared.check.MessageCheck.TheVariants.{Unread, OfCmts, Repeated, KeptFull, Faulty, Judged}
 use Rattle.lists.specs.First.{IsFirst}
 use Rattle.check_table.specs.Said.{said_by}
-use Rattle.check_table.specs.Messages.{IsNoAck, IsRequest, IsKept, IsUnread, IsRefusedFor, IsRepeatOf, HoldsOf, AnswersOf, message_table, IsHandledBy}
+use Rattle.check_table.specs.Messages.{IsNoAck, ReadsAsRequest, IsCachedEntry, IsUnread, IsRefusedFor, IsRepeatOf, HoldsOf, AnswersOf, message_table, IsHandledBy}
 use Rattle.check_table.proofs.ListLemmas.{find-first, first_none, all_more}
 use Rattle.check_table.proofs.FlowLemmas.{same_modems, modem_itself}
 use Rattle.check_table.proofs.RequestLemmas.{request-decided}
@@ -91,13 +91,13 @@ module _ (op : Operator) (modem : Modem) where
   -- ---- a request
 
   -- of this kind under this transaction ID alone, and read as far as that; the rest of the table makes this of it
-  module _ (reading : Result Message MessageFault) (kind : Kind) (tid : ℕ) (v : Verdict) (is : IsRequest reading kind tid)
-      (only : (k : Kind) (n : ℕ) → IsRequest reading k n → (k ≡ kind) × (n ≡ tid)) (was_read : Off reading Unread)
+  module _ (reading : Result Message MessageFault) (kind : Kind) (tid : ℕ) (v : Verdict) (is : ReadsAsRequest reading kind tid)
+      (only : (k : Kind) (n : ℕ) → ReadsAsRequest reading k n → (k ≡ kind) × (n ≡ tid)) (was_read : Off reading Unread)
       (rest : AllByRecursion (Off reading) (Unread ∷ OfCmts ∷ Repeated ∷ KeptFull ∷ []) → Handled reading (carried_out op.consts op.state modem kind tid v)) where
     of_modem : is_of_cmts tid ≡ false → AllByRecursion (Off reading) (Unread ∷ OfCmts ∷ [])
     of_modem low = (was_read, ((λ h. let same = (only h.0 h.1 h.2).1 in let high = h.3 in let least = leb-false 32768 tid low in absurd (omega arith)), tt))
 
-    repeat_told : (entry : KeptEntry) → IsRepeatOf op modem kind entry (repeated op.state modem kind entry)
+    repeat_told : (entry : KeptEntry) → IsRepeatOf op modem kind entry (repeat_result op.state modem kind entry)
     repeat_told entry =
         cond_both (same_kind entry.kind kind) _ _ (IsRepeatOf op modem kind entry) (λ same. inl (kind_same entry.kind kind same, refl))
         (λ other. inr ((λ equal. true≢false (sym (ap (λ (k : Kind). same_kind k kind) equal ∙ kind_itself kind) ∙ other)), refl))
@@ -118,9 +118,9 @@ module _ (op : Operator) (modem : Modem) where
         is_new : AllByRecursion (Off reading) (Unread ∷ OfCmts ∷ Repeated ∷ [])
         is_new = all_more (Off reading) (Unread ∷ OfCmts ∷ []) Repeated (of_modem low)
             (λ h. first_none (λ (e : KeptEntry). (e.modem ≡ modem) × (e.tid ≡ tid)) op.state.kept none h.2
-            (subst (λ (n : ℕ). IsKept op modem n h.2) (only h.0 h.1 h.3).1 h.4))
+            (subst (λ (n : ℕ). IsCachedEntry op modem n h.2) (only h.0 h.1 h.3).1 h.4))
 
-    transacted-handled : Handled reading (transacted op modem kind tid v)
+    transacted-handled : Handled reading (transaction_result op modem kind tid v)
     transacted-handled =
         cond_both (is_of_cmts tid) _ _ (Handled reading)
         (λ high. handled reading (Unread ∷ []) OfCmts (Repeated ∷ KeptFull ∷ Faulty ∷ Judged ∷ []) _ refl (was_read, tt)
@@ -139,7 +139,7 @@ module _ (op : Operator) (modem : Modem) where
       by (inr (inr is)) = cc (is.1)
 
   module _ (sound : IsSound op) (request : Request) (kind : Kind) (tid : ℕ) (is_kind : (said_by request).kind ≡ kind) (is_tid : (said_by request).tid ≡ tid) where
-    judged : Handled (Ok (messages.Request request)) (transacted op modem kind tid (verdict op modem request))
+    judged : Handled (Ok (messages.Request request)) (transaction_result op modem kind tid (verdict op modem request))
     judged =
         transacted-handled (Ok (messages.Request request)) kind tid (verdict op modem request) (is_kind, is_tid) (λ k n is. (sym is.0 ∙ is_kind, sym is.1 ∙ is_tid))
         (read_so (messages.Request request)) (λ none. by none (request-decided op modem request sound))
@@ -159,9 +159,9 @@ module _ (op : Operator) (modem : Modem) where
             )
 
   -- a fault behind the fixed part
-  module _ (fault : MessageFault) (kind : Kind) (tid : ℕ) (code : Code) (detail : Detail) (is : IsRequest (Err fault) kind tid)
-      (only : (k : Kind) (n : ℕ) → IsRequest (Err fault) k n → (k ≡ kind) × (n ≡ tid)) (was_read : Off (Err fault) Unread) (refused : IsRefusedFor fault code detail) where
-    faulty : Handled (Err fault) (transacted op modem kind tid (Refused (record { kind = kind; tid = tid; code = code; detail = detail })))
+  module _ (fault : MessageFault) (kind : Kind) (tid : ℕ) (code : Code) (detail : Detail) (is : ReadsAsRequest (Err fault) kind tid)
+      (only : (k : Kind) (n : ℕ) → ReadsAsRequest (Err fault) k n → (k ≡ kind) × (n ≡ tid)) (was_read : Off (Err fault) Unread) (refused : IsRefusedFor fault code detail) where
+    faulty : Handled (Err fault) (transaction_result op modem kind tid (Refused (record { kind = kind; tid = tid; code = code; detail = detail })))
     faulty =
         transacted-handled (Err fault) kind tid (Refused (record { kind = kind; tid = tid; code = code; detail = detail })) is only was_read
         (λ none. handled (Err fault) (Unread ∷ OfCmts ∷ Repeated ∷ KeptFull ∷ []) Faulty (Judged ∷ []) _ refl none
@@ -184,7 +184,7 @@ module _ (op : Operator) (modem : Modem) where
       by (inr (inr is)) = cc (is.1)
 
   tlv-handled : (tid : ℕ) (kind : Kind) (id : Option FlowId) (fault : TlvFault) → fault ≢ tlv_faults.NoMemory
-      → Handled (Err (faults.Tlv tid kind id fault)) (transacted op modem kind tid (Refused (errored kind tid id fault)))
+      → Handled (Err (faults.Tlv tid kind id fault)) (transaction_result op modem kind tid (Refused (encoding_refusal kind tid id fault)))
   tlv-handled tid kind id (tlv_faults.Cut place) some =
       faulty (faults.Tlv tid kind id (tlv_faults.Cut place)) kind tid RejectOther Nothing (refl, refl) (λ k n is. (sym is.0, sym is.1))
       (tlv_read tid kind id (tlv_faults.Cut place)) (refl, refl)

@@ -18,7 +18,7 @@ use Rattle.operator_model.specs.State.{Operator}
 use Rattle.operator_model.specs.Asked.{is_same, stand_together}
 use Rattle.operator_model.proofs.MapLemmas.{Ascends}
 use Rattle.lists.specs.First.{IsFirst}
-use Rattle.check_table.specs.Said.{Said, identifier, told_identifier, Names, IsOfFlow, IsRefused, Admits, Activates, IsSetWhere}
+use Rattle.check_table.specs.Said.{Said, identifier, told_identifier, NamesFlow, IsOfFlow, EncodingIsRefused, Admits, Activates, IsSetWhere}
 use Rattle.check_table.specs.Holding.{Holds, AreTwoAndFour, NamesUnknownClass, GivesNoSet}
 use Rattle.check_table.specs.Answering.{IsAdded, GetsSid, IsChanged, IsDeleted, IsAccepted, Answers}
 use Rattle.check_table.specs.Table.{table, IsDecidedBy}
@@ -60,7 +60,7 @@ module _ (op : Operator) (modem : Modem) (said : Said) where
       by true is = is_same_true (identifier said.kind a) (identifier said.kind b) is
       by false is = absurd (fails (a, b, has_a, has_b, λ same. true≢false (sym (is_same_from (identifier said.kind a) (identifier said.kind b) same) ∙ is)))
 
-names_once : (kind : Kind) (es : List FlowFields) (fixed : Option ℕ) → AreSame kind es → (m n : ℕ) → Names kind es fixed m → Names kind es fixed n → m ≡ n
+names_once : (kind : Kind) (es : List FlowFields) (fixed : Option ℕ) → AreSame kind es → (m n : ℕ) → NamesFlow kind es fixed m → NamesFlow kind es fixed n → m ≡ n
 names_once Dsa es fixed same m n h k = absurd h
 names_once Dsc es fixed same m n h k =
     let here = same h.1 k.1 (h.0, h.2, h.3) (k.0, k.2, k.3) in
@@ -202,8 +202,8 @@ module _ (op : Operator) (s : Ascends op.state.flows) (modem : Modem) (said : Sa
     set_once : Answers NoParameterSet op modem said v → Answers NoParameterSet op modem said w → v ≡ w
     set_once h k =
         let same : h.0 ≡ k.0 = first_one (GivesNoSet op.consts) said.encodings h.0 k.0 h.2 k.2 in
-        let here : IsRefused op.consts k.0 h.1 = subst (λ (e : FlowFields). IsRefused op.consts e h.1) same h.3 in
-        let there : IsRefused op.consts k.0 k.1 = k.3 in
+        let here : EncodingIsRefused op.consts k.0 h.1 = subst (λ (e : FlowFields). EncodingIsRefused op.consts e h.1) same h.3 in
+        let there : EncodingIsRefused op.consts k.0 k.1 = k.3 in
         let refusal : h.1 ≡ k.1 = cc in
         let left = h.4 in
         let right = k.4 in

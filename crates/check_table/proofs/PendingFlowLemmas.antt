@@ -10,7 +10,7 @@ use Rattle.plant.specs.declared.operator_row.RowFields.{RowFields}
 use Rattle.param_sets.specs.Units.{UnitSizes}
 use Rattle.flow_table.specs.declared.flow.Flow.{Flow}
 use Rattle.flow_table.specs.declared.flow.Pending.{Pending}
-use Rattle.flow_table.specs.Flow.{with_pending, acknowledged, without_pending, taken_back, granted}
+use Rattle.flow_table.specs.Flow.{with_pending, flow_after_ack, without_pending, taken_back, flow_after_grant}
 use Rattle.flow_table.specs.Table.{flow_at}
 use Rattle.operator_model.specs.Handle.{without_flow, undone, flows_acked}
 use Rattle.flow_table.specs.Moved.{change_if, change_at}
@@ -62,7 +62,7 @@ pub acked_none : (kind : Kind) (code frame k : ℕ) (flows : List (ℕ × Flow))
     → ¬ IsPending (flows_acked kind code frame k flows) k
 acked_none kind code frame k flows ascends there waits =
     cond_both (code == 0) _ _ (λ (fs : List (ℕ × Flow)). ¬ IsPending fs k)
-    (λ _. changed_none k (acknowledged frame) flows (λ flow. acknowledged_none frame flow flow.pending refl)) (λ _. undone_none kind k flows ascends there waits)
+    (λ _. changed_none k (flow_after_ack frame) flows (λ flow. acknowledged_none frame flow flow.pending refl)) (λ _. undone_none kind k flows ascends there waits)
 
 -- ---- what is given up
 
@@ -84,20 +84,20 @@ still_pending {row} {frame} units (g ∷ given_up) flows q are have pending =
 
 -- ---- what is granted
 
-granted_pending : (q k frame minislots : ℕ) (flows : List (ℕ × Flow)) → IsPending (change_at k (granted minislots frame) flows) q → IsPending flows q
+granted_pending : (q k frame minislots : ℕ) (flows : List (ℕ × Flow)) → IsPending (change_at k (flow_after_grant minislots frame) flows) q → IsPending flows q
 granted_pending q k frame minislots flows pending = by (cases_eq q k)
   where
-    here : (o : Option Flow) → flow_at k flows ≡ o → IsPending (change_if k (granted minislots frame) flows o) k → IsPending flows k
+    here : (o : Option Flow) → flow_at k flows ≡ o → IsPending (change_if k (flow_after_grant minislots frame) flows o) k → IsPending flows k
     here None is was = was
     here (Some old) is was =
-        let same : granted minislots frame old ≡ was.0 = same_Some (granted minislots frame old) was.0 (sym (at-insert_same flows k (granted minislots frame old)) ∙ was.1) in
+        let same : flow_after_grant minislots frame old ≡ was.0 = same_Some (flow_after_grant minislots frame old) was.0 (sym (at-insert_same flows k (flow_after_grant minislots frame old)) ∙ was.1) in
         (old, is, ap (λ (f : Flow). is_some f.pending) same ∙ was.2)
 
     by : (q ≡ k) ⊎ (q ≡ k → ⊥) → IsPending flows q
-    by (inl same) = subst (IsPending flows) (sym same) (here (flow_at k flows) refl (subst (IsPending (change_at k (granted minislots frame) flows)) same pending))
-    by (inr apart) = (pending.0, sym (at-change_other q k apart flows (granted minislots frame)) ∙ pending.1, pending.2)
+    by (inl same) = subst (IsPending flows) (sym same) (here (flow_at k flows) refl (subst (IsPending (change_at k (flow_after_grant minislots frame) flows)) same pending))
+    by (inr apart) = (pending.0, sym (at-change_other q k apart flows (flow_after_grant minislots frame)) ∙ pending.1, pending.2)
 
 pub all_granted_pending : (q frame : ℕ) (grants : List (ℕ × ℕ)) (flows : List (ℕ × Flow)) → IsPending (all_granted frame grants flows) q → IsPending flows q
 all_granted_pending q frame [] flows pending = pending
 all_granted_pending q frame (grant ∷ grants) flows pending =
-    granted_pending q grant.0 frame grant.1 flows (all_granted_pending q frame grants (change_at grant.0 (granted grant.1 frame) flows) pending)
+    granted_pending q grant.0 frame grant.1 flows (all_granted_pending q frame grants (change_at grant.0 (flow_after_grant grant.1 frame) flows) pending)

@@ -22,8 +22,8 @@ use Rattle.flow_table.specs.declared.flow.Flow.{Flow}
 use Rattle.operator_model.specs.declared.verdict.AskedSets.{AskedSets}
 use Rattle.operator_model.specs.declared.verdict.Verdict.TheVariants.{Refused}
 use Rattle.operator_model.specs.State.{Operator}
-use Rattle.operator_model.specs.Asked.{refusal_naming, is_same, has_set_type, set_unless, set_over_class, set_of, is_change, asked_by_one, in_order, asked_by_two, asked_sets, failing_active, failing_admitted, nested_unless, nested_sets}
-use Rattle.check_table.specs.Said.{IsAbout, AsksFor, IsRefused, Admits, Activates, IsSetWhere}
+use Rattle.operator_model.specs.Asked.{refusal_naming, is_same, has_set_type, set_or_refusal, set_over_class, set_of, is_change, asked_by_one, in_order, asked_by_two, asked_sets, failing_active, failing_admitted, nested_unless, nested_sets}
+use Rattle.check_table.specs.Said.{IsAbout, EncodingAsksFor, EncodingIsRefused, Admits, Activates, IsSetWhere}
 use Rattle.check_table.specs.Holding.{NamesUnknownClass, IsTaken, GivesNoSet}
 use Rattle.check_table.specs.Answering.{set_type_code}
 use Rattle.check_table.specs.declared.check.Check.{Check}
@@ -49,12 +49,12 @@ module _ (op : Operator) (P : FlowFields → Type 0) where
   one_set es agree (Some x) None h k = absurd (All-contains (λ (e : FlowFields). ¬ P e) es h.1 k (h.0, h.2, h.3) h.4.0)
   one_set es agree (Some x) (Some y) h k =
       let same : h.1 ≡ k.1 = agree h.1 k.1 (h.0, h.2, h.3) (k.0, k.2, k.3) h.4.0 k.4.0 in
-      let left : AsksFor op.consts k.1 x = subst (λ (e : FlowFields). AsksFor op.consts e x) same h.4.1 in
-      let right : AsksFor op.consts k.1 y = k.4.1 in
+      let left : EncodingAsksFor op.consts k.1 x = subst (λ (e : FlowFields). EncodingAsksFor op.consts e x) same h.4.1 in
+      let right : EncodingAsksFor op.consts k.1 y = k.4.1 in
       cc
 
-  set_here : (es : List FlowFields) (e : FlowFields) (set : ParamFields) → Contains es e → P e → AsksFor op.consts e set → IsSetWhere P op.consts es (Some set)
-  set_here es e set has holds asks = any_from (λ (x : FlowFields). P x × AsksFor op.consts x set) es e has (holds, asks)
+  set_here : (es : List FlowFields) (e : FlowFields) (set : ParamFields) → Contains es e → P e → EncodingAsksFor op.consts e set → IsSetWhere P op.consts es (Some set)
+  set_here es e set has holds asks = any_from (λ (x : FlowFields). P x × EncodingAsksFor op.consts x set) es e has (holds, asks)
 
   none_of_one : (e : FlowFields) → ¬ P e → IsSetWhere P op.consts (e ∷ []) None
   none_of_one e fails = All-from_recursion (λ (x : FlowFields). ¬ P x) (e ∷ []) (fails, tt)
@@ -115,21 +115,21 @@ module _ (op : Operator) (modem : Modem) (kind : Kind) (tid : ℕ) (not_dsd : ki
 
   -- the set of an encoding, or why it has none
   abbrev IsNoSet : FlowFields → ReplyFields → Type 0
-  IsNoSet e reply = (r : Refusal) × IsRefused op.consts e r × (reply ≡ naming_refusal r.code e r.subtype)
+  IsNoSet e reply = (r : Refusal) × EncodingIsRefused op.consts e r × (reply ≡ naming_refusal r.code e r.subtype)
 
-  set-view : (e : FlowFields) → ¬ NamesUnknownClass op.consts.classes e → MatchResult (set_of (trans op modem kind tid not_dsd) op.consts e) (AsksFor op.consts e) (IsNoSet e)
+  set-view : (e : FlowFields) → ¬ NamesUnknownClass op.consts.classes e → MatchResult (set_of (trans op modem kind tid not_dsd) op.consts e) (EncodingAsksFor op.consts e) (IsNoSet e)
   unfolding set_of
   set-view e known = over (asked_of op.consts.classes e) refl
     where
       unless : (asked : FlowFields) → asked_of op.consts.classes e ≡ Some asked → (r : Result ParamFields Refusal) → parameter_set_of asked op.consts.units ≡ r
-          → MatchResult (set_unless (trans op modem kind tid not_dsd) e r) (AsksFor op.consts e) (IsNoSet e)
+          → MatchResult (set_or_refusal (trans op modem kind tid not_dsd) e r) (EncodingAsksFor op.consts e) (IsNoSet e)
       unless asked is (Ok set) was =
           ap (λ (o : Option FlowFields). option_map (λ a. parameter_set_of a op.consts.units) o) is ∙ ap (λ (r : Result ParamFields Refusal). Some r) was
       unless asked is (Err r) was =
           (r, ap (λ (o : Option FlowFields). option_map (λ a. parameter_set_of a op.consts.units) o) is ∙ ap (λ (r : Result ParamFields Refusal). Some r) was, refl)
 
       over : (o : Option FlowFields) → asked_of op.consts.classes e ≡ o
-          → MatchResult (set_over_class (trans op modem kind tid not_dsd) op.consts.units e o) (AsksFor op.consts e) (IsNoSet e)
+          → MatchResult (set_over_class (trans op modem kind tid not_dsd) op.consts.units e o) (EncodingAsksFor op.consts e) (IsNoSet e)
       over None is = absurd (known (unclassed op.consts.classes e (ap (λ (o : Option FlowFields). is_none o) is)))
       over (Some asked) is = unless asked is (parameter_set_of asked op.consts.units) refl
 
@@ -172,9 +172,9 @@ module _ (op : Operator) (modem : Modem) (kind : Kind) (tid : ℕ) (not_dsd : ki
           ap (λ (r : ReplyFields). Refused r) is.2 ∙ named_refusal op modem kind tid not_dsd (e ∷ []) is.0.code e is.0.subtype,
         )
 
-    some_set : IsTaken kind e.set_type → (set : ParamFields) → AsksFor op.consts e set → AllByRecursion (Failing (e ∷ [])) (up_to_flow ++ WrongSetType ∷ NoParameterSet ∷ [])
+    some_set : IsTaken kind e.set_type → (set : ParamFields) → EncodingAsksFor op.consts e set → AllByRecursion (Failing (e ∷ [])) (up_to_flow ++ WrongSetType ∷ NoParameterSet ∷ [])
     some_set taken set asks = all_more (Failing (e ∷ [])) (up_to_flow ++ WrongSetType ∷ []) NoParameterSet (right_type taken)
-        (none_any (GivesNoSet op.consts) (e ∷ []) ((λ h. let refused : IsRefused op.consts e h.1 = h.2 in cc), tt))
+        (none_any (GivesNoSet op.consts) (e ∷ []) ((λ h. let refused : EncodingIsRefused op.consts e h.1 = h.2 in cc), tt))
 
     admits_one : e.set_type ≡ Some 2 → View (e ∷ []) (set_of (trans op modem kind tid not_dsd) op.consts e >>= λ set. Ok (record { admitted = Some set; active = None }))
     admits_one is = by (set_of (trans op modem kind tid not_dsd) op.consts e) (set-view e known)
@@ -183,7 +183,7 @@ module _ (op : Operator) (modem : Modem) (kind : Kind) (tid : ℕ) (not_dsd : ki
         idle (inl other) = cc
         idle (inr other) = cc
 
-        by : (r : Result ParamFields ReplyFields) → MatchResult r (AsksFor op.consts e) (IsNoSet e) → View (e ∷ []) (r >>= λ set. Ok (record { admitted = Some set; active = None }))
+        by : (r : Result ParamFields ReplyFields) → MatchResult r (EncodingAsksFor op.consts e) (IsNoSet e) → View (e ∷ []) (r >>= λ set. Ok (record { admitted = Some set; active = None }))
         by (Err reply) h = no_set (inl is) (λ other. cc) reply h
         by (Ok set) asks =
             let admitted : IsSetWhere Admits op.consts (e ∷ []) (Some set) = set_here op Admits (e ∷ []) e set (contains-here e []) (inl is) asks in
@@ -200,7 +200,7 @@ module _ (op : Operator) (modem : Modem) (kind : Kind) (tid : ℕ) (not_dsd : ki
     activates_one : e.set_type ≡ Some 6 → View (e ∷ []) (set_of (trans op modem kind tid not_dsd) op.consts e >>= λ set. Ok (record { admitted = Some set; active = Some set }))
     activates_one is = by (set_of (trans op modem kind tid not_dsd) op.consts e) (set-view e known)
       where
-        by : (r : Result ParamFields ReplyFields) → MatchResult r (AsksFor op.consts e) (IsNoSet e) → View (e ∷ []) (r >>= λ set. Ok (record { admitted = Some set; active = Some set }))
+        by : (r : Result ParamFields ReplyFields) → MatchResult r (EncodingAsksFor op.consts e) (IsNoSet e) → View (e ∷ []) (r >>= λ set. Ok (record { admitted = Some set; active = Some set }))
         by (Err reply) h = no_set (inr (inl is)) (λ other. cc) reply h
         by (Ok set) asks =
             let admitted : IsSetWhere Admits op.consts (e ∷ []) (Some set) = set_here op Admits (e ∷ []) e set (contains-here e []) (inr is) asks in
@@ -287,10 +287,10 @@ module _ (op : Operator) (modem : Modem) (kind : Kind) (tid : ℕ) (not_dsd : ki
           ap (λ (r : ReplyFields). Refused r) is.2 ∙ named_refusal op modem kind tid not_dsd both is.0.code a is.0.subtype,
         )
 
-    gives_a_set : (e : FlowFields) (set : ParamFields) → AsksFor op.consts e set → ¬ GivesNoSet op.consts e
-    gives_a_set e set asks h = let refused : IsRefused op.consts e h.1 = h.2 in cc
+    gives_a_set : (e : FlowFields) (set : ParamFields) → EncodingAsksFor op.consts e set → ¬ GivesNoSet op.consts e
+    gives_a_set e set asks h = let refused : EncodingIsRefused op.consts e h.1 = h.2 in cc
 
-    second_no_set : b.set_type ≢ Some 0 → (set : ParamFields) → AsksFor op.consts a set → (reply : ReplyFields) → IsNoSet b reply → Decided both reply
+    second_no_set : b.set_type ≢ Some 0 → (set : ParamFields) → EncodingAsksFor op.consts a set → (reply : ReplyFields) → IsNoSet b reply → Decided both reply
     second_no_set not_null set asks reply is =
         decided op modem (said_of op modem kind tid not_dsd both) (up_to_flow ++ WrongSetType ∷ []) NoParameterSet
         (ActiveNotWithin ∷ AdmittedNotWithin ∷ FlowsFull ∷ NoSfidFree ∷ NoSidFree ∷ ElementsOver ∷ MinislotsOver ∷ Accepted ∷ [])
@@ -302,7 +302,7 @@ module _ (op : Operator) (modem : Modem) (kind : Kind) (tid : ℕ) (not_dsd : ki
           ap (λ (r : ReplyFields). Refused r) is.2 ∙ named_refusal op modem kind tid not_dsd both is.0.code b is.0.subtype,
         )
 
-    two_sets : (x y : ParamFields) → AsksFor op.consts a x → AsksFor op.consts b y → AllByRecursion (Failing both) (up_to_flow ++ WrongSetType ∷ NoParameterSet ∷ [])
+    two_sets : (x y : ParamFields) → EncodingAsksFor op.consts a x → EncodingAsksFor op.consts b y → AllByRecursion (Failing both) (up_to_flow ++ WrongSetType ∷ NoParameterSet ∷ [])
     two_sets x y asks_x asks_y = all_more (Failing both) (up_to_flow ++ WrongSetType ∷ []) NoParameterSet two_types
         (none_any (GivesNoSet op.consts) both (gives_a_set a x asks_x, (gives_a_set b y asks_y, tt)))
 
@@ -314,7 +314,7 @@ module _ (op : Operator) (modem : Modem) (kind : Kind) (tid : ℕ) (not_dsd : ki
 
     -- the one admits this set, and the other activates that one
     two_asked : (admitted active : ParamFields) (one other : FlowFields) → Contains both one → Contains both other → Admits one → Activates other
-        → AsksFor op.consts one admitted → AsksFor op.consts other active → AllByRecursion (Failing both) (up_to_flow ++ WrongSetType ∷ NoParameterSet ∷ [])
+        → EncodingAsksFor op.consts one admitted → EncodingAsksFor op.consts other active → AllByRecursion (Failing both) (up_to_flow ++ WrongSetType ∷ NoParameterSet ∷ [])
         → AreAsked both (record { admitted = Some admitted; active = Some active })
     two_asked admitted active one other has_one has_other admits activates asks_admitted asks_active rest =
         let first : IsSetWhere Admits op.consts both (Some admitted) = set_here op Admits both one admitted has_one admits asks_admitted in
@@ -328,7 +328,7 @@ module _ (op : Operator) (modem : Modem) (kind : Kind) (tid : ℕ) (not_dsd : ki
           none = rest;
         }
 
-    ordered : (x y : ParamFields) → AsksFor op.consts a x → AsksFor op.consts b y → IsShape both → AreAsked both (in_order a x y)
+    ordered : (x y : ParamFields) → EncodingAsksFor op.consts a x → EncodingAsksFor op.consts b y → IsShape both → AreAsked both (in_order a x y)
     ordered x y asks_x asks_y (inl is) =
         subst (AreAsked both) (sym (cond-true (has_set_type 2 a) _ _ (is_same_from a.set_type (Some 2) is.0)))
         (two_asked x y a b has_a has_b (inl is.0) (inl is.1) asks_x asks_y (two_sets x y asks_x asks_y))
@@ -353,11 +353,11 @@ module _ (op : Operator) (modem : Modem) (kind : Kind) (tid : ℕ) (not_dsd : ki
     two-view : View both (asked_by_two (trans op modem kind tid not_dsd) op.consts a b)
     two-view = by (set_of (trans op modem kind tid not_dsd) op.consts a) (set-view a known_a)
       where
-        then : (x : ParamFields) → AsksFor op.consts a x → (r : Result ParamFields ReplyFields) → MatchResult r (AsksFor op.consts b) (IsNoSet b) → View both (r >>= λ y. Ok (in_order a x y))
+        then : (x : ParamFields) → EncodingAsksFor op.consts a x → (r : Result ParamFields ReplyFields) → MatchResult r (EncodingAsksFor op.consts b) (IsNoSet b) → View both (r >>= λ y. Ok (in_order a x y))
         then x asks_x (Err reply) h = second_no_set not_null_b x asks_x reply h
         then x asks_x (Ok y) asks_y = ordered x y asks_x asks_y shape
 
-        by : (r : Result ParamFields ReplyFields) → MatchResult r (AsksFor op.consts a) (IsNoSet a)
+        by : (r : Result ParamFields ReplyFields) → MatchResult r (EncodingAsksFor op.consts a) (IsNoSet a)
             → View both (r >>= λ x. set_of (trans op modem kind tid not_dsd) op.consts b >>= λ y. Ok (in_order a x y))
         by (Err reply) h = first_no_set not_null_a reply h
         by (Ok x) asks_x = then x asks_x (set_of (trans op modem kind tid not_dsd) op.consts b) (set-view b known_b)

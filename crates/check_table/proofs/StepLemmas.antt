@@ -17,16 +17,16 @@ use Rattle.dsx_messages.specs.Reading.{message_of}
 use Rattle.dsx_messages.specs.Spelling.{spell_reply}
 use Rattle.transactions.specs.declared.entry.KeptEntry.{KeptEntry}
 use Rattle.transactions.specs.Entry.{is_waiting, is_of, same_kind, waits_for}
-use Rattle.transactions.specs.Keeping.{begun}
+use Rattle.transactions.specs.Keeping.{begun_entry}
 use Rattle.transactions.specs.Keeping as keeping
 use Rattle.transactions.specs.Timers.{given_up_in}
 use Rattle.slice_scheduler.specs.Schedule.{granted_of}
 use Rattle.plant.specs.declared.consts.ConstsFields.{ConstsFields}
 use Rattle.plant.specs.declared.operator_row.RowFields.{RowFields}
-use Rattle.plant.specs.Provisioned.{Opened, opened_flows}
+use Rattle.plant.specs.Provisioned.{OpenedFlow, opened_flows}
 use Rattle.plant.specs.Row.{same_modem, IsRowOf}
 use Rattle.flow_table.specs.declared.flow.Flow.{Flow}
-use Rattle.flow_table.specs.Flow.{asks_for_grants, acknowledged, requested}
+use Rattle.flow_table.specs.Flow.{asks_for_grants, flow_after_ack, flow_after_request}
 use Rattle.flow_table.specs.Table.{flow_at, flow_with, with_flow, is_sid, flowing_in}
 use Rattle.operator_model.specs.declared.action.Action.{Action}
 use Rattle.operator_model.specs.declared.action.Action.TheVariants.{Arrive, Work, Tick, Reslice}
@@ -36,12 +36,12 @@ use Rattle.operator_model.specs.declared.heard.Heard.TheVariants as heards
 use Rattle.operator_model.specs.declared.heard.Arrival.{Arrival}
 use Rattle.operator_model.specs.declared.verdict.Verdict.{Verdict}
 use Rattle.operator_model.specs.declared.verdict.Verdict.TheVariants.{Refused, Put, Deleted}
-use Rattle.operator_model.specs.State.{OperatorState, Operator, operator, opened_flow, opened}
+use Rattle.operator_model.specs.State.{OperatorState, Operator, operator, opened_flow, opened_state}
 use Rattle.operator_model.specs.Asked.{refusal}
-use Rattle.operator_model.specs.Verdict.{verdict, errored}
-use Rattle.operator_model.specs.Handle.{StepResult, reply_of, sfid_of, does_wait, flows_acked, carried_out, is_of_cmts, new_unless, transacted, acked_if, acked, kind_of, tid_of, message_handled, asked_of_flow, handle}
-use Rattle.operator_model.specs.Frame.{at_frame, flows_left, ticked}
-use Rattle.operator_model.specs.Machine.{worked, own_step, own_run, IsAllowed}
+use Rattle.operator_model.specs.Verdict.{verdict, encoding_refusal}
+use Rattle.operator_model.specs.Handle.{StepResult, reply_of, sfid_of, does_wait, flows_acked, carried_out, is_of_cmts, new_unless, transaction_result, acked_if, ack_result, kind_of, tid_of, message_handled, asked_of_flow, handle}
+use Rattle.operator_model.specs.Frame.{at_frame, flows_left, tick_result}
+use Rattle.operator_model.specs.Machine.{work_result, own_step, own_run, IsAllowed}
 use Rattle.operator_model.specs.Replay.{actions_of, AreTold, IsReplay}
 use Rattle.operator_model.specs.Sound.{IsWaitingOf, HasItsFlow, IsSound}
 use Rattle.operator_model.proofs.MapLemmas.{at-insert_same, at-insert_other, at-remove_same, at-remove_other}
@@ -79,7 +79,7 @@ module _ (op : Operator) (sound : IsSound op) (held : Held op.state) where
 
   module _ (modem : Modem) (kind : Kind) (tid : ℕ) (free : find (is_of modem tid) op.state.kept ≡ None) where
     entry_of : Verdict → KeptEntry
-    entry_of v = begun op.consts.timers modem tid kind (spell_reply (reply_of v)) (sfid_of v) (does_wait v)
+    entry_of v = begun_entry op.consts.timers modem tid kind (spell_reply (reply_of v)) (sfid_of v) (does_wait v)
 
     carried : (v : Verdict) → Leaves (carried_out op.consts op.state modem kind tid v)
     unfolding entry_of
@@ -108,7 +108,7 @@ module _ (op : Operator) (sound : IsSound op) (held : Held op.state) where
             ∙ (ap (λ (n : ℕ). flow_at n (remove_entry (is_at (nat_cmp sfid)) op.state.flows)) (sym same) ∙ pending.1)))
         left q pending (inr apart) = (pending.0, sym (at-remove_other q sfid apart op.state.flows) ∙ pending.1, pending.2)
 
-  transacted_held : (modem : Modem) (kind : Kind) (tid : ℕ) (v : Verdict) → Leaves (transacted op modem kind tid v)
+  transacted_held : (modem : Modem) (kind : Kind) (tid : ℕ) (v : Verdict) → Leaves (transaction_result op modem kind tid v)
   transacted_held modem kind tid v = cond_both (is_of_cmts tid) _ _ Leaves (λ _. held) (λ _. by (find (is_of modem tid) op.state.kept) refl)
     where
       by : (o : Option KeptEntry) → find (is_of modem tid) op.state.kept ≡ o → Leaves (new_unless op modem kind tid v o)
@@ -119,10 +119,10 @@ module _ (op : Operator) (sound : IsSound op) (held : Held op.state) where
 
   acked_other : (kind : Kind) (code sfid q : ℕ) → q ≢ sfid → flow_at q (flows_acked kind code op.state.frame sfid op.state.flows) ≡ flow_at q op.state.flows
   acked_other kind code sfid q apart = cond_both (code == 0) _ _ (λ (fs : List (ℕ × Flow)). flow_at q fs ≡ flow_at q op.state.flows)
-      (λ _. at-change_other q sfid apart op.state.flows (acknowledged op.state.frame))
+      (λ _. at-change_other q sfid apart op.state.flows (flow_after_ack op.state.frame))
       (λ _. at-undone_other q sfid apart op.state.flows kind)
 
-  acked_held : (modem : Modem) (tid : ℕ) (kind : Kind) (code : ℕ) → Leaves (acked op.consts op.state modem tid kind code)
+  acked_held : (modem : Modem) (tid : ℕ) (kind : Kind) (code : ℕ) → Leaves (ack_result op.consts op.state modem tid kind code)
   acked_held modem tid kind code = by (find (waits_for modem tid kind) op.state.kept) refl
     where
       ended : (x : KeptEntry) → find (waits_for modem tid kind) op.state.kept ≡ Some x → ¬ IsPending (flows_acked kind code op.state.frame x.sfid op.state.flows) x.sfid
@@ -134,7 +134,7 @@ module _ (op : Operator) (sound : IsSound op) (held : Held op.state) where
           (subst (λ (k : Kind). IfSome (flow_at x.sfid op.state.flows) (IsWaitingOf k)) (kinds_same x.kind kind passes.1) has.1)
 
       still : (x : KeptEntry) → find (waits_for modem tid kind) op.state.kept ≡ Some x → (q : ℕ) → IsPending (flows_acked kind code op.state.frame x.sfid op.state.flows) q
-          → (q ≡ x.sfid) ⊎ (q ≡ x.sfid → ⊥) → Awaits (map (keeping.acknowledged op.consts.timers modem tid kind) op.state.kept) q
+          → (q ≡ x.sfid) ⊎ (q ≡ x.sfid → ⊥) → Awaits (map (keeping.entry_after_ack op.consts.timers modem tid kind) op.state.kept) q
       still x is q pending (inl same) = absurd (ended x is (subst (IsPending (flows_acked kind code op.state.frame x.sfid op.state.flows)) same pending))
       still x is q pending (inr apart) =
           awaits-acked op.consts.timers modem tid kind op.state.kept x q held.own is apart
@@ -152,15 +152,15 @@ module _ (op : Operator) (sound : IsSound op) (held : Held op.state) where
   asked_held : (modem : Modem) (sid minislots : ℕ) → Leaves (asked_of_flow op.state modem minislots (flow_with sid op.state.flows))
   asked_held modem sid minislots = by (flow_with sid op.state.flows) refl
     where
-      left : (entry : ℕ × Flow) → flow_at entry.0 op.state.flows ≡ Some entry.1 → (q : ℕ) → IsPending (with_flow entry.0 (requested minislots op.state.frame entry.1) op.state.flows) q
+      left : (entry : ℕ × Flow) → flow_at entry.0 op.state.flows ≡ Some entry.1 → (q : ℕ) → IsPending (with_flow entry.0 (flow_after_request minislots op.state.frame entry.1) op.state.flows) q
           → (q ≡ entry.0) ⊎ (q ≡ entry.0 → ⊥) → IsPending op.state.flows q
       left entry there q pending (inl same) =
-          let flow : Flow = requested minislots op.state.frame entry.1 in
+          let flow : Flow = flow_after_request minislots op.state.frame entry.1 in
           let is : flow ≡ pending.0 = same_Some flow pending.0 (sym (at-insert_same op.state.flows entry.0 flow)
           ∙ (ap (λ (n : ℕ). flow_at n (with_flow entry.0 flow op.state.flows)) (sym same) ∙ pending.1)) in
           (entry.1, ap (λ (n : ℕ). flow_at n op.state.flows) same ∙ there, ap (λ (f : Flow). is_some f.pending) is ∙ pending.2)
       left entry there q pending (inr apart) =
-          (pending.0, sym (at-insert_other q entry.0 apart op.state.flows (requested minislots op.state.frame entry.1)) ∙ pending.1, pending.2)
+          (pending.0, sym (at-insert_other q entry.0 apart op.state.flows (flow_after_request minislots op.state.frame entry.1)) ∙ pending.1, pending.2)
 
       by : (o : Option (ℕ × Flow)) → flow_with sid op.state.flows ≡ o → Leaves (asked_of_flow op.state modem minislots o)
       by None is = held
@@ -176,7 +176,7 @@ module _ (op : Operator) (sound : IsSound op) (held : Held op.state) where
   message_held modem (Err faults.Empty) = held
   message_held modem (Err (faults.NotOurs mtype)) = held
   message_held modem (Err faults.Short) = held
-  message_held modem (Err (faults.Tlv tid kind id fault)) = transacted_held modem kind tid (Refused (errored kind tid id fault))
+  message_held modem (Err (faults.Tlv tid kind id fault)) = transacted_held modem kind tid (Refused (encoding_refusal kind tid id fault))
   message_held modem (Err (faults.LeftOut tid kind found)) = transacted_held modem kind tid (Refused (refusal kind tid codes.RejectUnrecognizedSetting))
   message_held modem (Err faults.NoMemory) = held
   message_held modem (Ok (messages.Ack kind tid code)) = acked_held modem tid kind code
@@ -186,13 +186,13 @@ module _ (op : Operator) (sound : IsSound op) (held : Held op.state) where
   handle_held modem (heards.Message bytes) = message_held modem (message_of bytes)
   handle_held modem (heards.Request sid minislots) = asked_held modem sid minislots
 
-  worked_held : (inbox : List Arrival) → Leaves (worked op inbox)
+  worked_held : (inbox : List Arrival) → Leaves (work_result op inbox)
   worked_held [] = held
   worked_held (first ∷ others) = let ran = handle_held first.modem first.heard in record { own = ran.own; waits = ran.waits }
 
   -- ---- a tick
 
-  ticked_held : Leaves (ticked op)
+  ticked_held : Leaves (tick_result op)
   ticked_held = record {
     own = own-ticked op.consts.timers op.state.kept held.own;
     waits = λ q pending.
@@ -227,7 +227,7 @@ step_awaited op action sound are allowed = awaited_of (own_step op action).state
 
 -- ---- what is opened, and a run
 
-none_opened : (frame : ℕ) (entries : List (ℕ × Opened)) (q : ℕ) → ¬ IsPending (map (λ entry. (entry.0, opened_flow frame entry.1)) entries) q
+none_opened : (frame : ℕ) (entries : List (ℕ × OpenedFlow)) (q : ℕ) → ¬ IsPending (map (λ entry. (entry.0, opened_flow frame entry.1)) entries) q
 none_opened frame [] q pending = none-some pending.0 pending.1
 none_opened frame (e ∷ entries) q pending = by (none_opened frame entries q) (is_at (nat_cmp q) e.0) pending.1
   where
@@ -235,14 +235,14 @@ none_opened frame (e ∷ entries) q pending = by (none_opened frame entries q) (
     by more true is = false≢true (ap (λ (f : Flow). is_some f.pending) (same_Some (opened_flow frame e.1) pending.0 is) ∙ pending.2)
     by more false is = more (pending.0, is, pending.2)
 
-opened_held : (consts : ConstsFields) (row : RowFields) → Held (opened consts row)
+opened_held : (consts : ConstsFields) (row : RowFields) → Held (opened_state consts row)
 opened_held consts row = record {
   own = λ i j d lt within. absurd (omega arith);
   waits = λ q pending. absurd (none_opened consts.channel.first_frame (opened_flows consts row) q pending);
 }
 
-pub opened_awaited : (consts : ConstsFields) (row : RowFields) → AreAwaited (opened consts row)
-opened_awaited consts row = awaited_of (opened consts row) (opened_held consts row)
+pub opened_awaited : (consts : ConstsFields) (row : RowFields) → AreAwaited (opened_state consts row)
+opened_awaited consts row = awaited_of (opened_state consts row) (opened_held consts row)
 
 run_held : (consts : ConstsFields) (row : RowFields) (state : OperatorState) (history : List Entry) → IsSound (operator consts row state) → Held state → AreTold (operator consts row state) history
     → Held (own_run (operator consts row state) (actions_of history)).state
@@ -253,4 +253,4 @@ run_held consts row state (entry ∷ history) sound held told =
 
 pub replay_awaited : (consts : ConstsFields) (row : RowFields) (history : List Entry) (state : OperatorState) → IsRowOf consts row → 1 ≤ row.slice.length → IsReplay consts row history state → AreAwaited state
 replay_awaited consts row history state is some replay =
-    awaited_of state (subst Held (sym replay.state_is) (run_held consts row (opened consts row) history (opened_sound consts row is some) (opened_held consts row) replay.told))
+    awaited_of state (subst Held (sym replay.state_is) (run_held consts row (opened_state consts row) history (opened_sound consts row is some) (opened_held consts row) replay.told))

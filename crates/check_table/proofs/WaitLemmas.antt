@@ -14,7 +14,7 @@ use Rattle.transactions.specs.declared.entry.KeptEntry.{KeptEntry}
 use Rattle.transactions.specs.declared.tick.GivenUp.{GivenUp}
 use Rattle.transactions.specs.Waits.{Waits}
 use Rattle.transactions.specs.Entry.{is_waiting, is_of, same_kind, waits_for}
-use Rattle.transactions.specs.Keeping.{held_entry, acknowledged}
+use Rattle.transactions.specs.Keeping.{held_entry, entry_after_ack}
 use Rattle.transactions.specs.Timers.{is_due, is_resent, is_given_up, is_forgotten, given_up_of, given_up_in, kept_after}
 use Rattle.transactions.specs.Timers as timers
 use Rattle.operator_model.proofs.KeptLemmas.{pairs-head, pairs-tail, pairs-map}
@@ -56,25 +56,25 @@ module _ (times : Waits) (modem : Modem) (tid : ℕ) (kind : Kind) where
   is_its e is = (and_parts (is_of modem tid e) (is_waiting e) (and_parts (is_of modem tid e && is_waiting e) (same_kind e.kind kind) is).0).0
 
   -- none of these is acknowledged
-  all_stay : (kept : List KeptEntry) (q : ℕ) → All (λ e. is_of modem tid e ≡ true → ⊥) kept → Awaits kept q → Awaits (map (acknowledged times modem tid kind) kept) q
+  all_stay : (kept : List KeptEntry) (q : ℕ) → All (λ e. is_of modem tid e ≡ true → ⊥) kept → Awaits kept q → Awaits (map (entry_after_ack times modem tid kind) kept) q
   all_stay [] q none w = absurd w
   all_stay (e ∷ kept) q none w =
       by (all_stay kept q (All-tail (λ (x : KeptEntry). is_of modem tid x ≡ true → ⊥) e kept none)) (waits_for modem tid kind e) refl w
     where
-      by : (Awaits kept q → Awaits (map (acknowledged times modem tid kind) kept) q) → (b : Bool) → waits_for modem tid kind e ≡ b → Awaits (e ∷ kept) q → Awaits (cond b (held_entry times e) e ∷ map (acknowledged times modem tid kind) kept) q
+      by : (Awaits kept q → Awaits (map (entry_after_ack times modem tid kind) kept) q) → (b : Bool) → waits_for modem tid kind e ≡ b → Awaits (e ∷ kept) q → Awaits (cond b (held_entry times e) e ∷ map (entry_after_ack times modem tid kind) kept) q
       by more true is w = absurd (All-head (λ (x : KeptEntry). is_of modem tid x ≡ true → ⊥) e kept none (is_its e is))
       by more false is (inl here) = inl here
       by more false is (inr w) = inr (more w)
 
   -- who waits for another flow than the one that is acknowledged waits still
   pub awaits-acked : (kept : List KeptEntry) (x : KeptEntry) (q : ℕ) → AllPairs AreOfTwo kept → find (waits_for modem tid kind) kept ≡ Some x → q ≢ x.sfid → Awaits kept q
-      → Awaits (map (acknowledged times modem tid kind) kept) q
+      → Awaits (map (entry_after_ack times modem tid kind) kept) q
   awaits-acked [] x q own found apart w = absurd w
   awaits-acked (e ∷ kept) x q own found apart w =
       by (λ there later. awaits-acked kept x q (pairs-tail AreOfTwo e kept own) there apart later) (waits_for modem tid kind e) refl found w
     where
-      by : (find (waits_for modem tid kind) kept ≡ Some x → Awaits kept q → Awaits (map (acknowledged times modem tid kind) kept) q) → (b : Bool) → waits_for modem tid kind e ≡ b → cond b (Some e) (find (waits_for modem tid kind) kept) ≡ Some x → Awaits (e ∷ kept) q
-          → Awaits (cond b (held_entry times e) e ∷ map (acknowledged times modem tid kind) kept) q
+      by : (find (waits_for modem tid kind) kept ≡ Some x → Awaits kept q → Awaits (map (entry_after_ack times modem tid kind) kept) q) → (b : Bool) → waits_for modem tid kind e ≡ b → cond b (Some e) (find (waits_for modem tid kind) kept) ≡ Some x → Awaits (e ∷ kept) q
+          → Awaits (cond b (held_entry times e) e ∷ map (entry_after_ack times modem tid kind) kept) q
       by more true is here (inl first) = absurd (apart (sym first.1 ∙ ap (λ (y : KeptEntry). y.sfid) (same_Some e x here)))
       by more true is here (inr later) = inr (all_stay kept q (λ k d lt its. pairs-head AreOfTwo e kept own k d lt modem tid (is_its e is) its) later)
       by more false is there (inl first) = inl first
@@ -86,8 +86,8 @@ module _ (times : Waits) (modem : Modem) (tid : ℕ) (kind : Kind) where
   two-held a b false true two = two
   two-held a b false false two = two
 
-  pub own-acked : (kept : List KeptEntry) → AllPairs AreOfTwo kept → AllPairs AreOfTwo (map (acknowledged times modem tid kind) kept)
-  own-acked kept own = pairs-map AreOfTwo AreOfTwo (acknowledged times modem tid kind) (λ a b two. two-held a b (waits_for modem tid kind a) (waits_for modem tid kind b) two) kept own
+  pub own-acked : (kept : List KeptEntry) → AllPairs AreOfTwo kept → AllPairs AreOfTwo (map (entry_after_ack times modem tid kind) kept)
+  own-acked kept own = pairs-map AreOfTwo AreOfTwo (entry_after_ack times modem tid kind) (λ a b two. two-held a b (waits_for modem tid kind a) (waits_for modem tid kind b) two) kept own
 
 -- ---- a tick
 
@@ -102,10 +102,10 @@ module _ (times : Waits) where
 
   pub own-ticked : (kept : List KeptEntry) → AllPairs AreOfTwo kept → AllPairs AreOfTwo (kept_after times kept)
   own-ticked kept own =
-      pairs-map AreOfTwo AreOfTwo (timers.ticked times) (λ a b two. two-ticked a b (is_resent a) (is_resent b) two) (filter (λ e. not (is_forgotten e)) kept)
+      pairs-map AreOfTwo AreOfTwo (timers.entry_after_tick times) (λ a b two. two-ticked a b (is_resent a) (is_resent b) two) (filter (λ e. not (is_forgotten e)) kept)
       (AllPairs-filter AreOfTwo (λ e. not (is_forgotten e)) kept own)
 
-  ticked_waits : (e : KeptEntry) (q : ℕ) → is_waiting e ≡ true → e.sfid ≡ q → (is_waiting (timers.ticked times e) ≡ true) × ((timers.ticked times e).sfid ≡ q)
+  ticked_waits : (e : KeptEntry) (q : ℕ) → is_waiting e ≡ true → e.sfid ≡ q → (is_waiting (timers.entry_after_tick times e) ≡ true) × ((timers.entry_after_tick times e).sfid ≡ q)
   ticked_waits e q waits is = cond_both (is_resent e) _ _ (λ (x : KeptEntry). (is_waiting x ≡ true) × (x.sfid ≡ q)) (λ _. (waits, is)) (λ _. (waits, is))
 
   -- what waits and is not given up is not forgotten
@@ -121,12 +121,12 @@ module _ (times : Waits) where
   awaits-ticked [] q apart w = absurd w
   awaits-ticked (e ∷ kept) q apart w = by (λ others later. awaits-ticked kept q others later) (is_given_up e) refl apart w
     where
-      onto : (b : Bool) → Awaits (kept_after times kept) q → Awaits (map (timers.ticked times) (cond b (e ∷ filter (λ e. not (is_forgotten e)) kept) (filter (λ e. not (is_forgotten e)) kept))) q
+      onto : (b : Bool) → Awaits (kept_after times kept) q → Awaits (map (timers.entry_after_tick times) (cond b (e ∷ filter (λ e. not (is_forgotten e)) kept) (filter (λ e. not (is_forgotten e)) kept))) q
       onto true w = inr w
       onto false w = w
 
       here : (b : Bool) → not (is_forgotten e) ≡ b → is_waiting e ≡ true → e.sfid ≡ q → is_given_up e ≡ false
-          → Awaits (map (timers.ticked times) (cond b (e ∷ filter (λ e. not (is_forgotten e)) kept) (filter (λ e. not (is_forgotten e)) kept))) q
+          → Awaits (map (timers.entry_after_tick times) (cond b (e ∷ filter (λ e. not (is_forgotten e)) kept) (filter (λ e. not (is_forgotten e)) kept))) q
       here true is waits same stays = inl (ticked_waits e q waits same)
       here false is waits same stays = absurd (true≢false (sym (not_forgotten e waits stays) ∙ is))
 

@@ -19,15 +19,15 @@ use Rattle.operator_model.specs.declared.verdict.Verdict.{Verdict}
 use Rattle.operator_model.specs.declared.verdict.Verdict.TheVariants.{Refused, Put, Deleted}
 use Rattle.operator_model.specs.State.{Operator}
 use Rattle.lists.specs.First.{IsFirst}
-use Rattle.check_table.specs.Said.{Said, told_identifier, identifier_subtype, Names, IsOfFlow, IsAbout, IsRefused, IsToBeAdmitted, IsToBeActive}
+use Rattle.check_table.specs.Said.{Said, told_identifier, identifier_subtype, NamesFlow, IsOfFlow, IsAbout, EncodingIsRefused, IsToBeAdmitted, IsToBeActive}
 use Rattle.check_table.specs.Holding.{NamesUnknownClass, GivesNoSet}
 use Rattle.check_table.specs.declared.check.Check.{Check}
 use Rattle.check_table.specs.declared.check.Check.TheVariants.{UnknownClass, NoEncoding, IdentifiersDiffer, NotTogether, NoIdentifier, UnknownFlow, NotOwner, FlowWaits, WrongSetType, NoParameterSet, ActiveNotWithin, AdmittedNotWithin, FlowsFull, NoSfidFree, NoSidFree, ElementsOver, MinislotsOver, Accepted}
 
 -- ---- refusals
 
-abbrev pub refused : Said → Code → Detail → Verdict
-refused said code detail = Refused (record { kind = said.kind; tid = said.tid; code = code; detail = detail })
+abbrev pub refusal_verdict : Said → Code → Detail → Verdict
+refusal_verdict said code detail = Refused (record { kind = said.kind; tid = said.tid; code = code; detail = detail })
 
 -- the invalid encoding, by its identifier, and a subtype
 abbrev pub naming : Said → FlowFields → ℕ → Detail
@@ -105,7 +105,7 @@ pub record IsChanged (op : Operator) (said : Said) (answer : Verdict) : Type 0 w
 -- the flow goes
 pub record IsDeleted (said : Said) (answer : Verdict) : Type 0 where
   pub sfid : ℕ
-  pub named : Names said.kind said.encodings said.sfid sfid
+  pub named : NamesFlow said.kind said.encodings said.sfid sfid
   pub is : answer ≡ Deleted sfid (record { kind = Dsd; tid = said.tid; code = Okay; detail = Nothing })
 
 abbrev pub IsAccepted : Kind → Operator → Modem → Said → Verdict → Type 0
@@ -118,38 +118,38 @@ IsAccepted Dsd op modem said answer = IsDeleted said answer
 abbrev pub Answers : Check → Operator → Modem → Said → Verdict → Type 0
 Answers UnknownClass op modem said answer =
     (encoding : FlowFields) × IsFirst (NamesUnknownClass op.consts.classes) said.encodings encoding
-    × (answer ≡ refused said RejectPermanent (naming said encoding class_name_subtype))
-Answers NoEncoding op modem said answer = answer ≡ refused said RejectRequiredParameterNotPresent Nothing
-Answers IdentifiersDiffer op modem said answer = answer ≡ refused said RejectMultipleUpstreamFlows Nothing
-Answers NotTogether op modem said answer = answer ≡ refused said RejectDuplicateReference Nothing
+    × (answer ≡ refusal_verdict said RejectPermanent (naming said encoding class_name_subtype))
+Answers NoEncoding op modem said answer = answer ≡ refusal_verdict said RejectRequiredParameterNotPresent Nothing
+Answers IdentifiersDiffer op modem said answer = answer ≡ refusal_verdict said RejectMultipleUpstreamFlows Nothing
+Answers NotTogether op modem said answer = answer ≡ refusal_verdict said RejectDuplicateReference Nothing
 Answers NoIdentifier op modem said answer =
-    answer ≡ refused said RejectRequiredParameterNotPresent (Errored None (identifier_subtype said.kind))
-Answers UnknownFlow op modem said answer = answer ≡ refused said RejectFlowNotFound Nothing
-Answers NotOwner op modem said answer = answer ≡ refused said RejectNotOwner Nothing
-Answers FlowWaits op modem said answer = answer ≡ refused said RejectTemporary Nothing
+    answer ≡ refusal_verdict said RejectRequiredParameterNotPresent (Errored None (identifier_subtype said.kind))
+Answers UnknownFlow op modem said answer = answer ≡ refusal_verdict said RejectFlowNotFound Nothing
+Answers NotOwner op modem said answer = answer ≡ refusal_verdict said RejectNotOwner Nothing
+Answers FlowWaits op modem said answer = answer ≡ refusal_verdict said RejectTemporary Nothing
 Answers WrongSetType op modem said answer =
     (encoding : FlowFields) × (said.encodings ≡ encoding ∷ [])
-    × (answer ≡ refused said (set_type_code encoding.set_type) (naming said encoding set_type_subtype))
+    × (answer ≡ refusal_verdict said (set_type_code encoding.set_type) (naming said encoding set_type_subtype))
 Answers NoParameterSet op modem said answer =
     (encoding : FlowFields) × (refusal : Refusal) × IsFirst (GivesNoSet op.consts) said.encodings encoding
-    × IsRefused op.consts encoding refusal
-    × (answer ≡ refused said refusal.code (naming said encoding refusal.subtype))
+    × EncodingIsRefused op.consts encoding refusal
+    × (answer ≡ refusal_verdict said refusal.code (naming said encoding refusal.subtype))
 Answers ActiveNotWithin op modem said answer =
     (encoding : FlowFields) × (active : ParamFields) × (admitted : ParamFields) × (subtype : ℕ)
     × Contains said.encodings encoding
     × IsToBeActive op said (Some active) × IsToBeAdmitted op said (Some admitted)
     × (first_failing active admitted ≡ Some subtype)
-    × (answer ≡ refused said RejectInvalidForContext (naming said encoding subtype))
+    × (answer ≡ refusal_verdict said RejectInvalidForContext (naming said encoding subtype))
 Answers AdmittedNotWithin op modem said answer =
     (encoding : FlowFields) × (flow : Flow) × (admitted : ParamFields) × (provisioned : ParamFields) × (subtype : ℕ)
     × Contains said.encodings encoding
     × IsAbout op said (Some flow) × IsToBeAdmitted op said (Some admitted)
     × (flow.sets.provisioned ≡ Some provisioned)
     × (first_failing admitted provisioned ≡ Some subtype)
-    × (answer ≡ refused said RejectAuthorizationFailure (naming said encoding subtype))
-Answers FlowsFull op modem said answer = answer ≡ refused said RejectTemporary Nothing
-Answers NoSfidFree op modem said answer = answer ≡ refused said RejectTemporary Nothing
-Answers NoSidFree op modem said answer = answer ≡ refused said RejectTemporary Nothing
-Answers ElementsOver op modem said answer = answer ≡ refused said RejectTemporary Nothing
-Answers MinislotsOver op modem said answer = answer ≡ refused said RejectTemporary Nothing
+    × (answer ≡ refusal_verdict said RejectAuthorizationFailure (naming said encoding subtype))
+Answers FlowsFull op modem said answer = answer ≡ refusal_verdict said RejectTemporary Nothing
+Answers NoSfidFree op modem said answer = answer ≡ refusal_verdict said RejectTemporary Nothing
+Answers NoSidFree op modem said answer = answer ≡ refusal_verdict said RejectTemporary Nothing
+Answers ElementsOver op modem said answer = answer ≡ refusal_verdict said RejectTemporary Nothing
+Answers MinislotsOver op modem said answer = answer ≡ refusal_verdict said RejectTemporary Nothing
 Answers Accepted op modem said answer = IsAccepted said.kind op modem said answer

@@ -12,7 +12,7 @@ use Rattle.operator_model.specs.declared.output.Output.{Output}
 use Rattle.operator_model.specs.declared.verdict.Verdict.{Verdict}
 use Rattle.operator_model.specs.State.{Operator, operator}
 use Rattle.operator_model.specs.Handle.{StepResult, reply_of}
-use Rattle.operator_model.specs.Worked.{worked_consts, worked_row, first_modem, hex, sent, addition, addition_ack, full_addition, after}
+use Rattle.operator_model.specs.Worked.{worked_consts, worked_row, first_modem, hex, message_actions, addition, addition_ack, full_addition, after}
 use Rattle.check_table.specs.declared.check.Check.{Check}
 use Rattle.check_table.specs.declared.check.MessageCheck.{MessageCheck}
 use Rattle.check_table.specs.Said.{said_by}
@@ -20,15 +20,15 @@ use Rattle.check_table.specs.Table.{IsDecidedBy}
 use Rattle.check_table.specs.Messages.{IsHandledBy}
 
 -- the worked plant's operator with this row, once this was done
-abbrev pub worked : RowFields → List Action → Operator
-worked row actions = operator worked_consts row (after worked_consts row actions)
+abbrev pub worked_operator : RowFields → List Action → Operator
+worked_operator row actions = operator worked_consts row (after worked_consts row actions)
 
 -- a best-effort flow is added and acknowledged; likewise one that needs the whole budget
 abbrev pub one_added : List Action
-one_added = sent first_modem addition ++ sent first_modem addition_ack
+one_added = message_actions first_modem addition ++ message_actions first_modem addition_ack
 
 abbrev pub full_added : List Action
-full_added = sent first_modem full_addition ++ sent first_modem addition_ack
+full_added = message_actions first_modem full_addition ++ message_actions first_modem addition_ack
 
 -- what is read is a request that this check decides, and it is answered with this reply
 abbrev pub IsAnsweredAs : Operator → Modem → Check → List ℕ → Result Message MessageFault → Type 0

@@ -19,7 +19,7 @@ use Rattle.operator_model.specs.declared.share.NextShare.{NextShare}
 use Rattle.operator_model.specs.State.{Operator}
 use Rattle.check_table.specs.declared.check.Check.{Check}
 use Rattle.check_table.specs.declared.check.Check.TheVariants.{UnknownClass, NoEncoding, IdentifiersDiffer, NotTogether, NoIdentifier, UnknownFlow, NotOwner, FlowWaits, WrongSetType, NoParameterSet, ActiveNotWithin, AdmittedNotWithin, FlowsFull, NoSfidFree, NoSidFree, ElementsOver, MinislotsOver, Accepted}
-use Rattle.check_table.specs.Said.{Said, identifier, Names, IsOfFlow, IsAbout, IsRefused, IsToBeAdmitted, IsToBeActive}
+use Rattle.check_table.specs.Said.{Said, identifier, NamesFlow, IsOfFlow, IsAbout, EncodingIsRefused, IsToBeAdmitted, IsToBeActive}
 
 -- an encoding names a class, and no class of the plant has that name
 abbrev pub NamesUnknownClass : List Class → FlowFields → Type 0
@@ -36,7 +36,7 @@ IsTaken kind set_type = (set_type ≡ Some 2) ⊎ ((set_type ≡ Some 6) ⊎ ((k
 
 -- an encoding that is to give a set, and is refused
 abbrev pub GivesNoSet : ConstsFields → FlowFields → Type 0
-GivesNoSet consts encoding = (encoding.set_type ≢ Some 0) × (refusal : Refusal) × IsRefused consts encoding refusal
+GivesNoSet consts encoding = (encoding.set_type ≢ Some 0) × (refusal : Refusal) × EncodingIsRefused consts encoding refusal
 
 -- no number of the range is free
 abbrev pub IsUsedUp : Numbers → List ℕ → Type 0
@@ -73,7 +73,7 @@ Holds NotTogether op modem said =
     (1 < length said.encodings) × (¬ AreTwoAndFour (map (λ encoding. encoding.set_type) said.encodings))
 Holds NoIdentifier op modem said = Any (λ encoding. identifier said.kind encoding ≡ None) said.encodings
 Holds UnknownFlow op modem said =
-    (sfid : ℕ) × Names said.kind said.encodings said.sfid sfid × (¬ Contains (sfids_of op.state.flows) sfid)
+    (sfid : ℕ) × NamesFlow said.kind said.encodings said.sfid sfid × (¬ Contains (sfids_of op.state.flows) sfid)
 Holds NotOwner op modem said = (sfid : ℕ) × (flow : Flow) × IsOfFlow op said sfid flow × (flow.modem ≢ modem)
 Holds FlowWaits op modem said = (sfid : ℕ) × (flow : Flow) × IsOfFlow op said sfid flow × IsSome flow.pending
 Holds WrongSetType op modem said =

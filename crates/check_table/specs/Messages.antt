@@ -20,7 +20,7 @@ use Rattle.operator_model.specs.declared.output.Cause.TheVariants as causes
 use Rattle.operator_model.specs.declared.verdict.Verdict.{Verdict}
 use Rattle.operator_model.specs.declared.verdict.Verdict.TheVariants.{Refused}
 use Rattle.operator_model.specs.State.{Operator}
-use Rattle.operator_model.specs.Handle.{StepResult, silent, told, carried_out}
+use Rattle.operator_model.specs.Handle.{StepResult, silent, reply_result, carried_out}
 use Rattle.check_table.specs.declared.check.Check.{Check}
 use Rattle.check_table.specs.declared.check.MessageCheck.{MessageCheck}
 use Rattle.check_table.specs.declared.check.MessageCheck.TheVariants.{Unread, OfCmts, Repeated, KeptFull, Faulty, Judged}
@@ -37,15 +37,15 @@ abbrev pub IsNoAck : Reading → Type 0
 IsNoAck reading = (kind : Kind) (tid code : ℕ) → reading ≢ Ok (messages.Ack kind tid code)
 
 -- a request of this kind under this transaction ID, whose rest was read or is invalid
-abbrev pub IsRequest : Reading → Kind → ℕ → Type 0
-IsRequest (Ok (messages.Request request)) kind tid = ((said_by request).kind ≡ kind) × ((said_by request).tid ≡ tid)
-IsRequest (Err (faults.Tlv of_tid of_kind id fault)) kind tid = (of_kind ≡ kind) × (of_tid ≡ tid)
-IsRequest (Err (faults.LeftOut of_tid of_kind found)) kind tid = (of_kind ≡ kind) × (of_tid ≡ tid)
-IsRequest reading kind tid = ⊥
+abbrev pub ReadsAsRequest : Reading → Kind → ℕ → Type 0
+ReadsAsRequest (Ok (messages.Request request)) kind tid = ((said_by request).kind ≡ kind) × ((said_by request).tid ≡ tid)
+ReadsAsRequest (Err (faults.Tlv of_tid of_kind id fault)) kind tid = (of_kind ≡ kind) × (of_tid ≡ tid)
+ReadsAsRequest (Err (faults.LeftOut of_tid of_kind found)) kind tid = (of_kind ≡ kind) × (of_tid ≡ tid)
+ReadsAsRequest reading kind tid = ⊥
 
 -- the entry that is kept of a modem's transaction
-abbrev pub IsKept : Operator → Modem → ℕ → KeptEntry → Type 0
-IsKept op modem tid entry = IsFirst (λ e. (e.modem ≡ modem) × (e.tid ≡ tid)) op.state.kept entry
+abbrev pub IsCachedEntry : Operator → Modem → ℕ → KeptEntry → Type 0
+IsCachedEntry op modem tid entry = IsFirst (λ e. (e.modem ≡ modem) × (e.tid ≡ tid)) op.state.kept entry
 
 -- ---- what is not answered, and what is refused
 
@@ -70,40 +70,40 @@ IsRefusedFor fault code detail = ⊥
 -- a refusal is reported, and nothing is kept
 abbrev pub IsTurnedAway : Operator → Modem → Kind → ℕ → Code → StepResult → Type 0
 IsTurnedAway op modem kind tid code ran =
-    ran ≡ told op.state modem (spell_reply (record { kind = kind; tid = tid; code = code; detail = Nothing }))
+    ran ≡ reply_result op.state modem (spell_reply (record { kind = kind; tid = tid; code = code; detail = Nothing }))
 
 -- the same kind of request gets the kept bytes again, another kind no answer
 abbrev pub IsRepeatOf : Operator → Modem → Kind → KeptEntry → StepResult → Type 0
 IsRepeatOf op modem kind entry ran =
-    ((entry.kind ≡ kind) × (ran ≡ told op.state modem entry.reply))
+    ((entry.kind ≡ kind) × (ran ≡ reply_result op.state modem entry.reply))
     ⊎ ((entry.kind ≢ kind) × (ran ≡ silent op.state modem causes.TidInUse))
 
 -- ---- the checks
 
 abbrev pub HoldsOf : MessageCheck → Operator → Modem → Reading → Type 0
 HoldsOf Unread op modem reading = (cause : Cause) × IsUnread reading cause
-HoldsOf OfCmts op modem reading = (kind : Kind) × (tid : ℕ) × IsRequest reading kind tid × (32768 ≤ tid)
+HoldsOf OfCmts op modem reading = (kind : Kind) × (tid : ℕ) × ReadsAsRequest reading kind tid × (32768 ≤ tid)
 HoldsOf Repeated op modem reading =
-    (kind : Kind) × (tid : ℕ) × (entry : KeptEntry) × IsRequest reading kind tid × IsKept op modem tid entry
+    (kind : Kind) × (tid : ℕ) × (entry : KeptEntry) × ReadsAsRequest reading kind tid × IsCachedEntry op modem tid entry
 HoldsOf KeptFull op modem reading =
-    (kind : Kind) × (tid : ℕ) × IsRequest reading kind tid × (op.row.transactions ≤ length op.state.kept)
+    (kind : Kind) × (tid : ℕ) × ReadsAsRequest reading kind tid × (op.row.transactions ≤ length op.state.kept)
 HoldsOf Faulty op modem reading =
-    (kind : Kind) × (tid : ℕ) × (fault : MessageFault) × IsRequest reading kind tid × (reading ≡ Err fault)
+    (kind : Kind) × (tid : ℕ) × (fault : MessageFault) × ReadsAsRequest reading kind tid × (reading ≡ Err fault)
 HoldsOf Judged op modem reading = (request : Request) × (reading ≡ Ok (messages.Request request))
 
 abbrev pub AnswersOf : MessageCheck → Operator → Modem → Reading → StepResult → Type 0
 AnswersOf Unread op modem reading ran = (cause : Cause) × IsUnread reading cause × (ran ≡ silent op.state modem cause)
 AnswersOf OfCmts op modem reading ran =
-    (kind : Kind) × (tid : ℕ) × IsRequest reading kind tid
+    (kind : Kind) × (tid : ℕ) × ReadsAsRequest reading kind tid
     × IsTurnedAway op modem kind tid RejectUnknownTransaction ran
 AnswersOf Repeated op modem reading ran =
-    (kind : Kind) × (tid : ℕ) × (entry : KeptEntry) × IsRequest reading kind tid × IsKept op modem tid entry
+    (kind : Kind) × (tid : ℕ) × (entry : KeptEntry) × ReadsAsRequest reading kind tid × IsCachedEntry op modem tid entry
     × IsRepeatOf op modem kind entry ran
 AnswersOf KeptFull op modem reading ran =
-    (kind : Kind) × (tid : ℕ) × IsRequest reading kind tid × IsTurnedAway op modem kind tid RejectTemporary ran
+    (kind : Kind) × (tid : ℕ) × ReadsAsRequest reading kind tid × IsTurnedAway op modem kind tid RejectTemporary ran
 AnswersOf Faulty op modem reading ran =
     (kind : Kind) × (tid : ℕ) × (fault : MessageFault) × (code : Code) × (detail : Detail)
-    × IsRequest reading kind tid × (reading ≡ Err fault)
+    × ReadsAsRequest reading kind tid × (reading ≡ Err fault)
     × IsRefusedFor fault code detail
     × (ran ≡ carried_out op.consts op.state modem kind tid
     (Refused (record { kind = kind; tid = tid; code = code; detail = detail })))

@@ -53,14 +53,14 @@ identifier_subtype Dsd = 0
 
 -- the SFID that a request names: of its encodings in a change, of its fixed part in a deletion; an addition names
 -- none
-abbrev pub Names : Kind → List FlowFields → Option ℕ → ℕ → Type 0
-Names Dsa encodings fixed sfid = ⊥
-Names Dsc encodings fixed sfid = Any (λ encoding. encoding.sfid ≡ Some sfid) encodings
-Names Dsd encodings fixed sfid = fixed ≡ Some sfid
+abbrev pub NamesFlow : Kind → List FlowFields → Option ℕ → ℕ → Type 0
+NamesFlow Dsa encodings fixed sfid = ⊥
+NamesFlow Dsc encodings fixed sfid = Any (λ encoding. encoding.sfid ≡ Some sfid) encodings
+NamesFlow Dsd encodings fixed sfid = fixed ≡ Some sfid
 
 -- the flow of this SFID, which the request names
 abbrev pub IsOfFlow : Operator → Said → ℕ → Flow → Type 0
-IsOfFlow op said sfid flow = Names said.kind said.encodings said.sfid sfid × Contains op.state.flows (sfid, flow)
+IsOfFlow op said sfid flow = NamesFlow said.kind said.encodings said.sfid sfid × Contains op.state.flows (sfid, flow)
 
 -- the flow that a request is about, where it is already: an addition is about none that is present
 abbrev pub IsAbout : Operator → Said → Option Flow → Type 0
@@ -75,11 +75,11 @@ abbrev pub set_asked : ConstsFields → FlowFields → Option (Result ParamField
 set_asked consts encoding =
     option_map (λ asked. parameter_set_of asked consts.units) (asked_of consts.classes encoding)
 
-abbrev pub AsksFor : ConstsFields → FlowFields → ParamFields → Type 0
-AsksFor consts encoding set = set_asked consts encoding ≡ Some (Ok set)
+abbrev pub EncodingAsksFor : ConstsFields → FlowFields → ParamFields → Type 0
+EncodingAsksFor consts encoding set = set_asked consts encoding ≡ Some (Ok set)
 
-abbrev pub IsRefused : ConstsFields → FlowFields → Refusal → Type 0
-IsRefused consts encoding refusal = set_asked consts encoding ≡ Some (Err refusal)
+abbrev pub EncodingIsRefused : ConstsFields → FlowFields → Refusal → Type 0
+EncodingIsRefused consts encoding refusal = set_asked consts encoding ≡ Some (Err refusal)
 
 -- set types are bits: 2 (binary 010) admits the set of the encoding, 4 (100) activates it, 6 (110) does both
 abbrev pub Admits : FlowFields → Type 0
@@ -91,7 +91,7 @@ Activates encoding = (encoding.set_type ≡ Some 4) ⊎ (encoding.set_type ≡ S
 -- the set of an encoding of which P holds; the null set where P holds of none
 abbrev pub IsSetWhere : (FlowFields → Type 0) → ConstsFields → List FlowFields → Option ParamFields → Type 0
 IsSetWhere P consts encodings None = All (λ encoding. ¬ P encoding) encodings
-IsSetWhere P consts encodings (Some set) = Any (λ encoding. P encoding × AsksFor consts encoding set) encodings
+IsSetWhere P consts encodings (Some set) = Any (λ encoding. P encoding × EncodingAsksFor consts encoding set) encodings
 
 -- the set that is to be admitted, and the one that is to be active
 abbrev pub IsToBeAdmitted : Operator → Said → Option ParamFields → Type 0

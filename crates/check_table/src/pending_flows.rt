@@ -6,7 +6,7 @@ ghost use Rattle.plant.specs.declared.operator_row.RowFields.{RowFields};
 ghost use Rattle.plant.specs.Row.{IsRowOf};
 ghost use Rattle.operator_model.specs.declared.action.Action.{Action};
 ghost use Rattle.operator_model.specs.declared.action.Entry.{Entry};
-ghost use Rattle.operator_model.specs.State.{OperatorState, Operator, opened};
+ghost use Rattle.operator_model.specs.State.{OperatorState, Operator, opened_state};
 ghost use Rattle.operator_model.specs.Machine.{own_step, IsAllowed};
 ghost use Rattle.operator_model.specs.Replay.{IsReplay};
 ghost use Rattle.operator_model.specs.Sound.{IsSound};
@@ -14,7 +14,7 @@ ghost use Rattle.check_table.specs.Awaited.{AreAwaited};
 
 /// States that no sets are pending of a machine that is opened.
 pub fn opened_is_awaited()
-    ensures { (consts : ConstsFields) (row : RowFields) → AreAwaited (opened consts row) }
+    ensures { (consts : ConstsFields) (row : RowFields) → AreAwaited (opened_state consts row) }
 {}
 
 /// States that an action that is not refused leaves each flow of which sets are pending a response

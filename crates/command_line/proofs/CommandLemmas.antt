@@ -10,7 +10,7 @@ use Rattle.clap.specs.declared.parser.matches.ArgMatches.{ArgMatches}
 use Rattle.clap.specs.declared.parser.matches.Found.{Found}
 use Rattle.clap.proofs.OnLiterals.{clap_on_literals}
 use Rattle.clap.proofs.WalkLemmas.{first_value-rows}
-use Rattle.command_line.specs.ClapLine.{entered, faults, program}
+use Rattle.command_line.specs.ClapLine.{entered_subcommand, faults, program}
 
 third_is_false : (a b g rest : Bool) → (a && (b && (not g && rest))) ≡ true → g ≡ false
 third_is_false true true false rest h = refl
@@ -47,8 +47,8 @@ fails_by_faults a words r same kinds =
 
 -- and has the subcommand that the words enter there
 pub has_entered : (a : App) (words : List Text) (m : ArgMatches) → a ≡ program → HasMatchesOf a words m
-    → subcommand_rows_of m ≡ entered words
-unfolding entered
+    → subcommand_rows_of m ≡ entered_subcommand words
+unfolding entered_subcommand
 has_entered a words m same matches =
     (matches (ap is_simple same ∙ program_is_simple)).1 ∙ ap (λ (q : App). subcommand_of q words) same
 

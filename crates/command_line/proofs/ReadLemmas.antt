@@ -9,7 +9,7 @@ use Rattle.clap.specs.Walk.{Row, Text}
 use Rattle.clap.specs.declared.error.kind.ErrorKind.{ErrorKind}
 use Rattle.clap.specs.declared.error.kind.ErrorKind.TheVariants as kind
 use Rattle.clap.proofs.OnLiterals.{clap_on_literals}
-use Rattle.command_line.specs.ClapLine.{IsFaultOf, StandsFor, entered, faults}
+use Rattle.command_line.specs.ClapLine.{IsFaultOf, StandsFor, entered_subcommand, faults}
 use Rattle.command_line.specs.CommandLine.{Allows, AreWrong, AsksHelp, GivesHelp, GivesOrder, GivesWrong, IsHelpFlag, IsHelpWord, MayLead, Names, first_flag, hyphens}
 use Rattle.command_line.specs.Order.{Order, one, check, run, threads, capture, serve, trace, history, order_of}
 use Rattle.command_line.specs.declared.asked.Word.{Word}
@@ -21,90 +21,90 @@ use Rattle.command_line.proofs.Outcomes.{named, helped, failing, outcome, plain_
 
 -- clap takes the words, and they enter the order's subcommand
 abbrev pub Takes : List Text → Order → Type 0
-Takes words o = (faults words ≡ []) × IsSomeAnd (entered words) (StandsFor o)
+Takes words o = (faults words ≡ []) × IsSomeAnd (entered_subcommand words) (StandsFor o)
 
 -- ---- the words of an order are taken
 
 one_taken : Takes (codes "one" ∷ []) one
-unfolding faults entered clap_on_literals
+unfolding faults entered_subcommand clap_on_literals
 one_taken = (refl, refl)
 
 one_ended : Takes (codes "one" ∷ hyphens ∷ []) one
-unfolding faults entered clap_on_literals
+unfolding faults entered_subcommand clap_on_literals
 one_ended = (refl, refl)
 
 check_taken : Takes (codes "check" ∷ []) check
-unfolding faults entered clap_on_literals
+unfolding faults entered_subcommand clap_on_literals
 check_taken = (refl, refl)
 
 check_ended : Takes (codes "check" ∷ hyphens ∷ []) check
-unfolding faults entered clap_on_literals
+unfolding faults entered_subcommand clap_on_literals
 check_ended = (refl, refl)
 
 run_taken : Takes (codes "run" ∷ []) run
-unfolding faults entered clap_on_literals
+unfolding faults entered_subcommand clap_on_literals
 run_taken = (refl, refl)
 
 run_ended : Takes (codes "run" ∷ hyphens ∷ []) run
-unfolding faults entered clap_on_literals
+unfolding faults entered_subcommand clap_on_literals
 run_ended = (refl, refl)
 
 threads_taken : Takes (codes "threads" ∷ []) threads
-unfolding faults entered clap_on_literals
+unfolding faults entered_subcommand clap_on_literals
 threads_taken = (refl, refl)
 
 threads_ended : Takes (codes "threads" ∷ hyphens ∷ []) threads
-unfolding faults entered clap_on_literals
+unfolding faults entered_subcommand clap_on_literals
 threads_ended = (refl, refl)
 
 capture_taken : Takes (codes "capture" ∷ []) capture
-unfolding faults entered clap_on_literals
+unfolding faults entered_subcommand clap_on_literals
 capture_taken = (refl, refl)
 
 capture_ended : Takes (codes "capture" ∷ hyphens ∷ []) capture
-unfolding faults entered clap_on_literals
+unfolding faults entered_subcommand clap_on_literals
 capture_ended = (refl, refl)
 
 serve_taken : Takes (codes "serve" ∷ []) serve
-unfolding faults entered clap_on_literals
+unfolding faults entered_subcommand clap_on_literals
 serve_taken = (refl, refl)
 
 serve_ended : Takes (codes "serve" ∷ hyphens ∷ []) serve
-unfolding faults entered clap_on_literals
+unfolding faults entered_subcommand clap_on_literals
 serve_ended = (refl, refl)
 
 trace_taken : Takes (codes "trace" ∷ []) trace
-unfolding faults entered clap_on_literals
+unfolding faults entered_subcommand clap_on_literals
 trace_taken = (refl, refl)
 
 trace_ended : Takes (codes "trace" ∷ hyphens ∷ []) trace
-unfolding faults entered clap_on_literals
+unfolding faults entered_subcommand clap_on_literals
 trace_ended = (refl, refl)
 
 operand_taken : (w : Text) → OperandShape w → Takes (codes "history" ∷ w ∷ []) (history w)
-unfolding faults entered clap_on_literals
+unfolding faults entered_subcommand clap_on_literals
 operand_taken w (no_hyphen other long short) =
     let taken : faults (codes "history" ∷ w ∷ []) ≡ [] = rw (other, long, short) refl in
-    let stands : IsSomeAnd (entered (codes "history" ∷ w ∷ [])) (StandsFor (history w)) = rw (other, long, short) (refl, refl) in
+    let stands : IsSomeAnd (entered_subcommand (codes "history" ∷ w ∷ [])) (StandsFor (history w)) = rw (other, long, short) (refl, refl) in
     (taken, stands)
 operand_taken w (odd_hyphen b flags other long short none) =
     let taken : faults (codes "history" ∷ w ∷ []) ≡ [] = rw (other, long, short, none) refl in
-    let stands : IsSomeAnd (entered (codes "history" ∷ w ∷ [])) (StandsFor (history w)) = rw (other, long, short, none) (refl, refl) in
+    let stands : IsSomeAnd (entered_subcommand (codes "history" ∷ w ∷ [])) (StandsFor (history w)) = rw (other, long, short, none) (refl, refl) in
     (taken, stands)
 
 operand_ended : (w : Text) → OperandShape w → Takes (codes "history" ∷ w ∷ hyphens ∷ []) (history w)
-unfolding faults entered clap_on_literals
+unfolding faults entered_subcommand clap_on_literals
 operand_ended w (no_hyphen other long short) =
     let taken : faults (codes "history" ∷ w ∷ hyphens ∷ []) ≡ [] = rw (other, long, short) refl in
-    let stands : IsSomeAnd (entered (codes "history" ∷ w ∷ hyphens ∷ [])) (StandsFor (history w)) = rw (other, long, short) (refl, refl) in
+    let stands : IsSomeAnd (entered_subcommand (codes "history" ∷ w ∷ hyphens ∷ [])) (StandsFor (history w)) = rw (other, long, short) (refl, refl) in
     (taken, stands)
 operand_ended w (odd_hyphen b flags other long short none) =
     let taken : faults (codes "history" ∷ w ∷ hyphens ∷ []) ≡ [] = rw (other, long, short, none) refl in
-    let stands : IsSomeAnd (entered (codes "history" ∷ w ∷ hyphens ∷ [])) (StandsFor (history w)) = rw (other, long, short, none) (refl, refl) in
+    let stands : IsSomeAnd (entered_subcommand (codes "history" ∷ w ∷ hyphens ∷ [])) (StandsFor (history w)) = rw (other, long, short, none) (refl, refl) in
     (taken, stands)
 
 operand_behind : (w : Text) → Takes (codes "history" ∷ hyphens ∷ w ∷ []) (history w)
-unfolding faults entered clap_on_literals
+unfolding faults entered_subcommand clap_on_literals
 operand_behind w = (refl, (refl, refl))
 
 at_words : (words these : List Text) (o : Order) → words ≡ these → Takes these o → Takes words o
@@ -234,14 +234,14 @@ none_among words k none among = subst (IsAmong k) none among
 
 pub taken_names : (words : List Text) (o : Order) → Takes words o → Names words o
 taken_names words o taken = elim (outcome words) [
-  | named p names ↦ subst (λ (q : Order). Names words q) (stands_once p o (entered words) (names_taken words p names).1 taken.1) names
+  | named p names ↦ subst (λ (q : Order). Names words q) (stands_once p o (entered_subcommand words) (names_taken words p names).1 taken.1) names
   | helped help ↦ (let no = sym taken.0 ∙ help_word_faults words help in cc)
   | failing (inl (asks, is)) ↦ (let no = sym taken.0 ∙ is in cc)
   | failing (inr refused) ↦ absurd (refused.some taken.0)
 ]
 
 -- words that clap takes have an order
-pub taken_orders : (words : List Text) → faults words ≡ [] → ((o : Order) → IsSomeAnd (entered words) (StandsFor o) → ⊥) → ⊥
+pub taken_orders : (words : List Text) → faults words ≡ [] → ((o : Order) → IsSomeAnd (entered_subcommand words) (StandsFor o) → ⊥) → ⊥
 taken_orders words taken none = elim (outcome words) [
   | named p names ↦ none p (names_taken words p names).1
   | helped help ↦ (let no = sym taken ∙ help_word_faults words help in cc)
@@ -303,7 +303,7 @@ clause_fault words (Err fault.Wrong) is = other_wrong words is.0 is.1 is.2
 clause_fault words (Err fault.NoMemory) is = tt
 
 pub clause_named : (words : List Text) (r : Result Word WordsFault) → IsOfClap words r → (o : Order) → Names words o → GivesOrder o r
-clause_named words (Ok word) is o names = stands_once (order_of word) o (entered words) is.1 (names_taken words o names).1
+clause_named words (Ok word) is o names = stands_once (order_of word) o (entered_subcommand words) is.1 (names_taken words o names).1
 clause_named words (Err (fault.Help text)) is o names = none_among words kind.DisplayHelp (names_taken words o names).0 is
 clause_named words (Err fault.Wrong) is o names = none_among words is.0 (names_taken words o names).0 is.2
 clause_named words (Err fault.NoMemory) is o names = tt
@@ -323,7 +323,7 @@ clause_wrong words (Err fault.NoMemory) is wrong = tt
 
 -- what the matches' subcommand stands for, where clap takes the words
 pub of_order : (words : List Text) (rows : Option (Text × List Row)) (found : Option Word) (r : Result Word WordsFault)
-    → faults words ≡ [] → rows ≡ entered words
+    → faults words ≡ [] → rows ≡ entered_subcommand words
     → IfSome found (λ w. IsSomeAnd rows (StandsFor (order_of w)))
     → IfNone found ((o : Order) → IsSomeAnd rows (StandsFor o) → ⊥)
     → r ≡ ok_or found fault.Wrong → IsOfClap words r

@@ -3,7 +3,7 @@ use Rattle.std.proofs.Common.{◌≡◌, ◌≢◌, ◌⊎◌, ◌∙◌, inl, i
 use Rattle.clap.specs.Lexer.{short_of}
 use Rattle.clap.specs.Walk.{Text}
 use Rattle.clap.proofs.OnLiterals.{clap_on_literals}
-use Rattle.command_line.specs.ClapLine.{entered, faults}
+use Rattle.command_line.specs.ClapLine.{entered_subcommand, faults}
 use Rattle.command_line.specs.Order.{Order, history}
 use Rattle.command_line.specs.CommandLine.{AreWrong, AsksHelp, IsHelpFlag, IsHelpWord, IsOperand, Names}
 use Rattle.command_line.proofs.Outcomes.{named, helped, failing, outcome}
@@ -58,7 +58,7 @@ comes_to_one words = elim (outcome words) [
 ]
 
 pub named_once : (words : List Text) (o p : Order) → Names words o → Names words p → o ≡ p
-named_once words o p a b = stands_once o p (entered words) (names_taken words o a).1 (names_taken words p b).1
+named_once words o p a b = stands_once o p (entered_subcommand words) (names_taken words o a).1 (names_taken words p b).1
 
 pub named_not_asked : (words : List Text) (o : Order) → Names words o → AsksHelp words → ⊥
 named_not_asked words o a b = let no = sym (names_taken words o a).0 ∙ help_faults words b in cc

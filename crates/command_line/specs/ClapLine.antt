@@ -40,8 +40,8 @@ unfoldable pub faults : List Text → Kinds
 faults words = fault_of program words
 
 -- the subcommand that the words enter, by its name, and the values of its arguments
-unfoldable pub entered : List Text → Option (Text × List Row)
-entered words = subcommand_of program words
+unfoldable pub entered_subcommand : List Text → Option (Text × List Row)
+entered_subcommand words = subcommand_of program words
 
 -- a subcommand with its values means the order
 abbrev pub StandsFor : Order → Text × List Row → Type 0

@@ -2,7 +2,7 @@
 ghost use Rattle.std.specs.Prelude.{◌≡◌, IfOk, IfErr, []};
 ghost use Rattle.clap.specs.Walk.{texts};
 ghost use Rattle.clap.specs.Words.{HasKind, app_of, new_app, subcommand_rows_of, with_subcommand};
-ghost use Rattle.command_line.specs.ClapLine.{entered, faults, history_app, program, top, with_first_words, with_later_words};
+ghost use Rattle.command_line.specs.ClapLine.{entered_subcommand, faults, history_app, program, top, with_first_words, with_later_words};
 
 use clap::{Arg, ArgMatches, Command, Error};
 use std::alloc::{AllocError, Global};
@@ -10,7 +10,7 @@ use std::alloc::{AllocError, Global};
 /// Returns what clap reads in `words`.
 pub fn matches_of<'a>(alloc: Global, words: &'a [&'a str]) -> Result<ArgMatches<'a>, Error>
     ensures taken { IfOk result (λ m. faults (texts words.entry.now) ≡ []) }
-    ensures rows { IfOk result (λ m. subcommand_rows_of m ≡ entered (texts words.entry.now)) }
+    ensures rows { IfOk result (λ m. subcommand_rows_of m ≡ entered_subcommand (texts words.entry.now)) }
     ensures kinds { IfErr result (HasKind (faults (texts words.entry.now))) }
 {
     let command = clap_command(alloc)?;

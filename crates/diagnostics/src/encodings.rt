@@ -1,7 +1,7 @@
 //! What is wrong with a flow encoding of a plant file, and what a provisioned flow needs.
 
-use crate::reason::{Part, Reason};
-use crate::tree::{named, number, table_at, text, values};
+use crate::reason::{GapText, Reason};
+use crate::tree::{number, table_at, table_named, text, values};
 use crate::values::{Letters, first_beside};
 use admission::Budget;
 use dsx_messages::Code;
@@ -19,12 +19,12 @@ pub(crate) fn say_no_hex(reason: &mut Reason, digits: &str, fault: FromHexError)
             let place = (before as u64).saturating_add(1);
             reason.say(
                 "character {}, {}, is not a hexadecimal digit",
-                &[Part::Number(place), Part::Letter(c)],
+                &[GapText::Number(place), GapText::Letter(c)],
             );
         }
         (_, None) => reason.say(
             "it must have an even number of hexadecimal digits, not {}",
-            &[Part::Number(digits.len() as u64)],
+            &[GapText::Number(digits.len() as u64)],
         ),
     }
 }
@@ -55,7 +55,7 @@ fn range_of(subtype: u8) -> &'static str {
 fn say_subtype(reason: &mut Reason, subtype: u8, wrong: &str) {
     reason.say(
         "subtype {} {}",
-        &[Part::Number(u64::from(subtype)), Part::Words(wrong)],
+        &[GapText::Number(u64::from(subtype)), GapText::Words(wrong)],
     );
 }
 
@@ -64,7 +64,7 @@ fn say_no_encoding(reason: &mut Reason, fault: TlvFault) {
     match fault {
         TlvFault::Cut { at } => reason.say(
             "the TLV at byte {} is longer than the rest of the encoding",
-            &[Part::Number(at as u64)],
+            &[GapText::Number(at as u64)],
         ),
         TlvFault::WrongLength { subtype } => say_subtype(reason, subtype, length_of(subtype)),
         TlvFault::Twice { subtype } => say_subtype(reason, subtype, "is repeated"),
@@ -148,13 +148,13 @@ fn have_names(document: &Table) -> bool {
 /// Returns the encoding of the class of a name. `None` where there is none, and the reason says why, unless a class is invalid: that
 /// is said of the class.
 fn class_encoding(reason: &mut Reason, document: &Table, name: &str) -> Option<FlowTlv> {
-    let Some(class) = named(document, "class", name) else {
+    let Some(class) = table_named(document, "class", name) else {
         if !have_names(document) {
             return None;
         }
         reason.say(
             "unknown class {}: add a table [[class]] of this name",
-            &[Part::Quoted(name)],
+            &[GapText::Quoted(name)],
         );
         return None;
     };
@@ -166,7 +166,7 @@ fn class_encoding(reason: &mut Reason, document: &Table, name: &str) -> Option<F
 
 /// Returns what a flow asks for: its encoding over that of its class, where it names one. `None` where that has none, and the
 /// reason says why.
-fn asked(reason: &mut Reason, document: &Table, stated: FlowTlv) -> Option<FlowTlv> {
+fn requested_encoding(reason: &mut Reason, document: &Table, stated: FlowTlv) -> Option<FlowTlv> {
     match stated.get_class_name() {
         Some(class) => {
             let name = str::from_utf8(class.as_slice()).unwrap_or("");
@@ -182,7 +182,7 @@ fn say_set_type(reason: &mut Reason, set_type: Option<u8>) {
     match set_type {
         Some(other) => reason.say(
             "subtype 6 (set type) must be 1, 3 or 7, not {}",
-            &[Part::Number(u64::from(other))],
+            &[GapText::Number(u64::from(other))],
         ),
         None => reason.say("subtype 6 (set type) is missing: it must be 1, 3 or 7", &[]),
     }
@@ -214,7 +214,7 @@ pub(crate) fn need_of(
 ) -> Option<Budget> {
     let stated = encoding_in(reason, digits)?;
     let set_type = stated.get_set_type();
-    let asked = asked(reason, document, stated)?;
+    let asked = requested_encoding(reason, document, stated)?;
     let set = set_of(reason, &asked, units)?;
     match set_type {
         Some(1) => None,

@@ -1,7 +1,7 @@
 //! A plant file that is TOML: what it says, and on which lines.
 
 use crate::places::{Lines, lines_of};
-use crate::reason::{Part, Reason};
+use crate::reason::{GapText, Reason};
 use crate::tree::{number, table_at, text};
 use crate::values::{Letters, first_beside};
 use slice_table::{Field, Key, Place};
@@ -60,15 +60,15 @@ impl<'a> File<'a> {
 /// Says a line number, if it is known, after the name of a place.
 fn say_line(reason: &mut Reason, line: Option<u64>) {
     if let Some(line) = line {
-        reason.say(", line {}", &[Part::Number(line)]);
+        reason.say(", line {}", &[GapText::Number(line)]);
     }
 }
 
 /// Says which table of a plant file a message is about: its place, its name, and a line.
 pub(crate) fn say_where(reason: &mut Reason, file: &File<'_>, place: Place, line: Option<u64>) {
-    reason.say("{}", &[Part::Place(place)]);
+    reason.say("{}", &[GapText::Place(place)]);
     if let Some(name) = file.name_at(place) {
-        reason.say(" ({})", &[Part::Words(name)]);
+        reason.say(" ({})", &[GapText::Words(name)]);
     }
     say_line(reason, line);
     reason.say(": ", &[]);
@@ -76,7 +76,7 @@ pub(crate) fn say_where(reason: &mut Reason, file: &File<'_>, place: Place, line
 
 /// Says which key at the top of a plant file a message is about, and its line.
 pub(crate) fn say_where_at_top(reason: &mut Reason, file: &File<'_>, key: Key) {
-    reason.say("{}", &[Part::Key(key)]);
+    reason.say("{}", &[GapText::Key(key)]);
     say_line(reason, file.lines.line_of(key));
     reason.say(": ", &[]);
 }

@@ -1,7 +1,7 @@
 //! What is wrong with the keys of a plant file together, where each of them is valid.
 
 use crate::file::{File, say_where};
-use crate::reason::{Part, Reason};
+use crate::reason::{GapText, Reason};
 use crate::report::Report;
 use crate::tree::{number, pair, table_at, values, values_below};
 use hex::FromHex;
@@ -24,9 +24,9 @@ pub(crate) struct Side<'a> {
 
 /// Says the name of an operator, and a line if one is known.
 fn say_side<'a>(reason: &mut Reason, side: Side<'a>) {
-    reason.say("{}", &[Part::Words(side.name)]);
+    reason.say("{}", &[GapText::Words(side.name)]);
     if let Some(line) = side.line {
-        reason.say(" (line {})", &[Part::Number(line)]);
+        reason.say(" (line {})", &[GapText::Number(line)]);
     }
 }
 
@@ -45,12 +45,12 @@ pub(crate) fn say_overlap<'a>(
     reason.say(
         ": {} overlap: {} {} to {} and {} to {}",
         &[
-            Part::Words(key),
-            Part::Words(each),
-            Part::Number(a.range.0),
-            Part::Number(a.range.1),
-            Part::Number(b.range.0),
-            Part::Number(b.range.1),
+            GapText::Words(key),
+            GapText::Words(each),
+            GapText::Number(a.range.0),
+            GapText::Number(a.range.1),
+            GapText::Number(b.range.0),
+            GapText::Number(b.range.1),
         ],
     );
 }
@@ -120,7 +120,7 @@ fn add_pairs(report: &mut Report, file: &File<'_>, field: Field) {
 }
 
 /// An address, and where it is listed. Addresses are ordered by their digits, and then by their places.
-type Listed = (u64, usize, usize);
+type ListedAddress = (u64, usize, usize);
 
 /// Returns the number that an address in hexadecimal is.
 fn address_of(value: &Value) -> Option<u64> {
@@ -129,7 +129,12 @@ fn address_of(value: &Value) -> Option<u64> {
 }
 
 /// Lists the addresses of an operator.
-fn list_modems(report: &mut Report, listed: &mut Vec<Listed>, operator: usize, value: &Value) {
+fn list_modems(
+    report: &mut Report,
+    listed: &mut Vec<ListedAddress>,
+    operator: usize,
+    value: &Value,
+) {
     for (item, modem) in values_below(value, "modems").iter().enumerate() {
         if let Some(address) = address_of(modem) {
             if listed.push((address, operator, item)).is_err() {
@@ -140,7 +145,7 @@ fn list_modems(report: &mut Report, listed: &mut Vec<Listed>, operator: usize, v
 }
 
 /// Returns the addresses of all operators, each after those that are less.
-fn all_modems(report: &mut Report, file: &File<'_>) -> Vec<Listed> {
+fn all_modems(report: &mut Report, file: &File<'_>) -> Vec<ListedAddress> {
     let mut listed = Vec::new(report.alloc());
     for (operator, value) in values(file.document, "operator").iter().enumerate() {
         list_modems(report, &mut listed, operator, value);
@@ -150,25 +155,28 @@ fn all_modems(report: &mut Report, file: &File<'_>) -> Vec<Listed> {
 }
 
 /// Says where an address is listed.
-fn say_listed(reason: &mut Reason, file: &File<'_>, listed: Listed) {
+fn say_listed(reason: &mut Reason, file: &File<'_>, listed: ListedAddress) {
     let (_address, operator, item) = listed;
     let place = Place::Operator(operator);
     let item = item as u64;
-    reason.say("{}.modems[{}]", &[Part::Place(place), Part::Number(item)]);
+    reason.say(
+        "{}.modems[{}]",
+        &[GapText::Place(place), GapText::Number(item)],
+    );
     if let Some(line) = file.lines.line_of_item(place, Field::Modems, item) {
-        reason.say(" (line {})", &[Part::Number(line)]);
+        reason.say(" (line {})", &[GapText::Number(line)]);
     }
 }
 
 /// Adds that an address is listed in two places.
-fn add_twice(report: &mut Report, file: &File<'_>, a: Listed, b: Listed) {
+fn add_twice(report: &mut Report, file: &File<'_>, a: ListedAddress, b: ListedAddress) {
     let mut message = Reason::new(report.alloc());
     if report.is_open() {
         let text = match value_of(file, a) {
             Some(value) => value.as_str().unwrap_or(""),
             None => "",
         };
-        message.say("modem {} is listed twice: ", &[Part::Words(text)]);
+        message.say("modem {} is listed twice: ", &[GapText::Words(text)]);
         say_listed(&mut message, file, a);
         message.say(" and ", &[]);
         say_listed(&mut message, file, b);
@@ -179,7 +187,7 @@ fn add_twice(report: &mut Report, file: &File<'_>, a: Listed, b: Listed) {
 }
 
 /// Returns the value of an address at its place.
-fn value_of<'f>(file: &'f File<'_>, listed: Listed) -> Option<&'f Value> {
+fn value_of<'f>(file: &'f File<'_>, listed: ListedAddress) -> Option<&'f Value> {
     let (_address, operator, item) = listed;
     values_below(values(file.document, "operator").get(operator)?, "modems").get(item)
 }
@@ -187,7 +195,7 @@ fn value_of<'f>(file: &'f File<'_>, listed: Listed) -> Option<&'f Value> {
 /// Adds each modem that is listed twice.
 fn add_modems_twice(report: &mut Report, file: &File<'_>) {
     let listed = all_modems(report, file);
-    let mut before: Option<Listed> = None;
+    let mut before: Option<ListedAddress> = None;
     for modem in listed.as_slice() {
         match before {
             Some(earlier) if earlier.0 == modem.0 => add_twice(report, file, earlier, *modem),
@@ -219,10 +227,10 @@ fn add_elements(report: &mut Report, file: &File<'_>) {
         message.say(
             "a MAP could need {} elements, and has at most 240: {} from elements, 2 for each of the {} operators, and 3: lower elements by {} in total",
             &[
-                Part::Number(total),
-                Part::Number(quotas),
-                Part::Number(operators as u64),
-                Part::Number(total.saturating_sub(240)),
+                GapText::Number(total),
+                GapText::Number(quotas),
+                GapText::Number(operators as u64),
+                GapText::Number(total.saturating_sub(240)),
             ],
         );
         report.add(&message);
@@ -233,7 +241,7 @@ fn add_elements(report: &mut Report, file: &File<'_>) {
 pub(crate) fn say_over_slice(reason: &mut Reason, budget: u64, length: u64) {
     reason.say(
         "budget {} is too large: the slice has {} minislots",
-        &[Part::Number(budget), Part::Number(length)],
+        &[GapText::Number(budget), GapText::Number(length)],
     );
 }
 

@@ -2,7 +2,7 @@
 
 use crate::encodings::{encoding_in, need_of, stated_below_7, units_of};
 use crate::file::{File, say_where, say_where_at_top};
-use crate::reason::{Part, Reason};
+use crate::reason::{GapText, Reason};
 use crate::report::Report;
 use crate::tree::{text, value_at, values_below, values_in};
 use crate::unread::Nearest;
@@ -31,7 +31,7 @@ fn add_fault(
     if report.is_open() {
         say_where(&mut message, file, place, line);
     }
-    message.say("{}", &[Part::Told(wrong)]);
+    message.say("{}", &[GapText::Told(wrong)]);
     report.add(&message);
 }
 
@@ -56,7 +56,10 @@ fn has_default(field: Field) -> bool {
 
 /// Says that a key is missing.
 fn say_missing(reason: &mut Reason, file: &File<'_>, place: Place, field: Field) {
-    reason.say("{} is missing: it must be ", &[Part::Words(field.text())]);
+    reason.say(
+        "{} is missing: it must be ",
+        &[GapText::Words(field.text())],
+    );
     say_wanted(reason, file, place, field);
 }
 
@@ -66,7 +69,7 @@ fn say_class_encoding(reason: &mut Reason, digits: &str) {
         if let Some(subtype) = stated_below_7(&flow) {
             reason.say(
                 "a class must not state subtype {}: subtypes 1 to 6 are the flow's",
-                &[Part::Number(u64::from(subtype))],
+                &[GapText::Number(u64::from(subtype))],
             );
         }
     }
@@ -97,7 +100,7 @@ fn say_encoding<'v>(reason: &mut Reason, file: &File<'_>, place: Place, value: &
     if !wrong.is_silent() {
         reason.say(
             "encoding {} is invalid: {}",
-            &[Part::Quoted(digits), Part::Told(&wrong)],
+            &[GapText::Quoted(digits), GapText::Told(&wrong)],
         );
     }
 }
@@ -136,7 +139,7 @@ fn say_stray(reason: &mut Reason, file: &File<'_>, place: Place, address: &str) 
         if !may_list(modems, Modem(bytes)) {
             reason.say(
                 "modem {} is not one of this operator: add it to modems of operator[{}]",
-                &[Part::Quoted(address), Part::Number(operator as u64)],
+                &[GapText::Quoted(address), GapText::Number(operator as u64)],
             );
         }
     }
@@ -166,7 +169,7 @@ fn say_policy<'v>(reason: &mut Reason, file: &File<'_>, place: Place, value: &'v
     let mut nearest = Nearest::new(name);
     nearest.try_words(reason, &["strict", "aged", "short"]);
     if let Some(policy) = nearest.found {
-        reason.say(" (did you mean {}?)", &[Part::Words(policy)]);
+        reason.say(" (did you mean {}?)", &[GapText::Words(policy)]);
     }
 }
 
@@ -178,7 +181,7 @@ fn say_modems<'v>(reason: &mut Reason, file: &File<'_>, place: Place, value: &'v
     } else if count > 1024 {
         reason.say(
             "modems must have at most 1024 addresses, not {}",
-            &[Part::Number(count as u64)],
+            &[GapText::Number(count as u64)],
         );
     }
 }
@@ -254,7 +257,7 @@ fn add_table(report: &mut Report, file: &File<'_>, place: Place, value: &Value, 
         None => {
             let mut message = Reason::new(report.alloc());
             say_where_at_top(&mut message, file, Key::Table(place));
-            message.say("must be a table, not {}", &[Part::Typed(value)]);
+            message.say("must be a table, not {}", &[GapText::Typed(value)]);
             report.add(&message);
         }
     }
@@ -317,7 +320,7 @@ fn add_array<'f>(
         say_where_at_top(&mut message, file, key);
         message.say(
             "must be an array of tables: write [[{}]], not {}",
-            &[Part::Key(key), Part::Typed(value)],
+            &[GapText::Key(key), GapText::Typed(value)],
         );
         report.add(&message);
         &[]
@@ -325,7 +328,11 @@ fn add_array<'f>(
         let (count, most) = (tables.len() as u64, most as u64);
         message.say(
             "{} tables [[{}]]: at most {} are allowed",
-            &[Part::Number(count), Part::Key(key), Part::Number(most)],
+            &[
+                GapText::Number(count),
+                GapText::Key(key),
+                GapText::Number(most),
+            ],
         );
         report.add(&message);
         &[]

@@ -2,7 +2,7 @@
 
 use crate::encodings::say_no_hex;
 use crate::joint::name_of;
-use crate::reason::{Part, Reason};
+use crate::reason::{GapText, Reason};
 use crate::report::Report;
 use crate::values::{Letters, first_beside, say_address};
 use dsx_messages::Modem;
@@ -14,7 +14,7 @@ use tlv24::Bytes;
 
 /// A step, and the number of its line; the first line has number 1.
 #[derive(Drop)]
-pub(crate) struct LineStep {
+pub(crate) struct NumberedStep {
     pub(crate) number: usize,
     pub(crate) step: Step,
 }
@@ -25,16 +25,16 @@ pub(crate) struct Steps {
     /// The number of the line that was read last.
     number: usize,
     /// The steps up to there, or up to the first invalid line.
-    pub(crate) steps: Vec<LineStep>,
+    pub(crate) steps: Vec<NumberedStep>,
     /// Whether no line so far is invalid.
     is_valid: bool,
 }
 
 impl Steps {
     /// Adds a step of the line that was read last.
-    fn put(&mut self, reason: &mut Reason, step: Step) {
+    fn add_step(&mut self, reason: &mut Reason, step: Step) {
         let number = self.number;
-        if self.is_valid && self.steps.push(LineStep { number, step }).is_err() {
+        if self.is_valid && self.steps.push(NumberedStep { number, step }).is_err() {
             reason.is_lost = true;
         }
     }
@@ -69,7 +69,7 @@ fn sender_in(reason: &mut Reason, plant: &Plant, field: &str) -> Option<(Modem, 
         None => {
             reason.say(
                 "unknown modem {}: add it to modems of an operator",
-                &[Part::Modem(modem)],
+                &[GapText::Modem(modem)],
             );
             None
         }
@@ -80,12 +80,12 @@ fn sender_in(reason: &mut Reason, plant: &Plant, field: &str) -> Option<(Modem, 
 pub(crate) fn say_stranger(reason: &mut Reason, rows: &[OperatorRow], name: &str) {
     reason.say(
         "unknown operator {}: the operators are ",
-        &[Part::Quoted(name)],
+        &[GapText::Quoted(name)],
     );
     let mut lead = "";
     for row in rows {
         let name = name_of(&row.get_fields().name);
-        reason.say("{}{}", &[Part::Words(lead), Part::Words(name)]);
+        reason.say("{}{}", &[GapText::Words(lead), GapText::Words(name)]);
         lead = ", ";
     }
 }
@@ -110,7 +110,11 @@ fn operator_in(reason: &mut Reason, plant: &Plant, field: &str) -> Option<Op> {
 fn say_no_number<'a>(reason: &mut Reason, name: &'a str, most: u64, field: &'a str) {
     reason.say(
         "{} must be an integer from 0 to {}, not {}",
-        &[Part::Words(name), Part::Number(most), Part::Quoted(field)],
+        &[
+            GapText::Words(name),
+            GapText::Number(most),
+            GapText::Quoted(field),
+        ],
     );
 }
 
@@ -131,9 +135,9 @@ fn number_in<'a>(
         reason.say(
             "{} must have at most {} digits, not {}",
             &[
-                Part::Words(name),
-                Part::Number(digits as u64),
-                Part::Quoted(field),
+                GapText::Words(name),
+                GapText::Number(digits as u64),
+                GapText::Quoted(field),
             ],
         );
     } else {
@@ -151,15 +155,15 @@ fn short_in(reason: &mut Reason, name: &str, field: &str) -> Option<u16> {
 /// Adds the steps of what is received from a modem.
 fn put_heard(reason: &mut Reason, steps: &mut Steps, sender: (Modem, Op), heard: Heard) {
     let (modem, op) = sender;
-    steps.put(reason, Step::Arrive { modem, heard });
-    steps.put(reason, Step::Work { op });
+    steps.add_step(reason, Step::Arrive { modem, heard });
+    steps.add_step(reason, Step::Work { op });
 }
 
 /// Says that a command has another number of fields than it must have.
 fn say_other_fields(reason: &mut Reason, wanted: &str, fields: &[&str]) {
     reason.say(
         "{}, not {}",
-        &[Part::Words(wanted), Part::Number(fields.len() as u64)],
+        &[GapText::Words(wanted), GapText::Number(fields.len() as u64)],
     );
 }
 
@@ -200,8 +204,8 @@ fn put_request(reason: &mut Reason, plant: &Plant, fields: &[&str], steps: &mut 
 
 /// Adds the steps of one operator's tick.
 fn put_tick(reason: &mut Reason, op: Op, steps: &mut Steps) {
-    steps.put(reason, Step::Tick { op });
-    steps.put(reason, Step::Collect { op });
+    steps.add_step(reason, Step::Tick { op });
+    steps.add_step(reason, Step::Collect { op });
 }
 
 /// Adds the steps of a tick of each operator.
@@ -247,7 +251,7 @@ fn share_in(reason: &mut Reason, field: &str) -> Option<SliceRow> {
         _ => {
             reason.say(
                 "each slice must be start/length/budget, not {}",
-                &[Part::Quoted(field)],
+                &[GapText::Quoted(field)],
             );
             None
         }
@@ -276,11 +280,14 @@ fn put_slices(reason: &mut Reason, plant: &Plant, from: u64, fields: &[&str], st
     if wanted == count {
         let rows = shares_in(reason, fields);
         let from = u32::try_from(from).unwrap_or(0);
-        steps.put(reason, Step::Reslice { from, rows });
+        steps.add_step(reason, Step::Reslice { from, rows });
     } else {
         reason.say(
             "Z must have {} slices start/length/budget, one for each operator, not {}",
-            &[Part::Number(wanted as u64), Part::Number(count as u64)],
+            &[
+                GapText::Number(wanted as u64),
+                GapText::Number(count as u64),
+            ],
         );
     }
 }
@@ -310,12 +317,12 @@ fn say_no_word(reason: &mut Reason, word: &str) {
         ),
         "m" | "q" | "t" | "z" => reason.say(
             "unknown command {}: write it as a capital letter",
-            &[Part::Quoted(word)],
+            &[GapText::Quoted(word)],
         ),
         _ if word.starts_with('#') => reason.say("a script has no comments: remove the line", &[]),
         _ => reason.say(
             "unknown command {}: a line must begin with M, Q, T or Z",
-            &[Part::Quoted(word)],
+            &[GapText::Quoted(word)],
         ),
     }
 }
@@ -383,7 +390,7 @@ fn add_invalid(report: &mut Report, bar: usize, number: usize, line: &str, wrong
         if report.is_open() {
             say_line(&mut message, bar, number, line);
         }
-        message.say("{}", &[Part::Told(wrong)]);
+        message.say("{}", &[GapText::Told(wrong)]);
         report.add(&message);
     }
 }
@@ -396,15 +403,15 @@ pub(crate) fn say_line<'a>(reason: &mut Reason, bar: usize, number: usize, line:
         reason.say(
             "line {} (script line {}), {}: ",
             &[
-                Part::Number(in_input),
-                Part::Number(number as u64),
-                Part::Quoted(line),
+                GapText::Number(in_input),
+                GapText::Number(number as u64),
+                GapText::Quoted(line),
             ],
         );
     } else {
         reason.say(
             "line {}, {}: ",
-            &[Part::Number(in_input), Part::Quoted(line)],
+            &[GapText::Number(in_input), GapText::Quoted(line)],
         );
     }
 }

@@ -2,7 +2,7 @@
 
 /// The parts of an input.
 #[derive(Clone, Copy)]
-pub(crate) struct Parts<'a> {
+pub(crate) struct InputParts<'a> {
     /// What is before the first line of three dashes, or all.
     pub(crate) plant: &'a str,
     /// What is after it; none where there is no such line.
@@ -17,9 +17,9 @@ pub(crate) fn last_line(text: &str) -> usize {
 }
 
 /// Returns the parts where the plant file is not empty: its last line has no end here.
-fn parts_behind<'a>(input: &'a str, plant: &'a str, script: &'a str) -> Parts<'a> {
+fn parts_behind<'a>(input: &'a str, plant: &'a str, script: &'a str) -> InputParts<'a> {
     let with_end = plant.len().saturating_add(1);
-    Parts {
+    InputParts {
         plant: input.get(..with_end).unwrap_or(plant),
         script: Some(script),
         bar: last_line(plant).saturating_add(1),
@@ -27,14 +27,14 @@ fn parts_behind<'a>(input: &'a str, plant: &'a str, script: &'a str) -> Parts<'a
 }
 
 /// Returns the parts of an input.
-pub(crate) fn parts_of(input: &str) -> Parts<'_> {
+pub(crate) fn parts_of(input: &str) -> InputParts<'_> {
     let at_head = if input == "---" {
         Some("")
     } else {
         input.strip_prefix("---\n")
     };
     if let Some(script) = at_head {
-        return Parts {
+        return InputParts {
             plant: "",
             script: Some(script),
             bar: 1,
@@ -45,7 +45,7 @@ pub(crate) fn parts_of(input: &str) -> Parts<'_> {
     }
     match input.strip_suffix("\n---") {
         Some(plant) => parts_behind(input, plant, ""),
-        None => Parts {
+        None => InputParts {
             plant: input,
             script: None,
             bar: 0,

@@ -131,7 +131,7 @@ fn is_bare(word: &str) -> bool {
 }
 
 /// Returns a word without the quotation marks around it, if it has some.
-fn unquoted(word: &str) -> &str {
+fn without_quotes(word: &str) -> &str {
     let inner = match word.strip_prefix('"') {
         Some(rest) => rest.strip_suffix('"'),
         None => match word.strip_prefix('\'') {
@@ -155,7 +155,7 @@ struct Walk<'a> {
 
 impl<'a> Walk<'a> {
     /// Adds a key, or the first line of a table.
-    fn put(&mut self, reason: &mut Reason, spot: Spot, word: &'a str, number: u64) {
+    fn add_key(&mut self, reason: &mut Reason, spot: Spot, word: &'a str, number: u64) {
         let written = Written { spot, word, number };
         if self.lines.written.push(written).is_err() {
             reason.is_lost = true;
@@ -166,7 +166,7 @@ impl<'a> Walk<'a> {
     fn enter(&mut self, reason: &mut Reason, place: Place, number: u64) {
         let spot = Spot::Table(place);
         self.spot = spot;
-        self.put(reason, spot, "", number);
+        self.add_key(reason, spot, "", number);
     }
 
     /// Returns the place of the last operator.
@@ -191,7 +191,7 @@ impl<'a> Walk<'a> {
             None => (Spot::Top, name),
         };
         self.spot = Spot::Elsewhere;
-        self.put(reason, spot, word, number);
+        self.add_key(reason, spot, word, number);
     }
 
     /// Reads the first line of a table of an array.
@@ -240,16 +240,16 @@ impl<'a> Walk<'a> {
 
     /// Reads the line of a key.
     fn take_key(&mut self, reason: &mut Reason, key: &'a str, number: u64) {
-        let word = unquoted(key.trim());
+        let word = without_quotes(key.trim());
         if word.contains('"') || word.contains('\'') {
             self.lines.is_understood = false;
         }
         match (self.spot, word.split_once('.')) {
             (Spot::Top, Some(("plant", rest))) => {
-                self.put(reason, Spot::Table(Place::Plant), rest, number);
+                self.add_key(reason, Spot::Table(Place::Plant), rest, number);
             }
-            (spot, Some((first, _rest))) => self.put(reason, spot, first, number),
-            (spot, None) => self.put(reason, spot, word, number),
+            (spot, Some((first, _rest))) => self.add_key(reason, spot, first, number),
+            (spot, None) => self.add_key(reason, spot, word, number),
         }
     }
 

@@ -3,9 +3,9 @@
 use crate::file::File;
 use crate::joint::add_joint_faults;
 use crate::keys::add_key_faults;
-use crate::parts::{Parts, last_line};
+use crate::parts::{InputParts, last_line};
 use crate::provisioned::add_provisioned_faults;
-use crate::reason::{Part, Reason};
+use crate::reason::{GapText, Reason};
 use crate::report::Report;
 use slice_table::PlantFault;
 
@@ -15,7 +15,7 @@ const MOST: u64 = 100;
 /// Says a fault as its crate prints it.
 fn say_printed(reason: &mut Reason, fault: PlantFault) {
     match format!(in reason.alloc; "{fault}") {
-        Ok(text) => reason.say("{}\n", &[Part::Words(text.as_str())]),
+        Ok(text) => reason.say("{}\n", &[GapText::Words(text.as_str())]),
         Err(_full) => reason.is_lost = true,
     }
 }
@@ -55,10 +55,10 @@ pub(crate) fn say_no_toml<'a>(reason: &mut Reason, plant: &'a str, error: &'a to
     reason.say(
         "line {}, column {}: not valid TOML: {}: {}\n",
         &[
-            Part::Number(number as u64),
-            Part::Number(column),
-            Part::Words(error.message()),
-            Part::Quoted(line),
+            GapText::Number(number as u64),
+            GapText::Number(column),
+            GapText::Words(error.message()),
+            GapText::Quoted(line),
         ],
     );
 }
@@ -73,18 +73,18 @@ fn say_nearly_bar(reason: &mut Reason, number: u64, line: &str) {
     if line == "---\r" {
         reason.say(
             "line {}: --- is followed by a carriage return (CRLF): end lines with LF alone\n",
-            &[Part::Number(number)],
+            &[GapText::Number(number)],
         );
     } else {
         reason.say(
             "line {}: remove the blanks around --- in {}\n",
-            &[Part::Number(number), Part::Quoted(line)],
+            &[GapText::Number(number), GapText::Quoted(line)],
         );
     }
 }
 
 /// Says what is to be said of an input without a line of three dashes.
-pub(crate) fn say_no_bar(reason: &mut Reason, parts: &Parts<'_>) {
+pub(crate) fn say_no_bar(reason: &mut Reason, parts: &InputParts<'_>) {
     if parts.script.is_some() {
         return;
     }

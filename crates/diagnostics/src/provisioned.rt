@@ -2,7 +2,7 @@
 
 use crate::encodings::{need_of, units_of};
 use crate::file::{File, say_where};
-use crate::reason::{Part, Reason};
+use crate::reason::{GapText, Reason};
 use crate::report::Report;
 use crate::tree::{number, pair, table_at, text, values};
 use param_sets::Units;
@@ -11,7 +11,7 @@ use toml::{Table, Value};
 
 /// What the provisioned flows of an operator need together.
 #[derive(Clone, Copy)]
-struct Demand {
+struct ProvisionedNeed {
     flows: u64,
     sids: u64,
     minislots: u64,
@@ -24,7 +24,7 @@ fn add_flow(
     document: &Table,
     units: Units,
     value: &Value,
-    demand: &mut Demand,
+    demand: &mut ProvisionedNeed,
 ) {
     if let Some(table) = value.as_table() {
         let digits = text(table, Field::Encoding).unwrap_or("");
@@ -37,8 +37,13 @@ fn add_flow(
 }
 
 /// Returns what provisioned flows need together. Where one of them is invalid the reason says why.
-fn demand_of(reason: &mut Reason, document: &Table, units: Units, flows: &[Value]) -> Demand {
-    let mut demand = Demand {
+fn demand_of(
+    reason: &mut Reason,
+    document: &Table,
+    units: Units,
+    flows: &[Value],
+) -> ProvisionedNeed {
+    let mut demand = ProvisionedNeed {
         flows: flows.len() as u64,
         sids: 0,
         minislots: 0,
@@ -63,11 +68,11 @@ fn say_few(reason: &mut Reason, table: &Table, field: Field, need: u64, what: &s
         reason.say(
             "{} must have at least {} numbers, not {}: {} {}",
             &[
-                Part::Words(field.text()),
-                Part::Number(need),
-                Part::Number(room),
-                Part::Number(need),
-                Part::Words(what),
+                GapText::Words(field.text()),
+                GapText::Number(need),
+                GapText::Number(room),
+                GapText::Number(need),
+                GapText::Words(what),
             ],
         );
     }
@@ -80,17 +85,17 @@ fn say_small(reason: &mut Reason, table: &Table, field: Field, need: u64, what: 
         reason.say(
             "{} {} is too small: {} {}",
             &[
-                Part::Words(field.text()),
-                Part::Number(room),
-                Part::Number(need),
-                Part::Words(what),
+                GapText::Words(field.text()),
+                GapText::Number(room),
+                GapText::Number(need),
+                GapText::Words(what),
             ],
         );
     }
 }
 
 /// Says that the provisioned flows do not fit what an operator has under a key, if they do not.
-fn say_over(reason: &mut Reason, table: &Table, demand: Demand, field: Field) {
+fn say_over(reason: &mut Reason, table: &Table, demand: ProvisionedNeed, field: Field) {
     match field {
         Field::Flows => say_small(reason, table, field, demand.flows, "flows are provisioned"),
         Field::Sfids => say_few(reason, table, field, demand.flows, "flows are provisioned"),
@@ -115,7 +120,7 @@ fn add_over(
     file: &File<'_>,
     place: Place,
     table: &Table,
-    demand: Demand,
+    demand: ProvisionedNeed,
     field: Field,
 ) {
     let mut wrong = Reason::new(report.alloc());
@@ -124,7 +129,7 @@ fn add_over(
         let mut message = Reason::new(report.alloc());
         let line = file.lines.line_of(Key::Entry(place, field));
         say_where(&mut message, file, place, line);
-        message.say("{}", &[Part::Told(&wrong)]);
+        message.say("{}", &[GapText::Told(&wrong)]);
         report.add(&message);
     }
 }

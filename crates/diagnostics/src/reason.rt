@@ -9,7 +9,7 @@ use toml::Value;
 
 /// What fills a gap of a sentence.
 #[derive(Clone, Copy)]
-pub(crate) enum Part<'a> {
+pub(crate) enum GapText<'a> {
     /// Words, as they are.
     Words(&'a str),
     /// A text of the input, between quotation marks and cut where it is long.
@@ -65,7 +65,7 @@ impl Reason {
     }
 
     /// Returns the whole text, or an error if an allocation for it failed.
-    pub(crate) fn told(self) -> Result<String, AllocError> {
+    pub(crate) fn into_text(self) -> Result<String, AllocError> {
         match self {
             Reason {
                 text,
@@ -112,24 +112,24 @@ impl Reason {
     }
 
     /// Adds what fills a gap.
-    fn put_part(&mut self, part: Part<'_>) -> Result<(), AllocError> {
+    fn put_part(&mut self, part: GapText<'_>) -> Result<(), AllocError> {
         match part {
-            Part::Words(words) => self.text.push_str(words),
-            Part::Quoted(shown) => self.put_quoted(shown),
-            Part::Number(number) => put_printed(&mut self.text, &number),
-            Part::Letter(c) => write!(self.text, "{c:?}"),
-            Part::Key(key) => put_printed(&mut self.text, &key),
-            Part::Place(place) => put_printed(&mut self.text, &place),
-            Part::Modem(modem) => put_printed(&mut self.text, &modem),
-            Part::Value(value) => self.put_value(value),
-            Part::Typed(value) => self.put_typed(value),
-            Part::Told(told) => self.text.push_str(told.so_far()?),
-            Part::Cut(told) => put_shown(&mut self.text, told.so_far()?),
+            GapText::Words(words) => self.text.push_str(words),
+            GapText::Quoted(shown) => self.put_quoted(shown),
+            GapText::Number(number) => put_printed(&mut self.text, &number),
+            GapText::Letter(c) => write!(self.text, "{c:?}"),
+            GapText::Key(key) => put_printed(&mut self.text, &key),
+            GapText::Place(place) => put_printed(&mut self.text, &place),
+            GapText::Modem(modem) => put_printed(&mut self.text, &modem),
+            GapText::Value(value) => self.put_value(value),
+            GapText::Typed(value) => self.put_typed(value),
+            GapText::Told(told) => self.text.push_str(told.so_far()?),
+            GapText::Cut(told) => put_shown(&mut self.text, told.so_far()?),
         }
     }
 
     /// Adds a sentence with its gaps filled.
-    fn put(&mut self, sentence: &str, parts: &[Part<'_>]) -> Result<(), AllocError> {
+    fn add_sentence(&mut self, sentence: &str, parts: &[GapText<'_>]) -> Result<(), AllocError> {
         for (gap, words) in sentence.split("{}").enumerate() {
             self.text.push_str(words)?;
             if let Some(part) = parts.get(gap) {
@@ -140,8 +140,8 @@ impl Reason {
     }
 
     /// Adds a sentence, each `{}` of which is filled by the next part. It has as many gaps as there are parts.
-    pub(crate) fn say(&mut self, sentence: &str, parts: &[Part<'_>]) {
-        if self.put(sentence, parts).is_err() {
+    pub(crate) fn say(&mut self, sentence: &str, parts: &[GapText<'_>]) {
+        if self.add_sentence(sentence, parts).is_err() {
             self.is_lost = true;
         }
     }

@@ -1,11 +1,11 @@
 //! What the program says on standard error: why its status is not 0, and warnings.
 
 use crate::file::File;
-use crate::lines::{LineStep, add_no_messages, say_line, say_stranger, steps_of};
-use crate::parts::{Parts, parts_of};
+use crate::lines::{NumberedStep, add_no_messages, say_line, say_stranger, steps_of};
+use crate::parts::{InputParts, parts_of};
 use crate::plain::is_plain;
 use crate::plants::{say_faults, say_no_bar, say_no_toml};
-use crate::reason::{Part, Reason};
+use crate::reason::{GapText, Reason};
 use crate::refusals::refused_of;
 use crate::report::Report;
 use crate::unread::say_all_unread;
@@ -44,7 +44,7 @@ pub fn reason_of_trouble(alloc: Global, trouble: Trouble) -> Result<String, Allo
         Trouble::TooLong => "the input is too long: at most 1048576 bytes are read\n",
         Trouble::NoText { valid } => {
             let place = (valid as u64).saturating_add(1);
-            reason.say("the input is not UTF-8: byte {}", &[Part::Number(place)]);
+            reason.say("the input is not UTF-8: byte {}", &[GapText::Number(place)]);
             " is invalid\n"
         }
         Trouble::Write => "writing to standard output failed: the output is incomplete\n",
@@ -53,7 +53,7 @@ pub fn reason_of_trouble(alloc: Global, trouble: Trouble) -> Result<String, Allo
         }
     };
     reason.say(sentence, &[]);
-    reason.told()
+    reason.into_text()
 }
 
 /// Returns the message of an invalid command line: clap's message and usage, and where the input is read.
@@ -66,7 +66,7 @@ pub fn reason_of_words<'a>(alloc: Global, words: &'a [&'a str]) -> Result<String
 }
 
 /// Says which invalid lines a script has, or if it has none, which step is refused.
-fn say_script(reason: &mut Reason, plant: Plant, parts: &Parts<'_>) {
+fn say_script(reason: &mut Reason, plant: Plant, parts: &InputParts<'_>) {
     let script = parts.script.unwrap_or("");
     let mut report = Report::new(reason.alloc, MOST_LINES);
     let steps = steps_of(&mut report, &plant, script, parts.bar);
@@ -78,7 +78,12 @@ fn say_script(reason: &mut Reason, plant: Plant, parts: &Parts<'_>) {
 }
 
 /// Says which step is refused.
-fn say_refused(reason: &mut Reason, plant: Plant, parts: &Parts<'_>, steps: Vec<LineStep>) {
+fn say_refused(
+    reason: &mut Reason,
+    plant: Plant,
+    parts: &InputParts<'_>,
+    steps: Vec<NumberedStep>,
+) {
     let mut wrong = Reason::new(reason.alloc);
     let number = refused_of(&mut wrong, plant, steps);
     if !wrong.is_silent() {
@@ -88,7 +93,7 @@ fn say_refused(reason: &mut Reason, plant: Plant, parts: &Parts<'_>, steps: Vec<
             .nth(number.saturating_sub(1))
             .unwrap_or("");
         say_line(reason, parts.bar, number, line);
-        reason.say("{}\n", &[Part::Told(&wrong)]);
+        reason.say("{}\n", &[GapText::Told(&wrong)]);
     }
 }
 
@@ -105,7 +110,7 @@ fn say_beside_script(
     reason: &mut Reason,
     word: Word<'_>,
     plant: &Plant,
-    parts: &Parts<'_>,
+    parts: &InputParts<'_>,
     status: u8,
 ) {
     match (word, status) {
@@ -124,7 +129,7 @@ fn say_behind_plant(
     reason: &mut Reason,
     word: Word<'_>,
     plant: Plant,
-    parts: &Parts<'_>,
+    parts: &InputParts<'_>,
     status: u8,
 ) {
     if is_of_script(word, status) {
@@ -135,7 +140,7 @@ fn say_behind_plant(
 }
 
 /// Says what is wrong with a plant file.
-fn say_plant(reason: &mut Reason, file: &File<'_>, parts: &Parts<'_>, fault: PlantFault) {
+fn say_plant(reason: &mut Reason, file: &File<'_>, parts: &InputParts<'_>, fault: PlantFault) {
     match (parts.plant.trim().is_empty(), parts.script) {
         (true, None) => reason.say(
             "the input is empty: write a plant file, a line --- and a script to standard input\n",
@@ -150,10 +155,10 @@ fn say_plant(reason: &mut Reason, file: &File<'_>, parts: &Parts<'_>, fault: Pla
 }
 
 /// Returns the parts of the input of a command. Of `serve` the input is the plant file: the lines after it are read as they come.
-fn parts_under<'a>(word: Word<'_>, input: &'a str) -> Parts<'a> {
+fn parts_under<'a>(word: Word<'_>, input: &'a str) -> InputParts<'a> {
     let parts = parts_of(input);
     match (word, parts.script) {
-        (Word::Serve, None) => Parts {
+        (Word::Serve, None) => InputParts {
             plant: input,
             script: Some(""),
             bar: parts.bar,
@@ -163,7 +168,13 @@ fn parts_under<'a>(word: Word<'_>, input: &'a str) -> Parts<'a> {
 }
 
 /// Says why a plant file that is TOML has a status.
-fn say_status(reason: &mut Reason, word: Word<'_>, file: &File<'_>, parts: &Parts<'_>, status: u8) {
+fn say_status(
+    reason: &mut Reason,
+    word: Word<'_>,
+    file: &File<'_>,
+    parts: &InputParts<'_>,
+    status: u8,
+) {
     match read_plant(reason.alloc, parts.plant) {
         Ok(plant) => say_behind_plant(reason, word, plant, parts, status),
         Err(PlantFault::NoMemory) => reason.is_lost = true,
@@ -176,7 +187,7 @@ fn say_document(
     reason: &mut Reason,
     word: Word<'_>,
     document: &Table,
-    parts: &Parts<'_>,
+    parts: &InputParts<'_>,
     status: u8,
 ) {
     let file = File::new(reason, document, parts.plant);
@@ -187,7 +198,7 @@ fn say_document(
 }
 
 /// Says why a plant file is not TOML.
-fn say_no_table(reason: &mut Reason, parts: &Parts<'_>, error: &toml::de::Error) {
+fn say_no_table(reason: &mut Reason, parts: &InputParts<'_>, error: &toml::de::Error) {
     if error.is_memory() {
         reason.is_lost = true;
     } else {
@@ -230,5 +241,5 @@ pub fn reason_of(
         (Word::One, _) => {}
         _ => say_of_plant(&mut reason, word, input, status),
     }
-    reason.told()
+    reason.into_text()
 }

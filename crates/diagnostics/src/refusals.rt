@@ -4,8 +4,8 @@ ghost use Rattle.plant.specs.Plant.{IsPlant};
 ghost use Rattle.plant_core.specs.CoreView.{core_view};
 
 use crate::joint::{Side, name_of, say_over_slice, say_overlap};
-use crate::lines::LineStep;
-use crate::reason::{Part, Reason};
+use crate::lines::NumberedStep;
+use crate::reason::{GapText, Reason};
 use crate::values::say_slice;
 use grant_policy::{RankInput, Ranking, rank_by};
 use operator_book::{Action, BookFault, Entry, SliceRow};
@@ -116,9 +116,9 @@ fn say_past(reason: &mut Reason, core: &PlantCore, op: Op, from: u32) {
     reason.say(
         "operator {} is at frame {}: new slices must start at a later frame, not at {}",
         &[
-            Part::Words(name_at(core.plant(), op)),
-            Part::Number(frame_of(core, op)),
-            Part::Number(u64::from(from)),
+            GapText::Words(name_at(core.plant(), op)),
+            GapText::Number(frame_of(core, op)),
+            GapText::Number(u64::from(from)),
         ],
     );
 }
@@ -169,25 +169,25 @@ fn say_unfit(reason: &mut Reason, core: &mut PlantCore, asked: &Asked, op: Op)
     reason.say(
         "operator {}: budget {} is too small: ",
         &[
-            Part::Words(name_at(core.plant(), op)),
-            Part::Number(u64::from(row.budget)),
+            GapText::Words(name_at(core.plant(), op)),
+            GapText::Number(u64::from(row.budget)),
         ],
     );
     match least_budget(reason, core, asked, op) {
         Some(committed) => reason.say(
             "{} minislots are committed",
-            &[Part::Number(u64::from(committed))],
+            &[GapText::Number(u64::from(committed))],
         ),
         None => reason.say(
             "more than {} minislots are committed",
-            &[Part::Number(u64::from(row.length))],
+            &[GapText::Number(u64::from(row.length))],
         ),
     }
 }
 
 /// Says why the slice that was asked for an operator, and its budget, are refused.
 fn say_row(reason: &mut Reason, plant: &Plant, op: Op, row: SliceRow, fault: ResliceFault) {
-    reason.say("operator {}: ", &[Part::Words(name_at(plant, op))]);
+    reason.say("operator {}: ", &[GapText::Words(name_at(plant, op))]);
     match fault {
         ResliceFault::OffFrame { .. } => say_off_frame(reason, plant, row),
         _ => say_over_slice(reason, u64::from(row.budget), u64::from(row.length)),
@@ -203,8 +203,8 @@ fn say_reslice(reason: &mut Reason, core: &PlantCore, asked: &Asked, fault: Resl
         ResliceFault::Unfinished { op } => reason.say(
             "operator {} is at frame {}, and slices of an earlier Z have not started: send this line when they have",
             &[
-                Part::Words(name_at(plant, op)),
-                Part::Number(frame_of(core, op)),
+                GapText::Words(name_at(plant, op)),
+                GapText::Number(frame_of(core, op)),
             ],
         ),
         ResliceFault::SlicesMeet { a, b } => say_slices_meet(reason, plant, asked, a, b),
@@ -225,18 +225,18 @@ fn say_core(reason: &mut Reason, core: &mut PlantCore, asked: &Asked, fault: Cor
         CoreFault::Reslice(fault) => say_reslice(reason, core, asked, fault),
         CoreFault::Book(BookFault::FramesSpent) => reason.say(
             "operator {} is at frame 4294967295, the last one: no tick can follow",
-            &[Part::Words(name_at(core.plant(), asked.op))],
+            &[GapText::Words(name_at(core.plant(), asked.op))],
         ),
         _ => reason.say("the step is refused", &[]),
     }
 }
 
 /// Runs steps up to the first that is refused. Returns the number of its line, and the reason says why.
-fn first_refused(reason: &mut Reason, core: &mut PlantCore, steps: Vec<LineStep>) -> usize
+fn first_refused(reason: &mut Reason, core: &mut PlantCore, steps: Vec<NumberedStep>) -> usize
     requires { IsPlant (core_view core.old).plant }
 {
     let mut outs = Vec::new(reason.alloc);
-    for LineStep { number, step } in steps {
+    for NumberedStep { number, step } in steps {
         let asked = asked_of(reason, &step);
         if let Err(fault) = core.step_over(reason.alloc, step, &mut outs) {
             core.always();
@@ -253,7 +253,7 @@ fn refused_by(
     reason: &mut Reason,
     plant: Plant,
     rankings: Vec<Ranking>,
-    steps: Vec<LineStep>,
+    steps: Vec<NumberedStep>,
 ) -> usize {
     match PlantCore::open(reason.alloc, plant, rankings) {
         Ok(mut core) => {
@@ -268,7 +268,7 @@ fn refused_by(
 }
 
 /// Runs the steps on the plant's core. Returns the number of the line of the first that is refused, and the reason says why.
-pub(crate) fn refused_of(reason: &mut Reason, plant: Plant, steps: Vec<LineStep>) -> usize {
+pub(crate) fn refused_of(reason: &mut Reason, plant: Plant, steps: Vec<NumberedStep>) -> usize {
     let mut rankings = Vec::new(reason.alloc);
     for row in plant.rows() {
         let policy = row.get_fields().policy;

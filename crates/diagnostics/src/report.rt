@@ -1,6 +1,6 @@
 //! A list of messages, a line each, of which the first are written and the others counted.
 
-use crate::reason::{Part, Reason};
+use crate::reason::{GapText, Reason};
 use std::alloc::Global;
 
 /// A list of messages, a line each.
@@ -49,7 +49,7 @@ impl Report {
             return;
         }
         if self.is_open() {
-            self.lines.say("{}\n", &[Part::Told(message)]);
+            self.lines.say("{}\n", &[GapText::Told(message)]);
         }
         self.lines.is_lost |= message.is_lost;
         self.count = self.count.saturating_add(1);
@@ -58,11 +58,14 @@ impl Report {
     /// Says the messages, and how many more there are of what the words name: one of it, and several.
     pub(crate) fn say(&self, reason: &mut Reason, one: &str, several: &str) {
         reason.is_lost |= self.lines.is_lost;
-        reason.say("{}", &[Part::Told(&self.lines)]);
+        reason.say("{}", &[GapText::Told(&self.lines)]);
         let left = self.count.saturating_sub(self.most);
         if left > 0 {
             let name = if left == 1 { one } else { several };
-            reason.say("and {} more {}\n", &[Part::Number(left), Part::Words(name)]);
+            reason.say(
+                "and {} more {}\n",
+                &[GapText::Number(left), GapText::Words(name)],
+            );
         }
     }
 }

@@ -98,7 +98,7 @@ pub(crate) fn place_of(values: &[Value], name: &str) -> Option<usize> {
 }
 
 /// Returns the first table of an array that has this name.
-pub(crate) fn named<'a>(document: &'a Table, array: &str, name: &str) -> Option<&'a Table> {
+pub(crate) fn table_named<'a>(document: &'a Table, array: &str, name: &str) -> Option<&'a Table> {
     let values = values(document, array);
     values.get(place_of(values, name)?)?.as_table()
 }

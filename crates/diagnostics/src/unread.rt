@@ -1,7 +1,7 @@
 //! Keys and tables of a plant file that are not known: the program reads none of them.
 
 use crate::file::File;
-use crate::reason::{Part, Reason};
+use crate::reason::{GapText, Reason};
 use crate::report::Report;
 use crate::tree::{values, values_below, values_in};
 use crate::wanted::has;
@@ -82,13 +82,13 @@ fn table_with(word: &str) -> Option<&'static str> {
 fn say_meant(reason: &mut Reason, nearest: &Nearest<'_>) {
     let word = nearest.word;
     if let Some(near) = nearest.found {
-        reason.say(" (did you mean {}?)", &[Part::Words(near)]);
+        reason.say(" (did you mean {}?)", &[GapText::Words(near)]);
     } else if word == "flow" {
         reason.say(" (did you mean [[operator.flow]]?)", &[]);
     } else if let Some(table) = table_with(word) {
         reason.say(
             " ({} belongs in {})",
-            &[Part::Words(word), Part::Words(table)],
+            &[GapText::Words(word), GapText::Words(table)],
         );
     }
 }
@@ -104,9 +104,9 @@ fn add_unread(
     let mut message = Reason::new(report.alloc());
     message.say("warning: ", &[]);
     if let Some(line) = line {
-        message.say("line {}: ", &[Part::Number(line)]);
+        message.say("line {}: ", &[GapText::Number(line)]);
     }
-    message.say("unknown {} {}", &[Part::Words(kind), Part::Cut(name)]);
+    message.say("unknown {} {}", &[GapText::Words(kind), GapText::Cut(name)]);
     say_meant(&mut message, nearest);
     report.add(&message);
 }
@@ -123,7 +123,7 @@ fn add_unread_key(
     let mut nearest = Nearest::new(word);
     let mut line = None;
     if report.is_open() {
-        name.say("{}.{}", &[Part::Place(place), Part::Words(word)]);
+        name.say("{}.{}", &[GapText::Place(place), GapText::Words(word)]);
         nearest.try_fields(&mut name, fields);
         line = file.lines.line_in(place, word);
     }
@@ -164,7 +164,7 @@ fn add_unread_at_top(report: &mut Report, file: &File<'_>, word: &str, value: &V
     let mut nearest = Nearest::new(word);
     let mut line = None;
     if report.is_open() {
-        name.say(written, &[Part::Words(word)]);
+        name.say(written, &[GapText::Words(word)]);
         nearest.try_words(&mut name, &AT_HEAD);
         line = file.lines.line_at_top(word);
     }

@@ -1,7 +1,7 @@
 //! What is wrong with a value of a plant file: numbers, ranges, slices, names and addresses.
 
 use crate::file::File;
-use crate::reason::{Part, Reason};
+use crate::reason::{GapText, Reason};
 use crate::tree::{natural, pair_in, place_of, values};
 use crate::wanted::{bounds_of, say_must};
 use slice_table::{Field, Key, Place};
@@ -62,9 +62,9 @@ pub(crate) fn say_range<'v>(
     reason.say(
         "{} {}: {}",
         &[
-            Part::Words(field.text()),
-            Part::Value(value),
-            Part::Words(wrong),
+            GapText::Words(field.text()),
+            GapText::Value(value),
+            GapText::Words(wrong),
         ],
     );
 }
@@ -74,9 +74,9 @@ fn say_over<'v>(reason: &mut Reason, field: Field, value: &'v Value, most: u64) 
     reason.say(
         "{} {}: last must be at most {}",
         &[
-            Part::Words(field.text()),
-            Part::Value(value),
-            Part::Number(most),
+            GapText::Words(field.text()),
+            GapText::Value(value),
+            GapText::Number(most),
         ],
     );
 }
@@ -91,12 +91,12 @@ pub(crate) fn say_slice(reason: &mut Reason, slice: (u64, u64), head: u64, frame
     } else if start < head {
         reason.say(
             "start must be at least {}, after the head",
-            &[Part::Number(head)],
+            &[GapText::Number(head)],
         );
     } else if end > frame {
         reason.say(
             "start + length must be at most {} (frame_minislots), not {}",
-            &[Part::Number(frame), Part::Number(end)],
+            &[GapText::Number(frame), GapText::Number(end)],
         );
     }
 }
@@ -116,7 +116,10 @@ pub(crate) fn say_slice_value<'v>(
     let mut wrong = Reason::new(reason.alloc);
     say_slice(&mut wrong, slice, head, frame);
     if !wrong.is_silent() {
-        reason.say("slice {}: {}", &[Part::Value(value), Part::Told(&wrong)]);
+        reason.say(
+            "slice {}: {}",
+            &[GapText::Value(value), GapText::Told(&wrong)],
+        );
     }
 }
 
@@ -179,10 +182,10 @@ fn say_taken(reason: &mut Reason, file: &File<'_>, place: Place, name: &str) {
         let other = place_in_array(place, first);
         reason.say(
             "name \"{}\" is taken by {}",
-            &[Part::Words(name), Part::Place(other)],
+            &[GapText::Words(name), GapText::Place(other)],
         );
         if let Some(line) = file.lines.line_of(Key::Entry(other, Field::Name)) {
-            reason.say(", line {}", &[Part::Number(line)]);
+            reason.say(", line {}", &[GapText::Number(line)]);
         }
         reason.say(": choose another name", &[]);
     }
@@ -203,12 +206,12 @@ pub(crate) fn say_name<'v>(
     let count = name.chars().count() as u64;
     if let Some((_before, c)) = first_beside(name, Letters::Alphanumeric) {
         say_must(reason, file, place, field, value);
-        reason.say(" (invalid character {})", &[Part::Letter(c)]);
+        reason.say(" (invalid character {})", &[GapText::Letter(c)]);
     } else if count == 0 {
         say_must(reason, file, place, field, value);
     } else if count > most {
         say_must(reason, file, place, field, value);
-        reason.say(" ({} characters)", &[Part::Number(count)]);
+        reason.say(" ({} characters)", &[GapText::Number(count)]);
     } else {
         say_taken(reason, file, place, name);
     }
@@ -240,31 +243,31 @@ pub(crate) fn say_address<'a>(reason: &mut Reason, what: &'a Reason, text: &'a s
         reason.say(
             "{} must be 12 hexadecimal digits without separators: write {}, not {}",
             &[
-                Part::Told(what),
-                Part::Words(digits.as_str()),
-                Part::Quoted(text),
+                GapText::Told(what),
+                GapText::Words(digits.as_str()),
+                GapText::Quoted(text),
             ],
         );
         return;
     }
     reason.say(
         "{} must be 12 hexadecimal digits, not {}",
-        &[Part::Told(what), Part::Quoted(text)],
+        &[GapText::Told(what), GapText::Quoted(text)],
     );
     match first_beside(text, Letters::Hexadecimal) {
-        Some((_before, c)) => reason.say(" (invalid character {})", &[Part::Letter(c)]),
-        None => reason.say(" ({} digits)", &[Part::Number(text.len() as u64)]),
+        Some((_before, c)) => reason.say(" (invalid character {})", &[GapText::Letter(c)]),
+        None => reason.say(" ({} digits)", &[GapText::Number(text.len() as u64)]),
     }
 }
 
 /// Says what is wrong with an item of a list of addresses.
 pub(crate) fn say_item(reason: &mut Reason, number: u64, value: &Value) {
     let mut what = Reason::new(reason.alloc);
-    what.say("modems[{}]", &[Part::Number(number)]);
+    what.say("modems[{}]", &[GapText::Number(number)]);
     match value.as_str() {
         None => reason.say(
             "{} must be a string of 12 hexadecimal digits, not {}",
-            &[Part::Told(&what), Part::Typed(value)],
+            &[GapText::Told(&what), GapText::Typed(value)],
         ),
         Some(address) => say_address(reason, &what, address),
     }

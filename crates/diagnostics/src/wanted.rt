@@ -1,7 +1,7 @@
 //! What each key of a plant file must be, in words.
 
 use crate::file::File;
-use crate::reason::{Part, Reason};
+use crate::reason::{GapText, Reason};
 use slice_table::{Field, Place};
 
 /// Returns whether one of the keys has this name.
@@ -57,7 +57,7 @@ fn say_wanted_head(reason: &mut Reason, file: &File<'_>) {
     match file.frame() {
         Some(frame) => reason.say(
             "an integer from 0 to {} (frame_minislots)",
-            &[Part::Number(frame)],
+            &[GapText::Number(frame)],
         ),
         None => reason.say("an integer from 0 to frame_minislots", &[]),
     }
@@ -69,13 +69,13 @@ pub(crate) fn say_wanted(reason: &mut Reason, file: &File<'_>, place: Place, fie
         (Field::Head, _) => say_wanted_head(reason, file),
         (Field::Step, Some((low, high))) => reason.say(
             "an integer from {} to {}, since policy is \"aged\"",
-            &[Part::Number(low), Part::Number(high)],
+            &[GapText::Number(low), GapText::Number(high)],
         ),
         (_, Some((low, high))) => reason.say(
             "an integer from {} to {}",
-            &[Part::Number(low), Part::Number(high)],
+            &[GapText::Number(low), GapText::Number(high)],
         ),
-        _ => reason.say("{}", &[Part::Words(wanted_of(place, field))]),
+        _ => reason.say("{}", &[GapText::Words(wanted_of(place, field))]),
     }
 }
 
@@ -87,7 +87,7 @@ pub(crate) fn say_must<'v>(
     field: Field,
     value: &'v toml::Value,
 ) {
-    reason.say("{} must be ", &[Part::Words(field.text())]);
+    reason.say("{} must be ", &[GapText::Words(field.text())]);
     say_wanted(reason, file, place, field);
-    reason.say(", not {}", &[Part::Typed(value)]);
+    reason.say(", not {}", &[GapText::Typed(value)]);
 }

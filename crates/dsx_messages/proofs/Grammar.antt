@@ -24,7 +24,7 @@ use Rattle.dsx_messages.specs.declared.fault.MessageFault.{MessageFault}
 use Rattle.dsx_messages.specs.declared.fault.MessageFault.TheVariants as faults
 use Rattle.dsx_messages.specs.MessageType.{dsa_req, dsa_ack, dsc_req, dsc_ack, dsd_req}
 use Rattle.dsx_messages.specs.TlvType.{upstream_service_flow}
-use Rattle.dsx_messages.specs.Reading.{Gives, is_left_out, left_out_in, flow_told, flow_in, flows_after, flows_unless, flows_in_front, flows_in, with_flows, flows_request_of, deletion_of, ack_of, message_of}
+use Rattle.dsx_messages.specs.Reading.{Gives, is_left_out, left_out_in, flow_told, flow_in, flows_read_after, flows_unless, flows_in_front, flows_in, request_with_flows, flows_request_of, deletion_of, ack_of, message_of}
 use Rattle.dsx_messages.specs.Message.{IsHeaded, AreSaid, SaysFlows, SaysSfid, Says, HasType, IsShortBody, IsForeign, IsRequest, IsFirstMessageFault}
 use Rattle.dsx_messages.proofs.Passes.{values-flow, values-other}
 
@@ -74,7 +74,7 @@ IsRightAboutFlows bytes list (Err fault) = IsRightFault bytes fault
 module _ (bytes : List ℕ) (tid : ℕ) (kind : Kind) (list : List ℕ) (request : IsRequest bytes tid kind list) where
   after_right : (tlvs : List Tlv) → IsTlvList list tlvs → find is_left_out tlvs ≡ None
       → (before values : List (List ℕ)) (flows : List FlowFields) → AllByRecursion AreBytes values → values_of upstream_service_flow tlvs ≡ before ++ values → AreSaid before flows
-      → IsRightAboutFlows bytes list (flows_after tid kind flows values)
+      → IsRightAboutFlows bytes list (flows_read_after tid kind flows values)
   unfolding flow_in
   after_right tlvs spelling none before [] flows are whole said = record {
     tlvs = tlvs;
@@ -88,8 +88,8 @@ module _ (bytes : List ℕ) (tid : ℕ) (kind : Kind) (list : List ℕ) (request
     where
       first : (tlvs : List Tlv) → IsTlvList list tlvs → find is_left_out tlvs ≡ None
           → (before : List (List ℕ)) (value : List ℕ) (values : List (List ℕ)) (flows : List FlowFields) → AreBytes value → values_of upstream_service_flow tlvs ≡ before ++ value ∷ values → AreSaid before flows
-          → (r : Result FlowFields FlowFault) → flow_of value ≡ r → ((flow : FlowFields) → IsFlowEncoding value flow → IsRightAboutFlows bytes list (flows_after tid kind (flows ++ flow ∷ []) values))
-          → IsRightAboutFlows bytes list (flow_told tid kind r >>= λ flow. flows_after tid kind (flows ++ flow ∷ []) values)
+          → (r : Result FlowFields FlowFault) → flow_of value ≡ r → ((flow : FlowFields) → IsFlowEncoding value flow → IsRightAboutFlows bytes list (flows_read_after tid kind (flows ++ flow ∷ []) values))
+          → IsRightAboutFlows bytes list (flow_told tid kind r >>= λ flow. flows_read_after tid kind (flows ++ flow ∷ []) values)
       first tlvs spelling none before value values flows are whole said (Ok flow) e again = again flow (answers_flow value flow are e)
       first tlvs spelling none before value values flows are whole said (Err told) e again = record {
         first = (
@@ -163,13 +163,13 @@ module _ (bytes : List ℕ) (tid : ℕ) (kind : Kind) (list : List ℕ) (request
 -- what is said is read
 
 after_said : (tid : ℕ) (kind : Kind) (before : List FlowFields) (values : List (List ℕ)) (flows : List FlowFields) → AllByRecursion AreBytes values → AreSaid values flows
-    → flows_after tid kind before values ≡ Ok (before ++ flows)
+    → flows_read_after tid kind before values ≡ Ok (before ++ flows)
 unfolding flow_in
 after_said tid kind before [] [] are said = ap Ok (sym (append-nil before))
 after_said tid kind before [] (flow ∷ flows) are said = absurd said
 after_said tid kind before (value ∷ values) [] are said = absurd said
 after_said tid kind before (value ∷ values) (flow ∷ flows) are said =
-    ap (λ (r : Result FlowFields FlowFault). flow_told tid kind r >>= λ m. flows_after tid kind (before ++ m ∷ []) values) (flow_answered value flow are.0 said.0)
+    ap (λ (r : Result FlowFields FlowFault). flow_told tid kind r >>= λ m. flows_read_after tid kind (before ++ m ∷ []) values) (flow_answered value flow are.0 said.0)
     ∙ after_said tid kind (before ++ flow ∷ []) values flows are.1 said.1 ∙ ap Ok (append_assoc before (flow ∷ []) flows)
 
 front_said : (tid : ℕ) (kind : Kind) (list : List ℕ) (front : Front) (flows : List FlowFields) → front.rest ≡ [] → find is_left_out front.tlvs ≡ None → AllByRecursion AreBytes (values_of upstream_service_flow front.tlvs) → AreSaid (values_of upstream_service_flow front.tlvs) flows
@@ -238,7 +238,7 @@ request_right kind mtype (high ∷ low ∷ list) typed are =
     headed n mtype high low list same = subst (λ (k : ℕ). IsHeaded (mtype ∷ high ∷ low ∷ list) k (word (high ∷ low ∷ [])) list) same (head_is mtype high low list)
 
     told : (kind : Kind) (mtype high low : ℕ) (list : List ℕ) → HasType kind mtype → (r : Result (List FlowFields) MessageFault) → IsRightAboutFlows (mtype ∷ high ∷ low ∷ list) list r
-        → IsRightMessage (mtype ∷ high ∷ low ∷ list) (r >>= λ flows. Ok (messages.Request (with_flows kind (word (high ∷ low ∷ [])) flows)))
+        → IsRightMessage (mtype ∷ high ∷ low ∷ list) (r >>= λ flows. Ok (messages.Request (request_with_flows kind (word (high ∷ low ∷ [])) flows)))
     told kind mtype high low list typed (Err fault) right = right
     told Dsa mtype high low list typed (Ok flows) right = (list, headed dsa_req mtype high low list typed, right)
     told Dsc mtype high low list typed (Ok flows) right = (list, headed dsc_req mtype high low list typed, right)
@@ -313,11 +313,11 @@ message_memory bytes are e = (message_told bytes faults.NoMemory are e).of_messa
 -- what is said is read
 
 request_said : (kind : Kind) (high low tid : ℕ) (list : List ℕ) (flows : List FlowFields) → AreBytes list → tid ≡ word (high ∷ low ∷ []) → SaysFlows list flows
-    → flows_request_of kind (high ∷ low ∷ list) ≡ Ok (messages.Request (with_flows kind tid flows))
+    → flows_request_of kind (high ∷ low ∷ list) ≡ Ok (messages.Request (request_with_flows kind tid flows))
 request_said kind high low tid list flows are tid_is says =
-    ap (λ (r : Result (List FlowFields) MessageFault). r >>= λ m. Ok (messages.Request (with_flows kind (word (high ∷ low ∷ [])) m)))
+    ap (λ (r : Result (List FlowFields) MessageFault). r >>= λ m. Ok (messages.Request (request_with_flows kind (word (high ∷ low ∷ [])) m)))
     (flows_said (word (high ∷ low ∷ [])) kind list flows are says)
-    ∙ ap (λ (n : ℕ). Ok (messages.Request (with_flows kind n flows))) (sym tid_is)
+    ∙ ap (λ (n : ℕ). Ok (messages.Request (request_with_flows kind n flows))) (sym tid_is)
 
 addition_said : (bytes : List ℕ) (tid : ℕ) (flows : List FlowFields) (list : List ℕ) → AreBytes bytes → IsHeaded bytes dsa_req tid list → SaysFlows list flows → message_of bytes ≡ Ok (messages.Request (requests.Dsa tid flows))
 unfolding message_of

@@ -3,14 +3,14 @@ use Rattle.std.proofs.Common.{◌≡◌, ◌≢◌, ℕ, ◌+◌, ◌-◌, ◌<�
 use Rattle.lists.specs.Results.{◌>>=◌}
 use Rattle.tlv24.specs.declared.tlv.Tlv.{Tlv}
 use Rattle.tlv24.specs.declared.fields.FlowFields.{FlowFields}
-use Rattle.tlv24.specs.Tlv.{tlv, Front, first_of, front_of}
+use Rattle.tlv24.specs.Tlv.{tlv, Front, first_tlv, front_of}
 use Rattle.tlv24.specs.Flow.{values_of}
 use Rattle.tlv24.proofs.Lists.{front_of-some, front_of-none, shrinks}
 use Rattle.dsx_messages.specs.TlvType.{upstream_service_flow}
 use Rattle.dsx_messages.specs.declared.kind.Kind.{Kind}
 use Rattle.dsx_messages.specs.declared.fault.MessageFault.{MessageFault}
 use Rattle.dsx_messages.specs.declared.fault.MessageFault.TheVariants as faults
-use Rattle.dsx_messages.specs.Reading.{Fails, is_left_out, left_out_in, flow_in, flows_after}
+use Rattle.dsx_messages.specs.Reading.{Fails, is_left_out, left_out_in, flow_in, flows_read_after}
 use Rattle.dsx_messages.specs.Survey.{first_some, left_out_kind, flow_count, IsSurveyed, IsCutSurvey, IsSurveyedUpTo}
 
 -- ---- values of flow encodings
@@ -39,7 +39,7 @@ first_some-assoc : (a b c : Option ℕ) → first_some a (first_some b c) ≡ fi
 first_some-assoc None b c = refl
 first_some-assoc (Some n) b c = refl
 
-pub survey_more : (list rest : List ℕ) (left_out : Option ℕ) (flows kind : ℕ) (value after : List ℕ) → IsSurveyedUpTo list rest left_out flows → Some (record { tlv = tlv kind value; rest = after }) ≡ first_of rest
+pub survey_more : (list rest : List ℕ) (left_out : Option ℕ) (flows kind : ℕ) (value after : List ℕ) → IsSurveyedUpTo list rest left_out flows → Some (record { tlv = tlv kind value; rest = after }) ≡ first_tlv rest
     → IsSurveyedUpTo list after (first_some left_out (left_out_kind kind)) (flows + flow_count kind)
 survey_more list rest left_out flows kind value after s first =
     let front = front_of-some rest (record { tlv = tlv kind value; rest = after }) (sym first) in
@@ -80,7 +80,7 @@ survey_whole list rest left_out flows s none =
       flows_are = let all : length (values_of upstream_service_flow (front_of list).tlvs) ≡ flows + 0 = s.flows_are ∙ ap (λ (f : Front). flows + length (values_of upstream_service_flow f.tlvs)) front in omega (arith, all);
     }
 
-pub survey_cut : (list rest : List ℕ) (left_out : Option ℕ) (flows : ℕ) → IsSurveyedUpTo list rest left_out flows → first_of rest ≡ None → length rest ≢ 0 → IsCutSurvey list (length list - length rest)
+pub survey_cut : (list rest : List ℕ) (left_out : Option ℕ) (flows : ℕ) → IsSurveyedUpTo list rest left_out flows → first_tlv rest ≡ None → length rest ≢ 0 → IsCutSurvey list (length list - length rest)
 survey_cut list rest left_out flows s none some =
     let front = front_of-none rest none in
     let same : (front_of list).rest ≡ rest = s.same_rest ∙ ap (λ (f : Front). f.rest) front in
@@ -103,28 +103,28 @@ fails (faults.LeftOut tid kind found) read e = e
 fails faults.NoMemory read e = tt
 
 module _ (tid : ℕ) (kind : Kind) where
-  flows_first : (rest : List ℕ) (flows : List FlowFields) (type : ℕ) (value after : List ℕ) (total : Result (List FlowFields) MessageFault) → Some (record { tlv = tlv type value; rest = after }) ≡ first_of rest
-      → flows_after tid kind flows (values_of upstream_service_flow (front_of rest).tlvs) ≡ total → flows_after tid kind flows (values_of upstream_service_flow (tlv type value ∷ (front_of after).tlvs)) ≡ total
+  flows_first : (rest : List ℕ) (flows : List FlowFields) (type : ℕ) (value after : List ℕ) (total : Result (List FlowFields) MessageFault) → Some (record { tlv = tlv type value; rest = after }) ≡ first_tlv rest
+      → flows_read_after tid kind flows (values_of upstream_service_flow (front_of rest).tlvs) ≡ total → flows_read_after tid kind flows (values_of upstream_service_flow (tlv type value ∷ (front_of after).tlvs)) ≡ total
   flows_first rest flows type value after total first so_far =
       let front = front_of-some rest (record { tlv = tlv type value; rest = after }) (sym first) in
-      sym (ap (λ (f : Front). flows_after tid kind flows (values_of upstream_service_flow f.tlvs)) front) ∙ so_far
+      sym (ap (λ (f : Front). flows_read_after tid kind flows (values_of upstream_service_flow f.tlvs)) front) ∙ so_far
 
-  pub flows_skip : (rest : List ℕ) (flows : List FlowFields) (type : ℕ) (value after : List ℕ) (total : Result (List FlowFields) MessageFault) → Some (record { tlv = tlv type value; rest = after }) ≡ first_of rest
-      → flows_after tid kind flows (values_of upstream_service_flow (front_of rest).tlvs) ≡ total → eqb type upstream_service_flow ≡ false → flows_after tid kind flows (values_of upstream_service_flow (front_of after).tlvs) ≡ total
+  pub flows_skip : (rest : List ℕ) (flows : List FlowFields) (type : ℕ) (value after : List ℕ) (total : Result (List FlowFields) MessageFault) → Some (record { tlv = tlv type value; rest = after }) ≡ first_tlv rest
+      → flows_read_after tid kind flows (values_of upstream_service_flow (front_of rest).tlvs) ≡ total → eqb type upstream_service_flow ≡ false → flows_read_after tid kind flows (values_of upstream_service_flow (front_of after).tlvs) ≡ total
   flows_skip rest flows type value after total first so_far other =
-      sym (ap (flows_after tid kind flows) (values-other (tlv type value) (front_of after).tlvs other)) ∙ flows_first rest flows type value after total first so_far
+      sym (ap (flows_read_after tid kind flows) (values-other (tlv type value) (front_of after).tlvs other)) ∙ flows_first rest flows type value after total first so_far
 
-  pub flows_take : (rest : List ℕ) (flows : List FlowFields) (type : ℕ) (value after : List ℕ) (total : Result (List FlowFields) MessageFault) (flow : FlowFields) → Some (record { tlv = tlv type value; rest = after }) ≡ first_of rest
-      → flows_after tid kind flows (values_of upstream_service_flow (front_of rest).tlvs) ≡ total → eqb type upstream_service_flow ≡ true → Ok flow ≡ flow_in tid kind value → flows_after tid kind (flows ++ flow ∷ []) (values_of upstream_service_flow (front_of after).tlvs) ≡ total
+  pub flows_take : (rest : List ℕ) (flows : List FlowFields) (type : ℕ) (value after : List ℕ) (total : Result (List FlowFields) MessageFault) (flow : FlowFields) → Some (record { tlv = tlv type value; rest = after }) ≡ first_tlv rest
+      → flows_read_after tid kind flows (values_of upstream_service_flow (front_of rest).tlvs) ≡ total → eqb type upstream_service_flow ≡ true → Ok flow ≡ flow_in tid kind value → flows_read_after tid kind (flows ++ flow ∷ []) (values_of upstream_service_flow (front_of after).tlvs) ≡ total
   flows_take rest flows type value after total flow first so_far same told =
-      ap (λ (r : Result FlowFields MessageFault). r >>= λ m. flows_after tid kind (flows ++ m ∷ []) (values_of upstream_service_flow (front_of after).tlvs)) told
-      ∙ sym (ap (flows_after tid kind flows) (values-flow (tlv type value) (front_of after).tlvs same)) ∙ flows_first rest flows type value after total first so_far
+      ap (λ (r : Result FlowFields MessageFault). r >>= λ m. flows_read_after tid kind (flows ++ m ∷ []) (values_of upstream_service_flow (front_of after).tlvs)) told
+      ∙ sym (ap (flows_read_after tid kind flows) (values-flow (tlv type value) (front_of after).tlvs same)) ∙ flows_first rest flows type value after total first so_far
 
-  pub flows_stop : (rest : List ℕ) (flows : List FlowFields) (type : ℕ) (value after : List ℕ) (total : Result (List FlowFields) MessageFault) (fault : MessageFault) → Some (record { tlv = tlv type value; rest = after }) ≡ first_of rest
-      → flows_after tid kind flows (values_of upstream_service_flow (front_of rest).tlvs) ≡ total → eqb type upstream_service_flow ≡ true → Err fault ≡ flow_in tid kind value → total ≡ Err fault
+  pub flows_stop : (rest : List ℕ) (flows : List FlowFields) (type : ℕ) (value after : List ℕ) (total : Result (List FlowFields) MessageFault) (fault : MessageFault) → Some (record { tlv = tlv type value; rest = after }) ≡ first_tlv rest
+      → flows_read_after tid kind flows (values_of upstream_service_flow (front_of rest).tlvs) ≡ total → eqb type upstream_service_flow ≡ true → Err fault ≡ flow_in tid kind value → total ≡ Err fault
   flows_stop rest flows type value after total fault first so_far same told =
-      sym (ap (λ (r : Result FlowFields MessageFault). r >>= λ m. flows_after tid kind (flows ++ m ∷ []) (values_of upstream_service_flow (front_of after).tlvs)) told
-      ∙ sym (ap (flows_after tid kind flows) (values-flow (tlv type value) (front_of after).tlvs same)) ∙ flows_first rest flows type value after total first so_far)
+      sym (ap (λ (r : Result FlowFields MessageFault). r >>= λ m. flows_read_after tid kind (flows ++ m ∷ []) (values_of upstream_service_flow (front_of after).tlvs)) told
+      ∙ sym (ap (flows_read_after tid kind flows) (values-flow (tlv type value) (front_of after).tlvs same)) ∙ flows_first rest flows type value after total first so_far)
 
-  pub flows_end : (rest : List ℕ) (flows : List FlowFields) (total : Result (List FlowFields) MessageFault) → first_of rest ≡ None → flows_after tid kind flows (values_of upstream_service_flow (front_of rest).tlvs) ≡ total → total ≡ Ok flows
-  flows_end rest flows total none so_far = sym (sym (ap (λ (f : Front). flows_after tid kind flows (values_of upstream_service_flow f.tlvs)) (front_of-none rest none)) ∙ so_far)
+  pub flows_end : (rest : List ℕ) (flows : List FlowFields) (total : Result (List FlowFields) MessageFault) → first_tlv rest ≡ None → flows_read_after tid kind flows (values_of upstream_service_flow (front_of rest).tlvs) ≡ total → total ≡ Ok flows
+  flows_end rest flows total none so_far = sym (sym (ap (λ (f : Front). flows_read_after tid kind flows (values_of upstream_service_flow f.tlvs)) (front_of-none rest none)) ∙ so_far)

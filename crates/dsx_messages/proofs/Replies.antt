@@ -8,18 +8,18 @@ use Rattle.dsx_messages.specs.declared.reply.FlowId.TheVariants.{Reference, Sfid
 use Rattle.dsx_messages.specs.declared.reply.Detail.{Detail}
 use Rattle.dsx_messages.specs.declared.reply.Detail.TheVariants.{Nothing, Given, Errored}
 use Rattle.dsx_messages.specs.Spelling.{tail_of}
-use Rattle.dsx_messages.specs.Told.{IsTold}
+use Rattle.dsx_messages.specs.Told.{IsDetailSpelling}
 use Rattle.dsx_messages.specs.Widths.{FitsDetail}
 
 module _ (tail : List ℕ) (result : Option Detail) where
   pub every_accepted_addition : (kind : Kind) (code : Code) → kind ≡ Dsa → code ≡ Okay
       → ((reference sfid sid : ℕ) → reference < 2 ^ 16 → sfid < 2 ^ 32 → sid < 16384 → tail ≡ tail_of Dsa Okay (Given (Some reference) sfid (Some sid)) → result ≡ Some (Given (Some reference) sfid (Some sid)))
-      → (detail : Detail) → IsTold kind code tail detail → FitsDetail detail → result ≡ Some detail
+      → (detail : Detail) → IsDetailSpelling kind code tail detail → FitsDetail detail → result ≡ Some detail
   every_accepted_addition kind code is_kind is_code given detail told fits =
-      by_detail given detail (subst (λ (x : Code). IsTold Dsa x tail detail) is_code (subst (λ (k : Kind). IsTold k code tail detail) is_kind told)) fits
+      by_detail given detail (subst (λ (x : Code). IsDetailSpelling Dsa x tail detail) is_code (subst (λ (k : Kind). IsDetailSpelling k code tail detail) is_kind told)) fits
     where
       by_detail : ((reference sfid sid : ℕ) → reference < 2 ^ 16 → sfid < 2 ^ 32 → sid < 16384 → tail ≡ tail_of Dsa Okay (Given (Some reference) sfid (Some sid)) → result ≡ Some (Given (Some reference) sfid (Some sid)))
-          → (detail : Detail) → IsTold Dsa Okay tail detail → FitsDetail detail → result ≡ Some detail
+          → (detail : Detail) → IsDetailSpelling Dsa Okay tail detail → FitsDetail detail → result ≡ Some detail
       by_detail given Nothing told fits = absurd (told.goes refl)
       by_detail given (Errored id subtype) told fits = absurd (told.goes.0 refl)
       by_detail given (Given None sfid sid) told fits = absurd told.goes
@@ -29,13 +29,13 @@ module _ (tail : List ℕ) (result : Option Detail) where
   pub every_accepted_change : (kind : Kind) (code : Code) → kind ≡ Dsc → code ≡ Okay
       → ((sfid : ℕ) → sfid < 2 ^ 32 → tail ≡ tail_of Dsc Okay (Given None sfid None) → result ≡ Some (Given None sfid None))
       → ((sfid sid : ℕ) → sfid < 2 ^ 32 → sid < 16384 → tail ≡ tail_of Dsc Okay (Given None sfid (Some sid)) → result ≡ Some (Given None sfid (Some sid)))
-      → (detail : Detail) → IsTold kind code tail detail → FitsDetail detail → result ≡ Some detail
+      → (detail : Detail) → IsDetailSpelling kind code tail detail → FitsDetail detail → result ≡ Some detail
   every_accepted_change kind code is_kind is_code alone with_sid detail told fits =
-      by_detail alone with_sid detail (subst (λ (x : Code). IsTold Dsc x tail detail) is_code (subst (λ (k : Kind). IsTold k code tail detail) is_kind told)) fits
+      by_detail alone with_sid detail (subst (λ (x : Code). IsDetailSpelling Dsc x tail detail) is_code (subst (λ (k : Kind). IsDetailSpelling k code tail detail) is_kind told)) fits
     where
       by_detail : ((sfid : ℕ) → sfid < 2 ^ 32 → tail ≡ tail_of Dsc Okay (Given None sfid None) → result ≡ Some (Given None sfid None))
           → ((sfid sid : ℕ) → sfid < 2 ^ 32 → sid < 16384 → tail ≡ tail_of Dsc Okay (Given None sfid (Some sid)) → result ≡ Some (Given None sfid (Some sid)))
-          → (detail : Detail) → IsTold Dsc Okay tail detail → FitsDetail detail → result ≡ Some detail
+          → (detail : Detail) → IsDetailSpelling Dsc Okay tail detail → FitsDetail detail → result ≡ Some detail
       by_detail alone with_sid Nothing told fits = absurd (told.goes refl)
       by_detail alone with_sid (Errored id subtype) told fits = absurd (told.goes.0 refl)
       by_detail alone with_sid (Given (Some reference) sfid sid) told fits = absurd told.goes
@@ -46,15 +46,15 @@ module _ (tail : List ℕ) (result : Option Detail) where
       → (tail ≡ tail_of Dsa code Nothing → result ≡ Some Nothing)
       → ((subtype : ℕ) → tail ≡ tail_of Dsa code (Errored None subtype) → result ≡ Some (Errored None subtype))
       → ((reference subtype : ℕ) → reference < 2 ^ 16 → tail ≡ tail_of Dsa code (Errored (Some (Reference reference)) subtype) → result ≡ Some (Errored (Some (Reference reference)) subtype))
-      → (detail : Detail) → IsTold kind code tail detail → FitsDetail detail → result ≡ Some detail
+      → (detail : Detail) → IsDetailSpelling kind code tail detail → FitsDetail detail → result ≡ Some detail
   every_refused_addition kind code is_kind refuses nothing alone referenced detail told fits =
-      by_detail code refuses nothing alone referenced detail (subst (λ (k : Kind). IsTold k code tail detail) is_kind told) fits
+      by_detail code refuses nothing alone referenced detail (subst (λ (k : Kind). IsDetailSpelling k code tail detail) is_kind told) fits
     where
       by_detail : (code : Code) → code ≢ Okay
           → (tail ≡ tail_of Dsa code Nothing → result ≡ Some Nothing)
           → ((subtype : ℕ) → tail ≡ tail_of Dsa code (Errored None subtype) → result ≡ Some (Errored None subtype))
           → ((reference subtype : ℕ) → reference < 2 ^ 16 → tail ≡ tail_of Dsa code (Errored (Some (Reference reference)) subtype) → result ≡ Some (Errored (Some (Reference reference)) subtype))
-          → (detail : Detail) → IsTold Dsa code tail detail → FitsDetail detail → result ≡ Some detail
+          → (detail : Detail) → IsDetailSpelling Dsa code tail detail → FitsDetail detail → result ≡ Some detail
       by_detail code refuses nothing alone referenced Nothing told fits = nothing told.spelling
       by_detail code refuses nothing alone referenced (Errored None subtype) told fits = alone subtype told.spelling
       by_detail code refuses nothing alone referenced (Errored (Some (Reference reference)) subtype) told fits = referenced reference subtype fits.0 told.spelling
@@ -67,15 +67,15 @@ module _ (tail : List ℕ) (result : Option Detail) where
       → (tail ≡ tail_of Dsc code Nothing → result ≡ Some Nothing)
       → ((subtype : ℕ) → tail ≡ tail_of Dsc code (Errored None subtype) → result ≡ Some (Errored None subtype))
       → ((sfid subtype : ℕ) → sfid < 2 ^ 32 → tail ≡ tail_of Dsc code (Errored (Some (Sfid sfid)) subtype) → result ≡ Some (Errored (Some (Sfid sfid)) subtype))
-      → (detail : Detail) → IsTold kind code tail detail → FitsDetail detail → result ≡ Some detail
+      → (detail : Detail) → IsDetailSpelling kind code tail detail → FitsDetail detail → result ≡ Some detail
   every_refused_change kind code is_kind refuses nothing alone numbered detail told fits =
-      by_detail code refuses nothing alone numbered detail (subst (λ (k : Kind). IsTold k code tail detail) is_kind told) fits
+      by_detail code refuses nothing alone numbered detail (subst (λ (k : Kind). IsDetailSpelling k code tail detail) is_kind told) fits
     where
       by_detail : (code : Code) → code ≢ Okay
           → (tail ≡ tail_of Dsc code Nothing → result ≡ Some Nothing)
           → ((subtype : ℕ) → tail ≡ tail_of Dsc code (Errored None subtype) → result ≡ Some (Errored None subtype))
           → ((sfid subtype : ℕ) → sfid < 2 ^ 32 → tail ≡ tail_of Dsc code (Errored (Some (Sfid sfid)) subtype) → result ≡ Some (Errored (Some (Sfid sfid)) subtype))
-          → (detail : Detail) → IsTold Dsc code tail detail → FitsDetail detail → result ≡ Some detail
+          → (detail : Detail) → IsDetailSpelling Dsc code tail detail → FitsDetail detail → result ≡ Some detail
       by_detail code refuses nothing alone numbered Nothing told fits = nothing told.spelling
       by_detail code refuses nothing alone numbered (Errored None subtype) told fits = alone subtype told.spelling
       by_detail code refuses nothing alone numbered (Errored (Some (Reference reference)) subtype) told fits = absurd told.goes.1

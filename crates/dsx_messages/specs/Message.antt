@@ -18,7 +18,7 @@ use Rattle.dsx_messages.specs.declared.fault.MessageFault.{MessageFault}
 use Rattle.dsx_messages.specs.declared.fault.MessageFault.TheVariants as faults
 use Rattle.dsx_messages.specs.MessageType.{dsa_req, dsa_ack, dsc_req, dsc_ack, dsd_req}
 use Rattle.dsx_messages.specs.TlvType.{upstream_service_flow}
-use Rattle.dsx_messages.specs.Reading.{is_left_out, id_of}
+use Rattle.dsx_messages.specs.Reading.{is_left_out, id_of_fault}
 
 -- the bytes begin with a message type and a transaction ID, and the body follows
 pub record IsHeaded (bytes : List ℕ) (mtype tid : ℕ) (body : List ℕ) : Type 0 where
@@ -108,7 +108,7 @@ pub record IsFaultyFlow (list : List ℕ) (kind : Kind) (id : Option FlowId) (fa
   pub told : FlowFault
   pub first : IsFirstFlowFault value told
   pub fault_is : fault ≡ told.fault
-  pub id_is : id ≡ id_of kind told
+  pub id_is : id ≡ id_of_fault kind told
 
 -- a list of TLVs, the first of a type that is left out being of this one
 pub record IsLeftOutIn (list : List ℕ) (found : ℕ) : Type 0 where

@@ -38,27 +38,27 @@ is_left_out t =
     (t.kind == payload_header_suppression)
 
 -- the identifier of an encoding: a reference in an addition, an SFID in a change
-abbrev pub id_of : Kind → FlowFault → Option FlowId
-id_of Dsa fault = option_map Reference fault.reference
-id_of Dsc fault = option_map Sfid fault.sfid
-id_of Dsd fault = None
+abbrev pub id_of_fault : Kind → FlowFault → Option FlowId
+id_of_fault Dsa fault = option_map Reference fault.reference
+id_of_fault Dsc fault = option_map Sfid fault.sfid
+id_of_fault Dsd fault = None
 
 -- what the value of one type 24 says
 abbrev pub flow_told : ℕ → Kind → Result FlowFields FlowFault → Result FlowFields MessageFault
 flow_told tid kind (Ok flow) = Ok flow
-flow_told tid kind (Err e) = Err (faults.Tlv tid kind (id_of kind e) e.fault)
+flow_told tid kind (Err e) = Err (faults.Tlv tid kind (id_of_fault kind e) e.fault)
 
 unfoldable pub flow_in : ℕ → Kind → List ℕ → Result FlowFields MessageFault
 flow_in tid kind value = flow_told tid kind (flow_of value)
 
 -- what the values of the type 24s say, in order, after the flows before them
-abbrev pub flows_after : ℕ → Kind → List FlowFields → List (List ℕ) → Result (List FlowFields) MessageFault
-flows_after tid kind flows [] = Ok flows
-flows_after tid kind flows (value ∷ values) = flow_in tid kind value >>= λ flow. flows_after tid kind (flows ++ flow ∷ []) values
+abbrev pub flows_read_after : ℕ → Kind → List FlowFields → List (List ℕ) → Result (List FlowFields) MessageFault
+flows_read_after tid kind flows [] = Ok flows
+flows_read_after tid kind flows (value ∷ values) = flow_in tid kind value >>= λ flow. flows_read_after tid kind (flows ++ flow ∷ []) values
 
 -- what the TLVs of a request say: first a cut, then a type that is left out, then the first invalid flow encoding
 abbrev pub flows_unless : ℕ → Kind → Option ℕ → List (List ℕ) → Result (List FlowFields) MessageFault
-flows_unless tid kind None values = flows_after tid kind [] values
+flows_unless tid kind None values = flows_read_after tid kind [] values
 flows_unless tid kind (Some found) values = Err (faults.LeftOut tid kind found)
 
 abbrev pub left_out_in : List Tlv → Option ℕ
@@ -75,13 +75,13 @@ flows_in tid kind list = flows_in_front tid kind list (front_of list)
 -- the fixed parts after the type byte, and what follows them
 
 -- the request that holds flow encodings: an addition, or else a change (a deletion holds none)
-abbrev pub with_flows : Kind → ℕ → List FlowFields → Request
-with_flows Dsa tid flows = requests.Dsa tid flows
-with_flows kind tid flows = requests.Dsc tid flows
+abbrev pub request_with_flows : Kind → ℕ → List FlowFields → Request
+request_with_flows Dsa tid flows = requests.Dsa tid flows
+request_with_flows kind tid flows = requests.Dsc tid flows
 
 abbrev pub flows_request_of : Kind → List ℕ → Result Message MessageFault
 flows_request_of kind (high ∷ low ∷ list) =
-    flows_in (word (high ∷ low ∷ [])) kind list >>= λ flows. Ok (messages.Request (with_flows kind (word (high ∷ low ∷ [])) flows))
+    flows_in (word (high ∷ low ∷ [])) kind list >>= λ flows. Ok (messages.Request (request_with_flows kind (word (high ∷ low ∷ [])) flows))
 flows_request_of kind body = Err faults.Short
 
 abbrev pub deletion_of : List ℕ → Result Message MessageFault

@@ -14,7 +14,7 @@ use Rattle.dsx_messages.specs.declared.reply.FlowId.TheVariants.{Reference, Sfid
 use Rattle.dsx_messages.specs.declared.reply.Detail.{Detail}
 use Rattle.dsx_messages.specs.declared.reply.Detail.TheVariants.{Nothing, Given, Errored}
 use Rattle.dsx_messages.specs.declared.reply.ReplyFields.{ReplyFields}
-use Rattle.dsx_messages.specs.Code.{number_of}
+use Rattle.dsx_messages.specs.Code.{code_number}
 use Rattle.dsx_messages.specs.MessageType.{dsa_rsp, dsc_rsp, dsd_rsp}
 use Rattle.dsx_messages.specs.TlvType.{upstream_service_flow}
 
@@ -40,7 +40,7 @@ given_tlvs reference sfid sid =
 abbrev pub errored_tlvs : Code → Option FlowId → ℕ → List Tlv
 errored_tlvs code id subtype =
     id_tlv id ++
-    tlv errored_subtype (spelled (tlv errored_parameter_subtype (subtype ∷ []) ∷ tlv error_code_subtype (number_of code ∷ []) ∷ [])) ∷ []
+    tlv errored_subtype (spelled (tlv errored_parameter_subtype (subtype ∷ []) ∷ tlv error_code_subtype (code_number code ∷ []) ∷ [])) ∷ []
 
 -- the TLVs of a response: one type 24, or nothing
 abbrev pub tlvs_in : Code → Detail → List Tlv
@@ -55,4 +55,4 @@ tail_of kind code detail = spelled (tlvs_in code detail)
 
 abbrev pub spell_reply : ReplyFields → List ℕ
 spell_reply reply =
-    response_type reply.kind ∷ (to_be_bytes w16 reply.tid ++ number_of reply.code ∷ tail_of reply.kind reply.code reply.detail)
+    response_type reply.kind ∷ (to_be_bytes w16 reply.tid ++ code_number reply.code ∷ tail_of reply.kind reply.code reply.detail)

@@ -7,6 +7,6 @@ use Rattle.dsx_messages.specs.WellFormed.{GoesWith}
 use Rattle.dsx_messages.specs.Spelling.{tail_of}
 
 -- the detail goes with the kind and the code, and the bytes are its spelling
-pub record IsTold (kind : Kind) (code : Code) (tail : List ℕ) (detail : Detail) : Type 0 where
+pub record IsDetailSpelling (kind : Kind) (code : Code) (tail : List ℕ) (detail : Detail) : Type 0 where
   pub goes : GoesWith kind code detail
   pub spelling : tail ≡ tail_of kind code detail

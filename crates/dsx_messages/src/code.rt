@@ -1,7 +1,7 @@
 //! Confirmation codes.
 
 ghost use Rattle.std.specs.Prelude.{◌≡◌, IfSome, Some};
-ghost use Rattle.dsx_messages.specs.Code.{number_of};
+ghost use Rattle.dsx_messages.specs.Code.{code_number};
 ghost use Rattle.dsx_messages.specs.declared.code.Code.{Code};
 
 /// What a response says of a request: the confirmation codes that this profile gives, under their numbers.
@@ -38,7 +38,7 @@ pub enum Code {
 impl Code {
     /// Returns the number on the wire.
     pub fn number(self) -> u8
-        ensures { result ≡ number_of self }
+        ensures { result ≡ code_number self }
     {
         match self {
             Code::Okay => 0,
@@ -60,8 +60,8 @@ impl Code {
     /// Returns the code of a number on the wire; none for a number that this profile gives to no
     /// code.
     pub fn from_number(number: u8) -> Option<Code>
-        ensures found { IfSome result (λ code. number_of code ≡ number) }
-        ensures every { (code : Code) → number_of code ≡ number → result ≡ Some code }
+        ensures found { IfSome result (λ code. code_number code ≡ number) }
+        ensures every { (code : Code) → code_number code ≡ number → result ≡ Some code }
     {
         match number {
             0 => Some(Code::Okay),

@@ -4,7 +4,7 @@ ghost use Rattle.std.specs.Prelude.{◌≡◌, ◌≢◌, ◌==◌, ◌||◌, �
 ghost use Rattle.tlv24.specs.Tlv.{front_of};
 ghost use Rattle.tlv24.specs.Flow.{word, long, values_of};
 ghost use Rattle.dsx_messages.specs.TlvType.{upstream_service_flow};
-ghost use Rattle.dsx_messages.specs.Reading.{id_of, Gives, Fails, flow_in, flows_after, flows_in, with_flows, flows_request_of, deletion_of, ack_of, message_of, HoldsFlows, HoldsFlowsBehindTid, BringsFlows};
+ghost use Rattle.dsx_messages.specs.Reading.{id_of_fault, Gives, Fails, flow_in, flows_read_after, flows_in, request_with_flows, flows_request_of, deletion_of, ack_of, message_of, HoldsFlows, HoldsFlowsBehindTid, BringsFlows};
 ghost use Rattle.dsx_messages.specs.Survey.{left_out_kind, first_some, flow_count, IsSurveyed, IsCutSurvey};
 ghost use Rattle.dsx_messages.specs.Message.{Says, IsFirstMessageFault};
 ghost use Rattle.dsx_messages.specs.declared.kind.Kind.TheVariants.{Dsd};
@@ -84,8 +84,8 @@ fn survey_of(list: &[u8]) -> Result<Survey, usize>
 }
 
 /// Returns the identifier of an invalid encoding.
-fn id_of(kind: Kind, fault: &FlowFault) -> Option<FlowId>
-    ensures { result ≡ id_of kind fault.now }
+fn id_of_fault(kind: Kind, fault: &FlowFault) -> Option<FlowId>
+    ensures { result ≡ id_of_fault kind fault.now }
 {
     match kind {
         Kind::Dsa => fault.reference.map(FlowId::Reference),
@@ -104,7 +104,7 @@ fn flow_in(tid: u16, kind: Kind, value: &[u8]) -> Result<FlowTlv, MessageFault>
         Err(told) => Err(MessageFault::Tlv {
             tid,
             kind,
-            id: id_of(kind, &told),
+            id: id_of_fault(kind, &told),
             fault: told.fault,
         }),
     }
@@ -118,7 +118,7 @@ fn flows_of(
     list: &[u8],
     count: usize,
 ) -> Result<Vec<FlowTlv>, MessageFault>
-    ensures { Gives (λ flows. flows.items) result (flows_after tid kind []
+    ensures { Gives (λ flows. flows.items) result (flows_read_after tid kind []
         (values_of upstream_service_flow (front_of list.now).tlvs)) }
 {
     let mut flows = Vec::with_capacity(alloc, count)?;
@@ -168,9 +168,9 @@ fn flows_in(alloc: Global, tid: u16, kind: Kind, list: &[u8]) -> Result<FlowEnco
 }
 
 /// Returns the request that holds flow encodings: an addition or a change.
-fn with_flows(kind: Kind, tid: u16, flows: FlowEncodings) -> Request
+fn request_with_flows(kind: Kind, tid: u16, flows: FlowEncodings) -> Request
     requires { kind ≢ Dsd }
-    ensures { result ≡ with_flows kind tid flows }
+    ensures { result ≡ request_with_flows kind tid flows }
 {
     match kind {
         Kind::Dsa => Request::Dsa { tid, flows },
@@ -191,7 +191,7 @@ fn flows_request_of(alloc: Global, kind: Kind, body: &[u8]) -> Result<Message, M
     };
     let tid = u16::from_be_bytes([*high, *low]);
     let flows = flows_in(alloc, tid, kind, list)?;
-    Ok(Message::Request(with_flows(kind, tid, flows)))
+    Ok(Message::Request(request_with_flows(kind, tid, flows)))
 }
 
 fn deletion_of(body: &[u8]) -> Result<Message, MessageFault>

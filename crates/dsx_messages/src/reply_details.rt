@@ -3,9 +3,9 @@
 
 ghost use Rattle.std.specs.Prelude.{◌≡◌, ◌≢◌, ◌==◌, ℕ, ◌<◌, ◌^◌, Option, Some, None, IfSome, if◌then◌else◌};
 ghost use Rattle.tlv24.specs.Tlv.{spelled};
-ghost use Rattle.dsx_messages.specs.Code.{number_of};
+ghost use Rattle.dsx_messages.specs.Code.{code_number};
 ghost use Rattle.dsx_messages.specs.Spelling.{tlvs_in, tail_of};
-ghost use Rattle.dsx_messages.specs.Told.{IsTold};
+ghost use Rattle.dsx_messages.specs.Told.{IsDetailSpelling};
 ghost use Rattle.dsx_messages.specs.declared.kind.Kind.TheVariants.{Dsa, Dsc};
 ghost use Rattle.dsx_messages.specs.declared.code.Code.{Code};
 ghost use Rattle.dsx_messages.specs.declared.code.Code.TheVariants.{Okay};
@@ -19,7 +19,7 @@ use crate::tlv_type::UPSTREAM_SERVICE_FLOW as FLOW;
 use tlv24::subtype::{ERROR_CODE, ERRORED, ERRORED_PARAMETER, REFERENCE, SFID, SID};
 
 /// Returns an accepted addition: the reference, the SFID and the SID of its flow, in this order.
-fn added(tail: &[u8]) -> Option<(u16, u32, u16)>
+fn parse_addition(tail: &[u8]) -> Option<(u16, u32, u16)>
     ensures spelled { IfSome result (λ n. tail.now ≡ tail_of Dsa Okay (Given (Some n.0) n.1 (Some n.2))) }
     ensures every { (reference sfid sid : ℕ) → reference < 2 ^ 16 → sfid < 2 ^ 32 → sid < 2 ^ 16
         → tail.now ≡ tail_of Dsa Okay (Given (Some reference) sfid (Some sid))
@@ -53,7 +53,7 @@ fn added(tail: &[u8]) -> Option<(u16, u32, u16)>
 }
 
 /// Returns an accepted change of a flow that has no SID: its SFID.
-fn changed(tail: &[u8]) -> Option<u32>
+fn parse_change(tail: &[u8]) -> Option<u32>
     ensures spelled { IfSome result (λ sfid. tail.now ≡ tail_of Dsc Okay (Given None sfid None)) }
     ensures every { (sfid : ℕ) → sfid < 2 ^ 32 → tail.now ≡ tail_of Dsc Okay (Given None sfid None)
         → result ≡ Some sfid }
@@ -81,8 +81,13 @@ fn changed_with_sid(tail: &[u8]) -> Option<(u32, u16)>
 
 /// Returns what a refusal says of the invalid encoding, if its error encodings repeat the reply's
 /// code.
-fn repeated(code: Code, number: u8, id: Option<FlowId>, subtype: u8) -> Option<(Option<FlowId>, u8)>
-    ensures { result ≡ if number == number_of code then Some (id, subtype) else None }
+fn matching_error(
+    code: Code,
+    number: u8,
+    id: Option<FlowId>,
+    subtype: u8,
+) -> Option<(Option<FlowId>, u8)>
+    ensures { result ≡ if number == code_number code then Some (id, subtype) else None }
 {
     if number == code.number() {
         Some((id, subtype))
@@ -120,12 +125,12 @@ fn errored_sfid(code: Code, tail: &[u8]) -> Option<(Option<FlowId>, u8)>
         return None;
     };
     let sfid = u32::from_be_bytes([*a, *b, *c, *d]);
-    repeated(code, *number, Some(FlowId::Sfid(sfid)), *subtype)
+    matching_error(code, *number, Some(FlowId::Sfid(sfid)), *subtype)
 }
 
 /// Returns a refusal that names a subtype: the identifier of its flow, where it has one, and the
 /// invalid subtype.
-fn errored(code: Code, tail: &[u8]) -> Option<(Option<FlowId>, u8)>
+fn parse_refusal(code: Code, tail: &[u8]) -> Option<(Option<FlowId>, u8)>
     ensures spelled { IfSome result (λ n. tail.now ≡ spelled (tlvs_in code (Errored n.0 n.1))) }
     ensures every { (subtype : ℕ) → tail.now ≡ spelled (tlvs_in code (Errored None subtype))
         → result ≡ Some (None, subtype) }
@@ -148,7 +153,7 @@ fn errored(code: Code, tail: &[u8]) -> Option<(Option<FlowId>, u8)>
             ERROR_CODE,
             1,
             number,
-        ] => repeated(code, *number, None, *subtype),
+        ] => matching_error(code, *number, None, *subtype),
         [
             FLOW,
             12,
@@ -166,7 +171,7 @@ fn errored(code: Code, tail: &[u8]) -> Option<(Option<FlowId>, u8)>
             number,
         ] => {
             let reference = u16::from_be_bytes([*high, *low]);
-            repeated(code, *number, Some(FlowId::Reference(reference)), *subtype)
+            matching_error(code, *number, Some(FlowId::Reference(reference)), *subtype)
         }
         _ => errored_sfid(code, tail),
     }
@@ -174,12 +179,12 @@ fn errored(code: Code, tail: &[u8]) -> Option<(Option<FlowId>, u8)>
 
 /// Returns what an accepted addition says.
 pub(crate) fn accepted_addition(tail: &[u8]) -> Option<Detail>
-    ensures spelled { IfSome result (IsTold Dsa Okay tail.now) }
+    ensures spelled { IfSome result (IsDetailSpelling Dsa Okay tail.now) }
     ensures every { (reference sfid sid : ℕ) → reference < 2 ^ 16 → sfid < 2 ^ 32 → sid < 16384
         → tail.now ≡ tail_of Dsa Okay (Given (Some reference) sfid (Some sid))
         → result ≡ Some (Given (Some reference) sfid (Some sid)) }
 {
-    let (reference, sfid, sid) = added(tail)?;
+    let (reference, sfid, sid) = parse_addition(tail)?;
     if sid < 16384 {
         Some(Detail::Given {
             reference: Some(reference),
@@ -193,13 +198,13 @@ pub(crate) fn accepted_addition(tail: &[u8]) -> Option<Detail>
 
 /// Returns what an accepted change says.
 pub(crate) fn accepted_change(tail: &[u8]) -> Option<Detail>
-    ensures spelled { IfSome result (IsTold Dsc Okay tail.now) }
+    ensures spelled { IfSome result (IsDetailSpelling Dsc Okay tail.now) }
     ensures every { (sfid : ℕ) → sfid < 2 ^ 32 → tail.now ≡ tail_of Dsc Okay (Given None sfid None)
         → result ≡ Some (Given None sfid None) }
     ensures every_with_sid { (sfid sid : ℕ) → sfid < 2 ^ 32 → sid < 16384
         → tail.now ≡ tail_of Dsc Okay (Given None sfid (Some sid)) → result ≡ Some (Given None sfid (Some sid)) }
 {
-    if let Some(sfid) = changed(tail) {
+    if let Some(sfid) = parse_change(tail) {
         return Some(Detail::Given {
             reference: None,
             sfid,
@@ -220,7 +225,7 @@ pub(crate) fn accepted_change(tail: &[u8]) -> Option<Detail>
 
 /// Returns what a refused addition says.
 pub(crate) fn refused_addition(code: Code, tail: &[u8]) -> Option<Detail>
-    ensures spelled { code ≢ Okay → IfSome result (IsTold Dsa code tail.now) }
+    ensures spelled { code ≢ Okay → IfSome result (IsDetailSpelling Dsa code tail.now) }
     ensures every { tail.now ≡ tail_of Dsa code Nothing → result ≡ Some Nothing }
     ensures every_errored { (subtype : ℕ) → tail.now ≡ tail_of Dsa code (Errored None subtype)
         → result ≡ Some (Errored None subtype) }
@@ -231,7 +236,7 @@ pub(crate) fn refused_addition(code: Code, tail: &[u8]) -> Option<Detail>
     if tail.is_empty() {
         return Some(Detail::Nothing);
     }
-    match errored(code, tail)? {
+    match parse_refusal(code, tail)? {
         (Some(FlowId::Sfid(_)), _) => None,
         (id, subtype) => Some(Detail::Errored { id, subtype }),
     }
@@ -239,7 +244,7 @@ pub(crate) fn refused_addition(code: Code, tail: &[u8]) -> Option<Detail>
 
 /// Returns what a refused change says.
 pub(crate) fn refused_change(code: Code, tail: &[u8]) -> Option<Detail>
-    ensures spelled { code ≢ Okay → IfSome result (IsTold Dsc code tail.now) }
+    ensures spelled { code ≢ Okay → IfSome result (IsDetailSpelling Dsc code tail.now) }
     ensures every { tail.now ≡ tail_of Dsc code Nothing → result ≡ Some Nothing }
     ensures every_errored { (subtype : ℕ) → tail.now ≡ tail_of Dsc code (Errored None subtype)
         → result ≡ Some (Errored None subtype) }
@@ -250,7 +255,7 @@ pub(crate) fn refused_change(code: Code, tail: &[u8]) -> Option<Detail>
     if tail.is_empty() {
         return Some(Detail::Nothing);
     }
-    match errored(code, tail)? {
+    match parse_refusal(code, tail)? {
         (Some(FlowId::Reference(_)), _) => None,
         (id, subtype) => Some(Detail::Errored { id, subtype }),
     }

@@ -3,7 +3,7 @@
 ghost use Rattle.std.specs.Prelude.{◌≡◌, ◌<◌, [], ◌∷◌, Option, Some, None, IfSome, IfOk};
 ghost use Rattle.dsx_messages.specs.Spelling.{response_type, spell_reply};
 ghost use Rattle.dsx_messages.specs.WellFormed.{IsWellFormed};
-ghost use Rattle.dsx_messages.specs.Told.{IsTold};
+ghost use Rattle.dsx_messages.specs.Told.{IsDetailSpelling};
 ghost use Rattle.dsx_messages.specs.Widths.{FitsDetail, FitsReply};
 ghost use Rattle.dsx_messages.specs.declared.kind.Kind.{Kind};
 ghost use Rattle.dsx_messages.specs.declared.kind.Kind.TheVariants.{Dsa, Dsc, Dsd};
@@ -35,8 +35,8 @@ fn kind_of(mtype: u8) -> Option<Kind>
 }
 
 /// Returns what a deletion says: nothing, in a reserved byte, which is 0.
-fn deleted(tail: &[u8]) -> Option<Detail>
-    ensures spelled { (code : Code) → IfSome result (IsTold Dsd code tail.now) }
+fn parse_deletion(tail: &[u8]) -> Option<Detail>
+    ensures spelled { (code : Code) → IfSome result (IsDetailSpelling Dsd code tail.now) }
     ensures every { tail.now ≡ 0 ∷ [] → result ≡ Some Nothing }
 {
     match tail {
@@ -47,8 +47,8 @@ fn deleted(tail: &[u8]) -> Option<Detail>
 
 /// Returns what follows the confirmation code.
 fn detail_of(kind: Kind, code: Code, tail: &[u8]) -> Option<Detail>
-    ensures spelled { IfSome result (IsTold kind code tail.now) }
-    ensures every { (detail : Detail) → IsTold kind code tail.now detail → FitsDetail detail → result ≡ Some detail }
+    ensures spelled { IfSome result (IsDetailSpelling kind code tail.now) }
+    ensures every { (detail : Detail) → IsDetailSpelling kind code tail.now detail → FitsDetail detail → result ≡ Some detail }
 {
     match kind {
         Kind::Dsa => match code {
@@ -59,7 +59,7 @@ fn detail_of(kind: Kind, code: Code, tail: &[u8]) -> Option<Detail>
             Code::Okay => accepted_change(tail),
             _ => refused_change(code, tail),
         },
-        Kind::Dsd => deleted(tail),
+        Kind::Dsd => parse_deletion(tail),
     }
 }
 

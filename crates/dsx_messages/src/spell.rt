@@ -5,7 +5,7 @@ ghost use Rattle.std.specs.Option.{option_map};
 ghost use Rattle.std.specs.Int.{w16, to_be_bytes};
 ghost use Rattle.tlv24.specs.Tlv.{tlv, spelled};
 ghost use Rattle.tlv24.specs.Spelling.{under};
-ghost use Rattle.dsx_messages.specs.Code.{number_of};
+ghost use Rattle.dsx_messages.specs.Code.{code_number};
 ghost use Rattle.dsx_messages.specs.TlvType.{upstream_service_flow};
 ghost use Rattle.dsx_messages.specs.Spelling.{response_type, id_tlv, given_tlvs, errored_tlvs, tlvs_in, tail_of, spell_reply};
 

@@ -9,7 +9,7 @@ use Rattle.std.proofs.lemmas.Bool.{cases_eq, eq-eqb, ne_eqb}
 use Rattle.std.proofs.lemmas.List.Elements.{Contains-append_right}
 use Rattle.std.proofs.lemmas.Map.Keys.{sorted_tail}
 use Rattle.std.proofs.lemmas.Option.{none-some, same_Some}
-use Rattle.admission.specs.Ledger.{Committed, minislots_of, elements_of}
+use Rattle.admission.specs.Ledger.{LedgerView, total_minislots, total_elements}
 use Rattle.param_sets.specs.Units.{UnitSizes}
 use Rattle.flow_table.specs.declared.flow.Flow.{Flow}
 use Rattle.flow_table.specs.Flow.{committed_of}
@@ -210,7 +210,7 @@ module _ {flows : List (ℕ × Flow)} {index : List (ℕ × ℕ)} (kept : IsInde
 
 -- ---- the table after an edit
 
-module _ {capacity : ℕ} {units : UnitSizes} {flows : List (ℕ × Flow)} {index : List (ℕ × ℕ)} {ledger : Committed} (kept : IsFlowTable capacity units flows index ledger) (sfid : ℕ) where
+module _ {capacity : ℕ} {units : UnitSizes} {flows : List (ℕ × Flow)} {index : List (ℕ × ℕ)} {ledger : LedgerView} (kept : IsFlowTable capacity units flows index ledger) (sfid : ℕ) where
   rows_after : (flow : Flow) → insert_entry nat_cmp ledger.rows sfid (committed_of units flow) ≡ rows_of units (with_flow sfid flow flows)
   rows_after flow = ap (λ (l : List _). insert_entry nat_cmp l sfid (committed_of units flow)) kept.rows ∙ rows_put units flows sfid flow
 
@@ -218,11 +218,11 @@ module _ {capacity : ℕ} {units : UnitSizes} {flows : List (ℕ × Flow)} {inde
   pub row_room : (flow : Flow) → length (with_flow sfid flow flows) ≤ capacity → length (insert_entry nat_cmp ledger.rows sfid (committed_of units flow)) ≤ ledger.room
   row_room flow room = omega (arith, ap length (rows_after flow), length_rows units (with_flow sfid flow flows), kept.room)
 
-  pub minislots_after : (flow : Flow) → minislots_of (insert_entry nat_cmp ledger.rows sfid (committed_of units flow)) ≡ committed_minislots units (with_flow sfid flow flows)
-  minislots_after flow = ap minislots_of (rows_after flow) ∙ minislots_rows units (with_flow sfid flow flows)
+  pub minislots_after : (flow : Flow) → total_minislots (insert_entry nat_cmp ledger.rows sfid (committed_of units flow)) ≡ committed_minislots units (with_flow sfid flow flows)
+  minislots_after flow = ap total_minislots (rows_after flow) ∙ minislots_rows units (with_flow sfid flow flows)
 
-  pub elements_after : (flow : Flow) → elements_of (insert_entry nat_cmp ledger.rows sfid (committed_of units flow)) ≡ committed_elements units (with_flow sfid flow flows)
-  elements_after flow = ap elements_of (rows_after flow) ∙ elements_rows units (with_flow sfid flow flows)
+  pub elements_after : (flow : Flow) → total_elements (insert_entry nat_cmp ledger.rows sfid (committed_of units flow)) ≡ committed_elements units (with_flow sfid flow flows)
+  elements_after flow = ap total_elements (rows_after flow) ∙ elements_rows units (with_flow sfid flow flows)
 
   pub changed_room : (flow : Flow) → IsSome (flow_at sfid flows) → length (with_flow sfid flow flows) ≤ capacity
   changed_room flow there = omega (arith, kept.within, length_put_there flows sfid flow kept.indexed.ascending there)

@@ -6,7 +6,7 @@ use Rattle.std.specs.Ordering.{nat_cmp}
 use Rattle.std.specs.Map.{remove_entry, keys_of, lookup, set_value}
 use Rattle.std.specs.BTreeMap.{insert_entry, is_at}
 use Rattle.std.proofs.lemmas.Option.{none-some, same_Some}
-use Rattle.admission.specs.Ledger.{Committed}
+use Rattle.admission.specs.Ledger.{LedgerView}
 use Rattle.param_sets.specs.Units.{UnitSizes}
 use Rattle.flow_table.specs.declared.flow.Flow.{Flow}
 use Rattle.flow_table.specs.declared.flows.Moved.{Moved}
@@ -36,7 +36,7 @@ still : (o : Option ℕ) (p : Option ℕ) → p ≡ o → IfSome o (λ sid. p �
 still None p e = tt
 still (Some sid) p e = e
 
-module _ {capacity : ℕ} {units : UnitSizes} {flows : List (ℕ × Flow)} {index : List (ℕ × ℕ)} {ledger : Committed} (kept : IsFlowTable capacity units flows index ledger) (sfid : ℕ) (change : Flow → Flow) where
+module _ {capacity : ℕ} {units : UnitSizes} {flows : List (ℕ × Flow)} {index : List (ℕ × ℕ)} {ledger : LedgerView} (kept : IsFlowTable capacity units flows index ledger) (sfid : ℕ) (change : Flow → Flow) where
   some_moved : (old : Flow) → flow_at sfid flows ≡ Some old → (change old).sid ≡ old.sid → committed_of units (change old) ≡ committed_of units old
       → IsFlowTable capacity units (with_flow sfid (change old) flows) index ledger
   some_moved old at sid committed =

@@ -7,7 +7,7 @@ use Rattle.std.specs.Map.{remove_entry}
 use Rattle.std.specs.BTreeMap.{insert_entry, is_at}
 use Rattle.std.proofs.lemmas.List.{length-map}
 use Rattle.std.proofs.lemmas.List.Sums.{sum_by-cons}
-use Rattle.admission.specs.Ledger.{minislots_of, elements_of}
+use Rattle.admission.specs.Ledger.{total_minislots, total_elements}
 use Rattle.param_sets.specs.Units.{UnitSizes}
 use Rattle.flow_table.specs.declared.flow.Flow.{Flow}
 use Rattle.flow_table.specs.Flow.{committed_of}
@@ -57,8 +57,8 @@ module _ (units : UnitSizes) where
   pub length_rows : (flows : List (ℕ × Flow)) → length (rows_of units flows) ≡ length flows
   length_rows flows = length-map flows (λ (e : ℕ × Flow). (e.0, committed_of units e.1))
 
-  pub minislots_rows : (flows : List (ℕ × Flow)) → minislots_of (rows_of units flows) ≡ committed_minislots units flows
+  pub minislots_rows : (flows : List (ℕ × Flow)) → total_minislots (rows_of units flows) ≡ committed_minislots units flows
   minislots_rows flows = sum_by_each (committed_of units) (λ b. b.minislots) flows
 
-  pub elements_rows : (flows : List (ℕ × Flow)) → elements_of (rows_of units flows) ≡ committed_elements units flows
+  pub elements_rows : (flows : List (ℕ × Flow)) → total_elements (rows_of units flows) ≡ committed_elements units flows
   elements_rows flows = sum_by_each (committed_of units) (λ b. b.elements) flows

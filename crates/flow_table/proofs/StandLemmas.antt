@@ -10,7 +10,7 @@ use Rattle.admission.specs.Free.{Numbers, least_free_of}
 use Rattle.admission.proofs.FreeLemmas.{least_free_iff}
 use Rattle.flow_table.specs.declared.flow.Flow.{Flow}
 use Rattle.flow_table.specs.declared.flow.Pending.{Pending}
-use Rattle.flow_table.specs.Flow.{acknowledged, taken_back, requested, granted, with_pending, without_pending}
+use Rattle.flow_table.specs.Flow.{flow_after_ack, taken_back, flow_after_request, flow_after_grant, with_pending, without_pending}
 use Rattle.flow_table.specs.Table.{FlowTable, MayStand, HaveOwnSids, flow_at, flow_with, sid_if, sids_of, with_flow}
 use Rattle.flow_table.proofs.EntryLemmas.{looked_first, looked_past, none_later, put_here, put_elsewhere, length_put, length_put_there}
 use Rattle.flow_table.proofs.IndexLemmas.{cases_sid, is_sid_yes, is_sid_no, found}
@@ -113,7 +113,7 @@ sid_of_flow flows sfid flow at = subst (λ (o : Option Flow). IfSome flow.sid (�
     itself None = tt
     itself (Some sid) = refl
 
-pub acknowledged_keeps : (flows : List (ℕ × Flow)) (sfid : ℕ) (flow : Flow) (frame : ℕ) → flow_at sfid flows ≡ Some flow → IfSome (acknowledged frame flow).sid (λ sid. sid_if (flow_at sfid flows) ≡ Some sid)
+pub acknowledged_keeps : (flows : List (ℕ × Flow)) (sfid : ℕ) (flow : Flow) (frame : ℕ) → flow_at sfid flows ≡ Some flow → IfSome (flow_after_ack frame flow).sid (λ sid. sid_if (flow_at sfid flows) ≡ Some sid)
 acknowledged_keeps flows sfid flow frame at =
     elim flow.pending as (λ (p : Option Pending). IfSome (with_pending frame flow p).sid (λ sid. sid_if (flow_at sfid flows) ≡ Some sid)) [
       | None ↦ sid_of_flow flows sfid flow at
@@ -127,8 +127,8 @@ taken_back_keeps flows sfid flow at =
       | Some pending ↦ elim pending.sid_is_new as (λ b. IfSome (cond b None flow.sid) (λ sid. sid_if (flow_at sfid flows) ≡ Some sid)) [ true ↦ tt | false ↦ sid_of_flow flows sfid flow at ]
     ]
 
-pub requested_keeps : (flows : List (ℕ × Flow)) (sfid : ℕ) (flow : Flow) (minislots frame : ℕ) → flow_at sfid flows ≡ Some flow → IfSome (requested minislots frame flow).sid (λ sid. sid_if (flow_at sfid flows) ≡ Some sid)
+pub requested_keeps : (flows : List (ℕ × Flow)) (sfid : ℕ) (flow : Flow) (minislots frame : ℕ) → flow_at sfid flows ≡ Some flow → IfSome (flow_after_request minislots frame flow).sid (λ sid. sid_if (flow_at sfid flows) ≡ Some sid)
 requested_keeps flows sfid flow minislots frame at = sid_of_flow flows sfid flow at
 
-pub granted_keeps : (flows : List (ℕ × Flow)) (sfid : ℕ) (flow : Flow) (minislots frame : ℕ) → flow_at sfid flows ≡ Some flow → IfSome (granted minislots frame flow).sid (λ sid. sid_if (flow_at sfid flows) ≡ Some sid)
+pub granted_keeps : (flows : List (ℕ × Flow)) (sfid : ℕ) (flow : Flow) (minislots frame : ℕ) → flow_at sfid flows ≡ Some flow → IfSome (flow_after_grant minislots frame flow).sid (λ sid. sid_if (flow_at sfid flows) ≡ Some sid)
 granted_keeps flows sfid flow minislots frame at = sid_of_flow flows sfid flow at

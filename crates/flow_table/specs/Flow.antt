@@ -48,8 +48,8 @@ with_pending frame flow (Some pending) = record flow {
   backlog = if asks_for_grants pending.sets.active then flow.backlog else 0;
 }
 
-abbrev pub acknowledged : ℕ → Flow → Flow
-acknowledged frame flow = with_pending frame flow flow.pending
+abbrev pub flow_after_ack : ℕ → Flow → Flow
+flow_after_ack frame flow = with_pending frame flow flow.pending
 
 -- the pending sets are taken back, and the SID where it came with them
 abbrev pub without_pending : Flow → Option Pending → Flow
@@ -62,12 +62,12 @@ taken_back flow = without_pending flow flow.pending
 -- ---- requests and grants
 
 -- a request replaces the backlog, which waits since this frame where there was none
-abbrev pub requested : ℕ → ℕ → Flow → Flow
-requested minislots frame flow = record flow { backlog = minislots; since = if flow.backlog == 0 then frame else flow.since }
+abbrev pub flow_after_request : ℕ → ℕ → Flow → Flow
+flow_after_request minislots frame flow = record flow { backlog = minislots; since = if flow.backlog == 0 then frame else flow.since }
 
 -- a grant lowers the backlog, and what is left waits since the next frame
-abbrev pub granted : ℕ → ℕ → Flow → Flow
-granted minislots frame flow = record flow {
+abbrev pub flow_after_grant : ℕ → ℕ → Flow → Flow
+flow_after_grant minislots frame flow = record flow {
   backlog = flow.backlog - minislots;
   since = if flow.backlog - minislots == 0 then flow.since else frame + 1;
 }

@@ -5,7 +5,7 @@ use Rattle.std.specs.Ordering.{nat_cmp}
 use Rattle.std.specs.Map.{keys_of, lookup, remove_entry}
 use Rattle.std.specs.BTreeMap.{is_at, insert_entry}
 use Rattle.admission.specs.declared.budget.Budget.{Budget}
-use Rattle.admission.specs.Ledger.{Committed}
+use Rattle.admission.specs.Ledger.{LedgerView}
 use Rattle.param_sets.specs.Units.{UnitSizes}
 use Rattle.flow_table.specs.declared.flow.Flow.{Flow}
 use Rattle.flow_table.specs.Flow.{committed_of}
@@ -26,7 +26,7 @@ pub record IsIndex (flows : List (ℕ × Flow)) (index : List (ℕ × ℕ)) : Ty
   pub finds : (sid sfid : ℕ) → (sfid_at sid index ≡ Some sfid) ↔ (sid_if (flow_at sfid flows) ≡ Some sid)
 
 -- what the flows of one operator keep: there is room for each, the index is theirs, and so are the rows of the ledger
-pub record IsFlowTable (capacity : ℕ) (units : UnitSizes) (flows : List (ℕ × Flow)) (index : List (ℕ × ℕ)) (ledger : Committed) : Type 0 where
+pub record IsFlowTable (capacity : ℕ) (units : UnitSizes) (flows : List (ℕ × Flow)) (index : List (ℕ × ℕ)) (ledger : LedgerView) : Type 0 where
   pub within : length flows ≤ capacity
   pub indexed : IsIndex flows index
   pub room : ledger.room ≡ capacity

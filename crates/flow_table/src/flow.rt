@@ -1,7 +1,7 @@
 //! A service flow.
 
 ghost use Rattle.std.specs.Prelude.{◌≡◌, ◌==◌, ◌+◌, ◌<◌, if◌then◌else◌, is_some, IfSome, Some, None};
-ghost use Rattle.flow_table.specs.Flow.{committed_of, asks_for_grants, acknowledged, taken_back, requested, granted};
+ghost use Rattle.flow_table.specs.Flow.{committed_of, asks_for_grants, flow_after_ack, taken_back, flow_after_request, flow_after_grant};
 
 use admission::Budget;
 use dsx_messages::Modem;
@@ -86,7 +86,7 @@ impl Flow {
     /// Makes the pending sets the flow's, acknowledged in this frame: its intervals count from this frame, its SID is free
     /// where none is admitted, and its backlog is cleared where it may not ask.
     pub fn acknowledge(&mut self, frame: u32)
-        ensures value { self.new ≡ acknowledged frame self.old }
+        ensures value { self.new ≡ flow_after_ack frame self.old }
         ensures sid { IfSome self.new.sid (λ sid. self.old.sid ≡ Some sid) }
     {
         if let Some(pending) = &self.pending {
@@ -112,7 +112,7 @@ impl Flow {
     /// Takes the minislots that the modem requests in this frame as the backlog. It waits since
     /// this frame if there was none before.
     pub fn request(&mut self, minislots: u16, frame: u32)
-        ensures value { self.new ≡ requested minislots frame self.old }
+        ensures value { self.new ≡ flow_after_request minislots frame self.old }
         ensures sid { self.new.sid ≡ self.old.sid }
     {
         self.since = since_asked(self.backlog, self.since, frame);
@@ -123,7 +123,7 @@ impl Flow {
     /// frame.
     pub fn grant(&mut self, minislots: u16, frame: u32)
         requires { frame < 4294967295 }
-        ensures value { self.new ≡ granted minislots frame self.old }
+        ensures value { self.new ≡ flow_after_grant minislots frame self.old }
         ensures sid { self.new.sid ≡ self.old.sid }
     {
         let left = self.backlog.saturating_sub(minislots);

@@ -8,7 +8,7 @@ ghost use Rattle.std.specs.Map.{keys_of, lookup, remove_entry};
 ghost use Rattle.std.specs.BTreeMap.{insert_entry, is_at};
 ghost use Rattle.admission.specs.Free.{IsLeastFree, least_free_of};
 ghost use Rattle.flow_table.specs.Table.{flow_at, flow_with, sid_if, sfids_of, sids_of, with_flow, committed_minislots, committed_elements, MayStand, HaveOwnSids, flowing_in, flowing_of_set};
-ghost use Rattle.flow_table.specs.Flow.{acknowledged, taken_back, requested, granted};
+ghost use Rattle.flow_table.specs.Flow.{flow_after_ack, taken_back, flow_after_request, flow_after_grant};
 ghost use Rattle.flow_table.specs.Gap.{gap_from};
 ghost use Rattle.flow_table.specs.Index.{with_sid_of, without_sid_of};
 ghost use Rattle.flow_table.specs.Moved.{change_at, told_of, asker_of};
@@ -138,7 +138,7 @@ impl Flows {
 
     /// Puts a flow under an SFID, in place of the one that is there. At `AllocError` nothing has changed.
     #[inline(always)]
-    pub fn put(&mut self, sfid: u32, flow: &Flow) -> Result<(), AllocError>
+    pub fn put_flow(&mut self, sfid: u32, flow: &Flow) -> Result<(), AllocError>
         requires { MayStand self.old sfid flow.now }
         ensures ok { OnOk result (self.new ≡ record self.old { flows = with_flow sfid flow.now self.old.flows }) }
         ensures err { OnErr result (self.new ≡ self.old) }
@@ -152,7 +152,7 @@ impl Flows {
 
     /// Acknowledges in a frame what waits of the flow of an SFID, if there is one, in place. Takes no memory.
     pub fn acknowledge(&mut self, sfid: u32, frame: u32)
-        ensures { self.new ≡ record self.old { flows = change_at sfid (acknowledged frame) self.old.flows } }
+        ensures { self.new ≡ record self.old { flows = change_at sfid (flow_after_ack frame) self.old.flows } }
     {
         if let Some(moved) = acknowledge_in(&mut self.by_sfid, self.units, sfid, frame) {
             free(&mut self.by_sid, moved.had, moved.has);
@@ -173,7 +173,7 @@ impl Flows {
     /// Takes the minislots that the modem requests in this frame as the backlog. It waits since
     /// this frame if there was none before.
     pub fn request(&mut self, sfid: u32, minislots: u16, frame: u32)
-        ensures { self.new ≡ record self.old { flows = change_at sfid (requested minislots frame) self.old.flows } }
+        ensures { self.new ≡ record self.old { flows = change_at sfid (flow_after_request minislots frame) self.old.flows } }
     {
         request_in(&mut self.by_sfid, sfid, minislots, frame);
     }
@@ -182,7 +182,7 @@ impl Flows {
     /// frame.
     pub fn grant(&mut self, sfid: u32, minislots: u16, frame: u32)
         requires { frame < 4294967295 }
-        ensures { self.new ≡ record self.old { flows = change_at sfid (granted minislots frame) self.old.flows } }
+        ensures { self.new ≡ record self.old { flows = change_at sfid (flow_after_grant minislots frame) self.old.flows } }
     {
         grant_in(&mut self.by_sfid, sfid, minislots, frame);
     }
@@ -432,8 +432,8 @@ fn acknowledge_in(
     sfid: u32,
     frame: u32,
 ) -> Option<Moved>
-    ensures flows { by_sfid.new.entries ≡ change_at sfid (acknowledged frame) by_sfid.old.entries }
-    ensures told { result ≡ told_of units (acknowledged frame) (flow_at sfid by_sfid.old.entries) }
+    ensures flows { by_sfid.new.entries ≡ change_at sfid (flow_after_ack frame) by_sfid.old.entries }
+    ensures told { result ≡ told_of units (flow_after_ack frame) (flow_at sfid by_sfid.old.entries) }
 {
     let flow = by_sfid.get_mut(&sfid)?;
     let had = flow.sid;
@@ -464,7 +464,7 @@ fn take_back_in(by_sfid: &mut BTreeMap<u32, Flow>, units: Units, sfid: u32) -> O
 
 /// Makes so many minislots the backlog of the flow of an SFID, where there is one.
 fn request_in(by_sfid: &mut BTreeMap<u32, Flow>, sfid: u32, minislots: u16, frame: u32)
-    ensures { by_sfid.new.entries ≡ change_at sfid (requested minislots frame) by_sfid.old.entries }
+    ensures { by_sfid.new.entries ≡ change_at sfid (flow_after_request minislots frame) by_sfid.old.entries }
 {
     if let Some(flow) = by_sfid.get_mut(&sfid) {
         flow.request(minislots, frame);
@@ -474,7 +474,7 @@ fn request_in(by_sfid: &mut BTreeMap<u32, Flow>, sfid: u32, minislots: u16, fram
 /// Takes so many granted minislots off the backlog of the flow of an SFID, if there is one.
 fn grant_in(by_sfid: &mut BTreeMap<u32, Flow>, sfid: u32, minislots: u16, frame: u32)
     requires { frame < 4294967295 }
-    ensures { by_sfid.new.entries ≡ change_at sfid (granted minislots frame) by_sfid.old.entries }
+    ensures { by_sfid.new.entries ≡ change_at sfid (flow_after_grant minislots frame) by_sfid.old.entries }
 {
     if let Some(flow) = by_sfid.get_mut(&sfid) {
         flow.grant(minislots, frame);

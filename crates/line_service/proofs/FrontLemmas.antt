@@ -4,7 +4,7 @@ use Rattle.std.proofs.lemmas.List.{take_all, drop_all}
 use Rattle.std.proofs.lemmas.Bool.Decides.{nat_tests}
 use Rattle.script_format.specs.Input.{is_bar, before_bar, plant_text, script_text}
 use Rattle.line_service.specs.Bytes.{Takes, WhereKnown}
-use Rattle.line_service.specs.Front.{HasNoBreak, IsReadSoFar, IsFront}
+use Rattle.line_service.specs.Front.{HasNoBreak, IsReadSoFar, IsFrontText}
 
 abbrev dashes : List ℕ
 dashes = codes "---"
@@ -170,12 +170,12 @@ known_end (Some input) (Some bytes) None P Q on h took = absurd took
 known_end (Some input) (Some bytes) (Some left) P Q on h took =
     subst (λ (l : List ℕ). Q input l) (sym took.1) (on input (subst (λ (l : List ℕ). P input l) took.0 h))
 
-pub text_known : (a c : Option (List ℕ)) (text : List ℕ) → WhereKnown a c (IsFront text) → IfSome a (λ input. text ≡ plant_text input)
+pub text_known : (a c : Option (List ℕ)) (text : List ℕ) → WhereKnown a c (IsFrontText text) → IfSome a (λ input. text ≡ plant_text input)
 text_known None c text h = tt
 text_known (Some input) None text h = absurd h
 text_known (Some input) (Some left) text h = h.0
 
-pub script_known : (a c : Option (List ℕ)) (text : List ℕ) → WhereKnown a c (IsFront text) → IfSome a (λ input. c ≡ Some (script_text input))
+pub script_known : (a c : Option (List ℕ)) (text : List ℕ) → WhereKnown a c (IsFrontText text) → IfSome a (λ input. c ≡ Some (script_text input))
 script_known None c text h = tt
 script_known (Some input) None text h = absurd h
 script_known (Some input) (Some left) text h = ap (λ (l : List ℕ). Some l) h.1

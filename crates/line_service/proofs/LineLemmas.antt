@@ -14,16 +14,16 @@ use Rattle.script_format.specs.declared.fields.FieldFault.{FieldFault}
 use Rattle.script_format.specs.declared.script.LineStep.{LineStep}
 use Rattle.script_format.specs.declared.fields.FieldFault.TheVariants.{Shape}
 use Rattle.script_format.specs.Fields.{Read}
-use Rattle.script_format.specs.Script.{unnumbered}
+use Rattle.script_format.specs.Script.{steps_without_numbers}
 use Rattle.script_format.specs.Text.{outs_text}
 use Rattle.line_service.specs.declared.line_outcome.LineOutcome.{LineOutcome}
 use Rattle.line_service.specs.declared.line_outcome.LineOutcome.TheVariants.{AtFault, NoMemory}
 use Rattle.line_service.specs.declared.steps_end.StepsEnd.{StepsEnd}
 use Rattle.line_service.specs.declared.steps_end.StepsEnd.TheVariants as ends
 use Rattle.line_service.specs.Ends.{line_outcome}
-use Rattle.line_service.specs.Service.{Answered, steps_said, end_text, IsEndAt, IsNotDone, EndsAs}
+use Rattle.line_service.specs.Service.{LineRun, steps_said, end_text, IsEndAt, IsNotDone, EndsAs}
 use Rattle.line_service.specs.Steps.{IsStepsEndAt, HasDone}
-use Rattle.line_service.specs.SoFar.{IsHeld, HasAnswered, IsAnswered}
+use Rattle.line_service.specs.SoFar.{IsHeld, HasAnswered, LineIsAnswered}
 
 -- a line ends as its steps do
 ends_so : (live : CoreView) (next : Option LineStep) (end : StepsEnd) → IsStepsEndAt live next end → IsEndAt live next (line_outcome end)
@@ -45,10 +45,10 @@ short_enough plant number line steps said long =
 pub steps_answered : (plant : PlantFields) (start : Start) (before : List Step) (shown : List Out) (number : ℕ) (line : List ℕ) (steps : List LineStep) (live : CoreView) (end : StepsEnd) (w0 w1 : Option (List ℕ))
     → steps_said plant number line ≡ Ok steps → HasDone plant start before shown steps live end w0 w1 → HasAnswered plant start before shown number line live (line_outcome end) w0 w1
 steps_answered plant start before shown number line steps live end w0 w1 said has = record {
-  answered = record { done = unnumbered (take has.at steps); told = has.told; end = line_outcome end };
+  answered = record { done = steps_without_numbers (take has.at steps); told = has.told; end = line_outcome end };
   is = record {
     after = has.after;
-    ends = subst (λ (r : Read (List LineStep)). EndsAs r live (record { done = unnumbered (take has.at steps); told = has.told; end = line_outcome end })) (sym said)
+    ends = subst (λ (r : Read (List LineStep)). EndsAs r live (record { done = steps_without_numbers (take has.at steps); told = has.told; end = line_outcome end })) (sym said)
         (inr (record { at = has.at; done_are = refl; ends = ends_so live (slice_get steps has.at) end has.ends }));
     too_long = λ long. absurd (short_enough plant number line steps said long);
   };
@@ -60,7 +60,7 @@ unchanged : (plant : PlantFields) (start : Start) (before : List Step) (shown : 
 unchanged plant start before shown live after =
     subst (λ (s : List Step). IsAfterFrom plant start s (shown ++ []) live) (sym (append-nil before)) (subst (λ (o : List Out). IsAfterFrom plant start before o live) (sym (append-nil shown)) after)
 
-abbrev nothing : LineOutcome → Answered
+abbrev nothing : LineOutcome → LineRun
 nothing end = record { done = []; told = []; end = end }
 
 not_done : (end : LineOutcome) → IsNotDone end (nothing end)
@@ -100,7 +100,7 @@ memory_answered plant start before shown number line live known after few = reco
 
 -- the end is written too
 pub end_written : (plant : PlantFields) (start : Start) (before : List Step) (shown : List Out) (number : ℕ) (line : List ℕ) (live : CoreView) (end : LineOutcome) (w0 w1 w2 : Option (List ℕ))
-    → HasAnswered plant start before shown number line live end w0 w1 → Appends w1 w2 (end_text number end) → IsAnswered plant start before shown number line live w0 w2
+    → HasAnswered plant start before shown number line live end w0 w1 → Appends w1 w2 (end_text number end) → LineIsAnswered plant start before shown number line live w0 w2
 end_written plant start before shown number line live end w0 w1 w2 has wrote = record {
   answered = has.answered;
   is = has.is;

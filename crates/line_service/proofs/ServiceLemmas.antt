@@ -12,17 +12,17 @@ use Rattle.live_core.specs.After.{IsAfterFrom}
 use Rattle.live_core.proofs.LawLemmas.{live_shown, live_ordered}
 use Rattle.script_format.specs.Lines.{parts_of, parts_from}
 use Rattle.line_service.specs.Bytes.{Takes, WhereKnown}
-use Rattle.line_service.specs.Service.{Answered, answer_text, IsAnswer, AreAnswered, service_text, all_done, all_told, IsServiceOf, ServiceIsShown}
-use Rattle.line_service.specs.SoFar.{IsHeld, IsAnswered, IsServedSoFar}
+use Rattle.line_service.specs.Service.{LineRun, answer_text, IsAnswer, AreAnswered, service_text, all_done, all_told, IsServiceOf, ServiceIsShown}
+use Rattle.line_service.specs.SoFar.{IsHeld, LineIsAnswered, IsServedSoFar}
 
 -- ---- one line more
 
-moved : (plant : PlantFields) (start : Start) (b b' : List Step) (o o' : List Out) (n n' : ℕ) (line : List ℕ) (live : CoreView) (a : Answered) → b ≡ b' → o ≡ o' → n ≡ n' → IsAnswer plant start b o n line live a → IsAnswer plant start b' o' n' line live a
+moved : (plant : PlantFields) (start : Start) (b b' : List Step) (o o' : List Out) (n n' : ℕ) (line : List ℕ) (live : CoreView) (a : LineRun) → b ≡ b' → o ≡ o' → n ≡ n' → IsAnswer plant start b o n line live a → IsAnswer plant start b' o' n' line live a
 moved plant start b b' o o' n n' line live a eb eo en is =
     subst (λ (x : List Step). IsAnswer plant start x o' n' line live a) eb
     (subst (λ (x : List Out). IsAnswer plant start b x n' line live a) eo (subst (λ (x : ℕ). IsAnswer plant start b o x line live a) en is))
 
-answered_more : (plant : PlantFields) (start : Start) (before : List Step) (shown : List Out) (number : ℕ) (lines : List (List ℕ)) (answers : List Answered) (line : List ℕ) (live : CoreView) (a : Answered)
+answered_more : (plant : PlantFields) (start : Start) (before : List Step) (shown : List Out) (number : ℕ) (lines : List (List ℕ)) (answers : List LineRun) (line : List ℕ) (live : CoreView) (a : LineRun)
     → AreAnswered plant start before shown number lines answers → IsAnswer plant start (before ++ all_done answers) (shown ++ all_told answers) (number + length lines) line live a
     → AreAnswered plant start before shown number (lines ++ line ∷ []) (answers ++ a ∷ [])
 answered_more plant start before shown number [] [] line live a h is =
@@ -36,13 +36,13 @@ answered_more plant start before shown number (l ∷ ls) (b ∷ bs) line live a 
       (moved plant start _ _ _ _ _ _ line live a (sym (append_assoc before b.done (all_done bs))) (sym (append_assoc shown b.told (all_told bs))) (omega arith) is),
 )
 
-as_many : (plant : PlantFields) (start : Start) (before : List Step) (shown : List Out) (number : ℕ) (lines : List (List ℕ)) (answers : List Answered) → AreAnswered plant start before shown number lines answers → length answers ≡ length lines
+as_many : (plant : PlantFields) (start : Start) (before : List Step) (shown : List Out) (number : ℕ) (lines : List (List ℕ)) (answers : List LineRun) → AreAnswered plant start before shown number lines answers → length answers ≡ length lines
 as_many plant start before shown number [] [] h = refl
 as_many plant start before shown number [] (b ∷ bs) h = absurd h
 as_many plant start before shown number (l ∷ ls) [] h = absurd h
 as_many plant start before shown number (l ∷ ls) (b ∷ bs) h = ap suc (as_many plant start (before ++ b.done) (shown ++ b.told) (number + 1) ls bs h.2)
 
-text_more : (plant : PlantFields) (number : ℕ) (answers : List Answered) (a : Answered) → service_text plant number (answers ++ a ∷ []) ≡ service_text plant number answers ++ answer_text plant (number + length answers) a
+text_more : (plant : PlantFields) (number : ℕ) (answers : List LineRun) (a : LineRun) → service_text plant number (answers ++ a ∷ []) ≡ service_text plant number answers ++ answer_text plant (number + length answers) a
 text_more plant number [] a = append-nil (answer_text plant number a) ∙ ap (λ (n : ℕ). answer_text plant n a) (omega arith)
 text_more plant number (b ∷ bs) a =
     ap (λ (t : List ℕ). answer_text plant number b ++ t) (text_more plant (number + 1) bs a)
@@ -93,8 +93,8 @@ module _ (plant : PlantFields) (start : Start) (before : List Step) (shown : Lis
   -- all that is answered with a line more
   module _ (input rest : List ℕ) (bytes : List ℕ) (is_long : Bool) (number : ℕ) (old live : CoreView) (w0 w1 w2 : Option (List ℕ))
       (so_far : IsServedSoFar plant start before shown input rest bytes is_long number old w0 w1)
-      (new : IsAnswered plant start (before ++ all_done so_far.answers) (shown ++ all_told so_far.answers) number so_far.part live w1 w2) where
-    all : List Answered
+      (new : LineIsAnswered plant start (before ++ all_done so_far.answers) (shown ++ all_told so_far.answers) number so_far.part live w1 w2) where
+    all : List LineRun
     all = so_far.answers ++ new.answered ∷ []
 
     are_answered : AreAnswered plant start before shown 1 (so_far.lines ++ so_far.part ∷ []) all
@@ -109,10 +109,10 @@ module _ (plant : PlantFields) (start : Start) (before : List Step) (shown : Lis
         let a = new.answered in
         let done : (before ++ all_done so_far.answers) ++ a.done ≡ before ++ all_done (so_far.answers ++ a ∷ []) =
         append_assoc before (all_done so_far.answers) a.done
-        ∙ ap (λ (s : List Step). before ++ s) (ap (λ (s : List Step). all_done so_far.answers ++ s) (sym (append-nil a.done)) ∙ sym (flat_map-append (λ (x : Answered). x.done) so_far.answers (a ∷ []))) in
+        ∙ ap (λ (s : List Step). before ++ s) (ap (λ (s : List Step). all_done so_far.answers ++ s) (sym (append-nil a.done)) ∙ sym (flat_map-append (λ (x : LineRun). x.done) so_far.answers (a ∷ []))) in
         let told : (shown ++ all_told so_far.answers) ++ a.told ≡ shown ++ all_told (so_far.answers ++ a ∷ []) =
         append_assoc shown (all_told so_far.answers) a.told
-        ∙ ap (λ (s : List Out). shown ++ s) (ap (λ (s : List Out). all_told so_far.answers ++ s) (sym (append-nil a.told)) ∙ sym (flat_map-append (λ (x : Answered). x.told) so_far.answers (a ∷ []))) in
+        ∙ ap (λ (s : List Out). shown ++ s) (ap (λ (s : List Out). all_told so_far.answers ++ s) (sym (append-nil a.told)) ∙ sym (flat_map-append (λ (x : LineRun). x.told) so_far.answers (a ∷ []))) in
         subst (λ (s : List Step). IsAfterFrom plant start s (shown ++ all_told (so_far.answers ++ a ∷ [])) live) done
         (subst (λ (o : List Out). IsAfterFrom plant start ((before ++ all_done so_far.answers) ++ a.done) o live) told new.is.after)
 

@@ -11,10 +11,10 @@ use Rattle.run_model.specs.declared.step.Out.{Out}
 use Rattle.run_model.specs.IsStateAfter.{CoreView}
 use Rattle.plant_core.specs.declared.core_fault.CoreFault.{CoreFault}
 use Rattle.plant_core.specs.declared.core_fault.CoreFault.TheVariants.{UnknownModem, UnknownOperator, Book, Gather, NothingToCollect, NoMemory, Reslice}
-use Rattle.plant_core.specs.Faults.{step_fault, IsTold}
+use Rattle.plant_core.specs.Faults.{step_fault, IsReported}
 use Rattle.live_core.specs.After.{IsAfterFrom, IsReachable}
 use Rattle.script_format.specs.declared.script.LineStep.{LineStep}
-use Rattle.script_format.specs.Script.{unnumbered}
+use Rattle.script_format.specs.Script.{steps_without_numbers}
 use Rattle.script_format.specs.Text.{out_line, outs_text}
 use Rattle.line_service.specs.declared.steps_end.StepsEnd.{StepsEnd}
 use Rattle.line_service.specs.declared.steps_end.StepsEnd.TheVariants as ends
@@ -44,22 +44,22 @@ module _ (plant : PlantFields) (start : Start) (before : List Step) (shown : Lis
     (half : IsHalfDone plant start before shown steps old w0 w1 (line ∷ rest))
     (reached : (b : List Step) (t : List Out) → IsAfterFrom old.plant start b t old → IsAfterFrom old.plant start (b ++ line.step ∷ []) (t ++ now) new) where
   done : List Step
-  done = unnumbered (take half.at steps)
+  done = steps_without_numbers (take half.at steps)
 
-  steps_more : done ++ line.step ∷ [] ≡ unnumbered (take (suc half.at) steps)
+  steps_more : done ++ line.step ∷ [] ≡ steps_without_numbers (take (suc half.at) steps)
   unfolding done
   steps_more =
       sym (map-append (λ (l : LineStep). l.step) (take half.at steps) (line ∷ []))
-      ∙ ap unnumbered (sym (take_next steps half.at line rest half.left_are))
+      ∙ ap steps_without_numbers (sym (take_next steps half.at line rest half.left_are))
 
-  after_more : IsAfterFrom plant start (before ++ unnumbered (take (suc half.at) steps)) (shown ++ (half.told ++ now)) new
+  after_more : IsAfterFrom plant start (before ++ steps_without_numbers (take (suc half.at) steps)) (shown ++ (half.told ++ now)) new
   unfolding done steps_more
   after_more =
       let same : old.plant ≡ plant = after_plant plant start (before ++ done) (shown ++ half.told) old half.after in
       let then_new = reached (before ++ done) (shown ++ half.told) (subst (λ (p : PlantFields). IsAfterFrom p start (before ++ done) (shown ++ half.told) old) (sym same) half.after) in
       let of_plant : IsAfterFrom plant start ((before ++ done) ++ line.step ∷ []) ((shown ++ half.told) ++ now) new =
       subst (λ (p : PlantFields). IsAfterFrom p start ((before ++ done) ++ line.step ∷ []) ((shown ++ half.told) ++ now) new) same then_new in
-      subst (λ (o : List Out). IsAfterFrom plant start (before ++ unnumbered (take (suc half.at) steps)) o new) (append_assoc shown half.told now)
+      subst (λ (o : List Out). IsAfterFrom plant start (before ++ steps_without_numbers (take (suc half.at) steps)) o new) (append_assoc shown half.told now)
       (subst (λ (s : List Step). IsAfterFrom plant start s ((shown ++ half.told) ++ now) new) (append_assoc before done (line.step ∷ []) ∙ ap (λ (s : List Step). before ++ s) steps_more) of_plant)
 
   -- what the step puts out is written too
@@ -90,7 +90,7 @@ all_are_done plant start before shown steps live w0 w1 left half none = record {
 }
 
 -- a fault that is told, other than want of memory
-pub fault_is_told : (A : Type 0) (fault : CoreFault) (reason : Option CoreFault) → IsTold {A = A} (Err fault) reason → fault ≢ NoMemory → reason ≡ Some fault
+pub fault_is_told : (A : Type 0) (fault : CoreFault) (reason : Option CoreFault) → IsReported {A = A} (Err fault) reason → fault ≢ NoMemory → reason ≡ Some fault
 fault_is_told A (UnknownModem modem) reason told other = told
 fault_is_told A (UnknownOperator op) reason told other = told
 fault_is_told A (Book refused) reason told other = told
@@ -103,7 +103,7 @@ is_some_of : {fault : CoreFault} {reason : Option CoreFault} → reason ≡ Some
 is_some_of is = rw is refl
 
 -- a step that the core does not do is refused, or it is not and memory ran out
-pub ends_at : (A : Type 0) (live : CoreView) (line : LineStep) (fault : CoreFault) → IsTold {A = A} (Err fault) (step_fault live line.step) → IsStepsEndAt live (Some line) (steps_end line.number fault)
+pub ends_at : (A : Type 0) (live : CoreView) (line : LineStep) (fault : CoreFault) → IsReported {A = A} (Err fault) (step_fault live line.step) → IsStepsEndAt live (Some line) (steps_end line.number fault)
 ends_at A live line (UnknownModem modem) told = (refl, is_some_of told)
 ends_at A live line (UnknownOperator op) told = (refl, is_some_of told)
 ends_at A live line (Book refused) told = (refl, is_some_of told)
@@ -114,7 +114,7 @@ ends_at A live line (Reslice refused) told = (refl, is_some_of told)
 
 -- steps end where one is not done
 pub step_not_done : (plant : PlantFields) (start : Start) (before : List Step) (shown : List Out) (steps : List LineStep) (old live : CoreView) (w0 w1 : Option (List ℕ)) (line : LineStep) (rest : List LineStep)
-    (A : Type 0) (fault : CoreFault) (end : StepsEnd) → IsHalfDone plant start before shown steps old w0 w1 (line ∷ rest) → live ≡ old → IsTold {A = A} (Err fault) (step_fault old line.step)
+    (A : Type 0) (fault : CoreFault) (end : StepsEnd) → IsHalfDone plant start before shown steps old w0 w1 (line ∷ rest) → live ≡ old → IsReported {A = A} (Err fault) (step_fault old line.step)
     → end ≡ steps_end line.number fault → HasDone plant start before shown steps live end w0 w1
 step_not_done plant start before shown steps old live w0 w1 line rest A fault end half same told is =
     subst (λ (c : CoreView). HasDone plant start before shown steps c end w0 w1) (sym same)

@@ -14,10 +14,10 @@ pub record IsReadSoFar (input rest text line : List ℕ) : Type 0 where
   pub no_bar : before_bar true input ≡ length text + before_bar true (line ++ rest)
 
 -- this is the plant's text, and the script is left
-abbrev pub IsFront : List ℕ → List ℕ → List ℕ → Type 0
-IsFront text input left = (text ≡ plant_text input) × (left ≡ script_text input)
+abbrev pub IsFrontText : List ℕ → List ℕ → List ℕ → Type 0
+IsFrontText text input left = (text ≡ plant_text input) × (left ≡ script_text input)
 
 -- behind a byte that ends the line of three dashes, or after any other
 abbrev pub ReadsOn : Bool → List ℕ → List ℕ → List ℕ → List ℕ → Type 0
-ReadsOn true input rest text line = IsFront text input rest
+ReadsOn true input rest text line = IsFrontText text input rest
 ReadsOn false input rest text line = IsReadSoFar input rest text line

@@ -9,7 +9,7 @@ use Rattle.run_model.specs.Changing.{RunSoFar, IsChanged, AreChanges}
 use Rattle.live_core.specs.After.{IsAfterFrom}
 use Rattle.script_format.specs.Lines.{lines_of}
 use Rattle.line_service.specs.declared.line_outcome.LineOutcome.TheVariants.{AtFault, NoMemory}
-use Rattle.line_service.specs.Service.{Answered, IsAnswer, answer_text, end_text}
+use Rattle.line_service.specs.Service.{LineRun, IsAnswer, answer_text, end_text}
 
 -- the answer to an item of the input: how many lines the item has, the run after it, whether its plant is another one, and the
 -- text that is written
@@ -34,7 +34,7 @@ IsRunOf run live = IsAfterFrom run.plant run.start run.steps run.outs live
 -- a line of a script is answered, and the run goes on
 pub record IsLineAnswer (meaning : Meaning) (old : RunSoFar) (number : ℕ) (line : List ℕ) (answer : ItemAnswer) : Type 0 where
   pub live : CoreView
-  pub answered : Answered
+  pub answered : LineRun
   pub is : IsAnswer old.plant old.start old.steps old.outs number line live answered
   pub no_plant : meaning.begins_plant line ≡ false
   pub no_snapshot : meaning.asks_snapshot line ≡ false
@@ -59,8 +59,8 @@ IsSnapshotOf meaning old number line answer =
     (meaning.asks_snapshot line ≡ true) × (answer.lines ≡ 1) × ((answer.text ≡ meaning.snapshot_of old) ⊎ (answer.text ≡ end_text number NoMemory))
 
 -- the plant is not changed: an allocation failed, or there is no such change
-abbrev pub IsRefused : Meaning → RunSoFar → ℕ → List ℕ → List (List ℕ) → ItemAnswer → Type 0
-IsRefused meaning old number line lines answer =
+abbrev pub ItemIsRefused : Meaning → RunSoFar → ℕ → List ℕ → List (List ℕ) → ItemAnswer → Type 0
+ItemIsRefused meaning old number line lines answer =
     (meaning.begins_plant line ≡ true)
     × ((answer.text ≡ end_text number NoMemory)
     ⊎ ((answer.text ≡ end_text number AtFault) × ((next : RunSoFar) → meaning.plant_of (line ∷ lines) ≡ Some (answer.lines, next.plant) → IsChanged old next → ⊥)))
@@ -69,7 +69,7 @@ IsRefused meaning old number line lines answer =
 pub record IsNoChange (meaning : Meaning) (old : RunSoFar) (number : ℕ) (line : List ℕ) (lines : List (List ℕ)) (answer : ItemAnswer) : Type 0 where
   pub on : answer.changes ≡ false
   pub run_is : answer.run ≡ old
-  pub why : IsSnapshotOf meaning old number line answer ⊎ IsRefused meaning old number line lines answer
+  pub why : IsSnapshotOf meaning old number line answer ⊎ ItemIsRefused meaning old number line lines answer
 
 abbrev pub IsItemAnswer : Meaning → RunSoFar → ℕ → List ℕ → List (List ℕ) → ItemAnswer → Type 0
 IsItemAnswer meaning old number line lines answer = IsLineAnswer meaning old number line answer ⊎ (IsChangeAnswer meaning old line lines answer ⊎ IsNoChange meaning old number line lines answer)

@@ -9,10 +9,10 @@ use Rattle.run_model.specs.IsStateAfter.{CoreView}
 use Rattle.live_core.specs.After.{IsAfterFrom}
 use Rattle.script_format.specs.declared.script.LineStep.{LineStep}
 use Rattle.script_format.specs.Lines.{lines_of, parts_from}
-use Rattle.script_format.specs.Script.{unnumbered}
+use Rattle.script_format.specs.Script.{steps_without_numbers}
 use Rattle.script_format.specs.Text.{outs_text}
 use Rattle.line_service.specs.declared.line_outcome.LineOutcome.{LineOutcome}
-use Rattle.line_service.specs.Service.{Answered, IsAnswer, answer_text, AreAnswered, all_done, all_told, service_text}
+use Rattle.line_service.specs.Service.{LineRun, IsAnswer, answer_text, AreAnswered, all_done, all_told, service_text}
 
 -- what is kept of the line that is being read: all of it, or that it is too long
 abbrev pub IsHeld : List ℕ → Bool → List ℕ → Type 0
@@ -23,20 +23,20 @@ IsHeld bytes true part = 4096 < length part
 pub record IsHalfDone (plant : PlantFields) (start : Start) (before : List Step) (shown : List Out) (steps : List LineStep) (live : CoreView) (old new : Option (List ℕ)) (left : List LineStep) : Type 0 where
   pub at : ℕ
   pub told : List Out
-  pub after : IsAfterFrom plant start (before ++ unnumbered (take at steps)) (shown ++ told) live
+  pub after : IsAfterFrom plant start (before ++ steps_without_numbers (take at steps)) (shown ++ told) live
   pub written : Appends old new (outs_text plant told)
   pub left_are : drop at steps ≡ left
 
 -- the line has this answer, and what its steps output is written
 pub record HasAnswered (plant : PlantFields) (start : Start) (before : List Step) (shown : List Out) (number : ℕ) (line : List ℕ) (live : CoreView) (end : LineOutcome) (old new : Option (List ℕ)) : Type 0 where
-  pub answered : Answered
+  pub answered : LineRun
   pub is : IsAnswer plant start before shown number line live answered
   pub end_is : answered.end ≡ end
   pub written : Appends old new (outs_text plant answered.told)
 
 -- the line is answered, and the answer written
-pub record IsAnswered (plant : PlantFields) (start : Start) (before : List Step) (shown : List Out) (number : ℕ) (line : List ℕ) (live : CoreView) (old new : Option (List ℕ)) : Type 0 where
-  pub answered : Answered
+pub record LineIsAnswered (plant : PlantFields) (start : Start) (before : List Step) (shown : List Out) (number : ℕ) (line : List ℕ) (live : CoreView) (old new : Option (List ℕ)) : Type 0 where
+  pub answered : LineRun
   pub is : IsAnswer plant start before shown number line live answered
   pub written : Appends old new (answer_text plant number answered)
 
@@ -45,7 +45,7 @@ pub record IsServedSoFar (plant : PlantFields) (start : Start) (before : List St
     (live : CoreView) (old new : Option (List ℕ)) : Type 0 where
   pub lines : List (List ℕ)
   pub part : List ℕ
-  pub answers : List Answered
+  pub answers : List LineRun
   pub lines_are : lines_of input ≡ lines ++ parts_from 10 part rest
   pub is_held : IsHeld bytes is_long part
   pub number_is : number ≡ 1 + length lines

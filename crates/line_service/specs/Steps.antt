@@ -9,7 +9,7 @@ use Rattle.run_model.specs.IsStateAfter.{CoreView}
 use Rattle.plant_core.specs.Faults.{step_fault}
 use Rattle.live_core.specs.After.{IsAfterFrom}
 use Rattle.script_format.specs.declared.script.LineStep.{LineStep}
-use Rattle.script_format.specs.Script.{unnumbered}
+use Rattle.script_format.specs.Script.{steps_without_numbers}
 use Rattle.script_format.specs.Text.{outs_text}
 use Rattle.line_service.specs.declared.steps_end.StepsEnd.{StepsEnd}
 use Rattle.line_service.specs.declared.steps_end.StepsEnd.TheVariants.{Done, Refused, NoMemory}
@@ -28,6 +28,6 @@ IsStepsEndAt live (Some line) NoMemory = step_fault live line.step ≡ None
 pub record HasDone (plant : PlantFields) (start : Start) (before : List Step) (shown : List Out) (steps : List LineStep) (live : CoreView) (end : StepsEnd) (old new : Option (List ℕ)) : Type 0 where
   pub at : ℕ
   pub told : List Out
-  pub after : IsAfterFrom plant start (before ++ unnumbered (take at steps)) (shown ++ told) live
+  pub after : IsAfterFrom plant start (before ++ steps_without_numbers (take at steps)) (shown ++ told) live
   pub ends : IsStepsEndAt live (slice_get steps at) end
   pub written : Appends old new (outs_text plant told)

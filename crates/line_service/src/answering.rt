@@ -8,7 +8,7 @@ ghost use Rattle.script_format.specs.Fields.{Gives};
 ghost use Rattle.script_format.specs.declared.fields.FieldFault.TheVariants.{NoMemory};
 ghost use Rattle.line_service.specs.Service.{steps_said, end_text};
 ghost use Rattle.line_service.specs.Ends.{line_outcome};
-ghost use Rattle.line_service.specs.SoFar.{HasAnswered, IsAnswered};
+ghost use Rattle.line_service.specs.SoFar.{HasAnswered, LineIsAnswered};
 ghost use Rattle.line_service.specs.Steps.{HasDone};
 
 use crate::line_buffer::MOST_BYTES;
@@ -125,7 +125,7 @@ pub fn answer_line<W: Write>(
 ) -> io::Result<()>
     requires reached { IsReachable (live_view core.old) }
     // After whatever run led to the core, the line has such an answer, and it is written.
-    ensures { OnOk result (BehindEachRun (live_view core.old) (λ plant start before shown. IsAnswered plant start before shown number
+    ensures { OnOk result (BehindEachRun (live_view core.old) (λ plant start before shown. LineIsAnswered plant start before shown number
         line.now (live_view core.new) (W.contents writer.old) (W.contents writer.new))) }
 {
     let end = do_line(alloc, core, number, line, writer)?;

@@ -2,7 +2,7 @@
 
 ghost use Rattle.std.specs.Prelude.{◌≡◌, ◌++◌, ◌∷◌, [], List, ℕ, Some, IfOk, OnOk, IfSome};
 ghost use Rattle.script_format.specs.Input.{plant_text, script_text};
-ghost use Rattle.line_service.specs.Front.{IsReadSoFar, IsFront, ReadsOn};
+ghost use Rattle.line_service.specs.Front.{IsReadSoFar, IsFrontText, ReadsOn};
 
 use crate::bytes::next_byte;
 use std::alloc::{AllocError, Global};
@@ -45,7 +45,7 @@ fn take_byte(text: &mut Vec<u8>, line: &mut Vec<u8>, byte: u8) -> Result<bool, A
 
 /// Returns the whole text where the input has ended after a line.
 fn with_last_line(mut text: Vec<u8>, line: &[u8]) -> Result<Vec<u8>, AllocError>
-    ensures { IfOk result (λ whole. (input : List ℕ) → IsReadSoFar input [] text.items line.now → IsFront whole.items input []) }
+    ensures { IfOk result (λ whole. (input : List ℕ) → IsReadSoFar input [] text.items line.now → IsFrontText whole.items input []) }
 {
     if line != b"---".as_slice() {
         text.extend_from_slice(line)?;

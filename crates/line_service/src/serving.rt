@@ -8,7 +8,7 @@ ghost use Rattle.run_model.specs.declared.step.Step.{Step};
 ghost use Rattle.live_core.specs.After.{BehindEachRun, IsReachable};
 ghost use Rattle.live_core.specs.LiveView.{live_view};
 ghost use Rattle.line_service.specs.Service.{IsServiceOf};
-ghost use Rattle.line_service.specs.SoFar.{IsHeld, IsAnswered, IsServedSoFar};
+ghost use Rattle.line_service.specs.SoFar.{IsHeld, LineIsAnswered, IsServedSoFar};
 
 use crate::answering::{answer_line, write_end};
 use crate::bytes::next_byte;
@@ -41,7 +41,7 @@ fn answer_held<W: Write>(
     ensures reached { OnOk result (IsReachable (live_view core.new)) }
     ensures answered { OnOk result (BehindEachRun (live_view core.old) (λ plant start before shown. (line : List ℕ)
         → IsHeld held.now.bytes.items held.now.is_long line
-        → IsAnswered plant start before shown number line (live_view core.new)
+        → LineIsAnswered plant start before shown number line (live_view core.new)
         (W.contents writer.old) (W.contents writer.new))) }
 {
     if held.is_long {

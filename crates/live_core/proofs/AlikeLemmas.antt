@@ -13,8 +13,8 @@ use Rattle.map_assembly.specs.declared.slicing.Reslicing.{Reslicing}
 use Rattle.map_assembly.specs.declared.refused.GatherFault.{GatherFault}
 use Rattle.map_assembly.specs.declared.refused.GatherFault.TheVariants.{Stranger, Old, PutTwice, Early, WrongSlice}
 use Rattle.map_assembly.specs.Plan.{AreSlices}
-use Rattle.map_assembly.specs.Gathering.{Gathering, slices_or, slices_at, frame_slices, queue_of, fits_at, is_part, put_fault, with_part, fronts, is_last, after_put, IsGathering, MayReslice, resliced}
-use Rattle.map_assembly.specs.Assembled.{IsAnswer, IsMapOf}
+use Rattle.map_assembly.specs.Gathering.{Gathering, slices_or, slices_at, frame_slices, queue_of, fits_at, is_part, put_fault, with_part, fronts, is_last, after_put, IsGathering, MayReslice, gathering_after_reslice}
+use Rattle.map_assembly.specs.Assembled.{IsPutResult, IsMapOf}
 use Rattle.map_assembly.specs.LettingGo.{GoesOnAlike}
 use Rattle.map_assembly.proofs.NewLemmas.{queued-agree}
 
@@ -55,7 +55,7 @@ same_fault g h op frame part alike =
 pub same_last : (g h : Gathering) (op : ℕ) (part : ElementsFields) → GoesOnAlike g h → is_last h op part ≡ is_last g op part
 same_last g h op part alike = λ k. is_last (record g { queues = alike.queues_are k }) op part
 
-pub same_answer : (g h : Gathering) (op frame : ℕ) (part : ElementsFields) (made : Option MapBytes) → GoesOnAlike g h → IsAnswer h op frame part made → IsAnswer g op frame part made
+pub same_answer : (g h : Gathering) (op frame : ℕ) (part : ElementsFields) (made : Option MapBytes) → GoesOnAlike g h → IsPutResult h op frame part made → IsPutResult g op frame part made
 same_answer g h op frame part None alike is = sym (same_last g h op part alike) ∙ is
 same_answer g h op frame part (Some made) alike is =
     let now : frame ≡ g.next = is.1 ∙ alike.next_is in (
@@ -103,7 +103,7 @@ alike_put g h op part alike =
 
 -- ---- other slices
 
-pub alike_resliced : (g h : Gathering) (from : ℕ) (slices : List Minislots) → GoesOnAlike g h → GoesOnAlike (resliced g from slices) (resliced h from slices)
+pub alike_resliced : (g h : Gathering) (from : ℕ) (slices : List Minislots) → GoesOnAlike g h → GoesOnAlike (gathering_after_reslice g from slices) (gathering_after_reslice h from slices)
 alike_resliced g h from slices alike =
     let r : Reslicing = record { from = from; slicing = slices } in
     record {
@@ -166,7 +166,7 @@ held_put g x op part alike is held =
     by true on = held_on (put_branch g op part true) x on is.slices_are is.reslicings_are held
     by false on = held_on (put_branch g op part false) x on is.slices_are is.reslicings_are held
 
-pub held_resliced : (g h x : Gathering) (from : ℕ) (slices : List Minislots) → GoesOnAlike (resliced g from slices) x → IsGathering g → AreSlices g.channel (length g.quotas) slices → IsGathering x → IsGathering (resliced g from slices)
+pub held_resliced : (g h x : Gathering) (from : ℕ) (slices : List Minislots) → GoesOnAlike (gathering_after_reslice g from slices) x → IsGathering g → AreSlices g.channel (length g.quotas) slices → IsGathering x → IsGathering (gathering_after_reslice g from slices)
 held_resliced g h x from slices on is valid held =
     let r : Reslicing = record { from = from; slicing = slices } in
-    held_on (resliced g from slices) x on is.slices_are (All-push (λ (y : Reslicing). AreSlices g.channel (length g.quotas) y.slicing) g.reslicings r is.reslicings_are valid) held
+    held_on (gathering_after_reslice g from slices) x on is.slices_are (All-push (λ (y : Reslicing). AreSlices g.channel (length g.quotas) y.slicing) g.reslicings r is.reslicings_are valid) held

@@ -16,16 +16,16 @@ use Rattle.operator_model.specs.declared.action.Action.{Action}
 use Rattle.operator_model.specs.declared.action.Action.TheVariants as actions
 use Rattle.operator_model.specs.State.{operator}
 use Rattle.operator_model.specs.Machine.{own_step, IsAllowed}
-use Rattle.operator_model.specs.Replay.{BookView, acted}
+use Rattle.operator_model.specs.Replay.{BookView, book_after_action}
 use Rattle.map_assembly.specs.declared.map_bytes.MapBytes.{MapBytes}
 use Rattle.map_assembly.specs.declared.refused.GatherFault.{GatherFault}
 use Rattle.map_assembly.specs.Plan.{AreSlices}
-use Rattle.map_assembly.specs.Gathering.{Gathering, gathering_of, put_fault, after_put, resliced, IsGathering, MayReslice}
+use Rattle.map_assembly.specs.Gathering.{Gathering, gathering_of, put_fault, after_put, gathering_after_reslice, IsGathering, MayReslice}
 use Rattle.map_assembly.specs.LettingGo.{GoesOnAlike}
 use Rattle.map_assembly.proofs.GoneLemmas.{alike_again, alike_self}
 use Rattle.run_model.specs.declared.step.Step.{Step}
 use Rattle.run_model.specs.declared.step.Out.{Out}
-use Rattle.run_model.specs.OwnSteps.{under, slice_of}
+use Rattle.run_model.specs.OwnSteps.{outputs_under, slice_of}
 use Rattle.run_model.specs.Starts.{Start, first_start, IsStart}
 use Rattle.run_model.specs.Opened.{opened_core, started_book, started_core, gathering_from}
 use Rattle.run_model.specs.Ordered.{target}
@@ -59,11 +59,11 @@ found books lives op b are there = by (slice_get books op) refl (sym (slice_get-
 
 acts_behind : (plant : PlantFields) (gathering : Gathering) (lives : List BookView) (queues : List (List (ℕ × ElementsFields))) (op : ℕ) (action : Action) (book : BookView) (waiting : List (ℕ × ElementsFields))
     (core : CoreView) → IsOf (core_of plant lives queues gathering) core → slice_get core.books op ≡ Some book → slice_get queues op ≡ Some waiting → IsAllowed (operator book.consts book.row book.state) action
-    → (after : CoreView) × Acts op action core after (under op (own_step (operator book.consts book.row book.state) action).outputs)
+    → (after : CoreView) × Acts op action core after (outputs_under op (own_step (operator book.consts book.row book.state) action).outputs)
     × IsOf (core_of plant (slice_set lives op (went (forgotten book) action)) (slice_set queues op (waiting ++ frames_of (own_step (operator book.consts book.row book.state) action).outputs)) gathering) after
 acts_behind plant gathering lives queues op action book waiting core is there waits allowed = (
   record core {
-    books = slice_set core.books op (acted book action);
+    books = slice_set core.books op (book_after_action book action);
     queues = slice_set core.queues op (waiting ++ frames_of (own_step (operator book.consts book.row book.state) action).outputs);
   },
   record {
@@ -77,7 +77,7 @@ acts_behind plant gathering lives queues op action book waiting core is there wa
   },
   record {
     plant_is = is.plant_is;
-    books_are = map-set forgotten core.books op (acted book action) ∙ ap (λ (bs : List BookView). slice_set bs op (went (forgotten book) action)) is.books_are;
+    books_are = map-set forgotten core.books op (book_after_action book action) ∙ ap (λ (bs : List BookView). slice_set bs op (went (forgotten book) action)) is.books_are;
     queues_are = ap (λ (qs : List (List (ℕ × ElementsFields))). slice_set qs op (waiting ++ frames_of (own_step (operator book.consts book.row book.state) action).outputs)) is.queues_are;
     gathering_is = is.gathering_is;
     held = is.held;
@@ -87,7 +87,7 @@ acts_behind plant gathering lives queues op action book waiting core is there wa
 pub acts_on : (plant : PlantFields) (gathering : Gathering) (lives lives' : List BookView) (queues queues' : List (List (ℕ × ElementsFields))) (op : ℕ) (action : Action) (b : BookView) (waiting : List (ℕ × ElementsFields)) (now : List Out)
     → slice_get lives op ≡ Some b → slice_get queues op ≡ Some waiting → IsAllowed (operator b.consts b.row b.state) action
     → lives' ≡ slice_set lives op (went b action) → queues' ≡ slice_set queues op (waiting ++ frames_of (own_step (operator b.consts b.row b.state) action).outputs)
-    → now ≡ under op (own_step (operator b.consts b.row b.state) action).outputs
+    → now ≡ outputs_under op (own_step (operator b.consts b.row b.state) action).outputs
     → GoesOn (Acts op action) (core_of plant lives queues gathering) (core_of plant lives' queues' gathering) now
 acts_on plant gathering lives lives' queues queues' op action b waiting now there waits allowed bs qs now_is = λ core is.
     let at = found core.books lives op b is.books_are there in
@@ -96,7 +96,7 @@ acts_on plant gathering lives lives' queues queues' op action b waiting now ther
     let after = acts_behind plant gathering lives queues op action book waiting core is at.1 waits
     (subst (λ (x : BookView). IsAllowed (operator x.consts x.row x.state) action) (sym same) allowed) in (
       after.0,
-      subst (λ (os : List Out). Acts op action core after.0 os) (ap (λ (x : BookView). under op (own_step (operator x.consts x.row x.state) action).outputs) same ∙ sym now_is) after.1,
+      subst (λ (os : List Out). Acts op action core after.0 os) (ap (λ (x : BookView). outputs_under op (own_step (operator x.consts x.row x.state) action).outputs) same ∙ sym now_is) after.1,
       subst (λ (v : CoreView). IsOf v after.0)
           (ap₂ (λ (ls : List BookView) (qs : List (List (ℕ × ElementsFields))). core_of plant ls qs gathering)
           (ap (λ (x : BookView). slice_set lives op (went x action)) same ∙ sym bs)
@@ -200,7 +200,7 @@ desk_collects book waits plant old put new desks n op desk after made valid reac
 abbrev taken : ℕ → List BookView → List SliceRow → List BookView
 taken from [] rows = []
 taken from (b ∷ books) [] = b ∷ books
-taken from (b ∷ books) (row ∷ rows) = acted b (actions.Reslice from row) ∷ taken from books rows
+taken from (b ∷ books) (row ∷ rows) = book_after_action b (actions.Reslice from row) ∷ taken from books rows
 
 taken_length : (from : ℕ) (books : List BookView) (rows : List SliceRow) → length (taken from books rows) ≡ length books
 taken_length from [] rows = refl
@@ -208,10 +208,10 @@ taken_length from (b ∷ books) [] = refl
 taken_length from (b ∷ books) (row ∷ rows) = ap suc (taken_length from books rows)
 
 taken_at : (from : ℕ) (books : List BookView) (rows : List SliceRow) (i : ℕ) (row : SliceRow) (book : BookView) → slice_get rows i ≡ Some row → slice_get books i ≡ Some book
-    → slice_get (taken from books rows) i ≡ Some (acted book (actions.Reslice from row))
+    → slice_get (taken from books rows) i ≡ Some (book_after_action book (actions.Reslice from row))
 taken_at from [] rows i row book e f = absurd (cc)
 taken_at from (b ∷ books) [] i row book e f = absurd (cc)
-taken_at from (b ∷ books) (r ∷ rows) zero row book e f = λ k. Some (acted (same_Some b book f k) (actions.Reslice from (same_Some r row e k)))
+taken_at from (b ∷ books) (r ∷ rows) zero row book e f = λ k. Some (book_after_action (same_Some b book f k) (actions.Reslice from (same_Some r row e k)))
 taken_at from (b ∷ books) (r ∷ rows) (suc i) row book e f = taken_at from books rows i row book e f
 
 -- their histories forgotten
@@ -245,17 +245,17 @@ free_behind from books lives rows are none =
 
 pub reslices_on : (plant : PlantFields) (gathering gathering' : Gathering) (lives lives' : List BookView) (queues queues' : List (List (ℕ × ElementsFields))) (from : ℕ) (rows : List SliceRow)
     → reslice_fault from lives rows ≡ None → HaveTakenAs (λ book row. went book (actions.Reslice from row)) rows lives lives' → queues' ≡ queues → MayReslice gathering from (map slice_of rows)
-    → GoesOnAlike (resliced gathering from (map slice_of rows)) gathering' → IsGathering gathering'
+    → GoesOnAlike (gathering_after_reslice gathering from (map slice_of rows)) gathering' → IsGathering gathering'
     → GoesOn (Reslices from rows) (core_of plant lives queues gathering) (core_of plant lives' queues' gathering') []
 reslices_on plant gathering gathering' lives lives' queues queues' from rows none have qs may on held = λ core is.
     let free = free_behind from core.books lives rows is.books_are none in
     let valid : AreSlices core.gathering.channel (length core.gathering.quotas) (map slice_of rows) =
     subst (λ (x : Gathering). AreSlices x.channel (length x.quotas) (map slice_of rows))
     (λ k. record gathering { channel = is.gathering_is.channel_is k; quotas = is.gathering_is.quotas_are k }) may.slices_are in
-    let all : GoesOnAlike (resliced core.gathering from (map slice_of rows)) gathering' =
-    alike_again (resliced core.gathering from (map slice_of rows)) (resliced gathering from (map slice_of rows)) gathering'
+    let all : GoesOnAlike (gathering_after_reslice core.gathering from (map slice_of rows)) gathering' =
+    alike_again (gathering_after_reslice core.gathering from (map slice_of rows)) (gathering_after_reslice gathering from (map slice_of rows)) gathering'
     (alike_resliced core.gathering gathering from (map slice_of rows) is.gathering_is) on in (
-      record core { books = taken from core.books rows; gathering = resliced core.gathering from (map slice_of rows) },
+      record core { books = taken from core.books rows; gathering = gathering_after_reslice core.gathering from (map slice_of rows) },
       record {
         one_each = free.one_each;
         apart = free.apart;

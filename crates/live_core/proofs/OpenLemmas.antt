@@ -9,7 +9,7 @@ use Rattle.plant.specs.declared.consts.ConstsFields.{ConstsFields}
 use Rattle.plant.specs.declared.operator_row.RowFields.{RowFields}
 use Rattle.plant.specs.declared.plant.PlantFields.{PlantFields}
 use Rattle.plant.specs.Plant.{IsPlant}
-use Rattle.operator_model.specs.State.{OperatorState, Operator, operator, opened}
+use Rattle.operator_model.specs.State.{OperatorState, Operator, operator, opened_state}
 use Rattle.operator_model.specs.Replay.{BookView}
 use Rattle.map_assembly.specs.Part.{quota_of}
 use Rattle.map_assembly.specs.Gathering.{IsGathering}
@@ -24,7 +24,7 @@ use Rattle.live_core.proofs.ResumeLemmas.{HaveOwnNames, own_state, map_is, over_
 
 -- an operator as it is opened
 abbrev pub as_opened : ConstsFields → RowFields → Operator
-as_opened consts row = operator consts row (opened consts row)
+as_opened consts row = operator consts row (opened_state consts row)
 
 none_waits : (consts : ConstsFields) (rows : List RowFields) → waiting_among (map (as_opened consts) rows) ≡ []
 none_waits consts [] = refl
@@ -45,19 +45,19 @@ module _ (plant : PlantFields) (valid : IsPlant plant) where
       subst (λ (rows : List RowFields). PairsByRecursion (λ (a b : RowFields). a.name ≢ b.name) rows) (sym rows_same)
       (pairs_from_AllPairs (λ (a b : RowFields). a.name ≢ b.name) plant.rows valid.names)
 
-  state_there : (i : ℕ) (row : RowFields) → slice_get plant.rows i ≡ Some row → start.state row ≡ opened plant.consts row
+  state_there : (i : ℕ) (row : RowFields) → slice_get plant.rows i ≡ Some row → start.state row ≡ opened_state plant.consts row
   state_there i row here =
-      own_state ops (opened plant.consts row) i (as_opened plant.consts row) own_names
+      own_state ops (opened_state plant.consts row) i (as_opened plant.consts row) own_names
       (slice_get-map (as_opened plant.consts) plant.rows i ∙ ap (option_map (as_opened plant.consts)) here)
 
   -- what is seen of each row and its state is what is seen of the row as it is opened
-  seen_opened : {Y : Type 0} (g : RowFields → OperatorState → Y) → map (λ row. g row (start.state row)) plant.rows ≡ map (λ row. g row (opened plant.consts row)) plant.rows
+  seen_opened : {Y : Type 0} (g : RowFields → OperatorState → Y) → map (λ row. g row (start.state row)) plant.rows ≡ map (λ row. g row (opened_state plant.consts row)) plant.rows
   seen_opened {Y} g =
-      map_is (λ (row : RowFields). g row (start.state row)) plant.rows (map (λ (row : RowFields). g row (opened plant.consts row)) plant.rows)
-      (sym (length-map plant.rows (λ (row : RowFields). g row (opened plant.consts row))))
+      map_is (λ (row : RowFields). g row (start.state row)) plant.rows (map (λ (row : RowFields). g row (opened_state plant.consts row)) plant.rows)
+      (sym (length-map plant.rows (λ (row : RowFields). g row (opened_state plant.consts row))))
       (λ i row here.
-      slice_get-map (λ (x : RowFields). g x (opened plant.consts x)) plant.rows i
-      ∙ (ap (option_map (λ (x : RowFields). g x (opened plant.consts x))) here
+      slice_get-map (λ (x : RowFields). g x (opened_state plant.consts x)) plant.rows i
+      ∙ (ap (option_map (λ (x : RowFields). g x (opened_state plant.consts x))) here
       ∙ (λ k. let o : Option Y = Some (g row (sym (state_there i row here) k)) in o)))
 
   opened_same : started_core plant start ≡ opened_core plant

@@ -18,7 +18,7 @@ use Rattle.operator_model.specs.Machine.{own_step, IsAllowed}
 use Rattle.operator_model.specs.Replay.{BookView}
 use Rattle.map_assembly.specs.Gathering.{Gathering}
 use Rattle.map_assembly.specs.LettingGo.{has_begun}
-use Rattle.run_model.specs.OwnSteps.{under}
+use Rattle.run_model.specs.OwnSteps.{outputs_under}
 use Rattle.run_model.specs.IsStateAfter.{CoreView, frames_of}
 use Rattle.plant_core.specs.Reachable.{core_of, IsOfAStep}
 use Rattle.plant_core.proofs.PlaceLemmas.{seen_at, set_alike}
@@ -56,7 +56,7 @@ pub acted_reaches : {A E : Type 0} (result : Result A E) (plant : PlantFields) (
     → OnErr result (lives' ≡ lives) → OnErr result (queues' ≡ queues)
     → ∥ IsReachable (core_of plant lives queues gathering) ∥₁ → ∥ IsReachable (core_of plant lives' queues' gathering) ∥₁
 acted_reaches (Ok x) plant gathering lives lives' queues queues' op action b waiting valid goal there waits allowed new_lives new_queues same_lives same_queues reached =
-    let outs = under op (own_step (operator b.consts b.row b.state) action).outputs in
+    let outs = outputs_under op (own_step (operator b.consts b.row b.state) action).outputs in
     stepped_on goal.0 (core_of plant lives queues gathering) (core_of plant lives' queues' gathering) outs valid refl
     (acts_step goal.0 op action (core_of plant lives queues gathering) (core_of plant lives' queues' gathering) outs goal.1
     (acts_on plant gathering lives lives' queues queues' op action b waiting outs there waits allowed new_lives new_queues refl))
@@ -68,10 +68,10 @@ pub acts_on_if : {A E : Type 0} (result : Result A E) (plant : PlantFields) (gat
     (op : ℕ) (action : Action) (b : BookView) (waiting : List (ℕ × ElementsFields)) (outs outs' : List Out)
     → slice_get lives op ≡ Some b → slice_get queues op ≡ Some waiting → OnOk result (IsAllowed (operator b.consts b.row b.state) action)
     → OnOk result (lives' ≡ slice_set lives op (went b action)) → OnOk result (queues' ≡ slice_set queues op (waiting ++ frames_of (own_step (operator b.consts b.row b.state) action).outputs))
-    → OnOk result (outs' ≡ outs ++ under op (own_step (operator b.consts b.row b.state) action).outputs)
+    → OnOk result (outs' ≡ outs ++ outputs_under op (own_step (operator b.consts b.row b.state) action).outputs)
     → OnOk result ((now : List Out) × (outs' ≡ outs ++ now) × GoesOn (Acts op action) (core_of plant lives queues gathering) (core_of plant lives' queues' gathering) now)
 acts_on_if (Ok x) plant gathering lives lives' queues queues' op action b waiting outs outs' there waits allowed new_lives new_queues told =
-    (under op (own_step (operator b.consts b.row b.state) action).outputs, told, acts_on plant gathering lives lives' queues queues' op action b waiting _ there waits allowed new_lives new_queues refl)
+    (outputs_under op (own_step (operator b.consts b.row b.state) action).outputs, told, acts_on plant gathering lives lives' queues queues' op action b waiting _ there waits allowed new_lives new_queues refl)
 acts_on_if (Err y) plant gathering lives lives' queues queues' op action b waiting outs outs' there waits allowed new_lives new_queues told = tt
 
 -- what is heard of a modem goes to the operator that lists it

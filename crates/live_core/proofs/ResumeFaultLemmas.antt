@@ -9,11 +9,11 @@ use Rattle.slice_scheduler.specs.Minislots.{Minislots}
 use Rattle.plant.specs.declared.consts.Channel.{Channel}
 use Rattle.plant.specs.declared.plant.PlantFields.{PlantFields}
 use Rattle.operator_model.specs.State.{Operator}
-use Rattle.operator_book.specs.declared.live.Live.{Live}
+use Rattle.operator_book.specs.declared.live.Machine.{Machine}
 use Rattle.map_assembly.specs.Plan.{AreSlices, IsFirstInvalid}
 use Rattle.live_core.specs.declared.resume_fault.ResumeFault.{ResumeFault}
 use Rattle.live_core.specs.declared.resume_fault.ResumeFault.TheVariants.{NotAtFrame, SliceChangesDiffer, BeforeFirstFrame, InvalidSlice, InvalidNextSlice, NoMemory}
-use Rattle.live_core.specs.LiveOperator.{sound_of, StandsAt, WaitsFrom, IsOdd}
+use Rattle.live_core.specs.LiveOperator.{sound_of, IsAtFrame, WaitsFrom, IsOdd}
 use Rattle.live_core.proofs.ResumeLemmas.{over_map}
 use Rattle.live_core.specs.Resumed.{waits_from, first_from, GoesAlong, GoTogether, IsFirstOdd, IsOddFault, IsSliceFault, IsResumeFault}
 
@@ -36,8 +36,8 @@ together_seen see frame from xs at waits = together frame from (map see xs) at (
 
 -- ---- one that does not
 
-module _ {D : Type 0} {F : D → Type 0} {m : _} (frame : ℕ) (from : Option ℕ) (lives : List (Live D F m)) (i : ℕ) (live : Live D F m) (lt : i < length lives) (is : live ≡ get_or lives i live)
-    (frames : All (StandsAt frame) (take i lives)) (alike : All (WaitsFrom from) (take i lives)) where
+module _ {D : Type 0} {F : D → Type 0} {m : _} (frame : ℕ) (from : Option ℕ) (lives : List (Machine D F m)) (i : ℕ) (live : Machine D F m) (lt : i < length lives) (is : live ≡ get_or lives i live)
+    (frames : All (IsAtFrame frame) (take i lives)) (alike : All (WaitsFrom from) (take i lives)) where
   first_odd : (at : ℕ) (reason : Operator → Type 0) → at ≡ i → reason (sound_of live) → IsFirstOdd frame from (map sound_of lives) at reason
   first_odd at reason same why =
       subst (λ (n : ℕ). IsFirstOdd frame from (map sound_of lives) n reason) (sym same) (record {

@@ -15,14 +15,14 @@ use Rattle.plant.specs.declared.plant.PlantFields.{PlantFields}
 use Rattle.plant.specs.Plant.{IsPlant}
 use Rattle.operator_model.specs.declared.share.Share.{Share}
 use Rattle.operator_model.specs.declared.share.NextShare.{NextShare}
-use Rattle.operator_model.specs.State.{OperatorState, Operator, operator, opened}
+use Rattle.operator_model.specs.State.{OperatorState, Operator, operator, opened_state}
 use Rattle.operator_model.specs.Sound.{IsNextShare, IsSound}
 use Rattle.operator_model.specs.Replay.{BookView}
 use Rattle.operator_model.specs.Slices.{SliceFrom, waiting_slice}
 use Rattle.map_assembly.specs.declared.slicing.Reslicing.{Reslicing}
 use Rattle.map_assembly.specs.Part.{quota_of}
 use Rattle.map_assembly.specs.Plan.{AreSlices}
-use Rattle.map_assembly.specs.Gathering.{Gathering, gathering_at, IsGathering, IsPast, MayReslice, resliced}
+use Rattle.map_assembly.specs.Gathering.{Gathering, gathering_at, IsGathering, HasPutNoneFrom, MayReslice, gathering_after_reslice}
 use Rattle.map_assembly.specs.LettingGo.{is_from, has_begun}
 use Rattle.map_assembly.proofs.OrderLemmas.{PairsByRecursion, pairs_from_AllPairs}
 use Rattle.run_model.specs.Starts.{Start, own_of, IsStart}
@@ -126,7 +126,7 @@ fresh : (ops : List Operator) (frame : ℕ) → AllByRecursion IsSound ops → A
 fresh [] frame sound at = refl
 fresh (o ∷ ops) frame sound at = fresh_if o.consts o.state.frame frame _ o.state.next (o ∷ ops) sound.0.next at.0
 
-all_past : (g : Gathering) (from n : ℕ) → g.next ≤ from → AllByRecursion (IsPast g from) (replicate n [])
+all_past : (g : Gathering) (from n : ℕ) → g.next ≤ from → AllByRecursion (HasPutNoneFrom g from) (replicate n [])
 all_past g from zero le = tt
 all_past g from (suc n) le = ((λ started. omega (arith, le)), all_past g from n le)
 
@@ -169,8 +169,8 @@ module _ (plant : PlantFields) (frame : ℕ) (ops : List Operator) (valid : IsPl
         op_is = o.1;
         row_is = row_is;
         state_is =
-            sym (ap (λ (r : RowFields). state_among ops (opened plant.consts r) r) row_is)
-            ∙ own_state ops (opened plant.consts o.0.row) i o.0 own_names o.1;
+            sym (ap (λ (r : RowFields). state_among ops (opened_state plant.consts r) r) row_is)
+            ∙ own_state ops (opened_state plant.consts o.0.row) i o.0 own_names o.1;
       }
 
   pub resumed_starts : IsStart plant start
@@ -229,7 +229,7 @@ module _ (plant : PlantFields) (frame : ℕ) (ops : List Operator) (valid : IsPl
     }
 
     -- where slices wait from a frame on
-    pub gathers_some : (from : ℕ) (later : List Minislots) → later ≡ map later_of ops → All (λ o. waits_from o ≡ Some from) ops → resliced (gathering_at plant frame slices) from later ≡ gathering_from plant start
+    pub gathers_some : (from : ℕ) (later : List Minislots) → later ≡ map later_of ops → All (λ o. waits_from o ≡ Some from) ops → gathering_after_reslice (gathering_at plant frame slices) from later ≡ gathering_from plant start
     gathers_some from later laters alike = λ k. record {
       channel = plant.consts.channel;
       quotas = map quota_of plant.rows;
@@ -248,7 +248,7 @@ module _ (plant : PlantFields) (frame : ℕ) (ops : List Operator) (valid : IsPl
         record {
           slices_are = subst (λ (n : ℕ). AreSlices plant.consts.channel n later) (sym (length-map plant.rows quota_of)) fit;
           later = All-nil (λ (r : Reslicing). r.from < from);
-          past = All-from_recursion (IsPast (gathering_at plant frame slices) from) (replicate (length plant.rows) []) (all_past (gathering_at plant frame slices) from (length plant.rows) (omega (arith, ahead)));
+          past = All-from_recursion (HasPutNoneFrom (gathering_at plant frame slices) from) (replicate (length plant.rows) []) (all_past (gathering_at plant frame slices) from (length plant.rows) (omega (arith, ahead)));
         }
 
   -- no slices are held that have begun
@@ -304,10 +304,10 @@ module _ {X : Type 0} (see : X → Operator) (plant : PlantFields) (frame : ℕ)
       (All-map (λ (o : Operator). waits_from o ≡ Some at) see lives (subst (λ (n : Option ℕ). All (λ x. waits_from (see x) ≡ n) lives) some alike)))
 
   pub seen_some : (from : Option ℕ) (at : ℕ) (made after : Gathering) (later : List Minislots) → All (λ x. waits_from (see x) ≡ from) lives → from ≡ Some at → made ≡ gathering_at plant frame slices
-      → later ≡ map (λ x. later_of (see x)) lives → after ≡ resliced made at later → after ≡ gathering_from plant (start_with plant frame (map see lives))
+      → later ≡ map (λ x. later_of (see x)) lives → after ≡ gathering_after_reslice made at later → after ≡ gathering_from plant (start_with plant frame (map see lives))
   seen_some from at made after later alike some is laters then =
       then
-      ∙ (ap (λ (g : Gathering). resliced g at later) is
+      ∙ (ap (λ (g : Gathering). gathering_after_reslice g at later) is
       ∙ gathers_some plant frame (map see lives) valid may slices slices_are at later (laters ∙ sym (over_map later_of see lives))
       (All-map (λ (o : Operator). waits_from o ≡ Some at) see lives (subst (λ (n : Option ℕ). All (λ x. waits_from (see x) ≡ n) lives) some alike)))
 

@@ -3,16 +3,16 @@ use Rattle.std.specs.Prelude.{ℕ, List, []}
 use Rattle.slice_scheduler.specs.declared.elements.ElementsFields.{ElementsFields}
 use Rattle.operator_model.specs.State.{Operator}
 use Rattle.operator_model.specs.Replay.{BookView}
-use Rattle.live_core.specs.declared.desk.LiveDesk.{LiveDesk}
+use Rattle.live_core.specs.declared.desk.LiveSlot.{LiveSlot}
 
 -- the book of an operator of which no history is kept
 abbrev pub book_of : Operator → BookView
 book_of o = record { row = o.row; consts = o.consts; state = o.state; history = [] }
 
 -- the desk's book, without a history
-abbrev pub book_at : {D : Type 0} {F : D → Type 0} {m : _} → LiveDesk D F m → BookView
+abbrev pub book_at : {D : Type 0} {F : D → Type 0} {m : _} → LiveSlot D F m → BookView
 book_at desk = book_of desk.live.sound
 
 -- its frames that wait
-abbrev pub waiting_at : {D : Type 0} {F : D → Type 0} {m : _} → LiveDesk D F m → List (ℕ × ElementsFields)
+abbrev pub waiting_at : {D : Type 0} {F : D → Type 0} {m : _} → LiveSlot D F m → List (ℕ × ElementsFields)
 waiting_at desk = desk.waiting.items

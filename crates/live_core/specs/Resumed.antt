@@ -6,7 +6,7 @@ use Rattle.plant.specs.declared.operator_row.RowFields.{RowFields}
 use Rattle.plant.specs.declared.plant.PlantFields.{PlantFields}
 use Rattle.operator_model.specs.declared.share.Share.{Share}
 use Rattle.operator_model.specs.declared.share.NextShare.{NextShare}
-use Rattle.operator_model.specs.State.{OperatorState, Operator, opened}
+use Rattle.operator_model.specs.State.{OperatorState, Operator, opened_state}
 use Rattle.operator_model.specs.Sound.{IsSound}
 use Rattle.map_assembly.specs.declared.slicing.Reslicing.{Reslicing}
 use Rattle.map_assembly.specs.Plan.{AreSlices, IsFirstInvalid}
@@ -40,7 +40,7 @@ waiting_among (o ∷ ops) = waiting_if o.state.next (o ∷ ops)
 abbrev pub start_with : PlantFields → ℕ → List Operator → Start
 start_with plant frame ops = record {
   frame = frame;
-  state = λ row. state_among ops (opened plant.consts row) row;
+  state = λ row. state_among ops (opened_state plant.consts row) row;
   waiting = waiting_among ops;
 }
 

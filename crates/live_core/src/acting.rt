@@ -3,14 +3,14 @@
 ghost use Rattle.std.specs.Prelude.{◌≡◌, ◌≢◌, ◌↔◌, ◌<◌, false, [], ◌++◌, length, slice_get, Some, Err, IfOk, IfErr, OnOk, OnErr};
 ghost use Rattle.operator_model.specs.Frames.{is_tick};
 ghost use Rattle.operator_model.specs.Machine.{own_step, is_spent, IsAllowed};
-ghost use Rattle.run_model.specs.OwnSteps.{under};
+ghost use Rattle.run_model.specs.OwnSteps.{outputs_under};
 ghost use Rattle.run_model.specs.IsStateAfter.{frames_of};
-ghost use Rattle.plant_core.specs.Faults.{act_fault, collect_fault, IsTold};
+ghost use Rattle.plant_core.specs.Faults.{act_fault, collect_fault, IsReported};
 ghost use Rattle.live_core.specs.GoingOn.{went};
 ghost use Rattle.live_core.specs.DeskView.{book_at, waiting_at};
 ghost use Rattle.plant_core.specs.Putting.{FitsOldest, PutsOldest, CollectsOldest};
 
-use crate::desk::LiveDesk;
+use crate::desk::LiveSlot;
 use map_assembly::{Gather, MapBytes};
 use operator_book::BookFault;
 use operator_model::{Action, Output};
@@ -39,7 +39,7 @@ fn is_tick(action: &Action) -> bool
     matches!(action, Action::Tick)
 }
 
-impl LiveDesk {
+impl LiveSlot {
     /// Does an action, and reports what it outputs. Its frame waits. The caller has seen that the
     /// frame numbers are not spent.
     #[tactic(auto, using(crate::proofs::DeskLemmas::frame_waits, crate::proofs::DeskLemmas::none_waits, crate::proofs::DeskLemmas::quiet_waits))]
@@ -82,12 +82,12 @@ impl LiveDesk {
         ensures waiting { OnOk result (waiting_at self.new ≡ waiting_at self.old
             ++ frames_of (own_step self.old.live.sound action).outputs) }
         ensures outputs { OnOk result (outs.new.items ≡ outs.old.items
-            ++ under op (own_step self.old.live.sound action).outputs) }
+            ++ outputs_under op (own_step self.old.live.sound action).outputs) }
         ensures allowed { OnOk result (IsAllowed self.old.live.sound action) }
         ensures outs { OnErr result (outs.new.items ≡ outs.old.items) }
         ensures same_book { OnErr result (book_at self.new ≡ book_at self.old) }
         ensures same_waiting { OnErr result (waiting_at self.new ≡ waiting_at self.old) }
-        ensures fault { IsTold result (act_fault op action (Some (book_at self.old))) }
+        ensures fault { IsReported result (act_fault op action (Some (book_at self.old))) }
     {
         if self.live.is_spent(&action) {
             return Err(CoreFault::Book(BookFault::FramesSpent));
@@ -146,7 +146,7 @@ impl LiveDesk {
         ensures outs { OnErr result (outs.new.items ≡ outs.old.items) }
         ensures same_waiting { OnErr result (waiting_at self.new ≡ waiting_at self.old) }
         ensures same_gather { OnErr result (gather.new ≡ gather.old) }
-        ensures fault { IsTold result (collect_fault op (Some (waiting_at self.old))) }
+        ensures fault { IsReported result (collect_fault op (Some (waiting_at self.old))) }
     {
         if self.waiting.is_empty() {
             return Err(CoreFault::NothingToCollect { op });

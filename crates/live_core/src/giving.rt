@@ -10,13 +10,13 @@ ghost use Rattle.live_core.specs.DeskView.{book_at, waiting_at};
 ghost use Rattle.live_core.specs.GoingOn.{went, GoesOn};
 ghost use Rattle.live_core.specs.LiveView.{live_view};
 
-use crate::desk::LiveDesk;
+use crate::desk::LiveSlot;
 use crate::held::LiveCore;
 use operator_model::SliceRow;
 use plant_core::slices_of;
 use std::alloc::{AllocError, Global};
 
-impl LiveDesk {
+impl LiveSlot {
     /// Takes a row from a later frame on. Takes no memory.
     fn reslice(&mut self, from: u32, row: SliceRow)
         requires { unfit_from (book_at self.old).consts (book_at self.old).state from row ≡ None }
@@ -28,7 +28,7 @@ impl LiveDesk {
 }
 
 /// Gives each operator its row of a slice change. Takes no memory.
-fn give(desks: &mut Vec<LiveDesk>, from: u32, rows: &[SliceRow])
+fn give(desks: &mut Vec<LiveSlot>, from: u32, rows: &[SliceRow])
     requires one_each { length rows.now ≡ vec_len desks.old }
     requires fit { NoneRefuses from (map book_at desks.old.items) rows.now }
     ensures books { HaveTakenAs (λ book row. went book (actions.Reslice from row)) rows.now

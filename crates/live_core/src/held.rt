@@ -6,7 +6,7 @@ ghost use Rattle.plant_core.specs.Reachable.{core_of};
 ghost use Rattle.live_core.specs.DeskView.{book_at, waiting_at};
 ghost use Rattle.live_core.specs.After.{IsReachable};
 
-use crate::desk::LiveDesk;
+use crate::desk::LiveSlot;
 use map_assembly::Gather;
 use plant_core::Routes;
 
@@ -22,7 +22,7 @@ use plant_core::Routes;
 /// given for few frames ahead.
 pub struct LiveCore {
     pub(crate) routes: Routes,
-    pub(crate) desks: Vec<LiveDesk>,
+    pub(crate) desks: Vec<LiveSlot>,
     pub(crate) gather: Gather,
     ghost let_go: { has_begun gather ≡ false },
     ghost reached: { ∥ IsReachable (core_of routes (map book_at desks.items) (map waiting_at desks.items) gather) ∥₁ },

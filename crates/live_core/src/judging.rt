@@ -4,20 +4,20 @@ ghost use Rattle.std.specs.Prelude.{◌≡◌, [], length, vec_len, option_map, 
 ghost use Rattle.operator_model.specs.Machine.{unfit_from};
 ghost use Rattle.run_model.specs.Steps.{Reslices};
 ghost use Rattle.plant_core.specs.declared.core_fault.CoreFault.TheVariants as faults;
-ghost use Rattle.plant_core.specs.Faults.{IsTold};
+ghost use Rattle.plant_core.specs.Faults.{IsReported};
 ghost use Rattle.plant_core.specs.Reslicing.{is_unfit, least_unfit, row_fault, reslice_fault};
 ghost use Rattle.live_core.specs.DeskView.{book_at};
 ghost use Rattle.live_core.specs.GoingOn.{GoesOn};
 ghost use Rattle.live_core.specs.LiveView.{live_view};
 
-use crate::desk::LiveDesk;
+use crate::desk::LiveSlot;
 use crate::held::LiveCore;
 use operator_model::{SliceRow, Unfit};
 use plant::Op;
 use plant_core::{CoreFault, ResliceFault, Unfits, first_fault, is_same};
 use std::alloc::Global;
 
-impl LiveDesk {
+impl LiveSlot {
     /// Returns whether the machine refuses a row from a frame on with this fault. Takes no memory.
     fn refuses(&self, from: u32, row: SliceRow, unfit: Unfit) -> bool
         ensures { result ≡ is_unfit unfit
@@ -78,7 +78,7 @@ impl LiveCore {
     ) -> Result<(), CoreFault>
         ensures ok { OnOk result (GoesOn (Reslices from rows.now) (live_view self.old) (live_view self.new) []) }
         ensures err { OnErr result (live_view self.new ≡ live_view self.old) }
-        ensures fault { IsTold result (option_map
+        ensures fault { IsReported result (option_map
             (λ fault. faults.Reslice fault) (reslice_fault from (live_view self.old).books rows.now)) }
     {
         if let Some(fault) = self.reslice_fault(from, rows) {

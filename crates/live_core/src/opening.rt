@@ -2,7 +2,7 @@
 
 ghost use Rattle.std.specs.Prelude.{◌≡◌, ◌≢◌, ◌↔◌, [], map, length, All, Err, IfOk};
 ghost use Rattle.plant.specs.Row.{IsRowOf};
-ghost use Rattle.operator_model.specs.State.{operator, opened};
+ghost use Rattle.operator_model.specs.State.{operator, opened_state};
 ghost use Rattle.run_model.specs.Opened.{opened_core};
 ghost use Rattle.plant_core.specs.declared.core_fault.CoreOpenFault.{CoreOpenFault};
 ghost use Rattle.plant_core.specs.declared.core_fault.CoreOpenFault.TheVariants.{RankingsMismatch};
@@ -12,7 +12,7 @@ ghost use Rattle.live_core.specs.LiveView.{live_view};
 
 use crate::held::LiveCore;
 use grant_policy::Ranking;
-use operator_book::Live;
+use operator_book::Machine;
 use plant::{Consts, OperatorRow, Plant};
 use plant_core::{CoreOpenFault, follow};
 use std::alloc::{AllocError, Global};
@@ -23,15 +23,15 @@ fn opened_lives(
     rows: &[OperatorRow],
     consts: &Consts,
     rankings: Vec<Ranking>,
-) -> Result<Vec<Live>, AllocError>
+) -> Result<Vec<Machine>, AllocError>
     requires valid { All (IsRowOf consts.now) rows.now }
     requires one_each { length rankings.items ≡ length rows.now }
     ensures { IfOk result (λ lives. map sound_of lives.items
-        ≡ map (λ row. operator consts.now row (opened consts.now row)) rows.now) }
+        ≡ map (λ row. operator consts.now row (opened_state consts.now row)) rows.now) }
 {
     let mut lives = Vec::with_capacity(alloc, rows.len())?;
     for ranking in rankings {
-        match Live::open(alloc, &rows[lives.len()], consts, ranking) {
+        match Machine::open(alloc, &rows[lives.len()], consts, ranking) {
             Ok(live) => lives.push(live)?,
             Err(_) => return Err(AllocError),
         }

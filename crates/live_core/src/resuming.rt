@@ -8,15 +8,15 @@ ghost use Rattle.map_assembly.specs.Gathering.{IsGathering};
 ghost use Rattle.run_model.specs.Opened.{gathering_from, started_core};
 ghost use Rattle.live_core.specs.DeskView.{book_of, book_at, waiting_at};
 ghost use Rattle.live_core.specs.After.{IsAfterFrom};
-ghost use Rattle.live_core.specs.LiveOperator.{sound_of, row_of, slice_at, later_at, book_by, IsSoundAt, Shares, StandsAt, WaitsFrom, IsOdd};
+ghost use Rattle.live_core.specs.LiveOperator.{sound_of, row_of, current_slice, later_at, book_by, IsSoundAt, Shares, IsAtFrame, WaitsFrom, IsOdd};
 ghost use Rattle.live_core.specs.LiveView.{live_view};
 ghost use Rattle.live_core.specs.Resumed.{later_of, waits_from, first_from, slices_now, start_with, MayResume, IsOddFault, IsSliceFault, IsResumeFault};
 
-use crate::desk::LiveDesk;
+use crate::desk::LiveSlot;
 use crate::held::LiveCore;
 use crate::resume_fault::ResumeFault;
 use map_assembly::{Gather, first_invalid_slice};
-use operator_book::Live;
+use operator_book::Machine;
 use plant::{Op, Plant};
 use plant_core::Routes;
 use slice_scheduler::Slice;
@@ -24,14 +24,14 @@ use std::alloc::{AllocError, AllocFailed, Global};
 use std::collections::VecDeque;
 
 /// Returns whether an operator is at this frame.
-fn is_at(live: &Live, frame: u32) -> bool
-    ensures { IsTrue result ↔ StandsAt frame live.now }
+fn is_at(live: &Machine, frame: u32) -> bool
+    ensures { IsTrue result ↔ IsAtFrame frame live.now }
 {
     live.frame() == frame
 }
 
 /// Returns the frame from which an operator's next slice waits.
-fn from_of(live: &Live) -> Option<u32>
+fn from_of(live: &Machine) -> Option<u32>
     ensures { result ≡ waits_from (sound_of live.now) }
 {
     match live.next() {
@@ -52,14 +52,14 @@ fn is_same(a: Option<u32>, b: Option<u32>) -> bool
 }
 
 /// Returns whether an operator's next slice waits from this frame, or none waits.
-fn does_wait(live: &Live, from: Option<u32>) -> bool
+fn does_wait(live: &Machine, from: Option<u32>) -> bool
     ensures { IsTrue result ↔ WaitsFrom from live.now }
 {
     is_same(from_of(live), from)
 }
 
 /// Returns an operator's slice once what waits has taken force.
-fn later_of(live: &Live) -> Slice
+fn later_of(live: &Machine) -> Slice
     ensures { result ≡ later_of (sound_of live.now) }
 {
     match live.next() {
@@ -69,8 +69,8 @@ fn later_of(live: &Live) -> Slice
 }
 
 /// Returns the slice in force of each operator.
-fn slices_of(alloc: Global, lives: &[Live]) -> Result<Vec<Slice>, AllocError>
-    ensures { IfOk result (λ slices. slices.items ≡ map slice_at lives.now) }
+fn slices_of(alloc: Global, lives: &[Machine]) -> Result<Vec<Slice>, AllocError>
+    ensures { IfOk result (λ slices. slices.items ≡ map current_slice lives.now) }
 {
     let mut slices = Vec::with_capacity(alloc, lives.len())?;
     for live in lives {
@@ -80,7 +80,7 @@ fn slices_of(alloc: Global, lives: &[Live]) -> Result<Vec<Slice>, AllocError>
 }
 
 /// Returns the slice of each operator once what waits has taken force.
-fn later_slices(alloc: Global, lives: &[Live]) -> Result<Vec<Slice>, AllocError>
+fn later_slices(alloc: Global, lives: &[Machine]) -> Result<Vec<Slice>, AllocError>
     ensures { IfOk result (λ slices. slices.items ≡ map later_at lives.now) }
 {
     let mut slices = Vec::with_capacity(alloc, lives.len())?;
@@ -91,13 +91,13 @@ fn later_slices(alloc: Global, lives: &[Live]) -> Result<Vec<Slice>, AllocError>
 }
 
 /// Returns a desk for each operator, at which no frame waits.
-fn desks_of(alloc: Global, lives: Vec<Live>) -> Result<Vec<LiveDesk>, AllocError>
+fn desks_of(alloc: Global, lives: Vec<Machine>) -> Result<Vec<LiveSlot>, AllocError>
     ensures books { IfOk result (λ desks. map book_at desks.items ≡ map book_by lives.items) }
     ensures queues { IfOk result (λ desks. map waiting_at desks.items ≡ replicate (length lives.items) []) }
 {
     let mut desks = Vec::with_capacity(alloc, lives.len())?;
     for live in lives {
-        desks.push(LiveDesk {
+        desks.push(LiveSlot {
             live,
             waiting: VecDeque::new(alloc),
         })?;
@@ -106,9 +106,9 @@ fn desks_of(alloc: Global, lives: Vec<Live>) -> Result<Vec<LiveDesk>, AllocError
 }
 
 /// Checks that an operator goes along with the others: it is at this frame, and its slice waits from that one on.
-fn goes_along(live: &Live, op: Op, frame: u32, from: Option<u32>) -> Result<(), ResumeFault>
+fn goes_along(live: &Machine, op: Op, frame: u32, from: Option<u32>) -> Result<(), ResumeFault>
     ensures sound { OnOk result (IsSoundAt live.now) }
-    ensures frame { OnOk result (StandsAt frame live.now) }
+    ensures frame { OnOk result (IsAtFrame frame live.now) }
     ensures alike { OnOk result (WaitsFrom from live.now) }
     ensures fault { IfErr result (IsOdd frame from op live.now) }
 {
@@ -124,9 +124,9 @@ fn goes_along(live: &Live, op: Op, frame: u32, from: Option<u32>) -> Result<(), 
 }
 
 /// Checks that all operators go along with one another.
-fn go_together(lives: &[Live], frame: u32, from: Option<u32>) -> Result<(), ResumeFault>
+fn go_together(lives: &[Machine], frame: u32, from: Option<u32>) -> Result<(), ResumeFault>
     ensures sound { OnOk result (All IsSoundAt lives.now) }
-    ensures frames { OnOk result (All (StandsAt frame) lives.now) }
+    ensures frames { OnOk result (All (IsAtFrame frame) lives.now) }
     ensures alike { OnOk result (All (WaitsFrom from) lives.now) }
     ensures fault { IfErr result (IsOddFault frame from (map sound_of lives.now)) }
 {
@@ -137,7 +137,7 @@ fn go_together(lives: &[Live], frame: u32, from: Option<u32>) -> Result<(), Resu
 }
 
 /// Returns the frame from which the first operator's slice waits.
-fn first_from(lives: &[Live]) -> Option<u32>
+fn first_from(lives: &[Machine]) -> Option<u32>
     ensures { result ≡ first_from (map sound_of lives.now) }
 {
     match lives.first() {
@@ -147,8 +147,8 @@ fn first_from(lives: &[Live]) -> Option<u32>
 }
 
 /// Returns the slices in force, where they are valid.
-fn valid_slices(alloc: Global, plant: &Plant, lives: &[Live]) -> Result<Vec<Slice>, ResumeFault>
-    ensures value { IfOk result (λ slices. slices.items ≡ map slice_at lives.now) }
+fn valid_slices(alloc: Global, plant: &Plant, lives: &[Machine]) -> Result<Vec<Slice>, ResumeFault>
+    ensures value { IfOk result (λ slices. slices.items ≡ map current_slice lives.now) }
     ensures valid { IfOk result (λ slices. AreSlices plant.now.consts.channel (length lives.now) slices.items) }
     ensures fault { IfErr result (IsSliceFault plant.now (map sound_of lives.now)) }
 {
@@ -160,7 +160,7 @@ fn valid_slices(alloc: Global, plant: &Plant, lives: &[Live]) -> Result<Vec<Slic
 }
 
 /// Returns the slices once what waits has taken force, where they are valid.
-fn valid_later(alloc: Global, plant: &Plant, lives: &[Live]) -> Result<Vec<Slice>, ResumeFault>
+fn valid_later(alloc: Global, plant: &Plant, lives: &[Machine]) -> Result<Vec<Slice>, ResumeFault>
     requires { AreSlices plant.now.consts.channel (length (map sound_of lives.now))
         (slices_now (map sound_of lives.now)) }
     ensures value { IfOk result (λ slices. slices.items ≡ map later_at lives.now) }
@@ -181,7 +181,7 @@ fn gather_of(
     plant: &Plant,
     frame: u32,
     from: Option<u32>,
-    lives: &[Live],
+    lives: &[Machine],
 ) -> Result<Gather, ResumeFault>
     requires may { MayResume plant.now frame (map sound_of lives.now) }
     requires alike { All (WaitsFrom from) lives.now }
@@ -223,7 +223,7 @@ impl LiveCore {
         alloc: Global,
         plant: Plant,
         frame: u32,
-        lives: Vec<Live>,
+        lives: Vec<Machine>,
     ) -> Result<LiveCore, ResumeFault>
         requires rows { map row_of lives.items ≡ plant.rows }
         requires consts { All (Shares plant.consts) lives.items }

@@ -5,7 +5,7 @@ ghost use Rattle.run_model.specs.declared.step.Out.{Out};
 ghost use Rattle.run_model.specs.declared.step.Step.{Step};
 ghost use Rattle.run_model.specs.declared.step.Step.TheVariants as steps;
 ghost use Rattle.run_model.specs.Steps.{Acts, Collects, Steps};
-ghost use Rattle.plant_core.specs.Faults.{act_fault, collect_fault, step_fault, IsTold};
+ghost use Rattle.plant_core.specs.Faults.{act_fault, collect_fault, step_fault, IsReported};
 ghost use Rattle.plant_core.specs.Reachable.{IsOfAStep};
 ghost use Rattle.live_core.specs.GoingOn.{GoesOn};
 ghost use Rattle.live_core.specs.After.{LeadsOn};
@@ -34,7 +34,7 @@ impl LiveCore {
             × GoesOn (Acts op action) (live_view self.old) (live_view self.new) now) }
         ensures outs { OnErr result (outs.new.items ≡ outs.old.items) }
         ensures err { OnErr result (live_view self.new ≡ live_view self.old) }
-        ensures fault { IsTold result (act_fault op action (slice_get (live_view self.old).books op)) }
+        ensures fault { IsReported result (act_fault op action (slice_get (live_view self.old).books op)) }
     {
         // For the proof: what always holds of `self`.
         self.always();
@@ -57,7 +57,7 @@ impl LiveCore {
             × GoesOn (Steps (steps.Arrive modem heard)) (live_view self.old) (live_view self.new) now) }
         ensures outs { OnErr result (outs.new.items ≡ outs.old.items) }
         ensures err { OnErr result (live_view self.new ≡ live_view self.old) }
-        ensures fault { IsTold result (step_fault (live_view self.old) (steps.Arrive modem heard)) }
+        ensures fault { IsReported result (step_fault (live_view self.old) (steps.Arrive modem heard)) }
     {
         match self.routes.place_of(modem) {
             None => Err(CoreFault::UnknownModem { modem }),
@@ -73,7 +73,7 @@ impl LiveCore {
             × GoesOn (Collects op) (live_view self.old) (live_view self.new) now) }
         ensures outs { OnErr result (outs.new.items ≡ outs.old.items) }
         ensures err { OnErr result (live_view self.new ≡ live_view self.old) }
-        ensures fault { IsTold result (collect_fault op (slice_get (live_view self.old).queues op)) }
+        ensures fault { IsReported result (collect_fault op (slice_get (live_view self.old).queues op)) }
     {
         // For the proof: what always holds of `self`.
         self.always();
@@ -105,7 +105,7 @@ impl LiveCore {
             × GoesOn (Steps step) (live_view self.old) (live_view self.new) now) }
         ensures outs { OnErr result (outs.new.items ≡ outs.old.items) }
         ensures err { OnErr result (live_view self.new ≡ live_view self.old) }
-        ensures fault { IsTold result (step_fault (live_view self.old) step) }
+        ensures fault { IsReported result (step_fault (live_view self.old) step) }
     {
         match step {
             Step::Arrive { modem, heard } => self.arrive(alloc, modem, heard, outs),
@@ -127,7 +127,7 @@ impl LiveCore {
         ensures reached { OnOk result (LeadsOn (live_view self.old) (step ∷ []) outs.new.items (live_view self.new)) }
         ensures err { OnErr result (live_view self.new ≡ live_view self.old) }
         ensures outs { OnErr result (outs.new.items ≡ []) }
-        ensures fault { IsTold result (step_fault (live_view self.old) step) }
+        ensures fault { IsReported result (step_fault (live_view self.old) step) }
     {
         // For the proof: what always holds of `self`.
         self.always();
@@ -141,7 +141,7 @@ impl LiveCore {
         ensures ok { IfOk result (λ outs. GoesOn (Steps step) (live_view self.old) (live_view self.new) outs.items) }
         ensures reached { IfOk result (λ outs. LeadsOn (live_view self.old) (step ∷ []) outs.items (live_view self.new)) }
         ensures err { OnErr result (live_view self.new ≡ live_view self.old) }
-        ensures fault { IsTold result (step_fault (live_view self.old) step) }
+        ensures fault { IsReported result (step_fault (live_view self.old) step) }
     {
         // For the proof: what always holds of `self`.
         self.always();

@@ -7,7 +7,7 @@ use Rattle.map_assembly.specs.declared.view.MapFault.{MapFault}
 use Rattle.map_assembly.specs.declared.view.MapFault.TheVariants.{Short, Count, Backward, NoNull, AfterNull, NoMemory}
 use Rattle.map_assembly.specs.Element.{is_null}
 use Rattle.map_assembly.specs.Reading.{is_pending, AreAscending, least_behind, GoesBackward, IsNoGrant, FollowsNull, ElementsFault}
-use Rattle.map_assembly.specs.Judging.{judged, judged_behind}
+use Rattle.map_assembly.specs.Judging.{count_before_null, judged_behind}
 
 -- ---- a fault that is found is there
 
@@ -116,18 +116,18 @@ at_null at least e es (AfterNull k) p q h = (
 )
 at_null at least e es NoMemory p q h = h
 
-fault_from : (at least : ℕ) (es : List MapElement) (f : MapFault) → judged at least es ≡ Err f → FaultFrom at least es f
-fault_from at least [] f h = subst (λ (g : MapFault). FaultFrom at least [] g) (same_fault NoNull f (judged at least []) refl h) tt
+fault_from : (at least : ℕ) (es : List MapElement) (f : MapFault) → count_before_null at least es ≡ Err f → FaultFrom at least es f
+fault_from at least [] f h = subst (λ (g : MapFault). FaultFrom at least [] g) (same_fault NoNull f (count_before_null at least []) refl h) tt
 fault_from at least (e ∷ es) f h = by (ltb e.offset least) (is_null e) refl refl (λ k. fault_from (at + 1) (e.offset + 1) es f k)
   where
-    by : (t u : Bool) → ltb e.offset least ≡ t → is_null e ≡ u → (judged (at + 1) (e.offset + 1) es ≡ Err f → FaultFrom (at + 1) (e.offset + 1) es f) → FaultFrom at least (e ∷ es) f
+    by : (t u : Bool) → ltb e.offset least ≡ t → is_null e ≡ u → (count_before_null (at + 1) (e.offset + 1) es ≡ Err f → FaultFrom (at + 1) (e.offset + 1) es f) → FaultFrom at least (e ∷ es) f
     by true u p q more =
-        subst (λ (g : MapFault). FaultFrom at least (e ∷ es) g) (same_fault (Backward at) f (judged at least (e ∷ es)) (rw p) h)
+        subst (λ (g : MapFault). FaultFrom at least (e ∷ es) g) (same_fault (Backward at) f (count_before_null at least (e ∷ es)) (rw p) h)
         (0, omega arith, record { before = []; element = e; after = es; split = refl; place = refl; ascending = tt; backward = ltb-true e.offset least p })
     by false true p q more = at_null at least e es f (ltb-false e.offset least p) q (fault_behind at e.offset (at + 1) es f (rw (p, q) at h))
     by false false p q more = more_from at least e es f (ltb-false e.offset least p) q (more (rw (p, q) at h))
 
-pub judged_fault : (es : List MapElement) (f : MapFault) → judged 0 0 es ≡ Err f → ElementsFault es f
+pub judged_fault : (es : List MapElement) (f : MapFault) → count_before_null 0 0 es ≡ Err f → ElementsFault es f
 judged_fault es f h = by f (fault_from 0 0 es f h)
   where
     by : (f : MapFault) → FaultFrom 0 0 es f → ElementsFault es f
@@ -141,12 +141,12 @@ judged_fault es f h = by f (fault_from 0 0 es f h)
 -- ---- a fault that is there is found
 
 backward_found : (at least : ℕ) (before : List MapElement) (e : MapElement) (after : List MapElement) → AreAscending least before → e.offset < least_behind least before
-    → judged at least (before ++ e ∷ after) ≡ Err (Backward (at + length before))
+    → count_before_null at least (before ++ e ∷ after) ≡ Err (Backward (at + length before))
 backward_found at least [] e after asc lt = rw (lt-ltb e.offset least lt) (ap (λ (n : ℕ). Err (Backward n)) (omega arith))
 backward_found at least (x ∷ before) e after asc lt =
     rw (le-ltb x.offset least asc.0, asc.1) (backward_found (at + 1) (x.offset + 1) before e after asc.2 lt ∙ ap (λ (n : ℕ). Err (Backward n)) (omega arith))
 
-ascending_found : (at least : ℕ) (es : List MapElement) → AreAscending least es → judged at least es ≡ Err NoNull
+ascending_found : (at least : ℕ) (es : List MapElement) → AreAscending least es → count_before_null at least es ≡ Err NoNull
 ascending_found at least [] asc = refl
 ascending_found at least (x ∷ es) asc = rw (le-ltb x.offset least asc.0, asc.1) (ascending_found (at + 1) (x.offset + 1) es asc.2)
 
@@ -157,7 +157,7 @@ no_grant_found spans end at (x ∷ before) e after grants not_one =
     rw grants.0 (no_grant_found spans end (at + 1) before e after grants.1 not_one ∙ ap (λ (n : ℕ). Err (AfterNull n)) (omega arith))
 
 follows_found : (at least : ℕ) (before : List MapElement) (null : MapElement) (behind : List MapElement) (j : ℕ) → AreAscending least before → least_behind least before ≤ null.offset → is_null null ≡ true → IsNoGrant null.offset behind j
-    → judged at least (before ++ null ∷ behind) ≡ Err (AfterNull (at + (length before + 1 + j)))
+    → count_before_null at least (before ++ null ∷ behind) ≡ Err (AfterNull (at + (length before + 1 + j)))
 follows_found at least [] null behind j asc le is wrong =
     rw (le-ltb null.offset least le, is)
     (ap (judged_behind at null.offset (at + 1)) wrong.split ∙ (no_grant_found at null.offset (at + 1) wrong.before wrong.element wrong.after wrong.grants wrong.no_grant
@@ -166,10 +166,10 @@ follows_found at least (x ∷ before) null behind j asc le is wrong =
     rw (le-ltb x.offset least asc.0, asc.1)
     (follows_found (at + 1) (x.offset + 1) before null behind j asc.2 le is wrong ∙ ap (λ (n : ℕ). Err (AfterNull n)) (omega arith))
 
-pub fault_judged : (es : List MapElement) (f : MapFault) → ElementsFault es f → judged 0 0 es ≡ Err f
+pub fault_judged : (es : List MapElement) (f : MapFault) → ElementsFault es f → count_before_null 0 0 es ≡ Err f
 fault_judged es Short h = absurd h
 fault_judged es Count h = absurd h
-fault_judged es (Backward n) h = ap (judged 0 0) h.split ∙ (backward_found 0 0 h.before h.element h.after h.ascending h.backward ∙ ap (λ (k : ℕ). Err (Backward k)) (omega (arith, h.place)))
+fault_judged es (Backward n) h = ap (count_before_null 0 0) h.split ∙ (backward_found 0 0 h.before h.element h.after h.ascending h.backward ∙ ap (λ (k : ℕ). Err (Backward k)) (omega (arith, h.place)))
 fault_judged es NoNull h = ascending_found 0 0 es h
-fault_judged es (AfterNull n) h = ap (judged 0 0) h.split ∙ (follows_found 0 0 h.before h.null h.behind h.place h.ascending h.ascends h.is_the_null h.no_grant ∙ ap (λ (k : ℕ). Err (AfterNull k)) (omega (arith, h.behind_them)))
+fault_judged es (AfterNull n) h = ap (count_before_null 0 0) h.split ∙ (follows_found 0 0 h.before h.null h.behind h.place h.ascending h.ascends h.is_the_null h.no_grant ∙ ap (λ (k : ℕ). Err (AfterNull k)) (omega (arith, h.behind_them)))
 fault_judged es NoMemory h = absurd h

@@ -6,7 +6,7 @@ use Rattle.std.proofs.lemmas.List.Folds.{list_all-append}
 use Rattle.std.proofs.lemmas.Bool.{lt-ltb, and_parts, and_from, both_ways, eq-eqb, ne_eqb, cases_eq, cases_Bool}
 use Rattle.slice_scheduler.specs.Minislots.{Minislots}
 use Rattle.slice_scheduler.specs.declared.elements.ElementsFields.{ElementsFields}
-use Rattle.map_assembly.specs.Sorted.{placed, sorted_by, numbers_from, order_of}
+use Rattle.map_assembly.specs.Sorted.{insert_by_key, sorted_by, numbers_from, order_of}
 use Rattle.map_assembly.specs.Map.{in_order}
 use Rattle.map_assembly.specs.Gathering.{queue_of, with_part, is_whole, fronts, front_or, part_at}
 use Rattle.map_assembly.proofs.OrderLemmas.{sorted-map, sorted-all}
@@ -111,16 +111,16 @@ all_places (x ∷ xs) d =
     (ap (λ (ks : List ℕ). map (λ (k : ℕ). get_or (x ∷ xs) k d) ks) (numbers-suc 0 (length xs))
     ∙ (map-map (λ (k : ℕ). get_or (x ∷ xs) k d) suc (numbers_from 0 (length xs)) ∙ all_places xs d))
 
-placed-agree : (f g : ℕ → ℕ) (x : ℕ) (ys : List ℕ) → f x ≡ g x → AllByRecursion (λ y. f y ≡ g y) ys → placed f x ys ≡ placed g x ys
+placed-agree : (f g : ℕ → ℕ) (x : ℕ) (ys : List ℕ) → f x ≡ g x → AllByRecursion (λ y. f y ≡ g y) ys → insert_by_key f x ys ≡ insert_by_key g x ys
 placed-agree f g x [] e h = refl
 placed-agree f g x (y ∷ ys) e h =
-    ap (λ (b : Bool). cond b (x ∷ y ∷ ys) (y ∷ placed f x ys)) (ap (λ (n : ℕ). leb n (f y)) e ∙ ap (λ (n : ℕ). leb (g x) n) h.0)
+    ap (λ (b : Bool). cond b (x ∷ y ∷ ys) (y ∷ insert_by_key f x ys)) (ap (λ (n : ℕ). leb n (f y)) e ∙ ap (λ (n : ℕ). leb (g x) n) h.0)
     ∙ ap (λ (zs : List ℕ). cond (leb (g x) (g y)) (x ∷ y ∷ ys) (y ∷ zs)) (placed-agree f g x ys e h.1)
 
 sorted-agree : (f g : ℕ → ℕ) (xs : List ℕ) → AllByRecursion (λ y. f y ≡ g y) xs → sorted_by f xs ≡ sorted_by g xs
 sorted-agree f g [] h = refl
 sorted-agree f g (x ∷ xs) h =
-    placed-agree f g x (sorted_by f xs) h.0 (sorted-all (λ (y : ℕ). f y ≡ g y) f xs h.1) ∙ ap (λ (zs : List ℕ). placed g x zs) (sorted-agree f g xs h.1)
+    placed-agree f g x (sorted_by f xs) h.0 (sorted-all (λ (y : ℕ). f y ≡ g y) f xs h.1) ∙ ap (λ (zs : List ℕ). insert_by_key g x zs) (sorted-agree f g xs h.1)
 
 agree_below : (f g : ℕ → ℕ) (n count m : ℕ) → n + count ≤ m → ((k : ℕ) → k < m → f k ≡ g k) → AllByRecursion (λ y. f y ≡ g y) (numbers_from n count)
 agree_below f g n zero m le h = tt

@@ -7,7 +7,7 @@ use Rattle.std.proofs.lemmas.List.Elements.{recursion_from_All, All-from_recursi
 use Rattle.std.proofs.lemmas.Nat.{mod_below}
 use Rattle.std.proofs.lemmas.Bool.{cases_lt, cases_eq, lt-ltb, le-ltb, eq-eqb, ne_eqb, or_cases, eqb-true, leb-true, and_parts, and_right}
 use Rattle.slice_scheduler.specs.Minislots.{Minislots}
-use Rattle.slice_scheduler.specs.Iuc.{number_of}
+use Rattle.slice_scheduler.specs.Iuc.{iuc_number}
 use Rattle.slice_scheduler.specs.declared.span.Iuc.{Iuc}
 use Rattle.slice_scheduler.specs.declared.span.Iuc.TheVariants.{Request, Short, Long}
 use Rattle.slice_scheduler.specs.declared.span.Span.{Span}
@@ -20,7 +20,7 @@ use Rattle.map_assembly.specs.declared.view.MapHeader.{MapHeader}
 use Rattle.map_assembly.specs.declared.view.MapSpan.{MapSpan}
 use Rattle.map_assembly.specs.Element.{is_null, FitsElement, spelled_elements, elements_in}
 use Rattle.map_assembly.specs.Reading.{element_of_span, null_at, is_pending, ElementsSay, MapReads}
-use Rattle.map_assembly.specs.Map.{idle_span, head_span, map_span, filled, map_spans, map_pending, map_header, frame_start, in_order, map_of, pending_at, elements_of_map, frame_elements}
+use Rattle.map_assembly.specs.Map.{idle_span, head_span, map_span, spans_with_idle, map_spans, map_pending, map_header, frame_start, in_order, map_of, pending_at, elements_of_map, frame_elements}
 use Rattle.map_assembly.specs.Writing.{spelled_map}
 use Rattle.map_assembly.specs.Part.{is_within, is_mine, ArePartsOf}
 use Rattle.map_assembly.specs.Tiled.{touches, IsOwn, GivesNoMinislotTwice, part_of, own_part}
@@ -93,7 +93,7 @@ small_sid quota sid is mine = by (or_cases (eqb sid 0) (is_within quota.sids sid
     by (inl e) = omega (arith, eqb-true sid 0 e)
     by (inr w) = omega (arith, leb-true sid quota.sids.last (and_parts (leb quota.sids.first sid) (leb sid quota.sids.last) w).1, is.high)
 
-small_iuc : (iuc : Iuc) → number_of iuc < 7
+small_iuc : (iuc : Iuc) → iuc_number iuc < 7
 small_iuc Request = omega arith
 small_iuc Short = omega arith
 small_iuc Long = omega arith
@@ -151,14 +151,14 @@ length-head head = by (cases_eq head 0)
     by (inl e) = rw (eq-eqb head 0 e) (omega arith)
     by (inr ne) = rw (ne_eqb head 0 ne) (omega arith)
 
-length-filled : (from end : ℕ) (parts : List ElementsFields) → length (filled from end parts) + length (map_pending parts) ≤ 1 + sum_by size_of parts
+length-filled : (from end : ℕ) (parts : List ElementsFields) → length (spans_with_idle from end parts) + length (map_pending parts) ≤ 1 + sum_by size_of parts
 length-filled from end [] = omega (arith, length-idle from end)
 length-filled from end (p ∷ parts) =
     omega (
       arith,
       length-idle from p.slice.start,
-      length-append (idle_span from p.slice.start) (map map_span p.spans ++ filled (p.slice.start + p.slice.length) end parts),
-      length-append (map map_span p.spans) (filled (p.slice.start + p.slice.length) end parts),
+      length-append (idle_span from p.slice.start) (map map_span p.spans ++ spans_with_idle (p.slice.start + p.slice.length) end parts),
+      length-append (map map_span p.spans) (spans_with_idle (p.slice.start + p.slice.length) end parts),
       length-map p.spans map_span,
       length-append p.pending (map_pending parts),
       sum_by-cons size_of p parts,
@@ -179,7 +179,7 @@ few_elements : (channel : Channel) (quotas : List Quota) (slices : List Minislot
 few_elements channel quotas slices parts are h =
     omega (
       arith,
-      length-append (head_span channel.head) (filled channel.head channel.frame_minislots (in_order parts)),
+      length-append (head_span channel.head) (spans_with_idle channel.head channel.frame_minislots (in_order parts)),
       length-head channel.head,
       length-filled channel.head channel.frame_minislots (in_order parts),
       sum_by-sorted size_of (λ (p : ElementsFields). p.slice.start) parts,

@@ -18,7 +18,7 @@ use Rattle.map_assembly.specs.declared.quota.Quota.{Quota}
 use Rattle.map_assembly.specs.declared.slicing.Reslicing.{Reslicing}
 use Rattle.map_assembly.specs.Part.{quota_of}
 use Rattle.map_assembly.specs.Plan.{IsQuota, AreQuotas, IsInFrame, AreSlices}
-use Rattle.map_assembly.specs.Gathering.{Gathering, gathering_at, slices_or, slices_at, is_whole, IsPartAt, AreQueued, IsGathering, IsPast, MayReslice, resliced}
+use Rattle.map_assembly.specs.Gathering.{Gathering, gathering_at, slices_or, slices_at, is_whole, IsPartAt, AreQueued, IsGathering, HasPutNoneFrom, MayReslice, gathering_after_reslice}
 use Rattle.map_assembly.proofs.OrderLemmas.{PairsByRecursion, pairs_from_AllPairs}
 
 -- ---- pairs and sums over a map
@@ -124,7 +124,7 @@ queued-agree f g quota n (q ∷ queue) agree h = (
   queued-agree f g quota (n + 1) queue (λ m le lt. agree m (omega arith) (omega arith)) h.1,
 )
 
-queue_past : (g : Gathering) (from : ℕ) (queue : List ElementsFields) (m : ℕ) → g.channel.first_frame ≤ g.next → IsPast g from queue → g.next ≤ m → m < g.next + length queue → m < from
+queue_past : (g : Gathering) (from : ℕ) (queue : List ElementsFields) (m : ℕ) → g.channel.first_frame ≤ g.next → HasPutNoneFrom g from queue → g.next ≤ m → m < g.next + length queue → m < from
 queue_past g from queue m started past le lt = let p : g.next + length queue ≤ from = past (omega arith) in omega arith
 
 all_at_queue : (P : List ElementsFields → Type 0) (queues : List (List ElementsFields)) (k : ℕ) (queue : List ElementsFields) → AllByRecursion P queues → slice_get queues k ≡ Some queue → P queue
@@ -132,7 +132,7 @@ all_at_queue P [] k queue h e = absurd (cc)
 all_at_queue P (q ∷ queues) zero queue h e = subst P (same_Some q queue e) h.0
 all_at_queue P (q ∷ queues) (suc k) queue h e = all_at_queue P queues k queue h.1 e
 
-resliced_is : (g : Gathering) (from : ℕ) (slices : List Minislots) → IsGathering g → MayReslice g from slices → IsGathering (resliced g from slices)
+resliced_is : (g : Gathering) (from : ℕ) (slices : List Minislots) → IsGathering g → MayReslice g from slices → IsGathering (gathering_after_reslice g from slices)
 resliced_is g from slices is may =
     let r : Reslicing = record { from = from; slicing = slices } in
     record {
@@ -144,7 +144,7 @@ resliced_is g from slices is may =
       waiting = is.waiting;
       started = is.started;
       queued = λ k quota queue e f.
-          let past : IsPast g from queue = all_at_queue (IsPast g from) g.queues k queue (recursion_from_All (IsPast g from) g.queues may.past) f in
+          let past : HasPutNoneFrom g from queue = all_at_queue (HasPutNoneFrom g from) g.queues k queue (recursion_from_All (HasPutNoneFrom g from) g.queues may.past) f in
           queued-agree (λ (n : ℕ). slice_get (slices_at g.slices g.reslicings n) k) (λ (n : ℕ). slice_get (slices_at g.slices (g.reslicings ++ r ∷ []) n) k) quota g.next queue
           (λ m le lt. ap (λ (ms : List Minislots). slice_get ms k) (sym (slices_before g.slices g.reslicings r m (queue_past g from queue m is.started past le lt))))
           (is.queued k quota queue e f);

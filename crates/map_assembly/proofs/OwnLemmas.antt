@@ -12,7 +12,7 @@ use Rattle.slice_scheduler.specs.Tiles.{Tiles}
 use Rattle.plant.specs.declared.consts.Channel.{Channel}
 use Rattle.map_assembly.specs.declared.quota.Quota.{Quota}
 use Rattle.map_assembly.specs.declared.view.MapSpan.{MapSpan}
-use Rattle.map_assembly.specs.Map.{idle_span, head_span, map_span, filled, map_spans, map_pending, in_order, map_of}
+use Rattle.map_assembly.specs.Map.{idle_span, head_span, map_span, spans_with_idle, map_spans, map_pending, in_order, map_of}
 use Rattle.map_assembly.specs.Part.{is_within, is_mine, IsPartOf}
 use Rattle.map_assembly.specs.Tiled.{LiesIn, IsOwn, touches, MapPart, part_of, own_part}
 use Rattle.map_assembly.specs.Plan.{IsQuota}
@@ -42,12 +42,12 @@ filter-head range head high = by (cases_eq head 0)
     by (inl e) = rw (eq-eqb head 0 e)
     by (inr ne) = rw (ne_eqb head 0 ne, head_is_nobodys range high)
 
-filter-filled : (range : Numbers) (from end : ℕ) (parts : List ElementsFields) → 1 ≤ range.first → filter (λ s. is_within range s.sid) (filled from end parts) ≡ flat_map (own_spans range) parts
+filter-filled : (range : Numbers) (from end : ℕ) (parts : List ElementsFields) → 1 ≤ range.first → filter (λ s. is_within range s.sid) (spans_with_idle from end parts) ≡ flat_map (own_spans range) parts
 filter-filled range from end [] low = filter-idle range from end low
 filter-filled range from end (p ∷ parts) low =
-    filter-append (λ (s : MapSpan). is_within range s.sid) (idle_span from p.slice.start) (map map_span p.spans ++ filled (p.slice.start + p.slice.length) end parts)
-    ∙ (ap (λ (xs : List MapSpan). xs ++ filter (λ (s : MapSpan). is_within range s.sid) (map map_span p.spans ++ filled (p.slice.start + p.slice.length) end parts)) (filter-idle range from p.slice.start low)
-    ∙ (filter-append (λ (s : MapSpan). is_within range s.sid) (map map_span p.spans) (filled (p.slice.start + p.slice.length) end parts)
+    filter-append (λ (s : MapSpan). is_within range s.sid) (idle_span from p.slice.start) (map map_span p.spans ++ spans_with_idle (p.slice.start + p.slice.length) end parts)
+    ∙ (ap (λ (xs : List MapSpan). xs ++ filter (λ (s : MapSpan). is_within range s.sid) (map map_span p.spans ++ spans_with_idle (p.slice.start + p.slice.length) end parts)) (filter-idle range from p.slice.start low)
+    ∙ (filter-append (λ (s : MapSpan). is_within range s.sid) (map map_span p.spans) (spans_with_idle (p.slice.start + p.slice.length) end parts)
     ∙ ap (λ (xs : List MapSpan). own_spans range p ++ xs) (filter-filled range (p.slice.start + p.slice.length) end parts low)))
 
 filter-pending : (range : Numbers) (parts : List ElementsFields) → filter (λ sid. is_within range sid) (map_pending parts) ≡ flat_map (own_pending range) parts
@@ -115,8 +115,8 @@ part_alone channel frame quota slice k part parts is h =
     let key : ElementsFields → ℕ = λ (p : ElementsFields). p.slice.start in
     let fits : FitsIn quota slice part = fits_in quota slice part (is_part quota.sids quota slice k part parts h).fits in
     same_part (part_of quota.sids (map_of channel frame parts)) (own_part part)
-    (filter-append (λ (s : MapSpan). is_within quota.sids s.sid) (head_span channel.head) (filled channel.head channel.frame_minislots (in_order parts))
-    ∙ (ap (λ (xs : List MapSpan). xs ++ filter (λ (s : MapSpan). is_within quota.sids s.sid) (filled channel.head channel.frame_minislots (in_order parts))) (filter-head quota.sids channel.head is.high)
+    (filter-append (λ (s : MapSpan). is_within quota.sids s.sid) (head_span channel.head) (spans_with_idle channel.head channel.frame_minislots (in_order parts))
+    ∙ (ap (λ (xs : List MapSpan). xs ++ filter (λ (s : MapSpan). is_within quota.sids s.sid) (spans_with_idle channel.head channel.frame_minislots (in_order parts))) (filter-head quota.sids channel.head is.high)
     ∙ (filter-filled quota.sids channel.head channel.frame_minislots (in_order parts) is.low
     ∙ (flat_map_alone (own_spans quota.sids) key k part parts (alone_spans quota.sids quota slice k part parts h)
     ∙ kept_spans quota.sids part.spans is.low fits.spans))))
@@ -145,16 +145,16 @@ all-head P head h = by (cases_eq head 0)
     by (inr ne) = rw (ne_eqb head 0 ne) (h (omega arith), tt)
 
 pub all-filled : (P : MapSpan → Type 0) (from end : ℕ) (parts : List ElementsFields) → ((from to : ℕ) → from < to → P (record { sid = 0; iuc = 6; start = from; len = to - from }))
-    → AllByRecursion (λ p. AllByRecursion P (map map_span p.spans)) parts → AllByRecursion P (filled from end parts)
+    → AllByRecursion (λ p. AllByRecursion P (map map_span p.spans)) parts → AllByRecursion P (spans_with_idle from end parts)
 all-filled P from end [] idle h = all-idle P from end (idle from end)
 all-filled P from end (p ∷ parts) idle h =
-    all-append P (idle_span from p.slice.start) (map map_span p.spans ++ filled (p.slice.start + p.slice.length) end parts) (all-idle P from p.slice.start (idle from p.slice.start))
-    (all-append P (map map_span p.spans) (filled (p.slice.start + p.slice.length) end parts) h.0 (all-filled P (p.slice.start + p.slice.length) end parts idle h.1))
+    all-append P (idle_span from p.slice.start) (map map_span p.spans ++ spans_with_idle (p.slice.start + p.slice.length) end parts) (all-idle P from p.slice.start (idle from p.slice.start))
+    (all-append P (map map_span p.spans) (spans_with_idle (p.slice.start + p.slice.length) end parts) h.0 (all-filled P (p.slice.start + p.slice.length) end parts idle h.1))
 
 pub all-spans : (P : MapSpan → Type 0) (channel : Channel) (parts : List ElementsFields) → ((head : ℕ) → 0 < head → P (record { sid = 16383; iuc = 1; start = 0; len = head }))
     → ((from to : ℕ) → from < to → P (record { sid = 0; iuc = 6; start = from; len = to - from })) → AllByRecursion (λ p. AllByRecursion P (map map_span p.spans)) parts → AllByRecursion P (map_spans channel parts)
 all-spans P channel parts head idle h =
-    all-append P (head_span channel.head) (filled channel.head channel.frame_minislots parts) (all-head P channel.head (head channel.head)) (all-filled P channel.head channel.frame_minislots parts idle h)
+    all-append P (head_span channel.head) (spans_with_idle channel.head channel.frame_minislots parts) (all-head P channel.head (head channel.head)) (all-filled P channel.head channel.frame_minislots parts idle h)
 
 tiled-le : (a b : ℕ) (spans : List Span) → Tiles a b spans → a ≤ b
 tiled-le a b [] t = omega (arith, t)
@@ -238,15 +238,15 @@ apart_behind p parts from [] le h = tt
 apart_behind p parts from (s ∷ spans) le h =
     (record { behind = omega (arith, h.0.behind); few = omega (arith, touched-cons s p parts, untouched_behind p.slice s h.0.behind, h.0.few) }, apart_behind p parts from spans le h.1)
 
-apart_filled : (from end : ℕ) (parts : List ElementsFields) → InOrder from end parts → AllByRecursion (IsApart from parts) (filled from end parts)
+apart_filled : (from end : ℕ) (parts : List ElementsFields) → InOrder from end parts → AllByRecursion (IsApart from parts) (spans_with_idle from end parts)
 apart_filled from end [] o = all-idle (IsApart from []) from end (λ lt. record { behind = omega arith; few = omega arith })
 apart_filled from end (p ∷ parts) o =
-    all-append (IsApart from (p ∷ parts)) (idle_span from p.slice.start) (map map_span p.spans ++ filled (p.slice.start + p.slice.length) end parts)
+    all-append (IsApart from (p ∷ parts)) (idle_span from p.slice.start) (map map_span p.spans ++ spans_with_idle (p.slice.start + p.slice.length) end parts)
     (all-idle (IsApart from (p ∷ parts)) from p.slice.start (λ lt.
     record { behind = omega arith; few = touches_one (record { sid = 0; iuc = 6; start = from; len = p.slice.start - from }) end p parts (omega arith) o.2 }))
-    (all-append (IsApart from (p ∷ parts)) (map map_span p.spans) (filled (p.slice.start + p.slice.length) end parts)
+    (all-append (IsApart from (p ∷ parts)) (map map_span p.spans) (spans_with_idle (p.slice.start + p.slice.length) end parts)
     (apart_in_slice end p parts from (map map_span p.spans) o.0 o.2 (lies_in_slice p.slice p.slice.start (p.slice.start + p.slice.length) p.spans (omega arith) (omega arith) o.1.tiles))
-    (apart_behind p parts from (filled (p.slice.start + p.slice.length) end parts) (omega (arith, o.0)) (apart_filled (p.slice.start + p.slice.length) end parts o.2)))
+    (apart_behind p parts from (spans_with_idle (p.slice.start + p.slice.length) end parts) (omega (arith, o.0)) (apart_filled (p.slice.start + p.slice.length) end parts o.2)))
 
 few_of_apart : (from : ℕ) (parts : List ElementsFields) (spans : List MapSpan) → AllByRecursion (IsApart from parts) spans → AllByRecursion (λ s. touched s parts ≤ 1) spans
 few_of_apart from parts [] h = tt
@@ -254,6 +254,6 @@ few_of_apart from parts (s ∷ spans) h = (h.0.few, few_of_apart from parts span
 
 pub touches_one_slice : (channel : Channel) (parts : List ElementsFields) → InOrder channel.head channel.frame_minislots parts → AllByRecursion (λ s. touched s parts ≤ 1) (map_spans channel parts)
 touches_one_slice channel parts o =
-    all-append (λ (s : MapSpan). touched s parts ≤ 1) (head_span channel.head) (filled channel.head channel.frame_minislots parts)
+    all-append (λ (s : MapSpan). touched s parts ≤ 1) (head_span channel.head) (spans_with_idle channel.head channel.frame_minislots parts)
     (all-head (λ (s : MapSpan). touched s parts ≤ 1) channel.head (λ lt. omega (arith, touched_none (record { sid = 16383; iuc = 1; start = 0; len = channel.head }) channel.head channel.frame_minislots parts (omega arith) o)))
-    (few_of_apart channel.head parts (filled channel.head channel.frame_minislots parts) (apart_filled channel.head channel.frame_minislots parts o))
+    (few_of_apart channel.head parts (spans_with_idle channel.head channel.frame_minislots parts) (apart_filled channel.head channel.frame_minislots parts o))

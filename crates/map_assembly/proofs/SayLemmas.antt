@@ -7,8 +7,8 @@ use Rattle.map_assembly.specs.declared.view.MapSpan.{MapSpan}
 use Rattle.map_assembly.specs.declared.view.MapFault.{MapFault}
 use Rattle.map_assembly.specs.declared.view.MapFault.TheVariants.{Backward, NoNull, AfterNull}
 use Rattle.map_assembly.specs.Element.{is_null}
-use Rattle.map_assembly.specs.Reading.{element_of_span, null_at, first_start, AreJoined, is_pending, ElementsSay}
-use Rattle.map_assembly.specs.Judging.{judged, judged_behind, next_offset, span_to, spans_in, behind_null, pending_in}
+use Rattle.map_assembly.specs.Reading.{element_of_span, null_at, first_offset, AreJoined, is_pending, ElementsSay}
+use Rattle.map_assembly.specs.Judging.{count_before_null, judged_behind, next_offset, span_to, spans_in, behind_null, pending_in}
 
 null-is : (e : MapElement) → is_null e ≡ true → e ≡ null_at e.offset
 null-is e h =
@@ -28,22 +28,22 @@ behind_says spans end at (e ∷ es) n h = by (is_pending end e) refl (λ k. behi
     by true p more = (p, more (rw p at h))
     by false p more = absurd (never (AfterNull at) n (judged_behind spans end at (e ∷ es)) (rw p) h)
 
-next_judged : (at least : ℕ) (es : List MapElement) (n : ℕ) → judged at least es ≡ Ok n → least ≤ next_offset es
-next_judged at least [] n h = absurd (never NoNull n (judged at least []) refl h)
+next_judged : (at least : ℕ) (es : List MapElement) (n : ℕ) → count_before_null at least es ≡ Ok n → least ≤ next_offset es
+next_judged at least [] n h = absurd (never NoNull n (count_before_null at least []) refl h)
 next_judged at least (e ∷ es) n h = by (ltb e.offset least) refl
   where
     by : (t : Bool) → ltb e.offset least ≡ t → least ≤ e.offset
-    by true p = absurd (never (Backward at) n (judged at least (e ∷ es)) (rw p) h)
+    by true p = absurd (never (Backward at) n (count_before_null at least (e ∷ es)) (rw p) h)
     by false p = ltb-false e.offset least p
 
-starts : (es : List MapElement) (spans : List MapSpan) (end : ℕ) (behind : List MapElement) → es ≡ map element_of_span spans ++ null_at end ∷ behind → first_start end spans ≡ next_offset es
+starts : (es : List MapElement) (spans : List MapSpan) (end : ℕ) (behind : List MapElement) → es ≡ map element_of_span spans ++ null_at end ∷ behind → first_offset end spans ≡ next_offset es
 starts es [] end behind h = sym (ap next_offset h)
 starts es (s ∷ spans) end behind h = sym (ap next_offset h)
 
 -- one element more in front
 and_span : (e : MapElement) (es : List MapElement) → e.offset + 1 ≤ next_offset es → is_null e ≡ false → ElementsSay es (spans_in es) (pending_in es) → ElementsSay (e ∷ es) (span_to (next_offset es) e ∷ spans_in es) (pending_in es)
 and_span e es above no_null say =
-    let next : first_start say.end (spans_in es) ≡ next_offset es = starts es (spans_in es) say.end say.behind say.split in
+    let next : first_offset say.end (spans_in es) ≡ next_offset es = starts es (spans_in es) say.end say.behind say.split in
     record {
       end = say.end;
       behind = say.behind;
@@ -54,13 +54,13 @@ and_span e es above no_null say =
       pending = say.pending;
     }
 
-pub judged_says : (at least : ℕ) (es : List MapElement) (n : ℕ) → judged at least es ≡ Ok n → ElementsSay es (spans_in es) (pending_in es)
-judged_says at least [] n h = absurd (never NoNull n (judged at least []) refl h)
+pub judged_says : (at least : ℕ) (es : List MapElement) (n : ℕ) → count_before_null at least es ≡ Ok n → ElementsSay es (spans_in es) (pending_in es)
+judged_says at least [] n h = absurd (never NoNull n (count_before_null at least []) refl h)
 judged_says at least (e ∷ es) n h = by (ltb e.offset least) (is_null e) refl refl (λ k. judged_says (at + 1) (e.offset + 1) es n k)
   where
-    by : (t u : Bool) → ltb e.offset least ≡ t → is_null e ≡ u → (judged (at + 1) (e.offset + 1) es ≡ Ok n → ElementsSay es (spans_in es) (pending_in es))
+    by : (t u : Bool) → ltb e.offset least ≡ t → is_null e ≡ u → (count_before_null (at + 1) (e.offset + 1) es ≡ Ok n → ElementsSay es (spans_in es) (pending_in es))
         → ElementsSay (e ∷ es) (spans_in (e ∷ es)) (pending_in (e ∷ es))
-    by true u p q more = absurd (never (Backward at) n (judged at least (e ∷ es)) (rw p) h)
+    by true u p q more = absurd (never (Backward at) n (count_before_null at least (e ∷ es)) (rw p) h)
     by false true p q more =
         rw q
         (record {
@@ -73,7 +73,7 @@ judged_says at least (e ∷ es) n h = by (ltb e.offset least) (is_null e) refl r
           pending = refl;
         })
     by false false p q more =
-        let rest : judged (at + 1) (e.offset + 1) es ≡ Ok n = rw (p, q) at h in
+        let rest : count_before_null (at + 1) (e.offset + 1) es ≡ Ok n = rw (p, q) at h in
         rw q (and_span e es (next_judged (at + 1) (e.offset + 1) es n rest) q (more rest))
 
 -- ---- what says something is judged well, and says nothing else
@@ -82,15 +82,15 @@ said_behind : (spans end at : ℕ) (es : List MapElement) → AllByRecursion (λ
 said_behind spans end at [] h = refl
 said_behind spans end at (e ∷ es) h = rw h.0 (said_behind spans end (at + 1) es h.1)
 
-said_judged : (at least end : ℕ) (spans : List MapSpan) (behind : List MapElement) → least ≤ first_start end spans → AreJoined end spans → AllByRecursion (λ s. is_null (element_of_span s) ≡ false) spans → AllByRecursion (λ e. is_pending end e ≡ true) behind
-    → judged at least (map element_of_span spans ++ null_at end ∷ behind) ≡ Ok (at + length spans)
+said_judged : (at least end : ℕ) (spans : List MapSpan) (behind : List MapElement) → least ≤ first_offset end spans → AreJoined end spans → AllByRecursion (λ s. is_null (element_of_span s) ≡ false) spans → AllByRecursion (λ e. is_pending end e ≡ true) behind
+    → count_before_null at least (map element_of_span spans ++ null_at end ∷ behind) ≡ Ok (at + length spans)
 said_judged at least end [] behind le joined no_null grants =
     rw (le-ltb end least le) (said_behind at end (at + 1) behind grants ∙ ap (λ (n : ℕ). Ok n) (omega arith))
 said_judged at least end (s ∷ spans) behind le joined no_null grants =
     rw (le-ltb s.start least le, no_null.0)
     (said_judged (at + 1) (s.start + 1) end spans behind (omega (arith, joined.0, joined.1)) joined.2 no_null.1 grants ∙ ap (λ (n : ℕ). Ok n) (omega arith))
 
-said_next : (end : ℕ) (spans : List MapSpan) (behind : List MapElement) → next_offset (map element_of_span spans ++ null_at end ∷ behind) ≡ first_start end spans
+said_next : (end : ℕ) (spans : List MapSpan) (behind : List MapElement) → next_offset (map element_of_span spans ++ null_at end ∷ behind) ≡ first_offset end spans
 said_next end [] behind = refl
 said_next end (s ∷ spans) behind = refl
 
@@ -108,8 +108,8 @@ said_behind_null : (end : ℕ) (spans : List MapSpan) (behind : List MapElement)
 said_behind_null end [] behind no_null = refl
 said_behind_null end (s ∷ spans) behind no_null = rw no_null.0 (said_behind_null end spans behind no_null.1)
 
-pub say_judged : (es : List MapElement) (spans : List MapSpan) (sids : List ℕ) → ElementsSay es spans sids → judged 0 0 es ≡ Ok (length spans)
-say_judged es spans sids say = ap (judged 0 0) say.split ∙ (said_judged 0 0 say.end spans say.behind (omega arith) say.joined say.no_null say.grants ∙ ap (λ (n : ℕ). Ok n) (omega arith))
+pub say_judged : (es : List MapElement) (spans : List MapSpan) (sids : List ℕ) → ElementsSay es spans sids → count_before_null 0 0 es ≡ Ok (length spans)
+say_judged es spans sids say = ap (count_before_null 0 0) say.split ∙ (said_judged 0 0 say.end spans say.behind (omega arith) say.joined say.no_null say.grants ∙ ap (λ (n : ℕ). Ok n) (omega arith))
 
 pub say_spans : (es : List MapElement) (spans : List MapSpan) (sids : List ℕ) → ElementsSay es spans sids → spans_in es ≡ spans
 say_spans es spans sids say = ap spans_in say.split ∙ said_spans say.end spans say.behind say.joined say.no_null

@@ -7,8 +7,8 @@ use Rattle.slice_scheduler.specs.declared.span.Span.{Span}
 use Rattle.slice_scheduler.specs.declared.elements.ElementsFields.{ElementsFields}
 use Rattle.slice_scheduler.specs.Tiles.{Tiles, IsTiled}
 use Rattle.map_assembly.specs.declared.view.MapSpan.{MapSpan}
-use Rattle.map_assembly.specs.Reading.{first_start, AreJoined}
-use Rattle.map_assembly.specs.Map.{idle_span, head_span, map_span, filled}
+use Rattle.map_assembly.specs.Reading.{first_offset, AreJoined}
+use Rattle.map_assembly.specs.Map.{idle_span, head_span, map_span, spans_with_idle}
 use Rattle.map_assembly.specs.Tiled.{holds}
 
 -- ---- spans one after the other
@@ -44,23 +44,23 @@ tiles-part : (a b : ℕ) (spans : List Span) → Tiles a b spans → MapTiles a 
 tiles-part a b [] t = t
 tiles-part a b (s ∷ spans) t = (t.0, t.1, tiles-part (a + s.len) b spans t.2)
 
-pub tiles-filled : (from end : ℕ) (parts : List ElementsFields) → InOrder from end parts → MapTiles from end (filled from end parts)
+pub tiles-filled : (from end : ℕ) (parts : List ElementsFields) → InOrder from end parts → MapTiles from end (spans_with_idle from end parts)
 tiles-filled from end [] o = tiles-idle from end o
 tiles-filled from end (p ∷ parts) o =
-    tiles-append from p.slice.start end (idle_span from p.slice.start) (map map_span p.spans ++ filled (p.slice.start + p.slice.length) end parts)
+    tiles-append from p.slice.start end (idle_span from p.slice.start) (map map_span p.spans ++ spans_with_idle (p.slice.start + p.slice.length) end parts)
     (tiles-idle from p.slice.start o.0)
-    (tiles-append p.slice.start (p.slice.start + p.slice.length) end (map map_span p.spans) (filled (p.slice.start + p.slice.length) end parts)
+    (tiles-append p.slice.start (p.slice.start + p.slice.length) end (map map_span p.spans) (spans_with_idle (p.slice.start + p.slice.length) end parts)
     (tiles-part p.slice.start (p.slice.start + p.slice.length) p.spans o.1.tiles)
     (tiles-filled (p.slice.start + p.slice.length) end parts o.2))
 
-pub tiles-map : (head end : ℕ) (parts : List ElementsFields) → InOrder head end parts → MapTiles 0 end (head_span head ++ filled head end parts)
-tiles-map head end parts o = tiles-append 0 head end (head_span head) (filled head end parts) (tiles-head head) (tiles-filled head end parts o)
+pub tiles-map : (head end : ℕ) (parts : List ElementsFields) → InOrder head end parts → MapTiles 0 end (head_span head ++ spans_with_idle head end parts)
+tiles-map head end parts o = tiles-append 0 head end (head_span head) (spans_with_idle head end parts) (tiles-head head) (tiles-filled head end parts o)
 
 pub tiles-le : (a b : ℕ) (spans : List MapSpan) → MapTiles a b spans → a ≤ b
 tiles-le a b [] t = omega (arith, t)
 tiles-le a b (s ∷ spans) t = omega (arith, tiles-le (a + s.len) b spans t.2)
 
-tiles-first : (a b : ℕ) (spans : List MapSpan) → MapTiles a b spans → first_start b spans ≡ a
+tiles-first : (a b : ℕ) (spans : List MapSpan) → MapTiles a b spans → first_offset b spans ≡ a
 tiles-first a b [] t = sym t
 tiles-first a b (s ∷ spans) t = t.0
 

@@ -26,9 +26,9 @@ pub record IsMapOf (channel : Channel) (frame : ℕ) (quotas : List Quota) (slic
   pub own : (k : ℕ) (quota : Quota) (part : ElementsFields) → slice_get quotas k ≡ Some quota → slice_get parts k ≡ Some part → part_of quota.sids (map_of channel frame parts) ≡ own_part part
 
 -- what putting a part answers: nothing where it is not the last one of its frame, else that frame's MAP
-abbrev pub IsAnswer : Gathering → ℕ → ℕ → ElementsFields → Option MapBytes → Type 0
-IsAnswer g op frame part None = is_last g op part ≡ false
-IsAnswer g op frame part (Some made) =
+abbrev pub IsPutResult : Gathering → ℕ → ℕ → ElementsFields → Option MapBytes → Type 0
+IsPutResult g op frame part None = is_last g op part ≡ false
+IsPutResult g op frame part (Some made) =
     (is_last g op part ≡ true) × (frame ≡ g.next) × (made.frame ≡ frame)
     × IsMapOf g.channel frame g.quotas (frame_slices g frame) (frame_parts g op part) made.bytes
 

@@ -155,19 +155,19 @@ pub record IsGathering (g : Gathering) : Type 0 where
 -- ---- new slices from a frame on
 
 -- an operator with these parts has put none yet, or none of this frame or a later one
-abbrev pub IsPast : Gathering → ℕ → List ElementsFields → Type 0
-IsPast g from queue = g.channel.first_frame < g.next + length queue → g.next + length queue ≤ from
+abbrev pub HasPutNoneFrom : Gathering → ℕ → List ElementsFields → Type 0
+HasPutNoneFrom g from queue = g.channel.first_frame < g.next + length queue → g.next + length queue ≤ from
 
 -- new slices may be given from a frame on: they are valid, each earlier slice change is from an earlier frame on, and each
 -- part put is of an earlier frame
 pub record MayReslice (g : Gathering) (from : ℕ) (slices : List Minislots) : Type 0 where
   pub slices_are : AreSlices g.channel (length g.quotas) slices
   pub later : All (λ r. r.from < from) g.reslicings
-  pub past : All (IsPast g from) g.queues
+  pub past : All (HasPutNoneFrom g from) g.queues
 
 -- these slices are next to the earlier ones
-abbrev pub resliced : Gathering → ℕ → List Minislots → Gathering
-resliced g from slices = record g { reslicings = g.reslicings ++ record { from = from; slicing = slices } ∷ [] }
+abbrev pub gathering_after_reslice : Gathering → ℕ → List Minislots → Gathering
+gathering_after_reslice g from slices = record g { reslicings = g.reslicings ++ record { from = from; slicing = slices } ∷ [] }
 
 -- ---- the parts by their places
 

@@ -13,12 +13,12 @@ judged_behind spans end at [] = Ok spans
 judged_behind spans end at (e ∷ elements) = if is_pending end e then judged_behind spans end (at + 1) elements else Err (AfterNull at)
 
 -- the elements from the place `at` on, the first of which is not to be before `least`: how many are before the Null
-abbrev pub judged : ℕ → ℕ → List MapElement → Result ℕ MapFault
-judged at least [] = Err NoNull
-judged at least (e ∷ elements) =
+abbrev pub count_before_null : ℕ → ℕ → List MapElement → Result ℕ MapFault
+count_before_null at least [] = Err NoNull
+count_before_null at least (e ∷ elements) =
     if nat_lt e.offset least then Err (Backward at) else
     if is_null e then judged_behind at e.offset (at + 1) elements else
-    judged (at + 1) (e.offset + 1) elements
+    count_before_null (at + 1) (e.offset + 1) elements
 
 -- where the first of these elements begins
 abbrev pub next_offset : List MapElement → ℕ

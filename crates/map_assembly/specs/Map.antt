@@ -1,7 +1,7 @@
 -- What the MAP of a frame says (implementation-specific layout, after CM-SP-MULPIv3.1, 6.4.4).
 use Rattle.std.specs.Prelude.{ℕ, ◌+◌, ◌-◌, ◌*◌, ◌%◌, ◌^◌, ◌==◌, nat_lt, if◌then◌else◌, List, [], ◌∷◌, ◌++◌, length, map}
 use Rattle.std.specs.List.{flat_map}
-use Rattle.slice_scheduler.specs.Iuc.{number_of}
+use Rattle.slice_scheduler.specs.Iuc.{iuc_number}
 use Rattle.slice_scheduler.specs.declared.span.Span.{Span}
 use Rattle.slice_scheduler.specs.declared.elements.ElementsFields.{ElementsFields}
 use Rattle.map_assembly.specs.declared.element.MapElement.{MapElement}
@@ -26,18 +26,18 @@ head_span head = if head == 0 then [] else record { sid = broadcast_sid; iuc = r
 
 -- a span of an operator's part
 abbrev pub map_span : Span → MapSpan
-map_span s = record { sid = s.sid; iuc = number_of s.iuc; start = s.start; len = s.len }
+map_span s = record { sid = s.sid; iuc = iuc_number s.iuc; start = s.start; len = s.len }
 
 -- the minislots from `from` up to `end`: the spans of these parts, and one idle span for each run of minislots before,
 -- between and after them
-abbrev pub filled : ℕ → ℕ → List ElementsFields → List MapSpan
-filled from end [] = idle_span from end
-filled from end (part ∷ parts) =
-    idle_span from part.slice.start ++ (map map_span part.spans ++ filled (part.slice.start + part.slice.length) end parts)
+abbrev pub spans_with_idle : ℕ → ℕ → List ElementsFields → List MapSpan
+spans_with_idle from end [] = idle_span from end
+spans_with_idle from end (part ∷ parts) =
+    idle_span from part.slice.start ++ (map map_span part.spans ++ spans_with_idle (part.slice.start + part.slice.length) end parts)
 
 -- the spans of a frame with these parts, in the order of their slices
 abbrev pub map_spans : Channel → List ElementsFields → List MapSpan
-map_spans channel parts = head_span channel.head ++ filled channel.head channel.frame_minislots parts
+map_spans channel parts = head_span channel.head ++ spans_with_idle channel.head channel.frame_minislots parts
 
 -- ---- the header
 

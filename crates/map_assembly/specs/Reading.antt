@@ -22,14 +22,14 @@ abbrev pub null_at : ℕ → MapElement
 null_at end = record { sid = nobodys_sid; iuc = null_iuc; offset = end }
 
 -- where the first of these spans begins: at `end` where there is none
-abbrev pub first_start : ℕ → List MapSpan → ℕ
-first_start end [] = end
-first_start end (s ∷ spans) = s.start
+abbrev pub first_offset : ℕ → List MapSpan → ℕ
+first_offset end [] = end
+first_offset end (s ∷ spans) = s.start
 
 -- each span has at least one minislot and goes up to the next one, the last up to `end`
 abbrev pub AreJoined : ℕ → List MapSpan → Type 0
 AreJoined end [] = Unit {0}
-AreJoined end (s ∷ spans) = (0 < s.len) × (s.start + s.len ≡ first_start end spans) × AreJoined end spans
+AreJoined end (s ∷ spans) = (0 < s.len) × (s.start + s.len ≡ first_offset end spans) × AreJoined end spans
 
 -- a grant pending: the IUC of a short or of a long grant, at the Null's offset
 abbrev pub is_pending : ℕ → MapElement → Bool

@@ -1,6 +1,6 @@
 -- The numbers of a MAP's layout (implementation-specific layout, after CM-SP-MULPIv3.1, 6.4.4, where no other section is named).
 use Rattle.std.specs.Prelude.{ℕ}
-use Rattle.slice_scheduler.specs.Iuc.{number_of}
+use Rattle.slice_scheduler.specs.Iuc.{iuc_number}
 use Rattle.slice_scheduler.specs.declared.span.Iuc.TheVariants.{Request, Short, Long}
 
 -- ---- the header: at which of its bytes each field begins, and how many bytes it has
@@ -36,8 +36,8 @@ abbrev pub header_bytes : ℕ
 header_bytes = 16
 
 -- what the reserved byte of a header is written as; it is the fourth
-abbrev pub reserved : ℕ
-reserved = 0
+abbrev pub reserved_byte : ℕ
+reserved_byte = 0
 
 -- the bits of the Alloc Start Time and of the Ack Time
 abbrev pub time_bits : ℕ
@@ -75,15 +75,15 @@ broadcast_sid = 16383
 
 -- a region for requests: 1
 abbrev pub request_iuc : ℕ
-request_iuc = number_of Request
+request_iuc = iuc_number Request
 
 -- a grant of few minislots: 5
 abbrev pub short_iuc : ℕ
-short_iuc = number_of Short
+short_iuc = iuc_number Short
 
 -- a grant of more: 6
 abbrev pub long_iuc : ℕ
-long_iuc = number_of Long
+long_iuc = iuc_number Long
 
 -- the Null: 7
 abbrev pub null_iuc : ℕ

@@ -5,7 +5,7 @@ ghost use Rattle.slice_scheduler.specs.declared.elements.ElementsFields.{Element
 ghost use Rattle.map_assembly.specs.Wire.{element_limit};
 ghost use Rattle.map_assembly.specs.Element.{FitsElement};
 ghost use Rattle.map_assembly.specs.Reading.{element_of_span, null_at};
-ghost use Rattle.map_assembly.specs.Map.{filled, map_pending, pending_at, map_header};
+ghost use Rattle.map_assembly.specs.Map.{spans_with_idle, map_pending, pending_at, map_header};
 ghost use Rattle.map_assembly.specs.Writing.{spelled_map};
 ghost use Rattle.map_assembly.specs.Gathering.{part_at};
 ghost use Rattle.map_assembly.specs.Assembled.{ordered_elements};
@@ -30,7 +30,7 @@ fn push_filled(
     part: &Elements,
 ) -> Result<(), AllocError>
     ensures { OnOk result (list.new.items ≡ list.old.items
-        ++ map element_of_span (filled channel.head channel.frame_minislots
+        ++ map element_of_span (spans_with_idle channel.head channel.frame_minislots
         (map (part_at queues.now op part.now) order.now))) }
 {
     let mut from = channel.head;

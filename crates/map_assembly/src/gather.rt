@@ -6,8 +6,8 @@ ghost use Rattle.slice_scheduler.specs.Tiles.{IsTiled};
 ghost use Rattle.slice_scheduler.specs.declared.elements.ElementsFields.{ElementsFields};
 ghost use Rattle.map_assembly.specs.Part.{quota_of};
 ghost use Rattle.map_assembly.specs.Plan.{AreSlices};
-ghost use Rattle.map_assembly.specs.Gathering.{gathering_of, gathering_at, fits_at, queue_of, put_fault, with_part, is_whole, is_last, after_put, frame_out, next_of, frame_slices, frame_parts, MayReslice, resliced, IsGathering};
-ghost use Rattle.map_assembly.specs.Assembled.{IsMapOf, IsAnswer};
+ghost use Rattle.map_assembly.specs.Gathering.{gathering_of, gathering_at, fits_at, queue_of, put_fault, with_part, is_whole, is_last, after_put, frame_out, next_of, frame_slices, frame_parts, MayReslice, gathering_after_reslice, IsGathering};
+ghost use Rattle.map_assembly.specs.Assembled.{IsMapOf, IsPutResult};
 ghost use Rattle.map_assembly.specs.LettingGo.{has_begun, GoesOnAlike};
 ghost use Rattle.map_assembly.specs.declared.refused.GatherFault.{GatherFault};
 ghost use Rattle.map_assembly.specs.declared.refused.GatherFault.TheVariants.{NoMemory};
@@ -321,7 +321,7 @@ impl Gather {
         elements: Elements,
     ) -> Result<Option<MapBytes>, Refused>
         ensures state { OnOk result (self.new ≡ after_put self.old op elements) }
-        ensures map { IfOk result (IsAnswer self.old op frame elements) }
+        ensures map { IfOk result (IsPutResult self.old op frame elements) }
         ensures goes { OnOk result (put_fault self.old op frame elements ≡ None) }
 
         ensures fault { (fault : GatherFault) → fault ≢ NoMemory
@@ -392,7 +392,7 @@ impl Gather {
         slices: Vec<Slice>,
     ) -> Result<(), AllocError>
         requires { MayReslice self.old from slices.items }
-        ensures state { OnOk result (self.new ≡ resliced self.old from slices.items) }
+        ensures state { OnOk result (self.new ≡ gathering_after_reslice self.old from slices.items) }
         ensures before { OnOk result ((frame : ℕ) → frame < from
             → frame_slices self.new frame ≡ frame_slices self.old frame) }
         ensures behind { OnOk result ((frame : ℕ) → from ≤ frame → frame_slices self.new frame ≡ slices.items) }

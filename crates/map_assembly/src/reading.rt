@@ -4,7 +4,7 @@ ghost use Rattle.std.specs.Prelude.{◌≡◌, ◌≢◌, ◌↔◌, ◌+◌, �
 ghost use Rattle.std.specs.Int.{w32, from_be_bytes};
 ghost use Rattle.map_assembly.specs.Wire.{header_bytes, element_bytes};
 ghost use Rattle.map_assembly.specs.Element.{is_null, elements_in};
-ghost use Rattle.map_assembly.specs.Judging.{judged, judged_behind, next_offset, spans_in, behind_null, pending_in};
+ghost use Rattle.map_assembly.specs.Judging.{count_before_null, judged_behind, next_offset, spans_in, behind_null, pending_in};
 ghost use Rattle.map_assembly.specs.Reading.{is_pending, header_in, elements_behind, IsCounted, MapReads, IsOkUnlessMemory, IsFirstMapFault};
 ghost use Rattle.map_assembly.specs.declared.view.MapView.{MapView};
 ghost use Rattle.map_assembly.specs.declared.view.MapFault.{MapFault};
@@ -51,7 +51,7 @@ fn judge_behind(bytes: &[u8], spans: usize, end: u16) -> Result<usize, MapFault>
 /// Returns the number of elements before the Null. No more than 255 elements.
 fn judge(bytes: &[u8]) -> Result<usize, MapFault>
     requires { length bytes.now ≤ element_bytes * u8.MAX }
-    ensures { result ≡ judged 0 0 (elements_in bytes.now) }
+    ensures { result ≡ count_before_null 0 0 (elements_in bytes.now) }
 {
     let mut at = 0;
     let mut least = 0;
@@ -170,7 +170,7 @@ fn body_of(bytes: &[u8]) -> &[u8]
 /// Returns how many spans the bytes of a MAP say.
 fn count_spans(bytes: &[u8]) -> Result<usize, MapFault>
     ensures counted { IfOk result (λ _. IsCounted bytes.now) }
-    ensures judged { IfOk result (λ count. judged 0 0 (elements_behind bytes.now) ≡ Ok count) }
+    ensures judged { IfOk result (λ count. count_before_null 0 0 (elements_behind bytes.now) ≡ Ok count) }
     ensures fault { IfErr result (λ told. (fault : MapFault) → (told ≡ fault) ↔ IsFirstMapFault bytes.now fault) }
 {
     if bytes.len() < HEADER_BYTES {

@@ -11,7 +11,7 @@ use Rattle.dsx_messages.specs.declared.fault.MessageFault.{MessageFault}
 use Rattle.dsx_messages.specs.declared.fault.MessageFault.TheVariants as faults
 use Rattle.dsx_messages.specs.declared.message.Message.{Message}
 use Rattle.dsx_messages.specs.Message.{HasType, IsFirstMessageFault}
-use Rattle.dsx_messages.specs.Reading.{id_of}
+use Rattle.dsx_messages.specs.Reading.{id_of_fault}
 use Rattle.dsx_messages.specs.WellFormed.{Names}
 use Rattle.operator_book.specs.Held.{HasRightId}
 
@@ -23,7 +23,7 @@ names_sfid : (o : Option ℕ) → IfSome (option_map Sfid o) (Names Dsc)
 names_sfid None = tt
 names_sfid (Some n) = tt
 
-names_id : (kind : Kind) (told : FlowFault) → IfSome (id_of kind told) (Names kind)
+names_id : (kind : Kind) (told : FlowFault) → IfSome (id_of_fault kind told) (Names kind)
 names_id Dsa told = names_reference told.reference
 names_id Dsc told = names_sfid told.sfid
 names_id Dsd told = tt

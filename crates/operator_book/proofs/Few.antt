@@ -16,7 +16,7 @@ use Rattle.transactions.specs.declared.entry.KeptEntry.{KeptEntry}
 use Rattle.transactions.specs.Entry.{same_kind, is_of, waits_for}
 use Rattle.plant.specs.Row.{same_modem}
 use Rattle.flow_table.specs.declared.flow.Flow.{Flow}
-use Rattle.flow_table.specs.Flow.{asks_for_grants, requested}
+use Rattle.flow_table.specs.Flow.{asks_for_grants, flow_after_request}
 use Rattle.flow_table.specs.Table.{flow_with, with_flow}
 use Rattle.operator_model.specs.declared.action.Action.{Action}
 use Rattle.operator_model.specs.declared.action.Action.TheVariants as actions
@@ -27,11 +27,11 @@ use Rattle.operator_model.specs.declared.output.Output.TheVariants as outputs
 use Rattle.operator_model.specs.declared.output.Cause.TheVariants as causes
 use Rattle.operator_model.specs.declared.verdict.Verdict.{Verdict}
 use Rattle.operator_model.specs.declared.verdict.Verdict.TheVariants.{Refused}
-use Rattle.operator_model.specs.Verdict.{verdict, errored}
+use Rattle.operator_model.specs.Verdict.{verdict, encoding_refusal}
 use Rattle.operator_model.specs.State.{Operator}
 use Rattle.operator_model.specs.Asked.{refusal}
-use Rattle.operator_model.specs.Handle.{StepResult, told, silent, carried_out, is_of_cmts, new_unless, transacted, acked_if, kind_of, tid_of, message_handled, asked_of_flow, handle}
-use Rattle.operator_model.specs.Machine.{arrived, worked, own_step}
+use Rattle.operator_model.specs.Handle.{StepResult, reply_result, silent, carried_out, is_of_cmts, new_unless, transaction_result, acked_if, kind_of, tid_of, message_handled, asked_of_flow, handle}
+use Rattle.operator_model.specs.Machine.{arrival_result, work_result, own_step}
 use Rattle.operator_book.specs.MostOutputs.{most_outputs_of}
 
 one : 1 ≤ 1
@@ -41,12 +41,12 @@ none : 0 ≤ 1
 none = omega arith
 
 module _ (op : Operator) (modem : Modem) where
-  again : (kind : Kind) (entry : KeptEntry) (b : Bool) → length (if b then told op.state modem entry.reply else silent op.state modem causes.TidInUse).outputs ≤ 1
+  again : (kind : Kind) (entry : KeptEntry) (b : Bool) → length (if b then reply_result op.state modem entry.reply else silent op.state modem causes.TidInUse).outputs ≤ 1
   again kind entry true = one
   again kind entry false = one
 
   room : (kind : Kind) (tid : ℕ) (v : Verdict) (b : Bool)
-      → length (if b then told op.state modem (spell_reply (refusal kind tid codes.RejectTemporary)) else carried_out op.consts op.state modem kind tid v).outputs ≤ 1
+      → length (if b then reply_result op.state modem (spell_reply (refusal kind tid codes.RejectTemporary)) else carried_out op.consts op.state modem kind tid v).outputs ≤ 1
   room kind tid v true = one
   room kind tid v false = one
 
@@ -55,11 +55,11 @@ module _ (op : Operator) (modem : Modem) where
   new kind tid v None = room kind tid v (nat_le op.row.transactions (length op.state.kept))
 
   first : (kind : Kind) (tid : ℕ) (v : Verdict) (b : Bool)
-      → length (if b then told op.state modem (spell_reply (refusal kind tid codes.RejectUnknownTransaction)) else new_unless op modem kind tid v (find (is_of modem tid) op.state.kept)).outputs ≤ 1
+      → length (if b then reply_result op.state modem (spell_reply (refusal kind tid codes.RejectUnknownTransaction)) else new_unless op modem kind tid v (find (is_of modem tid) op.state.kept)).outputs ≤ 1
   first kind tid v true = one
   first kind tid v false = new kind tid v (find (is_of modem tid) op.state.kept)
 
-  few_transacted : (kind : Kind) (tid : ℕ) (v : Verdict) → length (transacted op modem kind tid v).outputs ≤ 1
+  few_transacted : (kind : Kind) (tid : ℕ) (v : Verdict) → length (transaction_result op modem kind tid v).outputs ≤ 1
   few_transacted kind tid v = first kind tid v (is_of_cmts tid)
 
   few_acked : (tid : ℕ) (kind : Kind) (code : ℕ) (o : Option ℕ) → length (acked_if op.consts op.state modem tid kind code o).outputs ≤ 1
@@ -70,7 +70,7 @@ module _ (op : Operator) (modem : Modem) where
   few_message (Err faults.Empty) = one
   few_message (Err (faults.NotOurs mtype)) = one
   few_message (Err faults.Short) = one
-  few_message (Err (faults.Tlv tid kind id fault)) = few_transacted kind tid (Refused (errored kind tid id fault))
+  few_message (Err (faults.Tlv tid kind id fault)) = few_transacted kind tid (Refused (encoding_refusal kind tid id fault))
   few_message (Err (faults.LeftOut tid kind found)) = few_transacted kind tid (Refused (refusal kind tid codes.RejectUnrecognizedSetting))
   few_message (Err faults.NoMemory) = one
   few_message (Ok (messages.Ack kind tid code)) = few_acked tid kind code (option_map (λ entry. entry.sfid) (find (waits_for modem tid kind) op.state.kept))
@@ -78,7 +78,7 @@ module _ (op : Operator) (modem : Modem) where
 
   asking : (minislots : ℕ) (entry : ℕ × Flow) (mine asks : Bool)
       → length (if not mine then silent op.state modem causes.NoSuchSid else if not asks then silent op.state modem causes.NotRequesting else
-      record { state = record op.state { flows = with_flow entry.0 (requested minislots op.state.frame entry.1) op.state.flows }; outputs = [] }).outputs ≤ 1
+      record { state = record op.state { flows = with_flow entry.0 (flow_after_request minislots op.state.frame entry.1) op.state.flows }; outputs = [] }).outputs ≤ 1
   asking minislots entry false asks = one
   asking minislots entry true false = one
   asking minislots entry true true = none
@@ -101,10 +101,10 @@ module _ (op : Operator) (modem : Modem) where
   arriving heard true = one
   arriving heard false = none
 
-  few_arrived : (heard : Heard) → length (arrived op.row op.state modem heard).outputs ≤ 1
+  few_arrived : (heard : Heard) → length (arrival_result op.row op.state modem heard).outputs ≤ 1
   few_arrived heard = arriving heard (nat_le op.row.inbox (length op.state.inbox))
 
-few_worked : (op : Operator) (inbox : List Arrival) → length (worked op inbox).outputs ≤ 1
+few_worked : (op : Operator) (inbox : List Arrival) → length (work_result op inbox).outputs ≤ 1
 few_worked op [] = one
 few_worked op (first ∷ others) = few_handled op first.modem first.heard
 

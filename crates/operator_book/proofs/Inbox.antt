@@ -17,7 +17,7 @@ use Rattle.transactions.specs.declared.entry.KeptEntry.{KeptEntry}
 use Rattle.transactions.specs.Entry.{same_kind, is_of, waits_for}
 use Rattle.plant.specs.Row.{same_modem}
 use Rattle.flow_table.specs.declared.flow.Flow.{Flow}
-use Rattle.flow_table.specs.Flow.{asks_for_grants, requested}
+use Rattle.flow_table.specs.Flow.{asks_for_grants, flow_after_request}
 use Rattle.flow_table.specs.Table.{with_flow}
 use Rattle.operator_model.specs.declared.heard.Arrival.{Arrival}
 use Rattle.operator_model.specs.declared.output.Cause.TheVariants as causes
@@ -25,19 +25,19 @@ use Rattle.operator_model.specs.declared.verdict.Verdict.{Verdict}
 use Rattle.operator_model.specs.declared.verdict.Verdict.TheVariants.{Refused}
 use Rattle.operator_model.specs.declared.heard.Heard.{Heard}
 use Rattle.operator_model.specs.declared.heard.Heard.TheVariants as heards
-use Rattle.operator_model.specs.Verdict.{verdict, errored}
-use Rattle.operator_model.specs.Machine.{taken_out, worked}
+use Rattle.operator_model.specs.Verdict.{verdict, encoding_refusal}
+use Rattle.operator_model.specs.Machine.{taken_out, work_result}
 use Rattle.operator_model.specs.State.{Operator}
 use Rattle.operator_model.specs.Asked.{refusal}
-use Rattle.operator_model.specs.Handle.{told, silent, carried_out, is_of_cmts, new_unless, transacted, acked_if, kind_of, tid_of, message_handled, asked_of_flow, handle}
+use Rattle.operator_model.specs.Handle.{reply_result, silent, carried_out, is_of_cmts, new_unless, transaction_result, acked_if, kind_of, tid_of, message_handled, asked_of_flow, handle}
 
 module _ (op : Operator) (modem : Modem) where
-  again : (kind : Kind) (entry : KeptEntry) (b : Bool) → (if b then told op.state modem entry.reply else silent op.state modem causes.TidInUse).state.inbox ≡ op.state.inbox
+  again : (kind : Kind) (entry : KeptEntry) (b : Bool) → (if b then reply_result op.state modem entry.reply else silent op.state modem causes.TidInUse).state.inbox ≡ op.state.inbox
   again kind entry true = refl
   again kind entry false = refl
 
   room : (kind : Kind) (tid : ℕ) (v : Verdict) (b : Bool)
-      → (if b then told op.state modem (spell_reply (refusal kind tid codes.RejectTemporary)) else carried_out op.consts op.state modem kind tid v).state.inbox ≡ op.state.inbox
+      → (if b then reply_result op.state modem (spell_reply (refusal kind tid codes.RejectTemporary)) else carried_out op.consts op.state modem kind tid v).state.inbox ≡ op.state.inbox
   room kind tid v true = refl
   room kind tid v false = refl
 
@@ -46,11 +46,11 @@ module _ (op : Operator) (modem : Modem) where
   new kind tid v None = room kind tid v (nat_le op.row.transactions (length op.state.kept))
 
   first : (kind : Kind) (tid : ℕ) (v : Verdict) (b : Bool)
-      → (if b then told op.state modem (spell_reply (refusal kind tid codes.RejectUnknownTransaction)) else new_unless op modem kind tid v (find (is_of modem tid) op.state.kept)).state.inbox ≡ op.state.inbox
+      → (if b then reply_result op.state modem (spell_reply (refusal kind tid codes.RejectUnknownTransaction)) else new_unless op modem kind tid v (find (is_of modem tid) op.state.kept)).state.inbox ≡ op.state.inbox
   first kind tid v true = refl
   first kind tid v false = new kind tid v (find (is_of modem tid) op.state.kept)
 
-  transacted_keeps : (kind : Kind) (tid : ℕ) (v : Verdict) → (transacted op modem kind tid v).state.inbox ≡ op.state.inbox
+  transacted_keeps : (kind : Kind) (tid : ℕ) (v : Verdict) → (transaction_result op modem kind tid v).state.inbox ≡ op.state.inbox
   transacted_keeps kind tid v = first kind tid v (is_of_cmts tid)
 
   acked_keeps : (tid : ℕ) (kind : Kind) (code : ℕ) (o : Option ℕ) → (acked_if op.consts op.state modem tid kind code o).state.inbox ≡ op.state.inbox
@@ -61,7 +61,7 @@ module _ (op : Operator) (modem : Modem) where
   message_keeps (Err faults.Empty) = refl
   message_keeps (Err (faults.NotOurs mtype)) = refl
   message_keeps (Err faults.Short) = refl
-  message_keeps (Err (faults.Tlv tid kind id fault)) = transacted_keeps kind tid (Refused (errored kind tid id fault))
+  message_keeps (Err (faults.Tlv tid kind id fault)) = transacted_keeps kind tid (Refused (encoding_refusal kind tid id fault))
   message_keeps (Err (faults.LeftOut tid kind found)) = transacted_keeps kind tid (Refused (refusal kind tid codes.RejectUnrecognizedSetting))
   message_keeps (Err faults.NoMemory) = refl
   message_keeps (Ok (messages.Ack kind tid code)) = acked_keeps tid kind code (option_map (λ entry. entry.sfid) (find (waits_for modem tid kind) op.state.kept))
@@ -69,7 +69,7 @@ module _ (op : Operator) (modem : Modem) where
 
   asking : (minislots : ℕ) (entry : ℕ × Flow) (mine asks : Bool)
       → (if not mine then silent op.state modem causes.NoSuchSid else if not asks then silent op.state modem causes.NotRequesting else
-      record { state = record op.state { flows = with_flow entry.0 (requested minislots op.state.frame entry.1) op.state.flows }; outputs = [] }).state.inbox ≡ op.state.inbox
+      record { state = record op.state { flows = with_flow entry.0 (flow_after_request minislots op.state.frame entry.1) op.state.flows }; outputs = [] }).state.inbox ≡ op.state.inbox
   asking minislots entry false asks = refl
   asking minislots entry true false = refl
   asking minislots entry true true = refl
@@ -85,12 +85,12 @@ module _ (op : Operator) (modem : Modem) where
 -- ---- what was handled first is taken out
 
 of_first : (op : Operator) (first : Arrival) (inbox : List Arrival) → slice_get inbox 0 ≡ Some first
-    → worked op inbox ≡ taken_out (drop 1 inbox) (handle op first.modem first.heard)
+    → work_result op inbox ≡ taken_out (drop 1 inbox) (handle op first.modem first.heard)
 of_first op first [] e = absurd (none-some first e)
 of_first op first (x ∷ xs) e = ap (λ (f : Arrival). taken_out xs (handle op f.modem f.heard)) (same_Some x first e)
 
 pub worked_is : (op : Operator) (first : Arrival) (heard : Heard) → slice_get op.state.inbox 0 ≡ Some first → first.heard ≡ heard
-    → taken_out (drop 1 (handle op first.modem heard).state.inbox) (handle op first.modem heard) ≡ worked op op.state.inbox
+    → taken_out (drop 1 (handle op first.modem heard).state.inbox) (handle op first.modem heard) ≡ work_result op op.state.inbox
 worked_is op first heard e is =
     ap (λ (xs : List Arrival). taken_out (drop 1 xs) (handle op first.modem heard)) (handle_keeps op first.modem first.modem heard refl)
     ∙ ap (λ (h : Heard). taken_out (drop 1 op.state.inbox) (handle op first.modem h)) (sym is)

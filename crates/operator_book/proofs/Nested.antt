@@ -11,7 +11,7 @@ use Rattle.param_sets.specs.declared.refusal.Refusal.{Refusal}
 use Rattle.operator_model.specs.declared.verdict.Transaction.{Transaction}
 use Rattle.operator_model.specs.declared.verdict.AskedSets.{AskedSets}
 use Rattle.operator_model.specs.Asked.{refusal_naming, nested_unless, failing_active, failing_admitted, nested_sets}
-use Rattle.operator_book.specs.Over.{asked_over}
+use Rattle.operator_book.specs.Over.{asked_sets_over}
 
 abbrev IsMade : Result SetsFields Refusal → Type 0
 IsMade (Ok sets) = Unit {0}
@@ -49,13 +49,13 @@ unless_err t first provisioned asked (Some n) r e =
     ap (λ (x : Result SetsFields Refusal). refused (refusal_naming t RejectAuthorizationFailure first (subtype_in x))) e
 
 pub nested_ok : (t : Transaction) (first : FlowFields) (sets : SetsFields) (asked : AskedSets) (after : SetsFields)
-    → failing_active asked.active asked.admitted ≡ None → asked_over sets asked ≡ Ok after → nested_sets t first sets.provisioned asked ≡ Ok after
+    → failing_active asked.active asked.admitted ≡ None → asked_sets_over sets asked ≡ Ok after → nested_sets t first sets.provisioned asked ≡ Ok after
 unfolding nested_sets
 nested_ok t first sets asked after active over =
     rw active (unless_ok t first sets.provisioned asked (failing_admitted asked.admitted sets.provisioned) after over)
 
 pub nested_err : (t : Transaction) (first : FlowFields) (sets : SetsFields) (asked : AskedSets) (r : Refusal)
-    → failing_active asked.active asked.admitted ≡ None → asked_over sets asked ≡ Err r
+    → failing_active asked.active asked.admitted ≡ None → asked_sets_over sets asked ≡ Err r
     → nested_sets t first sets.provisioned asked ≡ Err (refusal_naming t RejectAuthorizationFailure first r.subtype)
 unfolding nested_sets
 nested_err t first sets asked r active over =

@@ -5,10 +5,10 @@ use Rattle.plant.specs.declared.consts.ConstsFields.{ConstsFields}
 use Rattle.plant.specs.declared.operator_row.RowFields.{RowFields}
 use Rattle.operator_model.specs.declared.action.Action.{Action}
 use Rattle.operator_model.specs.declared.action.Entry.{Entry}
-use Rattle.operator_model.specs.State.{OperatorState, opened, Operator, operator}
+use Rattle.operator_model.specs.State.{OperatorState, opened_state, Operator, operator}
 use Rattle.operator_model.specs.declared.action.SliceRow.{SliceRow}
 use Rattle.operator_model.specs.declared.action.Action.TheVariants as actions
-use Rattle.operator_model.specs.Machine.{resliced, unfit_from, own_step, own_run, IsAllowed}
+use Rattle.operator_model.specs.Machine.{reslice_result, unfit_from, own_step, own_run, IsAllowed}
 use Rattle.operator_model.specs.Replay.{actions_of, AreTold, IsReplay}
 
 -- the run of one action more, from any state
@@ -29,15 +29,15 @@ pub replay_push : (consts : ConstsFields) (row : RowFields) (history : List Entr
     → IsReplay consts row (history ++ entry ∷ []) after
 replay_push consts row history state after entry replay allowed is outputs = record {
   state_is = is ∙ (ap (λ (s : OperatorState). (own_step (operator consts row s) entry.action).state) replay.state_is
-      ∙ (sym (after_push (operator consts row (opened consts row)) (actions_of history) entry.action)
-      ∙ ap (λ (actions : List Action). (own_run (operator consts row (opened consts row)) actions).state) (sym (map-append (λ (e : Entry). e.action) history (entry ∷ [])))));
-  told = told_push (operator consts row (opened consts row)) history entry replay.told
+      ∙ (sym (after_push (operator consts row (opened_state consts row)) (actions_of history) entry.action)
+      ∙ ap (λ (actions : List Action). (own_run (operator consts row (opened_state consts row)) actions).state) (sym (map-append (λ (e : Entry). e.action) history (entry ∷ [])))));
+  told = told_push (operator consts row (opened_state consts row)) history entry replay.told
       (subst (λ (s : OperatorState). IsAllowed (operator consts row s) entry.action) replay.state_is allowed)
       (outputs ∙ ap (λ (s : OperatorState). (own_step (operator consts row s) entry.action).outputs) replay.state_is);
 }
 
 pub resliced_is : (op : Operator) (from : ℕ) (slice : SliceRow)
-    → own_step op (actions.Reslice from slice) ≡ resliced op.state from slice
+    → own_step op (actions.Reslice from slice) ≡ reslice_result op.state from slice
 unfolding own_step
 resliced_is op from slice = refl
 

@@ -3,11 +3,11 @@ use Rattle.operator_model.specs.State.{Operator}
 use Rattle.std.specs.Prelude.{◌≡◌, Bool, Result, IfOk, OnOk, OnErr}
 use Rattle.std.specs.declared.alloc.AllocError.{AllocError}
 use Rattle.operator_model.specs.Handle.{StepResult}
-use Rattle.operator_book.specs.declared.machine.Both.{Both}
+use Rattle.operator_book.specs.declared.machine.OutputCopies.{OutputCopies}
 use Rattle.operator_book.specs.Held.{with_state}
 
 -- the machine has run so and reports so, twice where that is asked for; if memory ran out nothing has changed
-pub record Does (two : Bool) (old new : Operator) (result : Result Both AllocError) (ran : StepResult) : Type 0 where
+pub record Does (two : Bool) (old new : Operator) (result : Result OutputCopies AllocError) (ran : StepResult) : Type 0 where
   pub state : OnOk result (new ≡ with_state old ran)
   pub outputs : IfOk result (λ both. both.told.items ≡ ran.outputs)
   pub twice : IfOk result (λ both. both.twice ≡ two)

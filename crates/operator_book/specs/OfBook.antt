@@ -7,14 +7,14 @@ use Rattle.operator_model.specs.declared.action.Action.{Action}
 use Rattle.operator_model.specs.declared.action.SliceRow.{SliceRow}
 use Rattle.operator_model.specs.declared.action.Unfit.{Unfit}
 use Rattle.operator_model.specs.declared.output.Output.{Output}
-use Rattle.operator_model.specs.State.{opened, operator}
+use Rattle.operator_model.specs.State.{opened_state, operator}
 use Rattle.operator_model.specs.Machine as machines
 use Rattle.operator_model.specs.Replay.{BookView, IsReplay}
 use Rattle.operator_model.specs.Sound as sound
 
 -- a book with nothing done
 abbrev pub opened_book : RowFields → ConstsFields → BookView
-opened_book row consts = record { row = row; consts = consts; state = opened consts row; history = [] }
+opened_book row consts = record { row = row; consts = consts; state = opened_state consts row; history = [] }
 
 abbrev pub outputs_of : BookView → Action → List Output
 outputs_of b action = (machines.own_step (operator b.consts b.row b.state) action).outputs

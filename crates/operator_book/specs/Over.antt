@@ -8,7 +8,7 @@ use Rattle.operator_model.specs.declared.verdict.AskedSets.{AskedSets}
 use Rattle.operator_model.specs.Asked.{failing_admitted}
 
 -- refused where the admitted set is not within the provisioned one
-abbrev pub asked_over : SetsFields → AskedSets → Result SetsFields Refusal
-asked_over sets asked =
+abbrev pub asked_sets_over : SetsFields → AskedSets → Result SetsFields Refusal
+asked_sets_over sets asked =
     sets_unless (failing_admitted asked.admitted sets.provisioned) RejectAuthorizationFailure
     (record { provisioned = sets.provisioned; admitted = asked.admitted; active = asked.active })

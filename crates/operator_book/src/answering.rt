@@ -11,9 +11,9 @@ ghost use Rattle.operator_model.specs.Asked.{refusal};
 ghost use Rattle.operator_model.specs.Handle.{message_handled, tid_of, kind_of};
 ghost use Rattle.operator_book.specs.Held.{table_of, HasOwnSids, MayPut};
 ghost use Rattle.operator_book.specs.Does.{Does};
-ghost use Rattle.operator_book.specs.Running.{keeping, told, carried_out, IsAnswered, IsNew};
+ghost use Rattle.operator_book.specs.Running.{keeping, reply_output, carried_out, IsAnswered, IsCarriedOut};
 
-use crate::machine::{Both, Machine, answer, silent};
+use crate::machine::{MachineState, OutputCopies, answer, silent};
 use crate::refusal::refusal;
 use dsx_messages::{Code, Kind, Modem, Reply, Request, write_reply};
 use flow_table::Flow;
@@ -49,16 +49,16 @@ fn unkept(
     kind: Kind,
     tid: u16,
     code: Code,
-) -> Result<Both, AllocError>
+) -> Result<OutputCopies, AllocError>
     requires { code ≢ Okay }
-    ensures told { IfOk result (λ both. both.told.items ≡ told modem (refusal kind tid code)) }
+    ensures told { IfOk result (λ both. both.told.items ≡ reply_output modem (refusal kind tid code)) }
     ensures twice { IfOk result (λ both. both.twice ≡ twice) }
 {
     let reply = Bytes::from_vec(write_reply(alloc, &refusal(kind, tid, code))?);
     answer(alloc, twice, modem, &reply)
 }
 
-impl Machine {
+impl MachineState {
     /// Caches a reply under its modem and transaction ID.
     fn keep(&mut self, modem: Modem, kind: Kind, tid: u16, reply: Bytes, sfid: u32, waits: bool)
         requires free { IsNone (find (is_of modem tid) self.old.state.kept) }
@@ -77,7 +77,7 @@ impl Machine {
         kind: Kind,
         tid: u16,
         reply: Reply,
-    ) -> Result<Both, AllocError>
+    ) -> Result<OutputCopies, AllocError>
         requires free { IsNone (find (is_of modem tid) self.old.state.kept) }
         requires room { length self.old.state.kept < self.old.row.transactions }
         ensures { Does twice self.old self.new result (carried_out self.old modem kind tid (Refused reply)) }
@@ -100,7 +100,7 @@ impl Machine {
         sfid: u32,
         flow: &Flow,
         reply: Reply,
-    ) -> Result<Both, AllocError>
+    ) -> Result<OutputCopies, AllocError>
         requires stands { MayStand (table_of self.old) sfid flow.now }
         requires free { IsNone (find (is_of modem tid) self.old.state.kept) }
         requires room { length self.old.state.kept < self.old.row.transactions }
@@ -108,7 +108,7 @@ impl Machine {
     {
         let bytes = Bytes::from_vec(write_reply(alloc, &reply)?);
         let both = answer(alloc, twice, modem, &bytes)?;
-        self.flows.put(sfid, flow)?;
+        self.flows.put_flow(sfid, flow)?;
         self.keep(modem, kind, tid, bytes, sfid, true);
         Ok(both)
     }
@@ -124,7 +124,7 @@ impl Machine {
         tid: u16,
         sfid: u32,
         reply: Reply,
-    ) -> Result<Both, AllocError>
+    ) -> Result<OutputCopies, AllocError>
         requires free { IsNone (find (is_of modem tid) self.old.state.kept) }
         requires room { length self.old.state.kept < self.old.row.transactions }
         ensures { Does twice self.old self.new result (carried_out self.old modem kind tid (Deleted sfid reply)) }
@@ -146,7 +146,7 @@ impl Machine {
         kind: Kind,
         tid: u16,
         verdict: Verdict,
-    ) -> Result<Both, AllocError>
+    ) -> Result<OutputCopies, AllocError>
         requires puts { MayPut (table_of self.old) verdict }
         requires free { IsNone (find (is_of modem tid) self.old.state.kept) }
         requires room { length self.old.state.kept < self.old.row.transactions }
@@ -174,11 +174,11 @@ impl Machine {
         modem: Modem,
         kind: Kind,
         tid: u16,
-    ) -> Result<Option<Both>, AllocError>
+    ) -> Result<Option<OutputCopies>, AllocError>
         ensures told { IfOk result (λ early. IfSome early
             (λ both. IsAnswered self.now modem kind tid both.told.items)) }
         ensures twice { IfOk result (λ early. IfSome early (λ both. both.twice ≡ twice)) }
-        ensures new { IfOk result (λ early. IfNone early (IsNew self.now modem kind tid)) }
+        ensures new { IfOk result (λ early. IfNone early (IsCarriedOut self.now modem kind tid)) }
     {
         if tid >= 0x8000 {
             let both = unkept(
@@ -213,7 +213,7 @@ impl Machine {
         twice: bool,
         modem: Modem,
         request: &Request,
-    ) -> Result<Both, AllocError>
+    ) -> Result<OutputCopies, AllocError>
         requires { HasOwnSids self.old }
         ensures { Does twice self.old self.new result (message_handled self.old modem (Ok (messages.Request request.now))) }
     {

@@ -5,14 +5,14 @@ ghost use Rattle.std.specs.Option.{option_copied};
 ghost use Rattle.std.specs.List.{list_all};
 ghost use Rattle.dsx_messages.specs.declared.kind.Kind.TheVariants.{Dsc, Dsd};
 ghost use Rattle.flow_table.specs.Table.{flow_at};
-ghost use Rattle.operator_book.specs.Over.{asked_over};
-ghost use Rattle.operator_model.specs.Asked.{is_unclassed, number_in, is_same, first_of, first_encoding, free_flow, set_over_class, set_of, is_change, asked_by_type, asked_by_one, in_order, asked_by_two, asked_sets, failing_active, nested_sets, addition_of, change_of};
+ghost use Rattle.operator_book.specs.Over.{asked_sets_over};
+ghost use Rattle.operator_model.specs.Asked.{is_unclassed, id_number, is_same, first_of, first_encoding, free_flow, set_over_class, set_of, is_change, asked_by_type, asked_by_one, in_order, asked_by_two, asked_sets, failing_active, nested_sets, addition_of, change_of};
 
 use crate::refusal::{refusal, refusal_naming};
 use dsx_messages::{Code, Kind, Reply};
 use flow_table::{Flow, Flows};
 use operator_model::{
-    Addition, AskedSets, Change, Transaction, has_set_type, is_same, number_in, stand_together,
+    Addition, AskedSets, Change, Transaction, has_set_type, id_number, is_same, stand_together,
 };
 use param_sets::{ParamSet, Refusal, Sets, from_tlv, within};
 use plant::Consts;
@@ -20,12 +20,12 @@ use tlv24::{FlowTlv, subtype};
 
 /// Returns whether each encoding has the identifier of this one.
 fn all_name(kind: Kind, first: &FlowTlv, others: &[FlowTlv]) -> bool
-    ensures { result ≡ list_all (λ other. is_same (number_in kind first.now) (number_in kind other)) others.now }
+    ensures { result ≡ list_all (λ other. is_same (id_number kind first.now) (id_number kind other)) others.now }
 {
-    let number = number_in(kind, first);
+    let number = id_number(kind, first);
     others
         .iter()
-        .all(|other| is_same(number, number_in(kind, other)))
+        .all(|other| is_same(number, id_number(kind, other)))
 }
 
 /// Returns the first of the encodings, where they are together.
@@ -127,7 +127,7 @@ fn set_of(t: Transaction, consts: &Consts, flow: &FlowTlv) -> Result<ParamSet, R
     if flow.get_class_name().is_none() {
         return set_from(t, consts, flow, flow);
     }
-    match consts.asked(flow) {
+    match consts.requested_encoding(flow) {
         Some(asked) => set_from(t, consts, flow, &asked),
         None => Err(refusal_naming(t, Code::RejectPermanent, flow, subtype::CLASS_NAME)),
     }
@@ -277,7 +277,7 @@ fn nested_sets(
 #[inline(always)]
 fn with_asked(sets: Sets, asked: &AskedSets) -> Result<Sets, Refusal>
     requires { failing_active asked.now.active asked.now.admitted ≡ None }
-    ensures { result ≡ asked_over sets asked.now }
+    ensures { result ≡ asked_sets_over sets asked.now }
 {
     let Some(admitted) = asked.admitted else {
         return Ok(sets.clear());

@@ -7,13 +7,13 @@ ghost use Rattle.operator_model.specs.declared.action.Unfit.{Unfit};
 ghost use Rattle.operator_model.specs.declared.action.Action.{Action};
 ghost use Rattle.operator_model.specs.declared.action.Action.TheVariants as actions;
 ghost use Rattle.operator_model.specs.Machine.{is_spent};
-ghost use Rattle.operator_model.specs.Replay.{acted};
+ghost use Rattle.operator_model.specs.Replay.{book_after_action};
 ghost use Rattle.operator_book.specs.MostOutputs.{most_outputs_of};
 ghost use Rattle.operator_book.specs.OfBook.{opened_book, outputs_of, stranger_of, unfit_of, unfit_from, IsAllowed, IsReplayed, IsSound};
 ghost use Rattle.operator_book.specs.declared.book.OpenFault.TheVariants as open_faults;
 ghost use Rattle.operator_book.specs.declared.book.BookFault.TheVariants.{NoMemory};
 
-use crate::logged::Logged;
+use crate::logged::RecordedMachine;
 use crate::state_view::StateView;
 use dsx_messages::Modem;
 use grant_policy::Ranking;
@@ -64,7 +64,7 @@ impl From<AllocError> for BookFault {
 /// in its place. The type keeps that the state is the replay of the history from the opened state, and that the ranking
 /// follows the row's policy.
 pub struct Book {
-    kept: Logged,
+    kept: RecordedMachine,
     ranking: Ranking,
     ghost same_policy: { ranking.policy ≡ kept.book.row.policy },
 }
@@ -95,14 +95,14 @@ impl Book {
         if ranking.policy() != row.get_fields().policy {
             return Err(OpenFault::PolicyMismatch);
         }
-        let kept = Logged::open(alloc, row, consts)?;
+        let kept = RecordedMachine::open(alloc, row, consts)?;
         Ok(Book { kept, ranking })
     }
 
     /// Does an action, and reports what it outputs. A refused action changes nothing but that there
     /// may be more spare room.
     pub fn act(&mut self, alloc: Global, action: Action) -> Result<Vec<Output>, BookFault>
-        ensures state { OnOk result (self.new.kept.book ≡ acted self.old.kept.book action) }
+        ensures state { OnOk result (self.new.kept.book ≡ book_after_action self.old.kept.book action) }
         ensures outputs { IfOk result (λ outputs. outputs.items ≡ outputs_of self.old.kept.book action) }
 
         // A stranger is refused first, then a tick past the last frame, then a slice that does not fit, and only these are;
@@ -145,7 +145,7 @@ impl Book {
     pub fn reslice(&mut self, from: u32, row: SliceRow)
         requires fit { unfit_from self.old.kept.book from row ≡ None }
         requires spare { 0 < self.old.kept.spare }
-        ensures { self.new.kept.book ≡ acted self.old.kept.book (actions.Reslice from row) }
+        ensures { self.new.kept.book ≡ book_after_action self.old.kept.book (actions.Reslice from row) }
     {
         self.kept.reslice(from, row);
     }
@@ -197,7 +197,7 @@ impl Book {
 
     /// Returns the book taken apart: its machine with its history, and its ranking, which follows
     /// the row's policy.
-    pub fn into_parts(self) -> (Logged, Ranking)
+    pub fn into_parts(self) -> (RecordedMachine, Ranking)
         requires { self.ranking.policy ≡ self.kept.book.row.policy }
         ensures { (result.0 ≡ self.kept) × (result.1 ≡ self.ranking) × (result.1.policy ≡ result.0.book.row.policy) }
     {
@@ -206,7 +206,7 @@ impl Book {
     }
 
     /// Returns the book of these parts.
-    pub fn of_parts(kept: Logged, ranking: Ranking) -> Book
+    pub fn of_parts(kept: RecordedMachine, ranking: Ranking) -> Book
         requires { ranking.policy ≡ kept.book.row.policy }
         ensures { (result.kept ≡ kept) × (result.ranking ≡ ranking) }
     {

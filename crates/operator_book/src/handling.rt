@@ -4,21 +4,21 @@ ghost use Rattle.std.specs.Prelude.{◌≡◌, ◌<◌, None, Result, Ok, Err, I
 ghost use Rattle.dsx_messages.specs.declared.message.Message.{Message};
 ghost use Rattle.dsx_messages.specs.declared.fault.MessageFault.{MessageFault};
 ghost use Rattle.dsx_messages.specs.Reading.{Fails, Gives};
-ghost use Rattle.flow_table.specs.Flow.{acknowledged};
+ghost use Rattle.flow_table.specs.Flow.{flow_after_ack};
 ghost use Rattle.operator_model.specs.declared.verdict.Verdict.TheVariants.{Refused};
 ghost use Rattle.operator_model.specs.Asked.{refusal};
-ghost use Rattle.operator_model.specs.Handle.{transacted, message_handled, undone};
+ghost use Rattle.operator_model.specs.Handle.{transaction_result, message_handled, undone};
 ghost use Rattle.operator_book.specs.Held.{HasOwnSids, HasRightId};
 ghost use Rattle.operator_book.specs.Does.{Does};
-ghost use Rattle.operator_book.specs.Running.{with_flows, with_change, with_inbox, told, acked, asked_of_flow, worked, arrived};
+ghost use Rattle.operator_book.specs.Running.{with_flows, with_change, with_inbox, reply_output, ack_result_of, asked_of_flow, work_result_of, arrival_result_of};
 
-use crate::machine::{Both, Machine, nothing, silent};
-use crate::refusal::{errored, refusal};
+use crate::machine::{MachineState, OutputCopies, nothing, silent};
+use crate::refusal::{encoding_refusal, refusal};
 use dsx_messages::{Code, Kind, Message, MessageFault, Modem, Reply, Request, read};
 use operator_model::{Arrival, Cause, Heard};
 use std::alloc::{AllocError, Global};
 
-impl Machine {
+impl MachineState {
     /// Refuses with this reply a request that could not be read.
     fn fault_handled(
         &mut self,
@@ -28,8 +28,8 @@ impl Machine {
         kind: Kind,
         tid: u16,
         reply: Reply,
-    ) -> Result<Both, AllocError>
-        ensures { Does twice self.old self.new result (transacted self.old modem kind tid (Refused reply)) }
+    ) -> Result<OutputCopies, AllocError>
+        ensures { Does twice self.old self.new result (transaction_result self.old modem kind tid (Refused reply)) }
     {
         if let Some(both) = self.early_answer(alloc, twice, modem, kind, tid)? {
             return Ok(both);
@@ -39,7 +39,7 @@ impl Machine {
 
     /// Makes the pending sets of a flow its sets.
     fn commit(&mut self, sfid: u32)
-        ensures { self.new ≡ with_change self.old sfid (acknowledged self.old.state.frame) }
+        ensures { self.new ≡ with_change self.old sfid (flow_after_ack self.old.state.frame) }
     {
         self.flows.acknowledge(sfid, self.frame);
     }
@@ -56,7 +56,7 @@ impl Machine {
     }
 
     /// Handles an acknowledgement: code 0 commits, another takes back.
-    fn acked(
+    fn handle_ack(
         &mut self,
         alloc: Global,
         twice: bool,
@@ -64,8 +64,8 @@ impl Machine {
         tid: u16,
         kind: Kind,
         code: u8,
-    ) -> Result<Both, AllocError>
-        ensures { Does twice self.old self.new result (acked self.old modem tid kind code) }
+    ) -> Result<OutputCopies, AllocError>
+        ensures { Does twice self.old self.new result (ack_result_of self.old modem tid kind code) }
     {
         let Some(sfid) = self.kept.acked(modem, tid, kind) else {
             return silent(alloc, twice, Some(modem), Cause::UnknownAck);
@@ -86,7 +86,7 @@ impl Machine {
         modem: Modem,
         sid: u16,
         minislots: u16,
-    ) -> Result<Both, AllocError>
+    ) -> Result<OutputCopies, AllocError>
         ensures { Does twice self.old self.new result (asked_of_flow self.old modem sid minislots) }
     {
         let Some(asker) = self.flows.asker(sid) else {
@@ -109,7 +109,7 @@ impl Machine {
         twice: bool,
         modem: Modem,
         fault: MessageFault,
-    ) -> Result<Both, AllocError>
+    ) -> Result<OutputCopies, AllocError>
         requires { HasRightId fault }
         ensures does { Does twice self.old self.new result (message_handled self.old modem (Err fault)) }
         ensures told { OnOk result ((read : Result Message MessageFault) → Fails fault read → read ≡ Err fault) }
@@ -130,7 +130,7 @@ impl Machine {
                 modem,
                 kind,
                 tid,
-                errored(kind, tid, id, fault),
+                encoding_refusal(kind, tid, id, fault),
             ),
             MessageFault::LeftOut {
                 tid,
@@ -150,13 +150,15 @@ impl Machine {
         twice: bool,
         modem: Modem,
         message: &Message,
-    ) -> Result<Both, AllocError>
+    ) -> Result<OutputCopies, AllocError>
         requires { HasOwnSids self.old }
         ensures { Does twice self.old self.new result (message_handled self.old modem (Ok message.now)) }
     {
         match message {
             Message::Request(request) => self.request_handled(alloc, twice, modem, request),
-            Message::Ack { kind, tid, code } => self.acked(alloc, twice, modem, *tid, *kind, *code),
+            Message::Ack { kind, tid, code } => self.handle_ack(
+                alloc, twice, modem, *tid, *kind, *code,
+            ),
         }
     }
 
@@ -167,7 +169,7 @@ impl Machine {
         twice: bool,
         modem: Modem,
         said: Result<Message, MessageFault>,
-    ) -> Result<Both, AllocError>
+    ) -> Result<OutputCopies, AllocError>
         requires sids { HasOwnSids self.old }
         requires right { IfErr said HasRightId }
         ensures does { (read : Result Message MessageFault) → Gives (λ m. m) said read
@@ -189,9 +191,9 @@ impl Machine {
 
     /// Handles what was received first, and takes it out of the inbox.
     #[inline(always)]
-    pub(crate) fn work(&mut self, alloc: Global, twice: bool) -> Result<Both, AllocError>
+    pub(crate) fn work(&mut self, alloc: Global, twice: bool) -> Result<OutputCopies, AllocError>
         requires { HasOwnSids self.old }
-        ensures { Does twice self.old self.new result (worked self.old) }
+        ensures { Does twice self.old self.new result (work_result_of self.old) }
     {
         let Some(first) = self.inbox.front() else {
             return silent(alloc, twice, None, Cause::Idle);
@@ -221,8 +223,8 @@ impl Machine {
         twice: bool,
         modem: Modem,
         heard: Heard,
-    ) -> Result<Both, AllocError>
-        ensures { Does twice self.old self.new result (arrived self.old modem heard) }
+    ) -> Result<OutputCopies, AllocError>
+        ensures { Does twice self.old self.new result (arrival_result_of self.old modem heard) }
     {
         if self.inbox.len() >= usize::from(self.row.get_fields().inbox) {
             return silent(alloc, twice, Some(modem), Cause::InboxFull);
@@ -238,8 +240,8 @@ impl Machine {
         twice: bool,
         modem: Modem,
         heard: &Heard,
-    ) -> Result<Both, AllocError>
-        ensures { Does twice self.old self.new result (arrived self.old modem heard.now) }
+    ) -> Result<OutputCopies, AllocError>
+        ensures { Does twice self.old self.new result (arrival_result_of self.old modem heard.now) }
     {
         let heard = heard.copy(alloc)?;
         self.take_in(alloc, twice, modem, heard)

@@ -7,11 +7,11 @@ ghost use Rattle.operator_model.specs.Machine.{stranger_of, is_spent, unfit_of, 
 ghost use Rattle.operator_book.specs.MostOutputs.{most_outputs_of};
 
 use crate::book::BookFault;
-use crate::machine::Machine;
+use crate::machine::MachineState;
 use operator_model::Action;
 use plant::is_listed;
 
-impl Machine {
+impl MachineState {
     /// Returns whether this is a tick past the last frame.
     #[inline(always)]
     pub(crate) fn is_spent(&self, action: &Action) -> bool

@@ -19,8 +19,8 @@ mod ticking;
 mod verdict;
 
 pub use book::{Book, BookFault, OpenFault};
-pub use live::{Live, SoundMachine};
-pub use logged::Logged;
+pub use live::{Machine, SoundMachine};
+pub use logged::RecordedMachine;
 pub use operator_model::{
     Action, Arrival, Cause, Entry, Heard, NextShare, Output, Outputs, Share, SliceRow, Unfit,
 };

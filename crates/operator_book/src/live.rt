@@ -5,13 +5,13 @@ ghost use Rattle.dsx_messages.specs.declared.modem.Modem.{Modem};
 ghost use Rattle.plant.specs.Row.{IsRowOf};
 ghost use Rattle.operator_model.specs.declared.action.Unfit.{Unfit};
 ghost use Rattle.operator_model.specs.declared.action.Action.TheVariants as actions;
-ghost use Rattle.operator_model.specs.State.{operator, opened};
+ghost use Rattle.operator_model.specs.State.{operator, opened_state};
 ghost use Rattle.operator_model.specs.Machine.{stranger_of, is_spent, unfit_of, unfit_from, own_step, after_step, IsAllowed};
 ghost use Rattle.operator_model.specs.Sound.{IsSound};
 ghost use Rattle.operator_book.specs.MostOutputs.{most_outputs_of};
 
 use crate::book::{BookFault, OpenFault};
-use crate::machine::{Both, Machine};
+use crate::machine::{MachineState, OutputCopies};
 use grant_policy::Ranking;
 use operator_model::{
     Action, NextShare, Output, Share, SliceRow, Unfit, opened_is_sound, step_keeps_sound,
@@ -23,7 +23,7 @@ use std::marker::Model;
 /// A machine of which the state is sound. Contracts see the operator.
 #[derive(Drop)]
 pub struct SoundMachine {
-    machine: Machine,
+    machine: MachineState,
 }
 
 impl Model for SoundMachine {
@@ -41,16 +41,16 @@ impl Model for SoundMachine {
 /// except what it remembers, so that its memory does not grow with what is done. What contracts say
 /// of it they say of `sound`: what all operators share, the row and the state, which is sound. The
 /// type keeps that the ranking follows the row's policy.
-pub struct Live {
+pub struct Machine {
     sound: SoundMachine,
     ranking: Ranking,
     ghost same_policy: { ranking.policy ≡ sound.row.policy },
 }
 
 /// Written out, so that the crates above prove nothing of how the parts of a machine are dropped.
-impl Drop for Live {
+impl Drop for Machine {
     fn drop(self) {
-        let Live {
+        let Machine {
             sound: _,
             ranking: _,
         } = self;
@@ -61,12 +61,12 @@ impl SoundMachine {
     /// Returns the machine of an operator as it is opened.
     fn open(alloc: Global, row: &OperatorRow, consts: &Consts) -> Result<SoundMachine, AllocError>
         requires { IsRowOf consts.now row.now }
-        ensures { IfOk result (λ sound. sound ≡ operator consts.now row.now (opened consts.now row.now)) }
+        ensures { IfOk result (λ sound. sound ≡ operator consts.now row.now (opened_state consts.now row.now)) }
     {
         // For the proof: a machine is opened sound.
         opened_is_sound();
         let _some = row.get_fields().slice.get_length();
-        let machine = Machine::open(alloc, row, consts)?;
+        let machine = MachineState::open(alloc, row, consts)?;
         Ok(SoundMachine { machine })
     }
 
@@ -86,7 +86,7 @@ impl SoundMachine {
         twice: bool,
         ranking: &Ranking,
         action: Action,
-    ) -> Result<Both, AllocError>
+    ) -> Result<OutputCopies, AllocError>
         requires policy { ranking.now.policy ≡ self.old.row.policy }
         requires allowed { IsAllowed self.old action }
         ensures state { OnOk result (self.new ≡ after_step self.old action) }
@@ -111,7 +111,7 @@ impl SoundMachine {
     }
 }
 
-impl Live {
+impl Machine {
     /// Returns the machine of an operator with nothing done: its provisioned flows exist, and
     /// nothing else. The caller knows that the row is one of a plant with these constants.
     pub fn open(
@@ -119,16 +119,16 @@ impl Live {
         row: &OperatorRow,
         consts: &Consts,
         ranking: Ranking,
-    ) -> Result<Live, OpenFault>
+    ) -> Result<Machine, OpenFault>
         requires { IsRowOf consts.now row.now }
-        ensures ok { IfOk result (λ live. live.sound ≡ operator consts.now row.now (opened consts.now row.now)) }
+        ensures ok { IfOk result (λ live. live.sound ≡ operator consts.now row.now (opened_state consts.now row.now)) }
         ensures mismatch { (result ≡ Err OpenFault.PolicyMismatch) ↔ (ranking.policy ≢ row.now.policy) }
     {
         if ranking.policy() != row.get_fields().policy {
             return Err(OpenFault::PolicyMismatch);
         }
         let sound = SoundMachine::open(alloc, row, consts)?;
-        Ok(Live { sound, ranking })
+        Ok(Machine { sound, ranking })
     }
 
     /// Does an action, and reports what it outputs, and where `twice` once more: for what the

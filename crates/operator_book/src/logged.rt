@@ -3,10 +3,10 @@
 ghost use Rattle.std.specs.Prelude.{◌≡◌, ◌<◌, None, IfOk, OnOk, OnErr, vec_len, vec_capacity};
 ghost use Rattle.plant.specs.Row.{IsRowOf};
 ghost use Rattle.operator_model.specs.declared.action.Action.TheVariants as actions;
-ghost use Rattle.operator_model.specs.Replay.{acted};
+ghost use Rattle.operator_model.specs.Replay.{book_after_action};
 ghost use Rattle.operator_book.specs.OfBook.{opened_book, outputs_of, unfit_from, IsAllowed, IsReplayed, IsSound};
 
-use crate::machine::Machine;
+use crate::machine::MachineState;
 use grant_policy::Ranking;
 use operator_model::{Action, Entry, Output, Outputs, SliceRow, replay_is_sound};
 use plant::{Consts, OperatorRow};
@@ -17,12 +17,12 @@ use std::marker::Model;
 /// operators share, the state and the history; and `spare`: how many entries more the history takes
 /// without memory. The type keeps that the state is the replay of the history.
 #[derive(Drop)]
-pub struct Logged {
-    pub(crate) machine: Machine,
+pub struct RecordedMachine {
+    pub(crate) machine: MachineState,
     pub(crate) history: Vec<Entry>,
 }
 
-impl Model for Logged {
+impl Model for RecordedMachine {
     ghost use Rattle.std.specs.Prelude.{◌-◌, vec_len, vec_capacity};
     ghost use Rattle.operator_book.specs.Kept.{HeldBook, IsBook};
 
@@ -48,20 +48,20 @@ fn room_for_one(history: &mut Vec<Entry>) -> Result<(), AllocError>
     history.reserve(history.len().saturating_mul(3).max(4))
 }
 
-impl Logged {
+impl RecordedMachine {
     /// Returns the machine of an operator as it is opened, with nothing done.
     pub(crate) fn open(
         alloc: Global,
         row: &OperatorRow,
         consts: &Consts,
-    ) -> Result<Logged, AllocError>
+    ) -> Result<RecordedMachine, AllocError>
         requires { IsRowOf consts.now row.now }
         ensures { IfOk result (λ held. held.book ≡ opened_book row.now consts.now) }
     {
         // For the proof: what the type of `row.get_fields().slice.get_length()` keeps.
         let _some = row.get_fields().slice.get_length();
-        Ok(Logged {
-            machine: Machine::open(alloc, row, consts)?,
+        Ok(RecordedMachine {
+            machine: MachineState::open(alloc, row, consts)?,
             history: Vec::new(alloc),
         })
     }
@@ -75,7 +75,7 @@ impl Logged {
     ) -> Result<Vec<Output>, AllocError>
         requires policy { ranking.now.policy ≡ self.old.book.row.policy }
         requires allowed { IsAllowed self.old.book action }
-        ensures state { OnOk result (self.new.book ≡ acted self.old.book action) }
+        ensures state { OnOk result (self.new.book ≡ book_after_action self.old.book action) }
         ensures outputs { IfOk result (λ outputs. outputs.items ≡ outputs_of self.old.book action) }
         ensures err { OnErr result (self.new.book ≡ self.old.book) }
     {
@@ -103,7 +103,7 @@ impl Logged {
     pub(crate) fn reslice(&mut self, from: u32, row: SliceRow)
         requires fit { unfit_from self.old.book from row ≡ None }
         requires spare { 0 < self.old.spare }
-        ensures { self.new.book ≡ acted self.old.book (actions.Reslice from row) }
+        ensures { self.new.book ≡ book_after_action self.old.book (actions.Reslice from row) }
     {
         self.machine.reslice(from, row);
         self.history.push_reserved(Entry {

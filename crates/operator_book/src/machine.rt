@@ -15,7 +15,7 @@ use transactions::Kept;
 
 /// The machine of an operator. Contracts see what all operators share, its row, and its state.
 #[derive(Drop)]
-pub(crate) struct Machine {
+pub(crate) struct MachineState {
     pub(crate) consts: Consts,
     pub(crate) row: OperatorRow,
     pub(crate) flows: Flows,
@@ -26,7 +26,7 @@ pub(crate) struct Machine {
     pub(crate) next: Option<NextShare>,
 }
 
-impl Model for Machine {
+impl Model for MachineState {
     ghost use Rattle.operator_model.specs.State.{Operator};
     ghost use Rattle.operator_book.specs.Held.{IsMachine};
 
@@ -44,7 +44,7 @@ impl Model for Machine {
 /// The outputs of an action for the caller and, where they are reported twice, once more: for the
 /// history.
 #[derive(Drop)]
-pub(crate) struct Both {
+pub(crate) struct OutputCopies {
     pub kept: Vec<Output>,
     pub told: Vec<Output>,
     pub twice: bool,
@@ -52,11 +52,11 @@ pub(crate) struct Both {
 }
 
 /// Returns the outputs of an action that outputs nothing.
-pub(crate) fn nothing(alloc: Global, twice: bool) -> Both
+pub(crate) fn nothing(alloc: Global, twice: bool) -> OutputCopies
     ensures told { result.told.items ≡ [] }
     ensures twice { result.twice ≡ twice }
 {
-    Both {
+    OutputCopies {
         kept: Vec::new(alloc),
         told: Vec::new(alloc),
         twice,
@@ -96,13 +96,13 @@ pub(crate) fn silent(
     twice: bool,
     modem: Option<Modem>,
     cause: Cause,
-) -> Result<Both, AllocError>
+) -> Result<OutputCopies, AllocError>
     ensures told { IfOk result (λ both. both.told.items ≡ outputs.Silent modem cause ∷ []) }
     ensures twice { IfOk result (λ both. both.twice ≡ twice) }
 {
     let kept = silence_if(alloc, twice, modem, cause)?;
     let told = single(alloc, Output::Silent { modem, cause })?;
-    Ok(Both { kept, told, twice })
+    Ok(OutputCopies { kept, told, twice })
 }
 
 /// Returns a reply of these bytes.
@@ -138,11 +138,11 @@ pub(crate) fn answer(
     twice: bool,
     modem: Modem,
     reply: &Bytes,
-) -> Result<Both, AllocError>
+) -> Result<OutputCopies, AllocError>
     ensures told { IfOk result (λ both. both.told.items ≡ outputs.Reply modem reply.now ∷ []) }
     ensures twice { IfOk result (λ both. both.twice ≡ twice) }
 {
     let kept = reply_if(alloc, twice, modem, reply)?;
     let told = reply_of(alloc, modem, reply)?;
-    Ok(Both { kept, told, twice })
+    Ok(OutputCopies { kept, told, twice })
 }

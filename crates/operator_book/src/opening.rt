@@ -4,10 +4,10 @@ ghost use Rattle.std.specs.Prelude.{◌≡◌, ◌<◌, ◌≤◌, ◌+◌, [], 
 ghost use Rattle.admission.specs.Free.{IsLeastFree};
 ghost use Rattle.flow_table.specs.Table.{sids_of};
 ghost use Rattle.plant.specs.Row.{IsRowOf};
-ghost use Rattle.operator_model.specs.State.{opened_flow, opened};
+ghost use Rattle.operator_model.specs.State.{opened_flow, opened_state};
 ghost use Rattle.operator_book.specs.Opening.{sid_for, put_provision, put_provisions};
 
-use crate::machine::Machine;
+use crate::machine::MachineState;
 use dsx_messages::Modem;
 use flow_table::{Flow, Flows};
 use operator_model::Share;
@@ -75,7 +75,7 @@ fn put_provision(
         sid,
         sets,
     );
-    flows.put(sfid, &flow)?;
+    flows.put_flow(sfid, &flow)?;
     Ok(())
 }
 
@@ -110,23 +110,23 @@ fn flows_of(alloc: Global, row: &OperatorRow, consts: &Consts) -> Result<Flows, 
     Ok(flows)
 }
 
-impl Machine {
+impl MachineState {
     /// Returns the machine of an operator as it is opened: its provisioned flows, and nothing else.
     #[tactic(auto, using(crate::proofs::Opens::provisions_open))]
     pub(crate) fn open(
         alloc: Global,
         row: &OperatorRow,
         consts: &Consts,
-    ) -> Result<Machine, AllocError>
+    ) -> Result<MachineState, AllocError>
         requires { IsRowOf consts.now row.now }
         ensures { IfOk result (λ machine. machine
-            ≡ record { consts = consts.now; row = row.now; state = opened consts.now row.now }) }
+            ≡ record { consts = consts.now; row = row.now; state = opened_state consts.now row.now }) }
     {
         let keys = row.get_fields();
         let shared = consts.get_fields();
         let flows = flows_of(alloc, row, consts)?;
         let kept = Kept::new(alloc, u32::from(keys.transactions), shared.timers)?;
-        Ok(Machine {
+        Ok(MachineState {
             consts: consts.copy(alloc)?,
             row: row.copy(alloc)?,
             flows,

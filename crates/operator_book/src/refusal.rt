@@ -6,7 +6,7 @@ ghost use Rattle.dsx_messages.specs.declared.code.Code.TheVariants.{Okay};
 ghost use Rattle.dsx_messages.specs.declared.kind.Kind.TheVariants.{Dsd};
 ghost use Rattle.dsx_messages.specs.declared.reply.Detail.TheVariants.{Errored};
 ghost use Rattle.operator_model.specs.Asked.{refusal, id_of, refusal_naming};
-ghost use Rattle.operator_model.specs.Verdict.{errored};
+ghost use Rattle.operator_model.specs.Verdict.{encoding_refusal};
 
 use dsx_messages::{Code, Detail, FlowId, Kind, Reply, ReplyFields};
 use operator_model::Transaction;
@@ -64,10 +64,10 @@ pub(crate) fn refusal_naming(t: Transaction, code: Code, flow: &FlowTlv, subtype
 }
 
 /// Returns a refusal of what could not be read.
-pub(crate) fn errored(kind: Kind, tid: u16, id: Option<FlowId>, fault: TlvFault) -> Reply
+pub(crate) fn encoding_refusal(kind: Kind, tid: u16, id: Option<FlowId>, fault: TlvFault) -> Reply
     requires kind { kind ≢ Dsd }
     requires names { IfSome id (Names kind) }
-    ensures { result ≡ errored kind tid id fault }
+    ensures { result ≡ encoding_refusal kind tid id fault }
 {
     match fault {
         TlvFault::Cut { at: _ } | TlvFault::NoMemory => refusal(kind, tid, Code::RejectOther),

@@ -1,14 +1,14 @@
 //! Another slice and budget from a later frame on.
 
 ghost use Rattle.std.specs.Prelude.{◌≡◌, None};
-ghost use Rattle.operator_model.specs.Machine.{is_off_frame, unfit_from, resliced};
+ghost use Rattle.operator_model.specs.Machine.{is_off_frame, unfit_from, reslice_result};
 ghost use Rattle.operator_book.specs.Held.{with_state};
 
-use crate::machine::Machine;
+use crate::machine::MachineState;
 use operator_model::{NextShare, Share, SliceRow, Unfit};
 use slice_scheduler::Slice;
 
-impl Machine {
+impl MachineState {
     /// Returns whether an offered slice has no minislot, begins within the head, or ends after the
     /// frame.
     fn is_off_frame(&self, row: SliceRow) -> bool
@@ -45,7 +45,7 @@ impl Machine {
     /// Takes another slice and budget from a later frame on. Takes no memory.
     pub(crate) fn reslice(&mut self, from: u32, row: SliceRow)
         requires { unfit_from self.old.consts self.old.state from row ≡ None }
-        ensures { self.new ≡ with_state self.old (resliced self.old.state from row) }
+        ensures { self.new ≡ with_state self.old (reslice_result self.old.state from row) }
     {
         // For the proof: what the type of `self.consts.get_fields()` keeps.
         let _consts = self.consts.get_fields();

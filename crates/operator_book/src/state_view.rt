@@ -2,7 +2,7 @@
 
 ghost use Rattle.std.specs.Prelude.{◌≡◌, IfOk};
 
-use crate::machine::Machine;
+use crate::machine::MachineState;
 use flow_table::Flow;
 use operator_model::{Arrival, NextShare, Share};
 use std::alloc::{AllocError, Global};
@@ -51,7 +51,7 @@ fn inbox_copy(alloc: Global, inbox: &VecDeque<Arrival>) -> Result<Vec<Arrival>, 
     Ok(copies)
 }
 
-impl Machine {
+impl MachineState {
     /// Returns a copy of the state.
     pub(crate) fn state_view(&self, alloc: Global) -> Result<StateView, AllocError>
         ensures { IfOk result (λ view. view ≡ self.now.state) }
@@ -79,7 +79,7 @@ impl StateView {
     }
 
     /// Returns the responses that are kept, in the order in which their transactions began.
-    pub fn kept(&self) -> &[KeptEntry]
+    pub fn cached_responses(&self) -> &[KeptEntry]
         ensures { result.now ≡ self.now.kept }
     {
         self.kept.as_slice()

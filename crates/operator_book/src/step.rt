@@ -5,12 +5,12 @@ ghost use Rattle.operator_model.specs.Machine.{is_spent, unfit_of, own_step};
 ghost use Rattle.operator_model.specs.Sound.{IsSound};
 ghost use Rattle.operator_book.specs.Does.{Does};
 
-use crate::machine::{Both, Machine, nothing};
+use crate::machine::{MachineState, OutputCopies, nothing};
 use grant_policy::Ranking;
 use operator_model::Action;
 use std::alloc::{AllocError, Global};
 
-impl Machine {
+impl MachineState {
     /// Does an action that is not refused.
     #[tactic(auto, unfolding(operator_model::specs::Machine::own_step))]
     pub(crate) fn step(
@@ -19,7 +19,7 @@ impl Machine {
         twice: bool,
         ranking: &Ranking,
         action: &Action,
-    ) -> Result<Both, AllocError>
+    ) -> Result<OutputCopies, AllocError>
         requires sound { IsSound self.old }
         requires policy { ranking.now.policy ≡ self.old.row.policy }
         requires not_spent { is_spent self.old.state action.now ≡ false }
@@ -50,7 +50,7 @@ impl Machine {
         twice: bool,
         ranking: &Ranking,
         action: Action,
-    ) -> Result<Both, AllocError>
+    ) -> Result<OutputCopies, AllocError>
         requires sound { IsSound self.old }
         requires policy { ranking.now.policy ≡ self.old.row.policy }
         requires not_spent { is_spent self.old.state action ≡ false }

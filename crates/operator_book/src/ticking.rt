@@ -2,13 +2,13 @@
 
 ghost use Rattle.std.specs.Prelude.{◌≡◌, ◌<◌, ◌≤◌, ◌+◌, [], ◌∷◌, ◌++◌, map, length, IfOk, vec_capacity};
 ghost use Rattle.operator_model.specs.declared.output.Output.TheVariants as outputs;
-ghost use Rattle.flow_table.specs.Flow.{granted};
-ghost use Rattle.operator_model.specs.Frame.{ticked, resent, all_undone, all_granted, share_at, next_at};
+ghost use Rattle.flow_table.specs.Flow.{flow_after_grant};
+ghost use Rattle.operator_model.specs.Frame.{tick_result, resent, all_undone, all_granted, share_at, next_at};
 ghost use Rattle.operator_model.specs.Sound.{IsSound};
 ghost use Rattle.operator_book.specs.Does.{Does};
-ghost use Rattle.operator_book.specs.Running.{with_flows, with_change, elements_in, granted_in};
+ghost use Rattle.operator_book.specs.Running.{with_flows, with_change, schedule_elements, granted_in};
 
-use crate::machine::{Both, Machine};
+use crate::machine::{MachineState, OutputCopies};
 use grant_policy::Ranking;
 use operator_model::{Output, given_up_have_no_grants, schedule_can_serve};
 use slice_scheduler::{At, AtFields, Elements, Grants, Served, schedule};
@@ -66,13 +66,13 @@ fn frame_outputs(
     told
 }
 
-impl Machine {
+impl MachineState {
     /// Returns the schedule of the frame. What is abandoned has no grants, so that it may be
     /// scheduled before anything is undone.
-    fn served(&self, alloc: Global, ranking: &Ranking) -> Result<Served, AllocError>
+    fn frame_schedule(&self, alloc: Global, ranking: &Ranking) -> Result<Served, AllocError>
         requires sound { IsSound self.now }
         requires policy { ranking.now.policy ≡ self.now.row.policy }
-        ensures elements { IfOk result (λ served. served.elements ≡ elements_in self.now) }
+        ensures elements { IfOk result (λ served. served.elements ≡ schedule_elements self.now) }
         ensures granted { IfOk result (λ served. served.granted ≡ granted_in self.now) }
     {
         // For the proof: the slice in force can serve the flows.
@@ -102,7 +102,7 @@ impl Machine {
     /// Lowers the backlog of a flow by its grant of this frame.
     fn grant(&mut self, frame: u32, sfid: u32, minislots: u16)
         requires { frame < 4294967295 }
-        ensures { self.new ≡ with_change self.old sfid (granted minislots frame) }
+        ensures { self.new ≡ with_change self.old sfid (flow_after_grant minislots frame) }
     {
         self.flows.grant(sfid, minislots, frame);
     }
@@ -141,11 +141,11 @@ impl Machine {
     fn frame_plan(&self, alloc: Global, ranking: &Ranking) -> Result<FramePlan, AllocError>
         requires sound { IsSound self.now }
         requires policy { ranking.now.policy ≡ self.now.row.policy }
-        ensures elements { IfOk result (λ plan. plan.elements ≡ elements_in self.now) }
-        ensures copied { IfOk result (λ plan. plan.copied ≡ elements_in self.now) }
+        ensures elements { IfOk result (λ plan. plan.elements ≡ schedule_elements self.now) }
+        ensures copied { IfOk result (λ plan. plan.copied ≡ schedule_elements self.now) }
         ensures granted { IfOk result (λ plan. plan.granted ≡ granted_in self.now) }
     {
-        let Served { elements, granted } = self.served(alloc, ranking)?;
+        let Served { elements, granted } = self.frame_schedule(alloc, ranking)?;
         let copied = elements.copy(alloc)?;
         Ok(FramePlan {
             elements,
@@ -178,11 +178,11 @@ impl Machine {
         alloc: Global,
         twice: bool,
         ranking: &Ranking,
-    ) -> Result<Both, AllocError>
+    ) -> Result<OutputCopies, AllocError>
         requires sound { IsSound self.old }
         requires policy { ranking.now.policy ≡ self.old.row.policy }
         requires not_spent { self.old.state.frame < 4294967295 }
-        ensures { Does twice self.old self.new result (ticked self.old) }
+        ensures { Does twice self.old self.new result (tick_result self.old) }
     {
         let plan = self.frame_plan(alloc, ranking)?;
         // For the proof: what the type of `self.row.get_fields()` keeps.
@@ -194,6 +194,6 @@ impl Machine {
         self.pass_frame(given_up, plan.granted);
         let kept = frame_outputs(rooms.kept, resends, number, plan.copied);
         let told = frame_outputs(rooms.told, resend, number, plan.elements);
-        Ok(Both { kept, told, twice })
+        Ok(OutputCopies { kept, told, twice })
     }
 }

@@ -5,12 +5,12 @@ ghost use Rattle.admission.specs.Free.{IsLeastFree};
 ghost use Rattle.dsx_messages.specs.declared.kind.Kind.TheVariants.{Dsd};
 ghost use Rattle.flow_table.specs.Table.{flow_at, sids_of, MayStand};
 ghost use Rattle.operator_model.specs.Asked.{transaction, free_flow};
-ghost use Rattle.operator_model.specs.Verdict.{added, added_under, changed_with, changed, verdict, limit_of, no_room, new_flow, added_reply, changed_flow, changed_reply, wants_sid, deletion_verdict};
+ghost use Rattle.operator_model.specs.Verdict.{addition_within_limit, added_under, changed_with, change_within_limit, verdict, limit_of, no_room, new_flow, added_reply, changed_flow, changed_reply, wants_sid, deletion_verdict};
 ghost use Rattle.operator_book.specs.Held.{table_of, HasOwnSids, MayPut};
 ghost use Rattle.operator_book.specs.Running.{put_within_limit, addition_verdict, change_verdict};
 
 use crate::asked::{addition_of, change_of, free_flow};
-use crate::machine::Machine;
+use crate::machine::MachineState;
 use crate::refusal::refusal;
 use admission::Budget;
 use dsx_messages::{Code, Detail, Kind, Modem, Reply, ReplyFields, Request};
@@ -107,7 +107,7 @@ fn wants_sid(change: &Change) -> bool
     change.sets.get_admitted().is_some() && change.flow.sid.is_none()
 }
 
-impl Machine {
+impl MachineState {
     /// Returns what may be committed: the budget in force, and while another waits the smaller of
     /// the two; and the quota of elements.
     fn limit(&self) -> Budget
@@ -160,10 +160,10 @@ impl Machine {
     }
 
     /// Returns an addition, where there is room for it.
-    #[tactic(auto, unfolding(operator_model::specs::Verdict::added))]
+    #[tactic(auto, unfolding(operator_model::specs::Verdict::addition_within_limit))]
     #[inline(always)]
-    fn added(&self, modem: Modem, tid: u16, addition: &Addition) -> Verdict
-        ensures value { result ≡ added self.now modem tid addition.now }
+    fn addition_within_limit(&self, modem: Modem, tid: u16, addition: &Addition) -> Verdict
+        ensures value { result ≡ addition_within_limit self.now modem tid addition.now }
         ensures puts { MayPut (table_of self.now) result }
     {
         let row = self.row.get_fields();
@@ -214,11 +214,11 @@ impl Machine {
     }
 
     /// Returns a change, where there is room for it.
-    #[tactic(auto, unfolding(operator_model::specs::Verdict::changed))]
-    fn changed(&self, tid: u16, change: &Change) -> Verdict
+    #[tactic(auto, unfolding(operator_model::specs::Verdict::change_within_limit))]
+    fn change_within_limit(&self, tid: u16, change: &Change) -> Verdict
         requires there { flow_at change.now.sfid self.now.state.flows ≡ Some change.now.flow }
         requires range { IfSome change.now.flow.sid (λ n. n ≤ 8191) }
-        ensures value { result ≡ changed self.now tid change.now }
+        ensures value { result ≡ change_within_limit self.now tid change.now }
         ensures puts { MayPut (table_of self.now) result }
     {
         // For the proof: what always holds of `self.flows`.
@@ -245,7 +245,7 @@ impl Machine {
         };
         match addition_of(&self.consts, t, encodings) {
             Err(reply) => Verdict::Refused { reply },
-            Ok(addition) => self.added(modem, tid, &addition),
+            Ok(addition) => self.addition_within_limit(modem, tid, &addition),
         }
     }
 
@@ -265,7 +265,7 @@ impl Machine {
             Ok(change) => {
                 // For the proof: what the type of `self.row.get_fields()` keeps.
                 let _row = self.row.get_fields();
-                self.changed(tid, &change)
+                self.change_within_limit(tid, &change)
             }
         }
     }

@@ -23,7 +23,7 @@ use Rattle.operator_model.specs.declared.verdict.Transaction.{Transaction}
 use Rattle.operator_model.specs.declared.verdict.AskedSets.{AskedSets}
 use Rattle.operator_model.specs.declared.verdict.Addition.{Addition}
 use Rattle.operator_model.specs.declared.verdict.Change.{Change}
-use Rattle.operator_model.specs.Asked.{stated, refusal_naming, first_encoding, free_flow, has_set_type, set_unless, set_over_class, set_of, is_change, asked_by_type, asked_by_one, asked_by_two, asked_sets, failing_active, failing_admitted, nested_unless, nested_sets, addition_of, change_of}
+use Rattle.operator_model.specs.Asked.{stated_or_refusal, refusal_naming, first_encoding, free_flow, has_set_type, set_or_refusal, set_over_class, set_of, is_change, asked_by_type, asked_by_one, asked_by_two, asked_sets, failing_active, failing_admitted, nested_unless, nested_sets, addition_of, change_of}
 use Rattle.operator_model.specs.Sound.{KeepsItsKind, AreOfTheirKinds}
 use Rattle.operator_model.proofs.KindLemmas.{read_kind}
 
@@ -47,7 +47,7 @@ module _ (t : Transaction) (consts : ConstsFields) where
   unfolding set_of
   set-kind flow = over (asked_of consts.classes flow)
     where
-      unless : (r : Result ParamFields Refusal) → IfOk r KeepsItsKind → IfOk (set_unless t flow r) KeepsItsKind
+      unless : (r : Result ParamFields Refusal) → IfOk r KeepsItsKind → IfOk (set_or_refusal t flow r) KeepsItsKind
       unless (Ok set) h = h
       unless (Err refusal) h = tt
 
@@ -137,7 +137,7 @@ pub addition-IsAddition : (consts : ConstsFields) (t : Transaction) (encodings :
 unfolding addition_of
 addition-IsAddition consts t encodings =
     and_then (λ _. Unit {0}) IsAddition (first_encoding t consts.classes encodings) _ (anything (first_encoding t consts.classes encodings)) (λ first _.
-    and_then (λ _. Unit {0}) IsAddition (stated first.reference (refusal_naming t codes.RejectRequiredParameterNotPresent first reference_subtype)) _ (anything (stated first.reference (refusal_naming t codes.RejectRequiredParameterNotPresent first reference_subtype))) (λ reference _.
+    and_then (λ _. Unit {0}) IsAddition (stated_or_refusal first.reference (refusal_naming t codes.RejectRequiredParameterNotPresent first reference_subtype)) _ (anything (stated_or_refusal first.reference (refusal_naming t codes.RejectRequiredParameterNotPresent first reference_subtype))) (λ reference _.
     and_then AreKept IsAddition (asked_sets t consts encodings) _ (asked-AreKept t consts encodings) (λ asked kept.
     and_then (AreAsked None) IsAddition (nested_sets t first None asked) _ (nested-AreAsked t first None asked kept) (λ sets h. h))))
 
@@ -149,7 +149,7 @@ pub change-IsChange : (consts : ConstsFields) (flows : List (ℕ × Flow)) (t : 
 unfolding change_of
 change-IsChange consts flows t encodings =
     and_then (λ _. Unit {0}) (IsChange flows) (first_encoding t consts.classes encodings) _ (anything (first_encoding t consts.classes encodings)) (λ first _.
-    and_then (λ _. Unit {0}) (IsChange flows) (stated first.sfid (refusal_naming t codes.RejectRequiredParameterNotPresent first sfid_subtype)) _ (anything (stated first.sfid (refusal_naming t codes.RejectRequiredParameterNotPresent first sfid_subtype))) (λ sfid _.
+    and_then (λ _. Unit {0}) (IsChange flows) (stated_or_refusal first.sfid (refusal_naming t codes.RejectRequiredParameterNotPresent first sfid_subtype)) _ (anything (stated_or_refusal first.sfid (refusal_naming t codes.RejectRequiredParameterNotPresent first sfid_subtype))) (λ sfid _.
     and_then (IsFreeFlow (flow_at sfid flows)) (IsChange flows) (free_flow t (flow_at sfid flows)) _ (free-IsFreeFlow t (flow_at sfid flows)) (λ flow free.
     and_then AreKept (IsChange flows) (asked_sets t consts encodings) _ (asked-AreKept t consts encodings) (λ asked kept.
     and_then (AreAsked flow.sets.provisioned) (IsChange flows) (nested_sets t first flow.sets.provisioned asked) _ (nested-AreAsked t first flow.sets.provisioned asked kept) (λ sets h. record { flow = free; sets = h })))))

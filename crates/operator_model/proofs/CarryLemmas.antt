@@ -15,7 +15,7 @@ use Rattle.dsx_messages.specs.Reading.{message_of}
 use Rattle.dsx_messages.specs.Spelling.{spell_reply}
 use Rattle.transactions.specs.declared.entry.KeptEntry.{KeptEntry}
 use Rattle.transactions.specs.Entry.{same_kind, is_waiting, is_of}
-use Rattle.transactions.specs.Keeping.{begun}
+use Rattle.transactions.specs.Keeping.{begun_entry}
 use Rattle.flow_table.specs.declared.flow.Flow.{Flow}
 use Rattle.flow_table.specs.Table.{flow_at, with_flow}
 use Rattle.operator_model.specs.declared.heard.Heard.{Heard}
@@ -24,8 +24,8 @@ use Rattle.operator_model.specs.declared.verdict.Verdict.{Verdict}
 use Rattle.operator_model.specs.declared.verdict.Verdict.TheVariants.{Refused, Put, Deleted}
 use Rattle.operator_model.specs.State.{Operator, operator}
 use Rattle.operator_model.specs.Asked.{refusal}
-use Rattle.operator_model.specs.Verdict.{verdict, errored}
-use Rattle.operator_model.specs.Handle.{StepResult, without_flow, carried_out, is_of_cmts, new_unless, transacted, kind_of, tid_of, message_handled, handle}
+use Rattle.operator_model.specs.Verdict.{verdict, encoding_refusal}
+use Rattle.operator_model.specs.Handle.{StepResult, without_flow, carried_out, is_of_cmts, new_unless, transaction_result, kind_of, tid_of, message_handled, handle}
 use Rattle.operator_model.specs.Sound.{IsWaitingOf, HasItsFlow, HaveOwnFlows, IsSound}
 use Rattle.operator_model.proofs.MapLemmas.{at-insert_same, at-insert_other, at-remove_other}
 use Rattle.operator_model.proofs.FlowsLemmas.{put-AreFlows}
@@ -75,11 +75,11 @@ module _ (op : Operator) (sound : IsSound op) (few : length op.state.kept < op.r
 
   carried_sound : (modem : Modem) (kind : Kind) (tid : ℕ) (v : Verdict) → IsRight op kind v → IsSound (operator op.consts op.row (carried_out op.consts op.state modem kind tid v).state)
   carried_sound modem kind tid (Refused reply) is =
-      held_sound op.state.flows (begun op.consts.timers modem tid kind (spell_reply reply) 0 false) refl (stay-MayStep (sound-AreFlows sound)) sound.waiting
+      held_sound op.state.flows (begun_entry op.consts.timers modem tid kind (spell_reply reply) 0 false) refl (stay-MayStep (sound-AreFlows sound)) sound.waiting
   carried_sound modem kind tid (Put sfid flow reply) is =
-      put_sound kind sfid flow (begun op.consts.timers modem tid kind (spell_reply reply) sfid true) refl refl is
+      put_sound kind sfid flow (begun_entry op.consts.timers modem tid kind (spell_reply reply) sfid true) refl refl is
   carried_sound modem kind tid (Deleted sfid reply) is =
-      held_sound (without_flow sfid op.state.flows) (begun op.consts.timers modem tid kind (spell_reply reply) sfid false) refl (without-MayStep (sound-AreFlows sound) sfid)
+      held_sound (without_flow sfid op.state.flows) (begun_entry op.consts.timers modem tid kind (spell_reply reply) sfid false) refl (without-MayStep (sound-AreFlows sound) sfid)
       (others sfid (without_flow sfid op.state.flows) is (λ q apart. at-remove_other q sfid apart op.state.flows))
 
 -- ---- what is heard
@@ -88,7 +88,7 @@ module _ (op : Operator) (sound : IsSound op) where
   abbrev LeavesSound : StepResult → Type 0
   LeavesSound ran = IsSound (operator op.consts op.row ran.state)
 
-  transacted_sound : (modem : Modem) (kind : Kind) (tid : ℕ) (v : Verdict) → IsRight op kind v → LeavesSound (transacted op modem kind tid v)
+  transacted_sound : (modem : Modem) (kind : Kind) (tid : ℕ) (v : Verdict) → IsRight op kind v → LeavesSound (transaction_result op modem kind tid v)
   transacted_sound modem kind tid v is = cond_both (is_of_cmts tid) _ _ LeavesSound (λ _. sound) (λ _. by (find (is_of modem tid) op.state.kept))
     where
       by : (o : Option KeptEntry) → LeavesSound (new_unless op modem kind tid v o)
@@ -99,7 +99,7 @@ module _ (op : Operator) (sound : IsSound op) where
   message_sound modem (Err faults.Empty) = sound
   message_sound modem (Err (faults.NotOurs mtype)) = sound
   message_sound modem (Err faults.Short) = sound
-  message_sound modem (Err (faults.Tlv tid kind id fault)) = transacted_sound modem kind tid (Refused (errored kind tid id fault)) tt
+  message_sound modem (Err (faults.Tlv tid kind id fault)) = transacted_sound modem kind tid (Refused (encoding_refusal kind tid id fault)) tt
   message_sound modem (Err (faults.LeftOut tid kind found)) = transacted_sound modem kind tid (Refused (refusal kind tid codes.RejectUnrecognizedSetting)) tt
   message_sound modem (Err faults.NoMemory) = sound
   message_sound modem (Ok (messages.Ack kind tid code)) = acked_sound op sound modem tid kind code

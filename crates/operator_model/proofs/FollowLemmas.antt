@@ -7,7 +7,7 @@ use Rattle.param_sets.specs.Need.{need_if}
 use Rattle.param_sets.specs.declared.sets.SetsFields.{SetsFields}
 use Rattle.flow_table.specs.declared.flow.Flow.{Flow}
 use Rattle.flow_table.specs.declared.flow.Pending.{Pending}
-use Rattle.flow_table.specs.Flow.{asks_for_grants, pending_admitted, with_pending, acknowledged, without_pending, taken_back, requested, granted}
+use Rattle.flow_table.specs.Flow.{asks_for_grants, pending_admitted, with_pending, flow_after_ack, without_pending, taken_back, flow_after_request, flow_after_grant}
 use Rattle.operator_model.specs.Sound.{IsSoundFlow, IsSoundPending}
 use Rattle.operator_model.proofs.FlowsLemmas.{CommitsLess}
 
@@ -54,7 +54,7 @@ module _ (units : UnitSizes) (frame : ℕ) (old : Flow) (sound : IsSoundFlow fra
         less = record { minislots = omega arith; elements = omega arith };
       }
 
-  pub follow-acknowledged : MayFollow units frame old (acknowledged frame old)
+  pub follow-acknowledged : MayFollow units frame old (flow_after_ack frame old)
   follow-acknowledged = by old.pending refl sound.pending
     where
       has_sid : (pending : Pending) → IsSoundPending old pending → IsSome pending.sets.admitted → IsSome (cond (is_some pending.sets.admitted) old.sid None)
@@ -88,16 +88,16 @@ module _ (units : UnitSizes) (frame : ℕ) (old : Flow) (sound : IsSoundFlow fra
     has_sid = λ some. ap is_some sid ∙ h.has_sid some;
   })
 
-  pub follow-requested : (minislots : ℕ) → asks_for_grants old.sets.active ≡ true → MayFollow units frame old (requested minislots frame old)
+  pub follow-requested : (minislots : ℕ) → asks_for_grants old.sets.active ≡ true → MayFollow units frame old (flow_after_request minislots frame old)
   follow-requested minislots asks = record {
     sid = λ n is. is;
-    sound = record { nested = sound.nested; kinds = sound.kinds; has_sid = sound.has_sid; no_backlog = λ no. absurd (true≢false (sym asks ∙ no)); start = sound.start; since = cond_both (old.backlog == 0) frame old.since (λ n. n ≤ frame) (λ _. omega arith) (λ _. sound.since); pending = as_before (requested minislots frame old) refl refl };
+    sound = record { nested = sound.nested; kinds = sound.kinds; has_sid = sound.has_sid; no_backlog = λ no. absurd (true≢false (sym asks ∙ no)); start = sound.start; since = cond_both (old.backlog == 0) frame old.since (λ n. n ≤ frame) (λ _. omega arith) (λ _. sound.since); pending = as_before (flow_after_request minislots frame old) refl refl };
     less = record { minislots = omega arith; elements = omega arith };
   }
 
-  pub follow-granted : (minislots earlier : ℕ) → earlier < frame → MayFollow units frame old (granted minislots earlier old)
+  pub follow-granted : (minislots earlier : ℕ) → earlier < frame → MayFollow units frame old (flow_after_grant minislots earlier old)
   follow-granted minislots earlier lt = record {
     sid = λ n is. is;
-    sound = record { nested = sound.nested; kinds = sound.kinds; has_sid = sound.has_sid; no_backlog = λ no. omega (arith, sound.no_backlog no); start = sound.start; since = cond_both (old.backlog - minislots == 0) old.since (earlier + 1) (λ n. n ≤ frame) (λ _. sound.since) (λ _. omega arith); pending = as_before (granted minislots earlier old) refl refl };
+    sound = record { nested = sound.nested; kinds = sound.kinds; has_sid = sound.has_sid; no_backlog = λ no. omega (arith, sound.no_backlog no); start = sound.start; since = cond_both (old.backlog - minislots == 0) old.since (earlier + 1) (λ n. n ≤ frame) (λ _. sound.since) (λ _. omega arith); pending = as_before (flow_after_grant minislots earlier old) refl refl };
     less = record { minislots = omega arith; elements = omega arith };
   }

@@ -31,20 +31,20 @@ use Rattle.operator_model.specs.declared.verdict.Verdict.{Verdict}
 use Rattle.operator_model.specs.declared.verdict.Verdict.TheVariants.{Refused}
 use Rattle.operator_model.specs.State.{operator, OperatorState, Operator}
 use Rattle.operator_model.specs.Asked.{refusal}
-use Rattle.operator_model.specs.Verdict.{verdict, errored}
-use Rattle.operator_model.specs.Handle.{StepResult, told, is_of_cmts, new_unless, transacted, acked_if, kind_of, tid_of, message_handled, asked_of_flow, handle}
-use Rattle.operator_model.specs.Frame.{resent, ticked}
-use Rattle.operator_model.specs.Machine.{arrived, worked, own_step, own_run}
-use Rattle.operator_model.specs.Frames.{frame_of, frames_in, is_tick}
+use Rattle.operator_model.specs.Verdict.{verdict, encoding_refusal}
+use Rattle.operator_model.specs.Handle.{StepResult, reply_result, is_of_cmts, new_unless, transaction_result, acked_if, kind_of, tid_of, message_handled, asked_of_flow, handle}
+use Rattle.operator_model.specs.Frame.{resent, tick_result}
+use Rattle.operator_model.specs.Machine.{arrival_result, work_result, own_step, own_run}
+use Rattle.operator_model.specs.Frames.{frame_number, frame_numbers, is_tick}
 
 -- what is put out has so many frames from this one on, and the next one follows them
 pub record PutsOut (frame count : ℕ) (ran : StepResult) : Type 0 where
-  pub numbers : frames_in ran.outputs ≡ range_with_len frame count
+  pub numbers : frame_numbers ran.outputs ≡ range_with_len frame count
   pub next : ran.state.frame ≡ frame + count
 
 -- what is done puts out no frame, and leaves the next frame and the shares
 pub record StaysAt (state : OperatorState) (ran : StepResult) : Type 0 where
-  pub numbers : frames_in ran.outputs ≡ []
+  pub numbers : frame_numbers ran.outputs ≡ []
   pub frame : ran.state.frame ≡ state.frame
   pub share : ran.state.share ≡ state.share
   pub waits : ran.state.next ≡ state.next
@@ -53,7 +53,7 @@ module _ (op : Operator) where
   abbrev PutsNone : StepResult → Type 0
   PutsNone ran = StaysAt op.state ran
 
-  transacted_none : (modem : Modem) (kind : Kind) (tid : ℕ) (v : Verdict) → PutsNone (transacted op modem kind tid v)
+  transacted_none : (modem : Modem) (kind : Kind) (tid : ℕ) (v : Verdict) → PutsNone (transaction_result op modem kind tid v)
   transacted_none modem kind tid v = cond_both (is_of_cmts tid) _ _ PutsNone (λ _. record { numbers = refl; frame = refl; share = refl; waits = refl }) (λ _. by (find (is_of modem tid) op.state.kept))
     where
       by : (o : Option KeptEntry) → PutsNone (new_unless op modem kind tid v o)
@@ -68,7 +68,7 @@ module _ (op : Operator) where
   message_none modem (Err faults.Empty) = record { numbers = refl; frame = refl; share = refl; waits = refl }
   message_none modem (Err (faults.NotOurs mtype)) = record { numbers = refl; frame = refl; share = refl; waits = refl }
   message_none modem (Err faults.Short) = record { numbers = refl; frame = refl; share = refl; waits = refl }
-  message_none modem (Err (faults.Tlv tid kind id fault)) = transacted_none modem kind tid (Refused (errored kind tid id fault))
+  message_none modem (Err (faults.Tlv tid kind id fault)) = transacted_none modem kind tid (Refused (encoding_refusal kind tid id fault))
   message_none modem (Err (faults.LeftOut tid kind found)) = transacted_none modem kind tid (Refused (refusal kind tid codes.RejectUnrecognizedSetting))
   message_none modem (Err faults.NoMemory) = record { numbers = refl; frame = refl; share = refl; waits = refl }
   message_none modem (Ok (messages.Ack kind tid code)) = acked_none modem tid kind code (option_map (λ entry. entry.sfid) (find (waits_for modem tid kind) op.state.kept))
@@ -84,22 +84,22 @@ module _ (op : Operator) where
   handle_none modem (heards.Message bytes) = message_none modem (message_of bytes)
   handle_none modem (heards.Request sid minislots) = asked_none modem minislots (flow_with sid op.state.flows)
 
-  pub worked_none : (inbox : List Arrival) → PutsNone (worked op inbox)
+  pub worked_none : (inbox : List Arrival) → PutsNone (work_result op inbox)
   worked_none [] = record { numbers = refl; frame = refl; share = refl; waits = refl }
   worked_none (first ∷ others) = let ran = handle_none first.modem first.heard in record { numbers = ran.numbers; frame = ran.frame; share = ran.share; waits = ran.waits }
 
-  pub arrived_none : (modem : Modem) (heard : Heard) → PutsNone (arrived op.row op.state modem heard)
+  pub arrived_none : (modem : Modem) (heard : Heard) → PutsNone (arrival_result op.row op.state modem heard)
   arrived_none modem heard = cond_both (nat_le op.row.inbox (length op.state.inbox)) _ _ PutsNone (λ _. record { numbers = refl; frame = refl; share = refl; waits = refl }) (λ _. record { numbers = refl; frame = refl; share = refl; waits = refl })
 
   -- what is resent is no frame
-  pub resent_none : (resends : List Resend) → frames_in (map resent resends) ≡ []
+  pub resent_none : (resends : List Resend) → frame_numbers (map resent resends) ≡ []
   resent_none [] = refl
   resent_none (resend ∷ resends) = resent_none resends
 
   -- a tick puts out one
-  ticked_one : PutsOut op.state.frame 1 (ticked op)
+  ticked_one : PutsOut op.state.frame 1 (tick_result op)
   ticked_one = record {
-    numbers = filter_map-append frame_of (map resent (resent_in op.state.kept)) _ ∙ ap (λ (ns : List ℕ). ns ++ op.state.frame ∷ []) (resent_none (resent_in op.state.kept));
+    numbers = filter_map-append frame_number (map resent (resent_in op.state.kept)) _ ∙ ap (λ (ns : List ℕ). ns ++ op.state.frame ∷ []) (resent_none (resent_in op.state.kept));
     next = refl;
   }
 
@@ -131,8 +131,8 @@ module _ (consts : ConstsFields) (row : RowFields) where
       let count : cond {A = ℕ} (is_tick action) 1 0 + count_by is_tick actions ≡ count_by is_tick (action ∷ actions) = sym (sum_by-cons (λ (a : Action). cond {A = ℕ} (is_tick a) 1 0) action actions) in
       record {
         numbers =
-            filter_map-append frame_of (own_step (operator consts row state) action).outputs (own_run (operator consts row (own_step (operator consts row state) action).state) actions).outputs
-            ∙ (ap (λ (ns : List ℕ). ns ++ frames_in (own_run (operator consts row (own_step (operator consts row state) action).state) actions).outputs) first.numbers
+            filter_map-append frame_number (own_step (operator consts row state) action).outputs (own_run (operator consts row (own_step (operator consts row state) action).state) actions).outputs
+            ∙ (ap (λ (ns : List ℕ). ns ++ frame_numbers (own_run (operator consts row (own_step (operator consts row state) action).state) actions).outputs) first.numbers
             ∙ (ap (λ (ns : List ℕ). range_with_len state.frame (cond (is_tick action) 1 0) ++ ns) rest.numbers
             ∙ (ap (λ (n : ℕ). range_with_len state.frame (cond (is_tick action) 1 0) ++ range_with_len n (count_by is_tick actions)) first.next
             ∙ (range-then state.frame (cond {A = ℕ} (is_tick action) 1 0) (count_by is_tick actions) ∙ ap (range_with_len state.frame) count))));
@@ -143,7 +143,7 @@ module _ (consts : ConstsFields) (row : RowFields) where
 
 module _ (op : Operator) where
   pub repeat_told : (modem : Modem) (kind : Kind) (tid : ℕ) (v : Verdict) (entry : KeptEntry) → find (is_of modem tid) op.state.kept ≡ Some entry → same_kind entry.kind kind ≡ true → tid < 32768
-      → transacted op modem kind tid v ≡ told op.state modem entry.reply
+      → transaction_result op modem kind tid v ≡ reply_result op.state modem entry.reply
   repeat_told modem kind tid v entry kept same small =
       cond-false (is_of_cmts tid) _ _ (lt-leb 32768 tid small)
       ∙ (ap (new_unless op modem kind tid v) kept ∙ cond-true (same_kind entry.kind kind) _ _ same)

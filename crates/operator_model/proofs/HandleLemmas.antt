@@ -9,14 +9,14 @@ use Rattle.dsx_messages.specs.declared.kind.Kind.TheVariants.{Dsa, Dsc, Dsd}
 use Rattle.transactions.specs.declared.entry.KeptEntry.{KeptEntry}
 use Rattle.transactions.specs.Waits.{Waits}
 use Rattle.transactions.specs.Entry.{same_kind, is_waiting, is_of, waits_for}
-use Rattle.transactions.specs.Keeping.{held_entry, acknowledged}
+use Rattle.transactions.specs.Keeping.{held_entry, entry_after_ack}
 use Rattle.plant.specs.Row.{same_modem}
 use Rattle.flow_table.specs.declared.flow.Flow.{Flow}
-use Rattle.flow_table.specs.Flow.{asks_for_grants, requested}
+use Rattle.flow_table.specs.Flow.{asks_for_grants, flow_after_request}
 use Rattle.flow_table.specs.Flow as flows
 use Rattle.flow_table.specs.Table.{flow_at, flow_with, is_sid, with_flow}
 use Rattle.operator_model.specs.State.{Operator, operator}
-use Rattle.operator_model.specs.Handle.{StepResult, flows_acked, acked_if, acked, asked_of_flow}
+use Rattle.operator_model.specs.Handle.{StepResult, flows_acked, acked_if, ack_result, asked_of_flow}
 use Rattle.flow_table.specs.Moved.{change_if}
 use Rattle.operator_model.specs.Sound.{IsWaitingOf, HasItsFlow, IsSound}
 use Rattle.operator_model.proofs.EntryLemmas.{at-find}
@@ -55,27 +55,27 @@ module _ (waits : Waits) (modem : Modem) (tid : ℕ) (kind : Kind) where
 module _ (op : Operator) (sound : IsSound op) where
   acked_step : (kind : Kind) (code sfid : ℕ) → MayStep op.row op.consts.units op.state.frame op.state.flows (flows_acked kind code op.state.frame sfid op.state.flows)
   acked_step kind code sfid = cond_both (code == 0) _ _ (MayStep op.row op.consts.units op.state.frame op.state.flows)
-      (λ _. change-MayStep (sound-AreFlows sound) sfid (flows.acknowledged op.state.frame) (follow-acknowledged op.consts.units op.state.frame))
+      (λ _. change-MayStep (sound-AreFlows sound) sfid (flows.flow_after_ack op.state.frame) (follow-acknowledged op.consts.units op.state.frame))
       (λ _. undone-MayStep (sound-AreFlows sound) kind sfid)
 
   acked_other : (kind : Kind) (code sfid q : ℕ) → q ≢ sfid → flow_at q (flows_acked kind code op.state.frame sfid op.state.flows) ≡ flow_at q op.state.flows
   acked_other kind code sfid q apart = cond_both (code == 0) _ _ (λ (fs : List (ℕ × Flow)). flow_at q fs ≡ flow_at q op.state.flows)
-      (λ _. at-change_other q sfid apart op.state.flows (flows.acknowledged op.state.frame))
+      (λ _. at-change_other q sfid apart op.state.flows (flows.flow_after_ack op.state.frame))
       (λ _. at-undone_other q sfid apart op.state.flows kind)
 
-  pub acked_sound : (modem : Modem) (tid : ℕ) (kind : Kind) (code : ℕ) → IsSound (operator op.consts op.row (acked op.consts op.state modem tid kind code).state)
+  pub acked_sound : (modem : Modem) (tid : ℕ) (kind : Kind) (code : ℕ) → IsSound (operator op.consts op.row (ack_result op.consts op.state modem tid kind code).state)
   acked_sound modem tid kind code = by (find (waits_for modem tid kind) op.state.kept) refl
     where
       by : (o : Option KeptEntry) → find (waits_for modem tid kind) op.state.kept ≡ o → IsSound (operator op.consts op.row (acked_if op.consts op.state modem tid kind code (option_map (λ entry. entry.sfid) o)).state)
       by None is = sound
       by (Some x) is =
           let apart = find-apart (waits_for modem tid kind) (waits_for_waits modem tid kind) op.state.kept x sound.own_flows is in
-          step_on sound (flows_acked kind code op.state.frame x.sfid op.state.flows) (map (acknowledged op.consts.timers modem tid kind) op.state.kept) (acked_step kind code x.sfid)
+          step_on sound (flows_acked kind code op.state.frame x.sfid op.state.flows) (map (entry_after_ack op.consts.timers modem tid kind) op.state.kept) (acked_step kind code x.sfid)
           (simp length-map sound.few_kept)
-          (All-map (HasItsFlow (flows_acked kind code op.state.frame x.sfid op.state.flows)) (acknowledged op.consts.timers modem tid kind) op.state.kept
+          (All-map (HasItsFlow (flows_acked kind code op.state.frame x.sfid op.state.flows)) (entry_after_ack op.consts.timers modem tid kind) op.state.kept
           (λ k d lt. has_flow op.consts.timers modem tid kind (flows_acked kind code op.state.frame x.sfid op.state.flows) (get_or op.state.kept k d) (waits_for modem tid kind (get_or op.state.kept k d))
           (λ fails waiting. subst (λ (o : Option Flow). IsSome o × IfSome o (IsWaitingOf (get_or op.state.kept k d).kind)) (sym (acked_other kind code x.sfid (get_or op.state.kept k d).sfid (apart k d lt fails waiting))) (sound.waiting k d lt waiting))))
-          (pairs-map AreApart AreApart (acknowledged op.consts.timers modem tid kind) (λ a b apart. ack_apart op.consts.timers modem tid kind a b (waits_for modem tid kind a) (waits_for modem tid kind b) apart) op.state.kept sound.own_flows)
+          (pairs-map AreApart AreApart (entry_after_ack op.consts.timers modem tid kind) (λ a b apart. ack_apart op.consts.timers modem tid kind a b (waits_for modem tid kind a) (waits_for modem tid kind b) apart) op.state.kept sound.own_flows)
 
   -- ---- a request for minislots
 
@@ -87,7 +87,7 @@ module _ (op : Operator) (sound : IsSound op) where
       by (Some entry) is =
           let there = at-find (λ (e : ℕ × Flow). is_sid sid e.1.sid) op.state.flows entry sound.ascending is in
           let sound_flow = sound-there (sound-AreFlows sound) entry.0 entry.1 there in
-          let change : Flow → Flow = requested minislots op.state.frame in
+          let change : Flow → Flow = flow_after_request minislots op.state.frame in
           let waiting : All (HasItsFlow (with_flow entry.0 (change entry.1) op.state.flows)) op.state.kept = λ k d lt waits.
           subst (λ (fs : List (ℕ × Flow)). IsSome (flow_at (get_or op.state.kept k d).sfid fs) × IfSome (flow_at (get_or op.state.kept k d).sfid fs) (IsWaitingOf (get_or op.state.kept k d).kind))
           (ap (change_if entry.0 change op.state.flows) there)

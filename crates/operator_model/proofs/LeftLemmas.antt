@@ -17,7 +17,7 @@ use Rattle.transactions.specs.Timers as timers
 use Rattle.param_sets.specs.Units.{UnitSizes}
 use Rattle.plant.specs.declared.operator_row.RowFields.{RowFields}
 use Rattle.flow_table.specs.declared.flow.Flow.{Flow}
-use Rattle.flow_table.specs.Flow.{granted}
+use Rattle.flow_table.specs.Flow.{flow_after_grant}
 use Rattle.flow_table.specs.Table.{flow_at}
 use Rattle.operator_model.specs.Handle.{undone}
 use Rattle.flow_table.specs.Moved.{change_at}
@@ -78,16 +78,16 @@ later-AreFlows row frame flows are = record {
 pub all_granted-MayStep : (row : RowFields) (units : UnitSizes) (frame : ℕ) (grants : List (ℕ × ℕ)) (flows : List (ℕ × Flow)) → AreFlows row (frame + 1) flows → MayStep row units (frame + 1) flows (all_granted frame grants flows)
 all_granted-MayStep row units frame [] flows are = record { are = are; less = same-CommitLess units flows }
 all_granted-MayStep row units frame (grant ∷ grants) flows are =
-    let one : MayStep row units (frame + 1) flows (change_at grant.0 (granted grant.1 frame) flows) = change-MayStep are grant.0 (granted grant.1 frame) (λ old h. follow-granted units (frame + 1) old h grant.1 frame (omega arith)) in
-    let rest = all_granted-MayStep row units frame grants (change_at grant.0 (granted grant.1 frame) flows) one.are in
+    let one : MayStep row units (frame + 1) flows (change_at grant.0 (flow_after_grant grant.1 frame) flows) = change-MayStep are grant.0 (flow_after_grant grant.1 frame) (λ old h. follow-granted units (frame + 1) old h grant.1 frame (omega arith)) in
+    let rest = all_granted-MayStep row units frame grants (change_at grant.0 (flow_after_grant grant.1 frame) flows) one.are in
     record { are = rest.are; less = then-CommitLess rest.less one.less }
 
 pub kept-all_granted : (kind : Kind) (q frame : ℕ) (grants : List (ℕ × ℕ)) (flows : List (ℕ × Flow)) → IsSome (flow_at q flows) × IfSome (flow_at q flows) (IsWaitingOf kind)
     → IsSome (flow_at q (all_granted frame grants flows)) × IfSome (flow_at q (all_granted frame grants flows)) (IsWaitingOf kind)
 kept-all_granted kind q frame [] flows has = has
 kept-all_granted kind q frame (grant ∷ grants) flows has =
-    kept-all_granted kind q frame grants (change_at grant.0 (granted grant.1 frame) flows)
-    (kept-change (IsWaitingOf kind) q grant.0 (granted grant.1 frame) flows (λ old h. waits_still kind old (granted grant.1 frame old) refl refl h) has)
+    kept-all_granted kind q frame grants (change_at grant.0 (flow_after_grant grant.1 frame) flows)
+    (kept-change (IsWaitingOf kind) q grant.0 (flow_after_grant grant.1 frame) flows (λ old h. waits_still kind old (flow_after_grant grant.1 frame old) refl refl h) has)
 
 -- ---- the entries that stay
 
@@ -97,17 +97,17 @@ not_given_up e stays = (or_parts (is_given_up e) (is_due e && not (is_waiting e)
 
 module _ (waits : Waits) where
   -- a tick changes neither whose flow an entry has nor that it waits
-  pub ticked_has : (flows : List (ℕ × Flow)) (e : KeptEntry) → HasItsFlow flows e → HasItsFlow flows (timers.ticked waits e)
+  pub ticked_has : (flows : List (ℕ × Flow)) (e : KeptEntry) → HasItsFlow flows e → HasItsFlow flows (timers.entry_after_tick waits e)
   ticked_has flows e has = cond_both (is_resent e) _ _ (HasItsFlow flows) (λ _. has) (λ _. has)
 
-  ticked_apart : (a b : KeptEntry) → AreApart a b → AreApart (timers.ticked waits a) (timers.ticked waits b)
-  ticked_apart a b apart = cond_both (is_resent a) _ _ (λ (x : KeptEntry). AreApart x (timers.ticked waits b)) (λ _. second a apart) (λ _. second a apart)
+  ticked_apart : (a b : KeptEntry) → AreApart a b → AreApart (timers.entry_after_tick waits a) (timers.entry_after_tick waits b)
+  ticked_apart a b apart = cond_both (is_resent a) _ _ (λ (x : KeptEntry). AreApart x (timers.entry_after_tick waits b)) (λ _. second a apart) (λ _. second a apart)
     where
-      second : (x : KeptEntry) → AreApart x b → AreApart x (timers.ticked waits b)
+      second : (x : KeptEntry) → AreApart x b → AreApart x (timers.entry_after_tick waits b)
       second x apart = cond_both (is_resent b) _ _ (AreApart x) (λ _. apart) (λ _. apart)
 
   pub kept-apart : (kept : List KeptEntry) → HaveOwnFlows kept → HaveOwnFlows (kept_after waits kept)
-  kept-apart kept own = pairs-map AreApart AreApart (timers.ticked waits) ticked_apart (filter (λ e. not (is_forgotten e)) kept) (AllPairs-filter AreApart (λ e. not (is_forgotten e)) kept own)
+  kept-apart kept own = pairs-map AreApart AreApart (timers.entry_after_tick waits) ticked_apart (filter (λ e. not (is_forgotten e)) kept) (AllPairs-filter AreApart (λ e. not (is_forgotten e)) kept own)
 
   pub kept-few : (kept : List KeptEntry) → length (kept_after waits kept) ≤ length kept
-  kept-few kept = omega (arith, length-map (filter (λ (e : KeptEntry). not (is_forgotten e)) kept) (timers.ticked waits), length-filter (λ (e : KeptEntry). not (is_forgotten e)) kept, count_by-le-length (λ (e : KeptEntry). not (is_forgotten e)) kept)
+  kept-few kept = omega (arith, length-map (filter (λ (e : KeptEntry). not (is_forgotten e)) kept) (timers.entry_after_tick waits), length-filter (λ (e : KeptEntry). not (is_forgotten e)) kept, count_by-le-length (λ (e : KeptEntry). not (is_forgotten e)) kept)

@@ -13,11 +13,11 @@ use Rattle.param_sets.specs.declared.sets.SetsFields.{SetsFields}
 use Rattle.plant.specs.declared.consts.ConstsFields.{ConstsFields}
 use Rattle.plant.specs.declared.provision.Provision.{Provision}
 use Rattle.plant.specs.declared.operator_row.RowFields.{RowFields}
-use Rattle.plant.specs.Provisioned.{sets_of_encoding, Opened, opened_sfids, opened_sids, opened_sid, and_under, and_opened, all_opened, opened_flows}
+use Rattle.plant.specs.Provisioned.{sets_of_encoding, OpenedFlow, opened_sfids, opened_sids, opened_sid, and_under, and_opened, all_opened, opened_flows}
 use Rattle.plant.specs.Row.{need_of_sets, need_of_provision, admits, count_of, IsRowOf}
 use Rattle.flow_table.specs.declared.flow.Flow.{Flow}
 use Rattle.flow_table.specs.Table.{sfids_of, sids_of, committed_minislots, committed_elements}
-use Rattle.operator_model.specs.State.{opened_flow, opened, operator}
+use Rattle.operator_model.specs.State.{opened_flow, opened_state, operator}
 use Rattle.operator_model.specs.Sound.{IsSoundFlow, HasItsFlow, IsSound}
 use Rattle.operator_model.proofs.OrderLemmas.{length-insert}
 use Rattle.operator_model.proofs.FlowsLemmas.{AreFlows, put-AreFlows}
@@ -49,10 +49,10 @@ given_sid row used some = by (least_free_of row.sids used) refl some
     by (Some n) is some = record { free = given-free row.sids used n is; has = λ _. refl; count = omega arith }
 
 module _ (consts : ConstsFields) (row : RowFields) where
-  abbrev flows_of : List (ℕ × Opened) → List (ℕ × Flow)
+  abbrev flows_of : List (ℕ × OpenedFlow) → List (ℕ × Flow)
   flows_of entries = as_flows consts.channel.first_frame entries
 
-  module _ (entries : List (ℕ × Opened)) (n s m e : ℕ) where
+  module _ (entries : List (ℕ × OpenedFlow)) (n s m e : ℕ) where
     sid_of_sets : (b : Bool) → length (sids_of (flows_of entries)) + (cond {A = ℕ} b 1 0 + s) ≤ count_of row.sids → IsOpenedSid row (sids_of (flows_of entries)) b (cond b (least_free_of row.sids (opened_sids entries)) None)
     sid_of_sets true room =
         subst (λ (used : List ℕ). IsOpenedSid row (sids_of (flows_of entries)) true (least_free_of row.sids used)) (same_sids consts.channel.first_frame entries)
@@ -64,7 +64,7 @@ module _ (consts : ConstsFields) (row : RowFields) where
         → HasRoom consts row (flows_of (and_under row entries modem sets (least_free_of row.sfids (opened_sfids entries)))) n s m e
     one_opened modem sets fit room = by (least_free_of row.sfids (opened_sfids entries)) refl
       where
-        v : Opened
+        v : OpenedFlow
         v = record { modem = modem; sid = opened_sid row entries sets; sets = sets }
 
         sid : IsOpenedSid row (sids_of (flows_of entries)) (is_some sets.admitted) (opened_sid row entries sets)
@@ -102,7 +102,7 @@ module _ (consts : ConstsFields) (row : RowFields) where
   abbrev elements_for : List Provision → ℕ
   elements_for ps = sum_by (λ p. (need_of_provision consts p).elements) ps
 
-  all : (entries : List (ℕ × Opened)) (ps : List Provision) → HasRoom consts row (flows_of entries) (length ps) (sids_for ps) (minislots_for ps) (elements_for ps) → HasRoom consts row (flows_of (all_opened consts row entries ps)) 0 0 0 0
+  all : (entries : List (ℕ × OpenedFlow)) (ps : List Provision) → HasRoom consts row (flows_of entries) (length ps) (sids_for ps) (minislots_for ps) (elements_for ps) → HasRoom consts row (flows_of (all_opened consts row entries ps)) 0 0 0 0
   all entries [] room = room
   all entries (p ∷ ps) room =
       all (and_opened row entries p.modem (sets_of_encoding consts p.encoding)) ps
@@ -125,7 +125,7 @@ module _ (consts : ConstsFields) (row : RowFields) where
     few = omega arith;
   }
 
-  pub opened_sound : IsRowOf consts row → 1 ≤ row.slice.length → IsSound (operator consts row (opened consts row))
+  pub opened_sound : IsRowOf consts row → 1 ≤ row.slice.length → IsSound (operator consts row (opened_state consts row))
   opened_sound is some =
       let last = all [] row.provisions (record {
         are = none;

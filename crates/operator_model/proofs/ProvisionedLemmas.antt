@@ -17,7 +17,7 @@ use Rattle.param_sets.specs.declared.sets.SetsFields.{SetsFields}
 use Rattle.param_sets.proofs.WithinLemmas.{within_self}
 use Rattle.plant.specs.declared.consts.ConstsFields.{ConstsFields}
 use Rattle.plant.specs.Classes.{asked_of}
-use Rattle.plant.specs.Provisioned.{sets_of_type, sets_of_set, sets_over_class, sets_of_flow, Opened, opened_sfids, opened_sids}
+use Rattle.plant.specs.Provisioned.{sets_of_type, sets_of_set, sets_over_class, sets_of_flow, OpenedFlow, opened_sfids, opened_sids}
 use Rattle.flow_table.specs.declared.flow.Flow.{Flow}
 use Rattle.flow_table.specs.Table.{sfids_of, sids_of, with_flow}
 use Rattle.operator_model.specs.State.{opened_flow}
@@ -52,21 +52,21 @@ by_flow consts (Ok stated) = by_class consts.units stated.set_type (asked_of con
 -- ---- as flows
 
 module _ (frame : ℕ) where
-  abbrev pub as_flow : ℕ × Opened → ℕ × Flow
+  abbrev pub as_flow : ℕ × OpenedFlow → ℕ × Flow
   as_flow entry = (entry.0, opened_flow frame entry.1)
 
-  abbrev pub as_flows : List (ℕ × Opened) → List (ℕ × Flow)
+  abbrev pub as_flows : List (ℕ × OpenedFlow) → List (ℕ × Flow)
   as_flows entries = map as_flow entries
 
-  pub same_sfids : (entries : List (ℕ × Opened)) → sfids_of (as_flows entries) ≡ opened_sfids entries
+  pub same_sfids : (entries : List (ℕ × OpenedFlow)) → sfids_of (as_flows entries) ≡ opened_sfids entries
   same_sfids [] = refl
   same_sfids (e ∷ entries) = ap (λ (ns : List ℕ). e.0 ∷ ns) (same_sfids entries)
 
-  pub same_sids : (entries : List (ℕ × Opened)) → sids_of (as_flows entries) ≡ opened_sids entries
+  pub same_sids : (entries : List (ℕ × OpenedFlow)) → sids_of (as_flows entries) ≡ opened_sids entries
   same_sids [] = refl
   same_sids (e ∷ entries) = ap (λ (ns : List ℕ). cons_option e.1.sid ns) (same_sids entries)
 
-  pub flows-insert : (entries : List (ℕ × Opened)) (k : ℕ) (v : Opened) → as_flows (insert_entry nat_cmp entries k v) ≡ with_flow k (opened_flow frame v) (as_flows entries)
+  pub flows-insert : (entries : List (ℕ × OpenedFlow)) (k : ℕ) (v : OpenedFlow) → as_flows (insert_entry nat_cmp entries k v) ≡ with_flow k (opened_flow frame v) (as_flows entries)
   flows-insert [] k v = refl
   flows-insert (e ∷ entries) k v = by (nat_cmp k e.0) (flows-insert entries k v)
     where

@@ -14,7 +14,7 @@ use Rattle.param_sets.specs.Need.{need_of, need_if}
 use Rattle.param_sets.specs.declared.param_set.ParamFields.{ParamFields}
 use Rattle.slice_scheduler.specs.declared.flowing.AtFields.{AtFields}
 use Rattle.slice_scheduler.specs.declared.flowing.Flowing.{Flowing}
-use Rattle.slice_scheduler.specs.Servable.{SfidsAscend, IsPast, needed, elements_needed}
+use Rattle.slice_scheduler.specs.Servable.{SfidsAscend, IsPast, total_need, elements_needed}
 use Rattle.flow_table.specs.declared.flow.Flow.{Flow}
 use Rattle.flow_table.specs.Flow.{committed_of}
 use Rattle.flow_table.specs.Table.{flowing_of_set, flowing_in, committed_minislots, committed_elements}
@@ -82,7 +82,7 @@ module _ (part : Budget → ℕ) (rises : (a b : Budget) → AtMost a b → part
       by None = omega arith
       by (Some set) = omega (arith, sum_by-cons (λ (f : Flowing). part (need_of f.set at.units)) (served e set) (flowing_in flows))
 
-within : (at : AtFields) (flows : List (ℕ × Flow)) → All (IsSoundFlow at.frame) (values_of flows) → needed at (flowing_in flows) ≤ committed_minislots at.units flows
+within : (at : AtFields) (flows : List (ℕ × Flow)) → All (IsSoundFlow at.frame) (values_of flows) → total_need at (flowing_in flows) ≤ committed_minislots at.units flows
 within at flows each = part_within (λ b. b.minislots) (λ a b h. h.minislots) at flows each
 
 pub elements_within : (at : AtFields) (flows : List (ℕ × Flow)) → All (IsSoundFlow at.frame) (values_of flows) → elements_needed at (flowing_in flows) ≤ committed_elements at.units flows
@@ -97,5 +97,5 @@ module _ (op : Operator) (sound : IsSound op) where
   pub can_pass : All (IsPast op.state.frame) (flowing_in op.state.flows)
   can_pass = past op.state.frame op.state.flows sound.flows
 
-  pub can_fit : needed (at_frame op.consts op.state) (flowing_in op.state.flows) ≤ op.state.share.slice.length
+  pub can_fit : total_need (at_frame op.consts op.state) (flowing_in op.state.flows) ≤ op.state.share.slice.length
   can_fit = omega (arith, within (at_frame op.consts op.state) op.state.flows sound.flows, sound.minislots, sound.share.budget)

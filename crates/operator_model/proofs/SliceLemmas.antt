@@ -21,11 +21,11 @@ use Rattle.operator_model.specs.declared.output.Output.TheVariants as outputs
 use Rattle.operator_model.specs.declared.share.Share.{Share}
 use Rattle.operator_model.specs.declared.share.NextShare.{NextShare}
 use Rattle.flow_table.specs.Table.{committed_minislots}
-use Rattle.operator_model.specs.State.{operator, OperatorState, opened, Operator}
+use Rattle.operator_model.specs.State.{operator, OperatorState, opened_state, Operator}
 use Rattle.operator_model.specs.Handle.{StepResult}
 use Rattle.operator_model.specs.Frame.{share_at, next_at, resent, frame_elements}
-use Rattle.operator_model.specs.Frames.{frames_in}
-use Rattle.operator_model.specs.Machine.{arrived, worked, resliced, unfit_from, own_step, own_run, IsAllowed}
+use Rattle.operator_model.specs.Frames.{frame_numbers}
+use Rattle.operator_model.specs.Machine.{arrival_result, work_result, reslice_result, unfit_from, own_step, own_run, IsAllowed}
 use Rattle.operator_model.specs.Replay.{actions_of, AreTold, IsReplay}
 use Rattle.operator_model.specs.Sound.{IsNextShare, IsSound}
 use Rattle.operator_model.specs.Slices.{SliceFrom, slice_from, reslicings_in, slice_or, slice_at, waiting_slice, slice_of_run, IsOfItsSlice, MayRun, FramesFollowTheirState, NextSliceFollowsItsState}
@@ -113,7 +113,7 @@ module _ (op : Operator) (to_come : IsToCome op.state.frame op.state.next) where
     same = λ n le. ap (λ (s : Share). slice_then s ran.state.next n) still.share ∙ ap (λ (o : Option NextShare). slice_then op.state.share o n) still.waits;
   }
 
-  offered : (from : ℕ) (slice_row : SliceRow) → unfit_from op.consts op.state from slice_row ≡ None → Slices op.state (record { from = from; slice = record { start = slice_row.start; length = slice_row.length } } ∷ []) (resliced op.state from slice_row).state
+  offered : (from : ℕ) (slice_row : SliceRow) → unfit_from op.consts op.state from slice_row ≡ None → Slices op.state (record { from = from; slice = record { start = slice_row.start; length = slice_row.length } } ∷ []) (reslice_result op.state from slice_row).state
   offered from slice_row fit =
       let past = passed (nat_le from op.state.frame) NotPast _ fit in
       let free = passed (is_some op.state.next) Unfinished _ past.1 in
@@ -126,8 +126,8 @@ module _ (op : Operator) (to_come : IsToCome op.state.frame op.state.next) where
 
   step_slices : (action : Action) → IsAllowed op action → Slices op.state (cons_option (slice_from action) []) (own_step op action).state
   unfolding own_step
-  step_slices (Arrive modem heard) allowed = stays (arrived op.row op.state modem heard) (arrived_none op modem heard)
-  step_slices Work allowed = stays (worked op op.state.inbox) (worked_none op op.state.inbox)
+  step_slices (Arrive modem heard) allowed = stays (arrival_result op.row op.state modem heard) (arrived_none op modem heard)
+  step_slices Work allowed = stays (work_result op op.state.inbox) (worked_none op op.state.inbox)
   step_slices Tick allowed = record {
     on = omega arith;
     to_come = turned-to_come op.state.frame op.state.next to_come;
@@ -147,7 +147,7 @@ IsFrom frame slice (outputs.Reply modem bytes) = Unit {0}
 IsFrom frame slice (outputs.Silent modem cause) = Unit {0}
 IsFrom frame slice (outputs.Frame number elements) = (frame ≤ number) × (elements.slice ≡ slice number)
 
-no_frame : (frame : ℕ) (slice : ℕ → Minislots) (puts : List Output) → frames_in puts ≡ [] → AllByRecursion (IsFrom frame slice) puts
+no_frame : (frame : ℕ) (slice : ℕ → Minislots) (puts : List Output) → frame_numbers puts ≡ [] → AllByRecursion (IsFrom frame slice) puts
 no_frame frame slice [] none = tt
 no_frame frame slice (outputs.Reply modem bytes ∷ puts) none = (tt, no_frame frame slice puts none)
 no_frame frame slice (outputs.Silent modem cause ∷ puts) none = (tt, no_frame frame slice puts none)
@@ -246,12 +246,12 @@ module _ (consts : ConstsFields) (row : RowFields) where
       let all = run_slices state actions to_come may in
       sym (now end.frame end.share end.next all.to_come) ∙ (all.same end.frame (omega arith) ∙ waited state.share state.next (reslicings_in actions) end.frame)
 
-  pub run-frames : (actions : List Action) → MayRun (operator consts row (opened consts row)) actions → All (IsOfItsSlice (slice_at row.slice (reslicings_in actions))) (own_run (operator consts row (opened consts row)) actions).outputs
-  run-frames actions may = frames-from (opened consts row) actions tt may
+  pub run-frames : (actions : List Action) → MayRun (operator consts row (opened_state consts row)) actions → All (IsOfItsSlice (slice_at row.slice (reslicings_in actions))) (own_run (operator consts row (opened_state consts row)) actions).outputs
+  run-frames actions may = frames-from (opened_state consts row) actions tt may
 
-  pub run-in_force : (actions : List Action) → MayRun (operator consts row (opened consts row)) actions
-      → (own_run (operator consts row (opened consts row)) actions).state.share.slice ≡ slice_at row.slice (reslicings_in actions) (own_run (operator consts row (opened consts row)) actions).state.frame
-  run-in_force actions may = in_force-from (opened consts row) actions tt may
+  pub run-in_force : (actions : List Action) → MayRun (operator consts row (opened_state consts row)) actions
+      → (own_run (operator consts row (opened_state consts row)) actions).state.share.slice ≡ slice_at row.slice (reslicings_in actions) (own_run (operator consts row (opened_state consts row)) actions).state.frame
+  run-in_force actions may = in_force-from (opened_state consts row) actions tt may
 
   -- ---- a replay
 
@@ -261,7 +261,7 @@ module _ (consts : ConstsFields) (row : RowFields) where
 
   pub replay-in_force : (history : List Entry) (state : OperatorState) → IsReplay consts row history state → state.share.slice ≡ slice_at row.slice (reslicings_in (actions_of history)) state.frame
   replay-in_force history state replay = subst (λ (s : OperatorState). s.share.slice ≡ slice_at row.slice (reslicings_in (actions_of history)) s.frame) (sym replay.state_is)
-      (run-in_force (actions_of history) (told-may (opened consts row) history replay.told))
+      (run-in_force (actions_of history) (told-may (opened_state consts row) history replay.told))
 
 -- ---- from a sound state
 

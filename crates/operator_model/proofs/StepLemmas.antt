@@ -15,9 +15,9 @@ use Rattle.operator_model.specs.declared.action.Action.{Action}
 use Rattle.operator_model.specs.declared.action.Action.TheVariants.{Arrive, Work, Tick, Reslice}
 use Rattle.operator_model.specs.declared.action.Entry.{Entry}
 use Rattle.operator_model.specs.declared.action.Unfit.TheVariants.{NotPast, Unfinished, OffFrame, BudgetOverSlice, OverBudget}
-use Rattle.operator_model.specs.State.{operator, OperatorState, opened, Operator}
+use Rattle.operator_model.specs.State.{operator, OperatorState, opened_state, Operator}
 use Rattle.operator_model.specs.Handle.{StepResult}
-use Rattle.operator_model.specs.Machine.{arrived, worked, resliced, own_step, is_off_frame, unfit_from, IsAllowed, own_run}
+use Rattle.operator_model.specs.Machine.{arrival_result, work_result, reslice_result, own_step, is_off_frame, unfit_from, IsAllowed, own_run}
 use Rattle.operator_model.specs.Replay.{actions_of, AreTold, IsReplay}
 use Rattle.operator_model.specs.Sound.{IsNextShare, IsSound}
 use Rattle.operator_model.proofs.SoundLemmas.{inbox_on}
@@ -54,7 +54,7 @@ module _ (op : Operator) (sound : IsSound op) where
         fits = ltb-false offered.budget (committed_minislots op.consts.units op.state.flows) e.0;
       }
 
-  resliced_sound : (from : ℕ) (offered : SliceRow) → unfit_from op.consts op.state from offered ≡ None → IsSound (operator op.consts op.row (resliced op.state from offered).state)
+  resliced_sound : (from : ℕ) (offered : SliceRow) → unfit_from op.consts op.state from offered ≡ None → IsSound (operator op.consts op.row (reslice_result op.state from offered).state)
   resliced_sound from offered fit = record {
     ascending = sound.ascending;
     sfids = sound.sfids;
@@ -74,11 +74,11 @@ module _ (op : Operator) (sound : IsSound op) where
 
   -- ---- the inbox
 
-  arrived_sound : (modem : Modem) (heard : Heard) → IsSound (operator op.consts op.row (arrived op.row op.state modem heard).state)
+  arrived_sound : (modem : Modem) (heard : Heard) → IsSound (operator op.consts op.row (arrival_result op.row op.state modem heard).state)
   arrived_sound modem heard = cond_both (nat_le op.row.inbox (length op.state.inbox)) _ _ (λ (ran : StepResult). IsSound (operator op.consts op.row ran.state)) (λ _. sound)
       (λ room. inbox_on sound (op.state.inbox ++ record { modem = modem; heard = heard } ∷ []) (omega (arith, leb-false _ _ room, length_push {X = Arrival} op.state.inbox (record { modem = modem; heard = heard }))))
 
-  worked_sound : (inbox : List Arrival) → length inbox ≤ op.row.inbox → IsSound (operator op.consts op.row (worked op inbox).state)
+  worked_sound : (inbox : List Arrival) → length inbox ≤ op.row.inbox → IsSound (operator op.consts op.row (work_result op inbox).state)
   worked_sound [] few = sound
   worked_sound (first ∷ others) few = inbox_on (handle_sound op sound first.modem first.heard) others (omega arith)
 
@@ -99,4 +99,4 @@ module _ (consts : ConstsFields) (row : RowFields) where
   run_sound state (entry ∷ history) sound told = run_sound (own_step (operator consts row state) entry.action).state history (step_sound (operator consts row state) sound entry.action told.0) told.2
 
   pub replay_sound : (history : List Entry) (state : OperatorState) → IsRowOf consts row → 1 ≤ row.slice.length → IsReplay consts row history state → IsSound (operator consts row state)
-  replay_sound history state is some replay = subst (λ (s : OperatorState). IsSound (operator consts row s)) (sym replay.state_is) (run_sound (opened consts row) history (opened_sound consts row is some) replay.told)
+  replay_sound history state is some replay = subst (λ (s : OperatorState). IsSound (operator consts row s)) (sym replay.state_is) (run_sound (opened_state consts row) history (opened_sound consts row is some) replay.told)

@@ -12,7 +12,7 @@ use Rattle.flow_table.specs.Table.{flowing_in, committed_minislots}
 use Rattle.operator_model.specs.declared.share.Share.{Share}
 use Rattle.operator_model.specs.declared.share.NextShare.{NextShare}
 use Rattle.operator_model.specs.State.{Operator, operator}
-use Rattle.operator_model.specs.Frame.{at_frame, all_granted, share_at, next_at, flows_left, ticked}
+use Rattle.operator_model.specs.Frame.{at_frame, all_granted, share_at, next_at, flows_left, tick_result}
 use Rattle.operator_model.specs.Sound.{IsWaitingOf, HasItsFlow, IsShare, IsNextShare, IsSound}
 use Rattle.operator_model.proofs.FlowsLemmas.{then-CommitLess}
 use Rattle.operator_model.proofs.ChangeLemmas.{MayStep}
@@ -54,7 +54,7 @@ module _ (op : Operator) (sound : IsSound op) where
       let stays = filter_passes (λ (e : KeptEntry). not (is_forgotten e)) op.state.kept in
       let has : All (λ (e : KeptEntry). not (is_forgotten e) ≡ true → HasItsFlow (all_granted op.state.frame gs (flows_left op.state)) e) op.state.kept = λ k d lt stay. here (get_or op.state.kept k d) (others-IsOther op.state.kept sound.own_flows k d lt) (sound.waiting k d lt) stay in
       let left = All-filter (λ (e : KeptEntry). not (is_forgotten e)) (λ (e : KeptEntry). not (is_forgotten e) ≡ true → HasItsFlow (all_granted op.state.frame gs (flows_left op.state)) e) op.state.kept has in
-      All-map (HasItsFlow (all_granted op.state.frame gs (flows_left op.state))) (timers.ticked op.consts.timers) (filter (λ (e : KeptEntry). not (is_forgotten e)) op.state.kept)
+      All-map (HasItsFlow (all_granted op.state.frame gs (flows_left op.state))) (timers.entry_after_tick op.consts.timers) (filter (λ (e : KeptEntry). not (is_forgotten e)) op.state.kept)
       (λ k d lt. ticked_has op.consts.timers (all_granted op.state.frame gs (flows_left op.state)) (get_or (filter (λ (e : KeptEntry). not (is_forgotten e)) op.state.kept) k d) (left k d lt (stays k d lt)))
     where
       here : (e : KeptEntry) → IsOther op.state.kept e → HasItsFlow op.state.flows e → not (is_forgotten e) ≡ true → HasItsFlow (all_granted op.state.frame gs (flows_left op.state)) e
@@ -62,7 +62,7 @@ module _ (op : Operator) (sound : IsSound op) where
           kept-all_granted e.kind e.sfid op.state.frame gs (flows_left op.state)
           (subst (λ (o : Option Flow). IsSome o × IfSome o (IsWaitingOf e.kind)) (sym (at-all_undone e.sfid (given_up_in op.state.kept) op.state.flows (other (not_given_up e stay) waits))) (has waits))
 
-  pub tick_sound : IsSound (operator op.consts op.row (ticked op).state)
+  pub tick_sound : IsSound (operator op.consts op.row (tick_result op).state)
   tick_sound =
       let step = granted-step (granted_of op.row.policy (at_frame op.consts op.state) (flowing_in (flows_left op.state))) in
       let less = then-CommitLess step.less undone-step.less in

@@ -16,7 +16,7 @@ use Rattle.operator_model.specs.declared.verdict.Verdict.{Verdict}
 use Rattle.operator_model.specs.declared.verdict.Verdict.TheVariants.{Refused, Put, Deleted}
 use Rattle.operator_model.specs.State.{Operator}
 use Rattle.operator_model.specs.Asked.{transaction, free_flow, addition_of, change_of}
-use Rattle.operator_model.specs.Verdict.{limit_of, minislots_allowed, within_limit, new_flow, added_reply, added_under, added, changed_flow, changed_reply, changed_with, changed_with_new, wants_sid, changed, addition_verdict, change_verdict, deletion_verdict, verdict}
+use Rattle.operator_model.specs.Verdict.{limit_of, minislots_allowed, within_limit, new_flow, added_reply, added_under, addition_within_limit, changed_flow, changed_reply, changed_with, changed_with_new, wants_sid, change_within_limit, addition_verdict, change_verdict, deletion_verdict, verdict}
 use Rattle.operator_model.specs.Handle.{kind_of}
 use Rattle.operator_model.specs.Sound.{IsSoundFlow, IsWaitingOf, IsSound}
 use Rattle.operator_model.proofs.OrderLemmas.{length-insert, length-insert_there}
@@ -93,8 +93,8 @@ module _ (op : Operator) (sound : IsSound op) where
           idle = subst (λ (o : Option Flow). IfSome o (λ (f : Flow). f.pending ≡ None)) (sym (none-there op.row.sfids op.state.flows sfid free)) tt;
         })
 
-    right-added : Right Dsa (added op modem tid addition)
-    unfolding added
+    right-added : Right Dsa (addition_within_limit op modem tid addition)
+    unfolding addition_within_limit
     right-added = cond_both (nat_le op.row.flows (length op.state.flows)) _ _ (Right Dsa) (λ _. tt)
         (λ few. right-added_under (leb-false _ _ few) (least_free_of op.row.sfids (sfids_of op.state.flows)) (least_free_of op.row.sids (sids_of op.state.flows)) refl refl)
 
@@ -136,8 +136,8 @@ module _ (op : Operator) (sound : IsSound op) where
         (changed_sound (Some sid) true (λ _. refl) (λ _. refl) (λ _. none))
         (omega (arith, length-insert_there op.state.flows change.sfid flow change.flow sound.ascending is.flow.there, sound.few_flows)))
 
-    right-changed : Right Dsc (changed op tid change)
-    unfolding changed
+    right-changed : Right Dsc (change_within_limit op tid change)
+    unfolding change_within_limit
     right-changed = cond_both (wants_sid change) _ _ (Right Dsc)
         (λ wants. right-changed_with_new wants (least_free_of op.row.sids (sids_of op.state.flows)) refl)
         (λ content. right-changed_with change.flow.sid false (MayPut-again (sound-AreFlows sound) change.sfid change.flow is.flow.there (changed_flow change change.flow.sid false) (λ n same. same)

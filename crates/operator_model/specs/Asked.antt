@@ -55,17 +55,17 @@ abbrev pub refusal_naming : Transaction → Code → FlowFields → ℕ → Repl
 refusal_naming t code flow subtype = record { kind = t.kind; tid = t.tid; code = code; detail = Errored (id_of t.kind flow) subtype }
 
 -- what is stated, or this refusal
-abbrev pub stated : {X : Type 0} → Option X → ReplyFields → Result X ReplyFields
-stated None reply = Err reply
-stated (Some x) reply = Ok x
+abbrev pub stated_or_refusal : {X : Type 0} → Option X → ReplyFields → Result X ReplyFields
+stated_or_refusal None reply = Err reply
+stated_or_refusal (Some x) reply = Ok x
 
 -- ---- checks 5 to 8: which encodings are together
 
 -- the identifier as a number
-abbrev pub number_in : Kind → FlowFields → Option ℕ
-number_in Dsa flow = flow.reference
-number_in Dsc flow = flow.sfid
-number_in Dsd flow = None
+abbrev pub id_number : Kind → FlowFields → Option ℕ
+id_number Dsa flow = flow.reference
+id_number Dsc flow = flow.sfid
+id_number Dsd flow = None
 
 -- two absent numbers are the same, and an absent one differs from every number
 abbrev pub is_same : Option ℕ → Option ℕ → Bool
@@ -86,7 +86,7 @@ stand_together flows = false
 abbrev pub first_of : Transaction → List FlowFields → Result FlowFields ReplyFields
 first_of t [] = Err (refusal t.kind t.tid codes.RejectRequiredParameterNotPresent)
 first_of t (first ∷ others) =
-    if not (list_all (λ other. is_same (number_in t.kind first) (number_in t.kind other)) others) then Err (refusal t.kind t.tid codes.RejectMultipleUpstreamFlows) else
+    if not (list_all (λ other. is_same (id_number t.kind first) (id_number t.kind other)) others) then Err (refusal t.kind t.tid codes.RejectMultipleUpstreamFlows) else
     if not (stand_together (first ∷ others)) then Err (refusal t.kind t.tid codes.RejectDuplicateReference) else
     Ok first
 
@@ -114,13 +114,13 @@ free_flow t (Some flow) =
 
 -- ---- checks 13 and 14: the parameter sets that are asked for
 
-abbrev pub set_unless : Transaction → FlowFields → Result ParamFields Refusal → Result ParamFields ReplyFields
-set_unless t flow (Ok set) = Ok set
-set_unless t flow (Err r) = Err (refusal_naming t r.code flow r.subtype)
+abbrev pub set_or_refusal : Transaction → FlowFields → Result ParamFields Refusal → Result ParamFields ReplyFields
+set_or_refusal t flow (Ok set) = Ok set
+set_or_refusal t flow (Err r) = Err (refusal_naming t r.code flow r.subtype)
 
 abbrev pub set_over_class : Transaction → UnitSizes → FlowFields → Option FlowFields → Result ParamFields ReplyFields
 set_over_class t units flow None = Err (refusal_naming t codes.RejectPermanent flow class_name_subtype)
-set_over_class t units flow (Some asked) = set_unless t flow (parameter_set_of asked units)
+set_over_class t units flow (Some asked) = set_or_refusal t flow (parameter_set_of asked units)
 
 -- the set of an encoding: it is refused as the set of what it asks for over its class
 unfoldable pub set_of : Transaction → ConstsFields → FlowFields → Result ParamFields ReplyFields
@@ -187,7 +187,7 @@ nested_sets t first provisioned asked =
 unfoldable pub addition_of : ConstsFields → Transaction → List FlowFields → Result Addition ReplyFields
 addition_of consts t encodings = do
   first ← first_encoding t consts.classes encodings
-  reference ← stated first.reference (refusal_naming t codes.RejectRequiredParameterNotPresent first reference_subtype)
+  reference ← stated_or_refusal first.reference (refusal_naming t codes.RejectRequiredParameterNotPresent first reference_subtype)
   asked ← asked_sets t consts encodings
   sets ← nested_sets t first None asked
   Ok (record { reference = reference; sets = sets })
@@ -196,7 +196,7 @@ addition_of consts t encodings = do
 unfoldable pub change_of : ConstsFields → List (ℕ × Flow) → Transaction → List FlowFields → Result Change ReplyFields
 change_of consts flows t encodings = do
   first ← first_encoding t consts.classes encodings
-  sfid ← stated first.sfid (refusal_naming t codes.RejectRequiredParameterNotPresent first sfid_subtype)
+  sfid ← stated_or_refusal first.sfid (refusal_naming t codes.RejectRequiredParameterNotPresent first sfid_subtype)
   flow ← free_flow t (flow_at sfid flows)
   asked ← asked_sets t consts encodings
   sets ← nested_sets t first flow.sets.provisioned asked

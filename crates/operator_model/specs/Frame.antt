@@ -9,7 +9,7 @@ use Rattle.slice_scheduler.specs.declared.elements.ElementsFields.{ElementsField
 use Rattle.slice_scheduler.specs.Schedule.{elements_of, granted_of}
 use Rattle.plant.specs.declared.consts.ConstsFields.{ConstsFields}
 use Rattle.flow_table.specs.declared.flow.Flow.{Flow}
-use Rattle.flow_table.specs.Flow.{granted}
+use Rattle.flow_table.specs.Flow.{flow_after_grant}
 use Rattle.flow_table.specs.Table.{flowing_in}
 use Rattle.operator_model.specs.declared.output.Output.{Output}
 use Rattle.operator_model.specs.declared.output.Output.TheVariants as outputs
@@ -38,7 +38,7 @@ at_frame consts state = record { slice = state.share.slice; frame = state.frame;
 -- each grant lowers its flow's backlog
 abbrev pub all_granted : ℕ → List (ℕ × ℕ) → List (ℕ × Flow) → List (ℕ × Flow)
 all_granted frame [] flows = flows
-all_granted frame (grant ∷ grants) flows = all_granted frame grants (change_at grant.0 (granted grant.1 frame) flows)
+all_granted frame (grant ∷ grants) flows = all_granted frame grants (change_at grant.0 (flow_after_grant grant.1 frame) flows)
 
 -- ---- the share
 
@@ -62,8 +62,8 @@ abbrev pub frame_elements : Operator → ElementsFields
 frame_elements op = elements_of op.row.policy (at_frame op.consts op.state) (flowing_in (flows_left op.state))
 
 -- resends in the order of their transactions, then the frame; then the next frame
-abbrev pub ticked : Operator → StepResult
-ticked op = record {
+abbrev pub tick_result : Operator → StepResult
+tick_result op = record {
   state = record {
     flows = all_granted op.state.frame (granted_of op.row.policy (at_frame op.consts op.state) (flowing_in (flows_left op.state))) (flows_left op.state);
     kept = kept_after op.consts.timers op.state.kept;

@@ -9,14 +9,14 @@ use Rattle.operator_model.specs.State.{Operator}
 use Rattle.operator_model.specs.Machine.{own_run}
 
 -- the number of a frame
-abbrev pub frame_of : Output → Option ℕ
-frame_of (outputs.Reply modem bytes) = None
-frame_of (outputs.Silent modem cause) = None
-frame_of (outputs.Frame number elements) = Some number
+abbrev pub frame_number : Output → Option ℕ
+frame_number (outputs.Reply modem bytes) = None
+frame_number (outputs.Silent modem cause) = None
+frame_number (outputs.Frame number elements) = Some number
 
 -- the numbers of the frames that are output, in order
-abbrev pub frames_in : List Output → List ℕ
-frames_in outputs = filter_map frame_of outputs
+abbrev pub frame_numbers : List Output → List ℕ
+frame_numbers outputs = filter_map frame_number outputs
 
 abbrev pub is_tick : Action → Bool
 is_tick (Arrive modem heard) = false
@@ -27,7 +27,7 @@ is_tick (Reslice from slice_row) = false
 -- a run outputs a frame for each tick, numbered from the state's frame number on, in order and with no gap
 abbrev pub FramesHaveNoGap : Type 0
 FramesHaveNoGap = (op : Operator) (actions : List Action)
-    → frames_in (own_run op actions).outputs ≡ range_with_len op.state.frame (count_by is_tick actions)
+    → frame_numbers (own_run op actions).outputs ≡ range_with_len op.state.frame (count_by is_tick actions)
 
 -- the next frame follows them
 abbrev pub NextFrameFollows : Type 0

@@ -19,12 +19,12 @@ use Rattle.dsx_messages.specs.Reading.{message_of}
 use Rattle.dsx_messages.specs.Spelling.{spell_reply}
 use Rattle.transactions.specs.declared.entry.KeptEntry.{KeptEntry}
 use Rattle.transactions.specs.Entry.{same_kind, is_of, waits_for}
-use Rattle.transactions.specs.Keeping.{begun}
+use Rattle.transactions.specs.Keeping.{begun_entry}
 use Rattle.transactions.specs.Keeping as keeping
 use Rattle.plant.specs.declared.consts.ConstsFields.{ConstsFields}
 use Rattle.plant.specs.Row.{same_modem}
 use Rattle.flow_table.specs.declared.flow.Flow.{Flow}
-use Rattle.flow_table.specs.Flow.{asks_for_grants, acknowledged, taken_back, requested}
+use Rattle.flow_table.specs.Flow.{asks_for_grants, flow_after_ack, taken_back, flow_after_request}
 use Rattle.flow_table.specs.Table.{flow_with, with_flow}
 use Rattle.flow_table.specs.Moved.{change_at}
 use Rattle.operator_model.specs.declared.heard.Heard.{Heard}
@@ -37,7 +37,7 @@ use Rattle.operator_model.specs.declared.verdict.Verdict.{Verdict}
 use Rattle.operator_model.specs.declared.verdict.Verdict.TheVariants.{Refused, Put, Deleted}
 use Rattle.operator_model.specs.State.{OperatorState, Operator}
 use Rattle.operator_model.specs.Asked.{refusal}
-use Rattle.operator_model.specs.Verdict.{verdict, errored}
+use Rattle.operator_model.specs.Verdict.{verdict, encoding_refusal}
 
 -- a state, and what was output on the way to it
 pub record StepResult : Type 0 where
@@ -49,8 +49,8 @@ abbrev pub silent : OperatorState → Modem → Cause → StepResult
 silent state modem cause = record { state = state; outputs = outputs.Silent (Some modem) cause ∷ [] }
 
 -- nothing changes, and these bytes are answered
-abbrev pub told : OperatorState → Modem → List ℕ → StepResult
-told state modem bytes = record { state = state; outputs = outputs.Reply modem bytes ∷ [] }
+abbrev pub reply_result : OperatorState → Modem → List ℕ → StepResult
+reply_result state modem bytes = record { state = state; outputs = outputs.Reply modem bytes ∷ [] }
 
 -- ---- flows that change
 
@@ -93,7 +93,7 @@ abbrev pub carried_out : ConstsFields → OperatorState → Modem → Kind → �
 carried_out consts state modem kind tid v = record {
   state = record state {
     flows = flows_after v state.flows;
-    kept = state.kept ++ begun consts.timers modem tid kind (spell_reply (reply_of v)) (sfid_of v) (does_wait v) ∷ [];
+    kept = state.kept ++ begun_entry consts.timers modem tid kind (spell_reply (reply_of v)) (sfid_of v) (does_wait v) ∷ [];
   };
   outputs = outputs.Reply modem (spell_reply (reply_of v)) ∷ [];
 }
@@ -103,27 +103,27 @@ abbrev pub is_of_cmts : ℕ → Bool
 is_of_cmts tid = nat_le 32768 tid
 
 -- a request that is repeated gets the cached reply again; another kind under its transaction ID gets no answer
-abbrev pub repeated : OperatorState → Modem → Kind → KeptEntry → StepResult
-repeated state modem kind entry = if same_kind entry.kind kind then told state modem entry.reply else silent state modem causes.TidInUse
+abbrev pub repeat_result : OperatorState → Modem → Kind → KeptEntry → StepResult
+repeat_result state modem kind entry = if same_kind entry.kind kind then reply_result state modem entry.reply else silent state modem causes.TidInUse
 
 -- checks 2 and 3: the transaction is kept already; as many are kept as the row allows
 abbrev pub new_unless : Operator → Modem → Kind → ℕ → Verdict → Option KeptEntry → StepResult
-new_unless op modem kind tid v (Some entry) = repeated op.state modem kind entry
+new_unless op modem kind tid v (Some entry) = repeat_result op.state modem kind entry
 new_unless op modem kind tid v None =
-    if nat_le op.row.transactions (length op.state.kept) then told op.state modem (spell_reply (refusal kind tid codes.RejectTemporary)) else
+    if nat_le op.row.transactions (length op.state.kept) then reply_result op.state modem (spell_reply (refusal kind tid codes.RejectTemporary)) else
     carried_out op.consts op.state modem kind tid v
 
 -- checks 1 to 3, which do not ask what the request says further; then the verdict
-abbrev pub transacted : Operator → Modem → Kind → ℕ → Verdict → StepResult
-transacted op modem kind tid v =
-    if is_of_cmts tid then told op.state modem (spell_reply (refusal kind tid codes.RejectUnknownTransaction)) else
+abbrev pub transaction_result : Operator → Modem → Kind → ℕ → Verdict → StepResult
+transaction_result op modem kind tid v =
+    if is_of_cmts tid then reply_result op.state modem (spell_reply (refusal kind tid codes.RejectUnknownTransaction)) else
     new_unless op modem kind tid v (find (is_of modem tid) op.state.kept)
 
 -- ---- an acknowledgement
 
 -- code 0 commits the pending sets, another code takes them back
 abbrev pub flows_acked : Kind → ℕ → ℕ → ℕ → List (ℕ × Flow) → List (ℕ × Flow)
-flows_acked kind code frame sfid flows = if code == 0 then change_at sfid (acknowledged frame) flows else undone kind sfid flows
+flows_acked kind code frame sfid flows = if code == 0 then change_at sfid (flow_after_ack frame) flows else undone kind sfid flows
 
 -- nothing waits for it; else the entry that did is held from now on
 abbrev pub acked_if : ConstsFields → OperatorState → Modem → ℕ → Kind → ℕ → Option ℕ → StepResult
@@ -131,13 +131,13 @@ acked_if consts state modem tid kind code None = silent state modem causes.Unkno
 acked_if consts state modem tid kind code (Some sfid) = record {
   state = record state {
     flows = flows_acked kind code state.frame sfid state.flows;
-    kept = map (keeping.acknowledged consts.timers modem tid kind) state.kept;
+    kept = map (keeping.entry_after_ack consts.timers modem tid kind) state.kept;
   };
   outputs = [];
 }
 
-abbrev pub acked : ConstsFields → OperatorState → Modem → ℕ → Kind → ℕ → StepResult
-acked consts state modem tid kind code =
+abbrev pub ack_result : ConstsFields → OperatorState → Modem → ℕ → Kind → ℕ → StepResult
+ack_result consts state modem tid kind code =
     acked_if consts state modem tid kind code (option_map (λ entry. entry.sfid) (find (waits_for modem tid kind) state.kept))
 
 -- ---- a message
@@ -157,12 +157,12 @@ abbrev pub message_handled : Operator → Modem → Result Message MessageFault 
 message_handled op modem (Err faults.Empty) = silent op.state modem causes.Empty
 message_handled op modem (Err (faults.NotOurs mtype)) = silent op.state modem causes.NotOurs
 message_handled op modem (Err faults.Short) = silent op.state modem causes.Short
-message_handled op modem (Err (faults.Tlv tid kind id fault)) = transacted op modem kind tid (Refused (errored kind tid id fault))
-message_handled op modem (Err (faults.LeftOut tid kind found)) = transacted op modem kind tid (Refused (refusal kind tid codes.RejectUnrecognizedSetting))
+message_handled op modem (Err (faults.Tlv tid kind id fault)) = transaction_result op modem kind tid (Refused (encoding_refusal kind tid id fault))
+message_handled op modem (Err (faults.LeftOut tid kind found)) = transaction_result op modem kind tid (Refused (refusal kind tid codes.RejectUnrecognizedSetting))
 message_handled op modem (Err faults.NoMemory) = silent op.state modem causes.NotOurs
-message_handled op modem (Ok (messages.Ack kind tid code)) = acked op.consts op.state modem tid kind code
+message_handled op modem (Ok (messages.Ack kind tid code)) = ack_result op.consts op.state modem tid kind code
 message_handled op modem (Ok (messages.Request request)) =
-    transacted op modem (kind_of request) (tid_of request) (verdict op modem request)
+    transaction_result op modem (kind_of request) (tid_of request) (verdict op modem request)
 
 -- ---- a request for minislots
 
@@ -172,7 +172,7 @@ asked_of_flow state modem minislots None = silent state modem causes.NoSuchSid
 asked_of_flow state modem minislots (Some entry) =
     if not (same_modem entry.1.modem modem) then silent state modem causes.NoSuchSid else
     if not (asks_for_grants entry.1.sets.active) then silent state modem causes.NotRequesting else
-    record { state = record state { flows = with_flow entry.0 (requested minislots state.frame entry.1) state.flows }; outputs = [] }
+    record { state = record state { flows = with_flow entry.0 (flow_after_request minislots state.frame entry.1) state.flows }; outputs = [] }
 
 -- ---- what was received
 

@@ -16,13 +16,13 @@ use Rattle.operator_model.specs.declared.output.Cause.TheVariants.{InboxFull, Id
 use Rattle.operator_model.specs.declared.output.Output.TheVariants as outputs
 use Rattle.operator_model.specs.State.{OperatorState, Operator}
 use Rattle.operator_model.specs.Handle.{StepResult, handle}
-use Rattle.operator_model.specs.Frame.{ticked}
+use Rattle.operator_model.specs.Frame.{tick_result}
 
 -- ---- the actions
 
 -- to the end of the inbox; a full inbox drops it
-abbrev pub arrived : RowFields → OperatorState → Modem → Heard → StepResult
-arrived row state modem heard =
+abbrev pub arrival_result : RowFields → OperatorState → Modem → Heard → StepResult
+arrival_result row state modem heard =
     if nat_le row.inbox (length state.inbox) then record { state = state; outputs = outputs.Silent (Some modem) InboxFull ∷ [] }
     else record { state = record state { inbox = state.inbox ++ record { modem = modem; heard = heard } ∷ [] }; outputs = [] }
 
@@ -31,13 +31,13 @@ abbrev pub taken_out : List Arrival → StepResult → StepResult
 taken_out others ran = record { state = record ran.state { inbox = others }; outputs = ran.outputs }
 
 -- the first of the inbox is handled and taken out; no handling looks at the inbox
-abbrev pub worked : Operator → List Arrival → StepResult
-worked op [] = record { state = op.state; outputs = outputs.Silent None Idle ∷ [] }
-worked op (first ∷ others) = taken_out others (handle op first.modem first.heard)
+abbrev pub work_result : Operator → List Arrival → StepResult
+work_result op [] = record { state = op.state; outputs = outputs.Silent None Idle ∷ [] }
+work_result op (first ∷ others) = taken_out others (handle op first.modem first.heard)
 
 -- the share that waits for its frame
-abbrev pub resliced : OperatorState → ℕ → SliceRow → StepResult
-resliced state from row = record {
+abbrev pub reslice_result : OperatorState → ℕ → SliceRow → StepResult
+reslice_result state from row = record {
   state = record state {
     next = Some (record { from = from; share = record { slice = record { start = row.start; length = row.length }; budget = row.budget } });
   };
@@ -45,10 +45,10 @@ resliced state from row = record {
 }
 
 unfoldable pub own_step : Operator → Action → StepResult
-own_step o (Arrive modem heard) = arrived o.row o.state modem heard
-own_step o Work = worked o o.state.inbox
-own_step o Tick = ticked o
-own_step o (Reslice from slice_row) = resliced o.state from slice_row
+own_step o (Arrive modem heard) = arrival_result o.row o.state modem heard
+own_step o Work = work_result o o.state.inbox
+own_step o Tick = tick_result o
+own_step o (Reslice from slice_row) = reslice_result o.state from slice_row
 
 -- ---- what is refused
 

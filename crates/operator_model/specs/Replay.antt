@@ -4,7 +4,7 @@ use Rattle.plant.specs.declared.consts.ConstsFields.{ConstsFields}
 use Rattle.plant.specs.declared.operator_row.RowFields.{RowFields}
 use Rattle.operator_model.specs.declared.action.Action.{Action}
 use Rattle.operator_model.specs.declared.action.Entry.{Entry}
-use Rattle.operator_model.specs.State.{OperatorState, Operator, operator, opened}
+use Rattle.operator_model.specs.State.{OperatorState, Operator, operator, opened_state}
 use Rattle.operator_model.specs.Machine.{own_step, after_step, own_run, IsAllowed}
 
 -- the actions of a history
@@ -26,7 +26,7 @@ pub record IsReplayFrom (consts : ConstsFields) (row : RowFields) (first : Opera
 
 -- the same from the opened state
 abbrev pub IsReplay : ConstsFields → RowFields → List Entry → OperatorState → Type 0
-IsReplay consts row history state = IsReplayFrom consts row (opened consts row) history state
+IsReplay consts row history state = IsReplayFrom consts row (opened_state consts row) history state
 
 -- what contracts see of a book
 pub record BookView : Type 0 where
@@ -36,8 +36,8 @@ pub record BookView : Type 0 where
   pub history : List Entry
 
 -- all that an action changes: the state by the machine, and one more entry
-abbrev pub acted : BookView → Action → BookView
-acted b action = record {
+abbrev pub book_after_action : BookView → Action → BookView
+book_after_action b action = record {
   row = b.row;
   consts = b.consts;
   state = (own_step (operator b.consts b.row b.state) action).state;

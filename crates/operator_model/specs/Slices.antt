@@ -9,7 +9,7 @@ use Rattle.operator_model.specs.declared.share.NextShare.{NextShare}
 use Rattle.plant.specs.declared.consts.ConstsFields.{ConstsFields}
 use Rattle.plant.specs.declared.operator_row.RowFields.{RowFields}
 use Rattle.operator_model.specs.declared.action.Entry.{Entry}
-use Rattle.operator_model.specs.State.{OperatorState, Operator, operator, opened}
+use Rattle.operator_model.specs.State.{OperatorState, Operator, operator, opened_state}
 use Rattle.operator_model.specs.Machine.{after_step, own_run, IsAllowed}
 use Rattle.operator_model.specs.Replay.{actions_of, IsReplay}
 use Rattle.operator_model.specs.Sound.{IsSound}
@@ -59,8 +59,8 @@ MayRun o [] = Unit {0}
 MayRun o (action ∷ actions) = IsAllowed o action × MayRun (after_step o action) actions
 
 -- an operator before its first action
-abbrev pub started : ConstsFields → RowFields → Operator
-started consts row = operator consts row (opened consts row)
+abbrev pub opened_operator : ConstsFields → RowFields → Operator
+opened_operator consts row = operator consts row (opened_state consts row)
 
 -- each frame of a run from a sound state is of the slice of its number
 abbrev pub FramesFollowTheirState : Type 0
@@ -74,14 +74,14 @@ NextSliceFollowsItsState = (op : Operator) (actions : List Action) → IsSound o
 
 -- each frame that a run outputs is of the slice of its number
 abbrev pub FramesHaveTheirSlices : Type 0
-FramesHaveTheirSlices = (consts : ConstsFields) (row : RowFields) (actions : List Action) → MayRun (started consts row) actions
-    → All (IsOfItsSlice (slice_at row.slice (reslicings_in actions))) (own_run (started consts row) actions).outputs
+FramesHaveTheirSlices = (consts : ConstsFields) (row : RowFields) (actions : List Action) → MayRun (opened_operator consts row) actions
+    → All (IsOfItsSlice (slice_at row.slice (reslicings_in actions))) (own_run (opened_operator consts row) actions).outputs
 
 -- after a run the slice of the frame that comes next is in force
 abbrev pub NextSliceIsInForce : Type 0
-NextSliceIsInForce = (consts : ConstsFields) (row : RowFields) (actions : List Action) → MayRun (started consts row) actions
-    → (own_run (started consts row) actions).state.share.slice
-    ≡ slice_at row.slice (reslicings_in actions) (own_run (started consts row) actions).state.frame
+NextSliceIsInForce = (consts : ConstsFields) (row : RowFields) (actions : List Action) → MayRun (opened_operator consts row) actions
+    → (own_run (opened_operator consts row) actions).state.share.slice
+    ≡ slice_at row.slice (reslicings_in actions) (own_run (opened_operator consts row) actions).state.frame
 
 -- so it is in the replay of a history
 abbrev pub ReplayedSliceIsInForce : Type 0

@@ -3,7 +3,7 @@ use Rattle.std.specs.Prelude.{ℕ, List, [], map, Option, None}
 use Rattle.transactions.specs.declared.entry.KeptEntry.{KeptEntry}
 use Rattle.plant.specs.declared.consts.ConstsFields.{ConstsFields}
 use Rattle.plant.specs.declared.operator_row.RowFields.{RowFields}
-use Rattle.plant.specs.Provisioned.{Opened, opened_flows}
+use Rattle.plant.specs.Provisioned.{OpenedFlow, opened_flows}
 use Rattle.flow_table.specs.declared.flow.Flow.{Flow}
 use Rattle.operator_model.specs.declared.heard.Arrival.{Arrival}
 use Rattle.operator_model.specs.declared.share.Share.{Share}
@@ -24,7 +24,7 @@ pub record OperatorState : Type 0 where
   pub next : Option NextShare
 
 -- a provisioned flow as it is opened in this frame
-abbrev pub opened_flow : ℕ → Opened → Flow
+abbrev pub opened_flow : ℕ → OpenedFlow → Flow
 opened_flow frame opened = record {
   modem = opened.modem;
   sid = opened.sid;
@@ -36,8 +36,8 @@ opened_flow frame opened = record {
 }
 
 -- a machine as it is opened: the provisioned flows, and nothing else
-abbrev pub opened : ConstsFields → RowFields → OperatorState
-opened consts row = record {
+abbrev pub opened_state : ConstsFields → RowFields → OperatorState
+opened_state consts row = record {
   flows = map (λ entry. (entry.0, opened_flow consts.channel.first_frame entry.1)) (opened_flows consts row);
   kept = [];
   inbox = [];
@@ -52,7 +52,7 @@ consts_from frame consts = record consts { channel = record consts.channel { fir
 
 -- a machine as it is opened before a later frame than the plant's first one: an operator that joins a running plant
 abbrev pub opened_before : ℕ → ConstsFields → RowFields → OperatorState
-opened_before frame consts row = opened (consts_from frame consts) row
+opened_before frame consts row = opened_state (consts_from frame consts) row
 
 -- an operator: what all operators share, its row, and its state
 pub record Operator : Type 0 where

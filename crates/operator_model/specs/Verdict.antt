@@ -75,8 +75,8 @@ added_under op modem tid addition (Some sfid) (Some sid) =
     (Put sfid (new_flow modem op.state.frame addition.sets sid) (added_reply tid addition.reference sfid sid))
 
 -- as many flows are as the row allows; else the flow gets the least free identifiers
-unfoldable pub added : Operator → Modem → ℕ → Addition → Verdict
-added op modem tid addition =
+unfoldable pub addition_within_limit : Operator → Modem → ℕ → Addition → Verdict
+addition_within_limit op modem tid addition =
     if nat_le op.row.flows (length op.state.flows) then no_room Dsa tid else
     added_under op modem tid addition (least_free_of op.row.sfids (sfids_of op.state.flows)) (least_free_of op.row.sids (sids_of op.state.flows))
 
@@ -104,8 +104,8 @@ changed_with_new op tid change (Some sid) = changed_with op tid change (Some sid
 abbrev pub wants_sid : Change → Bool
 wants_sid change = is_some change.sets.admitted && is_none change.flow.sid
 
-unfoldable pub changed : Operator → ℕ → Change → Verdict
-changed op tid change =
+unfoldable pub change_within_limit : Operator → ℕ → Change → Verdict
+change_within_limit op tid change =
     if wants_sid change then changed_with_new op tid change (least_free_of op.row.sids (sids_of op.state.flows)) else
     changed_with op tid change change.flow.sid false
 
@@ -113,11 +113,11 @@ changed op tid change =
 
 abbrev pub addition_verdict : Operator → Modem → ℕ → Result Addition ReplyFields → Verdict
 addition_verdict op modem tid (Err reply) = Refused reply
-addition_verdict op modem tid (Ok addition) = added op modem tid addition
+addition_verdict op modem tid (Ok addition) = addition_within_limit op modem tid addition
 
 abbrev pub change_verdict : Operator → ℕ → Result Change ReplyFields → Verdict
 change_verdict op tid (Err reply) = Refused reply
-change_verdict op tid (Ok change) = changed op tid change
+change_verdict op tid (Ok change) = change_within_limit op tid change
 
 -- a deletion: checks 10 to 12
 abbrev pub deletion_verdict : ℕ → ℕ → Result Flow ReplyFields → Verdict
@@ -132,9 +132,9 @@ verdict op modem (requests.Dsd tid sfid) = deletion_verdict tid sfid (free_flow 
 
 -- ---- check 4: what could not be read
 
-abbrev pub errored : Kind → ℕ → Option FlowId → TlvFault → ReplyFields
-errored kind tid id (tlv_faults.Cut place) = refusal kind tid codes.RejectOther
-errored kind tid id (tlv_faults.WrongLength subtype) = record { kind = kind; tid = tid; code = codes.RejectUnrecognizedSetting; detail = Errored id subtype }
-errored kind tid id (tlv_faults.Twice subtype) = record { kind = kind; tid = tid; code = codes.RejectInvalidForContext; detail = Errored id subtype }
-errored kind tid id (tlv_faults.Range subtype) = record { kind = kind; tid = tid; code = codes.RejectInvalidForContext; detail = Errored id subtype }
-errored kind tid id tlv_faults.NoMemory = refusal kind tid codes.RejectOther
+abbrev pub encoding_refusal : Kind → ℕ → Option FlowId → TlvFault → ReplyFields
+encoding_refusal kind tid id (tlv_faults.Cut place) = refusal kind tid codes.RejectOther
+encoding_refusal kind tid id (tlv_faults.WrongLength subtype) = record { kind = kind; tid = tid; code = codes.RejectUnrecognizedSetting; detail = Errored id subtype }
+encoding_refusal kind tid id (tlv_faults.Twice subtype) = record { kind = kind; tid = tid; code = codes.RejectInvalidForContext; detail = Errored id subtype }
+encoding_refusal kind tid id (tlv_faults.Range subtype) = record { kind = kind; tid = tid; code = codes.RejectInvalidForContext; detail = Errored id subtype }
+encoding_refusal kind tid id tlv_faults.NoMemory = refusal kind tid codes.RejectOther

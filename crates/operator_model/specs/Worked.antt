@@ -14,7 +14,7 @@ use Rattle.operator_model.specs.declared.action.Action.TheVariants.{Arrive, Work
 use Rattle.operator_model.specs.declared.output.Cause.{Cause}
 use Rattle.operator_model.specs.declared.output.Output.{Output}
 use Rattle.operator_model.specs.declared.output.Output.TheVariants.{Reply, Silent, Frame}
-use Rattle.operator_model.specs.State.{operator, OperatorState, opened}
+use Rattle.operator_model.specs.State.{operator, OperatorState, opened_state}
 use Rattle.operator_model.specs.Machine.{own_run}
 
 -- frames of 72 minislots of 16 bytes in 2 ms, the first 8 of them for all modems
@@ -97,12 +97,12 @@ hex (high ∷ low ∷ more) = (16 * digit high + digit low) ∷ hex more
 -- ---- what is done
 
 -- a message arrives, and is handled
-abbrev pub sent : Modem → List ℕ → List Action
-sent modem text = Arrive modem (Message (hex text)) ∷ Work ∷ []
+abbrev pub message_actions : Modem → List ℕ → List Action
+message_actions modem text = Arrive modem (Message (hex text)) ∷ Work ∷ []
 
 -- a request for minislots arrives, and is handled
-abbrev pub asked : Modem → ℕ → ℕ → List Action
-asked modem sid minislots = Arrive modem (Request sid minislots) ∷ Work ∷ []
+abbrev pub request_actions : Modem → ℕ → ℕ → List Action
+request_actions modem sid minislots = Arrive modem (Request sid minislots) ∷ Work ∷ []
 
 -- a best-effort flow of reference 1 is added with its set admitted and active, and is reported SFID 257 and SID 257; then the
 -- reply is acknowledged
@@ -123,14 +123,14 @@ full_addition = codes "0F00011817010200010601060F0106130202001404000007D0160101"
 
 -- a machine is opened, and this is done
 abbrev pub answers : ConstsFields → RowFields → List Action → List Output
-answers consts row actions = (own_run (operator consts row (opened consts row)) actions).outputs
+answers consts row actions = (own_run (operator consts row (opened_state consts row)) actions).outputs
 
 -- and the state that it leads to
 abbrev pub after : ConstsFields → RowFields → List Action → OperatorState
-after consts row actions = (own_run (operator consts row (opened consts row)) actions).state
+after consts row actions = (own_run (operator consts row (opened_state consts row)) actions).state
 
-abbrev pub told : Modem → List ℕ → Output
-told modem text = Reply modem (hex text)
+abbrev pub hex_reply : Modem → List ℕ → Output
+hex_reply modem text = Reply modem (hex text)
 
 abbrev pub silent : Modem → Cause → Output
 silent modem cause = Silent (Some modem) cause

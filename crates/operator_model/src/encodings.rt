@@ -1,15 +1,15 @@
 //! What the flow encodings of a request say, looked at together.
 
 ghost use Rattle.std.specs.Prelude.{◌≡◌};
-ghost use Rattle.operator_model.specs.Asked.{number_in, is_same, has_set_type, stand_together};
+ghost use Rattle.operator_model.specs.Asked.{id_number, is_same, has_set_type, stand_together};
 
 use dsx_messages::Kind;
 use tlv24::FlowTlv;
 
 /// Returns the identifier of an encoding as a number: the reference in an addition, the SFID in a
 /// change.
-pub fn number_in(kind: Kind, flow: &FlowTlv) -> Option<u32>
-    ensures { result ≡ number_in kind flow.now }
+pub fn id_number(kind: Kind, flow: &FlowTlv) -> Option<u32>
+    ensures { result ≡ id_number kind flow.now }
 {
     match kind {
         Kind::Dsa => Some(u32::from(flow.get_reference()?)),

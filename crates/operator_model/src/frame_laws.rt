@@ -2,7 +2,7 @@
 
 ghost use Rattle.std.specs.Prelude.{◌≡◌, ◌≢◌, ◌==◌, ◌+◌, ◌≤◌, true, length, All, count_by};
 ghost use Rattle.std.specs.List.{list_all};
-ghost use Rattle.slice_scheduler.specs.Servable.{SfidsAscend, IsPast, needed};
+ghost use Rattle.slice_scheduler.specs.Servable.{SfidsAscend, IsPast, total_need};
 ghost use Rattle.slice_scheduler.specs.Tiles.{IsTiled};
 ghost use Rattle.plant.specs.Row.{IsRow};
 ghost use Rattle.flow_table.specs.Table.{flowing_in};
@@ -19,7 +19,7 @@ pub fn schedule_can_serve()
     ensures ascending { (op : Operator) → IsSound op → SfidsAscend (flowing_in op.state.flows) }
     ensures past { (op : Operator) → IsSound op → All (IsPast op.state.frame) (flowing_in op.state.flows) }
     ensures within { (op : Operator) → IsSound op
-        → needed (at_frame op.consts op.state) (flowing_in op.state.flows) ≤ op.state.share.slice.length }
+        → total_need (at_frame op.consts op.state) (flowing_in op.state.flows) ≤ op.state.share.slice.length }
 {}
 
 /// States that what a tick abandons is not scheduled, and leaves all that is scheduled: a new flow

@@ -6,7 +6,7 @@ ghost use Rattle.plant.specs.declared.operator_row.RowFields.{RowFields};
 ghost use Rattle.plant.specs.Row.{IsRowOf};
 ghost use Rattle.operator_model.specs.declared.action.Action.{Action};
 ghost use Rattle.operator_model.specs.declared.action.Entry.{Entry};
-ghost use Rattle.operator_model.specs.State.{Operator, OperatorState, operator, opened, opened_before};
+ghost use Rattle.operator_model.specs.State.{Operator, OperatorState, operator, opened_state, opened_before};
 ghost use Rattle.operator_model.specs.Machine.{own_step, IsAllowed};
 ghost use Rattle.operator_model.specs.Replay.{IsReplay};
 ghost use Rattle.operator_model.specs.Sound.{IsSound};
@@ -17,7 +17,7 @@ ghost use Rattle.operator_model.specs.Repeats.{RepeatsChangeNothing};
 /// the slice has a minislot is what each `Slice` has.
 pub fn opened_is_sound()
     ensures { (consts : ConstsFields) (row : RowFields) → IsRowOf consts row → 1 ≤ row.slice.length
-        → IsSound (operator consts row (opened consts row)) }
+        → IsSound (operator consts row (opened_state consts row)) }
 {}
 
 /// States that an operator that is opened before a later frame than the plant's first one is sound too.

@@ -13,7 +13,7 @@ mod verdict;
 mod worked;
 
 pub use action::{Action, Entry, SliceRow, Unfit};
-pub use encodings::{has_set_type, is_same, number_in, stand_together};
+pub use encodings::{has_set_type, id_number, is_same, stand_together};
 pub use frame_laws::{
     frame_is_a_part, frames_are_shares, frames_have_no_gap, given_up_have_no_grants,
     schedule_can_serve,

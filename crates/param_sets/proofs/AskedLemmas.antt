@@ -5,7 +5,7 @@ use Rattle.std.specs.Prelude.{Option, Some, None, Result, Ok, IsSome, IfOk}
 use Rattle.std.specs.Option.{is_none}
 use Rattle.tlv24.specs.Range.{AreInRange}
 use Rattle.tlv24.specs.declared.fields.FlowFields.{FlowFields}
-use Rattle.param_sets.specs.Units.{UnitSizes, frames_of}
+use Rattle.param_sets.specs.Units.{UnitSizes, frames_in_interval}
 use Rattle.param_sets.specs.Scheduling.{scheduling_of}
 use Rattle.param_sets.specs.ParamSet.{IsParameterSet}
 use Rattle.param_sets.specs.Kept.{kept_of, missings_of, missing_of}
@@ -54,20 +54,20 @@ none_missing UnsolicitedGrant flow stated =
 
 takes_frames : (kind : Scheduling) (set : ParamFields) (units : UnitSizes) → AreFalse (invalids_of kind set units) → TakesFrames kind set units
 takes_frames BestEffort set units tests = tt
-takes_frames NonRealTimePolling set units tests = some_frames (frames_of set.polling_interval units) tests.0
-takes_frames RealTimePolling set units tests = some_frames (frames_of set.polling_interval units) tests.0
-takes_frames UnsolicitedGrant set units tests = some_frames (frames_of set.grant_interval units) tests.1.0
+takes_frames NonRealTimePolling set units tests = some_frames (frames_in_interval set.polling_interval units) tests.0
+takes_frames RealTimePolling set units tests = some_frames (frames_in_interval set.polling_interval units) tests.0
+takes_frames UnsolicitedGrant set units tests = some_frames (frames_in_interval set.grant_interval units) tests.1.0
 
 -- what a kind says of a set beside its frames
 grants_of : (kind : Scheduling) (flow : FlowFields) (units : UnitSizes) → IsParameterSet (kept_of kind flow) → TakesFrames kind (kept_of kind flow) units → AreFalse (invalids_of kind (kept_of kind flow) units)
 grants_of BestEffort flow units valid frames = tt
-grants_of NonRealTimePolling flow units valid frames = (not_zero (frames_of (kept_of NonRealTimePolling flow).polling_interval units) frames, tt)
-grants_of RealTimePolling flow units valid frames = (not_zero (frames_of (kept_of RealTimePolling flow).polling_interval units) frames, tt)
+grants_of NonRealTimePolling flow units valid frames = (not_zero (frames_in_interval (kept_of NonRealTimePolling flow).polling_interval units) frames, tt)
+grants_of RealTimePolling flow units valid frames = (not_zero (frames_in_interval (kept_of RealTimePolling flow).polling_interval units) frames, tt)
 grants_of UnsolicitedGrant flow units valid frames =
     let set : ParamFields = kept_of UnsolicitedGrant flow in (
       not_zero set.grant_size valid.kind.1.grant_size,
       (
-        not_zero (frames_of set.grant_interval units) frames,
+        not_zero (frames_in_interval set.grant_interval units) frames,
         (few set.grants_per_interval valid.kind.1.grants_per_interval valid.kind.1.grants_most, tt),
       ),
     )

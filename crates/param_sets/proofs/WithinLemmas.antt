@@ -2,7 +2,7 @@
 use Rattle.std.proofs.Common.{◌≡◌, ℕ, ◌<◌, ◌≤◌, ◌==◌, not, nat_lt, false, refl, ap, ◌∙◌, arith}
 use Rattle.std.proofs.lemmas.Bool.Decides.{nat_tests}
 use Rattle.std.specs.Prelude.{Option, Some, None}
-use Rattle.param_sets.specs.Scheduling.{number_of}
+use Rattle.param_sets.specs.Scheduling.{scheduling_number}
 use Rattle.param_sets.specs.Within.{IsWithin, IsNoGreaterLimit, IsWithinOrNull, is_greater_limit, failings_of, first_failing}
 use Rattle.param_sets.specs.declared.scheduling.Scheduling.{Scheduling}
 use Rattle.param_sets.specs.declared.scheduling.Scheduling.TheVariants.{BestEffort, NonRealTimePolling, RealTimePolling, UnsolicitedGrant}
@@ -12,7 +12,7 @@ use Rattle.param_sets.specs.declared.param_set.ParamFields.{ParamFields}
 use Rattle.param_sets.proofs.First.{AreFalse, none_is_true, all_are_false}
 
 -- two kinds with one number are one kind
-pub same_kind : (a b : Scheduling) → not (number_of a == number_of b) ≡ false → a ≡ b
+pub same_kind : (a b : Scheduling) → not (scheduling_number a == scheduling_number b) ≡ false → a ≡ b
 same_kind BestEffort BestEffort same = refl
 same_kind BestEffort NonRealTimePolling same = cc
 same_kind BestEffort RealTimePolling same = cc
@@ -30,8 +30,8 @@ same_kind UnsolicitedGrant NonRealTimePolling same = cc
 same_kind UnsolicitedGrant RealTimePolling same = cc
 same_kind UnsolicitedGrant UnsolicitedGrant same = refl
 
-one_kind : (a b : Scheduling) → a ≡ b → not (number_of a == number_of b) ≡ false
-one_kind a b same = grind (arith, nat_tests, ap number_of same)
+one_kind : (a b : Scheduling) → a ≡ b → not (scheduling_number a == scheduling_number b) ≡ false
+one_kind a b same = grind (arith, nat_tests, ap scheduling_number same)
 
 not_less : (a b : ℕ) → nat_lt b a ≡ false → a ≤ b
 not_less a b test = grind (arith, nat_tests)

@@ -1,7 +1,7 @@
 -- What it means that a flow encoding asks for a parameter set (implementation-specific).
 use Rattle.std.specs.Prelude.{◌≡◌, ◌≤◌, ℕ, Some, IsSome}
 use Rattle.tlv24.specs.declared.fields.FlowFields.{FlowFields}
-use Rattle.param_sets.specs.Units.{UnitSizes, frames_of}
+use Rattle.param_sets.specs.Units.{UnitSizes, frames_in_interval}
 use Rattle.param_sets.specs.Scheduling.{scheduling_of}
 use Rattle.param_sets.specs.ParamSet.{IsParameterSet}
 use Rattle.param_sets.specs.Kept.{kept_of, missing_of}
@@ -25,9 +25,9 @@ StatesRequired UnsolicitedGrant flow = StatesGrants flow
 -- its interval, where the kind has one, is at least a frame
 abbrev pub TakesFrames : Scheduling → ParamFields → UnitSizes → Type 0
 TakesFrames BestEffort set units = Unit {0}
-TakesFrames NonRealTimePolling set units = 1 ≤ frames_of set.polling_interval units
-TakesFrames RealTimePolling set units = 1 ≤ frames_of set.polling_interval units
-TakesFrames UnsolicitedGrant set units = 1 ≤ frames_of set.grant_interval units
+TakesFrames NonRealTimePolling set units = 1 ≤ frames_in_interval set.polling_interval units
+TakesFrames RealTimePolling set units = 1 ≤ frames_in_interval set.polling_interval units
+TakesFrames UnsolicitedGrant set units = 1 ≤ frames_in_interval set.grant_interval units
 
 -- the set has what the kind keeps of the encoding, nothing required is missing, and all is in range
 pub record AsksFor (flow : FlowFields) (units : UnitSizes) (set : ParamFields) : Type 0 where

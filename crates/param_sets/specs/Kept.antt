@@ -28,13 +28,13 @@ abbrev pub keeps : Scheduling → ℕ → Bool
 keeps kind subtype = list_any (λ kept. kept == subtype) (subtypes_of kind)
 
 -- what an absent field counts as: a flow that is polled, but not in real time, is polled each second
-abbrev pub default_of : Scheduling → ℕ → ℕ
-default_of NonRealTimePolling subtype = if subtype == polling_interval_subtype then 1000000 else 0
-default_of kind subtype = 0
+abbrev pub default_value : Scheduling → ℕ → ℕ
+default_value NonRealTimePolling subtype = if subtype == polling_interval_subtype then 1000000 else 0
+default_value kind subtype = 0
 
 -- the value of a subtype in a set of this kind, from what is stated
 abbrev pub kept_value : Scheduling → ℕ → Option ℕ → ℕ
-kept_value kind subtype stated = if keeps kind subtype then unwrap_or stated (default_of kind subtype) else 0
+kept_value kind subtype stated = if keeps kind subtype then unwrap_or stated (default_value kind subtype) else 0
 
 -- the fields of an encoding that the kind keeps
 abbrev pub kept_of : Scheduling → FlowFields → ParamFields

@@ -4,7 +4,7 @@ use Rattle.tlv24.specs.Subtype.{scheduling_type_subtype, polling_interval_subtyp
 use Rattle.tlv24.specs.declared.fields.FlowFields.{FlowFields}
 use Rattle.dsx_messages.specs.declared.code.Code.TheVariants.{RejectRequiredParameterNotPresent, RejectInvalidForContext}
 use Rattle.param_sets.specs.FirstTrue.{first_true}
-use Rattle.param_sets.specs.Units.{UnitSizes, frames_of}
+use Rattle.param_sets.specs.Units.{UnitSizes, frames_in_interval}
 use Rattle.param_sets.specs.Scheduling.{scheduling_of}
 use Rattle.param_sets.specs.Kept.{kept_of, missing_of}
 use Rattle.param_sets.specs.declared.scheduling.Scheduling.{Scheduling}
@@ -16,11 +16,11 @@ use Rattle.param_sets.specs.declared.refusal.Refusal.{Refusal}
 -- of 0, grants that are not 1 to 127
 abbrev pub invalids_of : Scheduling → ParamFields → UnitSizes → List (Bool × ℕ)
 invalids_of BestEffort set units = []
-invalids_of NonRealTimePolling set units = (frames_of set.polling_interval units == 0, polling_interval_subtype) ∷ []
-invalids_of RealTimePolling set units = (frames_of set.polling_interval units == 0, polling_interval_subtype) ∷ []
+invalids_of NonRealTimePolling set units = (frames_in_interval set.polling_interval units == 0, polling_interval_subtype) ∷ []
+invalids_of RealTimePolling set units = (frames_in_interval set.polling_interval units == 0, polling_interval_subtype) ∷ []
 invalids_of UnsolicitedGrant set units =
     (set.grant_size == 0, grant_size_subtype) ∷
-    (frames_of set.grant_interval units == 0, grant_interval_subtype) ∷
+    (frames_in_interval set.grant_interval units == 0, grant_interval_subtype) ∷
     (set.grants_per_interval == 0 || nat_lt 127 set.grants_per_interval, grants_per_interval_subtype) ∷ []
 
 -- the first subtype of a set that is out of its range

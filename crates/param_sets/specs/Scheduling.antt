@@ -4,11 +4,11 @@ use Rattle.param_sets.specs.declared.scheduling.Scheduling.{Scheduling}
 use Rattle.param_sets.specs.declared.scheduling.Scheduling.TheVariants.{BestEffort, NonRealTimePolling, RealTimePolling, UnsolicitedGrant}
 
 -- the number of a kind on the wire
-abbrev pub number_of : Scheduling → ℕ
-number_of BestEffort = 2
-number_of NonRealTimePolling = 3
-number_of RealTimePolling = 4
-number_of UnsolicitedGrant = 6
+abbrev pub scheduling_number : Scheduling → ℕ
+scheduling_number BestEffort = 2
+scheduling_number NonRealTimePolling = 3
+scheduling_number RealTimePolling = 4
+scheduling_number UnsolicitedGrant = 6
 
 -- the kind that a message states by its number: best effort where it states none
 abbrev pub scheduling_of : Option ℕ → Option Scheduling

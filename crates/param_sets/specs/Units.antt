@@ -15,8 +15,8 @@ pub record AreUnits (units : UnitSizes) : Type 0 where
   pub minislot_most : units.bytes_per_minislot ≤ 65535
 
 -- the whole frames in an interval
-abbrev pub frames_of : ℕ → UnitSizes → ℕ
-frames_of microseconds units = microseconds / units.frame_us
+abbrev pub frames_in_interval : ℕ → UnitSizes → ℕ
+frames_in_interval microseconds units = microseconds / units.frame_us
 
 -- the minislots that carry so many bytes, rounded up
 abbrev pub minislots_of : ℕ → UnitSizes → ℕ

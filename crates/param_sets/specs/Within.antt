@@ -2,7 +2,7 @@
 use Rattle.std.specs.Prelude.{◌≡◌, ℕ, ◌<◌, ◌≤◌, ◌==◌, ◌&&◌, ◌||◌, not, nat_lt, Bool, List, [], ◌∷◌, Option, Some, None}
 use Rattle.tlv24.specs.Subtype.{traffic_priority_subtype, max_sustained_rate_subtype, min_reserved_rate_subtype, scheduling_type_subtype, polling_interval_subtype, grant_size_subtype, grant_interval_subtype, grants_per_interval_subtype}
 use Rattle.param_sets.specs.FirstTrue.{first_true}
-use Rattle.param_sets.specs.Scheduling.{number_of}
+use Rattle.param_sets.specs.Scheduling.{scheduling_number}
 use Rattle.param_sets.specs.declared.param_set.ParamFields.{ParamFields}
 
 -- a is no greater limit than b: 0 is no limit, and is greater than any other
@@ -32,7 +32,7 @@ is_greater_limit a b = not (b == 0) && (a == 0 || nat_lt b a)
 -- where a is not within b, test by test, each with its subtype
 abbrev pub failings_of : ParamFields → ParamFields → List (Bool × ℕ)
 failings_of a b =
-    (not (number_of a.scheduling == number_of b.scheduling), scheduling_type_subtype) ∷
+    (not (scheduling_number a.scheduling == scheduling_number b.scheduling), scheduling_type_subtype) ∷
     (nat_lt b.priority a.priority, traffic_priority_subtype) ∷
     (is_greater_limit a.max_sustained_rate b.max_sustained_rate, max_sustained_rate_subtype) ∷
     (nat_lt b.min_reserved_rate a.min_reserved_rate, min_reserved_rate_subtype) ∷

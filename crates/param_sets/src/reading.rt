@@ -36,17 +36,17 @@ pub fn from_tlv(flow: &FlowTlv, units: &Units) -> Result<ParamSet, Refusal>
         ↔ IsLeastMissing flow.now subtype }
 {
     let stated = flow.get_fields();
-    match asked(&stated, units) {
+    match requested_fields(&stated, units) {
         Ok(fields) => Ok(ParamSet::new(fields)),
         Err(refusal) => Err(refusal),
     }
 }
 
 /// Returns the fields that an encoding asks for, or why they are refused.
-fn asked(stated: &FlowFields, units: &Units) -> Result<ParamFields, Refusal>
+fn requested_fields(stated: &FlowFields, units: &Units) -> Result<ParamFields, Refusal>
     ensures { result ≡ parameter_set_of stated.now units.now }
 {
-    let Some(scheduling) = Scheduling::stated(stated.scheduling_type) else {
+    let Some(scheduling) = Scheduling::from_stated_number(stated.scheduling_type) else {
         return Err(Refusal {
             code: Code::RejectInvalidForContext,
             subtype: subtype::SCHEDULING_TYPE,
@@ -58,7 +58,7 @@ fn asked(stated: &FlowFields, units: &Units) -> Result<ParamFields, Refusal>
             subtype,
         });
     }
-    let fields = kept(scheduling, stated);
+    let fields = fields_for_kind(scheduling, stated);
     if let Some(subtype) = invalid(&fields, units) {
         return Err(Refusal {
             code: Code::RejectInvalidForContext,
@@ -90,7 +90,7 @@ fn missing(scheduling: Scheduling, stated: &FlowFields) -> Option<u8>
 }
 
 /// Returns the fields of the encoding that the kind of scheduling keeps.
-fn kept(scheduling: Scheduling, stated: &FlowFields) -> ParamFields
+fn fields_for_kind(scheduling: Scheduling, stated: &FlowFields) -> ParamFields
     ensures { result ≡ kept_of scheduling stated.now }
 {
     let common = ParamFields {

@@ -1,7 +1,7 @@
 //! Kinds of scheduling.
 
 ghost use Rattle.std.specs.Prelude.{◌≡◌};
-ghost use Rattle.param_sets.specs.Scheduling.{number_of, scheduling_of};
+ghost use Rattle.param_sets.specs.Scheduling.{scheduling_number, scheduling_of};
 
 /// Service Flow Scheduling Type (CM-SP-MULPIv3.1, Annex C, subtype 15): the kinds that this profile takes.
 #[derive(Clone, Copy, Debug, PartialEq, Eq)]
@@ -19,7 +19,7 @@ pub enum Scheduling {
 impl Scheduling {
     /// Returns the number on the wire.
     pub fn number(self) -> u8
-        ensures { result ≡ number_of self }
+        ensures { result ≡ scheduling_number self }
     {
         match self {
             Scheduling::BestEffort => 2,
@@ -31,7 +31,7 @@ impl Scheduling {
 
     /// Returns the kind that a message states: best effort where it states none; None where it
     /// states another number.
-    pub fn stated(number: Option<u8>) -> Option<Scheduling>
+    pub fn from_stated_number(number: Option<u8>) -> Option<Scheduling>
         ensures { result ≡ scheduling_of number }
     {
         match number {

@@ -1,7 +1,7 @@
 //! The measures of an upstream channel.
 
 ghost use Rattle.std.specs.Prelude.{◌≡◌, ◌<◌, ◌≤◌, ◌^◌};
-ghost use Rattle.param_sets.specs.Units.{UnitSizes, AreUnits, frames_of, minislots_of, reserve_of};
+ghost use Rattle.param_sets.specs.Units.{UnitSizes, AreUnits, frames_in_interval, minislots_of, reserve_of};
 
 use std::marker::Model;
 
@@ -58,7 +58,7 @@ impl Units {
 
     /// Returns how many whole frames there are in an interval of so many microseconds.
     pub fn frames(&self, microseconds: u32) -> u32
-        ensures { result ≡ frames_of microseconds self.now }
+        ensures { result ≡ frames_in_interval microseconds self.now }
     {
         microseconds / self.frame_us
     }

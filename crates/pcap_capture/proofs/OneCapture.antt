@@ -12,14 +12,14 @@ use Rattle.run_model.specs.declared.step.Step.{Step}
 use Rattle.run_model.specs.declared.step.Step.TheVariants as steps
 use Rattle.run_model.specs.declared.step.Out.{Out}
 use Rattle.run_model.specs.declared.step.Out.TheVariants as outs
-use Rattle.run_model.specs.OwnSteps.{under, is_collect}
+use Rattle.run_model.specs.OwnSteps.{outputs_under, is_collect}
 use Rattle.run_model.specs.IsTraceOf.{isolated_run, IsLeast, IsTraceOf}
 use Rattle.run_model.specs.Ordered.{target, IsCollected, AreOwn, IsTold, AreInOrder, Ordered}
 use Rattle.run_model.proofs.Kept.{collects_same, one_least}
 use Rattle.pcap_capture.specs.declared.clock.Clock.{Clock}
 use Rattle.pcap_capture.specs.declared.packet.Packet.{Packet}
 use Rattle.pcap_capture.specs.File.{file_of}
-use Rattle.pcap_capture.specs.Capture.{Captured, Turn, clock_of, sent_in, told_in, packets_of, HaveOwnOutputs, IsCaptureOf}
+use Rattle.pcap_capture.specs.Capture.{CaptureView, Turn, clock_of, sent_in, told_in, packets_of, HaveOwnOutputs, IsCaptureOf}
 
 -- ---- lists
 
@@ -37,7 +37,7 @@ same_own : (plant : PlantFields) (before : List Step) (i : ℕ) (action : Action
 same_own plant before i action a b x y =
     let row : x.row ≡ y.row = let e : Some x.row ≡ Some y.row = sym x.row_is ∙ y.row_is in cc in
     x.outputs
-    ∙ (ap (λ (r : RowFields). under i (own_step (operator plant.consts r (isolated_run plant.consts r i before).state) action).outputs) row
+    ∙ (ap (λ (r : RowFields). outputs_under i (own_step (operator plant.consts r (isolated_run plant.consts r i before).state) action).outputs) row
     ∙ sym y.outputs)
 
 not_both : (plant : PlantFields) (after : List Step) (n : ℕ) → IsLeast plant after n → IsLeast plant after (n + 1) → ⊥
@@ -154,7 +154,7 @@ pub some_capture : (plant : PlantFields) (all : List Step) (outs : List Out) →
     → (bytes : List ℕ) × IsCaptureOf plant all outs bytes
 some_capture plant all outs is =
     let t : HasTurns plant [] all outs = turns_of plant [] all outs is in
-    let captured : Captured = record { clock = clock_of plant.consts; packets = flat_map packets_of t.turns } in (
+    let captured : CaptureView = record { clock = clock_of plant.consts; packets = flat_map packets_of t.turns } in (
       file_of captured.clock captured.packets,
       record {
         captured = captured;

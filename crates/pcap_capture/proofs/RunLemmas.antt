@@ -15,7 +15,7 @@ use Rattle.run_model.specs.Ordered.{target, IsTold}
 use Rattle.pcap_capture.specs.declared.clock.Clock.{Clock}
 use Rattle.pcap_capture.specs.declared.packet.Packet.{Packet}
 use Rattle.pcap_capture.specs.File.{file_of}
-use Rattle.pcap_capture.specs.Capture.{Captured, Turn, opened_capture, with_packets, sent_in, told_in, packets_of, HaveOwnOutputs, IsOfRun, IsCaptureOf, HoldsRun, is_sent}
+use Rattle.pcap_capture.specs.Capture.{CaptureView, Turn, opened_capture, with_packets, sent_in, told_in, packets_of, HaveOwnOutputs, IsOfRun, IsCaptureOf, HoldsRun, is_sent}
 
 pub opened_run : (plant : PlantFields) → IsOfRun plant [] [] (opened_capture plant.consts)
 opened_run plant = record { turns = []; steps_are = refl; outs_are = refl; own = tt; clock_is = refl; packets_are = refl }
@@ -37,7 +37,7 @@ own_more plant before (first ∷ turns) turn own told = (
       (sym (append_assoc before (first.step ∷ []) (map (λ (t : Turn). t.step) turns))) told),
 )
 
-pub step_run : (plant : PlantFields) (steps : List Step) (outs : List Out) (step : Step) (now : List Out) (old mid new : Captured)
+pub step_run : (plant : PlantFields) (steps : List Step) (outs : List Out) (step : Step) (now : List Out) (old mid new : CaptureView)
     → IsOfRun plant steps outs old → IsTold plant steps step (target plant step) now → mid ≡ with_packets old (sent_in step)
     → new ≡ with_packets mid (flat_map told_in now) → IsOfRun plant (steps ++ step ∷ []) (outs ++ now) new
 step_run plant steps outs step now old mid new run told mid_is new_is =
@@ -48,9 +48,9 @@ step_run plant steps outs step now old mid new run told mid_is new_is =
       outs_are = flat_map_last (λ (t : Turn). t.outs) run.turns turn ∙ ap (λ (l : List Out). l ++ now) run.outs_are;
       own = own_more plant [] run.turns turn run.own
           (subst (λ (s : List Step). IsTold plant s step (target plant step) now) (sym run.steps_are) told);
-      clock_is = ap (λ (c : Captured). c.clock) new_is ∙ (ap (λ (c : Captured). c.clock) mid_is ∙ run.clock_is);
+      clock_is = ap (λ (c : CaptureView). c.clock) new_is ∙ (ap (λ (c : CaptureView). c.clock) mid_is ∙ run.clock_is);
       packets_are =
-          ap (λ (c : Captured). c.packets) new_is ∙ (ap (λ (c : Captured). c.packets ++ flat_map told_in now) mid_is
+          ap (λ (c : CaptureView). c.packets) new_is ∙ (ap (λ (c : CaptureView). c.packets ++ flat_map told_in now) mid_is
           ∙ (append_assoc old.packets (sent_in step) (flat_map told_in now)
           ∙ (ap (λ (l : List Packet). l ++ packets_of turn) run.packets_are ∙ sym (flat_map_last packets_of run.turns turn))));
     }

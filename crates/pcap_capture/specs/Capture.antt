@@ -31,7 +31,7 @@ told_in out = []
 -- ---- a capture
 
 -- a capture so far: the plant's clock, and the packets in their order
-pub record Captured : Type 0 where
+pub record CaptureView : Type 0 where
   pub clock : Clock
   pub packets : List Packet
 
@@ -40,11 +40,11 @@ abbrev pub clock_of : ConstsFields → Clock
 clock_of consts = record { first_frame = consts.channel.first_frame; frame_us = consts.units.frame_us }
 
 -- no packet yet
-abbrev pub opened_capture : ConstsFields → Captured
+abbrev pub opened_capture : ConstsFields → CaptureView
 opened_capture consts = record { clock = clock_of consts; packets = [] }
 
 -- with these packets more
-abbrev pub with_packets : Captured → List Packet → Captured
+abbrev pub with_packets : CaptureView → List Packet → CaptureView
 with_packets captured more = record captured { packets = captured.packets ++ more }
 
 -- ---- a run
@@ -66,7 +66,7 @@ HaveOwnOutputs plant before (turn ∷ turns) =
     IsTold plant before turn.step (target plant turn.step) turn.outs × HaveOwnOutputs plant (before ++ turn.step ∷ []) turns
 
 -- the capture of these steps and outputs has the packets of each step and then of its own outputs, step by step
-pub record IsOfRun (plant : PlantFields) (steps : List Step) (outs : List Out) (captured : Captured) : Type 0 where
+pub record IsOfRun (plant : PlantFields) (steps : List Step) (outs : List Out) (captured : CaptureView) : Type 0 where
   pub turns : List Turn
   pub steps_are : map (λ turn. turn.step) turns ≡ steps
   pub outs_are : flat_map (λ turn. turn.outs) turns ≡ outs
@@ -76,7 +76,7 @@ pub record IsOfRun (plant : PlantFields) (steps : List Step) (outs : List Out) (
 
 -- the bytes are the file of such a capture
 pub record IsCaptureOf (plant : PlantFields) (steps : List Step) (outs : List Out) (bytes : List ℕ) : Type 0 where
-  pub captured : Captured
+  pub captured : CaptureView
   pub of_run : IsOfRun plant steps outs captured
   pub bytes_are : bytes ≡ file_of captured.clock captured.packets
 

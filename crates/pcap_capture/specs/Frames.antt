@@ -1,12 +1,12 @@
 -- The frame of a packet.
 use Rattle.std.specs.Prelude.{ℕ, List, Option, Some, None}
 use Rattle.pcap_capture.specs.declared.packet.Packet.{Packet}
-use Rattle.pcap_capture.specs.Management.{Managed, framed}
+use Rattle.pcap_capture.specs.Management.{ManagementMessage, mac_frame}
 use Rattle.pcap_capture.specs.Packets.{managed_of}
 
-abbrev pub frame_of_managed : Option Managed → Option (List ℕ)
+abbrev pub frame_of_managed : Option ManagementMessage → Option (List ℕ)
 frame_of_managed None = None
-frame_of_managed (Some m) = Some (framed m)
+frame_of_managed (Some m) = Some (mac_frame m)
 
 -- none for a message without a type, or too long for a MAC header
 abbrev pub frame_of : Packet → Option (List ℕ)

@@ -4,7 +4,7 @@ use Rattle.std.specs.List.{filter_map}
 use Rattle.pcap_capture.specs.declared.packet.Packet.{Packet}
 use Rattle.pcap_capture.specs.declared.packet.Packet.TheVariants.{Sent, Reply, Map}
 use Rattle.pcap_capture.specs.Checks.{crc_x25, crc_32}
-use Rattle.pcap_capture.specs.Management.{Managed}
+use Rattle.pcap_capture.specs.Management.{ManagementMessage}
 use Rattle.pcap_capture.specs.Packets.{managed_of}
 use Rattle.pcap_capture.specs.Frames.{frame_of}
 use Rattle.pcap_capture.specs.Reading.{frames_of_file}
@@ -21,7 +21,7 @@ IsAddressed (Reply modem bytes) = length modem.0 ≡ 6
 IsAddressed (Map frame bytes) = Unit {0}
 
 -- a reader finds each part of a message in its frame, by its place
-pub record Holds (frame : List ℕ) (m : Managed) : Type 0 where
+pub record FrameHolds (frame : List ℕ) (m : ManagementMessage) : Type 0 where
   pub to : take 6 (drop 6 frame) ≡ m.to
   pub from : take 6 (drop 12 frame) ≡ m.from
   pub version : slice_index frame 23 ≡ m.version
@@ -31,9 +31,9 @@ pub record Holds (frame : List ℕ) (m : Managed) : Type 0 where
 
 -- the frame holds the packet's management message
 pub record HoldsPacket (frame : List ℕ) (packet : Packet) : Type 0 where
-  pub message : Managed
+  pub message : ManagementMessage
   pub message_is : managed_of packet ≡ Some message
-  pub held : Holds frame message
+  pub held : FrameHolds frame message
 
 -- A reader who goes through the bytes from record to record finds the frames of these packets, in order, and nothing else. Each
 -- frame holds its packet's message.

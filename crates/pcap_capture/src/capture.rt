@@ -27,10 +27,10 @@ pub struct Capture {
 
 impl Model for Capture {
     ghost use Rattle.std.specs.Prelude.{All};
-    ghost use Rattle.pcap_capture.specs.Capture.{Captured};
+    ghost use Rattle.pcap_capture.specs.Capture.{CaptureView};
     ghost use Rattle.pcap_capture.specs.Laws.{IsAddressed};
 
-    ghost Value = { Captured };
+    ghost Value = { CaptureView };
 
     ghost view = { λ c. record { clock = c.clock; packets = c.packets.items } };
 
@@ -101,7 +101,7 @@ impl Capture {
     /// Adds what a modem sends, where the step is that. Requests for minislots are not management
     /// messages and leave nothing. Only a message takes memory.
     #[tactic(auto, using(crate::proofs::AddressLemmas::none_addressed, crate::proofs::AddressLemmas::one_addressed, crate::proofs::AddressLemmas::more_addressed))]
-    pub fn sent(&mut self, alloc: Global, step: &Step) -> Result<(), AllocError>
+    pub fn add_sent_message(&mut self, alloc: Global, step: &Step) -> Result<(), AllocError>
         ensures ok { OnOk result (self.new ≡ with_packets self.old (sent_in step.now)) }
         ensures addressed { OnOk result (All IsAddressed (sent_in step.now)) }
         ensures err { OnErr result (self.new ≡ self.old) }
@@ -125,7 +125,7 @@ impl Capture {
 
     /// Adds the replies and MAPs among outputs, in order.
     #[tactic(auto, using(crate::proofs::AddressLemmas::more_addressed))]
-    pub fn told(&mut self, alloc: Global, outs: &[Out]) -> Result<(), AllocError>
+    pub fn add_outputs(&mut self, alloc: Global, outs: &[Out]) -> Result<(), AllocError>
         ensures ok { OnOk result (self.new ≡ with_packets self.old (flat_map told_in outs.now)) }
         ensures addressed { OnOk result (All IsAddressed (flat_map told_in outs.now)) }
         ensures err { OnErr result (self.new ≡ self.old) }

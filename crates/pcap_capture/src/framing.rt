@@ -2,7 +2,7 @@
 
 ghost use Rattle.std.specs.Prelude.{◌≡◌, ◌≤◌, length, IfOk, IfSome};
 ghost use Rattle.std.specs.Option.{option_map};
-ghost use Rattle.pcap_capture.specs.Management.{mac_header, framed};
+ghost use Rattle.pcap_capture.specs.Management.{mac_header, mac_frame};
 ghost use Rattle.pcap_capture.specs.Frames.{frame_of};
 
 use crate::checks::{frame_check, header_check};
@@ -19,8 +19,8 @@ fn mac_header(count: u16) -> [u8; 4]
 }
 
 /// Returns the frame of a management message.
-fn framed(alloc: Global, message: &Management<'_>) -> Result<Vec<u8>, AllocError>
-    ensures value { IfOk result (λ frame. frame.items ≡ framed message.now) }
+fn mac_frame(alloc: Global, message: &Management<'_>) -> Result<Vec<u8>, AllocError>
+    ensures value { IfOk result (λ frame. frame.items ≡ mac_frame message.now) }
     ensures short { IfOk result (λ frame. length frame.items ≤ 65541) }
 {
     let header = mac_header(message.count());
@@ -39,7 +39,7 @@ pub(crate) fn frame_of(alloc: Global, packet: &Packet) -> Result<Option<Vec<u8>>
     ensures short { IfOk result (λ frame. IfSome frame (λ f. length f.items ≤ 65541)) }
 {
     match managed_of(packet) {
-        Some(message) => Ok(Some(framed(alloc, &message)?)),
+        Some(message) => Ok(Some(mac_frame(alloc, &message)?)),
         None => Ok(None),
     }
 }

@@ -2,7 +2,7 @@
 
 ghost use Rattle.std.specs.Prelude.{◌≡◌, ◌+◌, ◌≤◌, length, IfOk};
 ghost use Rattle.pcap_capture.specs.Management.{body_of};
-ghost use Rattle.pcap_capture.specs.Packets.{version_of, message_of, map_of, managed_of};
+ghost use Rattle.pcap_capture.specs.Packets.{version_of, message_of, map_message, managed_of};
 
 use crate::packet::Packet;
 use dsx_messages::message_type;
@@ -33,9 +33,9 @@ pub(crate) struct Management<'a> {
 
 impl<'a> Model for Management<'a> {
     ghost use Rattle.std.specs.Prelude.{length, ◌≤◌};
-    ghost use Rattle.pcap_capture.specs.Management.{Managed};
+    ghost use Rattle.pcap_capture.specs.Management.{ManagementMessage};
 
-    ghost Value = { Managed };
+    ghost Value = { ManagementMessage };
 
     ghost view = { λ m. record { to = m.to; from = m.from; version = m.version; kind = m.kind; payload = m.payload.now } };
 
@@ -74,8 +74,8 @@ fn message_of(to: [u8; 6], from: [u8; 6], bytes: &[u8]) -> Option<Management<'_>
 }
 
 /// Returns the management message of a MAP's body, if it can have a frame.
-fn map_of(body: &[u8]) -> Option<Management<'_>>
-    ensures { result ≡ map_of body.now }
+fn map_message(body: &[u8]) -> Option<Management<'_>>
+    ensures { result ≡ map_message body.now }
 {
     if body.len() > LONGEST {
         return None;
@@ -97,7 +97,7 @@ pub(crate) fn managed_of(packet: &Packet) -> Option<Management<'_>>
     match packet {
         Packet::Sent { modem, bytes } => message_of(CMTS, modem.0, bytes.as_slice()),
         Packet::Reply { modem, bytes } => message_of(modem.0, CMTS, bytes.as_slice()),
-        Packet::Map { frame: _, bytes } => map_of(bytes.as_slice()),
+        Packet::Map { frame: _, bytes } => map_message(bytes.as_slice()),
     }
 }
 

@@ -9,7 +9,7 @@ use Rattle.dsx_messages.specs.declared.modem.Modem.{Modem}
 use Rattle.plant.specs.declared.operator_row.RowFields.{RowFields}
 use Rattle.plant.specs.Row.{is_listed, same_modem}
 use Rattle.plant.specs.Plant.{all_modems}
-use Rattle.plant.specs.Roster.{holder, Holds}
+use Rattle.plant.specs.Roster.{holder, ListsFirst}
 use Rattle.plant.proofs.Addresses.{same_is_equal, listed_append, some_holder}
 
 pub same_some : {A : Type 0} (x y : A) → ◌≡◌ {A = Option A} (Some x) (Some y) → x ≡ y
@@ -26,7 +26,7 @@ first_least test x xs other place least (suc i) c is passes = let h = least i c 
 -- ---- whose modem a modem is
 
 holder_from : (m : Modem) (n : ℕ) (rows : List RowFields) (i : ℕ) → position_from (λ row. is_listed m row.modems) n rows ≡ Some i
-    → (k : ℕ) × (i ≡ n + k) × Holds rows m k
+    → (k : ℕ) × (i ≡ n + k) × ListsFirst rows m k
 holder_from m n [] i h = cc
 holder_from m n (row ∷ rows) i h = elim (cases_Bool (is_listed m row.modems)) [
   | inl listed ↦
@@ -45,10 +45,10 @@ holder_from m n (row ∷ rows) i h = elim (cases_Bool (is_listed m row.modems)) 
       )
 ]
 
-pub holder_holds : (rows : List RowFields) (m : Modem) (i : ℕ) → holder rows m ≡ Some i → Holds rows m i
+pub holder_holds : (rows : List RowFields) (m : Modem) (i : ℕ) → holder rows m ≡ Some i → ListsFirst rows m i
 holder_holds rows m i h =
     let found = holder_from m 0 rows i h in
-    subst (Holds rows m) (let e : found.0 ≡ i = omega (arith, found.1) in e) found.2
+    subst (ListsFirst rows m) (let e : found.0 ≡ i = omega (arith, found.1) in e) found.2
 
 -- ---- at most one
 
@@ -90,7 +90,7 @@ one_lists (r ∷ rows) m (suc i) zero a b apart e f g h =
     (subst (λ (x : RowFields). is_listed m x.modems ≡ true) (sym (same_some r b f)) h) (listed_in_row rows i a m e g))
 one_lists (r ∷ rows) m (suc i) (suc j) a b apart e f g h = ap suc (one_lists rows m i j a b (apart_behind r.modems (all_modems rows) apart) e f g h)
 
-by_holder : (rows : List RowFields) (m : Modem) (i : ℕ) (o : Option ℕ) → holder rows m ≡ o → Holds rows m i → holder rows m ≡ Some i
+by_holder : (rows : List RowFields) (m : Modem) (i : ℕ) (o : Option ℕ) → holder rows m ≡ o → ListsFirst rows m i → holder rows m ≡ Some i
 by_holder rows m i None e s =
     let listed = listed_in_row rows i s.row m s.here s.listed in
     absurd (false≢true (ap (is_some {T = ℕ}) (sym e) ∙ some_holder m 0 rows ∙ listed))
@@ -100,5 +100,5 @@ by_holder rows m i (Some k) e s =
     let high = there.first i s.row s.here s.listed in
     e ∙ ap (λ (n : ℕ). Some n) (let same : k ≡ i = omega (arith, low, high) in same)
 
-pub holder_is : (rows : List RowFields) (m : Modem) (i : ℕ) → (holder rows m ≡ Some i) ↔ Holds rows m i
+pub holder_is : (rows : List RowFields) (m : Modem) (i : ℕ) → (holder rows m ≡ Some i) ↔ ListsFirst rows m i
 holder_is rows m i = (holder_holds rows m i, by_holder rows m i (holder rows m) refl)

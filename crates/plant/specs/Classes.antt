@@ -8,12 +8,12 @@ use Rattle.tlv24.specs.declared.fields.FlowFields.{FlowFields}
 use Rattle.param_sets.specs.Overridden.{overridden_of}
 use Rattle.plant.specs.declared.class_table.Class.{Class}
 
-abbrev pub is_named : List ℕ → Class → Bool
-is_named name class = bytes_eq class.name name
+abbrev pub is_class_named : List ℕ → Class → Bool
+is_class_named name class = bytes_eq class.name name
 
 -- the encoding of the class of this name
 abbrev pub class_of : List ℕ → List Class → Option FlowFields
-class_of name classes = option_map (λ class. class.encoding) (find (is_named name) classes)
+class_of name classes = option_map (λ class. class.encoding) (find (is_class_named name) classes)
 
 -- none of the subtypes 1 to 6 is stated: what a class says is of the parameters alone
 pub record StatesParameters (flow : FlowFields) : Type 0 where

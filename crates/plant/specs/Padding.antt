@@ -4,9 +4,9 @@ use Rattle.std.specs.Prelude.{replicate}
 use Rattle.std.proofs.lemmas.List.{length-take}
 use Rattle.plant.specs.Name.{IsPaddedName}
 
-pub unpadded : (bytes : List ℕ) (len : ℕ) → IsPaddedName bytes len
+pub padded_name_splits : (bytes : List ℕ) (len : ℕ) → IsPaddedName bytes len
     → (take len bytes ++ replicate (16 - length (take len bytes)) 0 ≡ bytes) × (length (take len bytes) ≡ len)
-unpadded bytes len h =
+padded_name_splits bytes len h =
     let fits : len ≤ 16 = h.fits in
     let whole : length bytes ≡ 16 = h.whole in
     let same : length (take len bytes) ≡ len = omega (arith, length-take len bytes) in

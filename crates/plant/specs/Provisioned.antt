@@ -52,36 +52,36 @@ sets_of_encoding consts bytes = sets_of_flow consts (flow_of bytes)
 -- ---- their identifiers
 
 -- a flow as it is opened, except its frame numbers
-pub record Opened : Type 0 where
+pub record OpenedFlow : Type 0 where
   pub modem : Modem
   pub sid : Option ℕ
   pub sets : SetsFields
 
-abbrev pub opened_sfids : List (ℕ × Opened) → List ℕ
+abbrev pub opened_sfids : List (ℕ × OpenedFlow) → List ℕ
 opened_sfids flows = map (λ entry. entry.0) flows
 
-abbrev pub opened_sids : List (ℕ × Opened) → List ℕ
+abbrev pub opened_sids : List (ℕ × OpenedFlow) → List ℕ
 opened_sids flows = filter_map (λ entry. entry.1.sid) flows
 
 -- a flow has a SID where a set is admitted: the least free one
-abbrev pub opened_sid : RowFields → List (ℕ × Opened) → SetsFields → Option ℕ
+abbrev pub opened_sid : RowFields → List (ℕ × OpenedFlow) → SetsFields → Option ℕ
 opened_sid row flows sets = if is_some sets.admitted then least_free_of row.sids (opened_sids flows) else None
 
 -- one flow more, under this SFID
-abbrev pub and_under : RowFields → List (ℕ × Opened) → Modem → SetsFields → Option ℕ → List (ℕ × Opened)
+abbrev pub and_under : RowFields → List (ℕ × OpenedFlow) → Modem → SetsFields → Option ℕ → List (ℕ × OpenedFlow)
 and_under row flows modem sets None = flows
 and_under row flows modem sets (Some sfid) = insert_entry nat_cmp flows sfid (record { modem = modem; sid = opened_sid row flows sets; sets = sets })
 
 -- one flow more, under the least free SFID
-abbrev pub and_opened : RowFields → List (ℕ × Opened) → Modem → Option SetsFields → List (ℕ × Opened)
+abbrev pub and_opened : RowFields → List (ℕ × OpenedFlow) → Modem → Option SetsFields → List (ℕ × OpenedFlow)
 and_opened row flows modem None = flows
 and_opened row flows modem (Some sets) = and_under row flows modem sets (least_free_of row.sfids (opened_sfids flows))
 
 -- these provisioned flows next to those that are present, in the file's order
-abbrev pub all_opened : ConstsFields → RowFields → List (ℕ × Opened) → List Provision → List (ℕ × Opened)
+abbrev pub all_opened : ConstsFields → RowFields → List (ℕ × OpenedFlow) → List Provision → List (ℕ × OpenedFlow)
 all_opened consts row flows [] = flows
 all_opened consts row flows (p ∷ provisions) = all_opened consts row (and_opened row flows p.modem (sets_of_encoding consts p.encoding)) provisions
 
 -- the flows that an operator is opened with, by SFID
-abbrev pub opened_flows : ConstsFields → RowFields → List (ℕ × Opened)
+abbrev pub opened_flows : ConstsFields → RowFields → List (ℕ × OpenedFlow)
 opened_flows consts row = all_opened consts row [] row.provisions

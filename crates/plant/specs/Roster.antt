@@ -14,7 +14,7 @@ abbrev pub holder : List RowFields → Modem → Option ℕ
 holder rows modem = position_from (λ row. is_listed modem row.modems) 0 rows
 
 -- the operator at this place lists the modem, and none before it does
-pub record Holds (rows : List RowFields) (modem : Modem) (operator : ℕ) : Type 0 where
+pub record ListsFirst (rows : List RowFields) (modem : Modem) (operator : ℕ) : Type 0 where
   pub row : RowFields
   pub here : slice_get rows operator ≡ Some row
   pub listed : IsTrue (is_listed modem row.modems)

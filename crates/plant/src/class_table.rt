@@ -2,7 +2,7 @@
 
 ghost use Rattle.std.specs.Prelude.{◌≡◌, find};
 ghost use Rattle.std.specs.Option.{option_copied};
-ghost use Rattle.plant.specs.Classes.{is_named, class_of};
+ghost use Rattle.plant.specs.Classes.{is_class_named, class_of};
 
 use lists::Listed;
 use tlv24::{ClassName, FlowTlv};
@@ -19,7 +19,7 @@ pub struct Class {
 impl Class {
     /// Returns whether this is the class of that name.
     pub fn is_named(&self, name: &ClassName) -> bool
-        ensures { result ≡ is_named name.now self.now }
+        ensures { result ≡ is_class_named name.now self.now }
     {
         self.name.as_slice() == name.as_slice()
     }
@@ -30,7 +30,7 @@ pub type Classes = Listed<Class>;
 
 /// Returns the class of this name.
 fn find_class<'a>(classes: &'a [Class], name: &ClassName) -> Option<&'a Class>
-    ensures { option_copied result ≡ find (is_named name.now) classes.now }
+    ensures { option_copied result ≡ find (is_class_named name.now) classes.now }
 {
     classes.iter().find(|class| class.is_named(name))
 }

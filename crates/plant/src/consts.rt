@@ -94,7 +94,7 @@ impl Consts {
 
     /// Returns what an encoding asks for: what it states, over its service class where it names one
     /// (CM-SP-MULPIv3.1, Annex C, subtype 4). None where no class has that name. Takes no memory.
-    pub fn asked(&self, stated: &FlowTlv) -> Option<FlowTlv>
+    pub fn requested_encoding(&self, stated: &FlowTlv) -> Option<FlowTlv>
         ensures { result ≡ asked_of self.now.classes stated.now }
     {
         match stated.get_class_name() {

@@ -6,12 +6,12 @@ ghost use Rattle.plant.specs.declared.operator_row.RowFields.{RowFields};
 ghost use Rattle.plant.specs.declared.plant.PlantFields.{PlantFields};
 ghost use Rattle.plant.specs.Row.{is_listed};
 ghost use Rattle.plant.specs.Plant.{IsPlant};
-ghost use Rattle.plant.specs.Roster.{holder, Holds};
+ghost use Rattle.plant.specs.Roster.{holder, ListsFirst};
 
 /// States that the holder of a modem is the first operator that lists it.
 pub fn holder_is_first()
     ensures { (rows : List RowFields) (modem : Modem) (operator : ℕ) → (holder rows modem ≡ Some operator)
-        ↔ Holds rows modem operator }
+        ↔ ListsFirst rows modem operator }
 {}
 
 /// States that at most one operator of a valid plant lists a modem.

@@ -21,7 +21,7 @@ pub struct OperatorName {
 impl Model for OperatorName {
     ghost use Rattle.std.specs.Prelude.{ℕ, List, ◌++◌, ◌-◌, length, take, replicate};
     ghost use Rattle.plant.specs.Name.{IsPaddedName};
-    ghost use Rattle.plant.specs.Padding.{unpadded};
+    ghost use Rattle.plant.specs.Padding.{padded_name_splits};
 
     ghost Value = { List ℕ };
 
@@ -31,7 +31,7 @@ impl Model for OperatorName {
 
     ghost inverse = { λ name. record { bytes = name ++ replicate (16 - length name) 0; len = length name } };
 
-    ghost inverse_ok = { λ n h. λ i. record { bytes = (unpadded n.bytes n.len h).0 i; len = (unpadded n.bytes n.len h).1 i } };
+    ghost inverse_ok = { λ n h. λ i. record { bytes = (padded_name_splits n.bytes n.len h).0 i; len = (padded_name_splits n.bytes n.len h).1 i } };
 }
 
 impl OperatorName {

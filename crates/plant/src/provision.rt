@@ -28,7 +28,7 @@ impl Provision {
         ensures { result ≡ sets_of_encoding consts.now self.now.encoding }
     {
         let stated = read_flow(self.encoding.as_slice()).ok()?;
-        let asked = consts.asked(&stated)?;
+        let asked = consts.requested_encoding(&stated)?;
         sets_of_asked(consts.get_fields().units, stated.get_set_type(), &asked)
     }
 

@@ -9,7 +9,7 @@ use Rattle.std.proofs.lemmas.Option.{slice_get-map, slice_get_read, same_Some, s
 use Rattle.slice_scheduler.specs.declared.elements.ElementsFields.{ElementsFields}
 use Rattle.operator_model.specs.declared.action.SliceRow.{SliceRow}
 use Rattle.operator_model.specs.declared.action.Action.TheVariants as actions
-use Rattle.operator_model.specs.Replay.{BookView, acted}
+use Rattle.operator_model.specs.Replay.{BookView, book_after_action}
 use Rattle.run_model.specs.IsStateAfter.{frames_of}
 use Rattle.run_model.proofs.Entries.{get_same, get_other}
 use Rattle.run_model.proofs.Moving.{silent}
@@ -19,7 +19,7 @@ use Rattle.plant_core.proofs.PlaceLemmas.{seen_at, set_alike}
 use Rattle.plant_core.proofs.WaitingLemmas.{waiting_acted}
 
 -- a re-slicing puts out no frame
-pub waits_still : (book new : BookView) (from : ℕ) (row : SliceRow) (place : ℕ) → place ≤ length book.history → new ≡ acted book (actions.Reslice from row) → waiting_in new.history place ≡ waiting_in book.history place
+pub waits_still : (book new : BookView) (from : ℕ) (row : SliceRow) (place : ℕ) → place ≤ length book.history → new ≡ book_after_action book (actions.Reslice from row) → waiting_in new.history place ≡ waiting_in book.history place
 waits_still book new from row place within is =
     ap (λ (b : BookView). waiting_in b.history place) is
     ∙ (waiting_acted book (actions.Reslice from row) place within

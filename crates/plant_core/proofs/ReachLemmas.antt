@@ -12,14 +12,14 @@ use Rattle.operator_model.specs.declared.action.Action.{Action}
 use Rattle.operator_model.specs.declared.action.Action.TheVariants as actions
 use Rattle.operator_model.specs.State.{operator}
 use Rattle.operator_model.specs.Machine.{own_step, IsAllowed}
-use Rattle.operator_model.specs.Replay.{BookView, acted}
+use Rattle.operator_model.specs.Replay.{BookView, book_after_action}
 use Rattle.operator_model.specs.declared.heard.Heard.{Heard}
 use Rattle.map_assembly.specs.Gathering.{Gathering, put_fault, IsGathering}
 use Rattle.map_assembly.specs.declared.refused.GatherFault.{GatherFault}
 use Rattle.run_model.specs.declared.step.Step.{Step}
 use Rattle.run_model.specs.declared.step.Step.TheVariants as steps
 use Rattle.run_model.specs.declared.step.Out.{Out}
-use Rattle.run_model.specs.OwnSteps.{under}
+use Rattle.run_model.specs.OwnSteps.{outputs_under}
 use Rattle.run_model.specs.Ordered.{action_at, target}
 use Rattle.run_model.specs.IsStateAfter.{CoreView, IsStateAfter, frames_of}
 use Rattle.run_model.specs.Steps.{Acts, Collects, Steps}
@@ -65,11 +65,11 @@ pub acted_reaches : {A E : Type 0} (result : Result A E) (plant : PlantFields) (
     (op : ℕ) (action : Action) (book : BookView) (waiting : List (ℕ × ElementsFields)) → IsPlant plant → IsGathering gathering → IsOfAStep plant op action
     → slice_get books op ≡ Some book → slice_get queues op ≡ Some waiting
     → OnOk result (IsAllowed (operator book.consts book.row book.state) action)
-    → OnOk result (books' ≡ slice_set books op (acted book action)) → OnOk result (queues' ≡ slice_set queues op (waiting ++ frames_of (own_step (operator book.consts book.row book.state) action).outputs))
+    → OnOk result (books' ≡ slice_set books op (book_after_action book action)) → OnOk result (queues' ≡ slice_set queues op (waiting ++ frames_of (own_step (operator book.consts book.row book.state) action).outputs))
     → OnErr result (books' ≡ books) → OnErr result (queues' ≡ queues)
     → ∥ IsReachable (core_of plant books queues gathering) ∥₁ → ∥ IsReachable (core_of plant books' queues' gathering) ∥₁
 acted_reaches (Ok x) plant gathering books books' queues queues' op action book waiting valid is goal b q allowed new_books new_queues same_books same_queues reached =
-    let outs = under op (own_step (operator book.consts book.row book.state) action).outputs in
+    let outs = outputs_under op (own_step (operator book.consts book.row book.state) action).outputs in
     stepped goal.0 (core_of plant books queues gathering) (core_of plant books' queues' gathering) outs valid is refl
     (step_acts goal.0 op action (core_of plant books queues gathering) (core_of plant books' queues' gathering) outs goal.1
     (acts_at plant gathering books books' queues queues' op action book waiting outs b q allowed new_books new_queues refl))

@@ -12,7 +12,7 @@ use Rattle.operator_model.specs.declared.action.SliceRow.{SliceRow}
 use Rattle.operator_model.specs.Replay.{BookView}
 use Rattle.plant.specs.declared.consts.Channel.{Channel}
 use Rattle.map_assembly.specs.Plan.{IsInFrame}
-use Rattle.map_assembly.specs.Gathering.{Gathering, IsGathering, MayReslice, resliced}
+use Rattle.map_assembly.specs.Gathering.{Gathering, IsGathering, MayReslice, gathering_after_reslice}
 use Rattle.map_assembly.proofs.OrderLemmas.{all-map}
 use Rattle.run_model.specs.OwnSteps.{slice_of}
 use Rattle.run_model.specs.IsStateAfter.{CoreView}
@@ -51,7 +51,7 @@ alike plant gathering gathering' books books' queues queues' b q g reached =
     subst (λ (core : CoreView). ∥ IsReachable core ∥₁) (λ n. core_of plant (sym b n) (sym q n) (sym g n)) reached
 
 pub reslices_at : (plant : PlantFields) (gathering gathering' : Gathering) (books mid books' : List BookView) (queues queues' : List (List (ℕ × ElementsFields))) (from : ℕ) (rows : List SliceRow)
-    → reslice_fault from books rows ≡ None → mid ≡ books → HaveTaken from rows mid books' → queues' ≡ queues → gathering' ≡ resliced gathering from (map slice_of rows)
+    → reslice_fault from books rows ≡ None → mid ≡ books → HaveTaken from rows mid books' → queues' ≡ queues → gathering' ≡ gathering_after_reslice gathering from (map slice_of rows)
     → Reslices from rows (core_of plant books queues gathering) (core_of plant books' queues' gathering') []
 reslices_at plant gathering gathering' books mid books' queues queues' from rows none same took q g =
     let free = are_free from books rows none in

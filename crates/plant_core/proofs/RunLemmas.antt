@@ -12,7 +12,7 @@ use Rattle.run_model.specs.Steps.{Steps}
 use Rattle.run_model.proofs.OneStep.{step_reached}
 use Rattle.run_model.proofs.Runs.{reached_more}
 use Rattle.plant_core.specs.declared.core_fault.CoreFault.{CoreFault}
-use Rattle.plant_core.specs.Faults.{step_fault, IsTold}
+use Rattle.plant_core.specs.Faults.{step_fault, IsReported}
 
 pub step_more : (plant : PlantFields) (before : List Step) (step : Step) (told made now outs : List Out) (old new : CoreView) → IsPlant plant → IsGathering old.gathering
     → Steps step old new now → outs ≡ made ++ now → made ≡ [] → IsStateAfter plant before told old → IsStateAfter plant (before ++ step ∷ []) (told ++ outs) new
@@ -33,8 +33,8 @@ some_same x y h = cc
 
 -- why a run stopped
 pub stop_told : (all : List Step) (at : ℕ) (step other : Step) (fault : CoreFault) (old new : CoreView) → at < length all → step ≡ get_or all at step → slice_get all at ≡ Some other
-    → new ≡ old → IsTold {A = Unit {0}} (Err fault) (step_fault old step) → IsTold {A = Unit {0}} (Err fault) (step_fault new other)
+    → new ≡ old → IsReported {A = Unit {0}} (Err fault) (step_fault old step) → IsReported {A = Unit {0}} (Err fault) (step_fault new other)
 stop_told all at step other fault old new within is there same told =
     let one : step ≡ other = some_same step other (sym (slice_get_read all (length all) at step refl within is) ∙ there) in
-    subst (λ (core : CoreView). IsTold {A = Unit {0}} (Err fault) (step_fault core other)) (sym same)
-    (subst (λ (s : Step). IsTold {A = Unit {0}} (Err fault) (step_fault old s)) one told)
+    subst (λ (core : CoreView). IsReported {A = Unit {0}} (Err fault) (step_fault core other)) (sym same)
+    (subst (λ (s : Step). IsReported {A = Unit {0}} (Err fault) (step_fault old s)) one told)

@@ -11,9 +11,9 @@ use Rattle.operator_model.specs.declared.heard.Heard.{Heard}
 use Rattle.operator_model.specs.declared.action.Action.{Action}
 use Rattle.operator_model.specs.State.{operator}
 use Rattle.operator_model.specs.Machine.{own_step, IsAllowed}
-use Rattle.operator_model.specs.Replay.{BookView, acted}
+use Rattle.operator_model.specs.Replay.{BookView, book_after_action}
 use Rattle.map_assembly.specs.Gathering.{Gathering, put_fault, after_put}
-use Rattle.map_assembly.specs.Assembled.{IsAnswer}
+use Rattle.map_assembly.specs.Assembled.{IsPutResult}
 use Rattle.map_assembly.specs.declared.map_bytes.MapBytes.{MapBytes}
 use Rattle.map_assembly.specs.declared.refused.Refused.{Refused}
 use Rattle.map_assembly.specs.declared.refused.GatherFault.{GatherFault}
@@ -21,13 +21,13 @@ use Rattle.map_assembly.specs.declared.refused.GatherFault.TheVariants as gather
 use Rattle.map_assembly.specs.declared.refused.GatherFault.TheVariants.{Stranger, Old, PutTwice, Early, WrongSlice}
 use Rattle.run_model.specs.declared.step.Step.TheVariants as steps
 use Rattle.run_model.specs.declared.step.Out.{Out}
-use Rattle.run_model.specs.OwnSteps.{under}
+use Rattle.run_model.specs.OwnSteps.{outputs_under}
 use Rattle.run_model.specs.IsStateAfter.{CoreView, frames_of}
 use Rattle.run_model.specs.Steps.{Acts, Collects, told_map}
 use Rattle.plant_core.specs.declared.core_fault.CoreFault.{CoreFault}
 use Rattle.plant_core.specs.declared.core_fault.CoreFault.TheVariants.{UnknownOperator}
 use Rattle.plant_core.specs.Putting.{FitsOldest, CollectsOldest}
-use Rattle.plant_core.specs.Faults.{act_fault, collect_fault, step_fault, IsTold, core_fault_of}
+use Rattle.plant_core.specs.Faults.{act_fault, collect_fault, step_fault, IsReported, core_fault_of}
 use Rattle.run_model.proofs.Entries.{some_at}
 
 abbrev view : PlantFields → Gathering → List BookView → List (List (ℕ × ElementsFields)) → CoreView
@@ -40,9 +40,9 @@ same_view plant gathering books books' queues queues' b q = ap₂ (view plant ga
 pub acts_at : (plant : PlantFields) (gathering : Gathering) (books books' : List BookView) (queues queues' : List (List (ℕ × ElementsFields)))
     (op : ℕ) (action : Action) (book : BookView) (waiting : List (ℕ × ElementsFields)) (now : List Out)
     → slice_get books op ≡ Some book → slice_get queues op ≡ Some waiting → IsAllowed (operator book.consts book.row book.state) action
-    → books' ≡ slice_set books op (acted book action)
+    → books' ≡ slice_set books op (book_after_action book action)
     → queues' ≡ slice_set queues op (waiting ++ frames_of (own_step (operator book.consts book.row book.state) action).outputs)
-    → now ≡ under op (own_step (operator book.consts book.row book.state) action).outputs
+    → now ≡ outputs_under op (own_step (operator book.consts book.row book.state) action).outputs
     → Acts op action (view plant gathering books queues) (view plant gathering books' queues') now
 acts_at plant gathering books books' queues queues' op action book waiting now book_is waiting_is allowed b q now_is = record {
   book = book;
@@ -58,12 +58,12 @@ acts_at plant gathering books books' queues queues' op action book waiting now b
 pub acts_if : {A E : Type 0} (result : Result A E) (plant : PlantFields) (gathering : Gathering) (books books' : List BookView) (queues queues' : List (List (ℕ × ElementsFields)))
     (op : ℕ) (action : Action) (book : BookView) (waiting : List (ℕ × ElementsFields)) (outs outs' : List Out)
     → slice_get books op ≡ Some book → slice_get queues op ≡ Some waiting → OnOk result (IsAllowed (operator book.consts book.row book.state) action)
-    → OnOk result (books' ≡ slice_set books op (acted book action))
+    → OnOk result (books' ≡ slice_set books op (book_after_action book action))
     → OnOk result (queues' ≡ slice_set queues op (waiting ++ frames_of (own_step (operator book.consts book.row book.state) action).outputs))
-    → OnOk result (outs' ≡ outs ++ under op (own_step (operator book.consts book.row book.state) action).outputs)
+    → OnOk result (outs' ≡ outs ++ outputs_under op (own_step (operator book.consts book.row book.state) action).outputs)
     → OnOk result ((now : List Out) × (outs' ≡ outs ++ now) × Acts op action (view plant gathering books queues) (view plant gathering books' queues') now)
 acts_if (Ok x) plant gathering books books' queues queues' op action book waiting outs outs' book_is waiting_is allowed b q told =
-    (under op (own_step (operator book.consts book.row book.state) action).outputs, told, acts_at plant gathering books books' queues queues' op action book waiting _ book_is waiting_is allowed b q refl)
+    (outputs_under op (own_step (operator book.consts book.row book.state) action).outputs, told, acts_at plant gathering books books' queues queues' op action book waiting _ book_is waiting_is allowed b q refl)
 acts_if (Err y) plant gathering books books' queues queues' op action book waiting outs outs' book_is waiting_is allowed b q told = tt
 
 pub same_if : {A E : Type 0} (result : Result A E) (plant : PlantFields) (gathering : Gathering) (books books' : List BookView) (queues queues' : List (List (ℕ × ElementsFields)))
@@ -72,8 +72,8 @@ same_if (Ok x) plant gathering books books' queues queues' b q = tt
 same_if (Err y) plant gathering books books' queues queues' b q = same_view plant gathering books books' queues queues' b q
 
 pub told_at : {A : Type 0} (result : Result A CoreFault) (op : ℕ) (action : Action) (books : List BookView) (book : BookView) → slice_get books op ≡ Some book
-    → IsTold result (act_fault op action (Some book)) → IsTold result (act_fault op action (slice_get books op))
-told_at result op action books book there told = subst (λ (o : Option BookView). IsTold result (act_fault op action o)) (sym there) told
+    → IsReported result (act_fault op action (Some book)) → IsReported result (act_fault op action (slice_get books op))
+told_at result op action books book there told = subst (λ (o : Option BookView). IsReported result (act_fault op action o)) (sym there) told
 
 -- ---- what is heard
 
@@ -99,7 +99,7 @@ fits_not g op frame part fault fits refused = let wrong : None ≡ Some fault = 
 
 pub collects_at : (plant : PlantFields) (gathering gathering' : Gathering) (books books' : List BookView) (queues queues' : List (List (ℕ × ElementsFields)))
     (op frame : ℕ) (part : ElementsFields) (waiting rest : List (ℕ × ElementsFields)) (made : Option MapBytes)
-    → slice_get queues op ≡ Some waiting → waiting ≡ (frame, part) ∷ rest → put_fault gathering op frame part ≡ None → IsAnswer gathering op frame part made
+    → slice_get queues op ≡ Some waiting → waiting ≡ (frame, part) ∷ rest → put_fault gathering op frame part ≡ None → IsPutResult gathering op frame part made
     → books' ≡ books → queues' ≡ slice_set queues op rest → gathering' ≡ after_put gathering op part
     → Collects op (view plant gathering books queues) (view plant gathering' books' queues') (told_map made)
 collects_at plant gathering gathering' books books' queues queues' op frame part waiting rest made there front fits answer b q g = record {
@@ -125,8 +125,8 @@ collects_if (Ok x) plant old new books books' queues queues' op waiting left out
 collects_if (Err y) plant old new books books' queues queues' op waiting left outs outs' there fits done b q = tt
 
 pub collect_told : {A : Type 0} (result : Result A CoreFault) (op : ℕ) (queues : List (List (ℕ × ElementsFields))) (waiting : List (ℕ × ElementsFields)) → slice_get queues op ≡ Some waiting
-    → IsTold result (collect_fault op (Some waiting)) → IsTold result (collect_fault op (slice_get queues op))
-collect_told result op queues waiting there told = subst (λ (o : Option (List (ℕ × ElementsFields))). IsTold result (collect_fault op o)) (sym there) told
+    → IsReported result (collect_fault op (Some waiting)) → IsReported result (collect_fault op (slice_get queues op))
+collect_told result op queues waiting there told = subst (λ (o : Option (List (ℕ × ElementsFields))). IsReported result (collect_fault op o)) (sym there) told
 
 -- what the assembly refused
 pub refused_is : (g : Gathering) (op frame : ℕ) (part : ElementsFields) (result : Result (Option MapBytes) Refused) (refused : Refused)
@@ -135,7 +135,7 @@ pub refused_is : (g : Gathering) (op frame : ℕ) (part : ElementsFields) (resul
 refused_is g op frame part result refused clause is back other =
     (clause refused.fault other).0 (is ∙ ap (λ (e : ElementsFields). Err (record { fault = refused.fault; elements = e })) back)
 
-pub gather_told : (fault : GatherFault) (o : Option CoreFault) → o ≡ None → (fault ≢ gather_faults.NoMemory → ⊥) → IsTold {A = Unit {0}} (Err (core_fault_of fault)) o
+pub gather_told : (fault : GatherFault) (o : Option CoreFault) → o ≡ None → (fault ≢ gather_faults.NoMemory → ⊥) → IsReported {A = Unit {0}} (Err (core_fault_of fault)) o
 gather_told gather_faults.NoMemory o h never = h
 gather_told Stranger o h never = absurd (never (λ e. cc))
 gather_told PutTwice o h never = absurd (never (λ e. cc))

@@ -15,24 +15,24 @@ use Rattle.operator_model.specs.declared.output.Output.{Output}
 use Rattle.operator_model.specs.declared.output.Output.TheVariants.{Reply, Silent, Frame}
 use Rattle.operator_model.specs.State.{OperatorState, operator}
 use Rattle.operator_model.specs.Machine.{own_step}
-use Rattle.operator_model.specs.Replay.{BookView, AreTold, IsReplay, acted}
-use Rattle.operator_model.specs.Frames.{frame_of, is_tick}
+use Rattle.operator_model.specs.Replay.{BookView, AreTold, IsReplay, book_after_action}
+use Rattle.operator_model.specs.Frames.{frame_number, is_tick}
 use Rattle.operator_model.proofs.FrameLemmas.{run_puts}
-use Rattle.run_model.specs.IsStateAfter.{numbered, frames_of}
+use Rattle.run_model.specs.IsStateAfter.{frame_with_number, frames_of}
 use Rattle.plant_core.specs.Waiting.{frames_in, waiting_in, IsOneFrame, IsOldest}
 use Rattle.plant_core.specs.declared.collecting.Oldest.{Oldest}
 
 frames_append : (xs ys : List Entry) → frames_in (xs ++ ys) ≡ frames_in xs ++ frames_in ys
 frames_append xs ys =
     ap frames_of (flat_map-append (λ (entry : Entry). entry.outputs) xs ys)
-    ∙ filter_map-append numbered (flat_map (λ (entry : Entry). entry.outputs) xs) (flat_map (λ (entry : Entry). entry.outputs) ys)
+    ∙ filter_map-append frame_with_number (flat_map (λ (entry : Entry). entry.outputs) xs) (flat_map (λ (entry : Entry). entry.outputs) ys)
 
 frames_one : (entry : Entry) → frames_in (entry ∷ []) ≡ frames_of entry.outputs
 frames_one entry = ap frames_of (append-nil entry.outputs)
 
 -- what an action puts out waits behind what waited
 pub waiting_acted : (book : BookView) (action : Action) (place : ℕ) → place ≤ length book.history
-    → waiting_in (acted book action).history place ≡ waiting_in book.history place ++ frames_of (own_step (operator book.consts book.row book.state) action).outputs
+    → waiting_in (book_after_action book action).history place ≡ waiting_in book.history place ++ frames_of (own_step (operator book.consts book.row book.state) action).outputs
 waiting_acted book action place within =
     let entry : Entry = record { action = action; outputs = (own_step (operator book.consts book.row book.state) action).outputs } in
     ap frames_in (drop-append-le place book.history (entry ∷ []) within)
@@ -44,7 +44,7 @@ pub waiting_more : (history : List Entry) (place : ℕ) (d : Entry) → place < 
     → waiting_in history place ≡ frames_of (get_or history place d).outputs ++ waiting_in history (place + 1)
 waiting_more history place d lt =
     ap frames_in (drop_more history place d lt)
-    ∙ filter_map-append numbered (get_or history place d).outputs (flat_map (λ (entry : Entry). entry.outputs) (drop (place + 1) history))
+    ∙ filter_map-append frame_with_number (get_or history place d).outputs (flat_map (λ (entry : Entry). entry.outputs) (drop (place + 1) history))
 
 pub first_none : {X : Type 0} (xs : List X) → slice_get xs 0 ≡ None → xs ≡ []
 first_none [] h = refl
@@ -87,7 +87,7 @@ oldest_front history place o oldest is waits = (subst (λ (x : Option Oldest). I
 
 -- ---- an action puts out one frame at most
 
-as_many : (outputs : List Output) → length (frames_of outputs) ≡ length (filter_map frame_of outputs)
+as_many : (outputs : List Output) → length (frames_of outputs) ≡ length (filter_map frame_number outputs)
 as_many [] = refl
 as_many (Reply modem bytes ∷ outputs) = as_many outputs
 as_many (Silent modem cause ∷ outputs) = as_many outputs
@@ -109,7 +109,7 @@ frames_are consts row state action =
     let puts = run_puts consts row state (action ∷ []) in
     let plain : (own_step (operator consts row state) action).outputs ++ [] ≡ (own_step (operator consts row state) action).outputs = append-nil (own_step (operator consts row state) action).outputs in
     as_many (own_step (operator consts row state) action).outputs
-    ∙ (ap (λ (outputs : List Output). length (filter_map frame_of outputs)) (sym plain)
+    ∙ (ap (λ (outputs : List Output). length (filter_map frame_number outputs)) (sym plain)
     ∙ (ap (λ (ns : List ℕ). length ns) puts.numbers ∙ long state.frame (count_by is_tick (action ∷ []))))
 
 pub one_frame : (consts : ConstsFields) (row : RowFields) (state : OperatorState) (action : Action) → length (frames_of (own_step (operator consts row state) action).outputs) ≤ 1

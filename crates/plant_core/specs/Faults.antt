@@ -42,10 +42,10 @@ step_fault core (steps.Collect op) = collect_fault op (slice_get core.queues op)
 step_fault core (steps.Reslice from rows) = option_map (λ fault. Reslice fault) (reslice_fault from core.books rows)
 
 -- the fault is reported exactly where there is one; where there is none, only memory can be wanting
-abbrev pub IsTold : {A : Type 0} → Result A CoreFault → Option CoreFault → Type 0
-IsTold (Ok x) fault = fault ≡ None
-IsTold (Err NoMemory) fault = fault ≡ None
-IsTold (Err told) fault = fault ≡ Some told
+abbrev pub IsReported : {A : Type 0} → Result A CoreFault → Option CoreFault → Type 0
+IsReported (Ok x) fault = fault ≡ None
+IsReported (Err NoMemory) fault = fault ≡ None
+IsReported (Err told) fault = fault ≡ Some told
 
 -- what the core answers where the assembly refuses a frame
 abbrev pub core_fault_of : GatherFault → CoreFault

@@ -3,7 +3,7 @@ use Rattle.std.specs.Prelude.{◌≡◌, ℕ, List, length, slice_get, Some}
 use Rattle.slice_scheduler.specs.Minislots.{IsSlice}
 use Rattle.operator_model.specs.declared.action.SliceRow.{SliceRow}
 use Rattle.operator_model.specs.declared.action.Action.TheVariants as actions
-use Rattle.operator_model.specs.Replay.{BookView, acted}
+use Rattle.operator_model.specs.Replay.{BookView, book_after_action}
 use Rattle.run_model.specs.OwnSteps.{slice_of}
 use Rattle.run_model.specs.Places.{AtEachPlace}
 
@@ -18,4 +18,4 @@ pub record HaveTakenAs (after : BookView → SliceRow → BookView) (rows : List
 
 -- each book has taken its row
 abbrev pub HaveTaken : ℕ → List SliceRow → List BookView → List BookView → Type 0
-HaveTaken from rows old new = HaveTakenAs (λ book row. acted book (actions.Reslice from row)) rows old new
+HaveTaken from rows old new = HaveTakenAs (λ book row. book_after_action book (actions.Reslice from row)) rows old new

@@ -3,7 +3,7 @@ use Rattle.std.specs.Prelude.{◌≡◌, ℕ, List, ◌∷◌, ◌++◌, Option,
 use Rattle.slice_scheduler.specs.declared.elements.ElementsFields.{ElementsFields}
 use Rattle.map_assembly.specs.declared.map_bytes.MapBytes.{MapBytes}
 use Rattle.map_assembly.specs.Gathering.{Gathering, put_fault, after_put}
-use Rattle.map_assembly.specs.Assembled.{IsAnswer}
+use Rattle.map_assembly.specs.Assembled.{IsPutResult}
 use Rattle.run_model.specs.declared.step.Out.{Out}
 use Rattle.run_model.specs.Steps.{told_map}
 
@@ -17,7 +17,7 @@ pub record PutsOldest (op : ℕ) (waiting left : List (ℕ × ElementsFields)) (
   pub frame : ℕ
   pub part : ElementsFields
   pub waiting_is : waiting ≡ (frame, part) ∷ left
-  pub made_is : IsAnswer old op frame part made
+  pub made_is : IsPutResult old op frame part made
   pub new_is : new ≡ after_put old op part
 
 -- the same, with the MAP that is made among the outputs

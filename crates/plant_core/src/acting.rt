@@ -4,20 +4,20 @@ ghost use Rattle.std.specs.Prelude.{◌≡◌, ◌≢◌, ◌↔◌, ◌≤◌, 
 ghost use Rattle.dsx_messages.specs.declared.modem.Modem.{Modem};
 ghost use Rattle.plant.specs.Row.{IsRowOf};
 ghost use Rattle.operator_model.specs.declared.action.Unfit.{Unfit};
-ghost use Rattle.operator_model.specs.State.{opened, operator};
+ghost use Rattle.operator_model.specs.State.{opened_state, operator};
 ghost use Rattle.operator_model.specs.Machine.{own_step, is_spent, IsAllowed};
 ghost use Rattle.operator_book.specs.OfBook.{stranger_of, unfit_of};
-ghost use Rattle.operator_model.specs.Replay.{acted};
-ghost use Rattle.run_model.specs.OwnSteps.{under};
+ghost use Rattle.operator_model.specs.Replay.{book_after_action};
+ghost use Rattle.run_model.specs.OwnSteps.{outputs_under};
 ghost use Rattle.run_model.specs.IsStateAfter.{frames_of};
-ghost use Rattle.plant_core.specs.Faults.{act_fault, collect_fault, IsTold};
+ghost use Rattle.plant_core.specs.Faults.{act_fault, collect_fault, IsReported};
 ghost use Rattle.plant_core.specs.Waiting.{IsOldest};
 ghost use Rattle.plant_core.specs.Putting.{FitsOldest, CollectsOldest};
 ghost use Rattle.plant_core.specs.DeskView.{book_at, waiting_at};
 
 use crate::collecting::{Oldest, oldest_from};
 use crate::core_fault::CoreFault;
-use crate::desk::Desk;
+use crate::desk::OperatorSlot;
 use crate::stepping::{append, append_map, core_fault_of};
 use grant_policy::Ranking;
 use map_assembly::Gather;
@@ -27,28 +27,28 @@ use plant::{Consts, Op, OperatorRow};
 use run_model::Out;
 use std::alloc::{AllocError, Global};
 
-impl Desk {
+impl OperatorSlot {
     /// Returns the desk of an operator with nothing done.
     pub fn open(
         alloc: Global,
         row: &OperatorRow,
         consts: &Consts,
         ranking: Ranking,
-    ) -> Result<Desk, OpenFault>
+    ) -> Result<OperatorSlot, OpenFault>
         requires { IsRowOf consts.now row.now }
         ensures book { IfOk result (λ desk. book_at desk
-            ≡ record { row = row.now; consts = consts.now; state = opened consts.now row.now; history = [] }) }
+            ≡ record { row = row.now; consts = consts.now; state = opened_state consts.now row.now; history = [] }) }
         ensures waiting { IfOk result (λ desk. waiting_at desk ≡ []) }
         ensures mismatch { (result ≡ Err OpenFault.PolicyMismatch) ↔ (ranking.policy ≢ row.now.policy) }
     {
         let book = Book::open(alloc, row, consts, ranking)?;
-        Ok(Desk { book, collected: 0 })
+        Ok(OperatorSlot { book, collected: 0 })
     }
 
     /// Does an action, and reports what it outputs. Its frames wait.
     pub fn act(&mut self, alloc: Global, action: Action) -> Result<Vec<Output>, BookFault>
         requires within { self.old.collected ≤ length (book_at self.old).history }
-        ensures book { OnOk result (book_at self.new ≡ acted (book_at self.old) action) }
+        ensures book { OnOk result (book_at self.new ≡ book_after_action (book_at self.old) action) }
         ensures waiting { OnOk result (waiting_at self.new ≡ waiting_at self.old
             ++ frames_of (own_step (operator (book_at self.old).consts (book_at self.old).row
             (book_at self.old).state) action).outputs) }
@@ -78,18 +78,18 @@ impl Desk {
         outs: &mut Vec<Out>,
     ) -> Result<(), CoreFault>
         requires within { self.old.collected ≤ length (book_at self.old).history }
-        ensures book { OnOk result (book_at self.new ≡ acted (book_at self.old) action) }
+        ensures book { OnOk result (book_at self.new ≡ book_after_action (book_at self.old) action) }
         ensures waiting { OnOk result (waiting_at self.new ≡ waiting_at self.old
             ++ frames_of (own_step (operator (book_at self.old).consts (book_at self.old).row
             (book_at self.old).state) action).outputs) }
-        ensures outputs { OnOk result (outs.new.items ≡ outs.old.items ++ under op
+        ensures outputs { OnOk result (outs.new.items ≡ outs.old.items ++ outputs_under op
             (own_step (operator (book_at self.old).consts (book_at self.old).row (book_at self.old).state) action).outputs) }
         ensures allowed { OnOk result (IsAllowed
             (operator (book_at self.old).consts (book_at self.old).row (book_at self.old).state) action) }
         ensures outs { OnErr result (outs.new.items ≡ outs.old.items) }
         ensures same_book { OnErr result (book_at self.new ≡ book_at self.old) }
         ensures same_waiting { OnErr result (waiting_at self.new ≡ waiting_at self.old) }
-        ensures fault { IsTold result (act_fault op action (Some (book_at self.old))) }
+        ensures fault { IsReported result (act_fault op action (Some (book_at self.old))) }
     {
         if self.book.is_spent(&action) {
             return Err(CoreFault::Book(BookFault::FramesSpent));
@@ -133,7 +133,7 @@ impl Desk {
         ensures outs { OnErr result (outs.new.items ≡ outs.old.items) }
         ensures same_waiting { OnErr result (waiting_at self.new ≡ waiting_at self.old) }
         ensures same_gather { OnErr result (gather.new ≡ gather.old) }
-        ensures fault { IsTold result (collect_fault op (Some (waiting_at self.old))) }
+        ensures fault { IsReported result (collect_fault op (Some (waiting_at self.old))) }
     {
         let oldest = match self.oldest(alloc) {
             Err(_) => return Err(CoreFault::NoMemory),

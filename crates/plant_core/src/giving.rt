@@ -3,7 +3,7 @@
 ghost use Rattle.std.specs.Prelude.{◌≡◌, ◌<◌, ◌≤◌, ◌^◌, [], map, length, vec_len, All, None, IfOk, OnOk, OnErr};
 ghost use Rattle.operator_model.specs.declared.action.Action.TheVariants as actions;
 ghost use Rattle.operator_model.specs.Machine.{unfit_from};
-ghost use Rattle.operator_model.specs.Replay.{acted};
+ghost use Rattle.operator_model.specs.Replay.{book_after_action};
 ghost use Rattle.run_model.specs.OwnSteps.{slice_of};
 ghost use Rattle.run_model.specs.Steps.{Reslices, NoneRefuses};
 ghost use Rattle.plant_core.specs.Reslicing.{reslice_fault};
@@ -11,13 +11,13 @@ ghost use Rattle.plant_core.specs.Giving.{IsOfASlice, HaveTaken};
 ghost use Rattle.plant_core.specs.DeskView.{book_at, waiting_at, room_at};
 ghost use Rattle.plant_core.specs.CoreView.{core_view};
 
-use crate::desk::Desk;
+use crate::desk::OperatorSlot;
 use crate::held::PlantCore;
 use operator_model::SliceRow;
 use slice_scheduler::Slice;
 use std::alloc::{AllocError, Global};
 
-impl Desk {
+impl OperatorSlot {
     /// Makes room for one more entry in the history.
     fn make_room(&mut self) -> Result<(), AllocError>
         requires within { self.old.collected ≤ length (book_at self.old).history }
@@ -32,7 +32,7 @@ impl Desk {
     fn reslice(&mut self, from: u32, row: SliceRow)
         requires fit { unfit_from (book_at self.old).consts (book_at self.old).state from row ≡ None }
         requires room { 0 < room_at self.old }
-        ensures book { book_at self.new ≡ acted (book_at self.old) (actions.Reslice from row) }
+        ensures book { book_at self.new ≡ book_after_action (book_at self.old) (actions.Reslice from row) }
         ensures waiting { waiting_at self.new ≡ waiting_at self.old }
     {
         self.book.reslice(from, row);
@@ -40,7 +40,7 @@ impl Desk {
 }
 
 /// Makes room for one more entry in each history.
-fn make_room(desks: &mut Vec<Desk>) -> Result<(), AllocError>
+fn make_room(desks: &mut Vec<OperatorSlot>) -> Result<(), AllocError>
     requires { vec_len desks.old < 2 ^ 64 }
     ensures room { OnOk result (All (λ desk. 0 < room_at desk) desks.new.items) }
     ensures books { map book_at desks.new.items ≡ map book_at desks.old.items }
@@ -53,7 +53,7 @@ fn make_room(desks: &mut Vec<Desk>) -> Result<(), AllocError>
 }
 
 /// Gives each operator its row of a slice change. Takes no memory.
-fn give(desks: &mut Vec<Desk>, from: u32, rows: &[SliceRow])
+fn give(desks: &mut Vec<OperatorSlot>, from: u32, rows: &[SliceRow])
     requires one_each { length rows.now ≡ vec_len desks.old }
     requires fit { NoneRefuses from (map book_at desks.old.items) rows.now }
     requires room { All (λ desk. 0 < room_at desk) desks.old.items }

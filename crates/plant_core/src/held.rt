@@ -4,7 +4,7 @@ ghost use Rattle.std.specs.Prelude.{map};
 ghost use Rattle.plant_core.specs.DeskView.{book_at, waiting_at};
 ghost use Rattle.plant_core.specs.Reachable.{core_of, IsReachable};
 
-use crate::desk::Desk;
+use crate::desk::OperatorSlot;
 use crate::routes::Routes;
 use map_assembly::Gather;
 
@@ -12,7 +12,7 @@ use map_assembly::Gather;
 /// speak of `core_view` of it. The type keeps that it is what some steps make of the plant's core as it is opened.
 pub struct PlantCore {
     pub(crate) routes: Routes,
-    pub(crate) desks: Vec<Desk>,
+    pub(crate) desks: Vec<OperatorSlot>,
     pub(crate) gather: Gather,
     ghost reached: { ∥ IsReachable (core_of routes (map book_at desks.items) (map waiting_at desks.items) gather) ∥₁ },
 }

@@ -16,7 +16,7 @@ mod stepping;
 
 pub use collecting::Oldest;
 pub use core_fault::{CoreFault, CoreOpenFault, ResliceFault, Unfits};
-pub use desk::Desk;
+pub use desk::OperatorSlot;
 pub use giving::slices_of;
 pub use held::PlantCore;
 pub use opening::follow;

@@ -10,7 +10,7 @@ ghost use Rattle.plant_core.specs.DeskView.{book_at, waiting_at};
 ghost use Rattle.plant_core.specs.CoreView.{core_view};
 
 use crate::core_fault::CoreOpenFault;
-use crate::desk::Desk;
+use crate::desk::OperatorSlot;
 use crate::held::PlantCore;
 use crate::routes::Routes;
 use grant_policy::Ranking;
@@ -46,7 +46,7 @@ fn opened_desks(
     rows: &[OperatorRow],
     consts: &Consts,
     rankings: Vec<Ranking>,
-) -> Result<Vec<Desk>, AllocError>
+) -> Result<Vec<OperatorSlot>, AllocError>
     requires valid { All (IsRowOf consts.now) rows.now }
     requires one_each { length rankings.items ≡ length rows.now }
     ensures books { IfOk result (λ desks. map book_at desks.items ≡ map (opened_book consts.now) rows.now) }
@@ -54,7 +54,7 @@ fn opened_desks(
 {
     let mut desks = Vec::with_capacity(alloc, rows.len())?;
     for ranking in rankings {
-        match Desk::open(alloc, &rows[desks.len()], consts, ranking) {
+        match OperatorSlot::open(alloc, &rows[desks.len()], consts, ranking) {
             Ok(desk) => desks.push(desk)?,
             Err(_) => return Err(AllocError),
         }
@@ -65,7 +65,7 @@ fn opened_desks(
 /// What a core has of its operators, with nothing done.
 #[derive(Drop)]
 struct Parts {
-    desks: Vec<Desk>,
+    desks: Vec<OperatorSlot>,
     gather: Gather,
 }
 
@@ -99,11 +99,11 @@ impl PlantCore {
         if !follow(rankings.as_slice(), plant.rows()) {
             return Err(CoreOpenFault::RankingsMismatch);
         }
-        PlantCore::opened(alloc, plant, rankings)
+        PlantCore::open_with_rankings(alloc, plant, rankings)
     }
 
     /// Returns the core of a plant with nothing done, where there is a ranking for each operator.
-    fn opened(
+    fn open_with_rankings(
         alloc: Global,
         plant: Plant,
         rankings: Vec<Ranking>,

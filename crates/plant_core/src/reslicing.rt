@@ -6,7 +6,7 @@ ghost use Rattle.operator_book.specs.OfBook.{unfit_from};
 ghost use Rattle.operator_book.specs.ViewOf.{view_of};
 ghost use Rattle.plant_core.specs.Reslicing.{is_unfit, least_unfit, do_meet, least_meeting, first_fault, row_fault, reslice_fault};
 ghost use Rattle.run_model.specs.Steps.{Reslices};
-ghost use Rattle.plant_core.specs.Faults.{IsTold};
+ghost use Rattle.plant_core.specs.Faults.{IsReported};
 ghost use Rattle.plant_core.specs.CoreView.{core_view};
 
 use crate::core_fault::{CoreFault, ResliceFault, Unfits};
@@ -139,7 +139,7 @@ impl PlantCore {
     ) -> Result<(), CoreFault>
         ensures ok { OnOk result (Reslices from rows.now (core_view self.old) (core_view self.new) []) }
         ensures err { OnErr result (core_view self.new ≡ core_view self.old) }
-        ensures fault { IsTold result (option_map
+        ensures fault { IsReported result (option_map
             (λ fault. CoreFault.Reslice fault) (reslice_fault from (core_view self.old).books rows.now)) }
     {
         if let Some(fault) = self.reslice_fault(from, rows) {

@@ -5,7 +5,7 @@ ghost use Rattle.run_model.specs.declared.step.Step.{Step};
 ghost use Rattle.run_model.specs.declared.step.Out.{Out};
 ghost use Rattle.run_model.specs.declared.step.Step.TheVariants as steps;
 ghost use Rattle.run_model.specs.Steps.{Steps};
-ghost use Rattle.plant_core.specs.Faults.{step_fault, IsTold};
+ghost use Rattle.plant_core.specs.Faults.{step_fault, IsReported};
 ghost use Rattle.plant_core.specs.Reachable.{LeadsOn};
 ghost use Rattle.plant_core.specs.CoreView.{core_view};
 
@@ -37,7 +37,7 @@ impl PlantCore {
         ensures reached { OnOk result (LeadsOn (core_view self.old) (step ∷ []) outs.new.items (core_view self.new)) }
         ensures err { OnErr result (core_view self.new ≡ core_view self.old) }
         ensures outs { OnErr result (outs.new.items ≡ []) }
-        ensures fault { IsTold result (step_fault (core_view self.old) step) }
+        ensures fault { IsReported result (step_fault (core_view self.old) step) }
     {
         // For the proof: what always holds of `self`.
         self.always();
@@ -54,7 +54,7 @@ impl PlantCore {
             (core_view self.new)) }
         ensures within { IfErr result (λ stop. stop.at < length steps.now) }
         ensures fault { IfErr result (λ stop. (step : Step) → slice_get steps.now stop.at ≡ Some step
-            → IsTold {A = Unit {0}} (Err stop.fault) (step_fault (core_view self.new) step)) }
+            → IsReported {A = Unit {0}} (Err stop.fault) (step_fault (core_view self.new) step)) }
     {
         let mut outs = Vec::new(alloc);
         for (at, step) in steps.iter().enumerate() {
@@ -78,7 +78,7 @@ impl PlantCore {
             × Steps step.now (core_view self.old) (core_view self.new) now) }
         ensures outs { OnErr result (outs.new.items ≡ outs.old.items) }
         ensures err { OnErr result (core_view self.new ≡ core_view self.old) }
-        ensures fault { IsTold result (step_fault (core_view self.old) step.now) }
+        ensures fault { IsReported result (step_fault (core_view self.old) step.now) }
     {
         match step {
             Step::Arrive { modem, heard } => self.arrive_copied(alloc, *modem, heard, outs),
@@ -102,7 +102,7 @@ impl PlantCore {
             × Steps (steps.Arrive modem heard.now) (core_view self.old) (core_view self.new) now) }
         ensures outs { OnErr result (outs.new.items ≡ outs.old.items) }
         ensures err { OnErr result (core_view self.new ≡ core_view self.old) }
-        ensures fault { IsTold result (step_fault (core_view self.old) (steps.Arrive modem heard.now)) }
+        ensures fault { IsReported result (step_fault (core_view self.old) (steps.Arrive modem heard.now)) }
     {
         let Some(op) = self.routes.place_of(modem) else {
             return Err(CoreFault::UnknownModem { modem });

@@ -5,9 +5,9 @@ ghost use Rattle.map_assembly.specs.declared.refused.GatherFault.{GatherFault};
 ghost use Rattle.run_model.specs.declared.step.Out.{Out};
 ghost use Rattle.run_model.specs.declared.step.Step.{Step};
 ghost use Rattle.run_model.specs.declared.step.Step.TheVariants as steps;
-ghost use Rattle.run_model.specs.OwnSteps.{under};
+ghost use Rattle.run_model.specs.OwnSteps.{outputs_under};
 ghost use Rattle.run_model.specs.Steps.{Acts, Collects, Steps, told_map};
-ghost use Rattle.plant_core.specs.Faults.{act_fault, collect_fault, step_fault, IsTold, core_fault_of};
+ghost use Rattle.plant_core.specs.Faults.{act_fault, collect_fault, step_fault, IsReported, core_fault_of};
 ghost use Rattle.plant_core.specs.Reachable.{IsOfAStep, LeadsOn};
 ghost use Rattle.plant_core.specs.CoreView.{core_view};
 
@@ -24,7 +24,7 @@ use std::alloc::Global;
 #[inline(always)]
 pub fn append(outs: &mut Vec<Out>, op: Op, told: Vec<Output>)
     requires { vec_len outs.old + vec_len told ≤ vec_capacity outs.old }
-    ensures { outs.new.items ≡ outs.old.items ++ under op told.items }
+    ensures { outs.new.items ≡ outs.old.items ++ outputs_under op told.items }
 {
     if told.is_empty() {
         return;
@@ -68,7 +68,7 @@ impl PlantCore {
             × Acts op action (core_view self.old) (core_view self.new) now) }
         ensures outs { OnErr result (outs.new.items ≡ outs.old.items) }
         ensures err { OnErr result (core_view self.new ≡ core_view self.old) }
-        ensures fault { IsTold result (act_fault op action (slice_get (core_view self.old).books op)) }
+        ensures fault { IsReported result (act_fault op action (slice_get (core_view self.old).books op)) }
     {
         // For the proof: what always holds of `self`.
         self.always();
@@ -90,7 +90,7 @@ impl PlantCore {
             × Steps (steps.Arrive modem heard) (core_view self.old) (core_view self.new) now) }
         ensures outs { OnErr result (outs.new.items ≡ outs.old.items) }
         ensures err { OnErr result (core_view self.new ≡ core_view self.old) }
-        ensures fault { IsTold result (step_fault (core_view self.old) (steps.Arrive modem heard)) }
+        ensures fault { IsReported result (step_fault (core_view self.old) (steps.Arrive modem heard)) }
     {
         match self.routes.place_of(modem) {
             None => Err(CoreFault::UnknownModem { modem }),
@@ -110,7 +110,7 @@ impl PlantCore {
             × Collects op (core_view self.old) (core_view self.new) now) }
         ensures outs { OnErr result (outs.new.items ≡ outs.old.items) }
         ensures err { OnErr result (core_view self.new ≡ core_view self.old) }
-        ensures fault { IsTold result (collect_fault op (slice_get (core_view self.old).queues op)) }
+        ensures fault { IsReported result (collect_fault op (slice_get (core_view self.old).queues op)) }
     {
         // For the proof: what always holds of `self`.
         self.always();
@@ -132,7 +132,7 @@ impl PlantCore {
             × Steps step (core_view self.old) (core_view self.new) now) }
         ensures outs { OnErr result (outs.new.items ≡ outs.old.items) }
         ensures err { OnErr result (core_view self.new ≡ core_view self.old) }
-        ensures fault { IsTold result (step_fault (core_view self.old) step) }
+        ensures fault { IsReported result (step_fault (core_view self.old) step) }
     {
         match step {
             Step::Arrive { modem, heard } => self.arrive(alloc, modem, heard, outs),
@@ -148,7 +148,7 @@ impl PlantCore {
         ensures ok { IfOk result (λ outs. Steps step (core_view self.old) (core_view self.new) outs.items) }
         ensures reached { IfOk result (λ outs. LeadsOn (core_view self.old) (step ∷ []) outs.items (core_view self.new)) }
         ensures err { OnErr result (core_view self.new ≡ core_view self.old) }
-        ensures fault { IsTold result (step_fault (core_view self.old) step) }
+        ensures fault { IsReported result (step_fault (core_view self.old) step) }
     {
         // For the proof: what always holds of `self`.
         self.always();

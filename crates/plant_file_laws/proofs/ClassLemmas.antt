@@ -16,14 +16,14 @@ use Rattle.slice_table.specs.declared.plant_key.Key.TheVariants.{Classes, Table,
 use Rattle.slice_table.specs.declared.plant_key.Field.TheVariants as field
 use Rattle.slice_table.specs.declared.plant_key.Place.{Place}
 use Rattle.slice_table.specs.declared.plant_key.Place.TheVariants as place
-use Rattle.plant.specs.Classes.{is_named}
-use Rattle.slice_table.specs.Tree.{each, items_len, expected, checked, at_field, text_at, bytes_at, table_of}
+use Rattle.plant.specs.Classes.{is_class_named}
+use Rattle.slice_table.specs.Tree.{each, items_len, expected_value, checked_value, at_field, text_at, bytes_at, table_of}
 use Rattle.slice_table.specs.ReadConsts.{is_class_name, class_name_at, states_parameters, parameters_in, class_encoding_at, class_read, classes_in, classes_if}
 use Rattle.slice_table.proofs.Parsed.{ok_same, bind_ok}
 use Rattle.slice_table.proofs.Values.{at_most}
 use Rattle.slice_table.proofs.SaidKeys.{le_true, array_is, text_said, bytes_is, table_said, under}
 use Rattle.slice_table.proofs.SaidConsts.{class_name_is, encoding_is}
-use Rattle.plant_file_laws.specs.Held.{item_in, items_or_none, items_in, standing_at, held}
+use Rattle.plant_file_laws.specs.Held.{item_in, items_or_none, items_in, standing_at, value_of_key}
 use Rattle.plant_file_laws.specs.Keys.{in_turn, class_keys}
 use Rattle.plant_file_laws.specs.Stands.{MayStand}
 use Rattle.plant_file_laws.proofs.ListLemmas.{some_same, one_of}
@@ -41,7 +41,7 @@ module _ (document : Members) where
 
   -- the names of those before it are what stands in the document
   abbrev Names : List Class → Type 0
-  Names classes = (k : ℕ) (d : Class) → k < length classes → held document (Entry (place.Class k) field.Name) ≡ Some (string (get_or classes k d).name)
+  Names classes = (k : ℕ) (d : Class) → k < length classes → value_of_key document (Entry (place.Class k) field.Name) ≡ Some (string (get_or classes k d).name)
 
   found_name : (classes : List Class) (ms : Members) → standing_at document (place.Class (length classes)) ≡ Some (table ms) → Names classes
       → Found document (Entry (place.Class (length classes)) field.Name ∷ []) (class_name_at classes (place.Class (length classes)) ms)
@@ -59,7 +59,7 @@ module _ (document : Members) where
       blames : Blames key (at_field field.Name ms) (class_name_at classes whose ms)
       blames =
           blames_bind key (at_field field.Name ms) (text_at whose field.Name ms) _ (blames_text whose field.Name ms)
-          (λ text is. blames_checked key (at_field field.Name ms) (string text) (is_class_name text && not (list_any (is_named text) classes)) text
+          (λ text is. blames_checked key (at_field field.Name ms) (string text) (is_class_name text && not (list_any (is_class_named text) classes)) text
           (text_said whose field.Name ms text is))
 
       said : (name : List ℕ) → class_name_at classes whose ms ≡ Ok name → (d : Data) × (at_field field.Name ms ≡ Some d) × MayStand document key d
@@ -143,7 +143,7 @@ module _ (document : Members) where
 
   -- its name stands in the document
   name_stands : (classes : List Class) (d : Data) (class : Class) → standing_at document (place.Class (length classes)) ≡ Some d → class_read classes d ≡ Ok class
-      → held document (Entry (place.Class (length classes)) field.Name) ≡ Some (string class.name)
+      → value_of_key document (Entry (place.Class (length classes)) field.Name) ≡ Some (string class.name)
   unfolding class_read
   name_stands classes d class at is =
       let whose : Place = place.Class (length classes) in
@@ -158,10 +158,10 @@ module _ (document : Members) where
   abbrev Inv : ℕ → List Class → Type 0
   Inv n classes = (length classes ≡ n) × Names classes
 
-  more_names : (classes : List Class) (class : Class) → Names classes → held document (Entry (place.Class (length classes)) field.Name) ≡ Some (string class.name)
+  more_names : (classes : List Class) (class : Class) → Names classes → value_of_key document (Entry (place.Class (length classes)) field.Name) ≡ Some (string class.name)
       → Names (classes ++ class ∷ [])
   more_names classes class names stands k d lt =
-      below_more (λ (m : ℕ). (e : Class) → held document (Entry (place.Class m) field.Name) ≡ Some (string (get_or (classes ++ class ∷ []) m e).name)) (length classes)
+      below_more (λ (m : ℕ). (e : Class) → value_of_key document (Entry (place.Class m) field.Name) ≡ Some (string (get_or (classes ++ class ∷ []) m e).name)) (length classes)
       (λ m less e. names m e less ∙ ap (λ (c : Class). Some (string c.name)) (sym (get_or_append_left classes (class ∷ []) e m less)))
       (λ e. stands ∙ ap (λ (c : Class). Some (string c.name)) (sym (get_or_push classes class e (length classes) refl)))
       k (omega (arith, lt, length-append classes (class ∷ []))) d
@@ -187,7 +187,7 @@ module _ (document : Members) where
   -- ---- the array
 
   by_count : (d : Data) (ds : Items) (few : Bool) → get_member (codes "class") document ≡ Some d → d ≡ array ds → nat_le (items_len ds) 64 ≡ few
-      → Found document ((Classes ∷ []) ++ in_turn class_keys 0 ds) (checked Classes few ds >>= each class_read [])
+      → Found document ((Classes ∷ []) ++ in_turn class_keys 0 ds) (checked_value Classes few ds >>= each class_read [])
   by_count d ds true at is few =
       found_behind document (Classes ∷ []) (in_turn class_keys 0 ds) (each class_read [] ds)
       (found_key document {A = Items} Classes (Some d) (Ok ds) at (ds, is, (let e : 0 ≤ items_len ds = omega arith in e), at_most (items_len ds) 64 few))
@@ -203,7 +203,7 @@ module _ (document : Members) where
 
   by_array : (d : Data) (o : Option Items) → get_member (codes "class") document ≡ Some d → as_array d ≡ o
       → Found document ((Classes ∷ []) ++ in_turn class_keys 0 (items_or_none o))
-      (expected Classes o >>= λ ds. checked Classes (nat_le (items_len ds) 64) ds >>= λ few. each class_read [] few)
+      (expected_value Classes o >>= λ ds. checked_value Classes (nat_le (items_len ds) 64) ds >>= λ few. each class_read [] few)
   by_array d None at is =
       found_key document {A = List Class} Classes (Some d) (Err (BadValue Classes)) at
       ((λ may. let e : ◌≡◌ {A = Option Items} None (Some may.0) = sym is ∙ ap as_array may.1 in cc), refl)
@@ -214,5 +214,5 @@ module _ (document : Members) where
   by_classes None at = found_key document {A = List Class} Classes None (Ok []) at (λ h. h)
   by_classes (Some d) at = by_array d (as_array d) at refl
 
-  pub found_classes : Found document ((Classes ∷ []) ++ in_turn class_keys 0 (items_in (held document Classes))) (classes_if (get_member (codes "class") document))
+  pub found_classes : Found document ((Classes ∷ []) ++ in_turn class_keys 0 (items_in (value_of_key document Classes))) (classes_if (get_member (codes "class") document))
   found_classes = by_classes (get_member (codes "class") document) refl

@@ -22,7 +22,7 @@ use Rattle.slice_table.proofs.SaidKeys.{bind_both}
 use Rattle.slice_table.proofs.SaidConsts.{consts_are}
 use Rattle.slice_table.proofs.SaidRows.{rows_are}
 use Rattle.lists.specs.First.{IsFirst}
-use Rattle.plant_file_laws.specs.Held.{items_in, held}
+use Rattle.plant_file_laws.specs.Held.{items_in, value_of_key}
 use Rattle.plant_file_laws.specs.Keys.{keys_of, keys_at, plant_fields, in_turn, class_keys, operator_keys}
 use Rattle.plant_file_laws.specs.Faults.{IsMissing, IsWrong, IsAtFault, IsToldAs, IsOfTheFirstKey, IsOfAllKeys, AreRight}
 use Rattle.plant_file_laws.proofs.ListLemmas.{first_one, none-first}
@@ -67,22 +67,22 @@ module _ (document : Members) where
   unfolding plant_of said_of
   plant_is_judged = both_after (consts_of document) (λ consts. rows_of consts document)
 
-  found_consts : Found document (keys_at place.Plant plant_fields ++ (Classes ∷ []) ++ in_turn class_keys 0 (items_in (held document Classes))) (consts_of document)
+  found_consts : Found document (keys_at place.Plant plant_fields ++ (Classes ∷ []) ++ in_turn class_keys 0 (items_in (value_of_key document Classes))) (consts_of document)
   unfolding consts_of
   found_consts =
-      found_bind document (keys_at place.Plant plant_fields) ((Classes ∷ []) ++ in_turn class_keys 0 (items_in (held document Classes))) (plant_keys_of document) _
+      found_bind document (keys_at place.Plant plant_fields) ((Classes ∷ []) ++ in_turn class_keys 0 (items_in (value_of_key document Classes))) (plant_keys_of document) _
       (found_plant document)
-      (λ keys is. found_last document ((Classes ∷ []) ++ in_turn class_keys 0 (items_in (held document Classes))) (classes_if (get_member (codes "class") document)) (with_classes keys)
+      (λ keys is. found_last document ((Classes ∷ []) ++ in_turn class_keys 0 (items_in (value_of_key document Classes))) (classes_if (get_member (codes "class") document)) (with_classes keys)
       (found_classes document))
 
   found_said : Found document (keys_of document) (said_of document)
   unfolding said_of
   found_said =
-      found_bind document (keys_at place.Plant plant_fields ++ (Classes ∷ []) ++ in_turn class_keys 0 (items_in (held document Classes))) behind (consts_of document) _ found_consts
+      found_bind document (keys_at place.Plant plant_fields ++ (Classes ∷ []) ++ in_turn class_keys 0 (items_in (value_of_key document Classes))) behind (consts_of document) _ found_consts
       (λ consts is. found_last document behind (rows_of consts document) _ (found_rows document consts ((consts_are document consts).0 is)))
     where
       behind : List Key
-      behind = (Operators ∷ []) ++ in_turn (operator_keys document) 0 (items_in (held document Operators))
+      behind = (Operators ∷ []) ++ in_turn (operator_keys document) 0 (items_in (value_of_key document Operators))
 
   says : (said : Said) → said_of document ≡ Ok said → SaysConsts document said.consts × SaysRows said.consts document said.rows
   unfolding said_of

@@ -15,13 +15,13 @@ use Rattle.slice_table.specs.declared.plant_key.Place.{Place}
 use Rattle.slice_table.specs.declared.plant_key.Place.TheVariants as place
 use Rattle.plant.specs.Provisioned.{sets_of_encoding}
 use Rattle.plant.specs.Row.{is_listed}
-use Rattle.slice_table.specs.Tree.{Read, each, required, expected, checked, at_field, bytes_at, modem_in, modem_of, modem_at, table_of}
+use Rattle.slice_table.specs.Tree.{Read, each, required_value, expected_value, checked_value, at_field, bytes_at, modem_in, modem_of, modem_at, table_of}
 use Rattle.slice_table.specs.ReadRows.{own_modem_at, has_sets, provision_at, provision_read, provisions_in, provisions_if}
 use Rattle.slice_table.specs.Says.{SaysConsts, SaysModems}
 use Rattle.slice_table.proofs.Parsed.{ok_same, bind_ok, required_ok, checked_ok}
 use Rattle.slice_table.proofs.SaidKeys.{bind_both, required_said, checked_said, array_is, bytes_is, address_is, table_said, under}
 use Rattle.slice_table.proofs.SaidRows.{modems_are, sets_there}
-use Rattle.plant_file_laws.specs.Held.{item_in, table_in, items_or_none, items_in, standing_at, held}
+use Rattle.plant_file_laws.specs.Held.{item_in, table_in, items_or_none, items_in, standing_at, value_of_key}
 use Rattle.plant_file_laws.specs.Keys.{in_turn, flow_keys}
 use Rattle.plant_file_laws.specs.Stands.{MayStand}
 use Rattle.plant_file_laws.proofs.ListLemmas.{some_same}
@@ -31,7 +31,7 @@ use Rattle.plant_file_laws.proofs.KeyLemmas.{held_in, found_table, blames_bytes,
 pub blames_address : (key : Key) (o : Option Data) (d : Data) → o ≡ Some d → Blames key o (modem_of key d)
 unfolding modem_of
 blames_address key o d at =
-    blames_bind key o (expected key (as_str d)) _ (blames_expected key o d (as_str d) at)
+    blames_bind key o (expected_value key (as_str d)) _ (blames_expected key o d (as_str d) at)
     (λ text is. blames_expected key o d (modem_in (decode_sized text 6)) at)
 
 -- a table says one list of modems
@@ -55,13 +55,13 @@ module _ (document : Members) (consts : ConstsFields) (says_consts : SaysConsts 
 
         there : (modem : Modem) → modem_at whose field.Modem ms ≡ Ok modem → (d : Data) × (at_field field.Modem ms ≡ Some d) × (modem_of key d ≡ Ok modem)
         there modem is =
-            let d = bind_ok (required key (at_field field.Modem ms)) _ modem is in
+            let d = bind_ok (required_value key (at_field field.Modem ms)) _ modem is in
             (d.0, required_ok key (at_field field.Modem ms) d.0 d.1, d.2)
 
         blames : Blames key (at_field field.Modem ms) (own_modem_at modems whose ms)
         blames =
             blames_bind key (at_field field.Modem ms) (modem_at whose field.Modem ms) _
-            (blames_bind key (at_field field.Modem ms) (required key (at_field field.Modem ms)) _ (blames_required key (at_field field.Modem ms))
+            (blames_bind key (at_field field.Modem ms) (required_value key (at_field field.Modem ms)) _ (blames_required key (at_field field.Modem ms))
             (λ d is. blames_address key (at_field field.Modem ms) d (required_ok key (at_field field.Modem ms) d is)))
             (λ modem is. let d = there modem is in blames_checked key (at_field field.Modem ms) d.0 (is_listed modem modems) modem d.1)
 
@@ -78,7 +78,7 @@ module _ (document : Members) (consts : ConstsFields) (says_consts : SaysConsts 
             let ones : may.1 ≡ modems = modems_one whose whole may.1 modems (subst (λ (m : Members). SaysModems m may.1) same may.4) says_modems in
             let mine : is_listed may.2 modems ≡ true = subst (λ (list : List Modem). is_listed may.2 list ≡ true) ones may.6 in
             let read : modem_at whose field.Modem ms ≡ Ok may.2 =
-            bind_both (required key (at_field field.Modem ms)) _ d may.2 (required_said key (at_field field.Modem ms) d holds) ((address_is key d may.2).1 may.5) in
+            bind_both (required_value key (at_field field.Modem ms)) _ d may.2 (required_said key (at_field field.Modem ms) d holds) ((address_is key d may.2).1 may.5) in
             (may.2, bind_both (modem_at whose field.Modem ms) _ may.2 may.2 read (checked_said key (is_listed may.2 modems) may.2 mine))
 
     -- the flow of an encoding
@@ -86,7 +86,7 @@ module _ (document : Members) (consts : ConstsFields) (says_consts : SaysConsts 
     with modem encoding = record { modem = modem; encoding = encoding }
 
     found_sets : (modem : Modem) → Found document {A = Provision} (Entry (place.Flow operator flow) field.Encoding ∷ [])
-        (bytes_at (place.Flow operator flow) field.Encoding ms >>= λ encoding. checked (Entry (place.Flow operator flow) field.Encoding)
+        (bytes_at (place.Flow operator flow) field.Encoding ms >>= λ encoding. checked_value (Entry (place.Flow operator flow) field.Encoding)
         (has_sets consts (record { modem = modem; encoding = encoding })) (record { modem = modem; encoding = encoding }))
     unfolding with
     found_sets modem =
@@ -100,7 +100,7 @@ module _ (document : Members) (consts : ConstsFields) (says_consts : SaysConsts 
         key = Entry whose field.Encoding
 
         reading : Read Provision
-        reading = bytes_at whose field.Encoding ms >>= λ encoding. checked key (has_sets consts (with modem encoding)) (with modem encoding)
+        reading = bytes_at whose field.Encoding ms >>= λ encoding. checked_value key (has_sets consts (with modem encoding)) (with modem encoding)
 
         blames : Blames key (at_field field.Encoding ms) reading
         blames =
@@ -146,7 +146,7 @@ module _ (document : Members) (consts : ConstsFields) (says_consts : SaysConsts 
   abbrev Inv : ℕ → List Provision → Type 0
   Inv n done = length done ≡ n
 
-  module _ (all : Items) (held_all : held document (Entry (place.Operator operator) field.Flow) ≡ Some (array all)) where
+  module _ (all : Items) (held_all : value_of_key document (Entry (place.Operator operator) field.Flow) ≡ Some (array all)) where
     step : (n : ℕ) (done : List Provision) (d : Data) → Inv n done → get_item n all ≡ Some d → Found document (flow_keys operator n) (provision_read consts operator modems done d)
     step n done d inv at =
         let here : standing_at document (place.Flow operator (length done)) ≡ Some d =
@@ -164,28 +164,28 @@ module _ (document : Members) (consts : ConstsFields) (says_consts : SaysConsts 
 
   -- ---- the array
 
-  by_array : (d : Data) (o : Option Items) → held document (Entry (place.Operator operator) field.Flow) ≡ Some d → as_array d ≡ o
+  by_array : (d : Data) (o : Option Items) → value_of_key document (Entry (place.Operator operator) field.Flow) ≡ Some d → as_array d ≡ o
       → Found document ((Entry (place.Operator operator) field.Flow ∷ []) ++ in_turn (flow_keys operator) 0 (items_or_none o))
-      (expected (Entry (place.Operator operator) field.Flow) o >>= λ ds. each (provision_read consts operator modems) [] ds)
+      (expected_value (Entry (place.Operator operator) field.Flow) o >>= λ ds. each (provision_read consts operator modems) [] ds)
   by_array d None at is =
       found_key document {A = List Provision} (Entry (place.Operator operator) field.Flow) (Some d) (Err (BadValue (Entry (place.Operator operator) field.Flow))) at
       ((λ may. let e : ◌≡◌ {A = Option Items} None (Some may.0) = sym is ∙ ap as_array may.1 in cc), refl)
   by_array d (Some ds) at is =
       found_behind document (Entry (place.Operator operator) field.Flow ∷ []) (in_turn (flow_keys operator) 0 ds) (each (provision_read consts operator modems) [] ds)
       (found_key document {A = Items} (Entry (place.Operator operator) field.Flow) (Some d) (Ok ds) at (ds, array_is d ds is))
-      (found_all ds (under (held document (Entry (place.Operator operator) field.Flow)) d (array ds) at (array_is d ds is)))
+      (found_all ds (under (value_of_key document (Entry (place.Operator operator) field.Flow)) d (array ds) at (array_is d ds is)))
 
-  by_flows : (o : Option Data) → held document (Entry (place.Operator operator) field.Flow) ≡ o
+  by_flows : (o : Option Data) → value_of_key document (Entry (place.Operator operator) field.Flow) ≡ o
       → Found document ((Entry (place.Operator operator) field.Flow ∷ []) ++ in_turn (flow_keys operator) 0 (items_in o)) (provisions_if consts operator modems o)
   unfolding provisions_in
   by_flows None at = found_key document {A = List Provision} (Entry (place.Operator operator) field.Flow) None (Ok []) at (λ h. h)
   by_flows (Some d) at = by_array d (as_array d) at refl
 
   pub found_flows : Found document
-      ((Entry (place.Operator operator) field.Flow ∷ []) ++ in_turn (flow_keys operator) 0 (items_in (held document (Entry (place.Operator operator) field.Flow))))
+      ((Entry (place.Operator operator) field.Flow ∷ []) ++ in_turn (flow_keys operator) 0 (items_in (value_of_key document (Entry (place.Operator operator) field.Flow))))
       (provisions_if consts operator modems (at_field field.Flow whole))
   found_flows =
-      let stands : held document (Entry (place.Operator operator) field.Flow) ≡ at_field field.Flow whole = held_in document (place.Operator operator) field.Flow whole at_operator in
+      let stands : value_of_key document (Entry (place.Operator operator) field.Flow) ≡ at_field field.Flow whole = held_in document (place.Operator operator) field.Flow whole at_operator in
       subst (λ (o : Option Data). Found document
-      ((Entry (place.Operator operator) field.Flow ∷ []) ++ in_turn (flow_keys operator) 0 (items_in (held document (Entry (place.Operator operator) field.Flow))))
-      (provisions_if consts operator modems o)) stands (by_flows (held document (Entry (place.Operator operator) field.Flow)) refl)
+      ((Entry (place.Operator operator) field.Flow ∷ []) ++ in_turn (flow_keys operator) 0 (items_in (value_of_key document (Entry (place.Operator operator) field.Flow))))
+      (provisions_if consts operator modems o)) stands (by_flows (value_of_key document (Entry (place.Operator operator) field.Flow)) refl)

@@ -6,9 +6,9 @@ use Rattle.lists.specs.Results.{◌>>=◌}
 use Rattle.slice_table.specs.declared.plant_fault.PlantFault.{PlantFault}
 use Rattle.slice_table.specs.declared.plant_fault.PlantFault.TheVariants.{Missing, BadValue}
 use Rattle.slice_table.specs.declared.plant_key.Key.{Key}
-use Rattle.slice_table.specs.Tree.{Read, each, required, expected, checked}
+use Rattle.slice_table.specs.Tree.{Read, each, required_value, expected_value, checked_value}
 use Rattle.lists.specs.First.{IsFirst}
-use Rattle.plant_file_laws.specs.Held.{held}
+use Rattle.plant_file_laws.specs.Held.{value_of_key}
 use Rattle.plant_file_laws.specs.Keys.{in_turn}
 use Rattle.plant_file_laws.specs.Stands.{MayStand, MustStand}
 use Rattle.plant_file_laws.specs.Faults.{IsMissing, IsWrong, IsAtFault, IsToldAs}
@@ -23,7 +23,7 @@ blame key (Some d) = BadValue key
 abbrev pub Blames : {A : Type 0} → Key → Option Data → Read A → Type 0
 Blames key o r = (fault : PlantFault) → r ≡ Err fault → fault ≡ blame key o
 
-pub blames_required : (key : Key) (o : Option Data) → Blames key o (required key o)
+pub blames_required : (key : Key) (o : Option Data) → Blames key o (required_value key o)
 blames_required key None fault h = cc
 blames_required key (Some d) fault h = cc
 
@@ -35,11 +35,11 @@ blames_bind key o (Err e) f one other fault h = let same : e ≡ fault = cc in o
 told_wrong : (key : Key) (o : Option Data) (d : Data) (fault : PlantFault) → o ≡ Some d → fault ≡ BadValue key → fault ≡ blame key o
 told_wrong key o d fault at is = is ∙ sym (ap (blame key) at)
 
-pub blames_expected : {A : Type 0} (key : Key) (o : Option Data) (d : Data) (p : Option A) → o ≡ Some d → Blames key o (expected key p)
+pub blames_expected : {A : Type 0} (key : Key) (o : Option Data) (d : Data) (p : Option A) → o ≡ Some d → Blames key o (expected_value key p)
 blames_expected key o d None at fault h = told_wrong key o d fault at (cc)
 blames_expected key o d (Some x) at fault h = cc
 
-pub blames_checked : {A : Type 0} (key : Key) (o : Option Data) (d : Data) (test : Bool) (x : A) → o ≡ Some d → Blames key o (checked key test x)
+pub blames_checked : {A : Type 0} (key : Key) (o : Option Data) (d : Data) (test : Bool) (x : A) → o ≡ Some d → Blames key o (checked_value key test x)
 blames_checked key o d true x at fault h = cc
 blames_checked key o d false x at fault h = told_wrong key o d fault at (cc)
 
@@ -86,15 +86,15 @@ module _ (document : Members) where
   not_both : (o : Option Data) (d : Data) → o ≡ None → o ≡ Some d → ⊥
   not_both o d none some = let e : ◌≡◌ {A = Option Data} None (Some d) = sym none ∙ some in cc
 
-  pub found_key : {A : Type 0} (key : Key) (o : Option Data) (r : Read A) → held document key ≡ o → Judged key o r → Found (key ∷ []) r
+  pub found_key : {A : Type 0} (key : Key) (o : Option Data) (r : Read A) → value_of_key document key ≡ o → Judged key o r → Found (key ∷ []) r
   found_key key None (Ok x) at judged =
-      ((λ fault. elim fault [ inl missing ↦ judged missing.1 | inr wrong ↦ not_both (held document key) wrong.0 at wrong.1 ]), tt)
+      ((λ fault. elim fault [ inl missing ↦ judged missing.1 | inr wrong ↦ not_both (value_of_key document key) wrong.0 at wrong.1 ]), tt)
   found_key key None (Err fault) at judged =
       let missing : IsMissing document key = (at, judged.0) in
       (key, first-here (IsAtFault document) key [] (inl missing), inl (missing, judged.1))
   found_key key (Some d) (Ok x) at may = (
     (λ fault. elim fault [
-      | inl missing ↦ not_both (held document key) d missing.0 at
+      | inl missing ↦ not_both (value_of_key document key) d missing.0 at
       | inr wrong ↦ wrong.2 (subst (MayStand document key) (some_same d wrong.0 (sym at ∙ wrong.1)) may)
     ]),
     tt,

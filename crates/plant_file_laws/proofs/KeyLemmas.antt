@@ -16,14 +16,14 @@ use Rattle.slice_table.specs.declared.plant_key.Key.{Key}
 use Rattle.slice_table.specs.declared.plant_key.Key.TheVariants.{Table, Entry}
 use Rattle.slice_table.specs.declared.ranges.Bounds.{Bounds}
 use Rattle.slice_table.specs.Ranges.{range_of, default_of}
-use Rattle.slice_table.specs.Tree.{Read, required, expected, checked, at_field, natural, number_of, number_if, number_at, number_in, pair_in, array_at, pair_at, text_at, decoded, bytes_at, table_of}
+use Rattle.slice_table.specs.Tree.{Read, required_value, expected_value, checked_value, at_field, natural, number_of, number_if, number_at, number_in, pair_in, array_at, pair_at, text_at, bytes_if_decoded, bytes_at, table_of}
 use Rattle.slice_table.specs.ReadRows.{is_range, range_at, is_within, slice_at}
 use Rattle.slice_table.specs.Says.{SaysConsts, SaysSlice, two}
 use Rattle.slice_table.proofs.Parsed.{ok_same, bind_ok, required_ok}
 use Rattle.slice_table.proofs.Values.{at_most}
 use Rattle.slice_table.proofs.SaidKeys.{both_true, le_true, natural_is, table_is, array_said, range_is, slice_is, text_said}
 use Rattle.slice_table.proofs.SaidConsts.{consts_are}
-use Rattle.plant_file_laws.specs.Held.{table_in, field_in, standing_at, held}
+use Rattle.plant_file_laws.specs.Held.{table_in, field_in, standing_at, value_of_key}
 use Rattle.plant_file_laws.specs.Stands.{MayStand, MustStand, IsNumber, IsNumberIn, IsRange}
 use Rattle.plant_file_laws.proofs.ListLemmas.{some_same}
 use Rattle.plant_file_laws.proofs.FoundLemmas.{Blames, blames_required, blames_bind, blames_expected, blames_checked, Found, Judged, found_key, judged_required}
@@ -33,7 +33,7 @@ use Rattle.plant_file_laws.proofs.FoundLemmas.{Blames, blames_required, blames_b
 pub blames_array : (place : Place) (f : Field) (ms : Members) → Blames (Entry place f) (at_field f ms) (array_at place f ms)
 unfolding array_at
 blames_array place f ms =
-    blames_bind (Entry place f) (at_field f ms) (required (Entry place f) (at_field f ms)) _ (blames_required (Entry place f) (at_field f ms))
+    blames_bind (Entry place f) (at_field f ms) (required_value (Entry place f) (at_field f ms)) _ (blames_required (Entry place f) (at_field f ms))
     (λ d is. blames_expected (Entry place f) (at_field f ms) d (as_array d) (required_ok (Entry place f) (at_field f ms) d is))
 
 pub blames_pair : (place : Place) (f : Field) (ms : Members) → Blames (Entry place f) (at_field f ms) (pair_at place f ms)
@@ -45,14 +45,14 @@ blames_pair place f ms =
 pub blames_text : (place : Place) (f : Field) (ms : Members) → Blames (Entry place f) (at_field f ms) (text_at place f ms)
 unfolding text_at
 blames_text place f ms =
-    blames_bind (Entry place f) (at_field f ms) (required (Entry place f) (at_field f ms)) _ (blames_required (Entry place f) (at_field f ms))
+    blames_bind (Entry place f) (at_field f ms) (required_value (Entry place f) (at_field f ms)) _ (blames_required (Entry place f) (at_field f ms))
     (λ d is. blames_expected (Entry place f) (at_field f ms) d (as_str d) (required_ok (Entry place f) (at_field f ms) d is))
 
 pub blames_bytes : (place : Place) (f : Field) (ms : Members) → Blames (Entry place f) (at_field f ms) (bytes_at place f ms)
 unfolding bytes_at
 blames_bytes place f ms =
     blames_bind (Entry place f) (at_field f ms) (text_at place f ms) _ (blames_text place f ms)
-    (λ text is. blames_expected (Entry place f) (at_field f ms) (string text) (decoded (decode_of text)) (text_said place f ms text is))
+    (λ text is. blames_expected (Entry place f) (at_field f ms) (string text) (bytes_if_decoded (decode_of text)) (text_said place f ms text is))
 
 -- ---- a pair is one
 
@@ -62,18 +62,18 @@ pair_held place f ms pair h = let ds = bind_ok (array_at place f ms) _ pair h in
 
 module _ (document : Members) where
   -- what stands under a key of a table that stands there
-  pub held_in : (place : Place) (f : Field) (ms : Members) → standing_at document place ≡ Some (table ms) → held document (Entry place f) ≡ at_field f ms
+  pub held_in : (place : Place) (f : Field) (ms : Members) → standing_at document place ≡ Some (table ms) → value_of_key document (Entry place f) ≡ at_field f ms
   held_in place f ms at = ap (λ (o : Option Data). field_in f (table_in o)) at
 
   -- ---- a table
 
-  judged_table : (place : Place) (d : Data) (o : Option Members) → as_table d ≡ o → Judged document (Table place) (Some d) (expected (Table place) o)
+  judged_table : (place : Place) (d : Data) (o : Option Members) → as_table d ≡ o → Judged document (Table place) (Some d) (expected_value (Table place) o)
   judged_table place d None is = ((λ may. let e : ◌≡◌ {A = Option Members} None (Some may.0) = sym is ∙ ap as_table may.1 in cc), refl)
   judged_table place d (Some ms) is = (ms, table_is d ms is)
 
   pub found_table : (place : Place) (d : Data) → standing_at document place ≡ Some d → Found document (Table place ∷ []) (table_of place d)
   unfolding table_of
-  found_table place d at = found_key document (Table place) (Some d) (expected (Table place) (as_table d)) at (judged_table place d (as_table d) refl)
+  found_table place d at = found_key document (Table place) (Some d) (expected_value (Table place) (as_table d)) at (judged_table place d (as_table d) refl)
 
   -- ---- numbers
 
@@ -82,7 +82,7 @@ module _ (document : Members) where
   IsJudgedNumber key low high d (Err fault) = (¬ IsNumber low high d) × (fault ≡ BadValue key)
 
   tested : (key : Key) (low high : ℕ) (d : Data) (n : ℕ) (test : Bool) → d ≡ integer (pos n) → (nat_le low n && nat_le n high) ≡ test
-      → IsJudgedNumber key low high d (checked key test n)
+      → IsJudgedNumber key low high d (checked_value key test n)
   tested key low high d n true is passes =
       let parts = and_parts (nat_le low n) (nat_le n high) passes in (n, is, at_most low n parts.0, at_most n high parts.1)
   tested key low high d n false is fails = (
@@ -95,7 +95,7 @@ module _ (document : Members) where
   )
 
   numbered : (key : Key) (low high : ℕ) (d : Data) (o : Option ℕ) → natural d ≡ o
-      → IsJudgedNumber key low high d (expected key o >>= λ n. checked key (nat_le low n && nat_le n high) n)
+      → IsJudgedNumber key low high d (expected_value key o >>= λ n. checked_value key (nat_le low n && nat_le n high) n)
   numbered key low high d None is = ((λ number. let e : ◌≡◌ {A = Option ℕ} None (Some number.0) = sym is ∙ ap natural number.1 in cc), refl)
   numbered key low high d (Some n) is = tested key low high d n (nat_le low n && nat_le n high) (natural_is d n is) refl
 
@@ -112,7 +112,7 @@ module _ (document : Members) where
   by_number key low high d (Err fault) has judged = ((λ may. judged.0 ((has d).0 may)), judged.1)
 
   judged_number_at : (key : Key) (low high : ℕ) (o : Option Data) → MustStand document key → HasNumber key low high
-      → Judged document key o (required key o >>= λ d. number_of key low high d)
+      → Judged document key o (required_value key o >>= λ d. number_of key low high d)
   judged_number_at key low high None must has = (must, refl)
   judged_number_at key low high (Some d) must has = by_number key low high d (number_of key low high d) has (judged_number key low high d)
 

@@ -21,13 +21,13 @@ use Rattle.slice_table.specs.declared.plant_key.Field.{Field}
 use Rattle.slice_table.specs.declared.plant_key.Field.TheVariants as field
 use Rattle.slice_table.specs.declared.plant_key.Place.{Place}
 use Rattle.slice_table.specs.declared.plant_key.Place.TheVariants as place
-use Rattle.slice_table.specs.Tree.{Read, each, items_len, required, expected, checked, at_field, number_in, text_at, array_at, modem_of, table_of}
+use Rattle.slice_table.specs.Tree.{Read, each, items_len, required_value, expected_value, checked_value, at_field, number_in, text_at, array_at, modem_of, table_of}
 use Rattle.slice_table.specs.ReadRows.{is_operator_name, is_called, name_at, slice_at, range_at, aged_at, policy_named, policy_at, modem_read, modems_at, provisions_if, row_at, row_read, rows_of}
 use Rattle.slice_table.specs.Says.{IsAddress, SayInTurn, SaysConsts}
 use Rattle.slice_table.proofs.Values.{at_most}
 use Rattle.slice_table.proofs.SaidKeys.{le_true, string_is, array_is, array_said, text_said, table_said, under}
 use Rattle.slice_table.proofs.SaidRows.{name_is, modems_are, row_is}
-use Rattle.plant_file_laws.specs.Held.{item_in, items_or_none, items_in, standing_at, held}
+use Rattle.plant_file_laws.specs.Held.{item_in, items_or_none, items_in, standing_at, value_of_key}
 use Rattle.plant_file_laws.specs.Keys.{in_turn, operator_keys, operator_fields, flow_keys}
 use Rattle.plant_file_laws.specs.Stands.{MayStand, AllItems}
 use Rattle.plant_file_laws.specs.Faults.{IsAtFault}
@@ -61,7 +61,7 @@ all_again done (item d ds) all = let rest = all_again (done ++ all.0.0 ∷ []) d
 module _ (document : Members) where
   -- the names of those before it are what stands in the document
   abbrev Names : List RowFields → Type 0
-  Names rows = (k : ℕ) (d : RowFields) → k < length rows → held document (Entry (place.Operator k) field.Name) ≡ Some (string (get_or rows k d).name)
+  Names rows = (k : ℕ) (d : RowFields) → k < length rows → value_of_key document (Entry (place.Operator k) field.Name) ≡ Some (string (get_or rows k d).name)
 
   found_name : (rows : List RowFields) (ms : Members) → standing_at document (place.Operator (length rows)) ≡ Some (table ms) → Names rows
       → Found document (Entry (place.Operator (length rows)) field.Name ∷ []) (name_at rows (place.Operator (length rows)) ms)
@@ -116,7 +116,7 @@ module _ (document : Members) where
     -- ---- the policy, and the step of the policy "aged"
 
     -- the step is not asked for where the policy is another
-    no_step : (d : Data) → held document (Entry (place.Operator operator) field.Policy) ≡ Some d → d ≢ string (codes "aged")
+    no_step : (d : Data) → value_of_key document (Entry (place.Operator operator) field.Policy) ≡ Some d → d ≢ string (codes "aged")
         → ¬ IsAtFault document (Entry (place.Operator operator) field.Step)
     no_step d holds other fault = elim fault [
       | inl missing ↦ other (some_same d (string (codes "aged")) (sym holds ∙ missing.1))
@@ -130,7 +130,7 @@ module _ (document : Members) where
     told_apart a b h same = let texts : a ≡ b = cc in false≢true (sym h ∙ (bytes_eq-Decides a b).1 texts)
 
     -- a policy that has no step
-    found_stepless : (text : List ℕ) (policy : Policy) → held document (Entry (place.Operator operator) field.Policy) ≡ Some (string text)
+    found_stepless : (text : List ℕ) (policy : Policy) → value_of_key document (Entry (place.Operator operator) field.Policy) ≡ Some (string text)
         → MayStand document (Entry (place.Operator operator) field.Policy) (string text) → string text ≢ string (codes "aged")
         → Found document (Entry (place.Operator operator) field.Policy ∷ Entry (place.Operator operator) field.Step ∷ []) (Ok policy)
     found_stepless text policy holds may other =
@@ -147,9 +147,9 @@ module _ (document : Members) where
         found_stepless text Strict (held_in document (place.Operator operator) field.Policy ms at ∙ holds) (inl (ap string is))
         (λ other. told_apart (codes "strict") (codes "aged") refl (sym (ap string is) ∙ other))
     by_name text false true short holds is_strict is_aged is_short =
-        let stands : held document (Entry (place.Operator operator) field.Policy) ≡ Some (string text) = held_in document (place.Operator operator) field.Policy ms at ∙ holds in
+        let stands : value_of_key document (Entry (place.Operator operator) field.Policy) ≡ Some (string text) = held_in document (place.Operator operator) field.Policy ms at ∙ holds in
         let is : text ≡ codes "aged" = same_text text (codes "aged") is_aged in
-        let aged : held document (Entry (place.Operator operator) field.Policy) ≡ Some (string (codes "aged")) = under (held document (Entry (place.Operator operator) field.Policy)) (string text) (string (codes "aged")) stands (ap string is) in
+        let aged : value_of_key document (Entry (place.Operator operator) field.Policy) ≡ Some (string (codes "aged")) = under (value_of_key document (Entry (place.Operator operator) field.Policy)) (string text) (string (codes "aged")) stands (ap string is) in
         found_behind document (Entry (place.Operator operator) field.Policy ∷ []) (Entry (place.Operator operator) field.Step ∷ []) (aged_at (place.Operator operator) ms)
         (found_key document {A = Policy} (Entry (place.Operator operator) field.Policy) (Some (string text)) (Ok Strict) stands (inr (inl (ap string is))))
         (found_bind document (Entry (place.Operator operator) field.Step ∷ []) [] (number_in (place.Operator operator) field.Step ms) _
@@ -171,7 +171,7 @@ module _ (document : Members) where
 
     by_text : (d : Data) (o : Option (List ℕ)) → at_field field.Policy ms ≡ Some d → as_str d ≡ o
         → Found document {A = Policy} (Entry (place.Operator operator) field.Policy ∷ Entry (place.Operator operator) field.Step ∷ [])
-        (expected (Entry (place.Operator operator) field.Policy) o >>= λ text. policy_named text (place.Operator operator) ms)
+        (expected_value (Entry (place.Operator operator) field.Policy) o >>= λ text. policy_named text (place.Operator operator) ms)
     unfolding policy_named
     by_text d None holds is =
         found_before document Policy (Entry (place.Operator operator) field.Policy ∷ []) (Entry (place.Operator operator) field.Step ∷ [])
@@ -193,7 +193,7 @@ module _ (document : Members) where
 
     by_policy : (o : Option Data) → at_field field.Policy ms ≡ o
         → Found document {A = Policy} (Entry (place.Operator operator) field.Policy ∷ Entry (place.Operator operator) field.Step ∷ [])
-        ((required (Entry (place.Operator operator) field.Policy) o >>= λ d. expected (Entry (place.Operator operator) field.Policy) (as_str d))
+        ((required_value (Entry (place.Operator operator) field.Policy) o >>= λ d. expected_value (Entry (place.Operator operator) field.Policy) (as_str d))
         >>= λ text. policy_named text (place.Operator operator) ms)
     by_policy None holds =
         found_before document Policy (Entry (place.Operator operator) field.Policy ∷ []) (Entry (place.Operator operator) field.Step ∷ [])
@@ -222,7 +222,7 @@ module _ (document : Members) where
             blames_bind key (at_field field.Modems ms) (array_at (place.Operator operator) field.Modems ms) _ (blames_array (place.Operator operator) field.Modems ms)
             (λ ds is.
             let holds : at_field field.Modems ms ≡ Some (array ds) = array_said (place.Operator operator) field.Modems ms ds is in
-            blames_bind key (at_field field.Modems ms) (checked key (nat_le 1 (items_len ds) && nat_le (items_len ds) 1024) ds) _
+            blames_bind key (at_field field.Modems ms) (checked_value key (nat_le 1 (items_len ds) && nat_le (items_len ds) 1024) ds) _
             (blames_checked key (at_field field.Modems ms) (array ds) (nat_le 1 (items_len ds) && nat_le (items_len ds) 1024) ds holds)
             (λ few is_few. blames_each (place.Operator operator) (at_field field.Modems ms) (array ds) [] few holds))
 
@@ -248,7 +248,7 @@ module _ (document : Members) where
   found_row : (consts : ConstsFields) (says_consts : SaysConsts document consts) (rows : List RowFields) (ms : Members)
       → standing_at document (place.Operator (length rows)) ≡ Some (table ms) → Names rows
       → Found document (map (Entry (place.Operator (length rows))) operator_fields
-      ++ in_turn (flow_keys (length rows)) 0 (items_in (held document (Entry (place.Operator (length rows)) field.Flow)))) (row_at consts rows (length rows) ms)
+      ++ in_turn (flow_keys (length rows)) 0 (items_in (value_of_key document (Entry (place.Operator (length rows)) field.Flow)))) (row_at consts rows (length rows) ms)
   unfolding row_at
   found_row consts says_consts rows ms at names =
       among (field.Name ∷ []) (field.Slice ∷ field.Sfids ∷ field.Sids ∷ field.Flows ∷ field.Transactions ∷ field.Inbox ∷ field.Budget ∷ field.Elements ∷ field.Policy ∷ field.Step ∷ field.Modems ∷ field.Flow ∷ []) (name_at rows (place.Operator (length rows)) ms) _ (found_name rows ms at names)
@@ -269,7 +269,7 @@ module _ (document : Members) where
       own fields = map (Entry (place.Operator (length rows))) fields
 
       flows_behind : List Key
-      flows_behind = in_turn (flow_keys (length rows)) 0 (items_in (held document (Entry (place.Operator (length rows)) field.Flow)))
+      flows_behind = in_turn (flow_keys (length rows)) 0 (items_in (value_of_key document (Entry (place.Operator (length rows)) field.Flow)))
 
       among : {A B : Type 0} (fields more : List Field) (r : Read A) (f : A → Read B) → Found document (own fields) r
           → ((x : A) → r ≡ Ok x → Found document (own more ++ flows_behind) (f x)) → Found document (own fields ++ (own more ++ flows_behind)) (r >>= f)
@@ -280,7 +280,7 @@ module _ (document : Members) where
   unfolding row_read
   found_operator consts says_consts rows d at names =
       let whose : Place = place.Operator (length rows) in
-      found_bind document (Table whose ∷ []) (map (Entry whose) operator_fields ++ in_turn (flow_keys (length rows)) 0 (items_in (held document (Entry whose field.Flow))))
+      found_bind document (Table whose ∷ []) (map (Entry whose) operator_fields ++ in_turn (flow_keys (length rows)) 0 (items_in (value_of_key document (Entry whose field.Flow))))
       (table_of whose d) _ (found_table document whose d at)
       (λ ms is. found_row consts says_consts rows ms (under (standing_at document whose) d (table ms) at (table_said whose d ms is)) names)
 
@@ -288,7 +288,7 @@ module _ (document : Members) where
 
   -- its name stands in the document
   name_stands : (consts : ConstsFields) (rows : List RowFields) (d : Data) (row : RowFields) → standing_at document (place.Operator (length rows)) ≡ Some d
-      → row_read consts rows d ≡ Ok row → held document (Entry (place.Operator (length rows)) field.Name) ≡ Some (string row.name)
+      → row_read consts rows d ≡ Ok row → value_of_key document (Entry (place.Operator (length rows)) field.Name) ≡ Some (string row.name)
   name_stands consts rows d row at is =
       let says = (row_is consts rows d row).0 is in
       held_in document (place.Operator (length rows)) field.Name says.ms (under (standing_at document (place.Operator (length rows))) d (table says.ms) at says.is)
@@ -297,10 +297,10 @@ module _ (document : Members) where
   abbrev Inv : ℕ → List RowFields → Type 0
   Inv n rows = (length rows ≡ n) × Names rows
 
-  more_names : (rows : List RowFields) (row : RowFields) → Names rows → held document (Entry (place.Operator (length rows)) field.Name) ≡ Some (string row.name)
+  more_names : (rows : List RowFields) (row : RowFields) → Names rows → value_of_key document (Entry (place.Operator (length rows)) field.Name) ≡ Some (string row.name)
       → Names (rows ++ row ∷ [])
   more_names rows row names stands k d lt =
-      below_more (λ (m : ℕ). (e : RowFields) → held document (Entry (place.Operator m) field.Name) ≡ Some (string (get_or (rows ++ row ∷ []) m e).name)) (length rows)
+      below_more (λ (m : ℕ). (e : RowFields) → value_of_key document (Entry (place.Operator m) field.Name) ≡ Some (string (get_or (rows ++ row ∷ []) m e).name)) (length rows)
       (λ m less e. names m e less ∙ ap (λ (r : RowFields). Some (string r.name)) (sym (get_or_append_left rows (row ∷ []) e m less)))
       (λ e. stands ∙ ap (λ (r : RowFields). Some (string r.name)) (sym (get_or_push rows row e (length rows) refl)))
       k (omega (arith, lt, length-append rows (row ∷ []))) d
@@ -330,7 +330,7 @@ module _ (document : Members) where
 
     by_count : (d : Data) (ds : Items) (some few : Bool) → get_member (codes "operator") document ≡ Some d → d ≡ array ds → nat_le 1 (items_len ds) ≡ some
         → nat_le (items_len ds) 32 ≡ few
-        → Found document ((Operators ∷ []) ++ in_turn (operator_keys document) 0 ds) (checked Operators (some && few) ds >>= each (row_read consts) [])
+        → Found document ((Operators ∷ []) ++ in_turn (operator_keys document) 0 ds) (checked_value Operators (some && few) ds >>= each (row_read consts) [])
     by_count d ds true true at is is_some is_few =
         found_behind document (Operators ∷ []) (in_turn (operator_keys document) 0 ds) (each (row_read consts) [] ds)
         (found_key document {A = Items} Operators (Some d) (Ok ds) at (ds, is, at_most 1 (items_len ds) is_some, at_most (items_len ds) 32 is_few))
@@ -354,7 +354,7 @@ module _ (document : Members) where
 
     by_array : (d : Data) (o : Option Items) → get_member (codes "operator") document ≡ Some d → as_array d ≡ o
         → Found document ((Operators ∷ []) ++ in_turn (operator_keys document) 0 (items_or_none o))
-        (expected Operators o >>= λ ds. checked Operators (nat_le 1 (items_len ds) && nat_le (items_len ds) 32) ds >>= λ few. each (row_read consts) [] few)
+        (expected_value Operators o >>= λ ds. checked_value Operators (nat_le 1 (items_len ds) && nat_le (items_len ds) 32) ds >>= λ few. each (row_read consts) [] few)
     by_array d None at is =
         found_key document {A = List RowFields} Operators (Some d) (Err (BadValue Operators)) at
         ((λ may. let e : ◌≡◌ {A = Option Items} None (Some may.0) = sym is ∙ ap as_array may.1 in cc), refl)
@@ -362,11 +362,11 @@ module _ (document : Members) where
 
     by_rows : (o : Option Data) → get_member (codes "operator") document ≡ o
         → Found document ((Operators ∷ []) ++ in_turn (operator_keys document) 0 (items_in o))
-        (required Operators o >>= λ d. expected Operators (as_array d)
-        >>= λ ds. checked Operators (nat_le 1 (items_len ds) && nat_le (items_len ds) 32) ds >>= λ few. each (row_read consts) [] few)
+        (required_value Operators o >>= λ d. expected_value Operators (as_array d)
+        >>= λ ds. checked_value Operators (nat_le 1 (items_len ds) && nat_le (items_len ds) 32) ds >>= λ few. each (row_read consts) [] few)
     by_rows None at = found_key document {A = List RowFields} Operators None (Err (Missing Operators)) at (tt, refl)
     by_rows (Some d) at = by_array d (as_array d) at refl
 
-    pub found_rows : Found document ((Operators ∷ []) ++ in_turn (operator_keys document) 0 (items_in (held document Operators))) (rows_of consts document)
+    pub found_rows : Found document ((Operators ∷ []) ++ in_turn (operator_keys document) 0 (items_in (value_of_key document Operators))) (rows_of consts document)
     unfolding rows_of
     found_rows = by_rows (get_member (codes "operator") document) refl

@@ -7,11 +7,11 @@ use Rattle.slice_table.specs.declared.plant_key.Field.{Field}
 use Rattle.slice_table.specs.declared.plant_key.Field.TheVariants as field
 use Rattle.slice_table.specs.declared.plant_key.Place.TheVariants as place
 use Rattle.slice_table.specs.declared.plant_key.Key.TheVariants.{Table, Entry}
-use Rattle.slice_table.specs.Tree.{Read, required, at_field, number_at, number_in, table_of}
+use Rattle.slice_table.specs.Tree.{Read, required_value, at_field, number_at, number_in, table_of}
 use Rattle.slice_table.specs.ReadConsts.{units_at, backoffs_at, timers_at, plant_keys_at, plant_keys_of}
 use Rattle.slice_table.specs.Says.{SaysNumberIn}
 use Rattle.slice_table.proofs.SaidKeys.{number_in_is, table_said, under}
-use Rattle.plant_file_laws.specs.Held.{field_in, table_in, standing_at, held}
+use Rattle.plant_file_laws.specs.Held.{field_in, table_in, standing_at, value_of_key}
 use Rattle.plant_file_laws.specs.Keys.{keys_at, plant_fields}
 use Rattle.plant_file_laws.specs.Stands.{IsNumber, IsNumberIn, OfPlant, number}
 use Rattle.plant_file_laws.specs.Faults.{IsAtFault, IsMissing}
@@ -79,10 +79,10 @@ module _ (document : Members) where
           | inr some ↦ some.held
         ]
 
-        stands : held document (Entry place.Plant field.FrameMinislots) ≡ Some (number frame)
+        stands : value_of_key document (Entry place.Plant field.FrameMinislots) ≡ Some (number frame)
         stands = held_in document place.Plant field.FrameMinislots ms at ∙ said ((number_in_is place.Plant field.FrameMinislots ms frame).0 is)
 
-        same : (n : ℕ) → held document (Entry place.Plant field.FrameMinislots) ≡ Some (number n) → n ≡ frame
+        same : (n : ℕ) → value_of_key document (Entry place.Plant field.FrameMinislots) ≡ Some (number n) → n ≡ frame
         same n other = let e : number n ≡ number frame = some_same (number n) (number frame) (sym other ∙ stands) in cc
 
     found_plant_keys : Found document (map (Entry place.Plant) plant_fields) (plant_keys_at ms)
@@ -101,7 +101,7 @@ module _ (document : Members) where
   -- where there is no table `plant`, its first key is missing
   by_plant : (o : Option Data) → get_member (codes "plant") document ≡ o
       → Found document (keys_at place.Plant plant_fields)
-      (required (Entry place.Plant field.FrameMinislots) o >>= λ d. table_of place.Plant d >>= λ table. plant_keys_at table)
+      (required_value (Entry place.Plant field.FrameMinislots) o >>= λ d. table_of place.Plant d >>= λ table. plant_keys_at table)
   by_plant None at =
       let missing : IsMissing document (Entry place.Plant field.FrameMinislots) = (ap (λ (o : Option Data). field_in field.FrameMinislots (table_in o)) at, refl) in (
         Entry place.Plant field.FrameMinislots,

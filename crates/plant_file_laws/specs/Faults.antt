@@ -9,17 +9,17 @@ use Rattle.slice_table.specs.declared.plant_key.Key.{Key}
 use Rattle.slice_table.specs.Checks.{rows_fault}
 use Rattle.slice_table.specs.Says.{SaysConsts, SaysRows}
 use Rattle.lists.specs.First.{IsFirst}
-use Rattle.plant_file_laws.specs.Held.{held}
+use Rattle.plant_file_laws.specs.Held.{value_of_key}
 use Rattle.plant_file_laws.specs.Keys.{keys_of}
 use Rattle.plant_file_laws.specs.Stands.{MayStand, MustStand}
 
 -- the key has to be there, and is not
 abbrev pub IsMissing : Members → Key → Type 0
-IsMissing document key = (held document key ≡ None) × MustStand document key
+IsMissing document key = (value_of_key document key ≡ None) × MustStand document key
 
 -- what is under the key may not be there: it is of another type, or out of its range
 abbrev pub IsWrong : Members → Key → Type 0
-IsWrong document key = (d : Data) × (held document key ≡ Some d) × (¬ MayStand document key d)
+IsWrong document key = (d : Data) × (value_of_key document key ≡ Some d) × (¬ MayStand document key d)
 
 abbrev pub IsAtFault : Members → Key → Type 0
 IsAtFault document key = IsMissing document key ⊎ IsWrong document key

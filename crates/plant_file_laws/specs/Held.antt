@@ -42,8 +42,8 @@ standing_at document (place.Flow operator flow) =
     item_in flow (field_in field.Flow (table_in (item_in operator (get_member (codes "operator") document))))
 
 -- what is under a key
-abbrev pub held : Members → Key → Option Data
-held document Classes = get_member (codes "class") document
-held document Operators = get_member (codes "operator") document
-held document (Table place) = standing_at document place
-held document (Entry place f) = field_in f (table_in (standing_at document place))
+abbrev pub value_of_key : Members → Key → Option Data
+value_of_key document Classes = get_member (codes "class") document
+value_of_key document Operators = get_member (codes "operator") document
+value_of_key document (Table place) = standing_at document place
+value_of_key document (Entry place f) = field_in f (table_in (standing_at document place))

@@ -7,7 +7,7 @@ use Rattle.slice_table.specs.declared.plant_key.Place.{Place}
 use Rattle.slice_table.specs.declared.plant_key.Place.TheVariants as place
 use Rattle.slice_table.specs.declared.plant_key.Key.{Key}
 use Rattle.slice_table.specs.declared.plant_key.Key.TheVariants.{Classes, Operators, Table, Entry}
-use Rattle.plant_file_laws.specs.Held.{held, items_in}
+use Rattle.plant_file_laws.specs.Held.{value_of_key, items_in}
 
 -- of the table `plant`
 abbrev pub plant_fields : List Field
@@ -47,11 +47,11 @@ flow_keys operator flow = keys_at (place.Flow operator flow) flow_fields
 abbrev pub operator_keys : Members → ℕ → List Key
 operator_keys document operator =
     keys_at (place.Operator operator) operator_fields
-    ++ in_turn (flow_keys operator) 0 (items_in (held document (Entry (place.Operator operator) Flow)))
+    ++ in_turn (flow_keys operator) 0 (items_in (value_of_key document (Entry (place.Operator operator) Flow)))
 
 -- the table `plant`, then each class, then each operator with its flows
 abbrev pub keys_of : Members → List Key
 keys_of document =
     keys_at place.Plant plant_fields
-    ++ (Classes ∷ in_turn class_keys 0 (items_in (held document Classes)))
-    ++ (Operators ∷ in_turn (operator_keys document) 0 (items_in (held document Operators)))
+    ++ (Classes ∷ in_turn class_keys 0 (items_in (value_of_key document Classes)))
+    ++ (Operators ∷ in_turn (operator_keys document) 0 (items_in (value_of_key document Operators)))

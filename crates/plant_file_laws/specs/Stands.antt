@@ -20,7 +20,7 @@ use Rattle.plant.specs.Row.{is_listed, IsFrom}
 use Rattle.slice_table.specs.Ranges.{range_of, default_of}
 use Rattle.slice_table.specs.Tree.{items_len}
 use Rattle.slice_table.specs.Says.{two, IsAddress, SaysConsts, SaysModems}
-use Rattle.plant_file_laws.specs.Held.{table_in, standing_at, held}
+use Rattle.plant_file_laws.specs.Held.{table_in, standing_at, value_of_key}
 
 -- ---- what may be under a key
 
@@ -61,7 +61,7 @@ IsHexadecimal bytes d = (text : List ℕ) × (d ≡ string text) × (decode_of t
 
 -- the head is within the frame
 abbrev pub IsHead : Members → Data → Type 0
-IsHead document d = (frame : ℕ) × (held document (Entry place.Plant field.FrameMinislots) ≡ Some (number frame)) × IsNumber 0 frame d
+IsHead document d = (frame : ℕ) × (value_of_key document (Entry place.Plant field.FrameMinislots) ≡ Some (number frame)) × IsNumber 0 frame d
 
 abbrev pub OfPlant : Members → Field → Data → Type 0
 OfPlant document field.FrameMinislots d = IsNumberIn field.FrameMinislots d
@@ -84,10 +84,10 @@ OfPlant document other d = ⊥
 -- ---- of a class
 
 -- 1 to 15 letters or digits, and no earlier class's
-abbrev pub IsClassName : Members → ℕ → Data → Type 0
-IsClassName document class d =
+abbrev pub IsNewClassName : Members → ℕ → Data → Type 0
+IsNewClassName document class d =
     (name : List ℕ) × (d ≡ string name) × (1 ≤ length name) × (length name ≤ 15) × IsTrue (list_all is_ascii_alphanumeric name)
-    × ((earlier : ℕ) → earlier < class → held document (Entry (place.Class earlier) field.Name) ≢ Some d)
+    × ((earlier : ℕ) → earlier < class → value_of_key document (Entry (place.Class earlier) field.Name) ≢ Some d)
 
 -- a flow encoding that states none of the subtypes 1 to 6
 abbrev pub IsClassEncoding : Data → Type 0
@@ -95,7 +95,7 @@ IsClassEncoding d =
     (bytes : List ℕ) × (flow : FlowFields) × IsHexadecimal bytes d × (flow_of bytes ≡ Ok flow) × StatesParameters flow
 
 abbrev pub OfClass : Members → ℕ → Field → Data → Type 0
-OfClass document class field.Name d = IsClassName document class d
+OfClass document class field.Name d = IsNewClassName document class d
 OfClass document class field.Encoding d = IsClassEncoding d
 OfClass document class other d = ⊥
 
@@ -105,11 +105,11 @@ OfClass document class other d = ⊥
 abbrev pub IsName : Members → ℕ → Data → Type 0
 IsName document operator d =
     (name : List ℕ) × (d ≡ string name) × IsOperatorName name
-    × ((earlier : ℕ) → earlier < operator → held document (Entry (place.Operator earlier) field.Name) ≢ Some d)
+    × ((earlier : ℕ) → earlier < operator → value_of_key document (Entry (place.Operator earlier) field.Name) ≢ Some d)
 
 -- the first minislot and how many there are, after the head and within the frame
-abbrev pub IsSlice : Members → Data → Type 0
-IsSlice document d =
+abbrev pub IsSliceValue : Members → Data → Type 0
+IsSliceValue document d =
     (consts : ConstsFields) × (start : ℕ) × (length : ℕ) × SaysConsts document consts × (d ≡ two start length)
     × (consts.channel.head ≤ start) × (1 ≤ length) × (start + length ≤ consts.channel.frame_minislots)
 
@@ -118,7 +118,7 @@ abbrev pub IsPolicy : Data → Type 0
 IsPolicy d = (d ≡ string (codes "strict")) ⊎ ((d ≡ string (codes "aged")) ⊎ (d ≡ string (codes "short")))
 
 abbrev pub IsAged : Members → ℕ → Type 0
-IsAged document operator = held document (Entry (place.Operator operator) field.Policy) ≡ Some (string (codes "aged"))
+IsAged document operator = value_of_key document (Entry (place.Operator operator) field.Policy) ≡ Some (string (codes "aged"))
 
 -- 1 to 1,024 addresses
 abbrev pub AreModems : Data → Type 0
@@ -126,7 +126,7 @@ AreModems d = (ds : Items) × (d ≡ array ds) × IsFrom 1 1024 (items_len ds) �
 
 abbrev pub OfOperator : Members → ℕ → Field → Data → Type 0
 OfOperator document operator field.Name d = IsName document operator d
-OfOperator document operator field.Slice d = IsSlice document d
+OfOperator document operator field.Slice d = IsSliceValue document d
 OfOperator document operator field.Sfids d = IsRange field.Sfids d
 OfOperator document operator field.Sids d = IsRange field.Sids d
 OfOperator document operator field.Flows d = IsNumberIn field.Flows d

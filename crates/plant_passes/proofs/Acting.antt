@@ -9,7 +9,7 @@ use Rattle.operator_model.specs.declared.action.Entry.{Entry}
 use Rattle.operator_model.specs.declared.output.Output.{Output}
 use Rattle.operator_model.specs.State.{OperatorState}
 use Rattle.operator_model.specs.Machine.{is_spent}
-use Rattle.operator_model.specs.Replay.{BookView, acted}
+use Rattle.operator_model.specs.Replay.{BookView, book_after_action}
 use Rattle.operator_model.specs.Machine as machines
 use Rattle.operator_model.specs.declared.action.Unfit.{Unfit}
 use Rattle.dsx_messages.specs.declared.modem.Modem.{Modem}
@@ -74,14 +74,14 @@ pub no_misfit : (origin : Origin) (b : BookView) (action : Action) (why : Unfit)
 no_misfit origin b action why does h = let z : None ≡ Some why = sym (does.fits b.consts b.state) ∙ h in absurd (cc z)
 
 -- the book has one entry more, of the outputs that it told
-acted_history : (book b : BookView) (action : Action) (outputs : List Output) (seen : List MarkedEntry) → b ≡ acted book action
+acted_history : (book b : BookView) (action : Action) (outputs : List Output) (seen : List MarkedEntry) → b ≡ book_after_action book action
     → outputs ≡ outputs_of book action → book.history ≡ entries seen → b.history ≡ entries seen ++ entry_of action outputs ∷ []
 acted_history book b action outputs seen is said line =
     ap (λ (x : BookView). x.history) is ∙ (λ i. line i ++ entry_of action (sym said i) ∷ [])
 
 -- the book that was put back, after it acted
 pub acted_in_hand : {X : Type 0} (v : Knowledge X) (book b : BookParts X) (m : SeatNow X) (action : Action) (outputs : List Output) → IsOurs v book
-    → m ≡ (v, (0, Some b) ∷ []) → b.kept.book ≡ acted book.kept.book action → b.ranking ≡ book.ranking
+    → m ≡ (v, (0, Some b) ∷ []) → b.kept.book ≡ book_after_action book.kept.book action → b.ranking ≡ book.ranking
     → outputs ≡ outputs_of book.kept.book action → IsOwnRun (origin_of b.kept.book) b.kept.book.history
     → HasBookWith (entries v.seen ++ entry_of action outputs ∷ []) m
 acted_in_hand {X} v book b m action outputs ours put is same said run = record {

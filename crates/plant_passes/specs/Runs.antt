@@ -1,7 +1,7 @@
 -- What an operator's own machine, run alone from its opening, makes of a history (implementation-specific).
 use Rattle.std.specs.Prelude.{List}
 use Rattle.operator_model.specs.declared.action.Entry.{Entry}
-use Rattle.operator_model.specs.State.{OperatorState, Operator, operator, opened}
+use Rattle.operator_model.specs.State.{OperatorState, Operator, operator, opened_state}
 use Rattle.operator_model.specs.Machine.{own_run}
 use Rattle.operator_model.specs.Replay.{BookView, AreTold, actions_of}
 use Rattle.plant_passes.specs.declared.view.Origin.{Origin}
@@ -12,7 +12,7 @@ origin_of b = record { consts = b.consts; row = b.row }
 
 -- the operator's machine as it is opened
 abbrev pub own_machine : Origin → Operator
-own_machine origin = operator origin.consts origin.row (opened origin.consts origin.row)
+own_machine origin = operator origin.consts origin.row (opened_state origin.consts origin.row)
 
 -- each entry was allowed at its place, and its outputs are the machine's
 abbrev pub IsOwnRun : Origin → List Entry → Type 0

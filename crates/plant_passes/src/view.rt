@@ -1,6 +1,6 @@
 //! What the proofs say of a cell. No value of `Origin`, `MarkedEntry` or `Knowledge` is made.
 
-use operator_book::{Entry, Logged};
+use operator_book::{Entry, RecordedMachine};
 use plant::{Consts, OperatorRow};
 use std::collections::LinkedList;
 use std::snapshot::Snapshot;
@@ -50,7 +50,7 @@ pub struct Knowledge<X> {
 /// of which the rule of a cell sees nothing.
 #[derive(Drop)]
 pub struct BookParts<X> {
-    pub kept: Logged,
+    pub kept: RecordedMachine,
     pub ranking: X,
 }
 

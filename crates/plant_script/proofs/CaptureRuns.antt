@@ -11,8 +11,8 @@ use Rattle.run_model.specs.IsStateAfter.{CoreView, IsStateAfter}
 use Rattle.plant_core.specs.declared.core_fault.CoreFault.{CoreFault}
 use Rattle.plant_core.specs.Faults.{step_fault}
 use Rattle.script_format.specs.declared.script.LineStep.{LineStep}
-use Rattle.script_format.specs.Script.{unnumbered}
-use Rattle.pcap_capture.specs.Capture.{Captured, opened_capture, IsOfRun, IsCaptureOf}
+use Rattle.script_format.specs.Script.{steps_without_numbers}
+use Rattle.pcap_capture.specs.Capture.{CaptureView, opened_capture, IsOfRun, IsCaptureOf}
 use Rattle.pcap_capture.proofs.OneCapture.{last_told}
 use Rattle.pcap_capture.proofs.RunLemmas.{opened_run}
 use Rattle.plant_script.specs.declared.answer.Answer.{Answer}
@@ -20,30 +20,30 @@ use Rattle.plant_script.specs.Run.{IsEnd, IsCapturedRunOf}
 use Rattle.plant_script.specs.Done.{IsRefused, AreCaptured, HasCaptured, IsStatusOf}
 
 -- nothing is done, and nothing captured
-pub none_captured : (plant : PlantFields) (core : CoreView) (captured : Captured) → IsStateAfter plant [] [] core → captured ≡ opened_capture plant.consts
+pub none_captured : (plant : PlantFields) (core : CoreView) (captured : CaptureView) → IsStateAfter plant [] [] core → captured ≡ opened_capture plant.consts
     → AreCaptured plant [] core captured
 none_captured plant core captured reached is = record {
   outs = [];
   reached = reached;
-  of_run = subst (λ (c : Captured). IsOfRun plant [] [] c) (sym is) (opened_run plant);
+  of_run = subst (λ (c : CaptureView). IsOfRun plant [] [] c) (sym is) (opened_run plant);
 }
 
 -- one line more
 lines_more : (lines : List LineStep) (i : ℕ) (line : LineStep) → i < length lines → line ≡ get_or lines i line
-    → unnumbered (take (i + 1) lines) ≡ unnumbered (take i lines) ++ line.step ∷ []
+    → steps_without_numbers (take (i + 1) lines) ≡ steps_without_numbers (take i lines) ++ line.step ∷ []
 lines_more lines i line lt is =
-    ap unnumbered (take_more lines i line lt ∙ ap (λ (l : LineStep). take i lines ++ l ∷ []) (sym is))
+    ap steps_without_numbers (take_more lines i line lt ∙ ap (λ (l : LineStep). take i lines ++ l ∷ []) (sym is))
     ∙ map-append (λ (l : LineStep). l.step) (take i lines) (line ∷ [])
 
 -- the line's step is done, by a copy of it, and captured with what it put out
-pub captured_more : (plant : PlantFields) (lines : List LineStep) (i : ℕ) (line : LineStep) (step : Step) (old new : CoreView) (before after : Captured) (now said : List Out)
+pub captured_more : (plant : PlantFields) (lines : List LineStep) (i : ℕ) (line : LineStep) (step : Step) (old new : CoreView) (before after : CaptureView) (now said : List Out)
     → i < length lines → line ≡ get_or lines i line → step ≡ line.step → said ≡ now → AreCaptured plant (take i lines) old before
     → ((steps : List Step) (told : List Out) → IsStateAfter old.plant steps told old → IsStateAfter old.plant (steps ++ step ∷ []) (told ++ now) new)
     → ((p : PlantFields) (steps : List Step) (told : List Out) → IsOfRun p steps told before → IsTold p steps line.step (target p line.step) said → IsOfRun p (steps ++ line.step ∷ []) (told ++ said) after)
     → AreCaptured plant (take (i + 1) lines) new after
 captured_more plant lines i line step old new before after now said lt is copy same done reached captured =
-    let front = unnumbered (take i lines) in
-    let more : front ++ line.step ∷ [] ≡ unnumbered (take (i + 1) lines) = sym (lines_more lines i line lt is) in
+    let front = steps_without_numbers (take i lines) in
+    let more : front ++ line.step ∷ [] ≡ steps_without_numbers (take (i + 1) lines) = sym (lines_more lines i line lt is) in
     let plant_is = done.reached.plant_is in
     let then_new = reached front done.outs (subst (λ (p : PlantFields). IsStateAfter p front done.outs old) (sym plant_is) done.reached) in
     let of_plant = subst (λ (p : PlantFields). IsStateAfter p (front ++ step ∷ []) (done.outs ++ now) new) plant_is then_new in
@@ -59,7 +59,7 @@ captured_more plant lines i line step old new before after now said lt is copy s
 
 -- ---- the end
 
-pub all_captured : (plant : PlantFields) (lines : List LineStep) (i : ℕ) (core : CoreView) (captured : Captured) → length lines ≤ i
+pub all_captured : (plant : PlantFields) (lines : List LineStep) (i : ℕ) (core : CoreView) (captured : CaptureView) → length lines ≤ i
     → AreCaptured plant (take i lines) core captured → HasCaptured plant lines None core captured
 all_captured plant lines i core captured end done = record {
   at = i;
@@ -67,7 +67,7 @@ all_captured plant lines i core captured end done = record {
   ends = subst (λ (o : Option LineStep). IsRefused core o None) (sym (slice_get_past lines i end)) refl;
 }
 
-pub captured_refused : (plant : PlantFields) (lines : List LineStep) (i : ℕ) (line : LineStep) (step : Step) (old core : CoreView) (captured : Captured) (fault : CoreFault)
+pub captured_refused : (plant : PlantFields) (lines : List LineStep) (i : ℕ) (line : LineStep) (step : Step) (old core : CoreView) (captured : CaptureView) (fault : CoreFault)
     → i < length lines → line ≡ get_or lines i line → step ≡ line.step → AreCaptured plant (take i lines) old captured → core ≡ old → step_fault old step ≡ Some fault
     → HasCaptured plant lines (Some line.number) core captured
 captured_refused plant lines i line step old core captured fault lt is copy done same refused =
@@ -84,7 +84,7 @@ end_status : (core : CoreView) (line : Option LineStep) (refused : Option ℕ) (
 end_status core None refused status none is = subst (λ (r : Option ℕ). IsStatusOf r status) none is
 end_status core (Some line) refused status told is = (subst (λ (r : Option ℕ). IsStatusOf r status) told.0 is, told.1)
 
-pub filed_run : (plant : PlantFields) (lines these : List LineStep) (refused : Option ℕ) (core : CoreView) (captured : Captured) (file : List ℕ) (answer : Answer)
+pub filed_run : (plant : PlantFields) (lines these : List LineStep) (refused : Option ℕ) (core : CoreView) (captured : CaptureView) (file : List ℕ) (answer : Answer)
     → these ≡ lines → HasCaptured plant these refused core captured
     → ((p : PlantFields) (steps : List Step) (outs : List Out) → IsOfRun p steps outs captured → IsCaptureOf p steps outs file)
     → answer.text.items ≡ file → IsStatusOf refused answer.status → IsCapturedRunOf plant lines answer.status answer.text.items
@@ -95,6 +95,6 @@ filed_run plant lines these refused core captured file answer same run of_run te
       core = core;
       reached = run.done.reached;
       ends = end_status core (slice_get these run.at) refused answer.status run.ends status;
-      captured = subst (λ (t : List ℕ). IsCaptureOf plant (unnumbered (take run.at these)) run.done.outs t) (sym text)
-          (of_run plant (unnumbered (take run.at these)) run.done.outs run.done.of_run);
+      captured = subst (λ (t : List ℕ). IsCaptureOf plant (steps_without_numbers (take run.at these)) run.done.outs t) (sym text)
+          (of_run plant (steps_without_numbers (take run.at these)) run.done.outs run.done.of_run);
     })

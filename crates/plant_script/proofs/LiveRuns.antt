@@ -15,7 +15,7 @@ use Rattle.script_format.specs.Text.{outs_text}
 use Rattle.line_service.specs.declared.steps_end.StepsEnd.{StepsEnd}
 use Rattle.line_service.specs.declared.steps_end.StepsEnd.TheVariants as ends
 use Rattle.line_service.specs.Steps.{IsStepsEndAt, HasDone}
-use Rattle.plant_script.specs.declared.task.Told.TheVariants.{Outs}
+use Rattle.plant_script.specs.declared.task.OutputMode.TheVariants.{Outs}
 use Rattle.plant_script.specs.Run.{memory_line, IsEnd, EndsBy, IsRunOf}
 use Rattle.plant_script.specs.Ends.{status_of, line_of}
 use Rattle.plant_script.specs.Task.{IsTold, EndsRun}

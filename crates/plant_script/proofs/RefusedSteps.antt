@@ -14,15 +14,15 @@ use Rattle.run_audit.specs.Outcome.{ticks_of}
 use Rattle.run_plan.specs.Spending.{IsSpentAt, NoneSpentBefore, IsFirstSpent, is_reslice, before_reslice}
 use Rattle.plant_workers.specs.Faulting.{IsResliceFault, IsFault}
 use Rattle.script_format.specs.declared.script.LineStep.{LineStep}
-use Rattle.script_format.specs.Script.{unnumbered}
+use Rattle.script_format.specs.Script.{steps_without_numbers}
 use Rattle.plant_script.specs.OnThreads.{ReportsLine, ReportsPlace, ReportsSpent, ReportsCore}
 
 -- ---- the line at a place
 
 -- each step is of a line
-pub step_within : (lines : List LineStep) (place : ℕ) (step : Step) → slice_get (unnumbered lines) place ≡ Some step → place < length lines
+pub step_within : (lines : List LineStep) (place : ℕ) (step : Step) → slice_get (steps_without_numbers lines) place ≡ Some step → place < length lines
 step_within lines place step is =
-    let within = slice_get_within (unnumbered lines) place step is in
+    let within = slice_get_within (steps_without_numbers lines) place step is in
     omega (arith, within, length-map lines (λ (l : LineStep). l.step))
 
 -- what is read at the place is the line
@@ -31,11 +31,11 @@ pub place_reported : (lines : List LineStep) (place : ℕ) (other : LineStep) (s
 place_reported lines place other status text lt reports = record { line = get_or lines place other; line_is = slice_get-get_or lines place other lt; reports = reports }
 
 -- the new slices that are refused are of a line
-pub resliced_within : (plant : PlantFields) (lines : List LineStep) (at : ℕ) (fault : ResliceFault) → IsResliceFault plant (unnumbered lines) at fault → at < length lines
+pub resliced_within : (plant : PlantFields) (lines : List LineStep) (at : ℕ) (fault : ResliceFault) → IsResliceFault plant (steps_without_numbers lines) at fault → at < length lines
 resliced_within plant lines at fault refused = step_within lines at (steps.Reslice refused.refused.from refused.refused.rows) refused.refused.step_is
 
 -- they are refused for a fault of these books
-pub reslice_of : (plant : PlantFields) (lines : List LineStep) (at : ℕ) (fault : ResliceFault) → IsFault plant (unnumbered lines) (faults.ResliceRefused at fault) → IsResliceFault plant (unnumbered lines) at fault
+pub reslice_of : (plant : PlantFields) (lines : List LineStep) (at : ℕ) (fault : ResliceFault) → IsFault plant (steps_without_numbers lines) (faults.ResliceRefused at fault) → IsResliceFault plant (steps_without_numbers lines) at fault
 reslice_of plant lines at fault (inl walk) = absurd walk
 reslice_of plant lines at fault (inr run) = run.1
 
@@ -91,17 +91,17 @@ first_of_all plant all place first = first_taken plant all (prefix_len (λ step.
 -- ---- what is reported
 
 -- of these steps or of those that were handed in
-pub spent_reported : (plant : PlantFields) (lines : List LineStep) (all : List Step) (place : ℕ) (status : ℕ) (text : List ℕ) → all ≡ unnumbered lines → IsFirstSpent plant all place
+pub spent_reported : (plant : PlantFields) (lines : List LineStep) (all : List Step) (place : ℕ) (status : ℕ) (text : List ℕ) → all ≡ steps_without_numbers lines → IsFirstSpent plant all place
     → ReportsPlace lines place status text → ReportsCore plant lines status text
 spent_reported plant lines all place status text are first reports = inl (place, record { first = subst (λ (s : List Step). IsFirstSpent plant s place) are first; reports = reports })
 
-pub first_within : (plant : PlantFields) (lines : List LineStep) (all : List Step) (place : ℕ) → all ≡ unnumbered lines → IsFirstSpent plant all place → place < length lines
+pub first_within : (plant : PlantFields) (lines : List LineStep) (all : List Step) (place : ℕ) → all ≡ steps_without_numbers lines → IsFirstSpent plant all place → place < length lines
 first_within plant lines all place are first = step_within lines place (steps.Tick first.op) (ap (λ (s : List Step). slice_get s place) (sym are) ∙ first.spent.step_is)
 
 -- where there is one, it is the one that is reported
-pub core_spent : (plant : PlantFields) (lines : List LineStep) (place : ℕ) (status : ℕ) (text : List ℕ) → IsFirstSpent plant (unnumbered lines) place → ReportsCore plant lines status text
+pub core_spent : (plant : PlantFields) (lines : List LineStep) (place : ℕ) (status : ℕ) (text : List ℕ) → IsFirstSpent plant (steps_without_numbers lines) place → ReportsCore plant lines status text
     → ReportsSpent plant lines place status text
 core_spent plant lines place status text first (inl told) =
-    subst (λ (p : ℕ). ReportsSpent plant lines p status text) (one_first plant (unnumbered lines) told.0 place told.1.first first) told.1
+    subst (λ (p : ℕ). ReportsSpent plant lines p status text) (one_first plant (steps_without_numbers lines) told.0 place told.1.first first) told.1
 core_spent plant lines place status text first (inr none) =
-    absurd (none.0 place first.op (first_within plant lines (unnumbered lines) place refl first) first.known first.spent)
+    absurd (none.0 place first.op (first_within plant lines (steps_without_numbers lines) place refl first) first.known first.spent)

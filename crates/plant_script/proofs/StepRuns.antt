@@ -11,7 +11,7 @@ use Rattle.run_model.specs.IsStateAfter.{CoreView, IsStateAfter}
 use Rattle.plant_core.specs.declared.core_fault.CoreFault.{CoreFault}
 use Rattle.plant_core.specs.Faults.{step_fault}
 use Rattle.script_format.specs.declared.script.LineStep.{LineStep}
-use Rattle.script_format.specs.Script.{unnumbered}
+use Rattle.script_format.specs.Script.{steps_without_numbers}
 use Rattle.script_format.specs.Text.{actions_text}
 use Rattle.line_service.proofs.LeftLemmas.{first_left, none_left, take_next, drop_next}
 use Rattle.plant_script.specs.declared.answer.Answer.{Answer}
@@ -38,15 +38,15 @@ module _ (plant : PlantFields) (lines : List LineStep) (say : List Out → List 
     (half : IsHalfDone plant lines say old text (line ∷ rest))
     (reached : (before : List Step) (told : List Out) → IsStateAfter old.plant before told old → IsStateAfter old.plant (before ++ line.step ∷ []) (told ++ now) new) where
   before : List Step
-  before = unnumbered (take half.at lines)
+  before = steps_without_numbers (take half.at lines)
 
-  steps_more : before ++ line.step ∷ [] ≡ unnumbered (take (suc half.at) lines)
+  steps_more : before ++ line.step ∷ [] ≡ steps_without_numbers (take (suc half.at) lines)
   unfolding before
   steps_more =
       sym (map-append (λ (l : LineStep). l.step) (take half.at lines) (line ∷ []))
-      ∙ ap unnumbered (sym (take_next lines half.at line rest half.left_are))
+      ∙ ap steps_without_numbers (sym (take_next lines half.at line rest half.left_are))
 
-  pub reached_more : IsStateAfter plant (unnumbered (take (suc half.at) lines)) (half.done.outs ++ now) new
+  pub reached_more : IsStateAfter plant (steps_without_numbers (take (suc half.at) lines)) (half.done.outs ++ now) new
   unfolding before steps_more
   reached_more =
       let same = half.done.reached.plant_is in
@@ -123,5 +123,5 @@ history_written plant lines op refused core answer run ended =
       reached = run.done.reached;
       last = last_line (slice_get lines run.at);
       ends = inl (end.0, refl);
-      text_is = end.1 ∙ ap (λ (t : List ℕ). t ++ last_line (slice_get lines run.at)) (history_is plant (unnumbered (take run.at lines)) run.done.outs core op (slice_get plant.rows op) run.done.reached refl);
+      text_is = end.1 ∙ ap (λ (t : List ℕ). t ++ last_line (slice_get lines run.at)) (history_is plant (steps_without_numbers (take run.at lines)) run.done.outs core op (slice_get plant.rows op) run.done.reached refl);
     }

@@ -8,12 +8,12 @@ use Rattle.plant.specs.declared.operator_row.RowFields.{RowFields}
 use Rattle.plant.specs.declared.plant.PlantFields.{PlantFields}
 use Rattle.script_format.specs.declared.script.LineStep.{LineStep}
 use Rattle.script_format.specs.Text.{history_text}
-use Rattle.plant_script.specs.declared.task.Told.TheVariants.{History}
+use Rattle.plant_script.specs.declared.task.OutputMode.TheVariants.{History}
 use Rattle.plant_script.specs.declared.task.Task.{Task}
-use Rattle.plant_script.specs.declared.task.Served.{Served}
-use Rattle.plant_script.specs.declared.task.Served.TheVariants as served
-use Rattle.plant_script.specs.declared.input.Stop.{Stop}
-use Rattle.plant_script.specs.declared.input.Stop.TheVariants as stops
+use Rattle.plant_script.specs.declared.task.InputOutcome.{InputOutcome}
+use Rattle.plant_script.specs.declared.task.InputOutcome.TheVariants as served
+use Rattle.plant_script.specs.declared.input.AnswerFault.{AnswerFault}
+use Rattle.plant_script.specs.declared.input.AnswerFault.TheVariants as stops
 use Rattle.plant_script.specs.Run.{memory_line, IsRunOf}
 use Rattle.plant_script.specs.Task.{history_at, RunsTo, IsTold, Comes}
 use Rattle.command_line.specs.Order.{Order, order_of}
@@ -48,7 +48,7 @@ abbrev TellsOf : PlantFields → ℕ → Result (List LineStep) ℕ → ℕ → 
 TellsOf plant op lines status text row = AnswersSteps (λ ran. IsRunOf plant ran (λ done told. history_at row op done)) lines status text
 
 -- a run that is told of an operator tells its own steps
-pub comes_of_operator : (plant : PlantFields) (op : ℕ) (row : RowFields) (lines : Result (List LineStep) ℕ) (what : Served) → slice_get plant.rows op ≡ Some row
+pub comes_of_operator : (plant : PlantFields) (op : ℕ) (row : RowFields) (lines : Result (List LineStep) ℕ) (what : InputOutcome) → slice_get plant.rows op ≡ Some row
     → Comes what (AnswersSteps (RunsTo plant (History op)) lines)
     → Comes what (λ status text. (row : RowFields) × (slice_get plant.rows op ≡ Some row)
     × AnswersSteps (λ ran. IsRunOf plant ran (λ done told. history_text row op done)) lines status text)
@@ -73,13 +73,13 @@ pub told_alone : (words : List (List ℕ)) (left : Option (List ℕ)) (before af
 told_alone words left before after wrote = ([], wrote, inl refl)
 
 -- what is told of a stop has status 5 or 6
-pub stop_has_status : {P : Type 0} (stop : Stop) (status : ℕ) (wrote : Type 0) → (stop ≡ stops.Memory → status ≢ 6 → (status ≡ 5) × wrote) → (stop ≡ stops.Io → status ≡ 6)
+pub stop_has_status : {P : Type 0} (stop : AnswerFault) (status : ℕ) (wrote : Type 0) → (stop ≡ stops.Memory → status ≢ 6 → (status ≡ 5) × wrote) → (stop ≡ stops.Io → status ≡ 6)
     → status ≢ 5 → status ≢ 6 → P
 stop_has_status stops.Memory status wrote memory io not_5 not_6 = absurd (not_5 (memory refl not_6).0)
 stop_has_status stops.Io status wrote memory io not_5 not_6 = absurd (not_6 (io refl))
 
 -- and with 5 the line of want of memory is written
-pub stop_wants : (stop : Stop) (status : ℕ) (wrote : Type 0) → (stop ≡ stops.Memory → status ≢ 6 → (status ≡ 5) × wrote) → (stop ≡ stops.Io → status ≡ 6)
+pub stop_wants : (stop : AnswerFault) (status : ℕ) (wrote : Type 0) → (stop ≡ stops.Memory → status ≢ 6 → (status ≡ 5) × wrote) → (stop ≡ stops.Io → status ≡ 6)
     → status ≡ 5 → wrote
 stop_wants stops.Memory status wrote memory io five = (memory refl (λ six. absurd (let wrong : ◌≡◌ {A = ℕ} 5 6 = sym five ∙ six in cc))).1
 stop_wants stops.Io status wrote memory io five = absurd (let wrong : ◌≡◌ {A = ℕ} 5 6 = sym five ∙ io refl in cc)

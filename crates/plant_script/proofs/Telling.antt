@@ -10,11 +10,11 @@ use Rattle.operator_model.specs.declared.action.Entry.{Entry}
 use Rattle.operator_model.specs.declared.output.Output.{Output}
 use Rattle.operator_model.specs.Replay.{BookView}
 use Rattle.map_assembly.specs.declared.map_bytes.MapBytes.{MapBytes}
-use Rattle.run_model.specs.OwnSteps.{under}
+use Rattle.run_model.specs.OwnSteps.{outputs_under}
 use Rattle.run_model.specs.declared.step.Out.TheVariants as outs
-use Rattle.run_receipts.specs.OwnParts.{outputs_of}
+use Rattle.run_receipts.specs.OwnParts.{history_outputs}
 use Rattle.run_audit.specs.Outs.{outs_from, outs_of}
-use Rattle.script_format.specs.Text.{named, map_line, out_line, output_line, outs_text}
+use Rattle.script_format.specs.Text.{operator_name, map_line, out_line, output_line, outs_text}
 
 -- what is left of a list, seen by f, begins with what is read
 pub map_left : {X Y : Type 0} (f : X → Y) (xs : List X) (i : ℕ) (x : X) → i < length xs → x ≡ get_or xs i x
@@ -26,12 +26,12 @@ map_left f xs i x lt is = ap (map f) (drop_more xs i x lt ∙ ap (λ (y : _). y 
 -- the lines of one entry more
 pub entries_more : (f : Output → List ℕ) (history : List Entry) (i : ℕ) (entry : Entry) (outputs : List Output) (old new whole : List ℕ)
     → i < length history → entry ≡ get_or history i entry → outputs ≡ entry.outputs → new ≡ old ++ flat_map f outputs
-    → old ++ flat_map f (outputs_of (drop i history)) ≡ whole → new ++ flat_map f (outputs_of (drop (i + 1) history)) ≡ whole
+    → old ++ flat_map f (history_outputs (drop i history)) ≡ whole → new ++ flat_map f (history_outputs (drop (i + 1) history)) ≡ whole
 entries_more f history i entry outputs old new whole lt is same grown so_far =
-    let later = outputs_of (drop (i + 1) history) in
+    let later = history_outputs (drop (i + 1) history) in
     let split : drop i history ≡ entry ∷ drop (i + 1) history = drop_more history i entry lt ∙ ap (λ (e : Entry). e ∷ drop (i + 1) history) (sym is) in
-    let here : flat_map f (outputs_of (drop i history)) ≡ flat_map f outputs ++ flat_map f later =
-    ap (λ (es : List Entry). flat_map f (outputs_of es)) split
+    let here : flat_map f (history_outputs (drop i history)) ≡ flat_map f outputs ++ flat_map f later =
+    ap (λ (es : List Entry). flat_map f (history_outputs es)) split
     ∙ (flat_map-append f entry.outputs later ∙ ap (λ (os : List Output). flat_map f os ++ flat_map f later) (sym same)) in
     ap (λ (t : List ℕ). t ++ flat_map f later) grown
     ∙ (append_assoc old (flat_map f outputs) (flat_map f later) ∙ (ap (λ (t : List ℕ). old ++ t) (sym here) ∙ so_far))
@@ -40,22 +40,22 @@ entries_more f history i entry outputs old new whole lt is same grown so_far =
 
 -- what stands under an operator, line by line
 under_text : (plant : PlantFields) (op : ℕ) (outputs : List Output)
-    → outs_text plant (under op outputs) ≡ flat_map (output_line (named (slice_get plant.rows op))) outputs
+    → outs_text plant (outputs_under op outputs) ≡ flat_map (output_line (operator_name (slice_get plant.rows op))) outputs
 under_text plant op outputs = flat_map-map (out_line plant) (λ (output : Output). outs.Of op output) outputs
 
 -- the lines of one book more
 pub books_more : (plant : PlantFields) (op : ℕ) (view : BookView) (views later : List BookView) (history : List Entry) (old new whole : List ℕ)
     → views ≡ view ∷ later → history ≡ view.history
-    → new ≡ old ++ flat_map (output_line (named (slice_get plant.rows op))) (outputs_of history)
+    → new ≡ old ++ flat_map (output_line (operator_name (slice_get plant.rows op))) (history_outputs history)
     → old ++ outs_text plant (outs_from op views) ≡ whole → new ++ outs_text plant (outs_from (op + 1) later) ≡ whole
 books_more plant op view views later history old new whole split same grown so_far =
-    let lines = flat_map (output_line (named (slice_get plant.rows op))) (outputs_of history) in
+    let lines = flat_map (output_line (operator_name (slice_get plant.rows op))) (history_outputs history) in
     let rest = outs_text plant (outs_from (op + 1) later) in
     let here : outs_text plant (outs_from op views) ≡ lines ++ rest =
     ap (λ (vs : List BookView). outs_text plant (outs_from op vs)) split
-    ∙ (flat_map-append (out_line plant) (under op (outputs_of view.history)) (outs_from (op + 1) later)
-    ∙ ap (λ (t : List ℕ). t ++ rest) (under_text plant op (outputs_of view.history)
-    ∙ ap (λ (h : List Entry). flat_map (output_line (named (slice_get plant.rows op))) (outputs_of h)) (sym same))) in
+    ∙ (flat_map-append (out_line plant) (outputs_under op (history_outputs view.history)) (outs_from (op + 1) later)
+    ∙ ap (λ (t : List ℕ). t ++ rest) (under_text plant op (history_outputs view.history)
+    ∙ ap (λ (h : List Entry). flat_map (output_line (operator_name (slice_get plant.rows op))) (history_outputs h)) (sym same))) in
     ap (λ (t : List ℕ). t ++ rest) grown
     ∙ (append_assoc old lines rest ∙ (ap (λ (t : List ℕ). old ++ t) (sym here) ∙ so_far))
 

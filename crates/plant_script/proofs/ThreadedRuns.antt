@@ -16,7 +16,7 @@ use Rattle.run_plan.specs.Serving.{IsServable, IsFirstUnserved}
 use Rattle.run_plan.specs.Spending.{IsFirstSpent, before_reslice}
 use Rattle.plant_workers.specs.Faulting.{IsFault}
 use Rattle.script_format.specs.declared.script.LineStep.{LineStep}
-use Rattle.script_format.specs.Script.{unnumbered}
+use Rattle.script_format.specs.Script.{steps_without_numbers}
 use Rattle.script_format.specs.Text.{outs_text}
 use Rattle.plant_script.specs.declared.answer.Answer.{Answer}
 use Rattle.plant_script.specs.OnThreads.{HasSettled, ReportsCore, ReportsFault, HasFault, IsThreadedRunOf}
@@ -35,7 +35,7 @@ same_fault result a b first second = cc
 
 -- what is reported of a run that is settled, by a plant that is the same
 pub settled_run : {S : Type 0} (plant shown : PlantFields) (lines : List LineStep) (steps : List Step) (result : Result S RunFault) (settled : S)
-    (books : List BookView) (receipts : List (List (List Receipt))) (maps : List MapBytes) (answer : Answer) → shown ≡ plant → steps ≡ unnumbered lines
+    (books : List BookView) (receipts : List (List (List Receipt))) (maps : List MapBytes) (answer : Answer) → shown ≡ plant → steps ≡ steps_without_numbers lines
     → IsRefusedFirst plant steps result → result ≡ Ok settled → IsOutcome plant steps books receipts maps
     → (answer.status ≡ 0) × (answer.text.items ≡ outs_text shown (outs_of books maps)) → IsThreadedRunOf plant lines answer.status answer.text.items
 settled_run plant shown lines steps result settled books receipts maps answer same are refuses ok outcome told =
@@ -55,7 +55,7 @@ settled_run plant shown lines steps result settled books receipts maps answer sa
 
 -- what is reported of a run with a fault
 fault_reported : {S : Type 0} (plant : PlantFields) (lines : List LineStep) (result : Result S RunFault) (fault : RunFault) (status : ℕ) (text : List ℕ)
-    → IsRefusedFirst plant (unnumbered lines) result → result ≡ Err fault → IsFault plant (unnumbered lines) fault → ReportsFault plant lines fault status text
+    → IsRefusedFirst plant (steps_without_numbers lines) result → result ≡ Err fault → IsFault plant (steps_without_numbers lines) fault → ReportsFault plant lines fault status text
     → IsThreadedRunOf plant lines status text
 fault_reported plant lines result fault status text refuses err comes reports =
     let core : (f : CoreFault) → result ≡ Err (Core f) → ReportsCore plant lines status text =
@@ -63,12 +63,12 @@ fault_reported plant lines result fault status text refuses err comes reports =
     record {
       comes = inr (record { fault = fault; comes = comes; reports = reports });
       unserved = λ f first. core f (refuses.walk f first);
-      spent = λ place served first. core_spent plant lines place status text (first_of_all plant (unnumbered lines) place first)
+      spent = λ place served first. core_spent plant lines place status text (first_of_all plant (steps_without_numbers lines) place first)
           (core (Book FramesSpent) (refuses.spent place served first));
     }
 
 pub fault_run : {S : Type 0} (plant shown : PlantFields) (lines these : List LineStep) (steps : List Step) (result : Result S RunFault) (fault : RunFault) (answer : Answer)
-    → shown ≡ plant → these ≡ lines → steps ≡ unnumbered lines → IsRefusedFirst plant steps result → result ≡ Err fault → IsFault plant steps fault
+    → shown ≡ plant → these ≡ lines → steps ≡ steps_without_numbers lines → IsRefusedFirst plant steps result → result ≡ Err fault → IsFault plant steps fault
     → ReportsFault shown these fault answer.status answer.text.items → IsThreadedRunOf plant lines answer.status answer.text.items
 fault_run plant shown lines these steps result fault answer same are are_steps refuses err comes told =
     fault_reported plant lines result fault answer.status answer.text.items (subst (λ (s : List Step). IsRefusedFirst plant s result) are_steps refuses) err
@@ -77,8 +77,8 @@ fault_run plant shown lines these steps result fault answer same are are_steps r
     (subst (λ (p : PlantFields). ReportsFault p these fault answer.status answer.text.items) same told))
 
 -- the fault comes of the steps of the script's lines
-pub fault_comes : (plant shown : PlantFields) (lines these : List LineStep) (steps : List Step) (fault : RunFault) → shown ≡ plant → these ≡ lines → steps ≡ unnumbered lines
-    → IsFault plant steps fault → IsFault shown (unnumbered these) fault
+pub fault_comes : (plant shown : PlantFields) (lines these : List LineStep) (steps : List Step) (fault : RunFault) → shown ≡ plant → these ≡ lines → steps ≡ steps_without_numbers lines
+    → IsFault plant steps fault → IsFault shown (steps_without_numbers these) fault
 fault_comes plant shown lines these steps fault same are are_steps comes =
-    subst (λ (p : PlantFields). IsFault p (unnumbered these) fault) (sym same)
-    (subst (λ (l : List LineStep). IsFault plant (unnumbered l) fault) (sym are) (subst (λ (s : List Step). IsFault plant s fault) are_steps comes))
+    subst (λ (p : PlantFields). IsFault p (steps_without_numbers these) fault) (sym same)
+    (subst (λ (l : List LineStep). IsFault plant (steps_without_numbers l) fault) (sym are) (subst (λ (s : List Step). IsFault plant s fault) are_steps comes))

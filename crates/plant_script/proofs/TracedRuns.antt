@@ -11,7 +11,7 @@ use Rattle.line_service.specs.declared.steps_end.StepsEnd.TheVariants as ends
 use Rattle.line_service.specs.Steps.{IsStepsEndAt}
 use Rattle.trace_report.specs.declared.decision.Decision.{Decision}
 use Rattle.trace_report.specs.Trace.{HasNoWords, IsTraceEndAt, HasTraced}
-use Rattle.plant_script.specs.declared.task.Told.TheVariants.{Trace}
+use Rattle.plant_script.specs.declared.task.OutputMode.TheVariants.{Trace}
 use Rattle.plant_script.specs.Run.{memory_line, EndsBy}
 use Rattle.plant_script.specs.Ends.{status_of, line_of}
 use Rattle.plant_script.specs.Traced.{EndsTraceBy, IsTracedRunOf, EndsTraced}

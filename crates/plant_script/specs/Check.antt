@@ -15,24 +15,24 @@ use Rattle.plant_script.specs.One.{Answer, is_readable}
 
 -- ---- the line of an invalid plant
 
-abbrev pub ended : List ℕ → List ℕ
-ended text = text ++ 10 ∷ []
+abbrev pub text_line : List ℕ → List ℕ
+text_line text = text ++ 10 ∷ []
 
 abbrev pub two_names : List ℕ → List ℕ → List ℕ
-two_names a b = a ++ (codes " " ++ ended b)
+two_names a b = a ++ (codes " " ++ text_line b)
 
 -- the fault's number, and what it names
 unfoldable pub fault_text : PlantFault → List ℕ
-fault_text NotToml = ended (codes "1")
-fault_text (Missing key) = codes "2 " ++ ended (key_text key)
-fault_text (BadValue key) = codes "3 " ++ ended (key_text key)
+fault_text NotToml = text_line (codes "1")
+fault_text (Missing key) = codes "2 " ++ text_line (key_text key)
+fault_text (BadValue key) = codes "3 " ++ text_line (key_text key)
 fault_text (SlicesMeet a b) = codes "4 " ++ two_names a b
 fault_text (SidsMeet a b) = codes "5 " ++ two_names a b
 fault_text (SfidsMeet a b) = codes "6 " ++ two_names a b
-fault_text (ModemTwice modem) = codes "7 " ++ ended (hex_digits modem.0)
-fault_text (TooManyElements total) = codes "8 " ++ ended (decimal total)
-fault_text (BudgetOverSlice operator) = codes "9 " ++ ended operator
-fault_text (ProvisionedOver operator) = codes "10 " ++ ended operator
+fault_text (ModemTwice modem) = codes "7 " ++ text_line (hex_digits modem.0)
+fault_text (TooManyElements total) = codes "8 " ++ text_line (decimal total)
+fault_text (BudgetOverSlice operator) = codes "9 " ++ text_line operator
+fault_text (ProvisionedOver operator) = codes "10 " ++ text_line operator
 fault_text NoMemory = []
 
 -- ---- the whole

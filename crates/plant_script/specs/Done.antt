@@ -6,14 +6,14 @@ use Rattle.run_model.specs.declared.step.Out.{Out}
 use Rattle.run_model.specs.IsStateAfter.{CoreView, IsStateAfter}
 use Rattle.plant_core.specs.Faults.{step_fault}
 use Rattle.script_format.specs.declared.script.LineStep.{LineStep}
-use Rattle.script_format.specs.Script.{unnumbered}
+use Rattle.script_format.specs.Script.{steps_without_numbers}
 use Rattle.script_format.specs.Text.{actions_text}
-use Rattle.pcap_capture.specs.Capture.{Captured, IsOfRun}
+use Rattle.pcap_capture.specs.Capture.{CaptureView, IsOfRun}
 
 -- the steps of these lines are done, and what is said of their outputs is written
 pub record AreDone (plant : PlantFields) (lines : List LineStep) (say : List Out → List ℕ) (core : CoreView) (text : List ℕ) : Type 0 where
   pub outs : List Out
-  pub reached : IsStateAfter plant (unnumbered lines) outs core
+  pub reached : IsStateAfter plant (steps_without_numbers lines) outs core
   pub text_is : text ≡ say outs
 
 -- no line is refused where no step is left; else the one whose step the core refuses, reported by its number
@@ -35,13 +35,13 @@ book_text (Some book) = actions_text (actions_of book.history)
 -- ---- a capture
 
 -- the steps of these lines are done, and the capture is theirs
-pub record AreCaptured (plant : PlantFields) (lines : List LineStep) (core : CoreView) (captured : Captured) : Type 0 where
+pub record AreCaptured (plant : PlantFields) (lines : List LineStep) (core : CoreView) (captured : CaptureView) : Type 0 where
   pub outs : List Out
-  pub reached : IsStateAfter plant (unnumbered lines) outs core
-  pub of_run : IsOfRun plant (unnumbered lines) outs captured
+  pub reached : IsStateAfter plant (steps_without_numbers lines) outs core
+  pub of_run : IsOfRun plant (steps_without_numbers lines) outs captured
 
 -- so many of the lines' steps are done, and no more
-pub record HasCaptured (plant : PlantFields) (lines : List LineStep) (refused : Option ℕ) (core : CoreView) (captured : Captured) : Type 0 where
+pub record HasCaptured (plant : PlantFields) (lines : List LineStep) (refused : Option ℕ) (core : CoreView) (captured : CaptureView) : Type 0 where
   pub at : ℕ
   pub done : AreCaptured plant (take at lines) core captured
   pub ends : IsRefused core (slice_get lines at) refused

@@ -15,8 +15,8 @@ use Rattle.run_plan.specs.Serving.{IsServable, IsFirstUnserved}
 use Rattle.run_plan.specs.Spending.{NoneSpentBefore, IsFirstSpent, before_reslice}
 use Rattle.plant_workers.specs.Faulting.{IsResliceFault, IsFault}
 use Rattle.script_format.specs.declared.script.LineStep.{LineStep}
-use Rattle.script_format.specs.Script.{unnumbered}
-use Rattle.script_format.specs.Text.{named, outs_text}
+use Rattle.script_format.specs.Script.{steps_without_numbers}
+use Rattle.script_format.specs.Text.{operator_name, outs_text}
 
 -- ---- a run that is settled
 
@@ -28,7 +28,7 @@ pub record HasSettled (plant : PlantFields) (lines : List LineStep) (status : �
   pub books : List BookView
   pub receipts : List (List (List Receipt))
   pub maps : List MapBytes
-  pub outcome : IsOutcome plant (unnumbered lines) books receipts maps
+  pub outcome : IsOutcome plant (steps_without_numbers lines) books receipts maps
   pub text_is : text ≡ outs_text plant (outs_of books maps)
 
 -- ---- the line of a step that is refused
@@ -62,7 +62,7 @@ ReportsStray who place status text = (status ≡ 7) × (text ≡ stray_line who 
 
 -- the Tick at this place, the first that finds its operator's frame numbers spent, is refused
 pub record ReportsSpent (plant : PlantFields) (lines : List LineStep) (place : ℕ) (status : ℕ) (text : List ℕ) : Type 0 where
-  pub first : IsFirstSpent plant (unnumbered lines) place
+  pub first : IsFirstSpent plant (steps_without_numbers lines) place
   pub reports : ReportsPlace lines place status text
 
 -- the core refused a step: the first Tick that finds its operator's frame numbers spent; where there is none, the run strayed, of
@@ -70,19 +70,19 @@ pub record ReportsSpent (plant : PlantFields) (lines : List LineStep) (place : �
 abbrev pub ReportsCore : PlantFields → List LineStep → ℕ → List ℕ → Type 0
 ReportsCore plant lines status text =
     ((place : ℕ) × ReportsSpent plant lines place status text)
-    ⊎ (NoneSpentBefore plant (unnumbered lines) (length lines) × ReportsStray (codes "-") (codes "-") status text)
+    ⊎ (NoneSpentBefore plant (steps_without_numbers lines) (length lines) × ReportsStray (codes "-") (codes "-") status text)
 
 -- the new slices of the line at this place are refused, for the core's own fault of them after the steps before
 pub record ReportsReslice (plant : PlantFields) (lines : List LineStep) (at : ℕ) (fault : ResliceFault) (status : ℕ) (text : List ℕ) : Type 0 where
-  pub refused : IsResliceFault plant (unnumbered lines) at fault
+  pub refused : IsResliceFault plant (steps_without_numbers lines) at fault
   pub reports : ReportsPlace lines at status text
 
 -- A fault is reported by one line: 7 where what the threads did is not what the steps say, with the operator and the place in
 -- its history, or `-` and the frame of a MAP; 4 where a step is refused, a tick too many or new slices.
 abbrev pub ReportsFault : PlantFields → List LineStep → RunFault → ℕ → List ℕ → Type 0
 ReportsFault plant lines (faults.Strayed op index) status text =
-    ReportsStray (named (slice_get plant.rows op)) (place_text (Some index)) status text
-ReportsFault plant lines (faults.Short op) status text = ReportsStray (named (slice_get plant.rows op)) (place_text None) status text
+    ReportsStray (operator_name (slice_get plant.rows op)) (place_text (Some index)) status text
+ReportsFault plant lines (faults.Short op) status text = ReportsStray (operator_name (slice_get plant.rows op)) (place_text None) status text
 ReportsFault plant lines (faults.MapStrayed frame) status text = ReportsStray (codes "-") (decimal frame) status text
 ReportsFault plant lines (faults.Core fault) status text = ReportsCore plant lines status text
 ReportsFault plant lines (faults.ResliceRefused at fault) status text = ReportsReslice plant lines at fault status text
@@ -91,7 +91,7 @@ ReportsFault plant lines faults.NoMemory status text = ⊥
 -- the run has a fault, which comes of just these steps (`IsFault`), and it is reported
 pub record HasFault (plant : PlantFields) (lines : List LineStep) (status : ℕ) (text : List ℕ) : Type 0 where
   pub fault : RunFault
-  pub comes : IsFault plant (unnumbered lines) fault
+  pub comes : IsFault plant (steps_without_numbers lines) fault
   pub reports : ReportsFault plant lines fault status text
 
 -- ---- both
@@ -100,6 +100,6 @@ pub record HasFault (plant : PlantFields) (lines : List LineStep) (status : ℕ)
 -- ask for, and a Tick before any new slices that finds its operator's frame numbers spent, are refused before a thread starts.
 pub record IsThreadedRunOf (plant : PlantFields) (lines : List LineStep) (status : ℕ) (text : List ℕ) : Type 0 where
   pub comes : HasSettled plant lines status text ⊎ HasFault plant lines status text
-  pub unserved : (fault : CoreFault) → IsFirstUnserved plant (unnumbered lines) fault → ReportsCore plant lines status text
-  pub spent : (place : ℕ) → IsServable plant (unnumbered lines) → IsFirstSpent plant (before_reslice (unnumbered lines)) place
+  pub unserved : (fault : CoreFault) → IsFirstUnserved plant (steps_without_numbers lines) fault → ReportsCore plant lines status text
+  pub spent : (place : ℕ) → IsServable plant (steps_without_numbers lines) → IsFirstSpent plant (before_reslice (steps_without_numbers lines)) place
       → ReportsSpent plant lines place status text

@@ -9,12 +9,12 @@ use Rattle.operator_model.specs.declared.action.Action.{Action}
 use Rattle.operator_model.specs.declared.action.Action.TheVariants.{Arrive, Work}
 use Rattle.operator_model.specs.declared.output.Output.{Output}
 use Rattle.operator_model.specs.declared.output.Output.TheVariants.{Reply, Silent, Frame}
-use Rattle.operator_model.specs.State.{opened, operator}
+use Rattle.operator_model.specs.State.{opened_state, operator}
 use Rattle.operator_model.specs.Machine.{own_run}
 use Rattle.operator_model.specs.Worked.{first_modem}
 use Rattle.script_format.specs.Lines.{lines_of}
 use Rattle.script_format.specs.Messages.{messages_of}
-use Rattle.script_format.specs.Causes.{name_of}
+use Rattle.script_format.specs.Causes.{cause_name}
 use Rattle.plant_script.specs.OperatorA.{row_a, consts_a}
 
 -- ---- messages to outputs
@@ -24,14 +24,14 @@ abbrev pub actions_of : List (List ℕ) → List Action
 actions_of messages = flat_map (λ message. Arrive first_modem (heards.Message message) ∷ Work ∷ []) messages
 
 abbrev pub outputs_of : List (List ℕ) → List Output
-outputs_of messages = (own_run (operator consts_a row_a (opened consts_a row_a)) (actions_of messages)).outputs
+outputs_of messages = (own_run (operator consts_a row_a (opened_state consts_a row_a)) (actions_of messages)).outputs
 
 -- ---- outputs to text
 
 -- a reply in upper-case hexadecimal; or S and the cause. A frame has no line: nothing ticks here.
 abbrev pub line_of : Output → List ℕ
 line_of (Reply modem bytes) = encode_upper bytes ++ 10 ∷ []
-line_of (Silent modem cause) = codes "S " ++ (name_of cause ++ 10 ∷ [])
+line_of (Silent modem cause) = codes "S " ++ (cause_name cause ++ 10 ∷ [])
 line_of (Frame number elements) = []
 
 abbrev pub text_of : List Output → List ℕ

@@ -7,7 +7,7 @@ use Rattle.run_model.specs.declared.step.Out.{Out}
 use Rattle.run_model.specs.IsStateAfter.{CoreView, IsStateAfter}
 use Rattle.plant_core.specs.Faults.{step_fault}
 use Rattle.script_format.specs.declared.script.LineStep.{LineStep}
-use Rattle.script_format.specs.Script.{unnumbered}
+use Rattle.script_format.specs.Script.{steps_without_numbers}
 use Rattle.pcap_capture.specs.Capture.{IsCaptureOf}
 
 -- the run ends after the last step; or before the first one that is refused
@@ -42,10 +42,10 @@ pub record IsRunOf (plant : PlantFields) (lines : List LineStep) (say : List Ste
   pub at : ℕ
   pub outs : List Out
   pub core : CoreView
-  pub reached : IsStateAfter plant (unnumbered (take at lines)) outs core
+  pub reached : IsStateAfter plant (steps_without_numbers (take at lines)) outs core
   pub last : List ℕ
   pub ends : EndsBy core (slice_get lines at) status last
-  pub text_is : text ≡ say (unnumbered (take at lines)) outs ++ last
+  pub text_is : text ≡ say (steps_without_numbers (take at lines)) outs ++ last
 
 -- So many steps are done, as in `IsRunOf`, and what is written is the capture of just these steps, each with its own outputs: whole,
 -- with no line after it where a step is refused.
@@ -53,6 +53,6 @@ pub record IsCapturedRunOf (plant : PlantFields) (lines : List LineStep) (status
   pub at : ℕ
   pub outs : List Out
   pub core : CoreView
-  pub reached : IsStateAfter plant (unnumbered (take at lines)) outs core
+  pub reached : IsStateAfter plant (steps_without_numbers (take at lines)) outs core
   pub ends : IsEnd core (slice_get lines at) status
-  pub captured : IsCaptureOf plant (unnumbered (take at lines)) outs text
+  pub captured : IsCaptureOf plant (steps_without_numbers (take at lines)) outs text

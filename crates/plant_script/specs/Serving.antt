@@ -8,7 +8,7 @@ use Rattle.run_model.specs.Starts.{first_start}
 use Rattle.run_model.specs.IsStateAfter.{CoreView}
 use Rattle.live_core.specs.After.{IsAfter}
 use Rattle.script_format.specs.Lines.{lines_of}
-use Rattle.line_service.specs.Service.{Answered, AreAnswered, service_text, all_done, all_told}
+use Rattle.line_service.specs.Service.{LineRun, AreAnswered, service_text, all_done, all_told}
 use Rattle.plant_script.specs.Check.{fault_text}
 use Rattle.plant_script.specs.declared.serving.Front.{Front}
 use Rattle.plant_script.specs.declared.serving.Front.TheVariants as fronts
@@ -16,7 +16,7 @@ use Rattle.plant_script.specs.declared.serving.Front.TheVariants as fronts
 -- all lines are answered from a core of the plant as it is opened, and their answers are written
 pub record IsServed (plant : PlantFields) (script : List ℕ) (status : ℕ) (text : List ℕ) : Type 0 where
   pub status_is : status ≡ 0
-  pub answers : List Answered
+  pub answers : List LineRun
   pub live : CoreView
   pub answered : AreAnswered plant (first_start plant) [] [] 1 (lines_of script) answers
   pub after : IsAfter plant (all_done answers) (all_told answers) live

@@ -7,12 +7,12 @@ use Rattle.run_model.specs.declared.step.Step.{Step}
 use Rattle.script_format.specs.declared.script.LineStep.{LineStep}
 use Rattle.script_format.specs.Text.{outs_text, history_text}
 use Rattle.plant_script.specs.declared.answer.Answer.{Answer}
-use Rattle.plant_script.specs.declared.task.Told.{Told}
-use Rattle.plant_script.specs.declared.task.Told.TheVariants.{Outs, History, Threads, Capture, Trace}
+use Rattle.plant_script.specs.declared.task.OutputMode.{OutputMode}
+use Rattle.plant_script.specs.declared.task.OutputMode.TheVariants.{Outs, History, Threads, Capture, Trace}
 use Rattle.plant_script.specs.declared.task.Wanted.{Wanted}
 use Rattle.plant_script.specs.declared.task.Wanted.TheVariants as wanted
-use Rattle.plant_script.specs.declared.task.Served.{Served}
-use Rattle.plant_script.specs.declared.task.Served.TheVariants as served
+use Rattle.plant_script.specs.declared.task.InputOutcome.{InputOutcome}
+use Rattle.plant_script.specs.declared.task.InputOutcome.TheVariants as served
 use Rattle.plant_script.specs.Run.{memory_line, IsRunOf, IsCapturedRunOf}
 use Rattle.plant_script.specs.OnThreads.{IsThreadedRunOf}
 use Rattle.plant_script.specs.Traced.{IsTracedRunOf}
@@ -24,7 +24,7 @@ history_at None op done = []
 history_at (Some row) op done = history_text row op done
 
 -- what the run of a script's steps results in, reported in one of these ways
-abbrev pub RunsTo : PlantFields → Told → List LineStep → ℕ → List ℕ → Type 0
+abbrev pub RunsTo : PlantFields → OutputMode → List LineStep → ℕ → List ℕ → Type 0
 RunsTo plant Outs lines status text = IsRunOf plant lines (λ done told. outs_text plant told) status text
 RunsTo plant (History op) lines status text =
     IsRunOf plant lines (λ done told. history_at (slice_get plant.rows op) op done) status text
@@ -33,22 +33,22 @@ RunsTo plant Capture lines status text = IsCapturedRunOf plant lines status text
 RunsTo plant Trace lines status text = IsTracedRunOf plant lines status text
 
 -- what the run results in is written; or memory ran out, and its line is written alone, or after what the run had output until then
-abbrev pub IsTold : PlantFields → Told → List LineStep → ℕ → (List ℕ → Type 0) → Type 0
+abbrev pub IsTold : PlantFields → OutputMode → List LineStep → ℕ → (List ℕ → Type 0) → Type 0
 IsTold plant told lines status wrote =
     ((text : List ℕ) × (status ≢ 5) × RunsTo plant told lines status text × wrote text)
     ⊎ ((before : List ℕ) × (status ≡ 5) × wrote (before ++ memory_line)
     × ((before ≡ []) ⊎ RunsTo plant told lines 5 (before ++ memory_line)))
 
 -- what is answered to a plant and a script, by what is wanted of them
-abbrev pub asked : Wanted → PlantFields → List ℕ → ℕ → List ℕ → Type 0
-asked wanted.Run = AnswersRun
-asked wanted.Threads = AnswersThreads
-asked wanted.Capture = AnswersCapture
-asked wanted.Trace = AnswersTrace
-asked (wanted.History name) = AnswersHistory name.now
+abbrev pub AnswersWanted : Wanted → PlantFields → List ℕ → ℕ → List ℕ → Type 0
+AnswersWanted wanted.Run = AnswersRun
+AnswersWanted wanted.Threads = AnswersThreads
+AnswersWanted wanted.Capture = AnswersCapture
+AnswersWanted wanted.Trace = AnswersTrace
+AnswersWanted (wanted.History name) = AnswersHistory name.now
 
 -- what is served is such an answer: at once, or whatever the run of the task results in
-abbrev pub Comes : Served → (ℕ → List ℕ → Type 0) → Type 0
+abbrev pub Comes : InputOutcome → (ℕ → List ℕ → Type 0) → Type 0
 Comes (served.Answer answer) answers = answers answer.status answer.text.items
 Comes (served.Task task) answers =
     (status : ℕ) (text : List ℕ) → RunsTo task.plant task.told task.lines.items status text → answers status text

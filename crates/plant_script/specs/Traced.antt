@@ -4,7 +4,7 @@ use Rattle.plant.specs.declared.plant.PlantFields.{PlantFields}
 use Rattle.run_model.specs.declared.step.Out.{Out}
 use Rattle.run_model.specs.IsStateAfter.{CoreView, IsStateAfter}
 use Rattle.script_format.specs.declared.script.LineStep.{LineStep}
-use Rattle.script_format.specs.Script.{unnumbered}
+use Rattle.script_format.specs.Script.{steps_without_numbers}
 use Rattle.trace_report.specs.declared.decision.Decision.{Decision}
 use Rattle.line_service.specs.declared.steps_end.StepsEnd.TheVariants.{NoMemory}
 use Rattle.trace_report.specs.Trace.{AreDecided, IsTraceText, HasNoWords}
@@ -23,9 +23,9 @@ pub record IsTracedRunOf (plant : PlantFields) (lines : List LineStep) (status :
   pub at : ℕ
   pub outs : List Out
   pub core : CoreView
-  pub reached : IsStateAfter plant (unnumbered (take at lines)) outs core
+  pub reached : IsStateAfter plant (steps_without_numbers (take at lines)) outs core
   pub decisions : List (Option Decision)
-  pub decided : AreDecided plant [] (unnumbered (take at lines)) decisions
+  pub decided : AreDecided plant [] (steps_without_numbers (take at lines)) decisions
   pub told : List ℕ
   pub is_text : IsTraceText decisions told
   pub last : List ℕ

@@ -12,7 +12,7 @@ ghost use Rattle.plant_script.specs.Done.{HasCaptured, IsStatusOf};
 ghost use Rattle.plant_script.specs.Run.{IsCapturedRunOf};
 
 use crate::answer::Answer;
-use crate::ending::refused;
+use crate::ending::refused_line;
 use pcap_capture::Capture;
 use plant_core::PlantCore;
 use run_model::{Out, Step};
@@ -30,8 +30,8 @@ fn put_turn(
         → IsOfRun plant steps told capture.old → IsTold plant steps step.now (target plant step.now) outs.now
         → IsOfRun plant (steps ++ step.now ∷ []) (told ++ outs.now) capture.new) }
 {
-    capture.sent(alloc, step)?;
-    capture.told(alloc, outs)?;
+    capture.add_sent_message(alloc, step)?;
+    capture.add_outputs(alloc, outs)?;
     Ok(())
 }
 
@@ -54,14 +54,14 @@ fn run_captured(
         let step = line.step.copy(alloc)?;
         match core.step_over(alloc, step, &mut outs) {
             Ok(()) => put_turn(alloc, capture, &line.step, outs.as_slice())?,
-            Err(fault) => return refused(line.number, fault),
+            Err(fault) => return refused_line(line.number, fault),
         }
     }
     Ok(None)
 }
 
 /// Returns the file, with the status of its run.
-fn filed(file: Vec<u8>, refused: Option<u64>) -> Answer
+fn answer_of_file(file: Vec<u8>, refused: Option<u64>) -> Answer
     ensures text { result.text ≡ file }
     ensures status { IsStatusOf refused result.status }
 {
@@ -84,5 +84,5 @@ pub fn answer_of_capture(
     let mut capture = Capture::open(alloc, core.plant().consts());
     let refused = run_captured(alloc, core, lines.as_slice(), &mut capture)?;
     let file = capture.to_bytes(alloc)?;
-    Ok(filed(file, refused))
+    Ok(answer_of_file(file, refused))
 }

@@ -11,10 +11,10 @@ ghost use Rattle.script_format.specs.Input.{before_bar, plant_text};
 ghost use Rattle.script_format.specs.Script.{steps_of};
 ghost use Rattle.plant_script.specs.Check.{fault_text, answer_to_steps, check_of};
 ghost use Rattle.plant_script.specs.One.{is_readable};
-ghost use Rattle.plant_script.specs.declared.input.Stop.TheVariants.{Memory};
+ghost use Rattle.plant_script.specs.declared.input.AnswerFault.TheVariants.{Memory};
 
 use crate::answer::Answer;
-use crate::input::Stop;
+use crate::input::AnswerFault;
 use plant::Plant;
 use script_format::{LineFault, before_bar, plant_text, script_text, steps_of};
 use slice_table::{PlantFault, read_plant};
@@ -65,7 +65,7 @@ pub fn answer_to_line(alloc: Global, number: u64) -> Result<Answer, AllocError>
 }
 
 /// Returns what is answered to the script of a plant.
-fn answer_to_script(alloc: Global, plant: &Plant, script: &[u8]) -> Result<Answer, Stop>
+fn answer_to_script(alloc: Global, plant: &Plant, script: &[u8]) -> Result<Answer, AnswerFault>
     ensures value { IfOk result (λ answer. (answer.status ≡ (answer_to_steps (steps_of plant.now script.now)).status)
         × (answer.text.items ≡ (answer_to_steps (steps_of plant.now script.now)).text)) }
     ensures memory { IfErr result (λ stop. stop ≡ Memory) }
@@ -76,7 +76,7 @@ fn answer_to_script(alloc: Global, plant: &Plant, script: &[u8]) -> Result<Answe
             text: Vec::from_slice(alloc, b"ok\n")?,
         }),
         Err(LineFault::Shape { number }) => Ok(answer_to_line(alloc, number)?),
-        Err(LineFault::NoMemory) => Err(Stop::Memory),
+        Err(LineFault::NoMemory) => Err(AnswerFault::Memory),
     }
 }
 
@@ -92,7 +92,7 @@ pub(crate) fn plant_of_input(alloc: Global, input: &[u8], place: usize) -> Resul
 
 /// Returns what `check` answers to an input.
 #[tactic(auto, unfolding(crate::specs::Check::check_of))]
-pub fn check_of(alloc: Global, input: &[u8]) -> Result<Answer, Stop>
+pub fn check_of(alloc: Global, input: &[u8]) -> Result<Answer, AnswerFault>
     requires { is_readable input.now ≡ true }
     ensures value { IfOk result (λ answer. (answer.status ≡ (check_of input.now).status)
         × (answer.text.items ≡ (check_of input.now).text)) }
@@ -101,7 +101,7 @@ pub fn check_of(alloc: Global, input: &[u8]) -> Result<Answer, Stop>
     let place = before_bar(input);
     match plant_of_input(alloc, input, place) {
         Ok(plant) => answer_to_script(alloc, &plant, script_text(input, place)),
-        Err(PlantFault::NoMemory) => Err(Stop::Memory),
+        Err(PlantFault::NoMemory) => Err(AnswerFault::Memory),
         Err(fault) => Ok(answer_to_fault(alloc, fault)?),
     }
 }

@@ -13,7 +13,7 @@ use std::io::Write;
 use std::mem::{drop, forget};
 
 /// Returns the number of a line whose step is refused, other than for out of memory.
-pub(crate) fn refused(number: u64, fault: CoreFault) -> Result<Option<u64>, AllocError>
+pub(crate) fn refused_line(number: u64, fault: CoreFault) -> Result<Option<u64>, AllocError>
     ensures { IfOk result (λ refused. (refused ≡ Some number) × (fault ≢ NoMemory)) }
 {
     match fault {

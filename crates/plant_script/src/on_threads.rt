@@ -5,9 +5,9 @@ ghost use Rattle.std.specs.List.{flat_map};
 ghost use Rattle.std.specs.String.{string_bytes};
 ghost use Rattle.operator_book.specs.ViewOf.{view_of, policy_of};
 ghost use Rattle.run_audit.specs.Outs.{outs_from, outs_of};
-ghost use Rattle.run_receipts.specs.OwnParts.{outputs_of};
-ghost use Rattle.script_format.specs.Script.{unnumbered};
-ghost use Rattle.script_format.specs.Text.{named, map_line, output_line, outs_text};
+ghost use Rattle.run_receipts.specs.OwnParts.{history_outputs};
+ghost use Rattle.script_format.specs.Script.{steps_without_numbers};
+ghost use Rattle.script_format.specs.Text.{operator_name, map_line, output_line, outs_text};
 ghost use Rattle.plant_workers.specs.Faulting.{IsFault};
 ghost use Rattle.plant_script.specs.OnThreads.{IsThreadedRunOf, ReportsCore, ReportsFault, ReportsPlace, ReportsStray, place_text};
 
@@ -29,7 +29,7 @@ use std::thread::Threads;
 
 /// Returns the steps of lines, with memory of their own.
 fn steps_in(alloc: Global, lines: &[LineStep]) -> Result<Vec<Step>, AllocError>
-    ensures { IfOk result (λ steps. steps.items ≡ unnumbered lines.now) }
+    ensures { IfOk result (λ steps. steps.items ≡ steps_without_numbers lines.now) }
 {
     let mut steps = Vec::with_capacity(alloc, lines.len())?;
     for line in lines {
@@ -47,7 +47,7 @@ fn put_outputs(
     outputs: &[Output],
 ) -> Result<(), AllocError>
     ensures { OnOk result (string_bytes text.new ≡ string_bytes text.old
-        ++ flat_map (output_line (named (slice_get plant.now.rows op))) outputs.now) }
+        ++ flat_map (output_line (operator_name (slice_get plant.now.rows op))) outputs.now) }
 {
     for output in outputs {
         put_output(alloc, text, plant, op, output)?;
@@ -64,7 +64,7 @@ fn put_history(
     history: &[Entry],
 ) -> Result<(), AllocError>
     ensures { OnOk result (string_bytes text.new ≡ string_bytes text.old
-        ++ flat_map (output_line (named (slice_get plant.now.rows op))) (outputs_of history.now)) }
+        ++ flat_map (output_line (operator_name (slice_get plant.now.rows op))) (history_outputs history.now)) }
 {
     for entry in history {
         put_outputs(alloc, text, plant, op, entry.outputs.as_slice())?;
@@ -141,7 +141,7 @@ fn answer_to_stray(
     index: Option<usize>,
 ) -> Result<Answer, AllocError>
     ensures { IfOk result (λ answer.
-        ReportsStray (named (slice_get plant.now.rows op)) (place_text index) answer.status answer.text.items) }
+        ReportsStray (operator_name (slice_get plant.now.rows op)) (place_text index) answer.status answer.text.items) }
 {
     let mut text = String::from_str(alloc, "fault: strayed ")?;
     put_name(&mut text, plant, op)?;
@@ -160,7 +160,7 @@ fn answer_of_fault(
     lines: &[LineStep],
     fault: RunFault,
 ) -> Result<Answer, AllocError>
-    requires { IsFault plant.now (unnumbered lines.now) fault }
+    requires { IsFault plant.now (steps_without_numbers lines.now) fault }
     ensures { IfOk result (λ answer. ReportsFault plant.now lines.now fault answer.status answer.text.items) }
 {
     match fault {

@@ -14,7 +14,7 @@ use crate::operator_a::{consts_a, first_modem, row_a};
 use grant_policy::{Policy, RankInput, Ranking, rank_by};
 use hex::encode_upper;
 use operator_book::{Action, Book, BookFault, Heard, OpenFault, Output};
-use script_format::name_of;
+use script_format::cause_name;
 use std::alloc::{AllocError, Global};
 use tlv24::Bytes;
 
@@ -29,7 +29,7 @@ fn put_line(alloc: Global, text: &mut Vec<u8>, output: &Output) -> Result<(), Al
         }
         Output::Silent { modem: _, cause } => {
             text.extend_from_slice(b"S ")?;
-            text.extend_from_slice(name_of(*cause).as_bytes())?;
+            text.extend_from_slice(cause_name(*cause).as_bytes())?;
         }
         // Nothing ticks here.
         Output::Frame {

@@ -14,11 +14,11 @@ ghost use Rattle.plant_script.specs.One.{answer_of, is_readable};
 use crate::answer::Answer;
 use crate::check::check_of;
 use crate::ending::Ending;
-use crate::input::{Stop, read_input};
+use crate::input::{AnswerFault, read_input};
 use crate::one::text_of;
 use crate::running::write_ranked;
 use crate::serving::serve_words;
-use crate::task::{Served, Wanted, task_of};
+use crate::task::{InputOutcome, Wanted, task_of};
 use command_line::{Word, WordsFault, read_words};
 use diagnostics::{Trouble, reason_of, reason_of_trouble, reason_of_words};
 use script_format::{LineFault, before_bar, messages_of, parts_of, script_text};
@@ -119,11 +119,11 @@ pub(crate) fn finish<W: Write>(writer: &mut W, status: u8, text: &[u8]) -> u8
 
 /// Returns what `one` answers to an input.
 #[tactic(auto, unfolding(crate::specs::One::answer_of))]
-fn answer_of(alloc: Global, input: &[u8]) -> Result<Answer, Stop>
+fn answer_of(alloc: Global, input: &[u8]) -> Result<Answer, AnswerFault>
     requires { is_readable input.now ≡ true }
     ensures value { IfOk result (λ answer. (answer.status ≡ (answer_of input.now).status)
         × (answer.text.items ≡ (answer_of input.now).text)) }
-    ensures memory { IfErr result (λ stop. stop ≡ Stop.Memory) }
+    ensures memory { IfErr result (λ stop. stop ≡ AnswerFault.Memory) }
 {
     let lines = parts_of(alloc, b'\n', input)?;
     match messages_of(alloc, lines.as_slice()) {
@@ -136,20 +136,20 @@ fn answer_of(alloc: Global, input: &[u8]) -> Result<Answer, Stop>
             let text = line.into_bytes();
             Ok(Answer { status: 4, text })
         }
-        Err(LineFault::NoMemory) => Err(Stop::Memory),
+        Err(LineFault::NoMemory) => Err(AnswerFault::Memory),
     }
 }
 
 /// Returns what is done for an input.
-fn serve_input(alloc: Global, word: Word<'_>, input: &[u8]) -> Result<Served, Stop>
+fn serve_input(alloc: Global, word: Word<'_>, input: &[u8]) -> Result<InputOutcome, AnswerFault>
     requires readable { is_readable input.now ≡ true }
     requires whole { word ≢ words.Serve }
     ensures served { IfOk result (λ served. Comes served (Answers (order_of word.entry) input.now)) }
-    ensures memory { IfErr result (λ stop. stop ≡ Stop.Memory) }
+    ensures memory { IfErr result (λ stop. stop ≡ AnswerFault.Memory) }
 {
     match word {
-        Word::One => Ok(Served::Answer(answer_of(alloc, input)?)),
-        Word::Check => Ok(Served::Answer(check_of(alloc, input)?)),
+        Word::One => Ok(InputOutcome::Answer(answer_of(alloc, input)?)),
+        Word::Check => Ok(InputOutcome::Answer(check_of(alloc, input)?)),
         Word::Run => task_of(alloc, Wanted::Run, input),
         Word::Threads => task_of(alloc, Wanted::Threads, input),
         Word::Capture => task_of(alloc, Wanted::Capture, input),
@@ -165,12 +165,12 @@ fn serve<R: Read>(
     word: Word<'_>,
     reader: &mut R,
     seen: &mut Seen<'_>,
-) -> Result<Served, Stop>
+) -> Result<InputOutcome, AnswerFault>
     requires untried { seen.old.failed ≡ false }
     requires whole { word ≢ words.Serve }
     ensures served { IfOk result (λ served.
         IfSome (R.remaining reader.old) (λ input. Comes served (Answers (order_of word.entry) input))) }
-    ensures io { (result ≡ Err Stop.Io)
+    ensures io { (result ≡ Err AnswerFault.Io)
         → (seen.new.failed ≡ true) ⊎ IfSome (R.remaining reader.old) (λ input. is_readable input ≡ false) }
 {
     let input = read_input(alloc, reader, &mut seen.failed, &mut seen.valid)?;
@@ -188,14 +188,14 @@ fn script_of<'s>(seen: &'s Seen<'_>) -> &'s [u8] {
 }
 
 /// Writes why there is no answer.
-pub(crate) fn stopped<W: Write>(writer: &mut W, stop: Stop) -> u8
-    ensures memory { stop ≡ Stop.Memory → result ≢ 6 → (result ≡ 5)
+pub(crate) fn write_fault<W: Write>(writer: &mut W, stop: AnswerFault) -> u8
+    ensures memory { stop ≡ AnswerFault.Memory → result ≢ 6 → (result ≡ 5)
         × Appends (W.contents writer.old) (W.contents writer.new) memory_line }
-    ensures io { stop ≡ Stop.Io → result ≡ 6 }
+    ensures io { stop ≡ AnswerFault.Io → result ≡ 6 }
 {
     match stop {
-        Stop::Memory => finish(writer, 5, b"fault: memory\n"),
-        Stop::Io => finish(writer, 6, b"fault: io\n"),
+        AnswerFault::Memory => finish(writer, 5, b"fault: memory\n"),
+        AnswerFault::Io => finish(writer, 6, b"fault: io\n"),
     }
 }
 
@@ -208,7 +208,7 @@ fn answer_to_words<W: Write>(writer: &mut W, fault: WordsFault) -> u8
     match fault {
         WordsFault::Help { text } => finish(writer, 0, text.as_bytes()),
         WordsFault::Wrong => finish(writer, 2, b"fault: words\n"),
-        WordsFault::NoMemory => stopped(writer, Stop::Memory),
+        WordsFault::NoMemory => write_fault(writer, AnswerFault::Memory),
     }
 }
 
@@ -254,11 +254,11 @@ fn answer_of_words<'a, H: Threads + Wait + Sync, R: Read, W: Write>(
         );
     }
     let task = match serve(alloc, word, reader, seen) {
-        Ok(Served::Task(task)) => task,
-        Ok(Served::Answer(answer)) => {
+        Ok(InputOutcome::Task(task)) => task,
+        Ok(InputOutcome::Answer(answer)) => {
             return finish(writer, answer.status, answer.text.as_slice());
         }
-        Err(stop) => return stopped(writer, stop),
+        Err(stop) => return write_fault(writer, stop),
     };
     write_ranked(rt, alloc, task, script_of(seen), ending, writer)
 }

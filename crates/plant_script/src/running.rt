@@ -11,15 +11,15 @@ ghost use Rattle.live_core.specs.LiveView.{live_view};
 ghost use Rattle.plant_script.specs.Done.{HasRun, book_text};
 ghost use Rattle.plant_script.specs.Run.{IsRunOf};
 ghost use Rattle.plant_script.specs.Task.{history_at, RunsTo, IsTold, EndsRun, IsEnded};
-ghost use Rattle.plant_script.specs.declared.task.Told.TheVariants as tellings;
+ghost use Rattle.plant_script.specs.declared.task.OutputMode.TheVariants as tellings;
 
 use crate::answer::Answer;
 use crate::capturing::answer_of_capture;
-use crate::ending::{Ending, put_away, refused, write_end};
-use crate::input::Stop;
+use crate::ending::{Ending, put_away, refused_line, write_end};
+use crate::input::AnswerFault;
 use crate::on_threads::answer_of_threads;
-use crate::program::{finish, stopped};
-use crate::task::{Task, Told};
+use crate::program::{finish, write_fault};
+use crate::task::{OutputMode, Task};
 use crate::tracing::write_traced_run;
 use grant_policy::{RankInput, Ranking, rank_by};
 use line_service::run_steps;
@@ -47,14 +47,14 @@ fn run_unheard(
     for LineStep { number, step } in lines {
         match core.step(alloc, step) {
             Ok(_outs) => {}
-            Err(fault) => return refused(number, fault),
+            Err(fault) => return refused_line(number, fault),
         }
     }
     Ok(None)
 }
 
 /// Returns the text, and after it the invalid line, if there is one.
-fn ended(mut text: String, refused: Option<u64>) -> Result<Answer, AllocError>
+fn answer_of_text(mut text: String, refused: Option<u64>) -> Result<Answer, AllocError>
     ensures { IfOk result (λ answer. IsEnded (string_bytes text) refused answer) }
 {
     let mut status = 0;
@@ -91,7 +91,7 @@ fn answer_of_history(
     let refused = run_unheard(alloc, core, lines)?;
     let mut text = String::new(alloc);
     put_history(alloc, &mut text, core, op)?;
-    ended(text, refused)
+    answer_of_text(text, refused)
 }
 
 /// Returns a core of the plant, as it is opened. The rankings are in the plant's order of
@@ -144,21 +144,21 @@ fn answer_of_task<R: Threads + Wait + Sync>(
 {
     let Task { plant, lines, told } = task;
     match told {
-        Told::Outs => unreachable!(),
-        Told::History(op) => {
+        OutputMode::Outs => unreachable!(),
+        OutputMode::History(op) => {
             let mut core = core_of(alloc, plant, rankings)?;
             let answer = answer_of_history(alloc, &mut core, op, lines)?;
             put_away(core, ending);
             Ok(answer)
         }
-        Told::Capture => {
+        OutputMode::Capture => {
             let mut core = core_of(alloc, plant, rankings)?;
             let answer = answer_of_capture(alloc, &mut core, lines)?;
             put_away(core, ending);
             Ok(answer)
         }
-        Told::Threads => answer_of_threads(rt, alloc, plant, lines, rankings),
-        Told::Trace => unreachable!(),
+        OutputMode::Threads => answer_of_threads(rt, alloc, plant, lines, rankings),
+        OutputMode::Trace => unreachable!(),
     }
 }
 
@@ -200,14 +200,14 @@ fn write_outs_run<W: Write>(
         told: _,
     } = task;
     let Ok(mut core) = live_core_of(alloc, plant, rankings) else {
-        return stopped(writer, Stop::Memory);
+        return write_fault(writer, AnswerFault::Memory);
     };
     match write_run(alloc, &mut core, lines, writer) {
         Ok(status) => {
             put_away(core, ending);
             status
         }
-        Err(_failed) => stopped(writer, Stop::Io),
+        Err(_failed) => write_fault(writer, AnswerFault::Io),
     }
 }
 
@@ -227,15 +227,15 @@ fn write_task<R: Threads + Wait + Sync, W: Write>(
     ensures { result ≢ 6 → IsTold task.plant task.told task.lines.items result
         (λ text. Appends (W.contents writer.old) (W.contents writer.new) text) }
 {
-    if let Told::Outs = task.told {
+    if let OutputMode::Outs = task.told {
         return write_outs_run(alloc, task, rankings, ending, writer);
     }
-    if let Told::Trace = task.told {
+    if let OutputMode::Trace = task.told {
         return write_traced_run(alloc, task, script, rankings, ending, writer);
     }
     match answer_of_task(rt, alloc, task, rankings, ending) {
         Ok(answer) => finish(writer, answer.status, answer.text.as_slice()),
-        Err(_full) => stopped(writer, Stop::Memory),
+        Err(_full) => write_fault(writer, AnswerFault::Memory),
     }
 }
 
@@ -259,11 +259,11 @@ pub fn write_ranked<R: Threads + Wait + Sync, W: Write>(
         let Ok(rank) = Box::new(alloc, move |input: RankInput| -> u8 {
             rank_by(policy, &input)
         }) else {
-            return stopped(writer, Stop::Memory);
+            return write_fault(writer, AnswerFault::Memory);
         };
         let ranking = Ranking::new(row.get_fields().policy, rank);
         if rankings.push(ranking).is_err() {
-            return stopped(writer, Stop::Memory);
+            return write_fault(writer, AnswerFault::Memory);
         }
     }
     write_task(rt, alloc, task, script, rankings, ending, writer)

@@ -8,8 +8,8 @@ ghost use Rattle.plant_script.specs.Words.{AnswersServe};
 
 use crate::answer::Answer;
 use crate::check::answer_to_fault;
-use crate::input::Stop;
-use crate::program::{finish, stopped};
+use crate::input::AnswerFault;
+use crate::program::{finish, write_fault};
 use crate::running::live_core_of;
 use grant_policy::{RankInput, Ranking, rank_by};
 use line_service::{LineBuffer, read_plant_text, serve};
@@ -34,21 +34,21 @@ pub enum Front {
     Answer(Answer),
 }
 
-/// Returns the plant of a plant file; `Stop::Io` where it is not UTF-8, of which it is noted how
-/// many bytes are.
-fn front_of(alloc: Global, text: &[u8], valid: &mut Option<usize>) -> Result<Front, Stop>
+/// Returns the plant of a plant file; `AnswerFault::Io` where it is not UTF-8, of which it is noted
+/// how many bytes are.
+fn front_of(alloc: Global, text: &[u8], valid: &mut Option<usize>) -> Result<Front, AnswerFault>
     ensures { IfOk result (λ front. IsFrontOf text.now front) }
 {
     let text = match str::from_utf8(text) {
         Ok(text) => text,
         Err(error) => {
             *valid = Some(error.valid_up_to());
-            return Err(Stop::Io);
+            return Err(AnswerFault::Io);
         }
     };
     match read_plant(alloc, text) {
         Ok(plant) => Ok(Front::Plant(Service { plant })),
-        Err(PlantFault::NoMemory) => Err(Stop::Memory),
+        Err(PlantFault::NoMemory) => Err(AnswerFault::Memory),
         Err(fault) => {
             let answer = answer_to_fault(alloc, fault)?;
             Ok(Front::Answer(answer))
@@ -57,11 +57,11 @@ fn front_of(alloc: Global, text: &[u8], valid: &mut Option<usize>) -> Result<Fro
 }
 
 /// Returns why a plant file could not be read.
-fn stop_of(error: &io::Error) -> Stop {
+fn stop_of(error: &io::Error) -> AnswerFault {
     if error.kind() == io::ErrorKind::OutOfMemory {
-        Stop::Memory
+        AnswerFault::Memory
     } else {
-        Stop::Io
+        AnswerFault::Io
     }
 }
 
@@ -81,14 +81,14 @@ fn serve_ranked<R: Read, W: Write>(
 {
     let Service { plant } = service;
     let Ok(held) = LineBuffer::new(alloc) else {
-        return stopped(writer, Stop::Memory);
+        return write_fault(writer, AnswerFault::Memory);
     };
     let Ok(mut core) = live_core_of(alloc, plant, rankings) else {
-        return stopped(writer, Stop::Memory);
+        return write_fault(writer, AnswerFault::Memory);
     };
     match serve(alloc, &mut core, held, reader, writer) {
         Ok(()) => 0,
-        Err(_failed) => stopped(writer, Stop::Io),
+        Err(_failed) => write_fault(writer, AnswerFault::Io),
     }
 }
 
@@ -109,11 +109,11 @@ fn serve_plant<R: Read, W: Write>(
         let Ok(rank) = Box::new(alloc, move |input: RankInput| -> u8 {
             rank_by(policy, &input)
         }) else {
-            return stopped(writer, Stop::Memory);
+            return write_fault(writer, AnswerFault::Memory);
         };
         let ranking = Ranking::new(row.get_fields().policy, rank);
         if rankings.push(ranking).is_err() {
-            return stopped(writer, Stop::Memory);
+            return write_fault(writer, AnswerFault::Memory);
         }
     }
     serve_ranked(alloc, service, rankings, reader, writer)
@@ -137,7 +137,7 @@ pub(crate) fn serve_words<R: Read, W: Write>(
         Ok(text) => text,
         Err(error) => {
             *failed = error.kind() != io::ErrorKind::FileTooLarge;
-            return stopped(writer, stop_of(&error));
+            return write_fault(writer, stop_of(&error));
         }
     };
     let front = front_of(alloc, text.as_slice(), valid);
@@ -145,6 +145,6 @@ pub(crate) fn serve_words<R: Read, W: Write>(
     match front {
         Ok(Front::Plant(service)) => serve_plant(alloc, service, reader, writer),
         Ok(Front::Answer(answer)) => finish(writer, answer.status, answer.text.as_slice()),
-        Err(stop) => stopped(writer, stop),
+        Err(stop) => write_fault(writer, stop),
     }
 }

@@ -6,13 +6,13 @@ ghost use Rattle.toml.specs.Parse.{parse_document};
 ghost use Rattle.slice_table.specs.ReadPlant.{text_plant};
 ghost use Rattle.script_format.specs.Script.{is_named, steps_of};
 ghost use Rattle.plant_script.specs.One.{is_readable};
-ghost use Rattle.plant_script.specs.Task.{RunsTo, asked, Comes};
+ghost use Rattle.plant_script.specs.Task.{RunsTo, AnswersWanted, Comes};
 ghost use Rattle.plant_script.specs.Words.{AnswersSteps, AnswersOperator, AnswersPlant, AnswersInput};
-ghost use Rattle.plant_script.specs.declared.input.Stop.TheVariants.{Memory};
+ghost use Rattle.plant_script.specs.declared.input.AnswerFault.TheVariants.{Memory};
 
 use crate::answer::Answer;
 use crate::check::{answer_to_fault, answer_to_line, plant_of_input};
-use crate::input::Stop;
+use crate::input::AnswerFault;
 use plant::{Op, Plant};
 use script_format::{LineFault, LineStep, before_bar, place_of, script_text, steps_of};
 use slice_table::PlantFault;
@@ -20,7 +20,7 @@ use std::alloc::Global;
 
 /// What is written of a run.
 #[derive(Clone, Copy, Debug, PartialEq, Eq)]
-pub enum Told {
+pub enum OutputMode {
     /// A line for each output.
     Outs,
     /// A line for each of an operator's own steps.
@@ -54,12 +54,12 @@ pub struct Task {
     pub plant: Plant,
     /// The script's steps.
     pub lines: Vec<LineStep>,
-    pub told: Told,
+    pub told: OutputMode,
 }
 
 /// What is done for an input.
 #[derive(Drop)]
-pub enum Served {
+pub enum InputOutcome {
     /// It is answered.
     Answer(Answer),
     /// A run answers it.
@@ -67,30 +67,40 @@ pub enum Served {
 }
 
 /// Returns the run of a script, where it is well.
-fn task_of_script(alloc: Global, plant: Plant, told: Told, script: &[u8]) -> Result<Served, Stop>
+fn task_of_script(
+    alloc: Global,
+    plant: Plant,
+    told: OutputMode,
+    script: &[u8],
+) -> Result<InputOutcome, AnswerFault>
     ensures value { IfOk result (λ served.
         Comes served (AnswersSteps (RunsTo plant told) (steps_of plant script.now))) }
     ensures memory { IfErr result (λ stop. stop ≡ Memory) }
 {
     match steps_of(alloc, &plant, script) {
-        Ok(lines) => Ok(Served::Task(Task { plant, lines, told })),
+        Ok(lines) => Ok(InputOutcome::Task(Task { plant, lines, told })),
         Err(LineFault::Shape { number }) => {
             let answer = answer_to_line(alloc, number)?;
-            Ok(Served::Answer(answer))
+            Ok(InputOutcome::Answer(answer))
         }
-        Err(LineFault::NoMemory) => Err(Stop::Memory),
+        Err(LineFault::NoMemory) => Err(AnswerFault::Memory),
     }
 }
 
 /// Returns the run of a script, reported of the operator of this name.
-fn task_of_operator(alloc: Global, plant: Plant, name: &str, script: &[u8]) -> Result<Served, Stop>
+fn task_of_operator(
+    alloc: Global,
+    plant: Plant,
+    name: &str,
+    script: &[u8],
+) -> Result<InputOutcome, AnswerFault>
     ensures value { IfOk result (λ served.
         Comes served (AnswersOperator plant script.now (position_from (is_named name.now) 0 plant.rows))) }
     ensures memory { IfErr result (λ stop. stop ≡ Memory) }
 {
     match place_of(plant.rows(), name.as_bytes()) {
-        Some(op) => task_of_script(alloc, plant, Told::History(op), script),
-        None => Ok(Served::Answer(Answer {
+        Some(op) => task_of_script(alloc, plant, OutputMode::History(op), script),
+        None => Ok(InputOutcome::Answer(Answer {
             status: 2,
             text: Vec::from_slice(alloc, b"fault: words\n")?,
         })),
@@ -103,32 +113,32 @@ fn task_of_plant(
     plant: Plant,
     wanted: Wanted<'_>,
     script: &[u8],
-) -> Result<Served, Stop>
-    ensures value { IfOk result (λ served. Comes served (asked wanted.entry plant script.now)) }
+) -> Result<InputOutcome, AnswerFault>
+    ensures value { IfOk result (λ served. Comes served (AnswersWanted wanted.entry plant script.now)) }
     ensures memory { IfErr result (λ stop. stop ≡ Memory) }
 {
     match wanted {
-        Wanted::Run => task_of_script(alloc, plant, Told::Outs, script),
-        Wanted::Threads => task_of_script(alloc, plant, Told::Threads, script),
-        Wanted::Capture => task_of_script(alloc, plant, Told::Capture, script),
-        Wanted::Trace => task_of_script(alloc, plant, Told::Trace, script),
+        Wanted::Run => task_of_script(alloc, plant, OutputMode::Outs, script),
+        Wanted::Threads => task_of_script(alloc, plant, OutputMode::Threads, script),
+        Wanted::Capture => task_of_script(alloc, plant, OutputMode::Capture, script),
+        Wanted::Trace => task_of_script(alloc, plant, OutputMode::Trace, script),
         Wanted::History(name) => task_of_operator(alloc, plant, name, script),
     }
 }
 
 /// Returns the run of an input's script on its plant, reported as it is wanted.
-pub fn task_of(alloc: Global, wanted: Wanted<'_>, input: &[u8]) -> Result<Served, Stop>
+pub fn task_of(alloc: Global, wanted: Wanted<'_>, input: &[u8]) -> Result<InputOutcome, AnswerFault>
     requires { is_readable input.now ≡ true }
-    ensures value { IfOk result (λ served. Comes served (AnswersInput (asked wanted.entry) input.now)) }
+    ensures value { IfOk result (λ served. Comes served (AnswersInput (AnswersWanted wanted.entry) input.now)) }
     ensures memory { IfErr result (λ stop. stop ≡ Memory) }
 {
     let place = before_bar(input);
     match plant_of_input(alloc, input, place) {
         Ok(plant) => task_of_plant(alloc, plant, wanted, script_text(input, place)),
-        Err(PlantFault::NoMemory) => Err(Stop::Memory),
+        Err(PlantFault::NoMemory) => Err(AnswerFault::Memory),
         Err(fault) => {
             let answer = answer_to_fault(alloc, fault)?;
-            Ok(Served::Answer(answer))
+            Ok(InputOutcome::Answer(answer))
         }
     }
 }

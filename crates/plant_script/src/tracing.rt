@@ -6,11 +6,11 @@ ghost use Rattle.run_model.specs.IsStateAfter.{IsStateAfter};
 ghost use Rattle.plant_core.specs.CoreView.{core_view};
 ghost use Rattle.plant_script.specs.Traced.{EndsTraced};
 ghost use Rattle.plant_script.specs.Task.{IsTold};
-ghost use Rattle.plant_script.specs.declared.task.Told.TheVariants as tellings;
+ghost use Rattle.plant_script.specs.declared.task.OutputMode.TheVariants as tellings;
 
 use crate::ending::{Ending, put_away, write_end};
-use crate::input::Stop;
-use crate::program::stopped;
+use crate::input::AnswerFault;
+use crate::program::write_fault;
 use crate::running::core_of;
 use crate::task::Task;
 use grant_policy::Ranking;
@@ -61,13 +61,13 @@ pub fn write_traced_run<W: Write>(
         told: _,
     } = task;
     let Ok(mut core) = core_of(alloc, plant, rankings) else {
-        return stopped(writer, Stop::Memory);
+        return write_fault(writer, AnswerFault::Memory);
     };
     match write_traced(alloc, &mut core, script, lines, writer) {
         Ok(status) => {
             put_away(core, ending);
             status
         }
-        Err(_failed) => stopped(writer, Stop::Io),
+        Err(_failed) => write_fault(writer, AnswerFault::Io),
     }
 }

@@ -6,16 +6,16 @@ use Rattle.std.proofs.lemmas.Bool.{cases_eq, cases_lt, lt-ltb, le-ltb}
 use Rattle.std.proofs.lemmas.Option.{slice_get_within, same_Some}
 use Rattle.run_model.proofs.Entries.{same_at}
 use Rattle.cell_state.specs.declared.cell_fault.CellFault.{CellFault}
-use Rattle.plant_workers.specs.declared.thread_report.Refusal.{Refusal}
-use Rattle.plant_workers.specs.Refusing.{own_turn, lesser, EndsLeast, IsLeastOf, IsLeastTurn}
+use Rattle.plant_workers.specs.declared.thread_report.EarlyEnd.{EarlyEnd}
+use Rattle.plant_workers.specs.Refusing.{own_turn, lesser_turn, EndsLeast, IsLeastOf, IsLeastTurn}
 
 abbrev Turned : Type 0
 Turned = ℕ × CellFault
 
-module _ (refused : List (Option Refusal)) (at : ℕ) (r : Option Refusal) (here : slice_get refused at ≡ Some r) where
+module _ (refused : List (Option EarlyEnd)) (at : ℕ) (r : Option EarlyEnd) (here : slice_get refused at ≡ Some r) where
   -- a fact of the threads before this one, and of this one
-  pub next : (P : Option Refusal → Type 0) → ((i : ℕ) (other : Option Refusal) → i < at → slice_get refused i ≡ Some other → P other) → P r
-      → (i : ℕ) (other : Option Refusal) → i < at + 1 → slice_get refused i ≡ Some other → P other
+  pub next : (P : Option EarlyEnd → Type 0) → ((i : ℕ) (other : Option EarlyEnd) → i < at → slice_get refused i ≡ Some other → P other) → P r
+      → (i : ℕ) (other : Option EarlyEnd) → i < at + 1 → slice_get refused i ≡ Some other → P other
   next P before this i other lt there = by (cases_eq i at)
     where
       by : (i ≡ at) ⊎ (i ≡ at → ⊥) → P other
@@ -23,7 +23,7 @@ module _ (refused : List (Option Refusal)) (at : ℕ) (r : Option Refusal) (here
       by (inr ne) = before i other (omega (arith, lt, ne)) there
 
   this_least : (turn : Turned) → own_turn r ≡ Some turn
-      → ((i : ℕ) (other : Option Refusal) → i < at → slice_get refused i ≡ Some other → (t : Turned) → own_turn other ≡ Some t → turn.0 ≤ t.0)
+      → ((i : ℕ) (other : Option EarlyEnd) → i < at → slice_get refused i ≡ Some other → (t : Turned) → own_turn other ≡ Some t → turn.0 ≤ t.0)
       → EndsLeast refused (at + 1) turn
   this_least turn e before = record {
     place = at;
@@ -31,7 +31,7 @@ module _ (refused : List (Option Refusal)) (at : ℕ) (r : Option Refusal) (here
     refusal_is = here;
     turn_is = e;
     least = λ i other t lt there is.
-        next (λ (o : Option Refusal). (u : Turned) → own_turn o ≡ Some u → turn.0 ≤ u.0) before
+        next (λ (o : Option EarlyEnd). (u : Turned) → own_turn o ≡ Some u → turn.0 ≤ u.0) before
         (λ u f. let same : turn ≡ u = same_Some turn u (sym e ∙ f) in let first : turn.0 ≡ u.0 = ap (λ (x : Turned). x.0) same in omega (arith, first)) i other lt there t is;
   }
 
@@ -42,22 +42,22 @@ module _ (refused : List (Option Refusal)) (at : ℕ) (r : Option Refusal) (here
     refusal_is = so_far.refusal_is;
     turn_is = so_far.turn_is;
     least = λ i other t lt there is.
-        next (λ (o : Option Refusal). (u : Turned) → own_turn o ≡ Some u → turn.0 ≤ u.0) (λ j o below at_j u f. so_far.least j o u below at_j f) this i other lt there t is;
+        next (λ (o : Option EarlyEnd). (u : Turned) → own_turn o ≡ Some u → turn.0 ≤ u.0) (λ j o below at_j u f. so_far.least j o u below at_j f) this i other lt there t is;
   }
 
-  pub least_more : (least : Option Turned) → IsLeastOf refused at least → IsLeastOf refused (at + 1) (lesser least (own_turn r))
+  pub least_more : (least : Option Turned) → IsLeastOf refused at least → IsLeastOf refused (at + 1) (lesser_turn least (own_turn r))
   least_more None so_far = by (own_turn r) refl
     where
-      by : (o : Option Turned) → own_turn r ≡ o → IsLeastOf refused (at + 1) (lesser None o)
-      by None e = next (λ (o : Option Refusal). own_turn o ≡ None) so_far e
+      by : (o : Option Turned) → own_turn r ≡ o → IsLeastOf refused (at + 1) (lesser_turn None o)
+      by None e = next (λ (o : Option EarlyEnd). own_turn o ≡ None) so_far e
       by (Some turn) e = this_least turn e (λ i other lt there t is. let none : own_turn other ≡ None = so_far i other lt there in cc)
   least_more (Some least) so_far = by (own_turn r) refl
     where
-      by : (o : Option Turned) → own_turn r ≡ o → IsLeastOf refused (at + 1) (lesser (Some least) o)
+      by : (o : Option Turned) → own_turn r ≡ o → IsLeastOf refused (at + 1) (lesser_turn (Some least) o)
       by None e = earlier_least least so_far (λ t f. cc)
       by (Some turn) e = which (cases_lt turn.0 least.0)
         where
-          which : (turn.0 < least.0) ⊎ (least.0 ≤ turn.0) → IsLeastOf refused (at + 1) (lesser (Some least) (Some turn))
+          which : (turn.0 < least.0) ⊎ (least.0 ≤ turn.0) → IsLeastOf refused (at + 1) (lesser_turn (Some least) (Some turn))
           which (inl lt) =
               subst (IsLeastOf refused (at + 1)) (sym (ap (λ (b : Bool). if b then Some turn else Some least) (lt-ltb turn.0 least.0 lt)))
               (this_least turn e (λ i other below there t is. let le : least.0 ≤ t.0 = so_far.least i other t below there is in omega (arith, lt, le)))
@@ -65,7 +65,7 @@ module _ (refused : List (Option Refusal)) (at : ℕ) (r : Option Refusal) (here
               subst (IsLeastOf refused (at + 1)) (sym (ap (λ (b : Bool). if b then Some turn else Some least) (le-ltb turn.0 least.0 le)))
               (earlier_least least so_far (λ t f. let same : turn ≡ t = same_Some turn t (sym e ∙ f) in let first : turn.0 ≡ t.0 = ap (λ (x : Turned). x.0) same in omega (arith, first, le)))
 
-pub least_end : (refused : List (Option Refusal)) (n : ℕ) (least : Option Turned) → length refused ≡ n → IsLeastOf refused n least → IsLeastTurn refused least
+pub least_end : (refused : List (Option EarlyEnd)) (n : ℕ) (least : Option Turned) → length refused ≡ n → IsLeastOf refused n least → IsLeastTurn refused least
 least_end refused n least long so_far = subst (λ (k : ℕ). IsLeastOf refused k least) (sym long) so_far
 
 -- one of the values at the items is so where it is so at one of the items

@@ -13,7 +13,7 @@ use Rattle.plant_core.specs.declared.core_fault.ResliceFault.{ResliceFault}
 use Rattle.plant_core.specs.Reslicing.{reslice_fault}
 use Rattle.run_receipts.specs.declared.run_fault.RunFault.{RunFault}
 use Rattle.run_receipts.specs.declared.run_fault.RunFault.TheVariants.{Core, Strayed, ResliceRefused}
-use Rattle.run_audit.specs.Straying.{AreOwn, IsStray}
+use Rattle.run_audit.specs.Straying.{AreOwnRuns, IsStrayHistory}
 use Rattle.run_plan.specs.Serving.{IsServable, IsFirstUnserved}
 
 -- a book refused an action, or the assembly a frame, and not for out of memory
@@ -45,15 +45,15 @@ pub record IsToldAt (all : List Step) (at : ℕ) (books : List BookView) (fault 
 pub record IsResliceFault (plant : PlantFields) (all : List Step) (at : ℕ) (fault : ResliceFault) : Type 0 where
   pub books : List BookView
   pub one_each : length books ≡ length plant.rows
-  pub own : AreOwn plant (take at all) books
+  pub own : AreOwnRuns plant (take at all) books
   pub refused : RefuseAt all at books fault
 
 -- The fault of a run of which the `Reslice` at this place was refused for this fault, over these books, of which there is one for
 -- each operator: where the first of them strays from the steps before, else that refusal. No other fault is reported.
 abbrev pub IsOfReslice : PlantFields → List Step → ℕ → List BookView → ResliceFault → RunFault → Type 0
-IsOfReslice plant all at books refusal (Strayed op index) = IsStray plant (take at all) books op index
+IsOfReslice plant all at books refusal (Strayed op index) = IsStrayHistory plant (take at all) books op index
 IsOfReslice plant all at books refusal (ResliceRefused place fault) =
-    AreOwn plant (take at all) books × (place ≡ at) × (fault ≡ refusal)
+    AreOwnRuns plant (take at all) books × (place ≡ at) × (fault ≡ refusal)
 IsOfReslice plant all at books refusal fault = ⊥
 
 -- a fault that comes once each step is known to find what it asks for

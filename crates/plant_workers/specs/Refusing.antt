@@ -11,21 +11,21 @@ use Rattle.cell_state.specs.declared.cell_fault.CellFault.{CellFault}
 use Rattle.cell_state.specs.declared.cell_fault.CellFault.TheVariants.{Book, Passed, Stopped, Closed}
 use Rattle.cell_state.specs.Telling.{IsOfTurn, IsOfTaking}
 use Rattle.operator_model.specs.declared.action.Action.{Action}
-use Rattle.plant_workers.specs.declared.thread_report.Refusal.{Refusal}
-use Rattle.plant_workers.specs.declared.thread_report.Refusal.TheVariants.{Turn, Assembly}
+use Rattle.plant_workers.specs.declared.thread_report.EarlyEnd.{EarlyEnd}
+use Rattle.plant_workers.specs.declared.thread_report.EarlyEnd.TheVariants.{Turn, Assembly}
 
 -- a thread ends on the turn of this operator at this place, for a fault of this action (implementation-specific)
-abbrev pub IsOfAct : ℕ → ℕ → Action → Refusal → Type 0
+abbrev pub IsOfAct : ℕ → ℕ → Action → EarlyEnd → Type 0
 IsOfAct op index action (Turn other fault) = (other ≡ op) × IsOfTurn op index action fault
 IsOfAct op index action (Assembly fault) = ⊥
 
 -- a thread ends on a frame of this operator that cannot be taken, or that the assembly refuses (implementation-specific)
-abbrev pub IsOfPut : ℕ → Refusal → Type 0
+abbrev pub IsOfPut : ℕ → EarlyEnd → Type 0
 IsOfPut op (Turn other fault) = (other ≡ op) × IsOfTaking op fault
 IsOfPut op (Assembly fault) = Unit {0}
 
 -- the turn on which a thread ended, if the operator refused it for itself, and was not stopped for another's sake
-abbrev pub own_turn : Option Refusal → Option (ℕ × CellFault)
+abbrev pub own_turn : Option EarlyEnd → Option (ℕ × CellFault)
 own_turn None = None
 own_turn (Some (Turn op (Book fault))) = Some (op, Book fault)
 own_turn (Some (Turn op (Passed other index))) = Some (op, Passed other index)
@@ -34,28 +34,28 @@ own_turn (Some (Turn op Closed)) = None
 own_turn (Some (Assembly fault)) = None
 
 -- the turn of the lesser operator, where there are two
-abbrev pub lesser : Option (ℕ × CellFault) → Option (ℕ × CellFault) → Option (ℕ × CellFault)
-lesser None b = b
-lesser (Some a) None = Some a
-lesser (Some a) (Some b) = if nat_lt b.0 a.0 then Some b else Some a
+abbrev pub lesser_turn : Option (ℕ × CellFault) → Option (ℕ × CellFault) → Option (ℕ × CellFault)
+lesser_turn None b = b
+lesser_turn (Some a) None = Some a
+lesser_turn (Some a) (Some b) = if nat_lt b.0 a.0 then Some b else Some a
 
 -- one of the first threads ended on this turn, and none on a turn of a lesser operator
-pub record EndsLeast (refused : List (Option Refusal)) (count : ℕ) (turn : ℕ × CellFault) : Type 0 where
+pub record EndsLeast (refused : List (Option EarlyEnd)) (count : ℕ) (turn : ℕ × CellFault) : Type 0 where
   pub place : ℕ
-  pub refusal : Option Refusal
+  pub refusal : Option EarlyEnd
   pub refusal_is : slice_get refused place ≡ Some refusal
   pub turn_is : own_turn refusal ≡ Some turn
-  pub least : (i : ℕ) (other : Option Refusal) (turn' : ℕ × CellFault) → i < count → slice_get refused i ≡ Some other
+  pub least : (i : ℕ) (other : Option EarlyEnd) (turn' : ℕ × CellFault) → i < count → slice_get refused i ≡ Some other
       → own_turn other ≡ Some turn' → turn.0 ≤ turn'.0
 
 -- of the first threads, the turn that the least operator refused for itself; none where none did
-abbrev pub IsLeastOf : List (Option Refusal) → ℕ → Option (ℕ × CellFault) → Type 0
+abbrev pub IsLeastOf : List (Option EarlyEnd) → ℕ → Option (ℕ × CellFault) → Type 0
 IsLeastOf refused count None =
-    (i : ℕ) (other : Option Refusal) → i < count → slice_get refused i ≡ Some other → own_turn other ≡ None
+    (i : ℕ) (other : Option EarlyEnd) → i < count → slice_get refused i ≡ Some other → own_turn other ≡ None
 IsLeastOf refused count (Some turn) = EndsLeast refused count turn
 
 -- the turn that the least operator refused for itself; none where none did
-abbrev pub IsLeastTurn : List (Option Refusal) → Option (ℕ × CellFault) → Type 0
+abbrev pub IsLeastTurn : List (Option EarlyEnd) → Option (ℕ × CellFault) → Type 0
 IsLeastTurn refused turn = IsLeastOf refused (length refused) turn
 
 -- ---- what a run reports of it (implementation-specific)
@@ -75,23 +75,23 @@ fault_of_assembly gather_faults.NoMemory = NoMemory
 fault_of_assembly fault = Core (core_faults.Gather fault)
 
 -- what the assembly refused, where a thread ended on that
-abbrev pub of_assembly : Option Refusal → Option GatherFault
+abbrev pub of_assembly : Option EarlyEnd → Option GatherFault
 of_assembly None = None
 of_assembly (Some (Turn op fault)) = None
 of_assembly (Some (Assembly fault)) = Some fault
 
 -- the first of some threads that ended on a refusal of the assembly ended on this one
-pub record EndsFirst (refused : List (Option Refusal)) (fault : GatherFault) : Type 0 where
+pub record EndsFirst (refused : List (Option EarlyEnd)) (fault : GatherFault) : Type 0 where
   pub place : ℕ
-  pub refusal : Option Refusal
+  pub refusal : Option EarlyEnd
   pub refusal_is : slice_get refused place ≡ Some refusal
   pub fault_is : of_assembly refusal ≡ Some fault
-  pub first : (i : ℕ) (other : Option Refusal) → i < place → slice_get refused i ≡ Some other → of_assembly other ≡ None
+  pub first : (i : ℕ) (other : Option EarlyEnd) → i < place → slice_get refused i ≡ Some other → of_assembly other ≡ None
 
 -- the first refusal of the assembly, thread by thread; none where no thread ended on one
-abbrev pub IsFirstOfAssembly : List (Option Refusal) → Option GatherFault → Type 0
+abbrev pub IsFirstOfAssembly : List (Option EarlyEnd) → Option GatherFault → Type 0
 IsFirstOfAssembly refused None =
-    (i : ℕ) (other : Option Refusal) → slice_get refused i ≡ Some other → of_assembly other ≡ None
+    (i : ℕ) (other : Option EarlyEnd) → slice_get refused i ≡ Some other → of_assembly other ≡ None
 IsFirstOfAssembly refused (Some fault) = EndsFirst refused fault
 
 -- what is reported where no operator refused a turn for itself: what the assembly refused first; else, where a thread ended
@@ -101,19 +101,19 @@ end_without_turn (Some fault) is_any = Some (fault_of_assembly fault)
 end_without_turn None is_any = if is_any then Some NoMemory else None
 
 -- this is reported where no operator refused a turn for itself
-pub record IsEndWithoutTurn (refused : List (Option Refusal)) (reported : Option RunFault) : Type 0 where
+pub record IsEndWithoutTurn (refused : List (Option EarlyEnd)) (reported : Option RunFault) : Type 0 where
   pub assembly : Option GatherFault
   pub assembly_is : IsFirstOfAssembly refused assembly
   pub reported_is : reported ≡ end_without_turn assembly (list_any is_some refused)
 
 -- this is reported after the turn that the least operator refused for itself, if one did
-abbrev pub IsEndAfter : List (Option Refusal) → Option (ℕ × CellFault) → Option RunFault → Type 0
+abbrev pub IsEndAfter : List (Option EarlyEnd) → Option (ℕ × CellFault) → Option RunFault → Type 0
 IsEndAfter refused None reported = IsEndWithoutTurn refused reported
 IsEndAfter refused (Some turn) reported = reported ≡ Some (fault_of_turn turn.0 turn.1)
 
 -- this is reported of threads that ended so: the turn that the least operator refused for itself comes before what the
 -- assembly refused
-pub record IsEnd (refused : List (Option Refusal)) (reported : Option RunFault) : Type 0 where
+pub record IsEnd (refused : List (Option EarlyEnd)) (reported : Option RunFault) : Type 0 where
   pub turn : Option (ℕ × CellFault)
   pub turn_is : IsLeastTurn refused turn
   pub after : IsEndAfter refused turn reported

@@ -1,7 +1,7 @@
 //! Whether operators' books follow the first steps of a run.
 
 ghost use Rattle.std.specs.Prelude.{◌≡◌, length, map, take, MatchOption};
-ghost use Rattle.run_audit.specs.Straying.{AreOwn, IsStray};
+ghost use Rattle.run_audit.specs.Straying.{AreOwnRuns, IsStrayHistory};
 ghost use Rattle.cell_state.specs.HeldView.{book_of};
 ghost use Rattle.plant_core.specs.declared.core_fault.ResliceFault.{ResliceFault};
 ghost use Rattle.plant_workers.specs.Faulting.{IsToldAt, IsOfReslice, IsOfRun};
@@ -16,8 +16,8 @@ use run_receipts::RunFault;
 /// Finds the least operator whose history strays from its own steps, and where it does. Takes no memory.
 fn first_stray(plant: &Plant, helds: &[Held], steps: &[Step]) -> Option<(Op, usize)>
     requires { length helds.now ≡ length plant.now.rows }
-    ensures { MatchOption result (AreOwn plant.now steps.now (map book_of helds.now))
-        (λ stray. IsStray plant.now steps.now (map book_of helds.now) stray.0 stray.1) }
+    ensures { MatchOption result (AreOwnRuns plant.now steps.now (map book_of helds.now))
+        (λ stray. IsStrayHistory plant.now steps.now (map book_of helds.now) stray.0 stray.1) }
 {
     for (op, held) in helds.iter().enumerate() {
         if let Some(index) = stray_at(plant, op, &held.desk.book, steps) {

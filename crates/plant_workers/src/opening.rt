@@ -7,7 +7,7 @@ use plant::Plant;
 use std::alloc::{AllocError, Global};
 
 /// Returns the book of each operator, with nothing done.
-pub(crate) fn opened(
+pub(crate) fn open_books(
     alloc: Global,
     plant: &Plant,
     rankings: Vec<Ranking>,

@@ -36,7 +36,7 @@ pub(crate) struct RunState {
 }
 
 /// Returns each behind a lock.
-fn locked(alloc: Global, helds: Vec<Held>) -> Result<Vec<Mutex<Held>>, AllocError> {
+fn into_locks(alloc: Global, helds: Vec<Held>) -> Result<Vec<Mutex<Held>>, AllocError> {
     let mut locks = Vec::with_capacity(alloc, helds.len())?;
     for held in helds {
         locks.push(Mutex::new(held))?;
@@ -45,7 +45,7 @@ fn locked(alloc: Global, helds: Vec<Held>) -> Result<Vec<Mutex<Held>>, AllocErro
 }
 
 /// Returns what each lock held, without the locks.
-fn unlocked(alloc: Global, locks: Vec<Mutex<Held>>) -> Result<Vec<Held>, AllocError> {
+fn without_locks(alloc: Global, locks: Vec<Mutex<Held>>) -> Result<Vec<Held>, AllocError> {
     let mut helds = Vec::with_capacity(alloc, locks.len())?;
     for lock in locks {
         helds.push(lock.into_inner())?;
@@ -127,7 +127,7 @@ impl RunState {
             assembly,
             mut lists,
         } = self;
-        let locks = locked(alloc, helds)?;
+        let locks = into_locks(alloc, helds)?;
         let assembly = Mutex::new(assembly);
         let thread_reports = thread_reports_of(
             rt,
@@ -140,7 +140,7 @@ impl RunState {
         )?;
         add_tales(&mut lists, thread_reports)?;
         Ok(RunState {
-            helds: unlocked(alloc, locks)?,
+            helds: without_locks(alloc, locks)?,
             assembly: assembly.into_inner(),
             lists,
         })

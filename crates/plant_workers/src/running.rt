@@ -14,7 +14,7 @@ ghost use Rattle.plant_workers.specs.Faulting.{IsOfRun, IsFault};
 use crate::finishing::finish;
 use crate::gate::Gate;
 use crate::job::{Job, jobs_of};
-use crate::opening::opened;
+use crate::opening::open_books;
 use crate::run_state::RunState;
 use grant_policy::Ranking;
 use operator_book::BookFault;
@@ -84,7 +84,7 @@ fn run_served<R: Threads + Wait + Sync, G: Gate<R> + Sync>(
         IsOutcome plant.now steps.now (map view_of s.books.items) s.receipts.items s.maps.items) }
     ensures err { IfErr result (IsOfRun plant.now steps.now) }
 {
-    let helds = opened(alloc, plant, rankings)?;
+    let helds = open_books(alloc, plant, rankings)?;
     let run_state = RunState::new(alloc, plant, helds)?;
     let jobs = jobs_of(alloc, plant, steps)?;
     let run_state = run_steps(

@@ -10,7 +10,7 @@ ghost use Rattle.plant_workers.specs.Refusing.{IsOfAct, IsOfPut};
 use crate::gate::Gate;
 use crate::job::Job;
 use crate::part::Part;
-use crate::thread_report::{Refusal, ThreadReport};
+use crate::thread_report::{EarlyEnd, ThreadReport};
 use crate::threads::run_threads;
 use crate::turn::Turn;
 use cell_state::{CellFault, Held, Told};
@@ -33,10 +33,10 @@ pub(crate) struct Shared<'a> {
 }
 
 /// Returns the refusal of an operator's turn that found no memory.
-fn no_memory(op: Op) -> Refusal
-    ensures { result ≡ Refusal.Turn op (Book NoMemory) }
+fn no_memory(op: Op) -> EarlyEnd
+    ensures { result ≡ EarlyEnd.Turn op (Book NoMemory) }
 {
-    Refusal::Turn {
+    EarlyEnd::Turn {
         op,
         fault: CellFault::Book(BookFault::NoMemory),
     }
@@ -65,7 +65,7 @@ impl<'a> Shared<'a> {
         action: Action,
         gate: &G,
         told: &mut Vec<Told>,
-    ) -> Result<(), Refusal>
+    ) -> Result<(), EarlyEnd>
         requires { caller_of action ≡ caller_in part }
         ensures { IfErr result (IsOfAct turn.entry.op index action) }
     {
@@ -83,32 +83,32 @@ impl<'a> Shared<'a> {
                 });
                 Ok(())
             }
-            Err(fault) => Err(Refusal::Turn { op, fault }),
+            Err(fault) => Err(EarlyEnd::Turn { op, fault }),
         }
     }
 
     /// Puts the operator's oldest frame that waits into the assembly.
-    fn put<R: Wait>(
+    fn put_oldest_frame<R: Wait>(
         self,
         rt: &R,
         alloc: Global,
         turn: Turn<'a>,
         index: usize,
-    ) -> Result<(), Refusal>
+    ) -> Result<(), EarlyEnd>
         ensures { IfErr result (IsOfPut turn.entry.op) }
     {
         let op = turn.op;
         let taken = match turn.collect_after(rt, alloc, index) {
             Ok(taken) => taken,
-            Err(fault) => return Err(Refusal::Turn { op, fault }),
+            Err(fault) => return Err(EarlyEnd::Turn { op, fault }),
         };
         let Some((frame, elements)) = taken else {
             return Ok(());
         };
         let mut assembly = self.assembly.lock(rt);
-        match assembly.put(alloc, op, frame, elements) {
+        match assembly.put_part(alloc, op, frame, elements) {
             Ok(()) => Ok(()),
-            Err(fault) => Err(Refusal::Assembly(fault)),
+            Err(fault) => Err(EarlyEnd::Assembly(fault)),
         }
     }
 
@@ -121,7 +121,7 @@ impl<'a> Shared<'a> {
         job: &Job,
         gate: &G,
         told: &mut Vec<Told>,
-    ) -> Result<(), Refusal>
+    ) -> Result<(), EarlyEnd>
         requires { IsOfPart part job.now.step.now }
     {
         let Some(turn) = self.turn(job.op) else {
@@ -129,7 +129,7 @@ impl<'a> Shared<'a> {
         };
         match job.action(alloc) {
             Ok(Some(action)) => self.act(rt, alloc, turn, job.turn, part, action, gate, told),
-            Ok(None) => self.put(rt, alloc, turn, job.turn),
+            Ok(None) => self.put_oldest_frame(rt, alloc, turn, job.turn),
             Err(_) => Err(no_memory(job.op)),
         }
     }
@@ -142,7 +142,7 @@ impl<'a> Shared<'a> {
         gate: &G,
         part: Part,
         told: &mut Vec<Told>,
-    ) -> Result<(), Refusal> {
+    ) -> Result<(), EarlyEnd> {
         for job in self.jobs {
             if part.has(job) {
                 self.do_job(rt, alloc, part, job, gate, told)?;

@@ -5,7 +5,7 @@ ghost use Rattle.std.specs.List.{list_any};
 ghost use Rattle.plant.specs.declared.plant.PlantFields.{PlantFields};
 ghost use Rattle.run_model.specs.declared.step.Step.{Step};
 ghost use Rattle.plant_workers.specs.Faulting.{IsOfRun};
-ghost use Rattle.plant_workers.specs.Refusing.{own_turn, lesser, IsLeastTurn};
+ghost use Rattle.plant_workers.specs.Refusing.{own_turn, lesser_turn, IsLeastTurn};
 ghost use Rattle.plant_workers.specs.Refusing.{fault_of_turn, fault_of_assembly, of_assembly, IsFirstOfAssembly};
 ghost use Rattle.plant_workers.specs.Refusing.{IsEndWithoutTurn, IsEnd};
 
@@ -18,7 +18,7 @@ use run_receipts::RunFault;
 
 /// Why a thread ended before its last job.
 #[derive(Clone, Copy)]
-pub(crate) enum Refusal {
+pub(crate) enum EarlyEnd {
     /// An operator refused a turn.
     Turn { op: Op, fault: CellFault },
     /// The assembly refused a frame.
@@ -29,7 +29,7 @@ pub(crate) enum Refusal {
 #[derive(Drop)]
 pub(crate) struct ThreadReport {
     pub told: Vec<Told>,
-    pub refused: Option<Refusal>,
+    pub refused: Option<EarlyEnd>,
 }
 
 /// Returns the fault of a run of which an operator refused a turn.
@@ -57,25 +57,25 @@ fn fault_of_assembly(fault: GatherFault) -> RunFault
 }
 
 /// Returns the turn on which a thread ended, if the operator refused it for itself, and was not stopped for another's sake.
-fn own_turn(refused: Option<Refusal>) -> Option<(Op, CellFault)>
+fn own_turn(refused: Option<EarlyEnd>) -> Option<(Op, CellFault)>
     ensures { result ≡ own_turn refused }
 {
     match refused {
         None
-        | Some(Refusal::Assembly(_))
+        | Some(EarlyEnd::Assembly(_))
         | Some(
-            Refusal::Turn {
+            EarlyEnd::Turn {
                 op: _,
                 fault: CellFault::Stopped { op: _ } | CellFault::Closed,
             },
         ) => None,
-        Some(Refusal::Turn { op, fault }) => Some((op, fault)),
+        Some(EarlyEnd::Turn { op, fault }) => Some((op, fault)),
     }
 }
 
 /// Returns the turn of the lesser operator, where there are two.
-fn lesser(a: Option<(Op, CellFault)>, b: Option<(Op, CellFault)>) -> Option<(Op, CellFault)>
-    ensures { result ≡ lesser a b }
+fn lesser_turn(a: Option<(Op, CellFault)>, b: Option<(Op, CellFault)>) -> Option<(Op, CellFault)>
+    ensures { result ≡ lesser_turn a b }
 {
     match (a, b) {
         (Some(a), Some(b)) => { if b.0 < a.0 { Some(b) } else { Some(a) } }
@@ -90,18 +90,18 @@ fn least_turn(thread_reports: &[ThreadReport]) -> Option<(Op, CellFault)>
 {
     let mut least = None;
     for thread_report in thread_reports {
-        least = lesser(least, own_turn(thread_report.refused));
+        least = lesser_turn(least, own_turn(thread_report.refused));
     }
     least
 }
 
 /// Returns what the assembly refused, where a thread ended on that.
-fn of_assembly(refused: Option<Refusal>) -> Option<GatherFault>
+fn of_assembly(refused: Option<EarlyEnd>) -> Option<GatherFault>
     ensures { result ≡ of_assembly refused }
 {
     match refused {
-        Some(Refusal::Assembly(fault)) => Some(fault),
-        Some(Refusal::Turn { op: _, fault: _ }) | None => None,
+        Some(EarlyEnd::Assembly(fault)) => Some(fault),
+        Some(EarlyEnd::Turn { op: _, fault: _ }) | None => None,
     }
 }
 

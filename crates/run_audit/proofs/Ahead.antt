@@ -10,8 +10,8 @@ use Rattle.slice_scheduler.specs.declared.elements.ElementsFields.{ElementsField
 use Rattle.plant.specs.declared.consts.Channel.{Channel}
 use Rattle.map_assembly.specs.declared.quota.Quota.{Quota}
 use Rattle.map_assembly.specs.declared.map_bytes.MapBytes.{MapBytes}
-use Rattle.map_assembly.specs.Gathering.{Gathering, queue_of, is_last, with_part, is_whole, fronts, frame_slices, frame_parts, put_fault, after_put, resliced, IsGathering}
-use Rattle.map_assembly.specs.Assembled.{IsMapOf, IsAnswer}
+use Rattle.map_assembly.specs.Gathering.{Gathering, queue_of, is_last, with_part, is_whole, fronts, frame_slices, frame_parts, put_fault, after_put, gathering_after_reslice, IsGathering}
+use Rattle.map_assembly.specs.Assembled.{IsMapOf, IsPutResult}
 use Rattle.map_assembly.proofs.LastLemmas.{length-fronts}
 use Rattle.map_assembly.proofs.StateLemmas.{is_put, after_other}
 use Rattle.run_model.specs.OwnSteps.{slice_of}
@@ -20,7 +20,7 @@ use Rattle.run_model.proofs.Numbers.{Numbered}
 use Rattle.run_model.proofs.Slices.{parts_slices}
 use Rattle.run_audit.specs.declared.placing.Placing.{Placing}
 use Rattle.run_audit.specs.declared.placing.Placing.TheVariants.{Put, Reslice}
-use Rattle.run_audit.specs.Placings.{puts_of, listed, HaveMade}
+use Rattle.run_audit.specs.Placings.{puts_of, map_if_made, HaveMade}
 
 -- the parts that an operator put, in order
 abbrev pub parts_of : ℕ → List Placing → List ElementsFields
@@ -231,7 +231,7 @@ nothing_given g = record {
 }
 
 given_put : (g : Gathering) (op frame : ℕ) (part : ElementsFields) (later : List Placing) (made : Option MapBytes) (rest : List MapBytes) (after : Gathering) → IsGathering g → put_fault g op frame part ≡ None
-    → IsAnswer g op frame part made → IsGiven (after_put g op part) later rest after → IsGiven g (Put op frame part ∷ later) (listed made ++ rest) after
+    → IsPutResult g op frame part made → IsGiven (after_put g op part) later rest after → IsGiven g (Put op frame part ∷ later) (map_if_made made ++ rest) after
 given_put g op frame part later None rest after is fits waits given =
     let h : Gathering = record g { queues = with_part g.queues op part } in
     given_on g h later (Put op frame part ∷ later) rest after refl refl refl (with_length g op frame part later is fits) (moved g op frame part later is fits)
@@ -249,5 +249,5 @@ given_by g (Put op frame part ∷ later) maps after h =
     subst (λ (ms : List MapBytes). IsGiven g (Put op frame part ∷ later) ms after) (sym h.5)
     (given_put g op frame part later h.0 h.1 after h.2 h.3 h.4 (given_by (after_put g op part) later h.1 after h.6))
 given_by g (Reslice from rows ∷ later) maps after h =
-    given_on g (resliced g from (map slice_of rows)) later (Reslice from rows ∷ later) maps after refl refl refl refl (λ i. refl)
-    (given_by (resliced g from (map slice_of rows)) later maps after h.2)
+    given_on g (gathering_after_reslice g from (map slice_of rows)) later (Reslice from rows ∷ later) maps after refl refl refl refl (λ i. refl)
+    (given_by (gathering_after_reslice g from (map slice_of rows)) later maps after h.2)

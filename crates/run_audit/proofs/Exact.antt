@@ -13,7 +13,7 @@ use Rattle.run_receipts.specs.declared.run_fault.RunFault.TheVariants.{Strayed, 
 use Rattle.run_audit.specs.declared.placing.Placing.{Placing}
 use Rattle.run_audit.specs.Placings.{AssemblyView, puts_of}
 use Rattle.run_audit.specs.Outs.{due_of}
-use Rattle.run_audit.specs.Straying.{DifferFirst, AreOwn, IsOfAnother, StraysAt, IsStray, ArePut, IsPutStray, IsMapStray, IsFound}
+use Rattle.run_audit.specs.Straying.{DifferFirst, AreOwnRuns, IsOfAnother, HistoryStraysAt, IsStrayHistory, ArePut, IsPutStray, IsMapStray, IsFound}
 
 get_take : {A : Type 0} (xs : List A) (k n : ℕ) → k < n → slice_get (take n xs) k ≡ slice_get xs k
 get_take xs k zero lt = absurd (omega (arith, lt))
@@ -37,7 +37,7 @@ differ_once xs ys a b p q = neither_less a b (λ lt. p.there (same_below xs ys a
 -- ---- histories
 
 module _ (plant : PlantFields) (steps : List Step) where
-  not_after : (i : ℕ) (row : RowFields) (book : BookView) (index : ℕ) → StraysAt plant steps i row book index → IsBookAfter plant steps i row book → ⊥
+  not_after : (i : ℕ) (row : RowFields) (book : BookView) (index : ℕ) → HistoryStraysAt plant steps i row book index → IsBookAfter plant steps i row book → ⊥
   not_after i row book index (inl (another, first)) after = by another
     where
       by : IsOfAnother plant row book → ⊥
@@ -45,7 +45,7 @@ module _ (plant : PlantFields) (steps : List Step) where
       by (inr consts_not) = consts_not after.consts_are
   not_after i row book index (inr told) after = told.2.there (ap (λ actions. slice_get actions index) after.actions_are)
 
-  one_place : (i : ℕ) (row : RowFields) (book : BookView) (a b : ℕ) → StraysAt plant steps i row book a → StraysAt plant steps i row book b → a ≡ b
+  one_place : (i : ℕ) (row : RowFields) (book : BookView) (a b : ℕ) → HistoryStraysAt plant steps i row book a → HistoryStraysAt plant steps i row book b → a ≡ b
   one_place i row book a b (inl p) (inl q) = p.1 ∙ sym q.1
   one_place i row book a b (inl p) (inr q) = absurd (not_another p.0 q.0 q.1)
     where
@@ -60,21 +60,21 @@ module _ (plant : PlantFields) (steps : List Step) where
   one_place i row book a b (inr p) (inr q) = differ_once (actions_of book.history) (own_steps row i steps) a b p.2 q.2
 
   module _ (books : List BookView) where
-    pub none_stray : (op index : ℕ) → AreOwn plant steps books → IsStray plant steps books op index → ⊥
+    pub none_stray : (op index : ℕ) → AreOwnRuns plant steps books → IsStrayHistory plant steps books op index → ⊥
     none_stray op index own stray = not_after op stray.row stray.book index stray.strays (own op stray.row stray.book stray.row_is stray.book_is)
 
-    one_operator : (op other index place : ℕ) → IsStray plant steps books op index → IsStray plant steps books other place → op < other → ⊥
+    one_operator : (op other index place : ℕ) → IsStrayHistory plant steps books op index → IsStrayHistory plant steps books other place → op < other → ⊥
     one_operator op other index place p q lt = not_after op p.row p.book index p.strays (q.before op p.row p.book lt p.row_is p.book_is)
 
-    one_stray : (op other index place : ℕ) → IsStray plant steps books op index → IsStray plant steps books other place → (op ≡ other) × (index ≡ place)
+    one_stray : (op other index place : ℕ) → IsStrayHistory plant steps books op index → IsStrayHistory plant steps books other place → (op ≡ other) × (index ≡ place)
     one_stray op other index place p q =
         let same : op ≡ other = neither_less op other (one_operator op other index place p q) (one_operator other op place index q p) in
         let row : p.row ≡ q.row = same_at plant.rows op p.row q.row p.row_is (ap (slice_get plant.rows) same ∙ q.row_is) in
         let book : p.book ≡ q.book = same_at books op p.book q.book p.book_is (ap (slice_get books) same ∙ q.book_is) in
-        let there : StraysAt plant steps op p.row p.book place =
-        subst (λ (b : BookView). StraysAt plant steps op p.row b place) (sym book)
-        (subst (λ (r : RowFields). StraysAt plant steps op r q.book place) (sym row)
-        (subst (λ (k : ℕ). StraysAt plant steps k q.row q.book place) (sym same) q.strays)) in
+        let there : HistoryStraysAt plant steps op p.row p.book place =
+        subst (λ (b : BookView). HistoryStraysAt plant steps op p.row b place) (sym book)
+        (subst (λ (r : RowFields). HistoryStraysAt plant steps op r q.book place) (sym row)
+        (subst (λ (k : ℕ). HistoryStraysAt plant steps k q.row q.book place) (sym same) q.strays)) in
         (same, one_place op p.row p.book index place p.strays there)
 
     -- ---- assemblies
@@ -106,11 +106,11 @@ module _ (plant : PlantFields) (steps : List Step) where
         same_fault : (a b : RunFault) → Told a ≡ Told b → a ≡ b
         same_fault a b e = cc
 
-        pub strayed_is : (fault : RunFault) → IsFound plant steps books assembly fault → (op index : ℕ) → (Told fault ≡ Told (Strayed op index)) ↔ IsStray plant steps books op index
+        pub strayed_is : (fault : RunFault) → IsFound plant steps books assembly fault → (op index : ℕ) → (Told fault ≡ Told (Strayed op index)) ↔ IsStrayHistory plant steps books op index
         strayed_is fault found op index =
             (λ e. subst (IsFound plant steps books assembly) (same_fault fault (Strayed op index) e) found, back fault found)
           where
-            back : (f : RunFault) → IsFound plant steps books assembly f → IsStray plant steps books op index → Told f ≡ Told (Strayed op index)
+            back : (f : RunFault) → IsFound plant steps books assembly f → IsStrayHistory plant steps books op index → Told f ≡ Told (Strayed op index)
             back (Strayed other place) stray this =
                 let same = one_stray other op place index stray this in
                 λ n. Err (Strayed (same.0 n) (same.1 n))
@@ -135,8 +135,8 @@ module _ (plant : PlantFields) (steps : List Step) where
 -- ---- of books that are held elsewhere
 
 module _ {X : Type 0} (f : X → BookView) (xs ys : List X) (same_list : xs ≡ ys) (plant : PlantFields) (steps : List Step) (assembly : AssemblyView) where
-  pub no_stray_of_these : AreOwn plant steps (map f xs) → (op index : ℕ) → IsStray plant steps (map f ys) op index → ⊥
-  no_stray_of_these own op index stray = none_stray plant steps (map f ys) op index (subst (λ (zs : List X). AreOwn plant steps (map f zs)) same_list own) stray
+  pub no_stray_of_these : AreOwnRuns plant steps (map f xs) → (op index : ℕ) → IsStrayHistory plant steps (map f ys) op index → ⊥
+  no_stray_of_these own op index stray = none_stray plant steps (map f ys) op index (subst (λ (zs : List X). AreOwnRuns plant steps (map f zs)) same_list own) stray
 
   pub no_map_stray_of_these : assembly.plant ≡ plant → ArePut steps (map f xs) assembly.placings → (frame : ℕ) → IsMapStray plant steps (map f ys) assembly frame → ⊥
   no_map_stray_of_these same put frame stray =

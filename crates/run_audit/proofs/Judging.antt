@@ -14,14 +14,14 @@ use Rattle.plant.specs.Row.{is_listed}
 use Rattle.operator_model.specs.declared.action.Action.{Action}
 use Rattle.operator_model.specs.declared.action.Action.TheVariants as actions
 use Rattle.operator_model.specs.declared.action.SliceRow.{SliceRow}
-use Rattle.operator_model.specs.State.{opened, operator}
+use Rattle.operator_model.specs.State.{opened_state, operator}
 use Rattle.operator_model.specs.Machine.{own_run}
 use Rattle.operator_model.specs.Frames.{is_tick}
 use Rattle.operator_model.specs.Replay.{BookView, actions_of, IsReplay}
 use Rattle.operator_model.proofs.FrameLemmas.{run_puts}
 use Rattle.map_assembly.specs.declared.map_bytes.MapBytes.{MapBytes}
-use Rattle.map_assembly.specs.Gathering.{Gathering, gathering_of, queue_of, is_last, with_part, next_of, put_fault, after_put, resliced, IsGathering}
-use Rattle.map_assembly.specs.Assembled.{IsAnswer}
+use Rattle.map_assembly.specs.Gathering.{Gathering, gathering_of, queue_of, is_last, with_part, next_of, put_fault, after_put, gathering_after_reslice, IsGathering}
+use Rattle.map_assembly.specs.Assembled.{IsPutResult}
 use Rattle.map_assembly.proofs.StateLemmas.{is_put, after_other}
 use Rattle.run_model.specs.declared.step.Step.{Step}
 use Rattle.run_model.specs.declared.step.Step.TheVariants as steps
@@ -33,14 +33,14 @@ use Rattle.run_model.proofs.Numbers.{Numbered, are_numbered, numbers_are}
 use Rattle.run_receipts.specs.declared.run_fault.RunFault.{RunFault}
 use Rattle.run_receipts.specs.declared.receipt.Receipt.{Receipt}
 use Rattle.run_receipts.specs.Callers.{AreByCallers}
-use Rattle.run_receipts.specs.OwnParts.{outputs_of}
+use Rattle.run_receipts.specs.OwnParts.{history_outputs}
 use Rattle.run_audit.specs.declared.placing.Placing.{Placing}
 use Rattle.run_audit.specs.declared.placing.Placing.TheVariants.{Put, Reslice}
 use Rattle.run_audit.specs.Placings.{AssemblyView, puts_of, HaveMade}
 use Rattle.run_audit.specs.Outs.{due_of, outs_of}
 use Rattle.run_audit.specs.Due.{AreDue}
 use Rattle.run_audit.specs.Numbering.{AllAreNumbered}
-use Rattle.run_audit.specs.Straying.{DifferFirst, AreOwn, StraysAt, ArePut, IsPutStray, IsMapStray, IsFound}
+use Rattle.run_audit.specs.Straying.{DifferFirst, AreOwnRuns, HistoryStraysAt, ArePut, IsPutStray, IsMapStray, IsFound}
 use Rattle.run_audit.specs.Outcome.{AreMerged, is_tick_of, ticks_of, AreTicked, IsOutcome}
 use Rattle.run_audit.proofs.Ahead.{split_at, queue_here, queue_elsewhere, with_length}
 use Rattle.run_audit.proofs.Making.{are_maps, nothing_queued}
@@ -59,29 +59,29 @@ module _ (plant : PlantFields) (steps : List Step) (i : ℕ) (row : RowFields) (
   book_after same = record {
     row_is = row_is;
     consts_are = consts_are;
-    state_is = replayed.state_is ∙ ap (λ (actions : List Action). (own_run (operator plant.consts row (opened plant.consts row)) actions).state) same;
+    state_is = replayed.state_is ∙ ap (λ (actions : List Action). (own_run (operator plant.consts row (opened_state plant.consts row)) actions).state) same;
     actions_are = same;
     replay = replayed;
   }
 
   pub book_told : (o : Option ℕ) → MatchOption o (actions_of book.history ≡ own_steps row i steps) (DifferFirst (actions_of book.history) (own_steps row i steps))
-      → MatchOption o (IsBookAfter plant steps i row book) (StraysAt plant steps i row book)
+      → MatchOption o (IsBookAfter plant steps i row book) (HistoryStraysAt plant steps i row book)
   book_told None same = book_after same
   book_told (Some index) differ = inr (row_is, consts_are, differ)
 
 -- ---- numbers
 
-book_frames : (plant : PlantFields) (steps : List Step) (i : ℕ) (row : RowFields) (book : BookView) → IsBookAfter plant steps i row book → frames_of (outputs_of book.history) ≡ frames_of (isolated_run plant.consts row i steps).outputs
+book_frames : (plant : PlantFields) (steps : List Step) (i : ℕ) (row : RowFields) (book : BookView) → IsBookAfter plant steps i row book → frames_of (history_outputs book.history) ≡ frames_of (isolated_run plant.consts row i steps).outputs
 book_frames plant steps i row book is = ap frames_of (book_outputs plant steps i row book is)
 
 due_numbered : (plant : PlantFields) (steps : List Step) (i : ℕ) (row : RowFields) (book : BookView) → IsBookAfter plant steps i row book → AreNumbered plant.consts.channel.first_frame (due_of steps i book)
 due_numbered plant steps i row book is =
-    take_numbered plant.consts.channel.first_frame (collects_of i steps) (frames_of (outputs_of book.history))
+    take_numbered plant.consts.channel.first_frame (collects_of i steps) (frames_of (history_outputs book.history))
     (subst (AreNumbered plant.consts.channel.first_frame) (sym (book_frames plant steps i row book is))
     (are_numbered plant.consts row i steps))
 
 -- of each operator the parts are put in the order of their frames
-put_next : (g : Gathering) (op frame : ℕ) (part : ElementsFields) (later : List Placing) (made : Option MapBytes) → IsGathering g → put_fault g op frame part ≡ None → IsAnswer g op frame part made
+put_next : (g : Gathering) (op frame : ℕ) (part : ElementsFields) (later : List Placing) (made : Option MapBytes) → IsGathering g → put_fault g op frame part ≡ None → IsPutResult g op frame part made
     → (i : ℕ) → i < length g.queues → next_of (after_put g op part) i ≡ g.next + length (queue_of (with_part g.queues op part) i)
 put_next g op frame part later None is fits waits i lt =
     ap (λ (h : Gathering). next_of h i) (sym (after_other g op part waits))
@@ -91,7 +91,7 @@ put_next g op frame part later (Some made) is fits answer i lt =
     ap (λ (x : Gathering). next_of x i) (cond-true (is_last g op part) h (record g { queues = with_part g.queues op part }) answer.0)
     ∙ omega (arith, ap length split.rest_is, ap length split.queue_is)
 
-queues_after : (g : Gathering) (op frame : ℕ) (part : ElementsFields) (later : List Placing) (made : Option MapBytes) → IsGathering g → put_fault g op frame part ≡ None → IsAnswer g op frame part made
+queues_after : (g : Gathering) (op frame : ℕ) (part : ElementsFields) (later : List Placing) (made : Option MapBytes) → IsGathering g → put_fault g op frame part ≡ None → IsPutResult g op frame part made
     → length (after_put g op part).queues ≡ length g.queues
 queues_after g op frame part later None is fits waits = ap (λ (h : Gathering). length h.queues) (sym (after_other g op part waits)) ∙ with_length g op frame part later is fits
 queues_after g op frame part later (Some made) is fits answer =
@@ -99,7 +99,7 @@ queues_after g op frame part later (Some made) is fits answer =
     ap (λ (x : Gathering). length x.queues) (cond-true (is_last g op part) h (record g { queues = with_part g.queues op part }) answer.0)
     ∙ (length-map (with_part g.queues op part) (λ (queue : List ElementsFields). drop 1 queue) ∙ with_length g op frame part later is fits)
 
-put_numbered : (g : Gathering) (op frame : ℕ) (part : ElementsFields) (later : List Placing) (made : Option MapBytes) → IsGathering g → put_fault g op frame part ≡ None → IsAnswer g op frame part made
+put_numbered : (g : Gathering) (op frame : ℕ) (part : ElementsFields) (later : List Placing) (made : Option MapBytes) → IsGathering g → put_fault g op frame part ≡ None → IsPutResult g op frame part made
     → (i : ℕ) → i < length g.queues → AreNumbered (next_of (after_put g op part) i) (puts_of i later) → AreNumbered (next_of g i) (puts_of i (Put op frame part ∷ later))
 put_numbered g op frame part later made is fits answer i lt rest = by (cases_eq i op)
   where
@@ -123,9 +123,9 @@ puts_numbered g [] maps after h i lt = tt
 puts_numbered g (Put op frame part ∷ later) maps after h i lt =
     put_numbered g op frame part later h.0 h.2 h.3 h.4 i lt
     (puts_numbered (after_put g op part) later h.1 after h.6 i (omega (arith, lt, queues_after g op frame part later h.0 h.2 h.3 h.4)))
-puts_numbered g (Reslice from rows ∷ later) maps after h i lt = puts_numbered (resliced g from (map slice_of rows)) later maps after h.2 i lt
+puts_numbered g (Reslice from rows ∷ later) maps after h i lt = puts_numbered (gathering_after_reslice g from (map slice_of rows)) later maps after h.2 i lt
 
-pub all_numbered : (plant : PlantFields) (steps : List Step) (books : List BookView) (assembly : AssemblyView) → length books ≡ length plant.rows → AreOwn plant steps books → assembly.plant ≡ plant
+pub all_numbered : (plant : PlantFields) (steps : List Step) (books : List BookView) (assembly : AssemblyView) → length books ≡ length plant.rows → AreOwnRuns plant steps books → assembly.plant ≡ plant
     → HaveMade (gathering_of assembly.plant) assembly.placings assembly.maps assembly.gathering → AllAreNumbered plant.consts.channel.first_frame steps books assembly.placings
 all_numbered plant steps books assembly one_each own same made i book e =
     let within : i < length plant.rows = omega (arith, slice_get_within books i book e, one_each) in
@@ -206,11 +206,11 @@ frames_ticked : (plant : PlantFields) (steps : List Step) (i : ℕ) (row : RowFi
 frames_ticked plant steps i row =
     let frames : List Numbered = frames_of (isolated_run plant.consts row i steps).outputs in
     let long = length-map frames (λ (f : Numbered). f.0) in
-    let numbers = ap length (numbers_are (isolated_run plant.consts row i steps).outputs ∙ (run_puts plant.consts row (opened plant.consts row) (own_steps row i steps)).numbers) in
+    let numbers = ap length (numbers_are (isolated_run plant.consts row i steps).outputs ∙ (run_puts plant.consts row (opened_state plant.consts row) (own_steps row i steps)).numbers) in
     let range = length-range_with_len plant.consts.channel.first_frame (count_by is_tick (own_steps row i steps)) in
     omega (arith, long, numbers, range, ticks_own row i steps)
 
-module _ (plant : PlantFields) (steps : List Step) (books : List BookView) (assembly : AssemblyView) (one_each : length books ≡ length plant.rows) (own : AreOwn plant steps books) (same : assembly.plant ≡ plant)
+module _ (plant : PlantFields) (steps : List Step) (books : List BookView) (assembly : AssemblyView) (one_each : length books ≡ length plant.rows) (own : AreOwnRuns plant steps books) (same : assembly.plant ≡ plant)
     (put : ArePut steps books assembly.placings) (ticked : AreTicked plant steps) (have : HaveMade (gathering_of assembly.plant) assembly.placings assembly.maps assembly.gathering) (is : IsGathering assembly.gathering) where
   due : AreDue plant steps assembly.placings
   due = record {
@@ -241,10 +241,10 @@ module _ {X : Type 0} (f : X → BookView) (xs ys : List X) (same_list : xs ≡ 
 
   pub outcome_of_these : (receipts : List (List (List Receipt))) (maps : List MapBytes) → length xs ≡ length plant.rows → length receipts ≡ length xs → AreMerged (map f ys) receipts → All AreByCallers receipts → AreTicked plant steps
       → HaveMade (gathering_of assembly.plant) assembly.placings assembly.maps assembly.gathering → IsGathering assembly.gathering → maps ≡ assembly.maps
-      → AreOwn plant steps (map f xs) × (assembly.plant ≡ plant) × ArePut steps (map f xs) assembly.placings → IsOutcome plant steps (map f ys) receipts maps
+      → AreOwnRuns plant steps (map f xs) × (assembly.plant ≡ plant) × ArePut steps (map f xs) assembly.placings → IsOutcome plant steps (map f ys) receipts maps
   outcome_of_these receipts maps long callers merged by_callers ticked have is maps_same told =
-      let told' : AreOwn plant steps (map f ys) × (assembly.plant ≡ plant) × ArePut steps (map f ys) assembly.placings =
-      subst (λ (zs : List X). AreOwn plant steps (map f zs) × (assembly.plant ≡ plant) × ArePut steps (map f zs) assembly.placings) same_list told in
+      let told' : AreOwnRuns plant steps (map f ys) × (assembly.plant ≡ plant) × ArePut steps (map f ys) assembly.placings =
+      subst (λ (zs : List X). AreOwnRuns plant steps (map f zs) × (assembly.plant ≡ plant) × ArePut steps (map f zs) assembly.placings) same_list told in
       let one_each : length (map f ys) ≡ length plant.rows = length-map ys f ∙ (sym (ap length same_list) ∙ long) in
       record {
         one_each = one_each;

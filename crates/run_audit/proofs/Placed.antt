@@ -8,50 +8,50 @@ use Rattle.map_assembly.specs.Plan.{IsInFrame}
 use Rattle.slice_scheduler.specs.declared.elements.ElementsFields.{ElementsFields}
 use Rattle.operator_model.specs.declared.action.SliceRow.{SliceRow}
 use Rattle.map_assembly.specs.declared.map_bytes.MapBytes.{MapBytes}
-use Rattle.map_assembly.specs.Gathering.{Gathering, put_fault, after_put, MayReslice, resliced, IsGathering}
-use Rattle.map_assembly.specs.Assembled.{IsAnswer}
+use Rattle.map_assembly.specs.Gathering.{Gathering, put_fault, after_put, MayReslice, gathering_after_reslice, IsGathering}
+use Rattle.map_assembly.specs.Assembled.{IsPutResult}
 use Rattle.run_model.specs.OwnSteps.{slice_of}
 use Rattle.run_audit.specs.declared.placing.Placing.{Placing}
 use Rattle.run_audit.specs.declared.placing.Placing.TheVariants.{Put, Reslice}
-use Rattle.run_audit.specs.Placings.{listed, HaveMade}
+use Rattle.run_audit.specs.Placings.{map_if_made, HaveMade}
 
 -- a part more is put
 pub put_more : (g after : Gathering) (placings : List Placing) (maps : List MapBytes) (op frame : ℕ) (part : ElementsFields) (made : Option MapBytes)
-    → HaveMade g placings maps after → IsGathering after → put_fault after op frame part ≡ None → IsAnswer after op frame part made
-    → HaveMade g (placings ++ Put op frame part ∷ []) (maps ++ listed made) (after_put after op part)
+    → HaveMade g placings maps after → IsGathering after → put_fault after op frame part ≡ None → IsPutResult after op frame part made
+    → HaveMade g (placings ++ Put op frame part ∷ []) (maps ++ map_if_made made) (after_put after op part)
 put_more g after [] maps op frame part made h is fits answer =
     let here : IsGathering g = subst IsGathering h.1 is in (
       made,
       [],
       here,
       subst (λ (x : Gathering). put_fault x op frame part ≡ None) h.1 fits,
-      subst (λ (x : Gathering). IsAnswer x op frame part made) h.1 answer,
-      ap (λ (ms : List MapBytes). ms ++ listed made) h.0 ∙ sym (append-nil (listed made)),
+      subst (λ (x : Gathering). IsPutResult x op frame part made) h.1 answer,
+      ap (λ (ms : List MapBytes). ms ++ map_if_made made) h.0 ∙ sym (append-nil (map_if_made made)),
       (refl, ap (λ (x : Gathering). after_put x op part) h.1),
     )
 put_more g after (Put k n p ∷ later) maps op frame part made h is fits answer = (
   h.0,
-  h.1 ++ listed made,
+  h.1 ++ map_if_made made,
   h.2,
   h.3,
   h.4,
-  ap (λ (ms : List MapBytes). ms ++ listed made) h.5 ∙ append_assoc (listed h.0) h.1 (listed made),
+  ap (λ (ms : List MapBytes). ms ++ map_if_made made) h.5 ∙ append_assoc (map_if_made h.0) h.1 (map_if_made made),
   put_more (after_put g k p) after later h.1 op frame part made h.6 is fits answer,
 )
 put_more g after (Reslice from rows ∷ later) maps op frame part made h is fits answer = (
   h.0,
   h.1,
-  put_more (resliced g from (map slice_of rows)) after later maps op frame part made h.2 is fits answer,
+  put_more (gathering_after_reslice g from (map slice_of rows)) after later maps op frame part made h.2 is fits answer,
 )
 
 -- other slices are given
 pub reslice_more : (g after : Gathering) (placings : List Placing) (maps : List MapBytes) (from : ℕ) (rows : List SliceRow)
     → HaveMade g placings maps after → IsGathering after → MayReslice after from (map slice_of rows)
-    → HaveMade g (placings ++ Reslice from rows ∷ []) maps (resliced after from (map slice_of rows))
+    → HaveMade g (placings ++ Reslice from rows ∷ []) maps (gathering_after_reslice after from (map slice_of rows))
 reslice_more g after [] maps from rows h is may = (
   subst IsGathering h.1 is,
   subst (λ (x : Gathering). MayReslice x from (map slice_of rows)) h.1 may,
-  (h.0, ap (λ (x : Gathering). resliced x from (map slice_of rows)) h.1),
+  (h.0, ap (λ (x : Gathering). gathering_after_reslice x from (map slice_of rows)) h.1),
 )
 reslice_more g after (Put k n p ∷ later) maps from rows h is may = (
   h.0,
@@ -65,7 +65,7 @@ reslice_more g after (Put k n p ∷ later) maps from rows h is may = (
 reslice_more g after (Reslice n others ∷ later) maps from rows h is may = (
   h.0,
   h.1,
-  reslice_more (resliced g n (map slice_of others)) after later maps from rows h.2 is may,
+  reslice_more (gathering_after_reslice g n (map slice_of others)) after later maps from rows h.2 is may,
 )
 
 -- what may be given are slices

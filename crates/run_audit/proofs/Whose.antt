@@ -8,7 +8,7 @@ use Rattle.plant.specs.declared.operator_row.RowFields.{RowFields}
 use Rattle.plant.specs.declared.plant.PlantFields.{PlantFields}
 use Rattle.plant.specs.Row.{is_listed}
 use Rattle.plant.specs.Plant.{IsPlant}
-use Rattle.plant.specs.Roster.{holder, Holds}
+use Rattle.plant.specs.Roster.{holder, ListsFirst}
 use Rattle.plant.proofs.Holders.{holder_holds, holder_is, one_lists}
 use Rattle.operator_model.specs.declared.action.Action.{Action}
 use Rattle.operator_model.specs.declared.action.Action.TheVariants as actions
@@ -22,7 +22,7 @@ module _ (plant : PlantFields) (modem : Modem) (op : ℕ) (row : RowFields) (is 
   pub held_by : (k : ℕ) → holder plant.rows modem ≡ Some k → (k == op) ≡ is_listed modem row.modems
   held_by k held = by (cases_eq k op)
     where
-      holds : Holds plant.rows modem k
+      holds : ListsFirst plant.rows modem k
       holds = holder_holds plant.rows modem k held
 
       by : (k ≡ op) ⊎ (k ≡ op → ⊥) → (k == op) ≡ is_listed modem row.modems
@@ -35,7 +35,7 @@ module _ (plant : PlantFields) (modem : Modem) (op : ℕ) (row : RowFields) (is 
 
   pub held_by_none : holder plant.rows modem ≡ None → false ≡ is_listed modem row.modems
   held_by_none none = sym (false_from_ne_true (is_listed modem row.modems) (λ listed.
-      let holds : Holds plant.rows modem op = record {
+      let holds : ListsFirst plant.rows modem op = record {
         row = row;
         here = here;
         listed = listed;

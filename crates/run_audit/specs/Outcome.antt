@@ -11,7 +11,7 @@ use Rattle.run_receipts.specs.declared.receipt.Receipt.{Receipt}
 use Rattle.run_receipts.specs.Merge.{IsMergeOf}
 use Rattle.run_receipts.specs.Callers.{AreByCallers}
 use Rattle.run_audit.specs.Outs.{outs_of}
-use Rattle.run_audit.specs.Straying.{AreOwn}
+use Rattle.run_audit.specs.Straying.{AreOwnRuns}
 
 -- each operator's history is the merge of what its callers were reported
 abbrev pub AreMerged : List BookView → List (List (List Receipt)) → Type 0
@@ -26,7 +26,7 @@ pub record IsOutcome (plant : PlantFields) (steps : List Step) (books : List Boo
     (receipts : List (List (List Receipt))) (maps : List MapBytes) : Type 0 where
   pub one_each : length books ≡ length plant.rows
   pub callers_each : length receipts ≡ length books
-  pub own : AreOwn plant steps books
+  pub own : AreOwnRuns plant steps books
   pub by_callers : All AreByCallers receipts
   pub merge : AreMerged books receipts
   pub shown : IsTraceOf plant steps (outs_of books maps)

@@ -7,9 +7,9 @@ use Rattle.map_assembly.specs.declared.map_bytes.MapBytes.{MapBytes}
 use Rattle.run_model.specs.declared.step.Step.{Step}
 use Rattle.run_model.specs.declared.step.Out.{Out}
 use Rattle.run_model.specs.declared.step.Out.TheVariants as outs
-use Rattle.run_model.specs.OwnSteps.{under, collects_of}
+use Rattle.run_model.specs.OwnSteps.{outputs_under, collects_of}
 use Rattle.plant_core.specs.Waiting.{frames_in}
-use Rattle.run_receipts.specs.OwnParts.{outputs_of}
+use Rattle.run_receipts.specs.OwnParts.{history_outputs}
 
 -- what contracts see of a book
 abbrev pub book_view : {D : Type 0} {F : D → Type 0} {m : _} → Book D F m → BookView
@@ -18,7 +18,7 @@ book_view book = book.kept.book
 -- what the books output, each under its operator, from this operator on
 abbrev pub outs_from : ℕ → List BookView → List Out
 outs_from i [] = []
-outs_from i (book ∷ books) = under i (outputs_of book.history) ++ outs_from (i + 1) books
+outs_from i (book ∷ books) = outputs_under i (history_outputs book.history) ++ outs_from (i + 1) books
 
 -- each operator's outputs, operator by operator, and then the MAPs in order
 abbrev pub outs_of : List BookView → List MapBytes → List Out

@@ -4,8 +4,8 @@ use Rattle.slice_scheduler.specs.declared.elements.ElementsFields.{ElementsField
 use Rattle.plant.specs.declared.plant.PlantFields.{PlantFields}
 use Rattle.operator_model.specs.declared.action.SliceRow.{SliceRow}
 use Rattle.map_assembly.specs.declared.map_bytes.MapBytes.{MapBytes}
-use Rattle.map_assembly.specs.Gathering.{Gathering, gathering_of, put_fault, after_put, MayReslice, resliced, IsGathering}
-use Rattle.map_assembly.specs.Assembled.{IsAnswer}
+use Rattle.map_assembly.specs.Gathering.{Gathering, gathering_of, put_fault, after_put, MayReslice, gathering_after_reslice, IsGathering}
+use Rattle.map_assembly.specs.Assembled.{IsPutResult}
 use Rattle.run_model.specs.OwnSteps.{slice_of}
 use Rattle.run_audit.specs.declared.placing.Placing.{Placing}
 use Rattle.run_audit.specs.declared.placing.Placing.TheVariants.{Put, Reslice}
@@ -36,9 +36,9 @@ puts_of i placings = filter_map (put_by i) placings
 -- ---- the MAPs
 
 -- one MAP, or none
-abbrev pub listed : Option MapBytes → List MapBytes
-listed None = []
-listed (Some made) = made ∷ []
+abbrev pub map_if_made : Option MapBytes → List MapBytes
+map_if_made None = []
+map_if_made (Some made) = made ∷ []
 
 -- one after the other, these placings lead from one gathering to another and give these MAPs: no part is refused, each
 -- slice change may be given, and each finds the gathering as its type keeps it
@@ -46,10 +46,10 @@ abbrev pub HaveMade : Gathering → List Placing → List MapBytes → Gathering
 HaveMade g [] maps after = (maps ≡ []) × (after ≡ g)
 HaveMade g (Put op frame part ∷ later) maps after =
     (made : Option MapBytes) × (rest : List MapBytes) × IsGathering g × (put_fault g op frame part ≡ None)
-    × IsAnswer g op frame part made × (maps ≡ listed made ++ rest) × HaveMade (after_put g op part) later rest after
+    × IsPutResult g op frame part made × (maps ≡ map_if_made made ++ rest) × HaveMade (after_put g op part) later rest after
 HaveMade g (Reslice from rows ∷ later) maps after =
     IsGathering g × MayReslice g from (map slice_of rows)
-    × HaveMade (resliced g from (map slice_of rows)) later maps after
+    × HaveMade (gathering_after_reslice g from (map slice_of rows)) later maps after
 
 -- ---- one placing
 
@@ -60,13 +60,13 @@ pub record HasPut (op frame : ℕ) (part : ElementsFields) (old new : AssemblyVi
   pub gathering_is : new.gathering ≡ after_put old.gathering op part
   pub placings_are : new.placings ≡ old.placings ++ Put op frame part ∷ []
   pub made : Option MapBytes
-  pub made_is : IsAnswer old.gathering op frame part made
-  pub maps_are : new.maps ≡ old.maps ++ listed made
+  pub made_is : IsPutResult old.gathering op frame part made
+  pub maps_are : new.maps ≡ old.maps ++ map_if_made made
 
 -- the operators have new slices from a frame on
 pub record HasResliced (from : ℕ) (rows : List SliceRow) (old new : AssemblyView) : Type 0 where
   pub fits : MayReslice old.gathering from (map slice_of rows)
   pub plant_is : new.plant ≡ old.plant
-  pub gathering_is : new.gathering ≡ resliced old.gathering from (map slice_of rows)
+  pub gathering_is : new.gathering ≡ gathering_after_reslice old.gathering from (map slice_of rows)
   pub placings_are : new.placings ≡ old.placings ++ Reslice from rows ∷ []
   pub maps_are : new.maps ≡ old.maps

@@ -21,8 +21,8 @@ pub record DifferFirst {A : Type 0} (xs ys : List A) (place : ℕ) : Type 0 wher
 -- ---- histories
 
 -- each operator's book is what its own machine makes of its own steps
-abbrev pub AreOwn : PlantFields → List Step → List BookView → Type 0
-AreOwn plant steps books = AtEachPlace plant.rows books (IsBookAfter plant steps)
+abbrev pub AreOwnRuns : PlantFields → List Step → List BookView → Type 0
+AreOwnRuns plant steps books = AtEachPlace plant.rows books (IsBookAfter plant steps)
 
 -- a book is of another row, or of a plant with other constants
 abbrev pub IsOfAnother : PlantFields → RowFields → BookView → Type 0
@@ -30,19 +30,19 @@ IsOfAnother plant row book = (book.row ≢ row) ⊎ (book.consts ≢ plant.const
 
 -- an operator's history strays at this place: it is of another row or plant, and the place is 0; or its actions are not
 -- the operator's own steps, from this place on
-abbrev pub StraysAt : PlantFields → List Step → ℕ → RowFields → BookView → ℕ → Type 0
-StraysAt plant steps i row book index =
+abbrev pub HistoryStraysAt : PlantFields → List Step → ℕ → RowFields → BookView → ℕ → Type 0
+HistoryStraysAt plant steps i row book index =
     (IsOfAnother plant row book × (index ≡ 0))
     ⊎ ((book.row ≡ row) × (book.consts ≡ plant.consts)
     × DifferFirst (actions_of book.history) (own_steps row i steps) index)
 
 -- the least operator whose history strays, and where it does
-pub record IsStray (plant : PlantFields) (steps : List Step) (books : List BookView) (op index : ℕ) : Type 0 where
+pub record IsStrayHistory (plant : PlantFields) (steps : List Step) (books : List BookView) (op index : ℕ) : Type 0 where
   pub row : RowFields
   pub book : BookView
   pub row_is : slice_get plant.rows op ≡ Some row
   pub book_is : slice_get books op ≡ Some book
-  pub strays : StraysAt plant steps op row book index
+  pub strays : HistoryStraysAt plant steps op row book index
   pub before : (i : ℕ) (other : RowFields) (earlier : BookView) → i < op → slice_get plant.rows i ≡ Some other
       → slice_get books i ≡ Some earlier → IsBookAfter plant steps i other earlier
 
@@ -78,7 +78,7 @@ IsMapStray plant steps books assembly frame =
 -- what is found where a run is not as it should be: histories that stray are reported before MAPs that do; no other fault is
 -- reported
 abbrev pub IsFound : PlantFields → List Step → List BookView → AssemblyView → RunFault → Type 0
-IsFound plant steps books assembly (Strayed op index) = IsStray plant steps books op index
+IsFound plant steps books assembly (Strayed op index) = IsStrayHistory plant steps books op index
 IsFound plant steps books assembly (MapStrayed frame) =
-    AreOwn plant steps books × IsMapStray plant steps books assembly frame
+    AreOwnRuns plant steps books × IsMapStray plant steps books assembly frame
 IsFound plant steps books assembly fault = ⊥

@@ -9,7 +9,7 @@ ghost use Rattle.map_assembly.specs.declared.refused.GatherFault.{GatherFault};
 ghost use Rattle.map_assembly.specs.declared.refused.GatherFault.TheVariants.{NoMemory};
 ghost use Rattle.map_assembly.specs.Gathering.{gathering_of, put_fault, MayReslice, IsGathering};
 ghost use Rattle.run_model.specs.OwnSteps.{slice_of};
-ghost use Rattle.run_audit.specs.Placings.{new_assembly, listed, HasPut, HasResliced, HaveMade};
+ghost use Rattle.run_audit.specs.Placings.{new_assembly, map_if_made, HasPut, HasResliced, HaveMade};
 
 use crate::placing::Placing;
 use map_assembly::{Gather, GatherFault, MapBytes};
@@ -95,7 +95,7 @@ fn note(placings: &mut Vec<Placing>, placing: Placing)
 /// Keeps the MAP that a part gave, if it gave one, in the room that is there.
 fn note_map(maps: &mut Vec<MapBytes>, made: Option<MapBytes>)
     requires { vec_len maps.old < vec_capacity maps.old }
-    ensures { maps.new.items ≡ maps.old.items ++ listed made }
+    ensures { maps.new.items ≡ maps.old.items ++ map_if_made made }
 {
     if let Some(map) = made {
         maps.push_reserved(map);
@@ -121,7 +121,7 @@ impl Assembly {
     /// first.
     ///
     /// Faults: those of `Gather::put`. Nothing has changed then, and the elements are dropped.
-    pub fn put(
+    pub fn put_part(
         &mut self,
         alloc: Global,
         op: Op,

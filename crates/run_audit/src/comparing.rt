@@ -3,7 +3,7 @@
 ghost use Rattle.std.specs.Prelude.{◌≡◌, ◌↔◌, length, map, vec_len, IsTrue, MatchOption, ℕ, All, Err, IfOk, OnOk, IfErr};
 ghost use Rattle.operator_book.specs.ViewOf.{view_of};
 ghost use Rattle.run_receipts.specs.Callers.{AreByCallers};
-ghost use Rattle.run_audit.specs.Straying.{AreOwn, ArePut, IsStray, IsMapStray, IsFound};
+ghost use Rattle.run_audit.specs.Straying.{AreOwnRuns, ArePut, IsStrayHistory, IsMapStray, IsFound};
 ghost use Rattle.run_audit.specs.Outcome.{AreMerged, AreTicked, ticks_of, is_tick_of, IsOutcome};
 
 use crate::assembly::Assembly;
@@ -56,7 +56,7 @@ fn first_map_stray(
     steps: &[Step],
 ) -> Option<u32>
     requires one_each { length books.now ≡ length plant.now.rows }
-    requires own { AreOwn plant.now steps.now (map view_of books.now) }
+    requires own { AreOwnRuns plant.now steps.now (map view_of books.now) }
     ensures { MatchOption result
         ((assembly.now.plant ≡ plant.now) × ArePut steps.now (map view_of books.now) assembly.now.placings)
         (IsMapStray plant.now steps.now (map view_of books.now) assembly.now) }
@@ -77,7 +77,7 @@ pub(crate) fn first_fault(
     steps: &[Step],
 ) -> Result<(), RunFault>
     requires { length books.now ≡ length plant.now.rows }
-    ensures ok { OnOk result (AreOwn plant.now steps.now (map view_of books.now) × (assembly.now.plant ≡ plant.now)
+    ensures ok { OnOk result (AreOwnRuns plant.now steps.now (map view_of books.now) × (assembly.now.plant ≡ plant.now)
         × ArePut steps.now (map view_of books.now) assembly.now.placings) }
     ensures err { IfErr result (IsFound plant.now steps.now (map view_of books.now) assembly.now) }
 {
@@ -120,7 +120,7 @@ pub fn compare(
 
     // What is found decides what is reported: where a history strays, it is reported; else where the assembly does.
     ensures strayed { (op index : ℕ) → (result ≡ Err (RunFault.Strayed op index))
-        ↔ IsStray plant.now steps.now (map view_of settled.books.items) op index }
+        ↔ IsStrayHistory plant.now steps.now (map view_of settled.books.items) op index }
     ensures map_strayed { (frame : ℕ) → (result ≡ Err (RunFault.MapStrayed frame))
         ↔ IsFound plant.now steps.now (map view_of settled.books.items) assembly (RunFault.MapStrayed frame) }
 {

@@ -3,14 +3,14 @@
 ghost use Rattle.std.specs.Prelude.{◌≡◌, ◌+◌, ◌<◌, ◌∷◌, [], drop, take, slice_get, option_map, Some, None, IsSome, IsTrue, ◌↔◌, All, MatchOption};
 ghost use Rattle.run_model.specs.IsStateAfter.{frames_of};
 ghost use Rattle.plant_core.specs.Waiting.{frames_in, waiting_in, IsOneFrame};
-ghost use Rattle.run_receipts.specs.Framing.{frame_of};
+ghost use Rattle.run_receipts.specs.Framing.{numbered_frame};
 
 use operator_model::{Entry, Output};
 use run_receipts::{Frame, are_same_elements};
 
 /// Returns the first frame among outputs.
 fn frame_in(outputs: &[Output]) -> Option<Frame<'_>>
-    ensures { option_map frame_of result ≡ slice_get (frames_of outputs.now) 0 }
+    ensures { option_map numbered_frame result ≡ slice_get (frames_of outputs.now) 0 }
 {
     for output in outputs {
         if let Output::Frame { number, elements } = output {
@@ -27,7 +27,7 @@ fn frame_in(outputs: &[Output]) -> Option<Frame<'_>>
 fn next_frame(history: &[Entry], from: usize) -> Option<(usize, Frame<'_>)>
     requires { All IsOneFrame history.now }
     ensures { MatchOption result (waiting_in history.now from ≡ [])
-        (λ next. waiting_in history.now from ≡ frame_of next.1 ∷ waiting_in history.now next.0) }
+        (λ next. waiting_in history.now from ≡ numbered_frame next.1 ∷ waiting_in history.now next.0) }
 {
     for place in from..history.len() {
         if let Some(frame) = frame_in(history[place].outputs.as_slice()) {
@@ -48,7 +48,7 @@ pub(crate) fn next_due(
     requires one { All IsOneFrame history.now }
     requires place { waiting_in history.now from ≡ drop given (frames_in history.now) }
     ensures next { MatchOption result (slice_get (take due (frames_in history.now)) given ≡ None)
-        (λ next. (slice_get (take due (frames_in history.now)) given ≡ Some (frame_of next.1))
+        (λ next. (slice_get (take due (frames_in history.now)) given ≡ Some (numbered_frame next.1))
         × (waiting_in history.now next.0 ≡ drop (given + 1) (frames_in history.now))) }
     ensures room { IsSome result → given < due }
 {
@@ -61,7 +61,7 @@ pub(crate) fn next_due(
 
 /// Returns whether two frames are the same.
 fn is_same_frame(a: &Frame, b: &Frame) -> bool
-    ensures { IsTrue result ↔ (frame_of a.now ≡ frame_of b.now) }
+    ensures { IsTrue result ↔ (numbered_frame a.now ≡ numbered_frame b.now) }
 {
     a.number == b.number && are_same_elements(a.elements, b.elements)
 }
@@ -76,8 +76,8 @@ pub(crate) fn behind_due(
 ) -> Option<usize>
     requires one { All IsOneFrame history.now }
     requires place { waiting_in history.now from ≡ drop given (frames_in history.now) }
-    ensures next { MatchOption result (slice_get (take due (frames_in history.now)) given ≡ Some (frame_of put.now) → ⊥)
-        (λ behind. (slice_get (take due (frames_in history.now)) given ≡ Some (frame_of put.now))
+    ensures next { MatchOption result (slice_get (take due (frames_in history.now)) given ≡ Some (numbered_frame put.now) → ⊥)
+        (λ behind. (slice_get (take due (frames_in history.now)) given ≡ Some (numbered_frame put.now))
         × (waiting_in history.now behind ≡ drop (given + 1) (frames_in history.now))) }
     ensures room { IsSome result → given < due }
 {

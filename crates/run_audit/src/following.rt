@@ -8,7 +8,7 @@ ghost use Rattle.operator_model.specs.Replay.{actions_of};
 ghost use Rattle.operator_book.specs.ViewOf.{view_of};
 ghost use Rattle.run_model.specs.OwnSteps.{action_of, own_steps};
 ghost use Rattle.run_model.specs.IsStateAfter.{IsBookAfter};
-ghost use Rattle.run_audit.specs.Straying.{DifferFirst, AreOwn, StraysAt, IsStray};
+ghost use Rattle.run_audit.specs.Straying.{DifferFirst, AreOwnRuns, HistoryStraysAt, IsStrayHistory};
 ghost use Rattle.run_audit.specs.Taken.{taken_by};
 
 use crate::same::{are_same_consts, is_same_row};
@@ -108,7 +108,7 @@ pub fn stray_at(plant: &Plant, op: Op, book: &Book, steps: &[Step]) -> Option<us
     requires { op < length plant.now.rows }
     ensures { (row : RowFields) → slice_get plant.now.rows op ≡ Some row
         → MatchOption result (IsBookAfter plant.now steps.now op row (view_of book.now))
-        (StraysAt plant.now steps.now op row (view_of book.now)) }
+        (HistoryStraysAt plant.now steps.now op row (view_of book.now)) }
 {
     // For the proof: the state and the outputs of the book are those of its actions.
     book.always_replayed();
@@ -123,8 +123,8 @@ pub fn stray_at(plant: &Plant, op: Op, book: &Book, steps: &[Step]) -> Option<us
 /// Returns the least operator whose history strays, and where it does.
 pub(crate) fn first_stray(plant: &Plant, books: &[Book], steps: &[Step]) -> Option<(Op, usize)>
     requires { length books.now ≡ length plant.now.rows }
-    ensures { MatchOption result (AreOwn plant.now steps.now (map view_of books.now))
-        (λ stray. IsStray plant.now steps.now (map view_of books.now) stray.0 stray.1) }
+    ensures { MatchOption result (AreOwnRuns plant.now steps.now (map view_of books.now))
+        (λ stray. IsStrayHistory plant.now steps.now (map view_of books.now) stray.0 stray.1) }
 {
     for (op, book) in books.iter().enumerate() {
         if let Some(index) = stray_at(plant, op, book, steps) {

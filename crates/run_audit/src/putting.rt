@@ -5,7 +5,7 @@ ghost use Rattle.operator_book.specs.ViewOf.{view_of};
 ghost use Rattle.run_model.specs.OwnSteps.{is_collect, collects_of};
 ghost use Rattle.run_model.specs.IsStateAfter.{AreNumbered};
 ghost use Rattle.plant_core.specs.Waiting.{frames_in, IsOneFrame};
-ghost use Rattle.run_receipts.specs.Framing.{frame_of};
+ghost use Rattle.run_receipts.specs.Framing.{numbered_frame};
 ghost use Rattle.run_audit.specs.Placings.{put_by, puts_of};
 ghost use Rattle.run_audit.specs.Straying.{ArePut, IsPutStray};
 ghost use Rattle.run_audit.specs.Numbering.{AllAreNumbered, IsMissed};
@@ -41,7 +41,7 @@ pub(crate) fn count_collects(op: Op, steps: &[Step]) -> usize
 
 /// Returns the frame that a placing put of this operator, if it put one.
 fn put_by(op: Op, placing: &Placing) -> Option<Frame<'_>>
-    ensures { option_map frame_of result ≡ put_by op placing.now }
+    ensures { option_map numbered_frame result ≡ put_by op placing.now }
 {
     match placing {
         Placing::Put {

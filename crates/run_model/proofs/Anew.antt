@@ -22,7 +22,7 @@ use Rattle.operator_model.specs.declared.share.NextShare.{NextShare}
 use Rattle.operator_model.specs.State.{OperatorState, operator}
 use Rattle.operator_model.specs.Frame.{next_at}
 use Rattle.operator_model.specs.Frames.{is_tick}
-use Rattle.operator_model.specs.Machine.{arrived, worked, own_step, own_run, is_off_frame, unfit_from, IsAllowed}
+use Rattle.operator_model.specs.Machine.{arrival_result, work_result, own_step, own_run, is_off_frame, unfit_from, IsAllowed}
 use Rattle.operator_model.specs.Replay.{BookView}
 use Rattle.operator_model.specs.Slices.{SliceFrom, reslicings_in, MayRun, waiting_slice}
 use Rattle.operator_model.proofs.FrameLemmas.{arrived_none, worked_none, run_puts}
@@ -31,7 +31,7 @@ use Rattle.plant.specs.declared.consts.Channel.{Channel}
 use Rattle.map_assembly.specs.declared.slicing.Reslicing.{Reslicing}
 use Rattle.map_assembly.specs.Part.{quota_of}
 use Rattle.map_assembly.specs.Plan.{IsInFrame, AreSlices}
-use Rattle.map_assembly.specs.Gathering.{Gathering, next_of, IsGathering, IsPast, MayReslice}
+use Rattle.map_assembly.specs.Gathering.{Gathering, next_of, IsGathering, HasPutNoneFrom, MayReslice}
 use Rattle.run_model.specs.declared.step.Step.{Step}
 use Rattle.run_model.specs.declared.step.Out.{Out}
 use Rattle.run_model.specs.OwnSteps.{own_steps, slice_of, reslicings_of}
@@ -102,8 +102,8 @@ stays old new frame next = let same : reach new ≡ reach old = λ n. reach_of (
 module _ (consts : ConstsFields) (row : RowFields) where
   step_reach : (state : OperatorState) (action : Action) → IsAllowed (operator consts row state) action → reach state ≤ reach (own_step (operator consts row state) action).state
   unfolding own_step
-  step_reach state (Arrive modem heard) allowed = let same = arrived_none (operator consts row state) modem heard in stays state (arrived row state modem heard).state same.frame same.waits
-  step_reach state Work allowed = let same = worked_none (operator consts row state) state.inbox in stays state (worked (operator consts row state) state.inbox).state same.frame same.waits
+  step_reach state (Arrive modem heard) allowed = let same = arrived_none (operator consts row state) modem heard in stays state (arrival_result row state modem heard).state same.frame same.waits
+  step_reach state Work allowed = let same = worked_none (operator consts row state) state.inbox in stays state (work_result (operator consts row state) state.inbox).state same.frame same.waits
   step_reach state Tick allowed = turned state.frame state.next
   step_reach state (Reslice from offered) allowed =
       let fit = takes consts state from offered allowed.fit in
@@ -210,7 +210,7 @@ module _ (plant : PlantFields) (start : Start) (done : List Step) (outs : List O
       sym (length-map frames (λ (frame : Numbered). frame.0)) ∙ (ap (λ (ns : List ℕ). length ns) (numbers_are (isolated_run_from plant.consts start row i done).outputs ∙ puts.numbers) ∙ length_range (start.state row).frame count) in
       omega (arith, put_so_far plant start done outs core starts reached is i row here, reached.gathered.collected i row here, long, puts.next, starts.at_one_frame i row here)
 
-  past : All (IsPast g from) g.queues
+  past : All (HasPutNoneFrom g from) g.queues
   past k d lt started =
       let row = some_at plant.rows k (omega (arith, lt, reached.gathered.one_each)) in
       let offered = own_takes k row.0 row.1 in

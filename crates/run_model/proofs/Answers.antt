@@ -3,18 +3,18 @@ use Rattle.std.proofs.Common.{◌≡◌, ℕ, List, [], ◌∷◌, Option, Some,
 use Rattle.std.proofs.lemmas.Bool.{eq-eqb, ne_eqb}
 use Rattle.operator_model.specs.declared.output.Output.{Output}
 use Rattle.map_assembly.specs.declared.map_bytes.MapBytes.{MapBytes}
-use Rattle.run_model.specs.OwnSteps.{answers_of, under, maps_in}
+use Rattle.run_model.specs.OwnSteps.{answers_of, outputs_under, maps_in}
 use Rattle.run_model.specs.Steps.{told_map}
 
-pub answers_here : (i k : ℕ) (outputs : List Output) → i ≡ k → answers_of i (under k outputs) ≡ outputs
+pub answers_here : (i k : ℕ) (outputs : List Output) → i ≡ k → answers_of i (outputs_under k outputs) ≡ outputs
 answers_here i k [] e = refl
 answers_here i k (x ∷ outputs) e = rw (eq-eqb k i (sym e)) (ap (λ (os : List Output). x ∷ os) (answers_here i k outputs e))
 
-pub answers_else : (i k : ℕ) (outputs : List Output) → (i ≡ k → ⊥) → answers_of i (under k outputs) ≡ []
+pub answers_else : (i k : ℕ) (outputs : List Output) → (i ≡ k → ⊥) → answers_of i (outputs_under k outputs) ≡ []
 answers_else i k [] ne = refl
 answers_else i k (x ∷ outputs) ne = rw (ne_eqb k i (λ e. ne (sym e))) (answers_else i k outputs ne)
 
-pub no_maps : (k : ℕ) (outputs : List Output) → maps_in (under k outputs) ≡ []
+pub no_maps : (k : ℕ) (outputs : List Output) → maps_in (outputs_under k outputs) ≡ []
 no_maps k [] = refl
 no_maps k (x ∷ outputs) = no_maps k outputs
 

@@ -9,7 +9,7 @@ use Rattle.operator_model.specs.declared.action.Entry.{Entry}
 use Rattle.operator_model.specs.declared.output.Output.{Output}
 use Rattle.operator_model.specs.State.{operator}
 use Rattle.operator_model.specs.Machine.{own_step, IsAllowed}
-use Rattle.operator_model.specs.Replay.{BookView, IsReplayFrom, actions_of, acted}
+use Rattle.operator_model.specs.Replay.{BookView, IsReplayFrom, actions_of, book_after_action}
 use Rattle.run_model.specs.declared.step.Step.{Step}
 use Rattle.run_model.specs.OwnSteps.{action_of}
 use Rattle.run_model.specs.IsTraceOf.{isolated_run_from}
@@ -21,7 +21,7 @@ use Rattle.run_model.specs.Starts.{Start}
 abbrev pub Moves : Option Action → BookView → BookView → List Output → Type 0
 Moves None book new now = (new ≡ book) × (now ≡ [])
 Moves (Some action) book new now =
-    IsAllowed (operator book.consts book.row book.state) action × (new ≡ acted book action) × (now ≡ (own_step (operator book.consts book.row book.state) action).outputs)
+    IsAllowed (operator book.consts book.row book.state) action × (new ≡ book_after_action book action) × (now ≡ (own_step (operator book.consts book.row book.state) action).outputs)
 
 module _ (plant : PlantFields) (start : Start) (steps : List Step) (step : Step) (i : ℕ) (row : RowFields) (book new : BookView) (now : List Output) (is : IsBookFrom plant start steps i row book) where
   -- the book's own step is the one of the machine run alone
@@ -30,7 +30,7 @@ module _ (plant : PlantFields) (start : Start) (steps : List Step) (step : Step)
 
   book_more : (action : Action) → action_of row i step ≡ Some action → Moves (Some action) book new now → IsBookFrom plant start (steps ++ step ∷ []) i row new
   book_more action e moves =
-      let made : new ≡ acted book action = moves.1 in
+      let made : new ≡ book_after_action book action = moves.1 in
       let told : (own_step (operator book.consts book.row book.state) action).state ≡ (isolated_run_from plant.consts start row i (steps ++ step ∷ [])).state =
       ap (λ r. r.state) (step_alone action) ∙ sym (alone_state plant.consts start row i steps step action e) in
       record {

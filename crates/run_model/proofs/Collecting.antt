@@ -11,7 +11,7 @@ use Rattle.plant.specs.declared.plant.PlantFields.{PlantFields}
 use Rattle.map_assembly.specs.declared.map_bytes.MapBytes.{MapBytes}
 use Rattle.map_assembly.specs.declared.slicing.Reslicing.{Reslicing}
 use Rattle.map_assembly.specs.Gathering.{Gathering, queue_of, is_last, IsGathering}
-use Rattle.map_assembly.specs.Assembled.{IsAnswer}
+use Rattle.map_assembly.specs.Assembled.{IsPutResult}
 use Rattle.map_assembly.proofs.StateLemmas.{after_other}
 use Rattle.run_model.specs.declared.step.Step.{Step}
 use Rattle.run_model.specs.declared.step.Step.TheVariants as steps
@@ -106,7 +106,7 @@ module _ (plant : PlantFields) (start : Start) (before : List Step) (outs : List
       (ap (λ (h : Gathering). h.next) gathering ∙ reached.gathered.next_is)
 
   -- it is, and the MAP is made
-  made_reached : (made : MapBytes) → IsAnswer old.gathering k collects.frame collects.part (Some made) → now ≡ out.Map made ∷ [] → IsStateAfterFrom plant start after (outs ++ now) new
+  made_reached : (made : MapBytes) → IsPutResult old.gathering k collects.frame collects.part (Some made) → now ≡ out.Map made ∷ [] → IsStateAfterFrom plant start after (outs ++ now) new
   made_reached made answer one =
       let least : IsLeast plant after (length (maps_in outs) + 1) = least_made plant start before outs k now old new reached collects is answer.0 in
       let long : length (maps_in outs ++ made ∷ []) ≡ length (maps_in outs) + 1 = length_push (maps_in outs) made in
@@ -133,5 +133,5 @@ module _ (plant : PlantFields) (start : Start) (before : List Step) (outs : List
   collects_reached = by collects.made refl
     where
       by : (o : Option MapBytes) → collects.made ≡ o → IsStateAfterFrom plant start after (outs ++ now) new
-      by None e = waits_reached (subst (IsAnswer old.gathering k collects.frame collects.part) e collects.made_is) (collects.now_is ∙ ap told_map e)
-      by (Some made) e = made_reached made (subst (IsAnswer old.gathering k collects.frame collects.part) e collects.made_is) (collects.now_is ∙ ap told_map e)
+      by None e = waits_reached (subst (IsPutResult old.gathering k collects.frame collects.part) e collects.made_is) (collects.now_is ∙ ap told_map e)
+      by (Some made) e = made_reached made (subst (IsPutResult old.gathering k collects.frame collects.part) e collects.made_is) (collects.now_is ∙ ap told_map e)

@@ -10,8 +10,8 @@ use Rattle.map_assembly.specs.declared.map_bytes.MapBytes.{MapBytes}
 use Rattle.run_model.specs.declared.step.Step.{Step}
 use Rattle.run_model.specs.declared.step.Out.{Out}
 use Rattle.run_model.specs.OwnSteps.{answers_of, maps_in, map_in, is_collect, collects_of}
-use Rattle.run_model.specs.IsTraceOf.{isolated_run_from, elements_in, IsMapFrom, IsLeast, AreMapsFrom}
-use Rattle.run_model.specs.IsStateAfter.{frames_of, numbered, AreNumbered}
+use Rattle.run_model.specs.IsTraceOf.{isolated_run_from, elements_at_frame, IsMapFrom, IsLeast, AreMapsFrom}
+use Rattle.run_model.specs.IsStateAfter.{frames_of, frame_with_number, AreNumbered}
 use Rattle.run_model.proofs.Following.{EachTells}
 use Rattle.run_model.proofs.Numbers.{numbered_from, of_number, elements_are, number_kept}
 use Rattle.run_model.specs.Starts.{Start, StandAtOneFrame}
@@ -20,11 +20,11 @@ use Rattle.run_model.specs.Starts.{Start, StandAtOneFrame}
 
 pub frames_more : (plant : PlantFields) (start : Start) (before : List Step) (step : Step) (now : List Out) → EachTells plant start before step now → (i : ℕ) (row : RowFields) → slice_get plant.rows i ≡ Some row
     → frames_of (isolated_run_from plant.consts start row i (before ++ step ∷ [])).outputs ≡ frames_of (isolated_run_from plant.consts start row i before).outputs ++ frames_of (answers_of i now)
-frames_more plant start before step now tells i row e = ap frames_of (tells i row e) ∙ filter_map-append numbered (isolated_run_from plant.consts start row i before).outputs (answers_of i now)
+frames_more plant start before step now tells i row e = ap frames_of (tells i row e) ∙ filter_map-append frame_with_number (isolated_run_from plant.consts start row i before).outputs (answers_of i now)
 
 -- the frame of a number stays what it is
 part_kept : (plant : PlantFields) (start : Start) → StandAtOneFrame plant start → (before : List Step) (step : Step) (now : List Out) → EachTells plant start before step now → (i : ℕ) (row : RowFields) → slice_get plant.rows i ≡ Some row → (frame : ℕ) (part : ElementsFields)
-    → elements_in frame (isolated_run_from plant.consts start row i before).outputs ≡ part ∷ [] → elements_in frame (isolated_run_from plant.consts start row i (before ++ step ∷ [])).outputs ≡ part ∷ []
+    → elements_at_frame frame (isolated_run_from plant.consts start row i before).outputs ≡ part ∷ [] → elements_at_frame frame (isolated_run_from plant.consts start row i (before ++ step ∷ [])).outputs ≡ part ∷ []
 part_kept plant start at before step now tells i row e frame part is =
     let all = frames_more plant start before step now tells i row e in
     elements_are frame (isolated_run_from plant.consts start row i (before ++ step ∷ [])).outputs

@@ -12,7 +12,7 @@ use Rattle.operator_model.specs.declared.action.Action.{Action}
 use Rattle.operator_model.specs.declared.action.Action.TheVariants as actions
 use Rattle.operator_model.specs.State.{OperatorState, operator}
 use Rattle.operator_model.specs.Machine.{own_step}
-use Rattle.operator_model.specs.Replay.{BookView, acted}
+use Rattle.operator_model.specs.Replay.{BookView, book_after_action}
 use Rattle.run_model.specs.declared.step.Step.{Step}
 use Rattle.run_model.specs.declared.step.Step.TheVariants as steps
 use Rattle.run_model.specs.declared.step.Out.{Out}
@@ -35,18 +35,18 @@ module _ (plant : PlantFields) (step : Step) (k : ℕ) (action : Action) (old ne
   moves_here : (i : ℕ) (book made : BookView) → i ≡ k → slice_get old.books i ≡ Some book → slice_get new.books i ≡ Some made → Moves (Some action) book made (answers_of i now)
   moves_here i book made same e f =
       let book_is : acts.book ≡ book = same_at old.books k acts.book book acts.book_is (ap (slice_get old.books) (sym same) ∙ e) in
-      let there : slice_get new.books i ≡ Some (acted acts.book action) =
+      let there : slice_get new.books i ≡ Some (book_after_action acts.book action) =
       ap (λ (c : CoreView). slice_get c.books i) acts.new_is
-      ∙ (ap (slice_get (slice_set old.books k (acted acts.book action))) same ∙ get_same old.books k (acted acts.book action) (slice_get_within old.books k acts.book acts.book_is)) in
+      ∙ (ap (slice_get (slice_set old.books k (book_after_action acts.book action))) same ∙ get_same old.books k (book_after_action acts.book action) (slice_get_within old.books k acts.book acts.book_is)) in
       subst (λ (b : BookView). Moves (Some action) b made (answers_of i now)) book_is (
         acts.allowed,
-        same_at new.books i made (acted acts.book action) f there,
+        same_at new.books i made (book_after_action acts.book action) f there,
         ap (answers_of i) acts.now_is ∙ answers_here i k (own_step (operator acts.book.consts acts.book.row acts.book.state) action).outputs same,
       )
 
   moves_else : (i : ℕ) (book made : BookView) → (i ≡ k → ⊥) → slice_get old.books i ≡ Some book → slice_get new.books i ≡ Some made → Moves None book made (answers_of i now)
   moves_else i book made other e f =
-      let there : slice_get new.books i ≡ Some book = ap (λ (c : CoreView). slice_get c.books i) acts.new_is ∙ (get_other old.books k i (acted acts.book action) other ∙ e) in
+      let there : slice_get new.books i ≡ Some book = ap (λ (c : CoreView). slice_get c.books i) acts.new_is ∙ (get_other old.books k i (book_after_action acts.book action) other ∙ e) in
       (same_at new.books i made book f there, ap (answers_of i) acts.now_is ∙ answers_else i k (own_step (operator acts.book.consts acts.book.row acts.book.state) action).outputs other)
 
   pub acts_moves : EachMoves plant step old new now
@@ -57,7 +57,7 @@ module _ (plant : PlantFields) (step : Step) (k : ℕ) (action : Action) (old ne
       by (inr other) = subst (λ (o : Option Action). Moves o book made (answers_of i now)) (sym (at.else i row here other)) (moves_else i book made other e f)
 
   pub acts_length : length new.books ≡ length old.books
-  acts_length = ap (λ (c : CoreView). length c.books) acts.new_is ∙ length-set old.books k (acted acts.book action)
+  acts_length = ap (λ (c : CoreView). length c.books) acts.new_is ∙ length-set old.books k (book_after_action acts.book action)
 
 -- ---- a collection
 
@@ -76,6 +76,6 @@ reslices_moves plant from rows old new now reslices i row book made here e f =
     let offered = some_at rows i (omega (arith, reslices.one_each, slice_get_within old.books i book e)) in
     subst (λ (o : Option Action). Moves o book made (answers_of i now)) (sym (ap (resliced_by from) offered.1)) (
       record { mine = refl; not_spent = refl; fit = reslices.fit i offered.0 book offered.1 e },
-      same_at new.books i made (acted book (actions.Reslice from offered.0)) f (reslices.acted_is i offered.0 book offered.1 e),
+      same_at new.books i made (book_after_action book (actions.Reslice from offered.0)) f (reslices.acted_is i offered.0 book offered.1 e),
       ap (answers_of i) reslices.now_is ∙ sym (silent book.consts book.row book.state from offered.0),
     )

@@ -9,16 +9,16 @@ use Rattle.plant.specs.declared.consts.ConstsFields.{ConstsFields}
 use Rattle.plant.specs.declared.operator_row.RowFields.{RowFields}
 use Rattle.operator_model.specs.declared.output.Output.{Output}
 use Rattle.operator_model.specs.declared.output.Output.TheVariants.{Reply, Silent, Frame}
-use Rattle.operator_model.specs.State.{OperatorState, opened, operator}
+use Rattle.operator_model.specs.State.{OperatorState, opened_state, operator}
 use Rattle.operator_model.specs.declared.action.Action.{Action}
 use Rattle.operator_model.specs.Machine.{own_run}
-use Rattle.operator_model.specs.Frames.{frames_in, is_tick}
+use Rattle.operator_model.specs.Frames.{frame_numbers, is_tick}
 use Rattle.operator_model.proofs.FrameLemmas.{run_puts}
 use Rattle.map_assembly.specs.Gathering.{front_or}
 use Rattle.run_model.specs.declared.step.Step.{Step}
 use Rattle.run_model.specs.OwnSteps.{own_steps}
 use Rattle.run_model.specs.Starts.{Start}
-use Rattle.run_model.specs.IsTraceOf.{isolated_run, isolated_run_from, elements_in}
+use Rattle.run_model.specs.IsTraceOf.{isolated_run, isolated_run_from, elements_at_frame}
 use Rattle.run_model.specs.IsStateAfter.{frames_of, AreNumbered}
 
 abbrev pub Numbered : Type 0
@@ -33,7 +33,7 @@ by_range n (suc count) (frame ∷ frames) h =
     let rest : map (λ (f : Numbered). f.0) frames ≡ range_with_len (n + 1) count = cc in
     (first, by_range (n + 1) count frames rest)
 
-pub numbers_are : (outputs : List Output) → map (λ frame. frame.0) (frames_of outputs) ≡ frames_in outputs
+pub numbers_are : (outputs : List Output) → map (λ frame. frame.0) (frames_of outputs) ≡ frame_numbers outputs
 numbers_are [] = refl
 numbers_are (Reply modem bytes ∷ outputs) = numbers_are outputs
 numbers_are (Silent modem cause ∷ outputs) = numbers_are outputs
@@ -52,7 +52,7 @@ numbered_from consts start row i steps at =
 
 -- from the plant's first frame on, where it is opened
 pub are_numbered : (consts : ConstsFields) (row : RowFields) (i : ℕ) (steps : List Step) → AreNumbered consts.channel.first_frame (frames_of (isolated_run consts row i steps).outputs)
-are_numbered consts row i steps = run_numbered consts row (opened consts row) (own_steps row i steps)
+are_numbered consts row i steps = run_numbered consts row (opened_state consts row) (own_steps row i steps)
 
 -- ---- the frame of a number
 
@@ -62,13 +62,13 @@ if_number k frame = if frame.0 == k then Some frame.1 else None
 abbrev pub of_number : ℕ → List Numbered → List ElementsFields
 of_number k frames = filter_map (if_number k) frames
 
-pub elements_are : (k : ℕ) (outputs : List Output) → elements_in k outputs ≡ of_number k (frames_of outputs)
+pub elements_are : (k : ℕ) (outputs : List Output) → elements_at_frame k outputs ≡ of_number k (frames_of outputs)
 elements_are k [] = refl
 elements_are k (Reply modem bytes ∷ outputs) = elements_are k outputs
 elements_are k (Silent modem cause ∷ outputs) = elements_are k outputs
 elements_are k (Frame number elements ∷ outputs) = by (cases_eq number k) (elements_are k outputs)
   where
-    by : (number ≡ k) ⊎ (number ≡ k → ⊥) → elements_in k outputs ≡ of_number k (frames_of outputs) → elements_in k (Frame number elements ∷ outputs) ≡ of_number k (frames_of (Frame number elements ∷ outputs))
+    by : (number ≡ k) ⊎ (number ≡ k → ⊥) → elements_at_frame k outputs ≡ of_number k (frames_of outputs) → elements_at_frame k (Frame number elements ∷ outputs) ≡ of_number k (frames_of (Frame number elements ∷ outputs))
     by (inl e) rest = rw (eq-eqb number k e) (ap (λ (es : List ElementsFields). elements ∷ es) rest)
     by (inr ne) rest = rw (ne_eqb number k ne) rest
 

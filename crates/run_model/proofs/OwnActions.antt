@@ -7,7 +7,7 @@ use Rattle.plant.specs.declared.operator_row.RowFields.{RowFields}
 use Rattle.plant.specs.declared.plant.PlantFields.{PlantFields}
 use Rattle.plant.specs.Row.{is_listed}
 use Rattle.plant.specs.Plant.{IsPlant}
-use Rattle.plant.specs.Roster.{holder, Holds}
+use Rattle.plant.specs.Roster.{holder, ListsFirst}
 use Rattle.plant.proofs.Holders.{holder_holds, one_lists}
 use Rattle.operator_model.specs.declared.heard.Heard.{Heard}
 use Rattle.operator_model.specs.declared.action.Action.{Action}
@@ -36,7 +36,7 @@ tick_at plant k = record {
 
 pub arrive_at : (plant : PlantFields) (modem : Modem) (heard : Heard) (k : ℕ) → IsPlant plant → holder plant.rows modem ≡ Some k → IsActionAt plant (steps.Arrive modem heard) k (actions.Arrive modem heard)
 arrive_at plant modem heard k is held =
-    let holds : Holds plant.rows modem k = holder_holds plant.rows modem k held in
+    let holds : ListsFirst plant.rows modem k = holder_holds plant.rows modem k held in
     record {
       here = λ i row e same.
           let row_is : holds.row ≡ row = same_at plant.rows k holds.row row holds.here (ap (slice_get plant.rows) (sym same) ∙ e) in

@@ -17,9 +17,9 @@ use Rattle.operator_model.specs.declared.action.Entry.{Entry}
 use Rattle.operator_model.specs.declared.output.Output.{Output}
 use Rattle.operator_model.specs.declared.output.Output.TheVariants as outputs
 use Rattle.operator_model.specs.State.{OperatorState, operator}
-use Rattle.operator_model.specs.Frame.{resent, ticked, frame_elements}
-use Rattle.operator_model.specs.Frames.{frames_in}
-use Rattle.operator_model.specs.Machine.{arrived, worked, own_step, own_run}
+use Rattle.operator_model.specs.Frame.{resent, tick_result, frame_elements}
+use Rattle.operator_model.specs.Frames.{frame_numbers}
+use Rattle.operator_model.specs.Machine.{arrival_result, work_result, own_step, own_run}
 use Rattle.operator_model.specs.Replay.{actions_of, AreTold}
 use Rattle.operator_model.specs.Slices.{IsOfItsSlice, MayRun}
 use Rattle.operator_model.specs.Part.{is_own_sid}
@@ -27,7 +27,7 @@ use Rattle.operator_model.specs.Sound.{IsSound}
 use Rattle.operator_model.proofs.FrameLemmas.{arrived_none, worked_none}
 use Rattle.operator_model.proofs.PartLemmas.{part_spans, part_pending, part_few}
 use Rattle.operator_model.proofs.StepLemmas.{step_sound}
-use Rattle.run_model.specs.IsStateAfter.{frames_of, numbered}
+use Rattle.run_model.specs.IsStateAfter.{frames_of, frame_with_number}
 use Rattle.run_model.proofs.Numbers.{Numbered, numbers_are}
 
 -- what stands at a place of a list
@@ -51,7 +51,7 @@ none_of_none : (frames : List Numbered) → map (λ frame. frame.0) frames ≡ [
 none_of_none [] e = refl
 none_of_none (frame ∷ frames) e = cc
 
-no_frames : (row : RowFields) (puts : List Output) → frames_in puts ≡ [] → OwnFrames row puts
+no_frames : (row : RowFields) (puts : List Output) → frame_numbers puts ≡ [] → OwnFrames row puts
 no_frames row puts none =
     subst (λ (frames : List Numbered). AllByRecursion (λ frame. IsOwn row frame.1) frames)
     (sym (none_of_none (frames_of puts) (numbers_are puts ∙ none))) tt
@@ -61,15 +61,15 @@ no_resent [] = refl
 no_resent (resend ∷ resends) = no_resent resends
 
 module _ (consts : ConstsFields) (row : RowFields) where
-  tick_frames : (state : OperatorState) → frames_of (ticked (operator consts row state)).outputs ≡ (state.frame, frame_elements (operator consts row state)) ∷ []
+  tick_frames : (state : OperatorState) → frames_of (tick_result (operator consts row state)).outputs ≡ (state.frame, frame_elements (operator consts row state)) ∷ []
   tick_frames state =
-      filter_map-append numbered (map resent (resent_in state.kept)) (outputs.Frame state.frame (frame_elements (operator consts row state)) ∷ [])
+      filter_map-append frame_with_number (map resent (resent_in state.kept)) (outputs.Frame state.frame (frame_elements (operator consts row state)) ∷ [])
       ∙ ap (λ (frames : List Numbered). frames ++ (state.frame, frame_elements (operator consts row state)) ∷ []) (no_resent (resent_in state.kept))
 
   step_own : (state : OperatorState) (action : Action) → IsSound (operator consts row state) → OwnFrames row (own_step (operator consts row state) action).outputs
   unfolding own_step
-  step_own state (Arrive modem heard) sound = no_frames row (arrived row state modem heard).outputs (arrived_none (operator consts row state) modem heard).numbers
-  step_own state Work sound = no_frames row (worked (operator consts row state) state.inbox).outputs (worked_none (operator consts row state) state.inbox).numbers
+  step_own state (Arrive modem heard) sound = no_frames row (arrival_result row state modem heard).outputs (arrived_none (operator consts row state) modem heard).numbers
+  step_own state Work sound = no_frames row (work_result (operator consts row state) state.inbox).outputs (worked_none (operator consts row state) state.inbox).numbers
   step_own state Tick sound =
       subst (λ (frames : List Numbered). AllByRecursion (λ frame. IsOwn row frame.1) frames) (sym (tick_frames state))
       (record { spans = part_spans (operator consts row state) sound; pending = part_pending (operator consts row state) sound; few = part_few (operator consts row state) sound }, tt)
@@ -80,7 +80,7 @@ module _ (consts : ConstsFields) (row : RowFields) where
   run_own state (action ∷ actions) sound may =
       let first = own_step (operator consts row state) action in
       subst (λ (frames : List Numbered). AllByRecursion (λ frame. IsOwn row frame.1) frames)
-      (sym (filter_map-append numbered first.outputs (own_run (operator consts row first.state) actions).outputs))
+      (sym (filter_map-append frame_with_number first.outputs (own_run (operator consts row first.state) actions).outputs))
       (recursion-append (λ (frame : Numbered). IsOwn row frame.1) (frames_of first.outputs) (frames_of (own_run (operator consts row first.state) actions).outputs)
       (step_own state action sound) (run_own first.state actions (step_sound (operator consts row state) sound action may.0) may.1))
 

@@ -14,8 +14,8 @@ use Rattle.map_assembly.specs.declared.view.MapView.{MapView}
 use Rattle.map_assembly.specs.Reading.{MapReads}
 use Rattle.map_assembly.specs.Tiled.{part_of, own_part}
 use Rattle.run_model.specs.OwnSteps.{own_steps, answers_of, maps_in}
-use Rattle.run_model.specs.IsTraceOf.{isolated_run_from, elements_in}
-use Rattle.run_model.specs.IsStateAfter.{AreNumbered, frames_of, numbered}
+use Rattle.run_model.specs.IsTraceOf.{isolated_run_from, elements_at_frame}
+use Rattle.run_model.specs.IsStateAfter.{AreNumbered, frames_of, frame_with_number}
 use Rattle.run_model.specs.Periods.{Period, IsPeriodOf, ArePeriodsOf, steps_over, answers_over, maps_over, NoticesAlike}
 use Rattle.run_model.proofs.Numbers.{run_numbered, elements_are, of_number, number_kept, number_late}
 use Rattle.run_model.proofs.SharingOut.{shared_from}
@@ -52,7 +52,7 @@ module _ (consts : ConstsFields) (row : RowFields) where
   -- an operator's part of a MAP is its machine's frame of that number
   record IsPartIn (outputs : List Output) (made : MapBytes) (view : MapView) : Type 0 where
     pub part : ElementsFields
-    pub put : elements_in made.frame outputs ≡ part ∷ []
+    pub put : elements_at_frame made.frame outputs ≡ part ∷ []
     pub part_is : part_of row.sids view ≡ own_part part
 
   whole_numbered : (state : OperatorState) (front back : List Action)
@@ -60,24 +60,24 @@ module _ (consts : ConstsFields) (row : RowFields) where
   whole_numbered state front back =
       let a : List Output = (own_run (operator consts row state) front).outputs in
       let b : List Output = (own_run (operator consts row (own_run (operator consts row state) front).state) back).outputs in
-      subst (AreNumbered state.frame) (ap frames_of (goes_on state front back) ∙ filter_map-append numbered a b) (run_numbered consts row state (front ++ back))
+      subst (AreNumbered state.frame) (ap frames_of (goes_on state front back) ∙ filter_map-append frame_with_number a b) (run_numbered consts row state (front ++ back))
 
   -- the frame of a number in a whole run
   module _ (state : OperatorState) (front back : List Action) (k : ℕ) (part : ElementsFields) where
-    whole_of : elements_in k (own_run (operator consts row state) (front ++ back)).outputs
+    whole_of : elements_at_frame k (own_run (operator consts row state) (front ++ back)).outputs
         ≡ of_number k (frames_of (own_run (operator consts row state) front).outputs ++ frames_of (own_run (operator consts row (own_run (operator consts row state) front).state) back).outputs)
     whole_of =
         let a : List Output = (own_run (operator consts row state) front).outputs in
         let b : List Output = (own_run (operator consts row (own_run (operator consts row state) front).state) back).outputs in
-        ap (elements_in k) (goes_on state front back) ∙ (elements_are k (a ++ b) ∙ ap (of_number k) (filter_map-append numbered a b))
+        ap (elements_at_frame k) (goes_on state front back) ∙ (elements_are k (a ++ b) ∙ ap (of_number k) (filter_map-append frame_with_number a b))
 
-    in_front : elements_in k (own_run (operator consts row state) front).outputs ≡ part ∷ [] → elements_in k (own_run (operator consts row state) (front ++ back)).outputs ≡ part ∷ []
+    in_front : elements_at_frame k (own_run (operator consts row state) front).outputs ≡ part ∷ [] → elements_at_frame k (own_run (operator consts row state) (front ++ back)).outputs ≡ part ∷ []
     in_front e =
         let a : List Output = (own_run (operator consts row state) front).outputs in
         let b : List Output = (own_run (operator consts row (own_run (operator consts row state) front).state) back).outputs in
         whole_of ∙ number_kept k state.frame (frames_of a) (frames_of b) part (whole_numbered state front back) (sym (elements_are k a) ∙ e)
 
-    in_back : elements_in k (own_run (operator consts row (own_run (operator consts row state) front).state) back).outputs ≡ part ∷ [] → elements_in k (own_run (operator consts row state) (front ++ back)).outputs ≡ part ∷ []
+    in_back : elements_at_frame k (own_run (operator consts row (own_run (operator consts row state) front).state) back).outputs ≡ part ∷ [] → elements_at_frame k (own_run (operator consts row state) (front ++ back)).outputs ≡ part ∷ []
     in_back e =
         let a : List Output = (own_run (operator consts row state) front).outputs in
         let b : List Output = (own_run (operator consts row (own_run (operator consts row state) front).state) back).outputs in
@@ -96,7 +96,7 @@ module _ (consts : ConstsFields) (row : RowFields) where
           let mine = (shared_from x.plant x.start x.steps x.outs made view went.0.shown here reads).own x.place row went.0.row_is in
           record {
             part = mine.part;
-            put = in_front state (own_steps row x.place x.steps) (steps_over row xs) made.frame mine.part (sym (ap (elements_in made.frame) (stood_run state x went.0)) ∙ mine.put);
+            put = in_front state (own_steps row x.place x.steps) (steps_over row xs) made.frame mine.part (sym (ap (elements_at_frame made.frame) (stood_run state x went.0)) ∙ mine.put);
             part_is = mine.part_is;
           }
       by (inr there) later =
@@ -117,6 +117,6 @@ alike consts row state xs ys here there same =
           let x = all_parts consts row state xs a v here in_a reads_a in
           let y = all_parts consts row state ys b w there in_b reads_b in
           x.part_is
-          ∙ (ap own_part (one_part x.part y.part (elements_in a.frame (own_run (operator consts row state) (steps_over row xs)).outputs) (elements_in b.frame (own_run (operator consts row state) (steps_over row ys)).outputs) x.put y.put
-          (λ k. elements_in (frame k) (outputs k))) ∙ sym y.part_is);
+          ∙ (ap own_part (one_part x.part y.part (elements_at_frame a.frame (own_run (operator consts row state) (steps_over row xs)).outputs) (elements_at_frame b.frame (own_run (operator consts row state) (steps_over row ys)).outputs) x.put y.put
+          (λ k. elements_at_frame (frame k) (outputs k))) ∙ sym y.part_is);
     }

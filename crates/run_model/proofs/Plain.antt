@@ -14,7 +14,7 @@ use Rattle.map_assembly.specs.Gathering.{Gathering}
 use Rattle.run_model.specs.declared.step.Step.{Step}
 use Rattle.run_model.specs.declared.step.Step.TheVariants as steps
 use Rattle.run_model.specs.declared.step.Out.{Out}
-use Rattle.run_model.specs.OwnSteps.{maps_in, is_collect, under, reslicings_of}
+use Rattle.run_model.specs.OwnSteps.{maps_in, is_collect, outputs_under, reslicings_of}
 use Rattle.run_model.specs.Ordered.{target, IsToldFrom, AreOwnFrom}
 use Rattle.run_model.specs.IsTraceOf.{IsUnder}
 use Rattle.run_model.specs.IsStateAfter.{CoreView, AreFramesFrom, IsStateAfterFrom}
@@ -80,7 +80,7 @@ module _ (plant : PlantFields) (start : Start) (before : List Step) (outs : List
       record {
         row = row.0;
         row_is = row.1;
-        outputs = acts.now_is ∙ (λ n. under k (own_step (operator (is.consts_are n) (is.row_is n) (is.state_is n)) action).outputs);
+        outputs = acts.now_is ∙ (λ n. outputs_under k (own_step (operator (is.consts_are n) (is.row_is n) (is.state_is n)) action).outputs);
       }
 
   pub acts_reached : (k : ℕ) (action : Action) → reslicings_of (step ∷ []) ≡ [] → IsActionAt plant step k action → target plant step ≡ Some (k, action) → Acts k action old new now → IsStateAfterFrom plant start (before ++ step ∷ []) (outs ++ now) new

@@ -5,7 +5,7 @@ use Rattle.plant.specs.declared.consts.ConstsFields.{ConstsFields}
 use Rattle.plant.specs.declared.operator_row.RowFields.{RowFields}
 use Rattle.plant.specs.declared.plant.PlantFields.{PlantFields}
 use Rattle.plant.specs.Plant.{AgreeOn}
-use Rattle.operator_model.specs.State.{opened, operator}
+use Rattle.operator_model.specs.State.{opened_state, operator}
 use Rattle.operator_model.specs.Machine.{own_run}
 use Rattle.map_assembly.specs.Gathering.{front_or}
 use Rattle.map_assembly.specs.Tiled.{own_part}
@@ -13,7 +13,7 @@ use Rattle.run_model.specs.declared.step.Step.{Step}
 use Rattle.run_model.specs.declared.step.Out.{Out}
 use Rattle.run_model.specs.OwnSteps.{own_steps}
 use Rattle.run_model.specs.Starts.{Start, first_start}
-use Rattle.run_model.specs.IsTraceOf.{isolated_run_from, elements_in, IsTraceOf, IsTraceFrom}
+use Rattle.run_model.specs.IsTraceOf.{isolated_run_from, elements_at_frame, IsTraceOf, IsTraceFrom}
 use Rattle.run_model.specs.NonInterference.{NoticeTheSame}
 use Rattle.run_model.proofs.SharingOut.{shared_from}
 
@@ -33,11 +33,11 @@ notice_from p q a b i j s t o u agree here there state same =
       parts = λ m n v w in_m in_n frame reads_m reads_n.
           let x = (shared_from p a s o m v here in_m reads_m).own i agree.row agree.here in
           let y = (shared_from q b t u n w there in_n reads_n).own j agree.row agree.there in
-          x.part_is ∙ (ap own_part (one_part x.part y.part (elements_in m.frame (isolated_run_from p.consts a agree.row i s).outputs) (elements_in n.frame (isolated_run_from q.consts b agree.row j t).outputs) x.put y.put
-          (λ k. elements_in (frame k) (outputs k))) ∙ sym y.part_is);
+          x.part_is ∙ (ap own_part (one_part x.part y.part (elements_at_frame m.frame (isolated_run_from p.consts a agree.row i s).outputs) (elements_at_frame n.frame (isolated_run_from q.consts b agree.row j t).outputs) x.put y.put
+          (λ k. elements_at_frame (frame k) (outputs k))) ∙ sym y.part_is);
     }
 
 -- from the opened plants
 pub notice_same : (p q : PlantFields) (i j : ℕ) (s t : List Step) (o u : List Out) (agree : AgreeOn p i q j) → IsTraceOf p s o → IsTraceOf q t u → own_steps agree.row i s ≡ own_steps agree.row j t → NoticeTheSame p i o q j u agree
 notice_same p q i j s t o u agree here there same =
-    notice_from p q (first_start p) (first_start q) i j s t o u agree here there (ap (λ (c : ConstsFields). opened c agree.row) agree.consts) same
+    notice_from p q (first_start p) (first_start q) i j s t o u agree here there (ap (λ (c : ConstsFields). opened_state c agree.row) agree.consts) same

@@ -6,17 +6,17 @@ use Rattle.std.proofs.lemmas.List.Elements.{All-from_recursion, All-nil}
 use Rattle.operator_model.specs.declared.output.Output.{Output}
 use Rattle.map_assembly.specs.declared.map_bytes.MapBytes.{MapBytes}
 use Rattle.run_model.specs.declared.step.Out.{Out}
-use Rattle.run_model.specs.OwnSteps.{under}
+use Rattle.run_model.specs.OwnSteps.{outputs_under}
 use Rattle.run_model.specs.IsTraceOf.{IsUnder}
 use Rattle.run_model.specs.Steps.{told_map}
 
-all_under : (count k : ℕ) (outputs : List Output) → k < count → AllByRecursion (IsUnder count) (under k outputs)
+all_under : (count k : ℕ) (outputs : List Output) → k < count → AllByRecursion (IsUnder count) (outputs_under k outputs)
 all_under count k [] within = tt
 all_under count k (output ∷ outputs) within = (within, all_under count k outputs within)
 
-pub own_under : (count k : ℕ) (outputs : List Output) (now : List Out) → k < count → now ≡ under k outputs → All (IsUnder count) now
+pub own_under : (count k : ℕ) (outputs : List Output) (now : List Out) → k < count → now ≡ outputs_under k outputs → All (IsUnder count) now
 own_under count k outputs now within e =
-    subst (λ (outs : List Out). All (IsUnder count) outs) (sym e) (All-from_recursion (IsUnder count) (under k outputs) (all_under count k outputs within))
+    subst (λ (outs : List Out). All (IsUnder count) outs) (sym e) (All-from_recursion (IsUnder count) (outputs_under k outputs) (all_under count k outputs within))
 
 map_under : (count : ℕ) (made : Option MapBytes) → All (IsUnder count) (told_map made)
 map_under count None = All-nil (IsUnder count)

@@ -32,8 +32,8 @@ pub record IsAtRest (since : RunSoFar) (frame : ℕ) : Type 0 where
       (λ i row. collects_of i since.steps ≡ length (frames_of (isolated_run_from since.plant.consts since.start row i since.steps).outputs))
 
 -- no operator of the plant has the name of this row
-abbrev pub IsNew : PlantFields → RowFields → Type 0
-IsNew plant row = AtEachOperator plant (λ i was. was.name ≢ row.name)
+abbrev pub IsNewRow : PlantFields → RowFields → Type 0
+IsNewRow plant row = AtEachOperator plant (λ i was. was.name ≢ row.name)
 
 -- the plant is changed to another one: at rest, with the same constants, to a valid start with valid slices. An operator with the
 -- name of one of the old plant goes on in its state. An operator with a new name is opened at the frame.
@@ -44,7 +44,7 @@ pub record IsChanged (old new : RunSoFar) : Type 0 where
   pub slices : IsGathering (gathering_from new.plant new.start)
   pub go_on : (i j : ℕ) (was row : RowFields) → slice_get old.plant.rows i ≡ Some was → slice_get new.plant.rows j ≡ Some row → was.name ≡ row.name
       → new.start.state row ≡ state_now old i was
-  pub open_anew : AtEachOperator new.plant (λ j row. IsNew old.plant row → new.start.state row ≡ opened_before new.start.frame new.plant.consts row)
+  pub open_anew : AtEachOperator new.plant (λ j row. IsNewRow old.plant row → new.start.state row ≡ opened_before new.start.frame new.plant.consts row)
   pub nothing_done : (new.steps ≡ []) × (new.outs ≡ [])
 
 -- one plant after the other, each shown, and each changed from how the one before it ended

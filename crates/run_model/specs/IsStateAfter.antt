@@ -25,13 +25,13 @@ pub record CoreView : Type 0 where
   pub gathering : Gathering
 
 -- the frames of an operator, each with its number
-abbrev pub numbered : Output → Option (ℕ × ElementsFields)
-numbered (Reply modem bytes) = None
-numbered (Silent modem cause) = None
-numbered (Frame number elements) = Some (number, elements)
+abbrev pub frame_with_number : Output → Option (ℕ × ElementsFields)
+frame_with_number (Reply modem bytes) = None
+frame_with_number (Silent modem cause) = None
+frame_with_number (Frame number elements) = Some (number, elements)
 
 abbrev pub frames_of : List Output → List (ℕ × ElementsFields)
-frames_of outputs = filter_map numbered outputs
+frames_of outputs = filter_map frame_with_number outputs
 
 -- frames are numbered one after the other, from n on
 abbrev pub AreNumbered : ℕ → List (ℕ × ElementsFields) → Type 0

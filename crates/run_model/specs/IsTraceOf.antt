@@ -7,7 +7,7 @@ use Rattle.plant.specs.declared.operator_row.RowFields.{RowFields}
 use Rattle.plant.specs.declared.plant.PlantFields.{PlantFields}
 use Rattle.operator_model.specs.declared.output.Output.{Output}
 use Rattle.operator_model.specs.declared.output.Output.TheVariants.{Reply, Silent, Frame}
-use Rattle.operator_model.specs.State.{opened, operator}
+use Rattle.operator_model.specs.State.{opened_state, operator}
 use Rattle.operator_model.specs.Handle.{StepResult}
 use Rattle.operator_model.specs.Machine.{own_run}
 use Rattle.map_assembly.specs.declared.map_bytes.MapBytes.{MapBytes}
@@ -26,7 +26,7 @@ isolated_run_from consts start row i steps = own_run (operator consts row (start
 
 -- the same from the opened state
 abbrev pub isolated_run : ConstsFields → RowFields → ℕ → List Step → StepResult
-isolated_run consts row i steps = own_run (operator consts row (opened consts row)) (own_steps row i steps)
+isolated_run consts row i steps = own_run (operator consts row (opened_state consts row)) (own_steps row i steps)
 
 -- ---- frames
 
@@ -36,13 +36,13 @@ frame_if frame (Reply modem bytes) = None
 frame_if frame (Silent modem cause) = None
 frame_if frame (Frame number elements) = if number == frame then Some elements else None
 
-abbrev pub elements_in : ℕ → List Output → List ElementsFields
-elements_in frame outputs = filter_map (frame_if frame) outputs
+abbrev pub elements_at_frame : ℕ → List Output → List ElementsFields
+elements_at_frame frame outputs = filter_map (frame_if frame) outputs
 
 -- these are the operators' parts of a frame, in the plant's order: each the frame of that operator's machine run alone
 pub record ArePartsFrom (plant : PlantFields) (start : Start) (steps : List Step) (frame : ℕ) (parts : List ElementsFields) : Type 0 where
   pub one_each : length parts ≡ length plant.rows
-  pub own : AtEachPlace plant.rows parts (λ i row part. elements_in frame (isolated_run_from plant.consts start row i steps).outputs ≡ part ∷ [])
+  pub own : AtEachPlace plant.rows parts (λ i row part. elements_at_frame frame (isolated_run_from plant.consts start row i steps).outputs ≡ part ∷ [])
 
 -- ---- MAPs
 

@@ -11,7 +11,7 @@ use Rattle.run_model.specs.declared.step.Step.{Step}
 use Rattle.run_model.specs.declared.step.Step.TheVariants as steps
 use Rattle.run_model.specs.declared.step.Out.{Out}
 use Rattle.run_model.specs.declared.step.Out.TheVariants as outs
-use Rattle.run_model.specs.OwnSteps.{under}
+use Rattle.run_model.specs.OwnSteps.{outputs_under}
 use Rattle.run_model.specs.Starts.{Start, first_start}
 use Rattle.run_model.specs.IsTraceOf.{isolated_run_from, IsLeast}
 
@@ -31,7 +31,7 @@ target plant (steps.Reslice from rows) = None
 pub record AreOwnFrom (plant : PlantFields) (start : Start) (before : List Step) (i : ℕ) (action : Action) (now : List Out) : Type 0 where
   pub row : RowFields
   pub row_is : slice_get plant.rows i ≡ Some row
-  pub outputs : now ≡ under i (own_step (operator plant.consts row (isolated_run_from plant.consts start row i before).state) action).outputs
+  pub outputs : now ≡ outputs_under i (own_step (operator plant.consts row (isolated_run_from plant.consts start row i before).state) action).outputs
 
 -- a collection gives the MAP where it raises the least number of collections of all operators, else nothing
 abbrev pub IsCollected : PlantFields → List Step → List Step → List Out → Type 0

@@ -44,8 +44,8 @@ abbrev pub answers_of : ℕ → List Out → List Output
 answers_of i all = filter_map (output_under i) all
 
 -- outputs of an operator, under it
-abbrev pub under : ℕ → List Output → List Out
-under i outputs = map (λ output. outs.Of i output) outputs
+abbrev pub outputs_under : ℕ → List Output → List Out
+outputs_under i outputs = map (λ output. outs.Of i output) outputs
 
 -- ---- MAPs
 

@@ -10,4 +10,4 @@ AtEachOperator plant holds = (i : ℕ) (row : RowFields) → slice_get plant.row
 
 -- this holds of each place that both lists have, and of what they have there
 abbrev pub AtEachPlace : {A B : Type 0} → List A → List B → (ℕ → A → B → Type 0) → Type 0
-AtEachPlace {A = A} {B = B} as bs holds = (i : ℕ) (a : A) (b : B) → slice_get as i ≡ Some a → slice_get bs i ≡ Some b → holds i a b
+AtEachPlace {A = A} {B = B} xs ys holds = (i : ℕ) (x : A) (y : B) → slice_get xs i ≡ Some x → slice_get ys i ≡ Some y → holds i x y

@@ -3,7 +3,7 @@ use Rattle.std.specs.Prelude.{◌≡◌, ℕ, List, [], map, slice_get, Option, 
 use Rattle.slice_scheduler.specs.Minislots.{Minislots}
 use Rattle.plant.specs.declared.operator_row.RowFields.{RowFields}
 use Rattle.plant.specs.declared.plant.PlantFields.{PlantFields}
-use Rattle.operator_model.specs.State.{OperatorState, opened, operator}
+use Rattle.operator_model.specs.State.{OperatorState, opened_state, operator}
 use Rattle.operator_model.specs.Slices.{SliceFrom, waiting_slice}
 use Rattle.operator_model.specs.Sound.{IsSound}
 use Rattle.map_assembly.specs.declared.slicing.Reslicing.{Reslicing}
@@ -17,7 +17,7 @@ pub record Start : Type 0 where
 
 -- a plant as it is opened: it starts at its first frame, with each operator opened and no slice change waiting
 abbrev pub first_start : PlantFields → Start
-first_start plant = record { frame = plant.consts.channel.first_frame; state = opened plant.consts; waiting = [] }
+first_start plant = record { frame = plant.consts.channel.first_frame; state = opened_state plant.consts; waiting = [] }
 
 -- ---- slices that wait
 

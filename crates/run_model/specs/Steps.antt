@@ -8,15 +8,15 @@ use Rattle.operator_model.specs.declared.action.Action.{Action}
 use Rattle.operator_model.specs.declared.action.Action.TheVariants as actions
 use Rattle.operator_model.specs.State.{operator}
 use Rattle.operator_model.specs.Machine.{own_step, unfit_from, IsAllowed}
-use Rattle.operator_model.specs.Replay.{BookView, acted}
+use Rattle.operator_model.specs.Replay.{BookView, book_after_action}
 use Rattle.map_assembly.specs.declared.map_bytes.MapBytes.{MapBytes}
-use Rattle.map_assembly.specs.Gathering.{after_put, put_fault, resliced}
-use Rattle.map_assembly.specs.Assembled.{IsAnswer}
+use Rattle.map_assembly.specs.Gathering.{after_put, put_fault, gathering_after_reslice}
+use Rattle.map_assembly.specs.Assembled.{IsPutResult}
 use Rattle.run_model.specs.declared.step.Step.{Step}
 use Rattle.run_model.specs.declared.step.Step.TheVariants as steps
 use Rattle.run_model.specs.declared.step.Out.{Out}
 use Rattle.run_model.specs.declared.step.Out.TheVariants as outs
-use Rattle.run_model.specs.OwnSteps.{under, slice_of}
+use Rattle.run_model.specs.OwnSteps.{outputs_under, slice_of}
 use Rattle.run_model.specs.IsStateAfter.{CoreView, frames_of}
 use Rattle.run_model.specs.Places.{AtEachPlace}
 
@@ -28,10 +28,10 @@ pub record Acts (i : ℕ) (action : Action) (old new : CoreView) (now : List Out
   pub waiting_is : slice_get old.queues i ≡ Some waiting
   pub allowed : IsAllowed (operator book.consts book.row book.state) action
   pub new_is : new ≡ record old {
-    books = slice_set old.books i (acted book action);
+    books = slice_set old.books i (book_after_action book action);
     queues = slice_set old.queues i (waiting ++ frames_of (own_step (operator book.consts book.row book.state) action).outputs);
   }
-  pub now_is : now ≡ under i (own_step (operator book.consts book.row book.state) action).outputs
+  pub now_is : now ≡ outputs_under i (own_step (operator book.consts book.row book.state) action).outputs
 
 abbrev pub told_map : Option MapBytes → List Out
 told_map None = []
@@ -45,7 +45,7 @@ pub record Collects (i : ℕ) (old new : CoreView) (now : List Out) : Type 0 whe
   pub waiting_is : slice_get old.queues i ≡ Some ((frame, part) ∷ waiting)
   pub fits : put_fault old.gathering i frame part ≡ None
   pub made : Option MapBytes
-  pub made_is : IsAnswer old.gathering i frame part made
+  pub made_is : IsPutResult old.gathering i frame part made
   pub new_is : new ≡ record old { queues = slice_set old.queues i waiting; gathering = after_put old.gathering i part }
   pub now_is : now ≡ told_map made
 
@@ -63,10 +63,10 @@ pub record Reslices (from : ℕ) (rows : List SliceRow) (old new : CoreView) (no
   pub apart : HaveSlicesApart rows
   pub fit : NoneRefuses from old.books rows
   pub books : length new.books ≡ length old.books
-  pub acted_is : AtEachPlace rows old.books (λ i row book. slice_get new.books i ≡ Some (acted book (actions.Reslice from row)))
+  pub acted_is : AtEachPlace rows old.books (λ i row book. slice_get new.books i ≡ Some (book_after_action book (actions.Reslice from row)))
   pub plant_is : new.plant ≡ old.plant
   pub queues_are : new.queues ≡ old.queues
-  pub gathering_is : new.gathering ≡ resliced old.gathering from (map slice_of rows)
+  pub gathering_is : new.gathering ≡ gathering_after_reslice old.gathering from (map slice_of rows)
   pub now_is : now ≡ []
 
 -- an Arrive goes to the operator whose row holds the modem, each other step to the operator that it names

@@ -19,7 +19,7 @@ use Rattle.run_model.specs.OwnSteps.{action_of, own_steps, collects_of}
 use Rattle.run_model.proofs.Entries.{same_at}
 use Rattle.run_model.proofs.OwnActions.{arrive_at}
 use Rattle.run_audit.proofs.Whose.{held_by_none}
-use Rattle.run_plan.specs.Turns.{waits_for, IsDueAt, AreTurns}
+use Rattle.run_plan.specs.Turns.{waiting_operator, IsDueAt, AreTurns}
 use Rattle.run_plan.specs.Courses.{IsOwnTurn, AreWritten}
 
 -- what is heard of another operator's modem is no action of this one
@@ -41,7 +41,7 @@ module _ (plant : PlantFields) (row : RowFields) (op : ℕ) (all : List Step) wh
     pub written_other : ((s : Step) → slice_get all count ≡ Some s → IsOwnTurn plant row op (take count all) s None) → AreWritten plant row op all (count + 1) old new
     written_other none = record { one_each = are.one_each; own = λ at step lt here waits. by at step lt here waits (cases_eq at count); others = are.others }
       where
-        by : (at : ℕ) (step : Step) → at < count + 1 → slice_get all at ≡ Some step → waits_for plant step ≡ Some op → (at ≡ count) ⊎ (at ≡ count → ⊥)
+        by : (at : ℕ) (step : Step) → at < count + 1 → slice_get all at ≡ Some step → waiting_operator plant step ≡ Some op → (at ≡ count) ⊎ (at ≡ count → ⊥)
             → IsDueAt (own_steps row op (take at all)) (collects_of op (take at all)) step (slice_index new at)
         by at step lt here waits (inl same) = absurd (none step (ap (slice_get all) (sym same) ∙ here) waits)
         by at step lt here waits (inr ne) = are.own at step (omega (arith, lt, ne)) here waits
@@ -57,7 +57,7 @@ module _ (plant : PlantFields) (row : RowFields) (op : ℕ) (all : List Step) wh
           get_or-set_other new count at turn 0 far ∙ are.others at step here ne;
     }
       where
-        by : (at : ℕ) (step : Step) → at < count + 1 → slice_get all at ≡ Some step → waits_for plant step ≡ Some op → (at ≡ count) ⊎ (at ≡ count → ⊥)
+        by : (at : ℕ) (step : Step) → at < count + 1 → slice_get all at ≡ Some step → waiting_operator plant step ≡ Some op → (at ≡ count) ⊎ (at ≡ count → ⊥)
             → IsDueAt (own_steps row op (take at all)) (collects_of op (take at all)) step (slice_index (slice_set new count turn) at)
         by at step lt here waits (inl same) =
             let written : slice_index (slice_set new count turn) at ≡ turn = get_or-set_at new count at turn 0 same (omega (arith, within, are.one_each)) in
@@ -72,9 +72,9 @@ module _ (plant : PlantFields) (row : RowFields) (op : ℕ) (all : List Step) wh
 -- of the first operators, the turns are written; and 0 where a step waits for none
 pub record AreTurnsOf (plant : PlantFields) (all : List Step) (count : ℕ) (turns : List ℕ) : Type 0 where
   pub one_each : length turns ≡ length all
-  pub due : (at : ℕ) (step : Step) (op : ℕ) (row : RowFields) → op < count → slice_get all at ≡ Some step → waits_for plant step ≡ Some op → slice_get plant.rows op ≡ Some row
+  pub due : (at : ℕ) (step : Step) (op : ℕ) (row : RowFields) → op < count → slice_get all at ≡ Some step → waiting_operator plant step ≡ Some op → slice_get plant.rows op ≡ Some row
       → IsDueAt (own_steps row op (take at all)) (collects_of op (take at all)) step (slice_index turns at)
-  pub none : (at : ℕ) (step : Step) → slice_get all at ≡ Some step → waits_for plant step ≡ None → slice_index turns at ≡ 0
+  pub none : (at : ℕ) (step : Step) → slice_get all at ≡ Some step → waiting_operator plant step ≡ None → slice_index turns at ≡ 0
 
 module _ (plant : PlantFields) (all : List Step) where
   pub turns_more : (count : ℕ) (row : RowFields) (old new : List ℕ) → slice_get plant.rows count ≡ Some row → AreTurnsOf plant all count old → AreWritten plant row count all (length all) old new → AreTurnsOf plant all (count + 1) new
@@ -84,7 +84,7 @@ module _ (plant : PlantFields) (all : List Step) where
     none = λ at step here waits. written.others at step here (λ own. none-some count (sym waits ∙ own)) ∙ are.none at step here waits;
   }
     where
-      by : (at : ℕ) (step : Step) (op : ℕ) (other : RowFields) → op < count + 1 → slice_get all at ≡ Some step → waits_for plant step ≡ Some op → slice_get plant.rows op ≡ Some other → (op ≡ count) ⊎ (op ≡ count → ⊥)
+      by : (at : ℕ) (step : Step) (op : ℕ) (other : RowFields) → op < count + 1 → slice_get all at ≡ Some step → waiting_operator plant step ≡ Some op → slice_get plant.rows op ≡ Some other → (op ≡ count) ⊎ (op ≡ count → ⊥)
           → IsDueAt (own_steps other op (take at all)) (collects_of op (take at all)) step (slice_index new at)
       by at step op other lt here waits e (inl same) =
           let row_is : row ≡ other = same_at plant.rows count row other there (ap (slice_get plant.rows) (sym same) ∙ e) in

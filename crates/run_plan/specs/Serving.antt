@@ -11,9 +11,9 @@ use Rattle.plant_core.specs.declared.core_fault.CoreFault.TheVariants.{UnknownMo
 use Rattle.run_audit.specs.Outcome.{ticks_of}
 
 -- no operator lists the modem
-abbrev pub unlisted : Modem → Option ℕ → Option CoreFault
-unlisted modem None = Some (UnknownModem modem)
-unlisted modem (Some op) = None
+abbrev pub unknown_modem_fault : Modem → Option ℕ → Option CoreFault
+unknown_modem_fault modem None = Some (UnknownModem modem)
+unknown_modem_fault modem (Some op) = None
 
 -- there is no such operator, or else what else there is
 abbrev pub past : PlantFields → ℕ → Option CoreFault → Option CoreFault
@@ -26,7 +26,7 @@ all_collected before op = if nat_lt (collects_of op before) (ticks_of op before)
 -- why a step does not find what it asks for, after the steps before it: its modem or its operator is not there, or no Tick
 -- of its operator has output a frame that was not collected
 abbrev pub unserved_by : PlantFields → List Step → Step → Option CoreFault
-unserved_by plant before (steps.Arrive modem heard) = unlisted modem (holder plant.rows modem)
+unserved_by plant before (steps.Arrive modem heard) = unknown_modem_fault modem (holder plant.rows modem)
 unserved_by plant before (steps.Work op) = past plant op None
 unserved_by plant before (steps.Tick op) = past plant op None
 unserved_by plant before (steps.Collect op) = past plant op (all_collected before op)

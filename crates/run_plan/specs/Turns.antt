@@ -11,12 +11,12 @@ use Rattle.run_model.specs.declared.step.Step.TheVariants as steps
 use Rattle.run_model.specs.OwnSteps.{own_steps, collects_of}
 
 -- the operator in whose history a step waits for a place. A `Reslice` is of all operators and waits for none
-abbrev pub waits_for : PlantFields → Step → Option ℕ
-waits_for plant (steps.Arrive modem heard) = holder plant.rows modem
-waits_for plant (steps.Work op) = Some op
-waits_for plant (steps.Tick op) = Some op
-waits_for plant (steps.Collect op) = Some op
-waits_for plant (steps.Reslice from rows) = None
+abbrev pub waiting_operator : PlantFields → Step → Option ℕ
+waiting_operator plant (steps.Arrive modem heard) = holder plant.rows modem
+waiting_operator plant (steps.Work op) = Some op
+waiting_operator plant (steps.Tick op) = Some op
+waiting_operator plant (steps.Collect op) = Some op
+waiting_operator plant (steps.Reslice from rows) = None
 
 -- the Tick at this place of the actions is the one with so many Ticks before it
 pub record IsTickAt (actions : List Action) (count place : ℕ) : Type 0 where
@@ -31,9 +31,9 @@ IsDueAt own collects step turn = turn ≡ length own
 
 -- a step's turn after the steps before it; 0 where it waits for none
 pub record IsTurn (plant : PlantFields) (before : List Step) (step : Step) (turn : ℕ) : Type 0 where
-  pub due : (op : ℕ) (row : RowFields) → waits_for plant step ≡ Some op → slice_get plant.rows op ≡ Some row
+  pub due : (op : ℕ) (row : RowFields) → waiting_operator plant step ≡ Some op → slice_get plant.rows op ≡ Some row
       → IsDueAt (own_steps row op before) (collects_of op before) step turn
-  pub none : waits_for plant step ≡ None → turn ≡ 0
+  pub none : waiting_operator plant step ≡ None → turn ≡ 0
 
 -- one turn for each of the steps
 pub record AreTurns (plant : PlantFields) (all : List Step) (turns : List ℕ) : Type 0 where

@@ -15,7 +15,12 @@ const MOST_OPERATORS: usize = 32;
 
 /// Returns why the step at a place does not find what it asks for, if it does not; `waiting` has
 /// how many frames of each operator were output and not collected.
-fn unserved(plant: &Plant, waiting: &mut [usize], steps: &[Step], at: usize) -> Option<CoreFault>
+fn serving_fault(
+    plant: &Plant,
+    waiting: &mut [usize],
+    steps: &[Step],
+    at: usize,
+) -> Option<CoreFault>
     requires within { at < length steps.now }
     requires room { at < usize.MAX }
     requires waiting { AreWaiting (length plant.now.rows) (take at steps.now) waiting.old }
@@ -63,7 +68,7 @@ fn walk(plant: &Plant, waiting: &mut [usize], steps: &[Step]) -> Option<CoreFaul
     ensures first { IfSome result (IsFirstUnserved plant.now steps.now) }
 {
     for at in 0..steps.len() {
-        if let Some(fault) = unserved(plant, waiting, steps, at) {
+        if let Some(fault) = serving_fault(plant, waiting, steps, at) {
             return Some(fault);
         }
     }

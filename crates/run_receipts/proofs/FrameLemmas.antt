@@ -11,14 +11,14 @@ use Rattle.operator_model.specs.declared.action.Entry.{Entry}
 use Rattle.operator_model.specs.declared.output.Output.{Output}
 use Rattle.operator_model.specs.State.{Operator}
 use Rattle.operator_model.specs.Machine.{own_step, after_step, own_run}
-use Rattle.operator_model.specs.Frames.{frames_in}
+use Rattle.operator_model.specs.Frames.{frame_numbers}
 use Rattle.operator_model.specs.Replay.{actions_of, AreTold}
-use Rattle.run_model.specs.IsTraceOf.{elements_in}
-use Rattle.run_model.specs.IsStateAfter.{frames_of, AreNumbered, numbered as numbered_output}
+use Rattle.run_model.specs.IsTraceOf.{elements_at_frame}
+use Rattle.run_model.specs.IsStateAfter.{frames_of, AreNumbered, frame_with_number as numbered_output}
 use Rattle.run_model.proofs.Numbers.{Numbered, of_number, elements_are, numbers_are, found_at}
-use Rattle.run_receipts.specs.OwnParts.{outputs_of}
+use Rattle.run_receipts.specs.OwnParts.{history_outputs}
 use Rattle.run_receipts.specs.declared.own_frames.Frame.{Frame}
-use Rattle.run_receipts.specs.Framing.{numbered}
+use Rattle.run_receipts.specs.Framing.{frames_with_numbers}
 
 none_within : (first k : ℕ) (frames : List Numbered) → AreNumbered first frames → (k < first) ⊎ (first + length frames ≤ k) → of_number k frames ≡ []
 none_within first k [] h out = refl
@@ -40,22 +40,22 @@ none_within first k (frame ∷ frames) h out = skip (cases_eq frame.0 k) (none_w
 
 -- none has a number before the first, or past the last
 pub none_of : (first k : ℕ) (frames : List Numbered) (outputs : List Output) → AreNumbered first frames → frames ≡ frames_of outputs
-    → (k < first) ⊎ (first + length frames ≤ k) → elements_in k outputs ≡ []
+    → (k < first) ⊎ (first + length frames ≤ k) → elements_at_frame k outputs ≡ []
 none_of first k frames outputs order same out = elements_are k outputs ∙ (ap (of_number k) (sym same) ∙ none_within first k frames order out)
 
 -- the one at a place has the number of that place
 pub one_of : (first k m : ℕ) (frame : Numbered) (frames : List Numbered) (outputs : List Output) → AreNumbered first frames → frames ≡ frames_of outputs
-    → slice_get frames m ≡ Some frame → first + m ≡ k → elements_in k outputs ≡ frame.1 ∷ []
+    → slice_get frames m ≡ Some frame → first + m ≡ k → elements_at_frame k outputs ≡ frame.1 ∷ []
 one_of first k m frame frames outputs order same at number =
     elements_are k outputs ∙ (ap (of_number k) (sym same) ∙ (ap (λ (j : ℕ). of_number j frames) (sym number) ∙ found_at first m frames frame order at))
 
 -- ---- the frames of a history
 
 -- what a history put out is what the machine's run of its actions puts out
-pub told_outputs : (o : Operator) (history : List Entry) → AreTold o history → outputs_of history ≡ (own_run o (actions_of history)).outputs
+pub told_outputs : (o : Operator) (history : List Entry) → AreTold o history → history_outputs history ≡ (own_run o (actions_of history)).outputs
 told_outputs o [] h = refl
 told_outputs o (entry ∷ history) h =
-    ap (λ (os : List Output). os ++ outputs_of history) h.1
+    ap (λ (os : List Output). os ++ history_outputs history) h.1
     ∙ ap (λ (os : List Output). (own_step o entry.action).outputs ++ os) (told_outputs (after_step o entry.action) history h.2)
 
 in_order : (first count : ℕ) (frames : List Numbered) → map (λ frame. frame.0) frames ≡ range_with_len first count → AreNumbered first frames
@@ -68,7 +68,7 @@ in_order first (suc count) (frame ∷ frames) h =
     (here, in_order (first + 1) count frames rest)
 
 -- the frames of a run, whose numbers have no gap
-pub run_in_order : (first count : ℕ) (outputs : List Output) (frames : List Numbered) → frames ≡ frames_of outputs → frames_in outputs ≡ range_with_len first count → AreNumbered first frames
+pub run_in_order : (first count : ℕ) (outputs : List Output) (frames : List Numbered) → frames ≡ frames_of outputs → frame_numbers outputs ≡ range_with_len first count → AreNumbered first frames
 run_in_order first count outputs frames same numbers =
     in_order first count frames (ap (λ (fs : List Numbered). map (λ (f : Numbered). f.0) fs) same ∙ (numbers_are outputs ∙ numbers))
 
@@ -82,50 +82,50 @@ no_first : {X : Type 0} (xs : List X) → ◌≡◌ {A = Option X} None (slice_g
 no_first [] at = refl
 no_first (x ∷ xs) at = cc
 
-numbered_long : (frames : List Frame) → length (numbered frames) ≡ length frames
+numbered_long : (frames : List Frame) → length (frames_with_numbers frames) ≡ length frames
 numbered_long [] = refl
 numbered_long (frame ∷ frames) = ap suc (numbered_long frames)
 
-module _ (frames : List Frame) (first : ℕ) (order : AreNumbered first (numbered frames)) (outputs : List Output) (same : numbered frames ≡ frames_of outputs) (k : ℕ) where
-  frame_at : (m : ℕ) (x : Frame) → Some x ≡ slice_get frames m → slice_get (numbered frames) m ≡ Some (x.number, x.elements.now)
+module _ (frames : List Frame) (first : ℕ) (order : AreNumbered first (frames_with_numbers frames)) (outputs : List Output) (same : frames_with_numbers frames ≡ frames_of outputs) (k : ℕ) where
+  frame_at : (m : ℕ) (x : Frame) → Some x ≡ slice_get frames m → slice_get (frames_with_numbers frames) m ≡ Some (x.number, x.elements.now)
   frame_at m x at = slice_get-map (λ (f : Frame). (f.number, f.elements.now)) frames m ∙ ap (option_map (λ (f : Frame). (f.number, f.elements.now))) (sym at)
 
   is_first : (x : Frame) → Some x ≡ slice_get frames 0 → x.number ≡ first
-  is_first x at = first_number first (numbered frames) (x.number, x.elements.now) order (frame_at 0 x at)
+  is_first x at = first_number first (frames_with_numbers frames) (x.number, x.elements.now) order (frame_at 0 x at)
 
-  long : length (numbered frames) ≡ length frames
+  long : length (frames_with_numbers frames) ≡ length frames
   long = numbered_long frames
 
-  pub empty_none : ◌≡◌ {A = Option Frame} None (slice_get frames 0) → elements_in k outputs ≡ []
-  empty_none at = none_of first k (numbered frames) outputs order same (either (cases_lt k first))
+  pub empty_none : ◌≡◌ {A = Option Frame} None (slice_get frames 0) → elements_at_frame k outputs ≡ []
+  empty_none at = none_of first k (frames_with_numbers frames) outputs order same (either (cases_lt k first))
     where
-      either : (k < first) ⊎ (first ≤ k) → (k < first) ⊎ (first + length (numbered frames) ≤ k)
+      either : (k < first) ⊎ (first ≤ k) → (k < first) ⊎ (first + length (frames_with_numbers frames) ≤ k)
       either (inl lt) = inl lt
-      either (inr le) = inr (let none : length (numbered frames) ≡ 0 = long ∙ no_first frames at in omega (arith, none, le))
+      either (inr le) = inr (let none : length (frames_with_numbers frames) ≡ 0 = long ∙ no_first frames at in omega (arith, none, le))
 
-  pub low_none : (x : Frame) → Some x ≡ slice_get frames 0 → (x.number ≤ k → ⊥) → elements_in k outputs ≡ []
-  low_none x at low = none_of first k (numbered frames) outputs order same (inl (let e : x.number ≡ first = is_first x at in omega (arith, e, low)))
+  pub low_none : (x : Frame) → Some x ≡ slice_get frames 0 → (x.number ≤ k → ⊥) → elements_at_frame k outputs ≡ []
+  low_none x at low = none_of first k (frames_with_numbers frames) outputs order same (inl (let e : x.number ≡ first = is_first x at in omega (arith, e, low)))
 
-  pub high_none : (x : Frame) (m : ℕ) → Some x ≡ slice_get frames 0 → x.number + m ≡ k → length frames ≤ m → elements_in k outputs ≡ []
+  pub high_none : (x : Frame) (m : ℕ) → Some x ≡ slice_get frames 0 → x.number + m ≡ k → length frames ≤ m → elements_at_frame k outputs ≡ []
   high_none x m at number past =
-      none_of first k (numbered frames) outputs order same (inr (let e : x.number ≡ first = is_first x at in omega (arith, e, number, past, long)))
+      none_of first k (frames_with_numbers frames) outputs order same (inr (let e : x.number ≡ first = is_first x at in omega (arith, e, number, past, long)))
 
-  pub found : (x y : Frame) (m : ℕ) → Some x ≡ slice_get frames 0 → x.number + m ≡ k → Some y ≡ slice_get frames m → elements_in k outputs ≡ y.elements.now ∷ []
+  pub found : (x y : Frame) (m : ℕ) → Some x ≡ slice_get frames 0 → x.number + m ≡ k → Some y ≡ slice_get frames m → elements_at_frame k outputs ≡ y.elements.now ∷ []
   found x y m at number there =
       let e : x.number ≡ first = is_first x at in
-      one_of first k m (y.number, y.elements.now) (numbered frames) outputs order same (frame_at m y there) (omega (arith, e, number))
+      one_of first k m (y.number, y.elements.now) (frames_with_numbers frames) outputs order same (frame_at m y there) (omega (arith, e, number))
 
 -- the frames of one entry more
 pub frames_more : (history : List Entry) (i : ℕ) (entry : Entry) (outputs : List Output) (made new : List Frame) → i < length history → entry ≡ get_or history i entry
-    → outputs ≡ entry.outputs → numbered new ≡ numbered made ++ frames_of outputs
-    → numbered made ++ frames_of (outputs_of (drop i history)) ≡ frames_of (outputs_of history)
-    → numbered new ++ frames_of (outputs_of (drop (i + 1) history)) ≡ frames_of (outputs_of history)
+    → outputs ≡ entry.outputs → frames_with_numbers new ≡ frames_with_numbers made ++ frames_of outputs
+    → frames_with_numbers made ++ frames_of (history_outputs (drop i history)) ≡ frames_of (history_outputs history)
+    → frames_with_numbers new ++ frames_of (history_outputs (drop (i + 1) history)) ≡ frames_of (history_outputs history)
 frames_more history i entry outputs made new lt is same grown so_far =
     let split : drop i history ≡ entry ∷ drop (i + 1) history = drop_more history i entry lt ∙ ap (λ (e : Entry). e ∷ drop (i + 1) history) (sym is) in
-    let here : frames_of (outputs_of (drop i history)) ≡ frames_of outputs ++ frames_of (outputs_of (drop (i + 1) history)) =
-    ap (λ (es : List Entry). frames_of (outputs_of es)) split
-    ∙ (filter_map-append numbered_output entry.outputs (outputs_of (drop (i + 1) history))
-    ∙ ap (λ (os : List Output). frames_of os ++ frames_of (outputs_of (drop (i + 1) history))) (sym same)) in
-    ap (λ (fs : List Numbered). fs ++ frames_of (outputs_of (drop (i + 1) history))) grown
-    ∙ (append_assoc (numbered made) (frames_of outputs) (frames_of (outputs_of (drop (i + 1) history)))
-    ∙ (ap (λ (fs : List Numbered). numbered made ++ fs) (sym here) ∙ so_far))
+    let here : frames_of (history_outputs (drop i history)) ≡ frames_of outputs ++ frames_of (history_outputs (drop (i + 1) history)) =
+    ap (λ (es : List Entry). frames_of (history_outputs es)) split
+    ∙ (filter_map-append numbered_output entry.outputs (history_outputs (drop (i + 1) history))
+    ∙ ap (λ (os : List Output). frames_of os ++ frames_of (history_outputs (drop (i + 1) history))) (sym same)) in
+    ap (λ (fs : List Numbered). fs ++ frames_of (history_outputs (drop (i + 1) history))) grown
+    ∙ (append_assoc (frames_with_numbers made) (frames_of outputs) (frames_of (history_outputs (drop (i + 1) history)))
+    ∙ (ap (λ (fs : List Numbered). frames_with_numbers made ++ fs) (sym here) ∙ so_far))

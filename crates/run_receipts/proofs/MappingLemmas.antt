@@ -12,9 +12,9 @@ use Rattle.map_assembly.specs.declared.view.MapFault.{MapFault}
 use Rattle.map_assembly.specs.declared.view.MapFault.TheVariants.{NoMemory}
 use Rattle.map_assembly.specs.Reading.{MapReads}
 use Rattle.map_assembly.specs.Tiled.{MapPart, part_of, own_part}
-use Rattle.run_model.specs.IsTraceOf.{elements_in}
+use Rattle.run_model.specs.IsTraceOf.{elements_at_frame}
 use Rattle.run_receipts.specs.declared.own_frames.OwnFrames.{OwnFrames}
-use Rattle.run_receipts.specs.OwnParts.{outputs_of, IsOwnPart, HasOwnParts}
+use Rattle.run_receipts.specs.OwnParts.{history_outputs, IsFramePart, HasOwnParts}
 use Rattle.run_receipts.specs.Framing.{AreFramesOf}
 
 -- the two parts say the same
@@ -34,18 +34,18 @@ if_ok (Ok x) then is = then x is
 if_ok (Err e) then is = is
 
 module _ (made : MapBytes) (view : MapView) (book : BookView) where
-  own_only : (part : ElementsFields) → elements_in made.frame (outputs_of book.history) ≡ part ∷ [] → IsOwnPart made view book → part_of book.row.sids view ≡ own_part part
-  own_only part put own = own.part_is ∙ ap own_part (one_alone own.part part (elements_in made.frame (outputs_of book.history)) own.put put)
+  own_only : (part : ElementsFields) → elements_at_frame made.frame (history_outputs book.history) ≡ part ∷ [] → IsFramePart made view book → part_of book.row.sids view ≡ own_part part
+  own_only part put own = own.part_is ∙ ap own_part (one_alone own.part part (elements_at_frame made.frame (history_outputs book.history)) own.put put)
 
 pub own_is : (made : MapBytes) (view : MapView) (book : BookView) (own : OwnFrames) (part : ElementsFields) (b : Bool) → AreFramesOf own book
-    → elements_in made.frame (outputs_of book.history) ≡ part ∷ [] → (IsTrue b ↔ SayTheSame (part_of own.sids view) (own_part part)) → IsTrue b ↔ IsOwnPart made view book
+    → elements_at_frame made.frame (history_outputs book.history) ≡ part ∷ [] → (IsTrue b ↔ SayTheSame (part_of own.sids view) (own_part part)) → IsTrue b ↔ IsFramePart made view book
 own_is made view book own part b of_book put told =
     let same : part_of own.sids view ≡ part_of book.row.sids view = ap (λ range. part_of range view) of_book.sids_are in (
       λ is. record { part = part; put = put; part_is = sym same ∙ same_part (part_of own.sids view) (own_part part) (told.0 is) },
       λ his. let e : part_of own.sids view ≡ own_part part = same ∙ own_only made view book part put his in told.1 (ap (λ (p : MapPart). p.spans) e, ap (λ (p : MapPart). p.pending) e),
     )
 
-pub own_not : (made : MapBytes) (view : MapView) (book : BookView) → elements_in made.frame (outputs_of book.history) ≡ [] → IsTrue false ↔ IsOwnPart made view book
+pub own_not : (made : MapBytes) (view : MapView) (book : BookView) → elements_at_frame made.frame (history_outputs book.history) ≡ [] → IsTrue false ↔ IsFramePart made view book
 own_not made view book none = (
   λ is. absurd (false≢true is),
   λ own. let e : ◌≡◌ {A = List ElementsFields} [] (own.part ∷ []) = sym none ∙ own.put in absurd (let f : ⊥ = cc in f),
@@ -54,10 +54,10 @@ own_not made view book none = (
 -- ---- the whole MAP
 
 pub parts_are : (books : List BookView) (made : MapBytes) (view : MapView) (bytes : List ℕ) (b : Bool) → bytes ≡ made.bytes → MapReads bytes view
-    → ((other : MapView) → MapReads bytes other → view ≡ other) → (IsTrue b ↔ All (IsOwnPart made view) books) → IsTrue b ↔ HasOwnParts books made
+    → ((other : MapView) → MapReads bytes other → view ≡ other) → (IsTrue b ↔ All (IsFramePart made view) books) → IsTrue b ↔ HasOwnParts books made
 parts_are books made view bytes b same reads only told = (
   λ is. record { view = view; reads = subst (λ (bs : List ℕ). MapReads bs view) same reads; own = told.0 is },
-  λ has. told.1 (subst (λ (v : MapView). All (IsOwnPart made v) books) (sym (only has.view (subst (λ (bs : List ℕ). MapReads bs has.view) (sym same) has.reads))) has.own),
+  λ has. told.1 (subst (λ (v : MapView). All (IsFramePart made v) books) (sym (only has.view (subst (λ (bs : List ℕ). MapReads bs has.view) (sym same) has.reads))) has.own),
 )
 
 pub parts_not : (books : List BookView) (made : MapBytes) (bytes : List ℕ) (fault : MapFault) → bytes ≡ made.bytes → (fault ≡ NoMemory → ⊥)

@@ -7,7 +7,7 @@ use Rattle.std.proofs.Math.ListN.{drop_of_length-le}
 use Rattle.std.proofs.lemmas.List.Elements.{All-nil, All-cons, All-head, All-tail}
 use Rattle.operator_model.specs.declared.action.Entry.{Entry}
 use Rattle.run_receipts.specs.declared.receipt.Receipt.{Receipt}
-use Rattle.run_receipts.specs.Merge.{Stands, IsAscending}
+use Rattle.run_receipts.specs.Merge.{Stands, IndicesAscend}
 use Rattle.run_receipts.specs.Straying.{lesser, IsLeastOr, IsGreater, IsStray, StraysBehind, StandBehind, Strays, AllStand}
 use Rattle.run_receipts.proofs.LeastLemmas.{lesser_assoc, least_both, least_alone}
 
@@ -110,7 +110,7 @@ module _ (history : List Entry) where
   indices_more n [] fine = λ k lt. absurd (omega (arith, lt))
   indices_more n (r ∷ later) fine = increasing-cons n r.index (map (λ (x : Receipt). x.index) later) fine.1 (indices_more r.index later fine.2)
 
-  pub ascending : (receipts : List Receipt) → StandBehind history None receipts → IsAscending receipts
+  pub ascending : (receipts : List Receipt) → StandBehind history None receipts → IndicesAscend receipts
   ascending [] fine = λ k lt. absurd (omega arith)
   ascending (r ∷ later) fine = indices_more r.index later fine.2
 
@@ -119,7 +119,7 @@ module _ (history : List Entry) where
   stand_more n (r ∷ later) all up =
       (All-head (Stands history) r later all, up 0 (omega arith), stand_more r.index later (All-tail (Stands history) r later all) (increasing-tail n r.index (map (λ (x : Receipt). x.index) later) up))
 
-  pub stand_all : (receipts : List Receipt) → All (Stands history) receipts → IsAscending receipts → StandBehind history None receipts
+  pub stand_all : (receipts : List Receipt) → All (Stands history) receipts → IndicesAscend receipts → StandBehind history None receipts
   stand_all [] all up = tt
   stand_all (r ∷ later) all up = (All-head (Stands history) r later all, tt, stand_more r.index later (All-tail (Stands history) r later all) up)
 
@@ -127,13 +127,13 @@ module _ (history : List Entry) where
   callers_stand [] fine = All-nil (λ (receipts : List Receipt). All (Stands history) receipts)
   callers_stand (receipts ∷ callers) fine = All-cons (λ (receipts : List Receipt). All (Stands history) receipts) receipts callers (all_stand None receipts fine.0) (callers_stand callers fine.1)
 
-  pub callers_ascend : (callers : List (List Receipt)) → AllStand history callers → All IsAscending callers
-  callers_ascend [] fine = All-nil IsAscending
-  callers_ascend (receipts ∷ callers) fine = All-cons IsAscending receipts callers (ascending receipts fine.0) (callers_ascend callers fine.1)
+  pub callers_ascend : (callers : List (List Receipt)) → AllStand history callers → All IndicesAscend callers
+  callers_ascend [] fine = All-nil IndicesAscend
+  callers_ascend (receipts ∷ callers) fine = All-cons IndicesAscend receipts callers (ascending receipts fine.0) (callers_ascend callers fine.1)
 
-  pub stand_callers : (callers : List (List Receipt)) → All (λ receipts. All (Stands history) receipts) callers → All IsAscending callers → AllStand history callers
+  pub stand_callers : (callers : List (List Receipt)) → All (λ receipts. All (Stands history) receipts) callers → All IndicesAscend callers → AllStand history callers
   stand_callers [] all up = tt
   stand_callers (receipts ∷ callers) all up = (
-    stand_all receipts (All-head (λ (receipts : List Receipt). All (Stands history) receipts) receipts callers all) (All-head IsAscending receipts callers up),
-    stand_callers callers (All-tail (λ (receipts : List Receipt). All (Stands history) receipts) receipts callers all) (All-tail IsAscending receipts callers up),
+    stand_all receipts (All-head (λ (receipts : List Receipt). All (Stands history) receipts) receipts callers all) (All-head IndicesAscend receipts callers up),
+    stand_callers callers (All-tail (λ (receipts : List Receipt). All (Stands history) receipts) receipts callers all) (All-tail IndicesAscend receipts callers up),
   )

@@ -13,8 +13,8 @@ abbrev pub Stands : List Entry → Receipt → Type 0
 Stands history r = slice_get history r.index ≡ Some (record { action = r.action; outputs = r.outputs })
 
 -- each receipt of a caller has a greater index than the one before
-abbrev pub IsAscending : List Receipt → Type 0
-IsAscending receipts = IsStrictlyIncreasing (map (λ r. r.index) receipts)
+abbrev pub IndicesAscend : List Receipt → Type 0
+IndicesAscend receipts = IsStrictlyIncreasing (map (λ r. r.index) receipts)
 
 -- how many receipts of all callers have this index
 abbrev pub times : ℕ → Told → ℕ
@@ -24,5 +24,5 @@ times k callers = sum_by (λ receipts. count_by (λ r. r.index == k) receipts) c
 -- entry has just one
 pub record IsMergeOf (history : List Entry) (callers : Told) : Type 0 where
   pub stand : All (λ receipts. All (Stands history) receipts) callers
-  pub ascend : All IsAscending callers
+  pub ascend : All IndicesAscend callers
   pub once : (k : ℕ) → k < length history → times k callers ≡ 1

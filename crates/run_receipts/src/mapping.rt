@@ -4,7 +4,7 @@ ghost use Rattle.std.specs.Prelude.{◌≡◌, ◌↔◌, List, map, All, MatchO
 ghost use Rattle.std.specs.List.{AllZip};
 ghost use Rattle.operator_model.specs.Replay.{BookView};
 ghost use Rattle.operator_book.specs.ViewOf.{view_of};
-ghost use Rattle.run_receipts.specs.OwnParts.{IsOwnPart, HasOwnParts};
+ghost use Rattle.run_receipts.specs.OwnParts.{IsFramePart, HasOwnParts};
 ghost use Rattle.run_receipts.specs.Framing.{AreFramesOf};
 ghost use Rattle.run_receipts.specs.Settling.{IsFirstMapStrayed};
 
@@ -23,7 +23,7 @@ fn has_own_part(
 ) -> Result<bool, AllocError>
     requires { (book : BookView) × AreFramesOf own.now book }
     ensures { (book : BookView) → AreFramesOf own.now book
-        → IfOk result (λ has. IsTrue has ↔ IsOwnPart made.now view.now book) }
+        → IfOk result (λ has. IsTrue has ↔ IsFramePart made.now view.now book) }
 {
     match part_of_number(own.frames.as_slice(), made.frame) {
         Some(part) => is_own_part(alloc, view, &own.sids, part),
@@ -40,7 +40,7 @@ fn are_own_parts(
 ) -> Result<bool, AllocError>
     requires { (books : List BookView) × AllZip AreFramesOf all.now books }
     ensures { (books : List BookView) → AllZip AreFramesOf all.now books
-        → IfOk result (λ are. IsTrue are ↔ All (IsOwnPart made.now view.now) books) }
+        → IfOk result (λ are. IsTrue are ↔ All (IsFramePart made.now view.now) books) }
 {
     for own in all {
         if !has_own_part(alloc, own, made, view)? {

@@ -3,11 +3,11 @@
 ghost use Rattle.std.specs.Prelude.{◌≡◌, ◌++◌, ℕ, List, [], ◌∷◌, map, MatchOption, IfOk, OnOk};
 ghost use Rattle.std.specs.List.{AllZip};
 ghost use Rattle.operator_model.specs.declared.output.Output.{Output};
-ghost use Rattle.run_model.specs.IsTraceOf.{elements_in};
+ghost use Rattle.run_model.specs.IsTraceOf.{elements_at_frame};
 ghost use Rattle.run_model.specs.IsStateAfter.{frames_of, AreNumbered};
 ghost use Rattle.operator_book.specs.ViewOf.{view_of};
-ghost use Rattle.run_receipts.specs.OwnParts.{outputs_of};
-ghost use Rattle.run_receipts.specs.Framing.{numbered, AreFramesOf};
+ghost use Rattle.run_receipts.specs.OwnParts.{history_outputs};
+ghost use Rattle.run_receipts.specs.Framing.{frames_with_numbers, AreFramesOf};
 
 use admission::IdRange;
 use operator_book::{Book, Entry, Output};
@@ -33,7 +33,7 @@ pub(crate) struct OwnFrames<'a> {
 
 /// Adds the frames of an action's outputs after others.
 fn push_frames<'a>(frames: &mut Vec<Frame<'a>>, outputs: &'a [Output]) -> Result<(), AllocError>
-    ensures { OnOk result (numbered frames.new.items ≡ numbered frames.old.items ++ frames_of outputs.now) }
+    ensures { OnOk result (frames_with_numbers frames.new.items ≡ frames_with_numbers frames.old.items ++ frames_of outputs.now) }
 {
     for output in outputs {
         if let Output::Frame { number, elements } = output {
@@ -48,7 +48,7 @@ fn push_frames<'a>(frames: &mut Vec<Frame<'a>>, outputs: &'a [Output]) -> Result
 
 /// Returns the frames of a history, in order.
 pub fn frames_in<'a>(alloc: Global, history: &'a [Entry]) -> Result<Vec<Frame<'a>>, AllocError>
-    ensures { IfOk result (λ frames. numbered frames.items ≡ frames_of (outputs_of history.now)) }
+    ensures { IfOk result (λ frames. frames_with_numbers frames.items ≡ frames_of (history_outputs history.now)) }
 {
     let mut frames = Vec::new(alloc);
     for entry in history {
@@ -86,10 +86,10 @@ pub(crate) fn frames_of_books<'a>(
 
 /// Returns the elements of the frame of a number. Takes the same time wherever it exists.
 pub(crate) fn part_of_number<'a>(frames: &[Frame<'a>], number: u32) -> Option<&'a Elements>
-    requires { (first : ℕ) × AreNumbered first (numbered frames.now) }
-    ensures { (outputs : List Output) → numbered frames.now ≡ frames_of outputs
-        → MatchOption result (elements_in number outputs ≡ [])
-        (λ part. elements_in number outputs ≡ part.now ∷ []) }
+    requires { (first : ℕ) × AreNumbered first (frames_with_numbers frames.now) }
+    ensures { (outputs : List Output) → frames_with_numbers frames.now ≡ frames_of outputs
+        → MatchOption result (elements_at_frame number outputs ≡ [])
+        (λ part. elements_at_frame number outputs ≡ part.now ∷ []) }
 {
     let first = frames.first()?.number;
     let place = number.checked_sub(first)?;

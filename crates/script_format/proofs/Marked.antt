@@ -7,8 +7,8 @@ use Rattle.std.proofs.lemmas.Str.{IsAscii-append}
 use Rattle.std.proofs.lemmas.Str.Ascii.{IsAscii-cons, IsAscii-nil}
 use Rattle.std.proofs.lemmas.List.{drop-set}
 use Rattle.slice_scheduler.specs.declared.span.Span.{Span}
-use Rattle.slice_scheduler.specs.Iuc.{number_of}
-use Rattle.script_format.specs.Text.{spaced, span_text, pending_text}
+use Rattle.slice_scheduler.specs.Iuc.{iuc_number}
+use Rattle.script_format.specs.Text.{after_space, span_text, pending_text}
 
 -- a number of 16 bits has at most 5 digits
 pub few_digits : (n : ℕ) → n < 2 ^ 16 → length (decimal n) ≤ 5
@@ -41,10 +41,10 @@ pub pending_ascii : IsAscii (47 ∷ 80 ∷ [])
 pending_ascii = IsAscii-cons 47 (80 ∷ []) (omega arith) (IsAscii-cons 80 [] (omega arith) IsAscii-nil)
 
 -- four numbers written one before the other
-pub marks_written : (span : Span) (d4 d3 d2 d1 d0 : List ℕ) → d4 ≡ 32 ∷ (decimal span.sid ++ d3) → d3 ≡ 47 ∷ (decimal (number_of span.iuc) ++ d2)
-    → d2 ≡ 47 ∷ (decimal span.start ++ d1) → d1 ≡ 47 ∷ (decimal span.len ++ d0) → d4 ≡ spaced (span_text span) ++ d0
+pub marks_written : (span : Span) (d4 d3 d2 d1 d0 : List ℕ) → d4 ≡ 32 ∷ (decimal span.sid ++ d3) → d3 ≡ 47 ∷ (decimal (iuc_number span.iuc) ++ d2)
+    → d2 ≡ 47 ∷ (decimal span.start ++ d1) → d1 ≡ 47 ∷ (decimal span.len ++ d0) → d4 ≡ after_space (span_text span) ++ d0
 marks_written span d4 d3 d2 d1 d0 e4 e3 e2 e1 =
-    rw (e4, e3, e2, e1) (marks_before (decimal span.sid) (decimal (number_of span.iuc)) (decimal span.start) (decimal span.len) d0)
+    rw (e4, e3, e2, e1) (marks_before (decimal span.sid) (decimal (iuc_number span.iuc)) (decimal span.start) (decimal span.len) d0)
 
 -- two characters before others
 pub pair_ascii : (a b : ℕ) (rest : List ℕ) → (a < 128) × (b < 128) → IsAscii rest → IsAscii (a ∷ b ∷ rest)
@@ -66,5 +66,5 @@ pending_marks xs end some within =
     subst (λ (i : ℕ). drop i (set (set xs (end - 1) 80) i 47) ≡ 47 ∷ 80 ∷ drop end xs) back
     (marked (set xs (end - 1) 80) (80 ∷ drop end xs) (end - 1) 47 (omega arith) (omega (arith, len)) (marked xs (drop end xs) end 80 (omega arith) within refl))
 
-pub pending_before : (sid : ℕ) (d2 d1 d0 : List ℕ) → d2 ≡ 32 ∷ (decimal sid ++ d1) → d1 ≡ 47 ∷ 80 ∷ d0 → d2 ≡ spaced (pending_text sid) ++ d0
+pub pending_before : (sid : ℕ) (d2 d1 d0 : List ℕ) → d2 ≡ 32 ∷ (decimal sid ++ d1) → d1 ≡ 47 ∷ 80 ∷ d0 → d2 ≡ after_space (pending_text sid) ++ d0
 pending_before sid d2 d1 d0 e2 e1 = rw (e2, e1) (ap (λ (t : List ℕ). 32 ∷ t) (sym (append_assoc (decimal sid) (47 ∷ 80 ∷ []) d0)))

@@ -12,7 +12,7 @@ use Rattle.hex.specs.declared.error.FromHexError.{FromHexError}
 use Rattle.hex.proofs.HexLemmas.{decode_of-ok, decode_sized-ok, decode_sized-twice}
 use Rattle.script_format.specs.Lines.{parts_of}
 use Rattle.script_format.specs.Messages.{message_in}
-use Rattle.script_format.specs.Fields.{required, number_after, short_in, bytes_in}
+use Rattle.script_format.specs.Fields.{required_field, number_after, short_in, bytes_in}
 use Rattle.script_format.specs.declared.fields.FieldFault.TheVariants.{Shape}
 use Rattle.script_format.proofs.Splits.{split_first}
 
@@ -34,15 +34,15 @@ digits_spaceless bytes all k low high hit = let one = all k 0 high in let other 
 -- what is read as a message has no space in it
 pub bytes_spaceless : (field bytes : List ℕ) → bytes_in field ≡ Ok bytes → NoSpace field
 bytes_spaceless field bytes h = some (length field == 0) h where
-  digits : (r : Result (List ℕ) FromHexError) → decode_of field ≡ r → required (result_ok r) ≡ Ok bytes → NoSpace field
+  digits : (r : Result (List ℕ) FromHexError) → decode_of field ≡ r → required_field (result_ok r) ≡ Ok bytes → NoSpace field
   digits (Ok read) e is = digits_spaceless field (decode_of-ok field read e).1
   digits (Err fault) e is = absurd cc
 
-  dash : (t : Bool) → bytes_eq field (codes "-") ≡ t → required (if t then Some [] else result_ok (decode_of field)) ≡ Ok bytes → NoSpace field
+  dash : (t : Bool) → bytes_eq field (codes "-") ≡ t → required_field (if t then Some [] else result_ok (decode_of field)) ≡ Ok bytes → NoSpace field
   dash true e is = rw ((bytes_eq-Decides field (codes "-")).0 e) (NoSpace-cons 45 [] refl (λ k low high. absurd (omega arith)))
   dash false e is = digits (decode_of field) refl is
 
-  some : (t : Bool) → (if t then Err Shape else required (message_in field)) ≡ Ok bytes → NoSpace field
+  some : (t : Bool) → (if t then Err Shape else required_field (message_in field)) ≡ Ok bytes → NoSpace field
   some true is = absurd cc
   some false is = dash (bytes_eq field (codes "-")) refl is
 

@@ -3,13 +3,13 @@ use Rattle.std.specs.Prelude.{ℕ, List, codes}
 use Rattle.operator_model.specs.declared.output.Cause.{Cause}
 use Rattle.operator_model.specs.declared.output.Cause.TheVariants.{InboxFull, Idle, Empty, NotOurs, Short, TidInUse, UnknownAck, NoSuchSid, NotRequesting}
 
-abbrev pub name_of : Cause → List ℕ
-name_of InboxFull = codes "InboxFull"
-name_of Idle = codes "Idle"
-name_of Empty = codes "Empty"
-name_of NotOurs = codes "NotOurs"
-name_of Short = codes "Short"
-name_of TidInUse = codes "TidInUse"
-name_of UnknownAck = codes "UnknownAck"
-name_of NoSuchSid = codes "NoSuchSid"
-name_of NotRequesting = codes "NotRequesting"
+abbrev pub cause_name : Cause → List ℕ
+cause_name InboxFull = codes "InboxFull"
+cause_name Idle = codes "Idle"
+cause_name Empty = codes "Empty"
+cause_name NotOurs = codes "NotOurs"
+cause_name Short = codes "Short"
+cause_name TidInUse = codes "TidInUse"
+cause_name UnknownAck = codes "UnknownAck"
+cause_name NoSuchSid = codes "NoSuchSid"
+cause_name NotRequesting = codes "NotRequesting"

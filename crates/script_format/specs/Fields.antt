@@ -24,9 +24,9 @@ abbrev pub behind : {A : Type 0} → List A → Read (List A) → Read (List A)
 behind before (Ok more) = Ok (before ++ more)
 behind before (Err fault) = Err fault
 
-abbrev pub required : {A : Type 0} → Option A → Read A
-required None = Err Shape
-required (Some x) = Ok x
+abbrev pub required_field : {A : Type 0} → Option A → Read A
+required_field None = Err Shape
+required_field (Some x) = Ok x
 
 -- ---- fields
 
@@ -56,4 +56,4 @@ short_in field = number_in 5 65535 field
 
 -- the bytes of a message: `-` for none, else hexadecimal
 abbrev pub bytes_in : List ℕ → Read (List ℕ)
-bytes_in field = if length field == 0 then Err Shape else required (message_in field)
+bytes_in field = if length field == 0 then Err Shape else required_field (message_in field)

@@ -15,5 +15,5 @@ abbrev pub lines_of : List ℕ → List (List ℕ)
 lines_of bytes = parts_of 10 bytes
 
 -- the fields of a line are parted by one space each
-abbrev pub fields_of : List ℕ → List (List ℕ)
-fields_of line = parts_of 32 line
+abbrev pub line_fields : List ℕ → List (List ℕ)
+line_fields line = parts_of 32 line

@@ -17,8 +17,8 @@ use Rattle.run_model.specs.declared.step.Step.TheVariants.{Arrive, Work, Tick, C
 use Rattle.script_format.specs.declared.fields.FieldFault.TheVariants.{Shape}
 use Rattle.script_format.specs.declared.script.LineStep.{LineStep}
 use Rattle.script_format.specs.declared.script.Sender.{Sender}
-use Rattle.script_format.specs.Lines.{parts_of, lines_of, fields_of}
-use Rattle.script_format.specs.Fields.{Read, required, two_of, three_of, number_in, short_in, bytes_in}
+use Rattle.script_format.specs.Lines.{parts_of, lines_of, line_fields}
+use Rattle.script_format.specs.Fields.{Read, required_field, two_of, three_of, number_in, short_in, bytes_in}
 
 -- ---- names
 
@@ -39,7 +39,7 @@ is_named name row = bytes_eq row.name name
 
 -- an operator by its name
 abbrev pub operator_in : PlantFields → List ℕ → Read ℕ
-operator_in plant field = required (position_from (is_named field) 0 plant.rows)
+operator_in plant field = required_field (position_from (is_named field) 0 plant.rows)
 
 -- ---- the steps of a line, each with the line's number
 
@@ -118,7 +118,7 @@ steps_in plant number (word ∷ fields) =
 
 -- an empty line says nothing
 unfoldable pub line_steps : PlantFields → ℕ → List ℕ → Read (List LineStep)
-line_steps plant number line = if length line == 0 then Ok [] else steps_in plant number (fields_of line)
+line_steps plant number line = if length line == 0 then Ok [] else steps_in plant number (line_fields line)
 
 -- ---- the steps of a script
 
@@ -135,5 +135,5 @@ unfoldable pub steps_of : PlantFields → List ℕ → Result (List LineStep) �
 steps_of plant script = steps_after plant 1 [] (lines_of script)
 
 -- the steps alone, without the numbers of their lines
-abbrev pub unnumbered : List LineStep → List Step
-unnumbered lines = map (λ line. line.step) lines
+abbrev pub steps_without_numbers : List LineStep → List Step
+steps_without_numbers lines = map (λ line. line.step) lines

@@ -7,7 +7,7 @@ use Rattle.dsx_messages.specs.Modem.{hex_digits}
 use Rattle.dsx_messages.specs.declared.modem.Modem.{Modem}
 use Rattle.slice_scheduler.specs.declared.elements.ElementsFields.{ElementsFields}
 use Rattle.slice_scheduler.specs.declared.span.Span.{Span}
-use Rattle.slice_scheduler.specs.Iuc.{number_of}
+use Rattle.slice_scheduler.specs.Iuc.{iuc_number}
 use Rattle.plant.specs.declared.operator_row.RowFields.{RowFields}
 use Rattle.plant.specs.declared.plant.PlantFields.{PlantFields}
 use Rattle.operator_model.specs.declared.heard.Heard.{Heard}
@@ -21,7 +21,7 @@ use Rattle.run_model.specs.declared.step.Step.{Step}
 use Rattle.run_model.specs.declared.step.Out.{Out}
 use Rattle.run_model.specs.declared.step.Out.TheVariants as outs
 use Rattle.run_model.specs.OwnSteps.{own_steps}
-use Rattle.script_format.specs.Causes.{name_of}
+use Rattle.script_format.specs.Causes.{cause_name}
 
 -- ---- fields
 
@@ -35,27 +35,27 @@ message_text [] = codes "-"
 message_text (b ∷ bytes) = encode_upper (b ∷ bytes)
 
 -- after a space
-abbrev pub spaced : List ℕ → List ℕ
-spaced field = codes " " ++ field
+abbrev pub after_space : List ℕ → List ℕ
+after_space field = codes " " ++ field
 
 -- ---- a frame's elements
 
 -- `sid/iuc/start/len`, in minislots
 abbrev pub span_text : Span → List ℕ
-span_text span = decimal span.sid ++ (codes "/" ++ (decimal (number_of span.iuc) ++ (codes "/" ++ (decimal span.start ++ (codes "/" ++ decimal span.len)))))
+span_text span = decimal span.sid ++ (codes "/" ++ (decimal (iuc_number span.iuc) ++ (codes "/" ++ (decimal span.start ++ (codes "/" ++ decimal span.len)))))
 
 -- a grant pending: `sid/P`
 abbrev pub pending_text : ℕ → List ℕ
 pending_text sid = decimal sid ++ codes "/P"
 
 abbrev pub elements_text : ElementsFields → List ℕ
-elements_text elements = flat_map (λ span. spaced (span_text span)) elements.spans ++ flat_map (λ sid. spaced (pending_text sid)) elements.pending
+elements_text elements = flat_map (λ span. after_space (span_text span)) elements.spans ++ flat_map (λ sid. after_space (pending_text sid)) elements.pending
 
 -- ---- outputs
 
-abbrev pub named : Option RowFields → List ℕ
-named None = []
-named (Some row) = row.name
+abbrev pub operator_name : Option RowFields → List ℕ
+operator_name None = []
+operator_name (Some row) = row.name
 
 abbrev pub sender_text : Option Modem → List ℕ
 sender_text None = codes "-"
@@ -64,7 +64,7 @@ sender_text (Some modem) = address modem
 -- `R address reply`, `S address cause`, `F operator frame element ..`
 abbrev pub output_line : List ℕ → Output → List ℕ
 output_line name (Reply modem bytes) = codes "R " ++ (address modem ++ (codes " " ++ (encode_upper bytes ++ 10 ∷ [])))
-output_line name (Silent modem cause) = codes "S " ++ (sender_text modem ++ (codes " " ++ (name_of cause ++ 10 ∷ [])))
+output_line name (Silent modem cause) = codes "S " ++ (sender_text modem ++ (codes " " ++ (cause_name cause ++ 10 ∷ [])))
 output_line name (Frame number elements) = codes "F " ++ (name ++ (codes " " ++ (decimal number ++ (elements_text elements ++ 10 ∷ []))))
 
 -- `MAP frame bytes`
@@ -73,7 +73,7 @@ map_line made = codes "MAP " ++ (decimal made.frame ++ (codes " " ++ (encode_upp
 
 -- the line of an operator's output, or of a MAP
 abbrev pub out_line : PlantFields → Out → List ℕ
-out_line plant (outs.Of op output) = output_line (named (slice_get plant.rows op)) output
+out_line plant (outs.Of op output) = output_line (operator_name (slice_get plant.rows op)) output
 out_line plant (outs.Map made) = map_line made
 
 -- all lines, in the order of the outputs

@@ -1,13 +1,13 @@
 //! The names of causes for which nothing is answered.
 
 ghost use Rattle.std.specs.Prelude.{◌≡◌};
-ghost use Rattle.script_format.specs.Causes.{name_of};
+ghost use Rattle.script_format.specs.Causes.{cause_name};
 
 use operator_model::Cause;
 
 /// Returns the name of a cause, as it is written.
-pub fn name_of(cause: Cause) -> &'static str
-    ensures { result.now ≡ name_of cause }
+pub fn cause_name(cause: Cause) -> &'static str
+    ensures { result.now ≡ cause_name cause }
 {
     match cause {
         Cause::InboxFull => "InboxFull",

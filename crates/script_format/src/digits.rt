@@ -5,7 +5,7 @@ ghost use Rattle.std.specs.Fmt.{decimal};
 ghost use Rattle.std.specs.List.{flat_map};
 ghost use Rattle.std.specs.String.{string_bytes};
 ghost use Rattle.dsx_messages.specs.Modem.{hex_digit, hex_pair};
-ghost use Rattle.script_format.specs.Text.{address, spaced, span_text, pending_text};
+ghost use Rattle.script_format.specs.Text.{address, after_space, span_text, pending_text};
 
 use dsx_messages::Modem;
 use itoa::write_digits;
@@ -66,7 +66,7 @@ fn write_marked(room: &mut [u8], mark: u8, number: u16, end: usize) -> usize
 fn marked_span(room: &mut [u8], span: Span, end: usize) -> usize
     requires { (24 ≤ end) × (end ≤ length room.old) }
     ensures start { (end ≤ result + 24) × (result ≤ end) }
-    ensures written { drop result room.new ≡ spaced (span_text span) ++ drop end room.old }
+    ensures written { drop result room.new ≡ after_space (span_text span) ++ drop end room.old }
     ensures ascii { IsAscii (drop end room.old) → IsAscii (drop result room.new) }
 {
     let Span {
@@ -84,7 +84,7 @@ fn marked_span(room: &mut [u8], span: Span, end: usize) -> usize
 /// Writes a span after a space at the end of its room. Returns where it begins.
 fn span_digits(room: &mut [u8; SPAN_ROOM], span: Span) -> usize
     ensures within { result ≤ 24 }
-    ensures written { drop result room.new ≡ spaced (span_text span) }
+    ensures written { drop result room.new ≡ after_space (span_text span) }
     ensures ascii { IsAscii (drop result room.new) }
 {
     marked_span(room, span, SPAN_ROOM)
@@ -94,7 +94,7 @@ fn span_digits(room: &mut [u8; SPAN_ROOM], span: Span) -> usize
 pub(crate) fn spans_digits(room: &mut [u8; SPANS_ROOM], spans: &[Span]) -> usize
     requires { length spans.now ≤ 32 }
     ensures within { result ≤ 768 }
-    ensures written { drop result room.new ≡ flat_map (λ span. spaced (span_text span)) spans.now }
+    ensures written { drop result room.new ≡ flat_map (λ span. after_space (span_text span)) spans.now }
 {
     let mut place = SPANS_ROOM;
     let mut left = spans.len();
@@ -107,7 +107,7 @@ pub(crate) fn spans_digits(room: &mut [u8; SPANS_ROOM], spans: &[Span]) -> usize
 
 /// Adds a span after a space.
 pub(crate) fn put_span(text: &mut String, span: Span) -> Result<(), AllocError>
-    ensures { OnOk result (string_bytes text.new ≡ string_bytes text.old ++ spaced (span_text span)) }
+    ensures { OnOk result (string_bytes text.new ≡ string_bytes text.old ++ after_space (span_text span)) }
 {
     let mut room = [0u8; SPAN_ROOM];
     let place = span_digits(&mut room, span);
@@ -118,7 +118,7 @@ pub(crate) fn put_span(text: &mut String, span: Span) -> Result<(), AllocError>
 fn marked_pending(room: &mut [u8], sid: u16, end: usize) -> usize
     requires { (8 ≤ end) × (end ≤ length room.old) }
     ensures start { (end ≤ result + 8) × (result ≤ end) }
-    ensures written { drop result room.new ≡ spaced (pending_text sid) ++ drop end room.old }
+    ensures written { drop result room.new ≡ after_space (pending_text sid) ++ drop end room.old }
 {
     room[end - 1] = b'P';
     room[end - 2] = b'/';
@@ -130,7 +130,7 @@ fn marked_pending(room: &mut [u8], sid: u16, end: usize) -> usize
 pub(crate) fn pendings_digits(room: &mut [u8; PENDINGS_ROOM], pending: &[u16]) -> usize
     requires { length pending.now ≤ 32 }
     ensures within { result ≤ 256 }
-    ensures written { drop result room.new ≡ flat_map (λ sid. spaced (pending_text sid)) pending.now }
+    ensures written { drop result room.new ≡ flat_map (λ sid. after_space (pending_text sid)) pending.now }
 {
     let mut place = PENDINGS_ROOM;
     let mut left = pending.len();
@@ -146,7 +146,7 @@ pub(crate) fn pendings_digits(room: &mut [u8; PENDINGS_ROOM], pending: &[u16]) -
 fn pending_digits(room: &mut [u8; PENDING_END], sid: u16) -> usize
     requires { drop 6 room.old ≡ codes "/P" }
     ensures within { result ≤ 8 }
-    ensures written { drop result room.new ≡ spaced (pending_text sid) }
+    ensures written { drop result room.new ≡ after_space (pending_text sid) }
     ensures ascii { IsAscii (drop result room.new) }
 {
     write_marked(room, b' ', sid, PENDING_ROOM)
@@ -154,7 +154,7 @@ fn pending_digits(room: &mut [u8; PENDING_END], sid: u16) -> usize
 
 /// Adds a grant pending after a space.
 pub(crate) fn put_one_pending(text: &mut String, sid: u16) -> Result<(), AllocError>
-    ensures { OnOk result (string_bytes text.new ≡ string_bytes text.old ++ spaced (pending_text sid)) }
+    ensures { OnOk result (string_bytes text.new ≡ string_bytes text.old ++ after_space (pending_text sid)) }
 {
     let mut room = *NO_PENDING;
     let place = pending_digits(&mut room, sid);

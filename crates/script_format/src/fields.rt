@@ -3,7 +3,7 @@
 ghost use Rattle.std.specs.Prelude.{◌≡◌, ◌≤◌, [], ◌∷◌, map, MatchOption, IfOk};
 ghost use Rattle.lists.specs.Results.{result_map};
 ghost use Rattle.script_format.specs.Fields.{Gives, three_of, number_in, short_in, bytes_in};
-ghost use Rattle.script_format.specs.Lines.{fields_of};
+ghost use Rattle.script_format.specs.Lines.{line_fields};
 ghost use Rattle.script_format.specs.declared.fields.FieldFault.TheVariants.{NoMemory};
 
 use crate::lines::{message_in, part};
@@ -40,8 +40,8 @@ impl<T: Drop> From<AllocFailed<T>> for FieldFault {
 /// none.
 #[tactic(auto, using(crate::proofs::Splits::halves_of, crate::proofs::Splits::whole_of))]
 pub fn halves(line: &[u8]) -> Option<(&[u8], &[u8])>
-    ensures { MatchOption result (fields_of line.now ≡ line.now ∷ [])
-        (λ p. fields_of line.now ≡ p.0.now ∷ fields_of p.1.now) }
+    ensures { MatchOption result (line_fields line.now ≡ line.now ∷ [])
+        (λ p. line_fields line.now ≡ p.0.now ∷ line_fields p.1.now) }
 {
     match memchr(b' ', line) {
         Some(place) => Some((part(line, 0, place), part(line, place + 1, line.len()))),
@@ -53,8 +53,8 @@ pub fn halves(line: &[u8]) -> Option<(&[u8], &[u8])>
 /// that of most lines is.
 #[tactic(auto, using(crate::proofs::Splits::word_of))]
 pub fn word_and_rest(line: &[u8]) -> Option<(&[u8], &[u8])>
-    ensures { MatchOption result (fields_of line.now ≡ line.now ∷ [])
-        (λ p. fields_of line.now ≡ p.0.now ∷ fields_of p.1.now) }
+    ensures { MatchOption result (line_fields line.now ≡ line.now ∷ [])
+        (λ p. line_fields line.now ≡ p.0.now ∷ line_fields p.1.now) }
 {
     if line.len() > 1 && line[0] != b' ' && line[1] == b' ' {
         Some((part(line, 0, 1), part(line, 2, line.len())))

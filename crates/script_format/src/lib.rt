@@ -12,7 +12,7 @@ mod text;
 mod unhex;
 mod writing;
 
-pub use causes::name_of;
+pub use causes::cause_name;
 pub use fields::FieldFault;
 pub use input::{before_bar, plant_text, script_text};
 pub use lines::{LineFault, message_in, messages_of, parts_of, put_parts};

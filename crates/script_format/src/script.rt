@@ -5,7 +5,7 @@ ghost use Rattle.std.specs.List.{position_from};
 ghost use Rattle.lists.specs.Results.{result_map};
 ghost use Rattle.script_format.specs.declared.fields.FieldFault.TheVariants.{Shape, NoMemory};
 ghost use Rattle.script_format.specs.Fields.{Gives, behind};
-ghost use Rattle.script_format.specs.Lines.{fields_of};
+ghost use Rattle.script_format.specs.Lines.{line_fields};
 ghost use Rattle.script_format.specs.Script.{sender_in, is_named, operator_in, heard_steps, message_steps, request_steps, tick_steps, all_ticks, ticked_steps, share_in, shares_after, shares_in, resliced_steps, steps_in, line_steps, steps_after, steps_of};
 ghost use Rattle.script_format.specs.Senders.{sender_first};
 ghost use Rattle.script_format.specs.GivesSteps.{GivesSteps};
@@ -55,7 +55,7 @@ fn sender_in(plant: &Plant, field: &[u8]) -> Result<Sender, FieldFault>
 #[tactic(auto, using(crate::proofs::FirstFields::sender_lacks, crate::proofs::FirstFields::sender_unparted))]
 #[inline(always)]
 fn sender_first<'a>(plant: &Plant, line: &'a [u8]) -> Result<(Sender, &'a [u8]), FieldFault>
-    ensures { result_map (λ p. (p.0, fields_of p.1.now)) result ≡ sender_first plant.now (fields_of line.now) }
+    ensures { result_map (λ p. (p.0, line_fields p.1.now)) result ≡ sender_first plant.now (line_fields line.now) }
 {
     if line.len() < 13 || line[12] != b' ' {
         return Err(FieldFault::Shape);
@@ -121,7 +121,7 @@ fn put_message(
     steps: &mut Vec<LineStep>,
 ) -> Result<(), FieldFault>
     ensures said { Gives (λ _. steps.new.items) result
-        (behind steps.old.items (message_steps plant.now number (fields_of line.now))) }
+        (behind steps.old.items (message_steps plant.now number (line_fields line.now))) }
     ensures unsaid { result ≡ Err Shape → steps.new.items ≡ steps.old.items }
 {
     let (sender, message) = sender_first(plant, line)?;
@@ -139,7 +139,7 @@ fn put_request(
     steps: &mut Vec<LineStep>,
 ) -> Result<(), FieldFault>
     ensures said { Gives (λ _. steps.new.items) result
-        (behind steps.old.items (request_steps plant.now number (fields_of line.now))) }
+        (behind steps.old.items (request_steps plant.now number (line_fields line.now))) }
     ensures unsaid { result ≡ Err Shape → steps.new.items ≡ steps.old.items }
 {
     let (sender, numbers) = sender_first(plant, line)?;
@@ -187,7 +187,7 @@ fn put_ticked(
     steps: &mut Vec<LineStep>,
 ) -> Result<(), FieldFault>
     ensures said { Gives (λ _. steps.new.items) result
-        (behind steps.old.items (ticked_steps plant.now number (fields_of line.now))) }
+        (behind steps.old.items (ticked_steps plant.now number (line_fields line.now))) }
     ensures unsaid { result ≡ Err Shape → steps.new.items ≡ steps.old.items }
 {
     match halves(line) {
@@ -292,7 +292,7 @@ fn put_word<'a>(
     steps: &mut Vec<LineStep>,
 ) -> Result<(), FieldFault>
     ensures said { Gives (λ _. steps.new.items) result
-        (behind steps.old.items (steps_in plant.now number (word.now ∷ fields_of line.now))) }
+        (behind steps.old.items (steps_in plant.now number (word.now ∷ line_fields line.now))) }
     ensures unsaid { result ≡ Err Shape → steps.new.items ≡ steps.old.items }
 {
     if word == b"M".as_slice() {

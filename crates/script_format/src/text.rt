@@ -5,9 +5,9 @@ ghost use Rattle.std.specs.List.{flat_map};
 ghost use Rattle.std.specs.String.{string_bytes};
 ghost use Rattle.operator_model.specs.declared.output.Output.TheVariants.{Silent};
 ghost use Rattle.operator_model.specs.Replay.{actions_of};
-ghost use Rattle.script_format.specs.Text.{address, spaced, span_text, pending_text, elements_text, named, sender_text, output_line, map_line, heard_line, action_line, actions_text};
+ghost use Rattle.script_format.specs.Text.{address, after_space, span_text, pending_text, elements_text, operator_name, sender_text, output_line, map_line, heard_line, action_line, actions_text};
 
-use crate::causes::name_of;
+use crate::causes::cause_name;
 use crate::digits::{put_address, put_one_pending, put_span};
 use dsx_messages::Modem;
 use hex::encode_upper;
@@ -20,7 +20,7 @@ use std::alloc::{AllocError, Global};
 /// Adds spans, each after a space.
 fn put_spans(text: &mut String, spans: &[Span]) -> Result<(), AllocError>
     ensures { OnOk result (string_bytes text.new ≡ string_bytes text.old
-        ++ flat_map (λ span. spaced (span_text span)) spans.now) }
+        ++ flat_map (λ span. after_space (span_text span)) spans.now) }
 {
     for span in spans {
         put_span(text, *span)?;
@@ -31,7 +31,7 @@ fn put_spans(text: &mut String, spans: &[Span]) -> Result<(), AllocError>
 /// Adds the SIDs of grants pending, each after a space.
 fn put_pending(text: &mut String, pending: &[u16]) -> Result<(), AllocError>
     ensures { OnOk result (string_bytes text.new ≡ string_bytes text.old
-        ++ flat_map (λ sid. spaced (pending_text sid)) pending.now) }
+        ++ flat_map (λ sid. after_space (pending_text sid)) pending.now) }
 {
     for sid in pending {
         put_one_pending(text, *sid)?;
@@ -49,7 +49,7 @@ fn put_elements(text: &mut String, elements: &Elements) -> Result<(), AllocError
 
 /// Returns the name of an operator.
 pub fn put_name(text: &mut String, plant: &Plant, op: Op) -> Result<(), AllocError>
-    ensures { OnOk result (string_bytes text.new ≡ string_bytes text.old ++ named (slice_get plant.now.rows op)) }
+    ensures { OnOk result (string_bytes text.new ≡ string_bytes text.old ++ operator_name (slice_get plant.now.rows op)) }
 {
     match plant.rows().get(op) {
         Some(row) => {
@@ -74,7 +74,7 @@ fn put_sender(text: &mut String, modem: Option<Modem>) -> Result<(), AllocError>
 fn put_silent(text: &mut String, modem: Option<Modem>, cause: Cause) -> Result<(), AllocError>
     ensures { OnOk result (string_bytes text.new ≡ string_bytes text.old ++ output_line [] (Silent modem cause)) }
 {
-    let name = name_of(cause);
+    let name = cause_name(cause);
     text.push_str("S ")?;
     put_sender(text, modem)?;
     write!(text, " {name}\n")
@@ -118,7 +118,7 @@ pub fn put_output(
     output: &Output,
 ) -> Result<(), AllocError>
     ensures { OnOk result (string_bytes text.new ≡ string_bytes text.old
-        ++ output_line (named (slice_get plant.now.rows op)) output.now) }
+        ++ output_line (operator_name (slice_get plant.now.rows op)) output.now) }
 {
     match output {
         Output::Reply { modem, bytes } => {

@@ -5,9 +5,9 @@ ghost use Rattle.std.specs.Io.KnownBytes.{Appends};
 ghost use Rattle.std.specs.List.{flat_map};
 ghost use Rattle.hex.specs.Hex.{encode_upper};
 ghost use Rattle.operator_model.specs.declared.output.Output.TheVariants.{Silent, Frame};
-ghost use Rattle.script_format.specs.Text.{address, spaced, span_text, pending_text, elements_text, named, sender_text, output_line, map_line, out_line, outs_text};
+ghost use Rattle.script_format.specs.Text.{address, after_space, span_text, pending_text, elements_text, operator_name, sender_text, output_line, map_line, out_line, outs_text};
 
-use crate::causes::name_of;
+use crate::causes::cause_name;
 use crate::digits::{
     PENDINGS, PENDINGS_ROOM, SPANS, SPANS_ROOM, address_digits, pendings_digits, reply_head,
     spans_digits,
@@ -33,7 +33,7 @@ fn write_address<W: Write>(writer: &mut W, modem: Modem) -> io::Result<()>
 fn write_few_spans<W: Write>(writer: &mut W, spans: &[Span]) -> io::Result<()>
     requires { length spans.now ≤ 32 }
     ensures { OnOk result (Appends (W.contents writer.old) (W.contents writer.new)
-        (flat_map (λ span. spaced (span_text span)) spans.now)) }
+        (flat_map (λ span. after_space (span_text span)) spans.now)) }
 {
     let mut room = [0u8; SPANS_ROOM];
     let place = spans_digits(&mut room, spans);
@@ -43,7 +43,7 @@ fn write_few_spans<W: Write>(writer: &mut W, spans: &[Span]) -> io::Result<()>
 /// Writes spans, each after a space.
 fn write_spans<W: Write>(writer: &mut W, spans: &[Span]) -> io::Result<()>
     ensures { OnOk result (Appends (W.contents writer.old) (W.contents writer.new)
-        (flat_map (λ span. spaced (span_text span)) spans.now)) }
+        (flat_map (λ span. after_space (span_text span)) spans.now)) }
 {
     let mut place = 0;
     while spans.len() - place > SPANS {
@@ -57,7 +57,7 @@ fn write_spans<W: Write>(writer: &mut W, spans: &[Span]) -> io::Result<()>
 fn write_few_pending<W: Write>(writer: &mut W, pending: &[u16]) -> io::Result<()>
     requires { length pending.now ≤ 32 }
     ensures { OnOk result (Appends (W.contents writer.old) (W.contents writer.new)
-        (flat_map (λ sid. spaced (pending_text sid)) pending.now)) }
+        (flat_map (λ sid. after_space (pending_text sid)) pending.now)) }
 {
     let mut room = [0u8; PENDINGS_ROOM];
     let place = pendings_digits(&mut room, pending);
@@ -67,7 +67,7 @@ fn write_few_pending<W: Write>(writer: &mut W, pending: &[u16]) -> io::Result<()
 /// Writes the SIDs of grants pending, each after a space.
 fn write_pending<W: Write>(writer: &mut W, pending: &[u16]) -> io::Result<()>
     ensures { OnOk result (Appends (W.contents writer.old) (W.contents writer.new)
-        (flat_map (λ sid. spaced (pending_text sid)) pending.now)) }
+        (flat_map (λ sid. after_space (pending_text sid)) pending.now)) }
 {
     let mut place = 0;
     while pending.len() - place > PENDINGS {
@@ -87,7 +87,7 @@ fn write_elements<W: Write>(writer: &mut W, elements: &Elements) -> io::Result<(
 
 /// Returns the name of an operator.
 fn write_name<W: Write>(writer: &mut W, plant: &Plant, op: Op) -> io::Result<()>
-    ensures { OnOk result (Appends (W.contents writer.old) (W.contents writer.new) (named (slice_get plant.now.rows op))) }
+    ensures { OnOk result (Appends (W.contents writer.old) (W.contents writer.new) (operator_name (slice_get plant.now.rows op))) }
 {
     match plant.rows().get(op) {
         Some(row) => writer.write_all(row.get_fields().name.as_slice()),
@@ -112,7 +112,7 @@ fn write_silent<W: Write>(writer: &mut W, modem: Option<Modem>, cause: Cause) ->
     writer.write_all(b"S ")?;
     write_sender(writer, modem)?;
     writer.write_all(b" ")?;
-    writer.write_all(name_of(cause).as_bytes())?;
+    writer.write_all(cause_name(cause).as_bytes())?;
     writer.write_all(b"\n")
 }
 
@@ -134,7 +134,7 @@ fn write_frame<W: Write>(
     elements: &Elements,
 ) -> io::Result<()>
     ensures { OnOk result (Appends (W.contents writer.old) (W.contents writer.new)
-        (output_line (named (slice_get plant.now.rows op)) (Frame number elements.now))) }
+        (output_line (operator_name (slice_get plant.now.rows op)) (Frame number elements.now))) }
 {
     writer.write_all(b"F ")?;
     write_name(writer, plant, op)?;
@@ -146,7 +146,7 @@ fn write_frame<W: Write>(
 /// Returns the line of an operator's output.
 fn write_output<W: Write>(writer: &mut W, plant: &Plant, op: Op, output: &Output) -> io::Result<()>
     ensures { OnOk result (Appends (W.contents writer.old) (W.contents writer.new)
-        (output_line (named (slice_get plant.now.rows op)) output.now)) }
+        (output_line (operator_name (slice_get plant.now.rows op)) output.now)) }
 {
     match output {
         Output::Reply { modem, bytes } => write_reply(writer, *modem, bytes.as_slice()),

@@ -19,7 +19,7 @@ use Rattle.slice_scheduler.specs.declared.flowing.Flowing.{Flowing}
 use Rattle.slice_scheduler.specs.Due.{is_due, due_pieces, pieces_when_due, iuc_of}
 use Rattle.slice_scheduler.specs.Claims.{claim_of, claims_of, room_of}
 use Rattle.slice_scheduler.specs.Awards.{award_of, awards_of}
-use Rattle.slice_scheduler.specs.Schedule.{by_rank, award_pieces, pieces_of, idle, packed, minislots_in, spans_of, pending_of}
+use Rattle.slice_scheduler.specs.Schedule.{by_rank, award_pieces, pieces_of, idle, spans_from, minislots_in, spans_of, pending_of}
 use Rattle.slice_scheduler.specs.Servable.{AsksWhereItMay, elements_needed}
 use Rattle.slice_scheduler.proofs.SumLemmas.{sum_by-add, sum_by-le, filtered-le, recursion-weaker}
 use Rattle.slice_scheduler.proofs.RankLemmas.{sum_by-ranked_below}
@@ -84,7 +84,7 @@ for_flow at f a none asks = by (is_due at f) f.set.scheduling (λ s. none (asks 
 
 -- ---- all of it
 
-length-packed : (start : ℕ) (pieces : List Piece) → length (packed start pieces) ≡ length pieces
+length-packed : (start : ℕ) (pieces : List Piece) → length (spans_from start pieces) ≡ length pieces
 length-packed start [] = refl
 length-packed start (piece ∷ pieces) = omega (arith, length-packed (start + piece.len) pieces)
 
@@ -127,11 +127,11 @@ module _ (policy : Policy) (at : AtFields) (flows : List Flowing) where
 
 -- ---- nobody's
 
-nobody-packed : (start : ℕ) (pieces : List Piece) → count_by (λ (span : Span). span.sid == 0) (packed start pieces) ≡ count_by (λ (piece : Piece). piece.sid == 0) pieces
+nobody-packed : (start : ℕ) (pieces : List Piece) → count_by (λ (span : Span). span.sid == 0) (spans_from start pieces) ≡ count_by (λ (piece : Piece). piece.sid == 0) pieces
 nobody-packed start [] = refl
 nobody-packed start (piece ∷ pieces) = omega (
   arith,
-  sum_by-cons (λ (span : Span). cond {A = ℕ} (span.sid == 0) 1 0) (placed start piece) (packed (start + piece.len) pieces),
+  sum_by-cons (λ (span : Span). cond {A = ℕ} (span.sid == 0) 1 0) (placed start piece) (spans_from (start + piece.len) pieces),
   sum_by-cons (λ (p : Piece). cond {A = ℕ} (p.sid == 0) 1 0) piece pieces,
   nobody-packed (start + piece.len) pieces,
 )

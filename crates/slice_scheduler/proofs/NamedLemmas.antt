@@ -17,7 +17,7 @@ use Rattle.slice_scheduler.specs.declared.flowing.Flowing.{Flowing}
 use Rattle.slice_scheduler.specs.Due.{is_due, due_pieces, pieces_when_due, iuc_of}
 use Rattle.slice_scheduler.specs.Claims.{claim_of, claims_of, room_of}
 use Rattle.slice_scheduler.specs.Awards.{award_of, awards_of}
-use Rattle.slice_scheduler.specs.Schedule.{ranked_below, by_rank, award_pieces, pieces_of, idle, packed, minislots_in, spans_of, pending_of}
+use Rattle.slice_scheduler.specs.Schedule.{ranked_below, by_rank, award_pieces, pieces_of, idle, spans_from, minislots_in, spans_of, pending_of}
 use Rattle.slice_scheduler.proofs.PackedLemmas.{spare}
 use Rattle.slice_scheduler.proofs.SumLemmas.{recursion-weaker, recursion-filter, recursion-append, recursion-flat_map, recursion-map, recursion-replicate}
 
@@ -56,7 +56,7 @@ module _ (P : ℕ → Type 0) where
   idle-named : (n : ℕ) → P 0 → AllByRecursion OfPiece (idle n)
   idle-named n h = elim (n == 0) as (λ b. AllByRecursion OfPiece (cond b [] (spare n ∷ []))) [ true ↦ tt | false ↦ (h, tt) ]
 
-  packed-named : (start : ℕ) (pieces : List Piece) → AllByRecursion OfPiece pieces → AllByRecursion (λ (span : Span). P span.sid) (packed start pieces)
+  packed-named : (start : ℕ) (pieces : List Piece) → AllByRecursion OfPiece pieces → AllByRecursion (λ (span : Span). P span.sid) (spans_from start pieces)
   packed-named start [] a = tt
   packed-named start (piece ∷ pieces) a = (a.0, packed-named (start + piece.len) pieces a.1)
 

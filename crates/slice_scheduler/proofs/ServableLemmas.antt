@@ -3,7 +3,7 @@ use Rattle.std.proofs.Common.{◌≡◌, ℕ, ◌+◌, ◌-◌, ◌<◌, ◌≤�
 use Rattle.std.specs.List.{AllByRecursion}
 use Rattle.std.proofs.lemmas.List.{take_more}
 use Rattle.slice_scheduler.specs.declared.flowing.Flowing.{Flowing}
-use Rattle.slice_scheduler.specs.Servable.{Ascends, SfidsAscend, need_at, needed}
+use Rattle.slice_scheduler.specs.Servable.{Ascends, SfidsAscend, need_at, total_need}
 use Rattle.slice_scheduler.specs.declared.flowing.AtFields.{AtFields}
 use Rattle.std.proofs.lemmas.List.Sums.{sum_by_more}
 use Rattle.slice_scheduler.proofs.SumLemmas.{recursion-weaker}
@@ -24,5 +24,5 @@ pub below-more : (flows : List Flowing) (i : ℕ) (e : Flowing) (next after : �
 below-more flows i e next after lt below le is = subst (λ (fs : List Flowing). AllByRecursion (λ f. f.sfid < after) fs) (sym (take_more flows i e lt))
     (recursion-push (λ (f : Flowing). f.sfid < after) (take i flows) (get_or flows i e) (recursion-weaker (λ f. f.sfid < next) (λ f. f.sfid < after) (λ f h. omega arith) (take i flows) below) (omega arith))
 
-pub servable-room : (at : AtFields) (flows : List Flowing) (i : ℕ) (e : Flowing) (room need : ℕ) → i < length flows → room + needed at (take i flows) ≡ at.slice.length → need ≤ room → need ≡ need_at at (get_or flows i e) → room - need + needed at (take (i + 1) flows) ≡ at.slice.length
+pub servable-room : (at : AtFields) (flows : List Flowing) (i : ℕ) (e : Flowing) (room need : ℕ) → i < length flows → room + total_need at (take i flows) ≡ at.slice.length → need ≤ room → need ≡ need_at at (get_or flows i e) → room - need + total_need at (take (i + 1) flows) ≡ at.slice.length
 servable-room at flows i e room need lt so_far fits is = omega (arith, sum_by_more (need_at at) flows i e lt)

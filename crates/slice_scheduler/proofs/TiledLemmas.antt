@@ -20,7 +20,7 @@ use Rattle.slice_scheduler.specs.Due.{is_due, minislots_when_due, due_pieces, pi
 use Rattle.slice_scheduler.specs.Claims.{base_of, taken_of}
 use Rattle.slice_scheduler.specs.Awards.{awards_of}
 use Rattle.slice_scheduler.specs.Schedule.{by_rank, award_pieces, pieces_of, elements_of}
-use Rattle.slice_scheduler.specs.Servable.{SfidsAscend, IsOfItsKind, need_at, needed}
+use Rattle.slice_scheduler.specs.Servable.{SfidsAscend, IsOfItsKind, need_at, total_need}
 use Rattle.slice_scheduler.specs.Tiles.{IsTiled}
 use Rattle.slice_scheduler.specs.Wanted.{HasMinislots}
 use Rattle.slice_scheduler.proofs.SumLemmas.{sum_by-le, recursion-weaker, recursion-append, recursion-flat_map, recursion-replicate, recursion-each}
@@ -87,7 +87,7 @@ taken-needed at f kind = by (is_due at f) f.set.scheduling kind
 
 -- ---- all of it
 
-pub elements-tiled : (policy : Policy) (at : AtFields) (flows : List Flowing) → SfidsAscend flows → needed at flows ≤ at.slice.length → AllByRecursion IsOfItsKind flows → IsTiled (elements_of policy at flows)
+pub elements-tiled : (policy : Policy) (at : AtFields) (flows : List Flowing) → SfidsAscend flows → total_need at flows ≤ at.slice.length → AllByRecursion IsOfItsKind flows → IsTiled (elements_of policy at flows)
 elements-tiled policy at flows ascend fits kinds =
-    let taken : sum_by (taken_of at) flows ≤ needed at flows = sum_by-le (taken_of at) (need_at at) flows (recursion-weaker IsOfItsKind (λ f. taken_of at f ≤ need_at at f) (taken-needed at) flows kinds) in
+    let taken : sum_by (taken_of at) flows ≤ total_need at flows = sum_by-le (taken_of at) (need_at at) flows (recursion-weaker IsOfItsKind (λ f. taken_of at f ≤ need_at at f) (taken-needed at) flows kinds) in
     record { tiles = packed_whole at.slice.start at.slice.length (pieces_of policy at flows) (some_pieces policy at flows kinds) (pieces-fit policy at flows ascend (omega arith)) }

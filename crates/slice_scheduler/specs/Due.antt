@@ -1,6 +1,6 @@
 -- Which flows are due in a frame, and what a due flow is granted whatever it asks (implementation-specific).
 use Rattle.std.specs.Prelude.{ℕ, ◌-◌, ◌*◌, ◌%◌, ◌==◌, nat_le, Bool, false, if◌then◌else◌, Option, Some, None, List, [], ◌∷◌, replicate}
-use Rattle.param_sets.specs.Units.{UnitSizes, frames_of, minislots_of}
+use Rattle.param_sets.specs.Units.{UnitSizes, frames_in_interval, minislots_of}
 use Rattle.param_sets.specs.declared.scheduling.Scheduling.{Scheduling}
 use Rattle.param_sets.specs.declared.scheduling.Scheduling.TheVariants.{BestEffort, NonRealTimePolling, RealTimePolling, UnsolicitedGrant}
 use Rattle.param_sets.specs.declared.param_set.ParamFields.{ParamFields}
@@ -13,9 +13,9 @@ use Rattle.slice_scheduler.specs.declared.flowing.Flowing.{Flowing}
 -- the frames from one due frame to the next: none at best effort
 abbrev pub interval_of : Scheduling → ParamFields → UnitSizes → Option ℕ
 interval_of BestEffort set units = None
-interval_of NonRealTimePolling set units = Some (frames_of set.polling_interval units)
-interval_of RealTimePolling set units = Some (frames_of set.polling_interval units)
-interval_of UnsolicitedGrant set units = Some (frames_of set.grant_interval units)
+interval_of NonRealTimePolling set units = Some (frames_in_interval set.polling_interval units)
+interval_of RealTimePolling set units = Some (frames_in_interval set.polling_interval units)
+interval_of UnsolicitedGrant set units = Some (frames_in_interval set.grant_interval units)
 
 -- whether an interval ends after so many frames: one of no frame never does
 abbrev pub ends_after : ℕ → Option ℕ → Bool

@@ -4,7 +4,7 @@ use Rattle.slice_scheduler.specs.declared.span.Iuc.{Iuc}
 use Rattle.slice_scheduler.specs.declared.span.Iuc.TheVariants.{Request, Short, Long}
 
 -- the number of a code on the wire
-abbrev pub number_of : Iuc → ℕ
-number_of Request = 1
-number_of Short = 5
-number_of Long = 6
+abbrev pub iuc_number : Iuc → ℕ
+iuc_number Request = 1
+iuc_number Short = 5
+iuc_number Long = 6

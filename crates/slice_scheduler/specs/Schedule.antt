@@ -34,16 +34,16 @@ abbrev pub idle : ℕ → List Piece
 idle minislots = if minislots == 0 then [] else record { sid = 0; iuc = Long; len = minislots } ∷ []
 
 -- the grants one after the other, from this minislot on
-abbrev pub packed : ℕ → List Piece → List Span
-packed start [] = []
-packed start (piece ∷ pieces) = record { sid = piece.sid; iuc = piece.iuc; start = start; len = piece.len } ∷ packed (start + piece.len) pieces
+abbrev pub spans_from : ℕ → List Piece → List Span
+spans_from start [] = []
+spans_from start (piece ∷ pieces) = record { sid = piece.sid; iuc = piece.iuc; start = start; len = piece.len } ∷ spans_from (start + piece.len) pieces
 
 abbrev pub minislots_in : List Piece → ℕ
 minislots_in pieces = sum_by (λ piece. piece.len) pieces
 
 -- the whole slice: the grants, then what is left
 abbrev pub spans_of : Policy → AtFields → List Flowing → List Span
-spans_of policy at flows = packed at.slice.start (pieces_of policy at flows ++ idle (at.slice.length - minislots_in (pieces_of policy at flows)))
+spans_of policy at flows = spans_from at.slice.start (pieces_of policy at flows ++ idle (at.slice.length - minislots_in (pieces_of policy at flows)))
 
 -- the SIDs of those that asked for more than they are granted, in the order in which they are served
 abbrev pub pending_of : Policy → AtFields → List Flowing → List ℕ

@@ -34,8 +34,8 @@ abbrev pub need_at : AtFields → Flowing → ℕ
 need_at at f = (need_of f.set at.units).minislots
 
 -- those of all flows
-abbrev pub needed : AtFields → List Flowing → ℕ
-needed at flows = sum_by (need_at at) flows
+abbrev pub total_need : AtFields → List Flowing → ℕ
+total_need at flows = sum_by (need_at at) flows
 
 -- the elements that the parameter sets of all flows need of each frame's MAP
 abbrev pub elements_needed : AtFields → List Flowing → ℕ

@@ -2,7 +2,7 @@
 
 ghost use Rattle.std.specs.Prelude.{◌≡◌, ◌≤◌, All, IfOk, sum_by};
 ghost use Rattle.slice_scheduler.specs.Claims.{base_of, claim_of, claims_of, taken_of, room_of};
-ghost use Rattle.slice_scheduler.specs.Servable.{IsPast, need_at, needed};
+ghost use Rattle.slice_scheduler.specs.Servable.{IsPast, need_at, total_need};
 ghost use Rattle.slice_scheduler.specs.Wanted.{IsClaim, asking};
 
 use crate::claim::Claim;
@@ -24,7 +24,7 @@ fn base(at: &At, flow: &Flowing) -> u16
 }
 
 /// Returns what a flow has before the rest is shared.
-fn taken(at: &At, flow: &Flowing) -> u32
+fn base_minislots(at: &At, flow: &Flowing) -> u32
     requires { IsPast at.now.frame flow.now }
     ensures value { result ≡ taken_of at.now flow.now }
     ensures within { taken_of at.now flow.now ≤ need_at at.now flow.now }
@@ -37,13 +37,13 @@ fn taken(at: &At, flow: &Flowing) -> u32
 /// Returns the minislots of the slice that are shared.
 pub(crate) fn room(flows: &[Flowing], at: &At) -> u16
     requires past { All (IsPast at.now.frame) flows.now }
-    requires within { needed at.now flows.now ≤ at.now.slice.length }
+    requires within { total_need at.now flows.now ≤ at.now.slice.length }
     ensures value { result ≡ room_of at.now flows.now }
     ensures fits { sum_by (taken_of at.now) flows.now ≤ at.now.slice.length }
 {
     let mut room = u32::from(at.get_slice().get_length());
     for flow in flows {
-        room -= taken(at, flow);
+        room -= base_minislots(at, flow);
     }
     room as u16
 }

@@ -8,7 +8,7 @@ ghost use Rattle.slice_scheduler.specs.declared.flowing.Flowing.{Flowing};
 ghost use Rattle.slice_scheduler.specs.Awards.{grant_of};
 ghost use Rattle.slice_scheduler.specs.Claims.{base_of};
 ghost use Rattle.slice_scheduler.specs.Schedule.{elements_of, granted_of};
-ghost use Rattle.slice_scheduler.specs.Servable.{SfidsAscend, IsOfItsKind, AsksWhereItMay, needed, elements_needed};
+ghost use Rattle.slice_scheduler.specs.Servable.{SfidsAscend, IsOfItsKind, AsksWhereItMay, total_need, elements_needed};
 ghost use Rattle.slice_scheduler.specs.Tiles.{IsTiled};
 
 /// States that no flow is granted more than it asks.
@@ -36,7 +36,7 @@ pub fn granted_by_flow()
 /// the flows are sorted by SFID and what their parameter sets need fits the slice.
 pub fn elements_are_tiled()
     ensures { (policy : Policy) (at : AtFields) (flows : List Flowing) → SfidsAscend flows
-        → needed at flows ≤ at.slice.length → All IsOfItsKind flows → IsTiled (elements_of policy at flows) }
+        → total_need at flows ≤ at.slice.length → All IsOfItsKind flows → IsTiled (elements_of policy at flows) }
 {}
 
 /// States that each span is a flow's, by its SID, or nobody's, by SID 0; each SID that is pending

@@ -2,7 +2,7 @@
 
 ghost use Rattle.std.specs.Prelude.{◌≡◌, ◌+◌, ◌-◌, ◌≤◌, ◌++◌, All, IfOk, OnOk};
 ghost use Rattle.std.specs.List.{flat_map};
-ghost use Rattle.slice_scheduler.specs.Schedule.{award_pieces, idle, packed, minislots_in};
+ghost use Rattle.slice_scheduler.specs.Schedule.{award_pieces, idle, spans_from, minislots_in};
 ghost use Rattle.slice_scheduler.specs.Tiles.{Tiles};
 ghost use Rattle.slice_scheduler.specs.Wanted.{HasMinislots};
 
@@ -43,7 +43,7 @@ pub(crate) fn pack(alloc: Global, slice: &Slice, pieces: &[Piece]) -> Result<Vec
     requires some { All HasMinislots pieces.now }
     requires fits { minislots_in pieces.now ≤ slice.now.length }
     ensures items { IfOk result (λ spans. spans.items
-        ≡ packed slice.now.start (pieces.now ++ idle (slice.now.length - minislots_in pieces.now))) }
+        ≡ spans_from slice.now.start (pieces.now ++ idle (slice.now.length - minislots_in pieces.now))) }
     ensures tiles { IfOk result (λ spans. Tiles slice.now.start (slice.now.start + slice.now.length) spans.items) }
 {
     let end = slice.get_start() + slice.get_length();

@@ -3,7 +3,7 @@
 ghost use Rattle.std.specs.Prelude.{◌≡◌, ◌≤◌, nat_lt, All, IfOk, map, filter};
 ghost use Rattle.slice_scheduler.specs.Schedule.{elements_of, granted_of};
 ghost use Rattle.slice_scheduler.specs.Busy.{LeavesNothingIdle};
-ghost use Rattle.slice_scheduler.specs.Servable.{SfidsAscend, IsPast, needed};
+ghost use Rattle.slice_scheduler.specs.Servable.{SfidsAscend, IsPast, total_need};
 
 use crate::award::Award;
 use crate::awarding::awards;
@@ -11,7 +11,7 @@ use crate::claiming::{claims, room};
 use crate::due::all_due;
 use crate::elements::{Elements, ElementsFields};
 use crate::flowing::{At, Flowing};
-use crate::ordering::ordered;
+use crate::ordering::order_awards;
 use crate::packing::{pack, push_awards};
 use crate::served::Served;
 use grant_policy::Ranking;
@@ -32,7 +32,7 @@ fn pending(alloc: Global, awards: &[Award]) -> Result<Vec<u16>, AllocError>
 }
 
 /// Returns the SFID and the minislots of each award that is more than none.
-fn granted(alloc: Global, awards: &[Award]) -> Result<Vec<(u32, u16)>, AllocError>
+fn grants_of_awards(alloc: Global, awards: &[Award]) -> Result<Vec<(u32, u16)>, AllocError>
     ensures { IfOk result (λ grants. grants.items
         ≡ map (λ a. (a.sfid, a.grant)) (filter (λ a. nat_lt 0 a.grant) awards.now)) }
 {
@@ -61,7 +61,7 @@ pub fn schedule(
 ) -> Result<Served, AllocError>
     requires ascending { SfidsAscend flows.now }
     requires past { All (IsPast at.now.frame) flows.now }
-    requires within { needed at.now flows.now ≤ at.now.slice.length }
+    requires within { total_need at.now flows.now ≤ at.now.slice.length }
     ensures elements { IfOk result (λ served. served.elements ≡ elements_of ranking.now.policy at.now flows.now) }
     ensures busy { IfOk result (λ _. All (LeavesNothingIdle ranking.now.policy at.now flows.now) flows.now) }
     ensures granted { IfOk result (λ served. served.granted ≡ granted_of ranking.now.policy at.now flows.now) }
@@ -69,13 +69,13 @@ pub fn schedule(
     let room = room(flows, at);
     let claims = claims(alloc, flows, at, ranking)?;
     let awards = awards(alloc, claims.as_slice(), room)?;
-    let ordered = ordered(alloc, awards.as_slice())?;
+    let ordered = order_awards(alloc, awards.as_slice())?;
     let mut pieces = all_due(alloc, flows, at)?;
     push_awards(&mut pieces, ordered.as_slice(), at)?;
     let slice = at.get_slice();
     let spans = pack(alloc, &slice, pieces.as_slice())?;
     let pending = pending(alloc, ordered.as_slice())?;
-    let granted = granted(alloc, awards.as_slice())?;
+    let granted = grants_of_awards(alloc, awards.as_slice())?;
     Ok(Served {
         elements: Elements::new(ElementsFields {
             slice,

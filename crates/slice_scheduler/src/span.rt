@@ -1,7 +1,7 @@
 //! Spans of minislots.
 
 ghost use Rattle.std.specs.Prelude.{◌≡◌};
-ghost use Rattle.slice_scheduler.specs.Iuc.{number_of};
+ghost use Rattle.slice_scheduler.specs.Iuc.{iuc_number};
 
 use lists::Listed;
 
@@ -19,7 +19,7 @@ pub enum Iuc {
 impl Iuc {
     /// Returns the number on the wire.
     pub fn number(self) -> u8
-        ensures { result ≡ number_of self }
+        ensures { result ≡ iuc_number self }
     {
         match self {
             Iuc::Request => 1,

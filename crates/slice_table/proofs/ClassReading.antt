@@ -15,22 +15,22 @@ use Rattle.slice_table.specs.declared.plant_key.Key.TheVariants.{Classes, Entry}
 use Rattle.slice_table.specs.declared.plant_key.Place.{Place}
 use Rattle.slice_table.specs.declared.plant_key.Place.TheVariants as place
 use Rattle.slice_table.specs.declared.plant_key.Field.TheVariants as field
-use Rattle.plant.specs.Classes.{is_named, StatesParameters, IsClass, AreClasses}
-use Rattle.slice_table.specs.Tree.{items_len, expected, checked, text_at, bytes_at, table_of}
+use Rattle.plant.specs.Classes.{is_class_named, StatesParameters, IsClass, AreClasses}
+use Rattle.slice_table.specs.Tree.{items_len, expected_value, checked_value, text_at, bytes_at, table_of}
 use Rattle.slice_table.specs.ReadConsts.{is_class_name, class_name_at, states_parameters, parameters_in, class_encoding_at, class_read, classes_in, classes_if}
 use Rattle.slice_table.proofs.Parsed.{bind_ok, checked_ok, each_keeps, each_len}
 use Rattle.slice_table.proofs.Values.{none_passes, told_apart, is_none_none}
 
 -- a name that is read: its letters, and that no earlier class has it
 name_read : (classes : List Class) (place : Place) (ms : Members) (name : List ℕ) → class_name_at classes place ms ≡ Ok name
-    → (is_class_name name ≡ true) × (list_any (is_named name) classes ≡ false)
+    → (is_class_name name ≡ true) × (list_any (is_class_named name) classes ≡ false)
 unfolding class_name_at
 name_read classes place ms name h =
-    let text = bind_ok (text_at place field.Name ms) (λ t. checked (Entry place field.Name) (is_class_name t && not (list_any (is_named t) classes)) t) name h in
-    let test = checked_ok (Entry place field.Name) (is_class_name text.0 && not (list_any (is_named text.0) classes)) text.0 name text.2 in
-    let parts = and_parts (is_class_name text.0) (not (list_any (is_named text.0) classes)) test.0 in (
+    let text = bind_ok (text_at place field.Name ms) (λ t. checked_value (Entry place field.Name) (is_class_name t && not (list_any (is_class_named t) classes)) t) name h in
+    let test = checked_ok (Entry place field.Name) (is_class_name text.0 && not (list_any (is_class_named text.0) classes)) text.0 name text.2 in
+    let parts = and_parts (is_class_name text.0) (not (list_any (is_class_named text.0) classes)) test.0 in (
       subst (λ (n : List ℕ). is_class_name n ≡ true) test.1 parts.0,
-      subst (λ (n : List ℕ). list_any (is_named n) classes ≡ false) test.1 (not-true (list_any (is_named text.0) classes) parts.1),
+      subst (λ (n : List ℕ). list_any (is_class_named n) classes ≡ false) test.1 (not-true (list_any (is_class_named text.0) classes) parts.1),
     )
 
 class_name_letters : (name : List ℕ) → is_class_name name ≡ true → list_all is_ascii_alphanumeric name ≡ true
@@ -68,7 +68,7 @@ encoding_read place ms flow h =
 
 -- a class that is read
 one_class : (classes : List Class) (d : Data) (class : Class) → class_read classes d ≡ Ok class
-    → IsClass class × (list_any (is_named class.name) classes ≡ false)
+    → IsClass class × (list_any (is_class_named class.name) classes ≡ false)
 unfolding class_read
 one_class classes d class h =
     let place : Place = place.Class (length classes) in
@@ -77,7 +77,7 @@ one_class classes d class h =
     let encoding = bind_ok (class_encoding_at place table.0) _ class name.2 in
     let named = name_read classes place table.0 name.0 name.1 in
     let made : record { name = name.0; encoding = encoding.0 } ≡ class = cc in
-    subst (λ (c : Class). IsClass c × (list_any (is_named c.name) classes ≡ false)) made
+    subst (λ (c : Class). IsClass c × (list_any (is_class_named c.name) classes ≡ false)) made
     (record { letters = class_name_letters name.0 named.0; parameters = encoding_read place table.0 encoding.0 encoding.1 }, named.1)
 
 abbrev AreNamed : List Class → Type 0
@@ -88,14 +88,14 @@ one_more classes d class h read =
     let one = one_class classes d class read in (
       All-push IsClass classes class h.0 one.0,
       all_pairs_push (λ a b. a.name ≢ b.name) classes class h.1 (λ k e lt.
-          told_apart (get_or classes k e).name class.name (none_passes (is_named class.name) classes k e one.1 lt)),
+          told_apart (get_or classes k e).name class.name (none_passes (is_class_named class.name) classes k e one.1 lt)),
     )
 
 in_array : (d : Data) (classes : List Class) → classes_in d ≡ Ok classes → AreClasses classes
 unfolding classes_in
 in_array d classes h =
-    let ds = bind_ok (expected Classes (as_array d)) _ classes h in
-    let few = bind_ok (checked Classes (nat_le (items_len ds.0) 64) ds.0) _ classes ds.2 in
+    let ds = bind_ok (expected_value Classes (as_array d)) _ classes h in
+    let few = bind_ok (checked_value Classes (nat_le (items_len ds.0) 64) ds.0) _ classes ds.2 in
     let test = checked_ok Classes (nat_le (items_len ds.0) 64) ds.0 few.0 few.1 in
     let count : items_len few.0 ≤ 64 = subst (λ (i : Items). items_len i ≤ 64) test.1 (grind (arith, test.0)) in
     let named = each_keeps AreNamed class_read one_more [] few.0 classes (λ k e lt. absurd (omega (arith, lt)), λ i j e lt more. absurd (omega (arith, more))) few.2 in

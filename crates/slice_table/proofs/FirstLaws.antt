@@ -9,7 +9,7 @@ use Rattle.plant.specs.declared.operator_row.RowFields.{RowFields}
 use Rattle.plant.specs.Row.{is_listed, same_modem}
 use Rattle.slice_table.specs.declared.checks.Apart.{Apart}
 use Rattle.slice_table.specs.Checks.{meets, first_pair, first_meeting, first_named, first_again}
-use Rattle.slice_table.specs.First.{IsLeastPair, IsFirst, StandsAgain}
+use Rattle.slice_table.specs.First.{IsLeastPair, IsFirstWhere, StandsAgain}
 use Rattle.plant.proofs.Holders.{same_some, true_false, first_least}
 use Rattle.slice_table.proofs.Values.{none_passes}
 use Rattle.slice_table.proofs.PlantReading.{told_modems, none_step}
@@ -17,12 +17,12 @@ use Rattle.slice_table.proofs.SaidPlant.{is_new}
 
 -- ---- the first that passes
 
-pub find_first : {A : Type 0} (test : A → Bool) (xs : List A) (a : A) → find test xs ≡ Some a → IsFirst test xs a
+pub find_first : {A : Type 0} (test : A → Bool) (xs : List A) (a : A) → find test xs ≡ Some a → IsFirstWhere test xs a
 find_first test [] a h = cc
 find_first test (x ∷ xs) a h = elim (cases_Bool (test x)) [
   | inl passes ↦
       let is : x ≡ a = same_some x a (rw passes at h) in
-      subst (IsFirst test (x ∷ xs)) is (record { place = 0; here = refl; passes = passes; least = λ i c e p. omega arith })
+      subst (IsFirstWhere test (x ∷ xs)) is (record { place = 0; here = refl; passes = passes; least = λ i c e p. omega arith })
   | inr other ↦
       let rest = find_first test xs a (rw other at h) in
       record { place = suc rest.place; here = rest.here; passes = rest.passes; least = first_least test x xs other rest.place rest.least }
@@ -35,7 +35,7 @@ nowhere test (x ∷ xs) (suc i) c h e p = nowhere test xs i c (none_step test x 
 
 -- ---- the first pair
 
-here_least : {A : Type 0} (test : A → A → Bool) (x : A) (xs : List A) (y : A) (s : IsFirst (test x) xs y)
+here_least : {A : Type 0} (test : A → A → Bool) (x : A) (xs : List A) (y : A) (s : IsFirstWhere (test x) xs y)
     → (i j : ℕ) (c d : A) → i < j → slice_get (x ∷ xs) i ≡ Some c → slice_get (x ∷ xs) j ≡ Some d → test c d ≡ true → (0 < i) ⊎ ((0 ≡ i) × (suc s.place ≤ j))
 here_least test x xs y s (suc i) j c d lt e f p = inl (omega arith)
 here_least test x xs y s zero zero c d lt e f p = absurd (omega (arith, lt))
@@ -54,7 +54,7 @@ behind_least test x xs a b none s (suc i) (suc j) c d lt e f p = elim (s.least i
 ]
 
 -- the first element with the first behind it, where there is one
-pair_here : {A : Type 0} (test : A → A → Bool) (x : A) (xs : List A) (y : A) → IsFirst (test x) xs y → IsLeastPair test (x ∷ xs) x y
+pair_here : {A : Type 0} (test : A → A → Bool) (x : A) (xs : List A) (y : A) → IsFirstWhere (test x) xs y → IsLeastPair test (x ∷ xs) x y
 pair_here test x xs y s = record {
   first = 0;
   second = suc s.place;
@@ -130,7 +130,7 @@ meeting_least apart rows a b h =
     (pair.0.0, pair.0.1, first_pair_least (meets apart) rows pair.0.0 pair.0.1 pair.1, ap (λ (n : List ℕ × List ℕ). n.0) pair.2, ap (λ (n : List ℕ × List ℕ). n.1) pair.2)
 
 pub named_first : (test : RowFields → Bool) (rows : List RowFields) (name : List ℕ) → first_named test rows ≡ Some name
-    → (row : RowFields) × IsFirst test rows row × (row.name ≡ name)
+    → (row : RowFields) × IsFirstWhere test rows row × (row.name ≡ name)
 named_first test rows name h =
     let found = map_some (λ row. row.name) (find test rows) name h in
     (found.0, find_first test rows found.0 found.1, found.2)

@@ -3,7 +3,7 @@ use Rattle.std.proofs.Common.{◌≡◌, ◌+◌, Bool, true, false, List, [], �
 use Rattle.toml.specs.Data.{Data, Items, no_items, item}
 use Rattle.lists.specs.Results.{◌>>=◌}
 use Rattle.slice_table.specs.declared.plant_key.Key.{Key}
-use Rattle.slice_table.specs.Tree.{Read, each, items_len, required, expected, checked}
+use Rattle.slice_table.specs.Tree.{Read, each, items_len, required_value, expected_value, checked_value}
 
 pub ok_same : {A : Type 0} (x y : A) → ◌≡◌ {A = Read A} (Ok x) (Ok y) → x ≡ y
 ok_same x y h = cc
@@ -13,15 +13,15 @@ pub bind_ok : {A B : Type 0} (r : Read A) (f : A → Read B) (y : B) → (r >>= 
 bind_ok (Ok x) f y h = (x, refl, h)
 bind_ok (Err e) f y h = cc
 
-pub required_ok : {A : Type 0} (key : Key) (o : Option A) (x : A) → required key o ≡ Ok x → o ≡ Some x
+pub required_ok : {A : Type 0} (key : Key) (o : Option A) (x : A) → required_value key o ≡ Ok x → o ≡ Some x
 required_ok key None x h = cc
 required_ok key (Some y) x h = cc
 
-pub expected_ok : {A : Type 0} (key : Key) (o : Option A) (x : A) → expected key o ≡ Ok x → o ≡ Some x
+pub expected_ok : {A : Type 0} (key : Key) (o : Option A) (x : A) → expected_value key o ≡ Ok x → o ≡ Some x
 expected_ok key None x h = cc
 expected_ok key (Some y) x h = cc
 
-pub checked_ok : {A : Type 0} (key : Key) (b : Bool) (x y : A) → checked key b x ≡ Ok y → (b ≡ true) × (x ≡ y)
+pub checked_ok : {A : Type 0} (key : Key) (b : Bool) (x y : A) → checked_value key b x ≡ Ok y → (b ≡ true) × (x ≡ y)
 checked_ok key true x y h = (refl, cc)
 checked_ok key false x y h = cc
 

@@ -14,7 +14,7 @@ use Rattle.slice_table.specs.declared.plant_fault.PlantFault.{PlantFault}
 use Rattle.slice_table.specs.declared.plant_fault.PlantFault.TheVariants.{NoMemory, ModemTwice}
 use Rattle.plant.proofs.Addresses.{same_is_equal, or_false, listed_append, some_holder}
 use Rattle.slice_table.specs.Tree.{Read, Fails}
-use Rattle.slice_table.specs.Checks.{first_again, repeated, unless}
+use Rattle.slice_table.specs.Checks.{first_again, modem_twice_fault, unless}
 
 pub copied_none : (o : Option (Bor ℕ)) → is_some o ≡ false → option_copied o ≡ None
 copied_none None h = refl
@@ -104,7 +104,7 @@ lists_found rows places found m = ap (is_some {T = ℕ}) (found m) ∙ some_hold
 
 -- ---- the fault
 
-pub none_again : (o : Option Modem) → unless (repeated o) (tt {0}) ≡ Ok (tt {0}) → o ≡ None
+pub none_again : (o : Option Modem) → unless (modem_twice_fault o) (tt {0}) ≡ Ok (tt {0}) → o ≡ None
 none_again None h = refl
 none_again (Some m) h = cc
 
@@ -116,7 +116,7 @@ fault_same : {A B : Type 0} (fault other : PlantFault) (y : B) (x : A) → Fails
 fault_same NoMemory other y x h = tt
 fault_same fault other y x h = cc
 
-pub fault_kept : {A : Type 0} (fault : PlantFault) (o rest whole : Option Modem) (x : A) → Fails {B = Unit {0}} fault (unless (repeated o) (tt {0})) → whole ≡ option_or o rest
-    → Fails fault (unless (repeated whole) x)
-fault_kept fault None rest whole x h e = no_fault fault (tt {0}) (unless (repeated whole) x) h
+pub fault_kept : {A : Type 0} (fault : PlantFault) (o rest whole : Option Modem) (x : A) → Fails {B = Unit {0}} fault (unless (modem_twice_fault o) (tt {0})) → whole ≡ option_or o rest
+    → Fails fault (unless (modem_twice_fault whole) x)
+fault_kept fault None rest whole x h e = no_fault fault (tt {0}) (unless (modem_twice_fault whole) x) h
 fault_kept fault (Some m) rest whole x h e = rw e (fault_same fault (ModemTwice m) (tt {0}) x h)

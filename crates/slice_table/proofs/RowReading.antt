@@ -19,7 +19,7 @@ use Rattle.slice_table.specs.declared.plant_key.Place.TheVariants as place
 use Rattle.plant.specs.Provisioned.{sets_of_encoding}
 use Rattle.plant.specs.Row.{is_listed, IsFrom, IsRow, IsProvision}
 use Rattle.slice_table.specs.Ranges.{range_of}
-use Rattle.slice_table.specs.Tree.{items_len, required, expected, checked, at_field, modem_at, number_in, pair_at, text_at, bytes_at, array_at, table_of}
+use Rattle.slice_table.specs.Tree.{items_len, required_value, expected_value, checked_value, at_field, modem_at, number_in, pair_at, text_at, bytes_at, array_at, table_of}
 use Rattle.slice_table.specs.ReadRows.{is_operator_name, is_called, name_at, is_within, slice_at, range_at, modem_read, modems_at, own_modem_at, has_sets, provision_at, provision_read, provisions_in, provisions_if, row_at, row_read, rows_of}
 use Rattle.slice_table.proofs.Parsed.{bind_ok, checked_ok, each_keeps, each_len}
 use Rattle.slice_table.proofs.SaidKeys.{number_in_is, said_in_range, range_is}
@@ -66,7 +66,7 @@ pub modems_read : (place : Place) (ms : Members) (modems : List Modem) → modem
 unfolding modems_at
 modems_read place ms modems h =
     let ds = bind_ok (array_at place field.Modems ms) _ modems h in
-    let few = bind_ok (checked (Entry place field.Modems) (nat_le 1 (items_len ds.0) && nat_le (items_len ds.0) 1024) ds.0) _ modems ds.2 in
+    let few = bind_ok (checked_value (Entry place field.Modems) (nat_le 1 (items_len ds.0) && nat_le (items_len ds.0) 1024) ds.0) _ modems ds.2 in
     let test = checked_ok (Entry place field.Modems) (nat_le 1 (items_len ds.0) && nat_le (items_len ds.0) 1024) ds.0 few.0 few.1 in
     let parts = and_parts (nat_le 1 (items_len ds.0)) (nat_le (items_len ds.0) 1024) test.0 in
     let count : items_len ds.0 ≡ length modems = ap items_len test.1 ∙ (let e = each_len (modem_read place) [] few.0 modems few.2 in omega (arith, e)) in
@@ -110,7 +110,7 @@ provisions_there : (consts : ConstsFields) (operator : ℕ) (modems : List Modem
     → provisions_in consts operator modems d ≡ Ok ps → All (IsOwn consts modems) ps
 unfolding provisions_in
 provisions_there consts operator modems d ps h =
-    let ds = bind_ok (expected (Entry (place.Operator operator) field.Flow) (as_array d)) _ ps h in
+    let ds = bind_ok (expected_value (Entry (place.Operator operator) field.Flow) (as_array d)) _ ps h in
     each_keeps (All (IsOwn consts modems)) (provision_read consts operator modems) (own_read consts operator modems) [] ds.0 ps
     (λ k e lt. absurd (omega (arith, lt))) ds.2
 
@@ -188,9 +188,9 @@ pub record AreRows (consts : ConstsFields) (rows : List RowFields) : Type 0 wher
 pub rows_read : (consts : ConstsFields) (ms : Members) (rows : List RowFields) → rows_of consts ms ≡ Ok rows → AreRows consts rows
 unfolding rows_of
 rows_read consts ms rows h =
-    let d = bind_ok (required Operators (get_member (codes "operator") ms)) _ rows h in
-    let ds = bind_ok (expected Operators (as_array d.0)) _ rows d.2 in
-    let few = bind_ok (checked Operators (nat_le 1 (items_len ds.0) && nat_le (items_len ds.0) 32) ds.0) _ rows ds.2 in
+    let d = bind_ok (required_value Operators (get_member (codes "operator") ms)) _ rows h in
+    let ds = bind_ok (expected_value Operators (as_array d.0)) _ rows d.2 in
+    let few = bind_ok (checked_value Operators (nat_le 1 (items_len ds.0) && nat_le (items_len ds.0) 32) ds.0) _ rows ds.2 in
     let test = checked_ok Operators (nat_le 1 (items_len ds.0) && nat_le (items_len ds.0) 32) ds.0 few.0 few.1 in
     let parts = and_parts (nat_le 1 (items_len ds.0)) (nat_le (items_len ds.0) 32) test.0 in
     let count : items_len ds.0 ≡ length rows = ap items_len test.1 ∙ (let e = each_len (row_read consts) [] few.0 rows few.2 in omega (arith, e)) in

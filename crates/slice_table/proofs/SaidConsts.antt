@@ -19,8 +19,8 @@ use Rattle.slice_table.specs.declared.plant_key.Key.TheVariants.{Classes, Entry}
 use Rattle.slice_table.specs.declared.plant_key.Field.TheVariants as field
 use Rattle.slice_table.specs.declared.plant_key.Place.{Place}
 use Rattle.slice_table.specs.declared.plant_key.Place.TheVariants as place
-use Rattle.plant.specs.Classes.{is_named, StatesParameters}
-use Rattle.slice_table.specs.Tree.{items_len, required, expected, checked, number_at, number_in, text_at, bytes_at, table_of}
+use Rattle.plant.specs.Classes.{is_class_named, StatesParameters}
+use Rattle.slice_table.specs.Tree.{items_len, required_value, expected_value, checked_value, number_at, number_in, text_at, bytes_at, table_of}
 use Rattle.slice_table.specs.ReadConsts.{units_at, backoffs_at, timers_at, plant_keys_at, plant_keys_of, is_class_name, class_name_at, states_parameters, parameters_in, class_encoding_at, class_read, classes_in, classes_if, with_classes, consts_of}
 use Rattle.slice_table.specs.Says.{SayInTurn, SaysUnits, SaysBackoffs, SaysTimers, SaysKeys, SaysClassName, SaysParameters, SaysClass, SaysClasses, SaysConsts}
 use Rattle.slice_table.proofs.Parsed.{ok_same, bind_ok, required_ok, expected_ok, checked_ok}
@@ -136,7 +136,7 @@ keys_of_said : (document : Members) (keys : PlantKeys) (classes : List Class) �
     → (ms : Members) × (get_member (codes "plant") document ≡ Some (table ms)) × SaysKeys ms (with_classes keys classes)
 unfolding plant_keys_of
 keys_of_said document keys classes h =
-    let d = bind_ok (required (Entry place.Plant field.FrameMinislots) (get_member (codes "plant") document)) _ keys h in
+    let d = bind_ok (required_value (Entry place.Plant field.FrameMinislots) (get_member (codes "plant") document)) _ keys h in
     let ms = bind_ok (table_of place.Plant d.0) _ keys d.2 in (
       ms.0,
       under (get_member (codes "plant") document) d.0 (table ms.0) (required_ok (Entry place.Plant field.FrameMinislots) (get_member (codes "plant") document) d.0 d.1) (table_said place.Plant d.0 ms.0 ms.1),
@@ -147,7 +147,7 @@ keys_of_again : (document ms : Members) (consts : ConstsFields) (keys : PlantKey
     → plant_keys_at ms ≡ Ok keys → plant_keys_of document ≡ Ok keys
 unfolding plant_keys_of
 keys_of_again document ms consts keys held h =
-    bind_both (required (Entry place.Plant field.FrameMinislots) (get_member (codes "plant") document)) _ (table ms) keys
+    bind_both (required_value (Entry place.Plant field.FrameMinislots) (get_member (codes "plant") document)) _ (table ms) keys
     (required_said (Entry place.Plant field.FrameMinislots) (get_member (codes "plant") document) (table ms) held)
     (bind_both (table_of place.Plant (table ms)) _ ms keys (table_again place.Plant (table ms) ms refl) h)
 
@@ -158,8 +158,8 @@ unfolding class_name_at is_class_name
 class_name_is classes place ms name = (
   λ h.
       let text = bind_ok (text_at place field.Name ms) _ name h in
-      let test = checked_ok (Entry place field.Name) (is_class_name text.0 && not (list_any (is_named text.0) classes)) text.0 name text.2 in
-      let parts = and_parts (is_class_name text.0) (not (list_any (is_named text.0) classes)) test.0 in
+      let test = checked_ok (Entry place field.Name) (is_class_name text.0 && not (list_any (is_class_named text.0) classes)) text.0 name text.2 in
+      let parts = and_parts (is_class_name text.0) (not (list_any (is_class_named text.0) classes)) test.0 in
       let valid = and_parts (nat_le 1 (length text.0) && nat_le (length text.0) 15) (list_all is_ascii_alphanumeric text.0) parts.0 in
       let sizes = and_parts (nat_le 1 (length text.0)) (nat_le (length text.0) 15) valid.0 in
       subst (SaysClassName classes ms) test.1 (record {
@@ -167,15 +167,15 @@ class_name_is classes place ms name = (
         some = at_most 1 (length text.0) sizes.0;
         few = at_most (length text.0) 15 sizes.1;
         letters = valid.1;
-        new = λ k d lt. told_apart (get_or classes k d).name text.0 (none_passes (is_named text.0) classes k d (not-true (list_any (is_named text.0) classes) parts.1) lt);
+        new = λ k d lt. told_apart (get_or classes k d).name text.0 (none_passes (is_class_named text.0) classes k d (not-true (list_any (is_class_named text.0) classes) parts.1) lt);
       }),
   λ s.
-      let new : list_any (is_named name) classes ≡ false = list_any_none (is_named name) classes (λ k d lt. differ (get_or classes k d).name name (s.new k d lt)) in
+      let new : list_any (is_class_named name) classes ≡ false = list_any_none (is_class_named name) classes (λ k d lt. differ (get_or classes k d).name name (s.new k d lt)) in
       let valid = both_true (nat_le 1 (length name) && nat_le (length name) 15) (list_all is_ascii_alphanumeric name)
       (both_true (nat_le 1 (length name)) (nat_le (length name) 15) (le_true 1 (length name) s.some) (le_true (length name) 15 s.few)) s.letters in
       bind_both (text_at place field.Name ms) _ name name (text_again place field.Name ms name s.held)
-      (checked_said (Entry place field.Name) (is_class_name name && not (list_any (is_named name) classes)) name
-      (both_true (is_class_name name) (not (list_any (is_named name) classes)) valid (not_again (list_any (is_named name) classes) new))),
+      (checked_said (Entry place field.Name) (is_class_name name && not (list_any (is_class_named name) classes)) name
+      (both_true (is_class_name name) (not (list_any (is_class_named name) classes)) valid (not_again (list_any (is_class_named name) classes) new))),
 )
 
 pub parameters_again : (flow : FlowFields) → StatesParameters flow → states_parameters flow ≡ true
@@ -225,8 +225,8 @@ class_is classes d class = (
 classes_said : (d : Data) (classes : List Class) → classes_in d ≡ Ok classes → (ds : Items) × (d ≡ array ds) × (items_len ds ≤ 64) × SayInTurn SaysClass [] ds classes
 unfolding classes_in
 classes_said d classes h =
-    let ds = bind_ok (expected Classes (as_array d)) _ classes h in
-    let few = bind_ok (checked Classes (nat_le (items_len ds.0) 64) ds.0) _ classes ds.2 in
+    let ds = bind_ok (expected_value Classes (as_array d)) _ classes h in
+    let few = bind_ok (checked_value Classes (nat_le (items_len ds.0) 64) ds.0) _ classes ds.2 in
     let test = checked_ok Classes (nat_le (items_len ds.0) 64) ds.0 few.0 few.1 in (
       ds.0,
       array_is d ds.0 (expected_ok Classes (as_array d) ds.0 ds.1),
@@ -237,7 +237,7 @@ classes_said d classes h =
 classes_again : (ds : Items) (classes : List Class) → items_len ds ≤ 64 → SayInTurn SaysClass [] ds classes → classes_in (array ds) ≡ Ok classes
 unfolding classes_in
 classes_again ds classes few h =
-    bind_both (checked Classes (nat_le (items_len ds) 64) ds) _ ds classes (checked_said Classes (nat_le (items_len ds) 64) ds (le_true (items_len ds) 64 few))
+    bind_both (checked_value Classes (nat_le (items_len ds) 64) ds) _ ds classes (checked_said Classes (nat_le (items_len ds) 64) ds (le_true (items_len ds) 64 few))
     ((turn_is class_read SaysClass class_is [] ds classes).1 h)
 
 classes_if_said : (document : Members) (o : Option Data) (classes : List Class) → get_member (codes "class") document ≡ o → classes_if o ≡ Ok classes → SaysClasses document classes

@@ -19,7 +19,7 @@ use Rattle.slice_table.specs.declared.plant_key.Place.{Place}
 use Rattle.slice_table.specs.declared.plant_key.Key.{Key}
 use Rattle.slice_table.specs.declared.plant_key.Key.TheVariants.{Table, Entry}
 use Rattle.slice_table.specs.Ranges.{range_of, default_of}
-use Rattle.slice_table.specs.Tree.{Read, each, required, expected, checked, at_field, natural, number_of, number_if, number_at, number_in, both, pair_in, array_at, pair_at, text_at, decoded, bytes_at, modem_in, modem_of, table_of}
+use Rattle.slice_table.specs.Tree.{Read, each, required_value, expected_value, checked_value, at_field, natural, number_of, number_if, number_at, number_in, both, pair_in, array_at, pair_at, text_at, bytes_if_decoded, bytes_at, modem_in, modem_of, table_of}
 use Rattle.slice_table.specs.ReadRows.{is_within, slice_at, is_range, range_at, aged_at, policy_named, policy_at}
 use Rattle.slice_table.specs.Says.{SaysNumber, SaysNumberIn, two, SaysBytes, IsAddress, SayInTurn, SaysSlice, SaysRange, SaysPolicy}
 use Rattle.slice_table.proofs.Parsed.{ok_same, bind_ok, required_ok, expected_ok, checked_ok}
@@ -30,14 +30,14 @@ use Rattle.slice_table.proofs.Values.{at_most}
 pub bind_both : {A B : Type 0} (r : Read A) (f : A → Read B) (x : A) (y : B) → r ≡ Ok x → f x ≡ Ok y → (r >>= f) ≡ Ok y
 bind_both r f x y h k = subst (λ (q : Read _). (q >>= f) ≡ Ok y) (sym h) k
 
-pub required_said : {A : Type 0} (key : Key) (o : Option A) (x : A) → o ≡ Some x → required key o ≡ Ok x
-required_said key o x h = ap (required key) h
+pub required_said : {A : Type 0} (key : Key) (o : Option A) (x : A) → o ≡ Some x → required_value key o ≡ Ok x
+required_said key o x h = ap (required_value key) h
 
-pub expected_said : {A : Type 0} (key : Key) (o : Option A) (x : A) → o ≡ Some x → expected key o ≡ Ok x
-expected_said key o x h = ap (expected key) h
+pub expected_said : {A : Type 0} (key : Key) (o : Option A) (x : A) → o ≡ Some x → expected_value key o ≡ Ok x
+expected_said key o x h = ap (expected_value key) h
 
-pub checked_said : {A : Type 0} (key : Key) (b : Bool) (x : A) → b ≡ true → checked key b x ≡ Ok x
-checked_said key b x h = ap (λ (c : Bool). checked key c x) h
+pub checked_said : {A : Type 0} (key : Key) (b : Bool) (x : A) → b ≡ true → checked_value key b x ≡ Ok x
+checked_said key b x h = ap (λ (c : Bool). checked_value key c x) h
 
 pub both_true : (a b : Bool) → a ≡ true → b ≡ true → (a && b) ≡ true
 both_true a b h k = rw (h, k) refl
@@ -107,7 +107,7 @@ under o d e h k = h ∙ ap (λ (x : Data). Some x) k
 number_said : (key : Key) (low high : ℕ) (d : Data) (n : ℕ) → number_of key low high d ≡ Ok n → (d ≡ integer (pos n)) × (low ≤ n) × (n ≤ high)
 unfolding number_of
 number_said key low high d n h =
-    let m = bind_ok (expected key (natural d)) _ n h in
+    let m = bind_ok (expected_value key (natural d)) _ n h in
     let test = checked_ok key (nat_le low m.0 && nat_le m.0 high) m.0 n m.2 in
     let parts = and_parts (nat_le low m.0) (nat_le m.0 high) test.0 in
     subst (λ (k : ℕ). (d ≡ integer (pos k)) × (low ≤ k) × (k ≤ high)) test.1
@@ -121,10 +121,10 @@ pub number_is : (place : Place) (f : Field) (low high : ℕ) (ms : Members) (n :
 unfolding number_at
 number_is place f low high ms n = (
   λ h.
-      let d = bind_ok (required (Entry place f) (at_field f ms)) _ n h in
+      let d = bind_ok (required_value (Entry place f) (at_field f ms)) _ n h in
       let said = number_said (Entry place f) low high d.0 n d.2 in
       record { held = under (at_field f ms) d.0 (integer (pos n)) (required_ok (Entry place f) (at_field f ms) d.0 d.1) said.0; low_enough = said.1; high_enough = said.2 },
-  λ s. bind_both (required (Entry place f) (at_field f ms)) _ (integer (pos n)) n (required_said (Entry place f) (at_field f ms) (integer (pos n)) s.held)
+  λ s. bind_both (required_value (Entry place f) (at_field f ms)) _ (integer (pos n)) n (required_said (Entry place f) (at_field f ms) (integer (pos n)) s.held)
       (number_again (Entry place f) low high n s.low_enough s.high_enough),
 )
 
@@ -171,7 +171,7 @@ pair_said : (place : Place) (f : Field) (ms : Members) (a b : ℕ) → pair_at p
 unfolding pair_at array_at
 pair_said place f ms a b h =
     let ds = bind_ok (array_at place f ms) _ (a, b) h in
-    let d = bind_ok (required (Entry place f) (at_field f ms)) _ ds.0 ds.1 in
+    let d = bind_ok (required_value (Entry place f) (at_field f ms)) _ ds.0 ds.1 in
     let is = array_is d.0 ds.0 (expected_ok (Entry place f) (as_array d.0) ds.0 d.2) in
     let items = pair_is ds.0 a b (expected_ok (Entry place f) (pair_in ds.0) (a, b) ds.2) in
     under (at_field f ms) d.0 (two a b) (required_ok (Entry place f) (at_field f ms) d.0 d.1) (is ∙ ap array items)
@@ -180,7 +180,7 @@ pair_again : (place : Place) (f : Field) (ms : Members) (a b : ℕ) → at_field
 unfolding pair_at array_at
 pair_again place f ms a b h =
     bind_both (array_at place f ms) _ (item (integer (pos a)) (item (integer (pos b)) no_items)) (a, b)
-    (bind_both (required (Entry place f) (at_field f ms)) _ (two a b) (item (integer (pos a)) (item (integer (pos b)) no_items)) (required_said (Entry place f) (at_field f ms) (two a b) h) refl) refl
+    (bind_both (required_value (Entry place f) (at_field f ms)) _ (two a b) (item (integer (pos a)) (item (integer (pos b)) no_items)) (required_said (Entry place f) (at_field f ms) (two a b) h) refl) refl
 
 pub slice_is : (consts : ConstsFields) (place : Place) (ms : Members) (slice : Minislots) → (slice_at consts place ms ≡ Ok slice) ↔ SaysSlice consts ms slice
 unfolding slice_at is_within
@@ -232,14 +232,14 @@ range_is place f ms range = (
 pub text_said : (place : Place) (f : Field) (ms : Members) (s : List ℕ) → text_at place f ms ≡ Ok s → at_field f ms ≡ Some (string s)
 unfolding text_at
 text_said place f ms s h =
-    let d = bind_ok (required (Entry place f) (at_field f ms)) _ s h in
+    let d = bind_ok (required_value (Entry place f) (at_field f ms)) _ s h in
     under (at_field f ms) d.0 (string s) (required_ok (Entry place f) (at_field f ms) d.0 d.1) (string_is d.0 s (expected_ok (Entry place f) (as_str d.0) s d.2))
 
 pub text_again : (place : Place) (f : Field) (ms : Members) (s : List ℕ) → at_field f ms ≡ Some (string s) → text_at place f ms ≡ Ok s
 unfolding text_at
-text_again place f ms s h = bind_both (required (Entry place f) (at_field f ms)) _ (string s) s (required_said (Entry place f) (at_field f ms) (string s) h) refl
+text_again place f ms s h = bind_both (required_value (Entry place f) (at_field f ms)) _ (string s) s (required_said (Entry place f) (at_field f ms) (string s) h) refl
 
-decoded_is : (r : Result (List ℕ) FromHexError) (bytes : List ℕ) → decoded r ≡ Some bytes → r ≡ Ok bytes
+decoded_is : (r : Result (List ℕ) FromHexError) (bytes : List ℕ) → bytes_if_decoded r ≡ Some bytes → r ≡ Ok bytes
 decoded_is (Ok x) bytes h = let e : x ≡ bytes = cc in ap (λ (b : List ℕ). Ok b) e
 decoded_is (Err e) bytes h = cc
 
@@ -248,8 +248,8 @@ unfolding bytes_at
 bytes_is place f ms bytes = (
   λ h.
       let text = bind_ok (text_at place f ms) _ bytes h in
-      (text.0, text_said place f ms text.0 text.1, decoded_is (decode_of text.0) bytes (expected_ok (Entry place f) (decoded (decode_of text.0)) bytes text.2)),
-  λ s. bind_both (text_at place f ms) _ s.0 bytes (text_again place f ms s.0 s.1) (expected_said (Entry place f) (decoded (decode_of s.0)) bytes (ap decoded s.2)),
+      (text.0, text_said place f ms text.0 text.1, decoded_is (decode_of text.0) bytes (expected_ok (Entry place f) (bytes_if_decoded (decode_of text.0)) bytes text.2)),
+  λ s. bind_both (text_at place f ms) _ s.0 bytes (text_again place f ms s.0 s.1) (expected_said (Entry place f) (bytes_if_decoded (decode_of s.0)) bytes (ap bytes_if_decoded s.2)),
 )
 
 modem_decoded : (r : Result (List ℕ) FromHexError) (modem : Modem) → modem_in r ≡ Some modem → r ≡ Ok modem.0
@@ -260,9 +260,9 @@ pub address_is : (key : Key) (d : Data) (modem : Modem) → (modem_of key d ≡ 
 unfolding modem_of
 address_is key d modem = (
   λ h.
-      let text = bind_ok (expected key (as_str d)) _ modem h in
+      let text = bind_ok (expected_value key (as_str d)) _ modem h in
       (text.0, string_is d text.0 (expected_ok key (as_str d) text.0 text.1), modem_decoded (decode_sized text.0 6) modem (expected_ok key (modem_in (decode_sized text.0 6)) modem text.2)),
-  λ s. bind_both (expected key (as_str d)) _ s.0 modem (expected_said key (as_str d) s.0 (ap as_str s.1)) (expected_said key (modem_in (decode_sized s.0 6)) modem (ap modem_in s.2)),
+  λ s. bind_both (expected_value key (as_str d)) _ s.0 modem (expected_said key (as_str d) s.0 (ap as_str s.1)) (expected_said key (modem_in (decode_sized s.0 6)) modem (ap modem_in s.2)),
 )
 
 -- ---- the policy
@@ -340,12 +340,12 @@ turn_is read Says one done ds xs = (turn_said read Says (λ p d x. (one p d x).0
 pub array_said : (place : Place) (f : Field) (ms : Members) (ds : Items) → array_at place f ms ≡ Ok ds → at_field f ms ≡ Some (array ds)
 unfolding array_at
 array_said place f ms ds h =
-    let d = bind_ok (required (Entry place f) (at_field f ms)) _ ds h in
+    let d = bind_ok (required_value (Entry place f) (at_field f ms)) _ ds h in
     under (at_field f ms) d.0 (array ds) (required_ok (Entry place f) (at_field f ms) d.0 d.1) (array_is d.0 ds (expected_ok (Entry place f) (as_array d.0) ds d.2))
 
 pub array_again : (place : Place) (f : Field) (ms : Members) (ds : Items) → at_field f ms ≡ Some (array ds) → array_at place f ms ≡ Ok ds
 unfolding array_at
-array_again place f ms ds h = bind_both (required (Entry place f) (at_field f ms)) _ (array ds) ds (required_said (Entry place f) (at_field f ms) (array ds) h) refl
+array_again place f ms ds h = bind_both (required_value (Entry place f) (at_field f ms)) _ (array ds) ds (required_said (Entry place f) (at_field f ms) (array ds) h) refl
 
 pub table_said : (place : Place) (d : Data) (ms : Members) → table_of place d ≡ Ok ms → d ≡ table ms
 unfolding table_of

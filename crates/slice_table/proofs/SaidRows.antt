@@ -18,7 +18,7 @@ use Rattle.slice_table.specs.declared.plant_key.Key.TheVariants.{Operators, Entr
 use Rattle.plant.specs.Name.{IsOperatorName}
 use Rattle.plant.specs.Provisioned.{sets_of_encoding}
 use Rattle.plant.specs.Row.{is_listed}
-use Rattle.slice_table.specs.Tree.{items_len, required, expected, checked, at_field, number_in, text_at, bytes_at, array_at, modem_at, table_of}
+use Rattle.slice_table.specs.Tree.{items_len, required_value, expected_value, checked_value, at_field, number_in, text_at, bytes_at, array_at, modem_at, table_of}
 use Rattle.slice_table.specs.ReadRows.{is_operator_name, is_called, name_at, slice_at, range_at, policy_at, modem_read, modems_at, own_modem_at, has_sets, provision_at, provision_read, provisions_in, provisions_if, row_at, row_read, rows_of}
 use Rattle.slice_table.specs.Says.{IsAddress, SayInTurn, SaysName, SaysModems, SaysProvision, SaysProvisions, SaysRow, SaysRows}
 use Rattle.slice_table.proofs.Parsed.{ok_same, bind_ok, required_ok, expected_ok, checked_ok}
@@ -74,7 +74,7 @@ unfolding modems_at
 modems_are place ms modems = (
   λ h.
       let ds = bind_ok (array_at place field.Modems ms) _ modems h in
-      let few = bind_ok (checked (Entry place field.Modems) (nat_le 1 (items_len ds.0) && nat_le (items_len ds.0) 1024) ds.0) _ modems ds.2 in
+      let few = bind_ok (checked_value (Entry place field.Modems) (nat_le 1 (items_len ds.0) && nat_le (items_len ds.0) 1024) ds.0) _ modems ds.2 in
       let test = checked_ok (Entry place field.Modems) (nat_le 1 (items_len ds.0) && nat_le (items_len ds.0) 1024) ds.0 few.0 few.1 in
       let parts = and_parts (nat_le 1 (items_len ds.0)) (nat_le (items_len ds.0) 1024) test.0 in
       let said = (turn_is (modem_read place) (λ before. IsAddress) (λ done d x. address_is (Entry place field.Modems) d x) [] few.0 modems).0 few.2 in
@@ -87,7 +87,7 @@ modems_are place ms modems = (
   λ s.
       let count = both_true (nat_le 1 (items_len s.ds)) (nat_le (items_len s.ds) 1024) (le_true 1 (items_len s.ds) s.count.low) (le_true (items_len s.ds) 1024 s.count.high) in
       bind_both (array_at place field.Modems ms) _ s.ds modems (array_again place field.Modems ms s.ds s.held)
-      (bind_both (checked (Entry place field.Modems) (nat_le 1 (items_len s.ds) && nat_le (items_len s.ds) 1024) s.ds) _ s.ds modems
+      (bind_both (checked_value (Entry place field.Modems) (nat_le 1 (items_len s.ds) && nat_le (items_len s.ds) 1024) s.ds) _ s.ds modems
       (checked_said (Entry place field.Modems) (nat_le 1 (items_len s.ds) && nat_le (items_len s.ds) 1024) s.ds count)
       ((turn_is (modem_read place) (λ before. IsAddress) (λ done d x. address_is (Entry place field.Modems) d x) [] s.ds modems).1 s.addresses)),
 )
@@ -108,7 +108,7 @@ provision_said consts modems place ms p h =
     let test = checked_ok (Entry place field.Encoding) (has_sets consts made) made p encoding.2 in
     let found = bind_ok (modem_at place field.Modem ms) _ modem.0 modem.1 in
     let own = checked_ok (Entry place field.Modem) (is_listed found.0 modems) found.0 modem.0 found.2 in
-    let whose = bind_ok (required (Entry place field.Modem) (at_field field.Modem ms)) _ found.0 found.1 in
+    let whose = bind_ok (required_value (Entry place field.Modem) (at_field field.Modem ms)) _ found.0 found.1 in
     subst (SaysProvision consts modems (table ms)) test.1 (record {
       ms = ms;
       is = refl;
@@ -125,7 +125,7 @@ provision_again : (consts : ConstsFields) (modems : List Modem) (place : Place) 
 unfolding provision_at own_modem_at modem_at
 provision_again consts modems place p d s =
     let modem : modem_at place field.Modem s.ms ≡ Ok p.modem =
-    bind_both (required (Entry place field.Modem) (at_field field.Modem s.ms)) _ s.whose p.modem (required_said (Entry place field.Modem) (at_field field.Modem s.ms) s.whose s.held)
+    bind_both (required_value (Entry place field.Modem) (at_field field.Modem s.ms)) _ s.whose p.modem (required_said (Entry place field.Modem) (at_field field.Modem s.ms) s.whose s.held)
     ((address_is (Entry place field.Modem) s.whose p.modem).1 s.modem) in
     let own : own_modem_at modems place s.ms ≡ Ok p.modem =
     bind_both (modem_at place field.Modem s.ms) _ p.modem p.modem modem (checked_said (Entry place field.Modem) (is_listed p.modem modems) p.modem s.mine) in
@@ -149,7 +149,7 @@ provisions_said : (consts : ConstsFields) (operator : ℕ) (modems : List Modem)
     → (ds : Items) × (d ≡ array ds) × SayInTurn (λ before. SaysProvision consts modems) [] ds ps
 unfolding provisions_in
 provisions_said consts operator modems d ps h =
-    let ds = bind_ok (expected (Entry (place.Operator operator) field.Flow) (as_array d)) _ ps h in (
+    let ds = bind_ok (expected_value (Entry (place.Operator operator) field.Flow) (as_array d)) _ ps h in (
       ds.0,
       array_is d ds.0 (expected_ok (Entry (place.Operator operator) field.Flow) (as_array d) ds.0 ds.1),
       (turn_is (provision_read consts operator modems) (λ before. SaysProvision consts modems) (λ done e x. provision_is consts operator modems done e x) [] ds.0 ps).0 ds.2,
@@ -236,9 +236,9 @@ pub rows_are : (consts : ConstsFields) (document : Members) (rows : List RowFiel
 unfolding rows_of
 rows_are consts document rows = (
   λ h.
-      let d = bind_ok (required Operators (get_member (codes "operator") document)) _ rows h in
-      let ds = bind_ok (expected Operators (as_array d.0)) _ rows d.2 in
-      let few = bind_ok (checked Operators (nat_le 1 (items_len ds.0) && nat_le (items_len ds.0) 32) ds.0) _ rows ds.2 in
+      let d = bind_ok (required_value Operators (get_member (codes "operator") document)) _ rows h in
+      let ds = bind_ok (expected_value Operators (as_array d.0)) _ rows d.2 in
+      let few = bind_ok (checked_value Operators (nat_le 1 (items_len ds.0) && nat_le (items_len ds.0) 32) ds.0) _ rows ds.2 in
       let test = checked_ok Operators (nat_le 1 (items_len ds.0) && nat_le (items_len ds.0) 32) ds.0 few.0 few.1 in
       let parts = and_parts (nat_le 1 (items_len ds.0)) (nat_le (items_len ds.0) 32) test.0 in
       let said = (turn_is (row_read consts) (SaysRow consts) (row_is consts) [] few.0 rows).0 few.2 in
@@ -251,8 +251,8 @@ rows_are consts document rows = (
       },
   λ s.
       let count = both_true (nat_le 1 (items_len s.ds)) (nat_le (items_len s.ds) 32) (le_true 1 (items_len s.ds) s.count.low) (le_true (items_len s.ds) 32 s.count.high) in
-      bind_both (required Operators (get_member (codes "operator") document)) _ (array s.ds) rows (required_said Operators (get_member (codes "operator") document) (array s.ds) s.held)
-      (bind_both (checked Operators (nat_le 1 (items_len s.ds) && nat_le (items_len s.ds) 32) s.ds) _ s.ds rows
+      bind_both (required_value Operators (get_member (codes "operator") document)) _ (array s.ds) rows (required_said Operators (get_member (codes "operator") document) (array s.ds) s.held)
+      (bind_both (checked_value Operators (nat_le 1 (items_len s.ds) && nat_le (items_len s.ds) 32) s.ds) _ s.ds rows
       (checked_said Operators (nat_le 1 (items_len s.ds) && nat_le (items_len s.ds) 32) s.ds count)
       ((turn_is (row_read consts) (SaysRow consts) (row_is consts) [] s.ds rows).1 s.each)),
 )

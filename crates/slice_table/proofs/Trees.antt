@@ -3,7 +3,7 @@ use Rattle.std.proofs.Common.{◌≡◌, ℕ, ◌≤◌, ◌==◌, ◌&&◌, nat
 use Rattle.toml.specs.View.{items_view}
 use Rattle.toml.specs.declared.value.Value.{Value}
 use Rattle.slice_table.specs.declared.plant_key.Key.{Key}
-use Rattle.slice_table.specs.Tree.{items_len, checked}
+use Rattle.slice_table.specs.Tree.{items_len, checked_value}
 
 pub items_len_view : (values : List Value) → items_len (items_view values) ≡ length values
 items_len_view [] = refl
@@ -11,7 +11,7 @@ items_len_view (v ∷ values) = ap suc (items_len_view values)
 
 -- an array of few values, but not of none
 pub few_values : (key : Key) (values : List Value) (most : ℕ) → false ≡ (length values == 0) → length values ≤ most
-    → checked key (nat_le 1 (items_len (items_view values)) && nat_le (items_len (items_view values)) most) (items_view values) ≡ Ok (items_view values)
+    → checked_value key (nat_le 1 (items_len (items_view values)) && nat_le (items_len (items_view values)) most) (items_view values) ≡ Ok (items_view values)
 few_values key [] most some few = cc
 few_values key (v ∷ values) most some few =
     let fits : nat_le (items_len (items_view (v ∷ values))) most ≡ true = rw items_len_view (le-leb _ _ few) in

@@ -81,11 +81,11 @@ meeting_fault rows =
     (option_or (option_map (λ names. SidsMeet names.0 names.1) (first_meeting Sids rows))
     (option_map (λ names. SfidsMeet names.0 names.1) (first_meeting Sfids rows)))
 
-abbrev pub repeated : Option Modem → Option PlantFault
-repeated again = option_map ModemTwice again
+abbrev pub modem_twice_fault : Option Modem → Option PlantFault
+modem_twice_fault again = option_map ModemTwice again
 
 unfoldable pub twice_fault : List RowFields → Option PlantFault
-twice_fault rows = repeated (first_again [] (all_modems rows))
+twice_fault rows = modem_twice_fault (first_again [] (all_modems rows))
 
 unfoldable pub elements_fault : List RowFields → Option PlantFault
 elements_fault rows = if nat_le (most_elements rows) 240 then None else Some (TooManyElements (most_elements rows))

@@ -14,7 +14,7 @@ pub record IsLeastPair {A : Type 0} (test : A → A → Bool) (xs : List A) (a b
   pub least : (i j : ℕ) (c d : A) → i < j → slice_get xs i ≡ Some c → slice_get xs j ≡ Some d → test c d ≡ true → (first < i) ⊎ ((first ≡ i) × (second ≤ j))
 
 -- a is at the least place at which the test holds
-pub record IsFirst {A : Type 0} (test : A → Bool) (xs : List A) (a : A) : Type 0 where
+pub record IsFirstWhere {A : Type 0} (test : A → Bool) (xs : List A) (a : A) : Type 0 where
   pub place : ℕ
   pub here : slice_get xs place ≡ Some a
   pub passes : test a ≡ true

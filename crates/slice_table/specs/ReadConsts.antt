@@ -19,9 +19,9 @@ use Rattle.slice_table.specs.declared.plant_key.Key.TheVariants.{Classes, Entry}
 use Rattle.slice_table.specs.declared.plant_key.Place.{Place}
 use Rattle.slice_table.specs.declared.plant_key.Place.TheVariants as place
 use Rattle.slice_table.specs.declared.plant_key.Field.TheVariants as field
-use Rattle.plant.specs.Classes.{is_named}
+use Rattle.plant.specs.Classes.{is_class_named}
 use Rattle.plant.specs.Consts.{IsChannel}
-use Rattle.slice_table.specs.Tree.{Read, each, items_len, required, expected, checked, number_at, number_in, text_at, bytes_at, table_of}
+use Rattle.slice_table.specs.Tree.{Read, each, items_len, required_value, expected_value, checked_value, number_at, number_in, text_at, bytes_at, table_of}
 
 -- ---- the table `plant`
 
@@ -67,7 +67,7 @@ plant_keys_at ms = do
 -- where there is no table `plant`, its first key is missing
 unfoldable pub plant_keys_of : Members → Read PlantKeys
 plant_keys_of ms = do
-  d ← required (Entry place.Plant field.FrameMinislots) (get_member (codes "plant") ms)
+  d ← required_value (Entry place.Plant field.FrameMinislots) (get_member (codes "plant") ms)
   table ← table_of place.Plant d
   plant_keys_at table
 
@@ -81,7 +81,7 @@ is_class_name text = (nat_le 1 (length text) && nat_le (length text) 15) && list
 unfoldable pub class_name_at : List Class → Place → Members → Read (List ℕ)
 class_name_at classes place ms = do
   text ← text_at place field.Name ms
-  checked (Entry place field.Name) (is_class_name text && not (list_any (is_named text) classes)) text
+  checked_value (Entry place field.Name) (is_class_name text && not (list_any (is_class_named text) classes)) text
 
 -- whether it states none of the subtypes 1 to 6
 unfoldable pub states_parameters : FlowFields → Bool
@@ -90,7 +90,7 @@ states_parameters flow = ((is_none flow.reference && is_none flow.sfid) && (is_n
 
 -- the encoding of a class
 abbrev pub parameters_in : Key → Result FlowFields FlowFault → Read FlowFields
-parameters_in key (Ok flow) = checked key (states_parameters flow) flow
+parameters_in key (Ok flow) = checked_value key (states_parameters flow) flow
 parameters_in key (Err fault) = Err (BadValue key)
 
 unfoldable pub class_encoding_at : Place → Members → Read FlowFields
@@ -109,8 +109,8 @@ class_read classes d = do
 -- at most 64
 unfoldable pub classes_in : Data → Read (List Class)
 classes_in d = do
-  ds ← expected Classes (as_array d)
-  few ← checked Classes (nat_le (items_len ds) 64) ds
+  ds ← expected_value Classes (as_array d)
+  few ← checked_value Classes (nat_le (items_len ds) 64) ds
   each class_read [] few
 
 -- none where there is no such array

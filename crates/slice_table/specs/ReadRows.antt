@@ -23,7 +23,7 @@ use Rattle.slice_table.specs.declared.ranges.Bounds.{Bounds}
 use Rattle.plant.specs.Provisioned.{sets_of_encoding}
 use Rattle.plant.specs.Row.{is_listed}
 use Rattle.slice_table.specs.Ranges.{range_of}
-use Rattle.slice_table.specs.Tree.{Read, each, items_len, required, expected, checked, at_field, number_in, pair_at, text_at, bytes_at, array_at, modem_of, modem_at, table_of}
+use Rattle.slice_table.specs.Tree.{Read, each, items_len, required_value, expected_value, checked_value, at_field, number_in, pair_at, text_at, bytes_at, array_at, modem_of, modem_at, table_of}
 
 -- ---- an operator's own keys
 
@@ -39,7 +39,7 @@ is_called name row = bytes_eq row.name name
 unfoldable pub name_at : List RowFields → Place → Members → Read (List ℕ)
 name_at rows place ms = do
   text ← text_at place field.Name ms
-  checked (Entry place field.Name) (is_operator_name text && not (list_any (is_called text) rows)) text
+  checked_value (Entry place field.Name) (is_operator_name text && not (list_any (is_called text) rows)) text
 
 -- minislots after the head and within the frame
 unfoldable pub is_within : ConstsFields → ℕ → ℕ → Bool
@@ -48,7 +48,7 @@ is_within consts start length = (nat_le consts.channel.head start && nat_le 1 le
 unfoldable pub slice_at : ConstsFields → Place → Members → Read Minislots
 slice_at consts place ms = do
   pair ← pair_at place field.Slice ms
-  checked (Entry place field.Slice) (is_within consts pair.0 pair.1) (record { start = pair.0; length = pair.1 })
+  checked_value (Entry place field.Slice) (is_within consts pair.0 pair.1) (record { start = pair.0; length = pair.1 })
 
 -- the first and the last number, within the key's range
 unfoldable pub is_range : Bounds → ℕ → ℕ → Bool
@@ -57,7 +57,7 @@ is_range range first last = (nat_le range.low first && nat_le first last) && nat
 unfoldable pub range_at : Place → Field → Members → Read Numbers
 range_at place field ms = do
   pair ← pair_at place field ms
-  checked (Entry place field) (is_range (range_of field) pair.0 pair.1) (record { first = pair.0; last = pair.1 })
+  checked_value (Entry place field) (is_range (range_of field) pair.0 pair.1) (record { first = pair.0; last = pair.1 })
 
 -- the policy "aged" has a step
 unfoldable pub aged_at : Place → Members → Read Policy
@@ -84,7 +84,7 @@ modem_read place done d = modem_of (Entry place field.Modems) d
 unfoldable pub modems_at : Place → Members → Read (List Modem)
 modems_at place ms = do
   ds ← array_at place field.Modems ms
-  few ← checked (Entry place field.Modems) (nat_le 1 (items_len ds) && nat_le (items_len ds) 1024) ds
+  few ← checked_value (Entry place field.Modems) (nat_le 1 (items_len ds) && nat_le (items_len ds) 1024) ds
   each (modem_read place) [] few
 
 -- ---- its provisioned flows
@@ -93,7 +93,7 @@ modems_at place ms = do
 unfoldable pub own_modem_at : List Modem → Place → Members → Read Modem
 own_modem_at modems place ms = do
   modem ← modem_at place field.Modem ms
-  checked (Entry place field.Modem) (is_listed modem modems) modem
+  checked_value (Entry place field.Modem) (is_listed modem modems) modem
 
 -- whether a flow is given sets by its encoding
 unfoldable pub has_sets : ConstsFields → Provision → Bool
@@ -103,7 +103,7 @@ unfoldable pub provision_at : ConstsFields → List Modem → Place → Members 
 provision_at consts modems place ms = do
   modem ← own_modem_at modems place ms
   encoding ← bytes_at place field.Encoding ms
-  checked (Entry place field.Encoding) (has_sets consts (record { modem = modem; encoding = encoding })) (record { modem = modem; encoding = encoding })
+  checked_value (Entry place field.Encoding) (has_sets consts (record { modem = modem; encoding = encoding })) (record { modem = modem; encoding = encoding })
 
 -- a provisioned flow after those before it
 unfoldable pub provision_read : ConstsFields → ℕ → List Modem → List Provision → Data → Read Provision
@@ -113,7 +113,7 @@ provision_read consts operator modems done d = do
 
 unfoldable pub provisions_in : ConstsFields → ℕ → List Modem → Data → Read (List Provision)
 provisions_in consts operator modems d = do
-  ds ← expected (Entry (place.Operator operator) field.Flow) (as_array d)
+  ds ← expected_value (Entry (place.Operator operator) field.Flow) (as_array d)
   each (provision_read consts operator modems) [] ds
 
 -- none where there is no such array
@@ -161,7 +161,7 @@ row_read consts rows d = do
 -- 1 to 32
 unfoldable pub rows_of : ConstsFields → Members → Read (List RowFields)
 rows_of consts ms = do
-  d ← required Operators (get_member (codes "operator") ms)
-  ds ← expected Operators (as_array d)
-  few ← checked Operators (nat_le 1 (items_len ds) && nat_le (items_len ds) 32) ds
+  d ← required_value Operators (get_member (codes "operator") ms)
+  ds ← expected_value Operators (as_array d)
+  few ← checked_value Operators (nat_le 1 (items_len ds) && nat_le (items_len ds) 32) ds
   each (row_read consts) [] few

@@ -41,18 +41,18 @@ items_len (item d ds) = suc (items_len ds)
 -- ---- faults
 
 -- the key is missing where there is none
-abbrev pub required : {A : Type 0} → Key → Option A → Read A
-required key None = Err (Missing key)
-required key (Some x) = Ok x
+abbrev pub required_value : {A : Type 0} → Key → Option A → Read A
+required_value key None = Err (Missing key)
+required_value key (Some x) = Ok x
 
 -- what is under the key is not what is wanted where there is none
-abbrev pub expected : {A : Type 0} → Key → Option A → Read A
-expected key None = Err (BadValue key)
-expected key (Some x) = Ok x
+abbrev pub expected_value : {A : Type 0} → Key → Option A → Read A
+expected_value key None = Err (BadValue key)
+expected_value key (Some x) = Ok x
 
 -- the same where a test fails
-abbrev pub checked : {A : Type 0} → Key → Bool → A → Read A
-checked key passes x = if passes then Ok x else Err (BadValue key)
+abbrev pub checked_value : {A : Type 0} → Key → Bool → A → Read A
+checked_value key passes x = if passes then Ok x else Err (BadValue key)
 
 -- ---- values
 
@@ -66,17 +66,17 @@ natural d = None
 -- a number from low to high
 unfoldable pub number_of : Key → ℕ → ℕ → Data → Read ℕ
 number_of key low high d = do
-  n ← expected key (natural d)
-  checked key (nat_le low n && nat_le n high) n
+  n ← expected_value key (natural d)
+  checked_value key (nat_le low n && nat_le n high) n
 
 unfoldable pub number_at : Place → Field → ℕ → ℕ → Members → Read ℕ
 number_at place field low high ms = do
-  d ← required (Entry place field) (at_field field ms)
+  d ← required_value (Entry place field) (at_field field ms)
   number_of (Entry place field) low high d
 
 -- a number of a range; the default where the key is not there, and is missing where it has none
 abbrev pub number_if : Key → Bounds → Option ℕ → Option Data → Read ℕ
-number_if key range default None = required key default
+number_if key range default None = required_value key default
 number_if key range default (Some d) = number_of key range.low range.high d
 
 -- a number as the table of ranges says of its key
@@ -96,29 +96,29 @@ pair_in ds = None
 -- the items of an array
 unfoldable pub array_at : Place → Field → Members → Read Items
 array_at place field ms = do
-  d ← required (Entry place field) (at_field field ms)
-  expected (Entry place field) (as_array d)
+  d ← required_value (Entry place field) (at_field field ms)
+  expected_value (Entry place field) (as_array d)
 
 unfoldable pub pair_at : Place → Field → Members → Read (ℕ × ℕ)
 pair_at place field ms = do
   ds ← array_at place field ms
-  expected (Entry place field) (pair_in ds)
+  expected_value (Entry place field) (pair_in ds)
 
 -- a text
 unfoldable pub text_at : Place → Field → Members → Read (List ℕ)
 text_at place field ms = do
-  d ← required (Entry place field) (at_field field ms)
-  expected (Entry place field) (as_str d)
+  d ← required_value (Entry place field) (at_field field ms)
+  expected_value (Entry place field) (as_str d)
 
 -- bytes in hexadecimal
-abbrev pub decoded : Result (List ℕ) FromHexError → Option (List ℕ)
-decoded (Ok bytes) = Some bytes
-decoded (Err e) = None
+abbrev pub bytes_if_decoded : Result (List ℕ) FromHexError → Option (List ℕ)
+bytes_if_decoded (Ok bytes) = Some bytes
+bytes_if_decoded (Err e) = None
 
 unfoldable pub bytes_at : Place → Field → Members → Read (List ℕ)
 bytes_at place field ms = do
   text ← text_at place field ms
-  expected (Entry place field) (decoded (decode_of text))
+  expected_value (Entry place field) (bytes_if_decoded (decode_of text))
 
 -- the address of a modem: six bytes in hexadecimal
 abbrev pub modem_in : Result (List ℕ) FromHexError → Option Modem
@@ -127,14 +127,14 @@ modem_in (Err e) = None
 
 unfoldable pub modem_of : Key → Data → Read Modem
 modem_of key d = do
-  text ← expected key (as_str d)
-  expected key (modem_in (decode_sized text 6))
+  text ← expected_value key (as_str d)
+  expected_value key (modem_in (decode_sized text 6))
 
 unfoldable pub modem_at : Place → Field → Members → Read Modem
 modem_at place field ms = do
-  d ← required (Entry place field) (at_field field ms)
+  d ← required_value (Entry place field) (at_field field ms)
   modem_of (Entry place field) d
 
 -- a table
 unfoldable pub table_of : Place → Data → Read Members
-table_of place d = expected (Table place) (as_table d)
+table_of place d = expected_value (Table place) (as_table d)

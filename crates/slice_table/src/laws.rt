@@ -11,7 +11,7 @@ ghost use Rattle.slice_table.specs.ReadConsts.{consts_of};
 ghost use Rattle.slice_table.specs.ReadPlant.{plant_of};
 ghost use Rattle.slice_table.specs.Checks.{meets, first_meeting, first_named, first_again};
 ghost use Rattle.slice_table.specs.Says.{SaysConsts, SaysPlant};
-ghost use Rattle.slice_table.specs.First.{IsLeastPair, IsFirst, StandsAgain};
+ghost use Rattle.slice_table.specs.First.{IsLeastPair, IsFirstWhere, StandsAgain};
 
 /// States that what all operators share is read exactly where the table `plant` and the array
 /// `class` say it.
@@ -34,7 +34,7 @@ pub fn least_pair_is_named()
 /// States that of the operators of which something holds, the first is named.
 pub fn first_is_named()
     ensures { (test : RowFields → Bool) (rows : List RowFields) (name : List ℕ) → first_named test rows ≡ Some name
-        → (row : RowFields) × IsFirst test rows row × (row.name ≡ name) }
+        → (row : RowFields) × IsFirstWhere test rows row × (row.name ≡ name) }
 {}
 
 /// States that the address that is found twice is the first that was before.

@@ -6,7 +6,7 @@ ghost use Rattle.toml.specs.Data.{get_member};
 ghost use Rattle.toml.specs.View.{view, table_view, items_view};
 ghost use Rattle.tlv24.specs.Flow.{flow_of};
 ghost use Rattle.slice_table.specs.declared.plant_key.Key.TheVariants.{Entry};
-ghost use Rattle.plant.specs.Classes.{is_named};
+ghost use Rattle.plant.specs.Classes.{is_class_named};
 ghost use Rattle.plant.specs.Consts.{AreBackoffs};
 ghost use Rattle.slice_table.specs.Tree.{Gives, each};
 ghost use Rattle.slice_table.specs.ReadConsts.{units_at, backoffs_at, timers_at, plant_keys_at, plant_keys_of, is_class_name, class_name_at, states_parameters, parameters_in, class_encoding_at, class_read, classes_in, classes_if, with_classes, consts_of, AreKeys};
@@ -126,7 +126,7 @@ fn class_name(text: &[u8]) -> Option<ClassName>
 
 /// Returns whether one of the classes has this name.
 fn is_class(name: &ClassName, classes: &[Class]) -> bool
-    ensures { result ≡ list_any (is_named name.now) classes.now }
+    ensures { result ≡ list_any (is_class_named name.now) classes.now }
 {
     classes.iter().any(|class| class.is_named(name))
 }

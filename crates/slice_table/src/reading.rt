@@ -41,7 +41,7 @@ fn late_fault(consts: &Consts, rows: &[OperatorRow]) -> Option<PlantFault>
 
 /// Returns each operator's modems by their addresses, where none of faults 4 to 10 is there.
 #[tactic(auto, unfolding(crate::specs::Checks::rows_fault))]
-fn judged(
+fn checked_roster(
     alloc: Global,
     consts: &Consts,
     rows: &[OperatorRow],
@@ -67,7 +67,7 @@ fn plant_of(alloc: Global, document: &Table) -> Result<Plant, PlantFault>
 {
     let consts = consts_of(alloc, document)?;
     let rows = rows_of(alloc, &consts, document)?;
-    let places = judged(alloc, &consts, rows.as_slice())?;
+    let places = checked_roster(alloc, &consts, rows.as_slice())?;
     let rows = Rows::from_vec(rows);
     Ok(Plant::new(PlantFields { consts, rows }, places))
 }

@@ -5,7 +5,7 @@ ghost use Rattle.dsx_messages.specs.declared.modem.Modem.{Modem};
 ghost use Rattle.plant.specs.Plant.{all_modems};
 ghost use Rattle.plant.specs.Roster.{Finds, Lists, Adds, place_of, holder};
 ghost use Rattle.slice_table.specs.Tree.{Gives};
-ghost use Rattle.slice_table.specs.Checks.{first_again, repeated, twice_fault, unless};
+ghost use Rattle.slice_table.specs.Checks.{first_again, modem_twice_fault, twice_fault, unless};
 
 use crate::plant_fault::PlantFault;
 use dsx_messages::Modem;
@@ -20,7 +20,7 @@ fn add_modems(
     place: usize,
 ) -> Result<(), PlantFault>
     ensures fault { (before : List Modem) → Lists places.old before
-        → Gives (λ x. x) result (unless (repeated (first_again before modems.now)) (tt {0})) }
+        → Gives (λ x. x) result (unless (modem_twice_fault (first_again before modems.now)) (tt {0})) }
     ensures added { OnOk result (Adds places.old place modems.now places.new) }
 {
     for modem in modems {

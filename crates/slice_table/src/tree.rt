@@ -4,7 +4,7 @@ ghost use Rattle.std.specs.Prelude.{◌≡◌, ◌≤◌, option_map, Some, IfOk
 ghost use Rattle.toml.specs.Data.{get_member, as_array, as_table};
 ghost use Rattle.toml.specs.View.{view, table_view, items_view};
 ghost use Rattle.lists.specs.Results.{result_map};
-ghost use Rattle.slice_table.specs.Tree.{Gives, required, expected, array_at, modem_at, at_field, natural, number_of, number_at, number_in, pair_in, pair_at, text_at, bytes_at, modem_of, table_of};
+ghost use Rattle.slice_table.specs.Tree.{Gives, required_value, expected_value, array_at, modem_at, at_field, natural, number_of, number_at, number_in, pair_in, pair_at, text_at, bytes_at, modem_of, table_of};
 ghost use Rattle.slice_table.specs.Ranges.{range_of, default_of};
 ghost use Rattle.slice_table.specs.declared.plant_key.Key.TheVariants.{Entry};
 
@@ -24,8 +24,8 @@ pub(crate) fn entry<'a>(table: &'a Table, name: &str) -> Option<&'a Value>
 }
 
 /// Returns what is under a key that is required.
-fn required(table: &Table, place: Place, field: Field) -> Result<&Value, PlantFault>
-    ensures { result_map (λ v. view v.now) result ≡ required (Entry place field) (at_field field (table_view table.now)) }
+fn required_value(table: &Table, place: Place, field: Field) -> Result<&Value, PlantFault>
+    ensures { result_map (λ v. view v.now) result ≡ required_value (Entry place field) (at_field field (table_view table.now)) }
 {
     match entry(table, field.text()) {
         Some(value) => Ok(value),
@@ -69,7 +69,7 @@ pub(crate) fn number_at(
     ensures value { result ≡ number_at place field low high (table_view table.now) }
     ensures in_range { IfOk result (λ n. (low ≤ n) × (n ≤ high)) }
 {
-    let value = required(table, place, field)?;
+    let value = required_value(table, place, field)?;
     number_of(value, Key::Entry(place, field), low, high)
 }
 
@@ -103,7 +103,7 @@ fn pair_in(values: &[Value]) -> Option<(u64, u64)>
 
 /// Returns the values of an array.
 pub(crate) fn array_of(value: &Value, key: Key) -> Result<&[Value], PlantFault>
-    ensures { result_map (λ vs. items_view vs.now) result ≡ expected key (as_array (view value.now)) }
+    ensures { result_map (λ vs. items_view vs.now) result ≡ expected_value key (as_array (view value.now)) }
 {
     match value.as_array() {
         Some(values) => Ok(values.as_slice()),
@@ -116,7 +116,7 @@ pub(crate) fn array_of(value: &Value, key: Key) -> Result<&[Value], PlantFault>
 pub(crate) fn array_at(table: &Table, place: Place, field: Field) -> Result<&[Value], PlantFault>
     ensures { result_map (λ vs. items_view vs.now) result ≡ array_at place field (table_view table.now) }
 {
-    let value = required(table, place, field)?;
+    let value = required_value(table, place, field)?;
     array_of(value, Key::Entry(place, field))
 }
 
@@ -134,7 +134,7 @@ pub(crate) fn pair_at(table: &Table, place: Place, field: Field) -> Result<(u64,
 pub(crate) fn text_at(table: &Table, place: Place, field: Field) -> Result<&str, PlantFault>
     ensures { result_map (λ s. s.now) result ≡ text_at place field (table_view table.now) }
 {
-    let value = required(table, place, field)?;
+    let value = required_value(table, place, field)?;
     match value.as_str() {
         Some(text) => Ok(text),
         None => Err(place.wrong(field)),
@@ -178,7 +178,7 @@ pub(crate) fn modem_of(value: &Value, key: Key) -> Result<Modem, PlantFault>
 pub(crate) fn modem_at(table: &Table, place: Place, field: Field) -> Result<Modem, PlantFault>
     ensures { result ≡ modem_at place field (table_view table.now) }
 {
-    let value = required(table, place, field)?;
+    let value = required_value(table, place, field)?;
     modem_of(value, Key::Entry(place, field))
 }
 

@@ -10,14 +10,14 @@ use test_plants::PLANT;
 
 /// A part of a frame, as the table writes it: the whole slice of an operator, idle.
 #[derive(Clone, Copy, Debug, PartialEq, Eq)]
-enum Part {
+enum IdlePart {
     OfA,
     OfB,
 }
 
 /// The expected result of a put.
 #[derive(Clone, Copy, Debug, PartialEq, Eq)]
-enum Expected {
+enum ExpectedPut {
     /// Other parts of the frame are missing.
     Waits,
     /// The frame is complete: its MAP.
@@ -26,10 +26,10 @@ enum Expected {
 }
 
 /// Returns the slice of a part.
-fn slice_of(part: Part) -> Slice {
+fn slice_of(part: IdlePart) -> Slice {
     match part {
-        Part::OfA => Slice::new(8, 32),
-        Part::OfB => Slice::new(40, 32),
+        IdlePart::OfA => Slice::new(8, 32),
+        IdlePart::OfB => Slice::new(40, 32),
     }
 }
 
@@ -55,14 +55,14 @@ fn puts_as_expected(
     op: Op,
     frame: u32,
     elements: Elements,
-    wanted: Expected,
+    wanted: ExpectedPut,
 ) -> bool {
     match (&gather.put(alloc, op, frame, elements), wanted) {
-        (Ok(None), Expected::Waits) => true,
-        (Ok(Some(map)), Expected::Map(bytes)) => {
+        (Ok(None), ExpectedPut::Waits) => true,
+        (Ok(Some(map)), ExpectedPut::Map(bytes)) => {
             map.frame == frame && map.bytes.as_slice() == bytes
         }
-        (Err(refused), Expected::Refused(fault)) => refused.fault == fault,
+        (Err(refused), ExpectedPut::Refused(fault)) => refused.fault == fault,
         _ => false,
     }
 }
@@ -74,26 +74,41 @@ const IDLE: &[u8] = &[
 ];
 
 /// The operator, the frame and the part of a put, and its expected result.
-type Put = (Op, u32, Part, Expected);
+type Put = (Op, u32, IdlePart, ExpectedPut);
 
 /// Puts of a plant of which nothing is put yet.
 const PUTS: &[Put] = &[
-    (0, 0, Part::OfA, Expected::Waits),
-    (0, 0, Part::OfA, Expected::Refused(GatherFault::PutTwice)),
+    (0, 0, IdlePart::OfA, ExpectedPut::Waits),
     (
-        1,
-        1,
-        Part::OfB,
-        Expected::Refused(GatherFault::Early { frame: 1 }),
+        0,
+        0,
+        IdlePart::OfA,
+        ExpectedPut::Refused(GatherFault::PutTwice),
     ),
-    (2, 0, Part::OfA, Expected::Refused(GatherFault::Stranger)),
-    (1, 0, Part::OfA, Expected::Refused(GatherFault::WrongSlice)),
-    (1, 0, Part::OfB, Expected::Map(IDLE)),
+    (
+        1,
+        1,
+        IdlePart::OfB,
+        ExpectedPut::Refused(GatherFault::Early { frame: 1 }),
+    ),
+    (
+        2,
+        0,
+        IdlePart::OfA,
+        ExpectedPut::Refused(GatherFault::Stranger),
+    ),
+    (
+        1,
+        0,
+        IdlePart::OfA,
+        ExpectedPut::Refused(GatherFault::WrongSlice),
+    ),
+    (1, 0, IdlePart::OfB, ExpectedPut::Map(IDLE)),
     (
         0,
         0,
-        Part::OfA,
-        Expected::Refused(GatherFault::Old { frame: 0 }),
+        IdlePart::OfA,
+        ExpectedPut::Refused(GatherFault::Old { frame: 0 }),
     ),
 ];
 
@@ -108,23 +123,28 @@ const RESUMED: &[Put] = &[
     (
         0,
         6,
-        Part::OfB,
-        Expected::Refused(GatherFault::Old { frame: 6 }),
+        IdlePart::OfB,
+        ExpectedPut::Refused(GatherFault::Old { frame: 6 }),
     ),
     (
         0,
         8,
-        Part::OfB,
-        Expected::Refused(GatherFault::Early { frame: 8 }),
+        IdlePart::OfB,
+        ExpectedPut::Refused(GatherFault::Early { frame: 8 }),
     ),
-    (0, 7, Part::OfA, Expected::Refused(GatherFault::WrongSlice)),
-    (0, 7, Part::OfB, Expected::Waits),
-    (1, 7, Part::OfA, Expected::Map(IDLE_IN_FRAME_7)),
     (
         0,
         7,
-        Part::OfB,
-        Expected::Refused(GatherFault::Old { frame: 7 }),
+        IdlePart::OfA,
+        ExpectedPut::Refused(GatherFault::WrongSlice),
+    ),
+    (0, 7, IdlePart::OfB, ExpectedPut::Waits),
+    (1, 7, IdlePart::OfA, ExpectedPut::Map(IDLE_IN_FRAME_7)),
+    (
+        0,
+        7,
+        IdlePart::OfB,
+        ExpectedPut::Refused(GatherFault::Old { frame: 7 }),
     ),
 ];
 
@@ -147,7 +167,7 @@ fn all_as_expected_of(alloc: Global, plant: &Plant) -> Result<bool, AllocError> 
 }
 
 /// Returns the assembly of a plant that goes on at a frame with these slices, or None where they or the frame are not valid.
-fn resumed(
+fn resume_gather(
     alloc: Global,
     plant: &Plant,
     frame: u32,
@@ -162,8 +182,8 @@ fn resumed(
 
 /// Does the puts of a resumed assembly with that of a plant.
 fn all_as_expected_of_resumed(alloc: Global, plant: &Plant) -> Result<bool, AllocError> {
-    let slices = [slice_of(Part::OfB), slice_of(Part::OfA)];
-    match &mut resumed(alloc, plant, 7, &slices)? {
+    let slices = [slice_of(IdlePart::OfB), slice_of(IdlePart::OfA)];
+    match &mut resume_gather(alloc, plant, 7, &slices)? {
         Some(gather) => all_as_expected(alloc, gather, RESUMED),
         None => Ok(false),
     }

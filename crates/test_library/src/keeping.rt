@@ -8,7 +8,7 @@ use transactions::{Kept, KeptFault, Timers};
 
 /// A call on a table of transactions, and its expected result.
 #[derive(Clone, Copy, Debug, PartialEq, Eq)]
-enum Call {
+enum TableCall {
     /// Begins an addition of a modem, with its transaction ID and its SFID.
     Begin(Modem, u16, u32, Result<(), KeptFault>),
     /// Acknowledges a transaction of a modem, of some kind: the result is its SFID.
@@ -32,17 +32,17 @@ fn begins(
 }
 
 /// Makes a call, and returns whether the result is as expected.
-fn is_as_expected(alloc: Global, kept: &mut Kept, call: Call) -> Result<bool, AllocError> {
+fn is_as_expected(alloc: Global, kept: &mut Kept, call: TableCall) -> Result<bool, AllocError> {
     match call {
-        Call::Begin(modem, tid, sfid, wanted) => {
+        TableCall::Begin(modem, tid, sfid, wanted) => {
             Ok(begins(alloc, kept, modem, tid, sfid)? == wanted)
         }
-        Call::Acked(modem, tid, kind, wanted) => Ok(kept.acked(modem, tid, kind) == wanted),
+        TableCall::Acked(modem, tid, kind, wanted) => Ok(kept.acked(modem, tid, kind) == wanted),
     }
 }
 
 /// Makes calls on a table of so many transactions, and returns whether each result is as expected.
-fn are_as_expected(alloc: Global, capacity: u32, calls: &[Call]) -> Result<bool, AllocError> {
+fn are_as_expected(alloc: Global, capacity: u32, calls: &[TableCall]) -> Result<bool, AllocError> {
     let mut kept = Kept::new(alloc, capacity, Timers::new(150, 3, 1500))?;
     for call in calls {
         if !is_as_expected(alloc, &mut kept, *call)? {
@@ -53,28 +53,28 @@ fn are_as_expected(alloc: Global, capacity: u32, calls: &[Call]) -> Result<bool,
 }
 
 /// A table of one transaction. `Full` comes before `Live`.
-const FULL: &[Call] = &[
-    Call::Begin(ONE, 1, 257, Ok(())),
-    Call::Begin(ONE, 2, 258, Err(KeptFault::Full)),
-    Call::Begin(ONE, 1, 258, Err(KeptFault::Full)),
+const FULL: &[TableCall] = &[
+    TableCall::Begin(ONE, 1, 257, Ok(())),
+    TableCall::Begin(ONE, 2, 258, Err(KeptFault::Full)),
+    TableCall::Begin(ONE, 1, 258, Err(KeptFault::Full)),
 ];
 
 /// A table of two. A modem has one transaction under an ID, and another modem may use the same ID.
-const LIVE: &[Call] = &[
-    Call::Begin(ONE, 1, 257, Ok(())),
-    Call::Begin(ONE, 1, 258, Err(KeptFault::Live)),
-    Call::Begin(TWO, 1, 259, Ok(())),
+const LIVE: &[TableCall] = &[
+    TableCall::Begin(ONE, 1, 257, Ok(())),
+    TableCall::Begin(ONE, 1, 258, Err(KeptFault::Live)),
+    TableCall::Begin(TWO, 1, 259, Ok(())),
 ];
 
 /// A transaction takes one acknowledgement, of its own kind, ID and modem. Others change nothing.
-const ACKNOWLEDGED: &[Call] = &[
-    Call::Begin(ONE, 1, 257, Ok(())),
-    Call::Acked(ONE, 1, Kind::Dsc, None),
-    Call::Acked(ONE, 1, Kind::Dsd, None),
-    Call::Acked(ONE, 2, Kind::Dsa, None),
-    Call::Acked(TWO, 1, Kind::Dsa, None),
-    Call::Acked(ONE, 1, Kind::Dsa, Some(257)),
-    Call::Acked(ONE, 1, Kind::Dsa, None),
+const ACKNOWLEDGED: &[TableCall] = &[
+    TableCall::Begin(ONE, 1, 257, Ok(())),
+    TableCall::Acked(ONE, 1, Kind::Dsc, None),
+    TableCall::Acked(ONE, 1, Kind::Dsd, None),
+    TableCall::Acked(ONE, 2, Kind::Dsa, None),
+    TableCall::Acked(TWO, 1, Kind::Dsa, None),
+    TableCall::Acked(ONE, 1, Kind::Dsa, Some(257)),
+    TableCall::Acked(ONE, 1, Kind::Dsa, None),
 ];
 
 #[test]

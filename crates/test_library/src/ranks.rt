@@ -27,10 +27,10 @@ fn gives(alloc: Global, policy: Policy, input: RankInput, wanted: u8) -> Result<
 }
 
 /// A policy, if it is one; a priority, an age and a backlog; and the rank that it gives them.
-type Row = (Option<Policy>, (u8, u8, u16), u8);
+type RankRow = (Option<Policy>, (u8, u8, u16), u8);
 
 /// Returns whether the policy gives that rank.
-fn holds(alloc: Global, row: Row) -> Result<bool, AllocError> {
+fn holds(alloc: Global, row: RankRow) -> Result<bool, AllocError> {
     let (policy, (priority, age, backlog), wanted) = row;
     match policy {
         Some(policy) if priority <= 7 => {

@@ -3,7 +3,7 @@
 mod plain;
 mod serving;
 
-use crate::schedules::plain::{Order, PlainFlow, PlainFrame};
+use crate::schedules::plain::{PlainFlow, PlainFrame, PlainPolicy};
 use crate::schedules::serving::is_as_plain;
 use std::alloc::{AllocError, Global};
 use std::process::Abort;
@@ -16,7 +16,7 @@ const FRAME: PlainFrame = PlainFrame {
     short_max: 4,
     frame_us: 2000,
     bytes_per_minislot: 16,
-    order: Order::Strict,
+    order: PlainPolicy::Strict,
 };
 
 /// The same with a slice of 4,096 minislots, the longest frame.
@@ -28,13 +28,13 @@ const WIDE: PlainFrame = PlainFrame {
 
 /// The same with ranks by backlog.
 const BY_BACKLOG: PlainFrame = PlainFrame {
-    order: Order::Short,
+    order: PlainPolicy::Short,
     ..FRAME
 };
 
 /// The same with ranks by priority and age.
 const BY_AGE: PlainFrame = PlainFrame {
-    order: Order::Aged { step: 1 },
+    order: PlainPolicy::Aged { step: 1 },
     ..FRAME
 };
 

@@ -56,7 +56,7 @@ fn best_effort() -> ParamFields {
 }
 
 /// Returns what polling keeps of it.
-fn polled(scheduling: Scheduling) -> ParamFields {
+fn polled_fields(scheduling: Scheduling) -> ParamFields {
     ParamFields {
         scheduling,
         polling_interval: 17_000,
@@ -66,7 +66,7 @@ fn polled(scheduling: Scheduling) -> ParamFields {
 }
 
 /// Returns what unsolicited grants keep of it.
-fn granted() -> ParamFields {
+fn granted_fields() -> ParamFields {
     ParamFields {
         scheduling: Scheduling::UnsolicitedGrant,
         min_reserved_rate: 0,
@@ -101,9 +101,9 @@ fn polls_each_second() -> bool {
 #[test]
 fn what_each_kind_keeps(rt: HostRuntime) {
     assert!(rt; keeps(None, best_effort()));
-    assert!(rt; keeps(Some(3), polled(Scheduling::NonRealTimePolling)));
-    assert!(rt; keeps(Some(4), polled(Scheduling::RealTimePolling)));
-    assert!(rt; keeps(Some(6), granted()));
+    assert!(rt; keeps(Some(3), polled_fields(Scheduling::NonRealTimePolling)));
+    assert!(rt; keeps(Some(4), polled_fields(Scheduling::RealTimePolling)));
+    assert!(rt; keeps(Some(6), granted_fields()));
     assert!(rt; polls_each_second());
     assert!(rt; units().get_bytes_per_minislot() == 16);
 }

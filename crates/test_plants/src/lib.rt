@@ -3,7 +3,7 @@
 
 mod changes;
 
-pub use changes::changed;
+pub use changes::replace_first;
 
 /// The tables of these names, after the texts that are after the brackets.
 macro_rules! tables {

@@ -8,7 +8,7 @@ use Rattle.tlv24.specs.declared.tlv.TlvFault.{TlvFault}
 use Rattle.tlv24.specs.declared.tlv.TlvFault.TheVariants.{Cut}
 use Rattle.tlv24.specs.declared.fields.FlowFields.{FlowFields}
 use Rattle.tlv24.specs.declared.fault.FlowFault.{FlowFault}
-use Rattle.tlv24.specs.Tlv.{tlv, spelled, spelled_one, IsFront, Begins, NoTlvBegins, First, Front, first_of, front_of}
+use Rattle.tlv24.specs.Tlv.{tlv, spelled, spelled_one, IsFront, Begins, NoTlvBegins, First, Front, first_tlv, front_of}
 use Rattle.tlv24.specs.Flow.{fields_of, fault_of, flow_of, IsFlowEncoding, IsFirstFlowFault}
 use Rattle.tlv24.specs.Stated.{States}
 use Rattle.tlv24.specs.Reading.{IsReadUpTo}
@@ -37,12 +37,12 @@ first_by kind count more true first fits e bytes =
     })
 first_by kind count more false first fits e bytes = absurd cc
 
-pub first_some : (bytes : List ℕ) (first : First) → AreBytes bytes → first_of bytes ≡ Some first → IsFirst bytes first
+pub first_some : (bytes : List ℕ) (first : First) → AreBytes bytes → first_tlv bytes ≡ Some first → IsFirst bytes first
 first_some [] first bytes e = absurd cc
 first_some (kind ∷ []) first bytes e = absurd cc
 first_some (kind ∷ count ∷ more) first bytes e = first_by kind count more (leb count (length more)) first refl e bytes
 
-pub first_none : (bytes : List ℕ) → first_of bytes ≡ None → NoTlvBegins bytes
+pub first_none : (bytes : List ℕ) → first_tlv bytes ≡ None → NoTlvBegins bytes
 first_none [] e t rest b = let clash : [] ≡ spelled_one t ++ rest = b.spelling in absurd cc
 first_none (kind ∷ []) e t rest b = let clash : kind ∷ [] ≡ spelled_one t ++ rest = b.spelling in absurd cc
 first_none (kind ∷ count ∷ more) e t rest b =
@@ -71,23 +71,23 @@ more_front bytes first others b w = record {
   stuck = w.stuck;
 }
 
-whole_front_within : (n : ℕ) (bytes : List ℕ) (o : Option First) → length bytes ≤ n → AreBytes bytes → first_of bytes ≡ o → IsWholeFront bytes (front_of bytes)
+whole_front_within : (n : ℕ) (bytes : List ℕ) (o : Option First) → length bytes ≤ n → AreBytes bytes → first_tlv bytes ≡ o → IsWholeFront bytes (front_of bytes)
 whole_front_within n bytes None le are e = subst (IsWholeFront bytes) (sym (front_of-none bytes e)) (record { front = record { short = tt; spelling = refl }; stuck = first_none bytes e })
 whole_front_within zero bytes (Some first) le are e = let less : length first.rest < length bytes = shrinks bytes first e in absurd (omega arith)
 whole_front_within (suc n) bytes (Some first) le are e =
     let less : length first.rest < length bytes = shrinks bytes first e in
     let f = first_some bytes first are e in
-    subst (IsWholeFront bytes) (sym (front_of-some bytes first e)) (more_front bytes first (front_of first.rest) f.begins (whole_front_within n first.rest (first_of first.rest) (omega arith) f.bytes_left refl))
+    subst (IsWholeFront bytes) (sym (front_of-some bytes first e)) (more_front bytes first (front_of first.rest) f.begins (whole_front_within n first.rest (first_tlv first.rest) (omega arith) f.bytes_left refl))
 
 pub whole_front : (bytes : List ℕ) → AreBytes bytes → IsWholeFront bytes (front_of bytes)
-whole_front bytes are = whole_front_within (length bytes) bytes (first_of bytes) (omega arith) are refl
+whole_front bytes are = whole_front_within (length bytes) bytes (first_tlv bytes) (omega arith) are refl
 
 -- ---- the answer
 
 states_itself : (tlvs : List Tlv) → States tlvs (fields_of tlvs)
 states_itself tlvs = record { reference = refl; sfid = refl; sid = refl; class_name = refl; errored = refl; set_type = refl; traffic_priority = refl; max_sustained_rate = refl; max_burst = refl; min_reserved_rate = refl; scheduling_type = refl; request_policy = refl; polling_interval = refl; poll_jitter = refl; grant_size = refl; grant_interval = refl; grant_jitter = refl; grants_per_interval = refl }
 
-answer_within : (n : ℕ) (bytes rest : List ℕ) (fields : FlowFields) (o : Option First) → length rest ≤ n → AreBytes rest → IsReadUpTo bytes rest fields → first_of rest ≡ o → IsRightAnswer bytes (flow_of bytes)
+answer_within : (n : ℕ) (bytes rest : List ℕ) (fields : FlowFields) (o : Option First) → length rest ≤ n → AreBytes rest → IsReadUpTo bytes rest fields → first_tlv rest ≡ o → IsRightAnswer bytes (flow_of bytes)
 answer_within n bytes [] fields None le are r e = subst (IsRightAnswer bytes) (sym (read_all bytes [] fields r refl)) (read_flow_of bytes [] fields r refl)
 answer_within n bytes (b ∷ rest) fields None le are r e =
     let some : length (b ∷ rest) ≢ 0 = λ h. omega arith in
@@ -98,9 +98,9 @@ answer_within (suc n) bytes rest fields (Some first) le are r e =
     let less : length first.rest < length rest = shrinks rest first e in
     let f = first_some rest first are e in
     judged n bytes rest fields first (fault_of r.before first.tlv) f r e refl
-    (λ next again. answer_within n bytes first.rest next (first_of first.rest) (omega arith) f.bytes_left again refl)
+    (λ next again. answer_within n bytes first.rest next (first_tlv first.rest) (omega arith) f.bytes_left again refl)
   where
-    judged : (n : ℕ) (bytes rest : List ℕ) (fields : FlowFields) (first : First) (o : Option TlvFault) → IsFirst rest first → (r : IsReadUpTo bytes rest fields) → first_of rest ≡ Some first → fault_of r.before first.tlv ≡ o
+    judged : (n : ℕ) (bytes rest : List ℕ) (fields : FlowFields) (first : First) (o : Option TlvFault) → IsFirst rest first → (r : IsReadUpTo bytes rest fields) → first_tlv rest ≡ Some first → fault_of r.before first.tlv ≡ o
         → ((next : FlowFields) → IsReadUpTo bytes first.rest next → IsRightAnswer bytes (flow_of bytes)) → IsRightAnswer bytes (flow_of bytes)
     judged n bytes rest fields first None f r e free again = again (fields_of (r.before ++ first.tlv ∷ [])) (read_more_here bytes rest fields (fields_of (r.before ++ first.tlv ∷ [])) first r e f.begins free (states_itself (r.before ++ first.tlv ∷ [])))
     judged n bytes rest fields first (Some fault) f r e at_fault again =
@@ -108,7 +108,7 @@ answer_within (suc n) bytes rest fields (Some first) le are r e =
         subst (IsRightAnswer bytes) (sym (fault_exact_here bytes rest fields first fault told r e at_fault refl)) (fault_first_here bytes rest fields first fault told r f.begins at_fault refl)
 
 pub right_answer : (bytes : List ℕ) → AreBytes bytes → IsRightAnswer bytes (flow_of bytes)
-right_answer bytes are = answer_within (length bytes) bytes bytes (fields_of []) (first_of bytes) (omega arith) are (read_nothing bytes (fields_of []) refl) refl
+right_answer bytes are = answer_within (length bytes) bytes bytes (fields_of []) (first_tlv bytes) (omega arith) are (read_nothing bytes (fields_of []) refl) refl
 
 pub answers_flow : (bytes : List ℕ) (m : FlowFields) → AreBytes bytes → flow_of bytes ≡ Ok m → IsFlowEncoding bytes m
 answers_flow bytes m are e = subst (IsRightAnswer bytes) e (right_answer bytes are)

@@ -4,21 +4,21 @@ use Rattle.std.specs.List.{AllByRecursion}
 use Rattle.std.proofs.lemmas.List.{append-nil, take_at, drop_at}
 use Rattle.std.proofs.lemmas.Grind.{flat_map-append}
 use Rattle.tlv24.specs.declared.tlv.Tlv.{Tlv}
-use Rattle.tlv24.specs.Tlv.{tlv, IsShort, spelled_one, spelled, IsTlvList, IsFront, Begins, NoTlvBegins, First, Front, first_of, front_within, front_of}
+use Rattle.tlv24.specs.Tlv.{tlv, FitsLengthByte, spelled_one, spelled, IsTlvList, IsFront, Begins, NoTlvBegins, First, Front, first_tlv, front_within, front_of}
 
 -- ---- the bytes tell the list
 
 pub spelled-append : (xs ys : List Tlv) → spelled (xs ++ ys) ≡ spelled xs ++ spelled ys
 spelled-append xs ys = flat_map-append spelled_one xs ys
 
-pub short-append : (xs ys : List Tlv) → AllByRecursion IsShort xs → AllByRecursion IsShort ys → AllByRecursion IsShort (xs ++ ys)
+pub short-append : (xs ys : List Tlv) → AllByRecursion FitsLengthByte xs → AllByRecursion FitsLengthByte ys → AllByRecursion FitsLengthByte (xs ++ ys)
 short-append [] ys p q = q
 short-append (t ∷ xs) ys p q = (p.0, short-append xs ys p.1 q)
 
 -- two lists of TLVs, the first with a rest: the second goes on with what is in the rest
 pub record GoesOn (before : List Tlv) (rest : List ℕ) (tlvs : List Tlv) : Type 0 where
   pub more : List Tlv
-  pub short : AllByRecursion IsShort more
+  pub short : AllByRecursion FitsLengthByte more
   pub whole : tlvs ≡ before ++ more
   pub spelling : rest ≡ spelled more
 
@@ -44,7 +44,7 @@ same_first t u x y e =
       rest_is = parts_back t.value u.value x y lens tails;
     }
 
-pub goes_on : (before : List Tlv) (rest : List ℕ) (tlvs : List Tlv) → AllByRecursion IsShort tlvs → spelled before ++ rest ≡ spelled tlvs → GoesOn before rest tlvs
+pub goes_on : (before : List Tlv) (rest : List ℕ) (tlvs : List Tlv) → AllByRecursion FitsLengthByte tlvs → spelled before ++ rest ≡ spelled tlvs → GoesOn before rest tlvs
 goes_on [] rest tlvs short e = record { more = tlvs; short = short; whole = refl; spelling = e }
 goes_on (t ∷ before) rest [] short e = absurd cc
 goes_on (t ∷ before) rest (u ∷ tlvs) short e =
@@ -64,17 +64,17 @@ one_list bytes xs ys p q =
 -- bytes that begin with a TLV and are a list begin the list with it
 pub record StartsWith (t : Tlv) (after : List ℕ) (tlvs : List Tlv) : Type 0 where
   pub others : List Tlv
-  pub short : AllByRecursion IsShort others
+  pub short : AllByRecursion FitsLengthByte others
   pub whole : tlvs ≡ t ∷ others
   pub spelling : after ≡ spelled others
 
-pub starts_with : (rest : List ℕ) (t : Tlv) (after : List ℕ) (tlvs : List Tlv) → AllByRecursion IsShort tlvs → rest ≡ spelled tlvs → Begins rest t after → StartsWith t after tlvs
+pub starts_with : (rest : List ℕ) (t : Tlv) (after : List ℕ) (tlvs : List Tlv) → AllByRecursion FitsLengthByte tlvs → rest ≡ spelled tlvs → Begins rest t after → StartsWith t after tlvs
 starts_with rest t after [] short e b = let clash : spelled_one t ++ after ≡ [] = sym b.spelling ∙ e in absurd cc
 starts_with rest t after (u ∷ tlvs) short e b =
     let s = same_first t u after (spelled tlvs) (sym b.spelling ∙ e) in
     record { others = tlvs; short = short.1; whole = ap (λ (v : Tlv). v ∷ tlvs) (sym s.tlv_is); spelling = s.rest_is }
 
-pub not_stuck : (rest : List ℕ) (tlvs : List Tlv) → AllByRecursion IsShort tlvs → rest ≡ spelled tlvs → 0 < length rest → NoTlvBegins rest → ⊥
+pub not_stuck : (rest : List ℕ) (tlvs : List Tlv) → AllByRecursion FitsLengthByte tlvs → rest ≡ spelled tlvs → 0 < length rest → NoTlvBegins rest → ⊥
 not_stuck rest [] short e some none = let empty : length rest ≡ 0 = ap length e in omega arith
 not_stuck rest (t ∷ tlvs) short e some none = none t (spelled tlvs) (record { short = short.0; spelling = e })
 
@@ -90,7 +90,7 @@ IsFront-more bytes before rest t after f b = record {
 
 -- ---- the front as a function
 
-pub shrinks : (bytes : List ℕ) (first : First) → first_of bytes ≡ Some first → length first.rest < length bytes
+pub shrinks : (bytes : List ℕ) (first : First) → first_tlv bytes ≡ Some first → length first.rest < length bytes
 shrinks [] first e = absurd cc
 shrinks (kind ∷ []) first e = absurd cc
 shrinks (kind ∷ count ∷ more) first e = shrinks_by kind count more (leb count (length more)) first e
@@ -108,7 +108,7 @@ front_step most bytes o = elim o [
   | Some first ↦ record { tlvs = first.tlv ∷ (front_within most first.rest).tlvs; rest = (front_within most first.rest).rest }
 ]
 
-within_step : (most : ℕ) (bytes : List ℕ) → front_within (suc most) bytes ≡ front_step most bytes (first_of bytes)
+within_step : (most : ℕ) (bytes : List ℕ) → front_within (suc most) bytes ≡ front_step most bytes (first_tlv bytes)
 unfolding front_step
 within_step most bytes = refl
 
@@ -122,21 +122,21 @@ enough zero zero bytes p q = refl
 enough zero (suc m) bytes p q = let e = is_nothing bytes p in subst (λ (b : List ℕ). front_within 0 b ≡ front_within (suc m) b) (sym e) refl
 enough (suc n) zero bytes p q = let e = is_nothing bytes q in subst (λ (b : List ℕ). front_within (suc n) b ≡ front_within 0 b) (sym e) refl
 enough (suc n) (suc m) bytes p q =
-    within_step n bytes ∙ same_step n m bytes (first_of bytes) refl p q (λ rest a b. enough n m rest a b) ∙ sym (within_step m bytes)
+    within_step n bytes ∙ same_step n m bytes (first_tlv bytes) refl p q (λ rest a b. enough n m rest a b) ∙ sym (within_step m bytes)
   where
-    same_step : (n m : ℕ) (bytes : List ℕ) (o : Option First) → first_of bytes ≡ o → length bytes ≤ suc n → length bytes ≤ suc m → ((rest : List ℕ) → length rest ≤ n → length rest ≤ m → front_within n rest ≡ front_within m rest) → front_step n bytes o ≡ front_step m bytes o
+    same_step : (n m : ℕ) (bytes : List ℕ) (o : Option First) → first_tlv bytes ≡ o → length bytes ≤ suc n → length bytes ≤ suc m → ((rest : List ℕ) → length rest ≤ n → length rest ≤ m → front_within n rest ≡ front_within m rest) → front_step n bytes o ≡ front_step m bytes o
     same_step n m bytes None e p q again = refl
     same_step n m bytes (Some first) e p q again =
         let less : length first.rest < length bytes = shrinks bytes first e in
         ap (λ (f : Front). record { tlvs = first.tlv ∷ f.tlvs; rest = f.rest }) (again first.rest (omega arith) (omega arith))
 
-pub front_of-none : (bytes : List ℕ) → first_of bytes ≡ None → front_of bytes ≡ record { tlvs = []; rest = bytes }
+pub front_of-none : (bytes : List ℕ) → first_tlv bytes ≡ None → front_of bytes ≡ record { tlvs = []; rest = bytes }
 unfolding front_of front_step
 front_of-none bytes e =
     enough (length bytes) (suc (length bytes)) bytes (omega arith) (omega arith)
     ∙ within_step (length bytes) bytes ∙ ap (front_step (length bytes) bytes) e
 
-pub front_of-some : (bytes : List ℕ) (first : First) → first_of bytes ≡ Some first → front_of bytes ≡ record { tlvs = first.tlv ∷ (front_of first.rest).tlvs; rest = (front_of first.rest).rest }
+pub front_of-some : (bytes : List ℕ) (first : First) → first_tlv bytes ≡ Some first → front_of bytes ≡ record { tlvs = first.tlv ∷ (front_of first.rest).tlvs; rest = (front_of first.rest).rest }
 unfolding front_of front_step
 front_of-some bytes first e =
     let less : length first.rest < length bytes = shrinks bytes first e in

@@ -12,8 +12,8 @@ use Rattle.tlv24.specs.declared.tlv.TlvFault.{TlvFault}
 use Rattle.tlv24.specs.declared.tlv.TlvFault.TheVariants.{Cut, WrongLength, Twice, Range, NoMemory}
 use Rattle.tlv24.specs.declared.fields.FlowFields.{FlowFields}
 use Rattle.tlv24.specs.declared.fault.FlowFault.{FlowFault}
-use Rattle.tlv24.specs.Tlv.{tlv, IsShort, spelled, Begins, NoTlvBegins, First, Front, first_of, front_of}
-use Rattle.tlv24.specs.Flow.{byte, word, long, low_bits, value_of, values_of, lengths_of, in_range, fields_of, IsOfSubtype, IsOnceAtMost, IsSound, IsFlowEncoding, fault_with, fault_of, GoesWrong, IsFirstFlowFault, fault_after, says_after, cut_in, flow_of}
+use Rattle.tlv24.specs.Tlv.{tlv, FitsLengthByte, spelled, Begins, NoTlvBegins, First, Front, first_tlv, front_of}
+use Rattle.tlv24.specs.Flow.{byte, word, long, low_bits, value_of, values_of, lengths_of, in_range, fields_of, IsOfSubtype, IsOnceAtMost, EachIsOnceAtMost, IsFlowEncoding, fault_with, fault_of, GoesWrong, IsFirstFlowFault, fault_after, says_after, cut_in, flow_of}
 use Rattle.tlv24.specs.Stated.{States}
 use Rattle.tlv24.specs.Range.{AreInRange}
 use Rattle.tlv24.specs.Reading.{IsReadUpTo}
@@ -43,7 +43,7 @@ read_nothing bytes none e = record {
 
 -- ---- one more TLV that is not at fault
 
-sound_more : (before : List Tlv) (t : Tlv) → IsSound before → fault_of before t ≡ None → IsSound (before ++ t ∷ [])
+sound_more : (before : List Tlv) (t : Tlv) → EachIsOnceAtMost before → fault_of before t ≡ None → EachIsOnceAtMost (before ++ t ∷ [])
 sound_more before t sound free subtype lengths known =
     elim (cases_eq t.kind subtype) [
       | inl same ↦
@@ -66,7 +66,7 @@ goes_on_more before t tlvs cut e = ap (λ (o : Option TlvFault). elim o [ None �
 stops_at : (before : List Tlv) (t : Tlv) (tlvs : List Tlv) (cut : Option ℕ) (fault : TlvFault) → fault_of before t ≡ Some fault → says_after before (t ∷ tlvs) cut ≡ Err (fault_after before fault)
 stops_at before t tlvs cut fault e = ap (λ (o : Option TlvFault). elim o [ None ↦ says_after (before ++ t ∷ []) tlvs cut | Some f ↦ Err (fault_after before f) ]) e
 
-pub read_more_here : (bytes rest : List ℕ) (fields next : FlowFields) (first : First) (r : IsReadUpTo bytes rest fields) → first_of rest ≡ Some first → Begins rest first.tlv first.rest
+pub read_more_here : (bytes rest : List ℕ) (fields next : FlowFields) (first : First) (r : IsReadUpTo bytes rest fields) → first_tlv rest ≡ Some first → Begins rest first.tlv first.rest
     → fault_of r.before first.tlv ≡ None → States (r.before ++ first.tlv ∷ []) next → IsReadUpTo bytes first.rest next
 read_more_here bytes rest fields next first r e begins free stated =
     record {
@@ -78,7 +78,7 @@ read_more_here bytes rest fields next first r e begins free stated =
           ∙ goes_on_more r.before first.tlv (front_of first.rest).tlvs (cut_in bytes (front_of first.rest).rest) free;
     }
 
-pub read_more : (bytes rest : List ℕ) (fields next : FlowFields) (kind : ℕ) (value after : List ℕ) → IsReadUpTo bytes rest fields → Some (record { tlv = tlv kind value; rest = after }) ≡ first_of rest → Begins rest (tlv kind value) after
+pub read_more : (bytes rest : List ℕ) (fields next : FlowFields) (kind : ℕ) (value after : List ℕ) → IsReadUpTo bytes rest fields → Some (record { tlv = tlv kind value; rest = after }) ≡ first_tlv rest → Begins rest (tlv kind value) after
     → ((before : List Tlv) → States before fields → None ≡ fault_of before (tlv kind value))
     → ((before : List Tlv) → States before fields → fault_of before (tlv kind value) ≡ None → States (before ++ tlv kind value ∷ []) next)
     → IsReadUpTo bytes after next
@@ -125,7 +125,7 @@ not_zero : (n : ℕ) → not (eqb n 0) ≡ true → 0 < n
 not_zero zero e = absurd cc
 not_zero (suc n) e = omega arith
 
-pub fields_in_range : (tlvs : List Tlv) → IsSound tlvs → AreInRange (fields_of tlvs)
+pub fields_in_range : (tlvs : List Tlv) → EachIsOnceAtMost tlvs → AreInRange (fields_of tlvs)
 fields_in_range tlvs sound = record {
   reference = if_some_map (value_of 1 tlvs) word (λ n. 0 < n) (λ value e. not_zero (word value) (value_of_some 1 (2, 2) (values_of 1 tlvs) value (sound 1 (2, 2) refl) e));
   sfid = if_some_map (value_of 2 tlvs) long (λ n. 0 < n) (λ value e. not_zero (long value) (value_of_some 2 (4, 4) (values_of 2 tlvs) value (sound 2 (4, 4) refl) e));
@@ -144,7 +144,7 @@ pub record IsFaultOf (fields : FlowFields) (fault : TlvFault) (e : FlowFault) : 
 fault_is : (fields : FlowFields) (fault : TlvFault) (e : FlowFault) (before : List Tlv) → States before fields → e ≡ record { fault = fault; reference = fields.reference; sfid = fields.sfid } → e ≡ fault_after before fault
 fault_is fields fault e before stated is = is ∙ (λ i. record { fault = fault; reference = stated.reference i; sfid = stated.sfid i })
 
-pub cut_exact : (bytes rest : List ℕ) (fields : FlowFields) (e : FlowFault) → IsReadUpTo bytes rest fields → length rest ≢ 0 → first_of rest ≡ None
+pub cut_exact : (bytes rest : List ℕ) (fields : FlowFields) (e : FlowFault) → IsReadUpTo bytes rest fields → length rest ≢ 0 → first_tlv rest ≡ None
     → e ≡ record { fault = Cut (length bytes - length rest); reference = fields.reference; sfid = fields.sfid } → flow_of bytes ≡ Err e
 cut_exact bytes rest fields e r some none is =
     let front = front_of-none rest none in
@@ -168,14 +168,14 @@ cut_first bytes rest fields e r some none is =
       sfid = refl;
     })
 
-pub fault_exact_here : (bytes rest : List ℕ) (fields : FlowFields) (first : First) (fault : TlvFault) (e : FlowFault) (r : IsReadUpTo bytes rest fields) → first_of rest ≡ Some first
+pub fault_exact_here : (bytes rest : List ℕ) (fields : FlowFields) (first : First) (fault : TlvFault) (e : FlowFault) (r : IsReadUpTo bytes rest fields) → first_tlv rest ≡ Some first
     → fault_of r.before first.tlv ≡ Some fault → e ≡ record { fault = fault; reference = fields.reference; sfid = fields.sfid } → flow_of bytes ≡ Err e
 fault_exact_here bytes rest fields first fault e r is_first at_fault is =
     r.goes_on ∙ ap (λ (f : Front). says_after r.before f.tlvs (cut_in bytes f.rest)) (front_of-some rest first is_first)
     ∙ stops_at r.before first.tlv (front_of first.rest).tlvs (cut_in bytes (front_of first.rest).rest) fault at_fault
     ∙ ap flow_err (sym (fault_is fields fault e r.before r.stated is))
 
-pub fault_exact : (bytes rest : List ℕ) (fields : FlowFields) (kind : ℕ) (value after : List ℕ) (fault : TlvFault) (e : FlowFault) → IsReadUpTo bytes rest fields → Some (record { tlv = tlv kind value; rest = after }) ≡ first_of rest
+pub fault_exact : (bytes rest : List ℕ) (fields : FlowFields) (kind : ℕ) (value after : List ℕ) (fault : TlvFault) (e : FlowFault) → IsReadUpTo bytes rest fields → Some (record { tlv = tlv kind value; rest = after }) ≡ first_tlv rest
     → ((before : List Tlv) → States before fields → Some fault ≡ fault_of before (tlv kind value))
     → e ≡ record { fault = fault; reference = fields.reference; sfid = fields.sfid } → flow_of bytes ≡ Err e
 fault_exact bytes rest fields kind value after fault e r first judged is =
@@ -233,7 +233,7 @@ alone subtype lengths (x ∷ z ∷ xs) ys value once = absurd once
 values_of-cons : (kind : ℕ) (value : List ℕ) (more : List Tlv) → values_of kind (tlv kind value ∷ more) ≡ value ∷ values_of kind more
 values_of-cons kind value more = rw (eq-eqb kind kind refl) refl
 
-no_fault_under : (o : Option (ℕ × ℕ)) (before : List Tlv) (t : Tlv) (more : List Tlv) (fault : TlvFault) → lengths_of t.kind ≡ o → IsSound (before ++ t ∷ more) → fault_with o before t ≡ Some fault → ⊥
+no_fault_under : (o : Option (ℕ × ℕ)) (before : List Tlv) (t : Tlv) (more : List Tlv) (fault : TlvFault) → lengths_of t.kind ≡ o → EachIsOnceAtMost (before ++ t ∷ more) → fault_with o before t ≡ Some fault → ⊥
 no_fault_under None before t more fault known sound e = absurd cc
 no_fault_under (Some lengths) before t more fault known sound e =
     let values : values_of t.kind (before ++ t ∷ more) ≡ values_of t.kind before ++ t.value ∷ values_of t.kind more =
@@ -253,18 +253,18 @@ no_fault_under (Some lengths) before t more fault known sound e =
     all_well false false true a b c fault p q r e = absurd cc
     all_well false false false a b c fault p q r e = absurd cc
 
-no_fault_here : (before : List Tlv) (rest : List ℕ) (more : List Tlv) (t : Tlv) (after : List ℕ) (fault : TlvFault) → AllByRecursion IsShort more → rest ≡ spelled more → IsSound (before ++ more) → Begins rest t after → fault_of before t ≡ Some fault → ⊥
+no_fault_here : (before : List Tlv) (rest : List ℕ) (more : List Tlv) (t : Tlv) (after : List ℕ) (fault : TlvFault) → AllByRecursion FitsLengthByte more → rest ≡ spelled more → EachIsOnceAtMost (before ++ more) → Begins rest t after → fault_of before t ≡ Some fault → ⊥
 unfolding fault_of
 no_fault_here before rest more t after fault short e sound b at_fault =
     let s = starts_with rest t after more short e b in
-    no_fault_under (lengths_of t.kind) before t s.others fault refl (subst (λ (x : List Tlv). IsSound (before ++ x)) s.whole sound) at_fault
+    no_fault_under (lengths_of t.kind) before t s.others fault refl (subst (λ (x : List Tlv). EachIsOnceAtMost (before ++ x)) s.whole sound) at_fault
 
 pub refused : (bytes : List ℕ) (m : FlowFields) (e : FlowFault) → IsFlowEncoding bytes m → IsFirstFlowFault bytes e → ⊥
 refused bytes m e p q =
     let g = goes_on q.before q.rest p.tlvs p.list.short (sym q.front.spelling ∙ p.list.spelling) in
-    goes_right e.fault q.before q.rest g.more g.short g.spelling (subst IsSound g.whole p.sound) q.wrong
+    goes_right e.fault q.before q.rest g.more g.short g.spelling (subst EachIsOnceAtMost g.whole p.sound) q.wrong
   where
-    goes_right : (fault : TlvFault) (before : List Tlv) (rest : List ℕ) (more : List Tlv) → AllByRecursion IsShort more → rest ≡ spelled more → IsSound (before ++ more) → GoesWrong before rest fault → ⊥
+    goes_right : (fault : TlvFault) (before : List Tlv) (rest : List ℕ) (more : List Tlv) → AllByRecursion FitsLengthByte more → rest ≡ spelled more → EachIsOnceAtMost (before ++ more) → GoesWrong before rest fault → ⊥
     goes_right (Cut place) before rest more short e sound w = not_stuck rest more short e w.1 w.2
     goes_right (WrongLength subtype) before rest more short e sound w = no_fault_here before rest more w.0 w.1 (WrongLength subtype) short e sound w.2 w.3
     goes_right (Twice subtype) before rest more short e sound w = no_fault_here before rest more w.0 w.1 (Twice subtype) short e sound w.2 w.3

@@ -12,11 +12,11 @@ use Rattle.std.proofs.lemmas.Bool.{cases_eq, le-leb, ltb-true, and_from}
 use Rattle.tlv24.specs.declared.tlv.Tlv.{Tlv}
 use Rattle.tlv24.specs.declared.fields.ErrorEncodings.{ErrorEncodings}
 use Rattle.tlv24.specs.declared.fields.FlowFields.{FlowFields}
-use Rattle.tlv24.specs.Tlv.{IsShort, spelled}
+use Rattle.tlv24.specs.Tlv.{FitsLengthByte, spelled}
 use Rattle.tlv24.specs.Name.{IsClassName}
 use Rattle.tlv24.specs.Range.{AreInRange}
-use Rattle.tlv24.specs.Flow.{byte, word, long, low_bits, name_of, errored_of, value_of, values_of, lengths_of, in_range, is_terminated, IsOfSubtype, IsOnceAtMost, IsSound, IsFlowEncoding}
-use Rattle.tlv24.specs.Spelling.{single, terminated, spelled_error, under, tlvs_of}
+use Rattle.tlv24.specs.Flow.{byte, word, long, low_bits, name_of, errored_of, value_of, values_of, lengths_of, in_range, is_terminated, IsOfSubtype, IsOnceAtMost, EachIsOnceAtMost, IsFlowEncoding}
+use Rattle.tlv24.specs.Spelling.{single, terminated_name, spelled_error, under, tlvs_of}
 use Rattle.tlv24.specs.Stated.{States}
 use Rattle.tlv24.proofs.Values.{values_of-append, differs}
 use Rattle.tlv24.proofs.Lists.{spelled-append, short-append}
@@ -99,7 +99,7 @@ once : (s : ℕ) (lengths : ℕ × ℕ) (o : Option (List ℕ)) → IfSome o (Is
 once s lengths None h = tt
 once s lengths (Some v) h = h
 
-sound_rows : (below : ℕ) (rows : List Row) → ascends below rows ≡ true → AllByRecursion IsFineRow rows → IsSound (laid rows)
+sound_rows : (below : ℕ) (rows : List Row) → ascends below rows ≡ true → AllByRecursion IsFineRow rows → EachIsOnceAtMost (laid rows)
 sound_rows below [] e all s lengths known = tt
 sound_rows below (row ∷ rows) e all s lengths known =
     let p = both (ltb below row.0) (ascends row.0 rows) e in
@@ -112,11 +112,11 @@ sound_rows below (row ∷ rows) e all s lengths known =
       | inr other ↦ subst (IsOnceAtMost s lengths) (sym (values_skip s row rows other)) (sound_rows row.0 rows p.1 all.1 s lengths known)
     ]
 
-short_under : (s : ℕ) (o : Option (List ℕ)) (lengths : ℕ × ℕ) → lengths.1 < 256 → IfSome o (IsOfSubtype s lengths) → AllByRecursion IsShort (under s o)
+short_under : (s : ℕ) (o : Option (List ℕ)) (lengths : ℕ × ℕ) → lengths.1 < 256 → IfSome o (IsOfSubtype s lengths) → AllByRecursion FitsLengthByte (under s o)
 short_under s None lengths short h = tt
 short_under s (Some v) lengths short h = let few : length v ≤ lengths.1 = h.short_enough in (omega arith, tt)
 
-short_rows : (rows : List Row) → AllByRecursion IsFineRow rows → AllByRecursion IsShort (laid rows)
+short_rows : (rows : List Row) → AllByRecursion IsFineRow rows → AllByRecursion FitsLengthByte (laid rows)
 short_rows [] all = tt
 short_rows (row ∷ rows) all = short-append (under row.0 row.1) (laid rows) (short_under row.0 row.1 all.0.lengths all.0.short all.0.fine) (short_rows rows all.1)
 
@@ -166,12 +166,12 @@ byte_back : (o : Option ℕ) → o ≡ option_map byte (option_map single o)
 byte_back None = refl
 byte_back (Some n) = refl
 
-name_again : (name : List ℕ) → name_of (terminated name) ≡ name
-name_again name = take_at name (0 ∷ []) (length (terminated name) - 1) (omega (arith, length-append name (0 ∷ [])))
+name_again : (name : List ℕ) → name_of (terminated_name name) ≡ name
+name_again name = take_at name (0 ∷ []) (length (terminated_name name) - 1) (omega (arith, length-append name (0 ∷ [])))
 
-name_back : (o : Option (List ℕ)) → o ≡ option_map name_of (option_map terminated o)
+name_back : (o : Option (List ℕ)) → o ≡ option_map name_of (option_map terminated_name o)
 name_back None = refl
-name_back (Some name) = let e : name_of (terminated name) ≡ name = name_again name in cc
+name_back (Some name) = let e : name_of (terminated_name name) ≡ name = name_again name in cc
 
 errored_back : (o : Option ErrorEncodings) → o ≡ option_map errored_of (option_map spelled_error o)
 errored_back None = refl
@@ -210,16 +210,16 @@ takes_priority : (o : Option ℕ) → IfSome o (λ n. n ≤ 7) → IfSome o (λ 
 takes_priority None h = tt
 takes_priority (Some n) h = le-leb n 7 h
 
-ends_in_zero : (name : List ℕ) → IsTrue (list_all (λ b. not (eqb b 0)) name) → is_terminated (terminated name) ≡ true
+ends_in_zero : (name : List ℕ) → IsTrue (list_all (λ b. not (eqb b 0)) name) → is_terminated (terminated_name name) ≡ true
 ends_in_zero name no_zero =
-    let last : length (terminated name) - 1 ≡ length name = omega (arith, length-append name (0 ∷ [])) in
-    let seam : get_or (terminated name) (length (terminated name) - 1) 1 ≡ 0 =
-    ap (λ (i : ℕ). get_or (terminated name) i 1) last ∙ get_or-append_seam name 0 [] 1 in
-    and_from (eqb (get_or (terminated name) (length (terminated name) - 1) 1) 0) (list_all (λ b. not (eqb b 0)) (name_of (terminated name)))
-    (eq-eqb (get_or (terminated name) (length (terminated name) - 1) 1) 0 seam)
+    let last : length (terminated_name name) - 1 ≡ length name = omega (arith, length-append name (0 ∷ [])) in
+    let seam : get_or (terminated_name name) (length (terminated_name name) - 1) 1 ≡ 0 =
+    ap (λ (i : ℕ). get_or (terminated_name name) i 1) last ∙ get_or-append_seam name 0 [] 1 in
+    and_from (eqb (get_or (terminated_name name) (length (terminated_name name) - 1) 1) 0) (list_all (λ b. not (eqb b 0)) (name_of (terminated_name name)))
+    (eq-eqb (get_or (terminated_name name) (length (terminated_name name) - 1) 1) 0 seam)
     (ap (list_all (λ (b : ℕ). not (eqb b 0))) (name_again name) ∙ no_zero)
 
-fine_name : (o : Option (List ℕ)) → IfSome o IsClassName → IfSome (option_map terminated o) (IsOfSubtype 4 (2, 16))
+fine_name : (o : Option (List ℕ)) → IfSome o IsClassName → IfSome (option_map terminated_name o) (IsOfSubtype 4 (2, 16))
 fine_name None h = tt
 fine_name (Some name) h = record {
   long_enough = let some : 1 ≤ length name = h.some in omega (arith, length-append name (0 ∷ []));
@@ -253,7 +253,7 @@ rows_of m =
     (1, option_map (to_be_bytes w16) m.reference) ∷
     (2, option_map (to_be_bytes w32) m.sfid) ∷
     (3, option_map (to_be_bytes w16) m.sid) ∷
-    (4, option_map terminated m.class_name) ∷
+    (4, option_map terminated_name m.class_name) ∷
     (5, option_map spelled_error m.errored) ∷
     (6, option_map single m.set_type) ∷
     (7, option_map single m.traffic_priority) ∷
@@ -338,7 +338,7 @@ says_back m r b = record {
   reference = word_back m.reference b.reference ∙ sym (ap (option_map word) (value_at 1 m (option_map (to_be_bytes w16) m.reference) refl));
   sfid = long_back m.sfid b.sfid ∙ sym (ap (option_map long) (value_at 2 m (option_map (to_be_bytes w32) m.sfid) refl));
   sid = sid_back m.sid r.sid ∙ sym (ap (option_map low_bits) (value_at 3 m (option_map (to_be_bytes w16) m.sid) refl));
-  class_name = name_back m.class_name ∙ sym (ap (option_map name_of) (value_at 4 m (option_map terminated m.class_name) refl));
+  class_name = name_back m.class_name ∙ sym (ap (option_map name_of) (value_at 4 m (option_map terminated_name m.class_name) refl));
   errored = errored_back m.errored ∙ sym (ap (option_map errored_of) (value_at 5 m (option_map spelled_error m.errored) refl));
   set_type = byte_back m.set_type ∙ sym (ap (option_map byte) (value_at 6 m (option_map single m.set_type) refl));
   traffic_priority = byte_back m.traffic_priority ∙ sym (ap (option_map byte) (value_at 7 m (option_map single m.traffic_priority) refl));
@@ -360,7 +360,7 @@ written_says m r b =
     let fine = fine_rows m r b in
     record {
       tlvs = tlvs_of m;
-      list = record { short = subst (AllByRecursion IsShort) (sym (tlvs_laid m)) (short_rows (rows_of m) fine); spelling = refl };
-      sound = subst IsSound (sym (tlvs_laid m)) (sound_rows 0 (rows_of m) refl fine);
+      list = record { short = subst (AllByRecursion FitsLengthByte) (sym (tlvs_laid m)) (short_rows (rows_of m) fine); spelling = refl };
+      sound = subst EachIsOnceAtMost (sym (tlvs_laid m)) (sound_rows 0 (rows_of m) refl fine);
       fields = stated_fields (tlvs_of m) m (says_back m r b);
     }

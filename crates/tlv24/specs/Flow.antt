@@ -36,8 +36,8 @@ abbrev pub errored_of : List ℕ → ErrorEncodings
 errored_of value = record { errored_parameter = slice_index value 2; code = slice_index value 5 }
 
 -- The known subtypes, each with the least and the greatest length of its value in bytes.
-abbrev pub known : List (ℕ × (ℕ × ℕ))
-known =
+abbrev pub known_subtypes : List (ℕ × (ℕ × ℕ))
+known_subtypes =
     (reference_subtype, (2, 2)) ∷
     (sfid_subtype, (4, 4)) ∷
     (sid_subtype, (2, 2)) ∷
@@ -58,7 +58,7 @@ known =
     (grants_per_interval_subtype, (1, 1)) ∷ []
 
 abbrev pub lengths_of : ℕ → Option (ℕ × ℕ)
-lengths_of subtype = option_map (λ row. row.1) (find (λ row. row.0 == subtype) known)
+lengths_of subtype = option_map (λ row. row.1) (find (λ row. row.0 == subtype) known_subtypes)
 
 -- the value ends in its only 0, after at least one byte
 abbrev pub is_terminated : List ℕ → Bool
@@ -122,15 +122,15 @@ IsOnceAtMost subtype lengths (value ∷ []) = IsOfSubtype subtype lengths value
 IsOnceAtMost subtype lengths (value ∷ again ∷ values) = ⊥
 
 -- so it is for each known subtype
-abbrev pub IsSound : List Tlv → Type 0
-IsSound tlvs = (subtype : ℕ) (lengths : ℕ × ℕ) → lengths_of subtype ≡ Some lengths → IsOnceAtMost subtype lengths (values_of subtype tlvs)
+abbrev pub EachIsOnceAtMost : List Tlv → Type 0
+EachIsOnceAtMost tlvs = (subtype : ℕ) (lengths : ℕ × ℕ) → lengths_of subtype ≡ Some lengths → IsOnceAtMost subtype lengths (values_of subtype tlvs)
 
 -- The bytes are a flow encoding and say these fields: they are a list of TLVs in which each known subtype is at
 -- most once, with its length and in its range, and the fields are what is there.
 pub record IsFlowEncoding (bytes : List ℕ) (m : FlowFields) : Type 0 where
   pub tlvs : List Tlv
   pub list : IsTlvList bytes tlvs
-  pub sound : IsSound tlvs
+  pub sound : EachIsOnceAtMost tlvs
   pub fields : m ≡ fields_of tlvs
 
 -- What is wrong with a TLV after those before it, tried in this order: its length, that its subtype was before, its range.
@@ -155,7 +155,7 @@ pub record IsFirstFlowFault (bytes : List ℕ) (e : FlowFault) : Type 0 where
   pub before : List Tlv
   pub rest : List ℕ
   pub front : IsFront bytes before rest
-  pub sound : IsSound before
+  pub sound : EachIsOnceAtMost before
   pub wrong : GoesWrong before rest e.fault
   pub reference : e.reference ≡ (fields_of before).reference
   pub sfid : e.sfid ≡ (fields_of before).sfid

@@ -13,8 +13,8 @@ abbrev pub single : ℕ → List ℕ
 single n = n ∷ []
 
 -- a class name ends with a 0
-abbrev pub terminated : List ℕ → List ℕ
-terminated name = name ++ 0 ∷ []
+abbrev pub terminated_name : List ℕ → List ℕ
+terminated_name name = name ++ 0 ∷ []
 
 -- error encodings are two TLVs of their own: 5.1 the invalid subtype, 5.2 the confirmation code
 abbrev pub spelled_error : ErrorEncodings → List ℕ
@@ -31,7 +31,7 @@ tlvs_of m =
     under reference_subtype (option_map (to_be_bytes w16) m.reference) ++
     under sfid_subtype (option_map (to_be_bytes w32) m.sfid) ++
     under sid_subtype (option_map (to_be_bytes w16) m.sid) ++
-    under class_name_subtype (option_map terminated m.class_name) ++
+    under class_name_subtype (option_map terminated_name m.class_name) ++
     under errored_subtype (option_map spelled_error m.errored) ++
     under set_type_subtype (option_map single m.set_type) ++
     under traffic_priority_subtype (option_map single m.traffic_priority) ++

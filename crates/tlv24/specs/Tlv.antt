@@ -7,8 +7,8 @@ abbrev pub tlv : ℕ → List ℕ → Tlv
 tlv kind value = record { kind = kind; value = value }
 
 -- one length byte can count the value
-abbrev pub IsShort : Tlv → Type 0
-IsShort t = length t.value < 256
+abbrev pub FitsLengthByte : Tlv → Type 0
+FitsLengthByte t = length t.value < 256
 
 -- the bytes of one TLV
 abbrev pub spelled_one : Tlv → List ℕ
@@ -20,12 +20,12 @@ spelled tlvs = flat_map spelled_one tlvs
 
 -- the bytes are these TLVs and nothing else
 pub record IsTlvList (bytes : List ℕ) (tlvs : List Tlv) : Type 0 where
-  pub short : AllByRecursion IsShort tlvs
+  pub short : AllByRecursion FitsLengthByte tlvs
   pub spelling : bytes ≡ spelled tlvs
 
 -- the bytes begin with this TLV, and the rest follows it
 pub record Begins (bytes : List ℕ) (t : Tlv) (rest : List ℕ) : Type 0 where
-  pub short : IsShort t
+  pub short : FitsLengthByte t
   pub spelling : bytes ≡ spelled_one t ++ rest
 
 abbrev pub NoTlvBegins : List ℕ → Type 0
@@ -33,7 +33,7 @@ NoTlvBegins bytes = (t : Tlv) (rest : List ℕ) → Begins bytes t rest → ⊥
 
 -- the bytes are these TLVs and then the rest
 pub record IsFront (bytes : List ℕ) (tlvs : List Tlv) (rest : List ℕ) : Type 0 where
-  pub short : AllByRecursion IsShort tlvs
+  pub short : AllByRecursion FitsLengthByte tlvs
   pub spelling : bytes ≡ spelled tlvs ++ rest
 
 -- up to the place there are whole TLVs; from there on there are bytes with which no TLV begins
@@ -51,10 +51,10 @@ pub record First : Type 0 where
   pub rest : List ℕ
 
 -- the TLV that the bytes begin with
-abbrev pub first_of : List ℕ → Option First
-first_of [] = None
-first_of (kind ∷ []) = None
-first_of (kind ∷ count ∷ more) =
+abbrev pub first_tlv : List ℕ → Option First
+first_tlv [] = None
+first_tlv (kind ∷ []) = None
+first_tlv (kind ∷ count ∷ more) =
     if nat_le count (length more) then Some (record { tlv = tlv kind (take count more); rest = drop count more }) else None
 
 -- whole TLVs, and the bytes after them
@@ -66,7 +66,7 @@ pub record Front : Type 0 where
 abbrev pub front_within : ℕ → List ℕ → Front
 front_within zero bytes = record { tlvs = []; rest = bytes }
 front_within (suc most) bytes =
-    elim (first_of bytes) [
+    elim (first_tlv bytes) [
       | None ↦ record { tlvs = []; rest = bytes }
       | Some first ↦
           let others = front_within most first.rest in record { tlvs = first.tlv ∷ others.tlvs; rest = others.rest }

@@ -20,7 +20,7 @@ pub struct ClassName {
 impl Model for ClassName {
     ghost use Rattle.std.specs.Prelude.{ℕ, List, ◌++◌, ◌-◌, length, take, replicate};
     ghost use Rattle.tlv24.specs.Name.{IsPaddedName};
-    ghost use Rattle.tlv24.specs.Padding.{unpadded};
+    ghost use Rattle.tlv24.specs.Padding.{padded_name_splits};
 
     ghost Value = { List ℕ };
 
@@ -30,7 +30,7 @@ impl Model for ClassName {
 
     ghost inverse = { λ name. record { bytes = name ++ replicate (15 - length name) 0; len = length name } };
 
-    ghost inverse_ok = { λ n h. λ i. record { bytes = (unpadded n.bytes n.len h).0 i; len = (unpadded n.bytes n.len h).1 i } };
+    ghost inverse_ok = { λ n h. λ i. record { bytes = (padded_name_splits n.bytes n.len h).0 i; len = (padded_name_splits n.bytes n.len h).1 i } };
 }
 
 impl ClassName {

@@ -38,7 +38,7 @@ fn long(value: &[u8]) -> u32
     ])
 }
 
-fn errored(value: &[u8]) -> ErrorEncodings
+fn read_error_encodings(value: &[u8]) -> ErrorEncodings
     ensures { result ≡ errored_of value.now }
 {
     ErrorEncodings {
@@ -161,7 +161,7 @@ fn fault_of(fields: &FlowFields, subtype: u8, value: &[u8]) -> Option<TlvFault>
 
 /// Adds what a TLV says that is valid.
 #[tactic(auto, using(crate::proofs::Values::one_lem, crate::proofs::Values::other_lem))]
-fn put(fields: &mut FlowFields, subtype: u8, value: &[u8])
+fn set_field(fields: &mut FlowFields, subtype: u8, value: &[u8])
     ensures { (before : List Tlv) → States before fields.old → fault_of before (tlv subtype value.now) ≡ None
         → States (before ++ tlv subtype value.now ∷ []) fields.new }
 {
@@ -170,7 +170,7 @@ fn put(fields: &mut FlowFields, subtype: u8, value: &[u8])
         subtype::SFID => fields.sfid = Some(long(value)),
         subtype::SID => fields.sid = Some(word(value) % 16384),
         subtype::CLASS_NAME => fields.class_name = class_name(value),
-        subtype::ERRORED => fields.errored = Some(errored(value)),
+        subtype::ERRORED => fields.errored = Some(read_error_encodings(value)),
         subtype::SET_TYPE => fields.set_type = Some(byte_at(value, 0)),
         subtype::TRAFFIC_PRIORITY => fields.traffic_priority = Some(byte_at(value, 0)),
         subtype::MAX_SUSTAINED_RATE => fields.max_sustained_rate = Some(long(value)),
@@ -220,7 +220,7 @@ pub fn read_flow(bytes: &[u8]) -> Result<FlowTlv, FlowFault>
         if let Some(fault) = fault_of(&fields, first.kind, first.value) {
             return Err(fault_after(&fields, fault));
         }
-        put(&mut fields, first.kind, first.value);
+        set_field(&mut fields, first.kind, first.value);
         rest = first.rest;
     }
     Ok(FlowTlv::new(fields))

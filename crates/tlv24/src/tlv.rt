@@ -2,7 +2,7 @@
 
 ghost use Rattle.std.specs.Prelude.{◌≡◌, ℕ, ◌≤◌, List, [], ◌∷◌, length, Option, Some, None, MatchOption, IfOk, IfErr};
 ghost use Rattle.std.specs.Option.{option_map};
-ghost use Rattle.tlv24.specs.Tlv.{tlv, first_of, Begins, NoTlvBegins, IsTlvList};
+ghost use Rattle.tlv24.specs.Tlv.{tlv, first_tlv, Begins, NoTlvBegins, IsTlvList};
 ghost use Rattle.tlv24.specs.Split.{IsSplitFault, IsOkUnlessMemory};
 ghost use Rattle.tlv24.specs.declared.tlv.TlvFault.TheVariants.{NoMemory};
 
@@ -61,7 +61,7 @@ pub struct FirstTlv<'a> {
 /// Returns the TLV that the bytes begin with; none where the bytes end before it does.
 pub fn first_tlv(bytes: &[u8]) -> Option<FirstTlv<'_>>
     ensures exact { option_map (λ first.
-        record { tlv = tlv first.kind first.value.now; rest = first.rest.now }) result ≡ first_of bytes.now }
+        record { tlv = tlv first.kind first.value.now; rest = first.rest.now }) result ≡ first_tlv bytes.now }
     ensures begins { MatchOption result (NoTlvBegins bytes.now)
         (λ first. Begins bytes.now (tlv first.kind first.value.now) first.rest.now) }
 {

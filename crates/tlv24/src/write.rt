@@ -6,7 +6,7 @@ ghost use Rattle.std.specs.Int.{w16, w32, to_be_bytes};
 ghost use Rattle.tlv24.specs.Tlv.{tlv, spelled_one, spelled};
 ghost use Rattle.tlv24.specs.Name.{IsClassName};
 ghost use Rattle.tlv24.specs.Flow.{IsFlowEncoding};
-ghost use Rattle.tlv24.specs.Spelling.{single, terminated, spelled_error, under, tlvs_of};
+ghost use Rattle.tlv24.specs.Spelling.{single, terminated_name, spelled_error, under, tlvs_of};
 
 use crate::class_name::ClassName;
 use crate::fields::ErrorEncodings;
@@ -67,7 +67,7 @@ fn put_class_name(
     value: Option<ClassName>,
 ) -> Result<(), AllocError>
     ensures bytes { OnOk result (out.new.items ≡ out.old.items
-        ++ spelled (under subtype (option_map terminated value))) }
+        ++ spelled (under subtype (option_map terminated_name value))) }
     ensures valid { IfSome value IsClassName }
 {
     let Some(name) = value else {

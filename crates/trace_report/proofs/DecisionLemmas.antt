@@ -15,7 +15,7 @@ use Rattle.run_model.specs.declared.step.Step.{Step}
 use Rattle.run_model.specs.declared.step.Step.TheVariants as steps
 use Rattle.run_model.specs.IsStateAfter.{CoreView}
 use Rattle.trace_report.specs.declared.decision.Decision.{Decision}
-use Rattle.trace_report.specs.Decision.{AtHand, IsAck, IsDecision, IsDecisionOf, first_message, message_handled, message_in}
+use Rattle.trace_report.specs.Decision.{AtHand, IsAck, IsDecision, IsDecisionOf, first_message, message_of_step, message_at_hand}
 
 -- a fault that is read, other than want of memory
 pub fault_is_read : (fault : MessageFault) (said : Reading) → Fails fault said → fault ≢ faults.NoMemory → said ≡ Err fault
@@ -48,8 +48,8 @@ no_work core (steps.Reslice from rows) other = refl
 
 -- work of one of a core's books
 module _ (core : CoreView) (op : ℕ) (step : Step) (is : step ≡ steps.Work op) where
-  handled : (book : Option BookView) → slice_get core.books op ≡ book → message_handled core step ≡ message_in book
-  handled book there = ap (message_handled core) is ∙ ap message_in there
+  handled : (book : Option BookView) → slice_get core.books op ≡ book → message_of_step core step ≡ message_at_hand book
+  handled book there = ap (message_of_step core) is ∙ ap message_at_hand there
 
   pub nobody_works : slice_get core.books op ≡ None → IsDecision core step None
   nobody_works past = subst (λ (at : Option AtHand). IsDecisionOf at None) (sym (handled None past)) refl

@@ -8,9 +8,9 @@ use Rattle.run_model.specs.declared.step.Step.{Step}
 use Rattle.run_model.specs.declared.step.Out.{Out}
 use Rattle.run_model.specs.IsStateAfter.{CoreView, IsStateAfter}
 use Rattle.plant_core.specs.declared.core_fault.CoreFault.{CoreFault}
-use Rattle.plant_core.specs.Faults.{step_fault, IsTold}
+use Rattle.plant_core.specs.Faults.{step_fault, IsReported}
 use Rattle.script_format.specs.declared.script.LineStep.{LineStep}
-use Rattle.script_format.specs.Script.{unnumbered}
+use Rattle.script_format.specs.Script.{steps_without_numbers}
 use Rattle.line_service.specs.declared.steps_end.StepsEnd.{StepsEnd}
 use Rattle.line_service.specs.declared.steps_end.StepsEnd.TheVariants as ends
 use Rattle.line_service.specs.Ends.{steps_end}
@@ -64,13 +64,13 @@ module _ (plant : PlantFields) (steps : List LineStep) where
       (half : SoFar old w0 w1 (line ∷ rest)) (is : IsDecision old line.step decision)
       (reached : (b : List Step) (t : List Out) → IsStateAfter old.plant b t old → IsStateAfter old.plant (b ++ line.step ∷ []) (t ++ now) new) where
     done : List Step
-    done = unnumbered (take half.at steps)
+    done = steps_without_numbers (take half.at steps)
 
-    steps_more : done ++ line.step ∷ [] ≡ unnumbered (take (suc half.at) steps)
+    steps_more : done ++ line.step ∷ [] ≡ steps_without_numbers (take (suc half.at) steps)
     unfolding done
     steps_more =
         sym (map-append (λ (l : LineStep). l.step) (take half.at steps) (line ∷ []))
-        ∙ ap unnumbered (sym (take_next steps half.at line rest half.left_are))
+        ∙ ap steps_without_numbers (sym (take_next steps half.at line rest half.left_are))
 
     reached_more : IsStateAfter plant (done ++ line.step ∷ []) (half.told ++ now) new
     unfolding done
@@ -141,7 +141,7 @@ module _ (plant : PlantFields) (steps : List LineStep) where
 
   -- a trace ends where a step is not done
   pub step_not_done : (old core : CoreView) (w0 w1 : Option (List ℕ)) (line : LineStep) (rest : List LineStep) (A : Type 0) (fault : CoreFault) (end : StepsEnd)
-      → SoFar old w0 w1 (line ∷ rest) → core ≡ old → IsTold {A = A} (Err fault) (step_fault old line.step) → end ≡ steps_end line.number fault → HasTraced plant steps core end w0 w1
+      → SoFar old w0 w1 (line ∷ rest) → core ≡ old → IsReported {A = A} (Err fault) (step_fault old line.step) → end ≡ steps_end line.number fault → HasTraced plant steps core end w0 w1
   step_not_done old core w0 w1 line rest A fault end half same told is =
       subst (λ (c : CoreView). HasTraced plant steps c end w0 w1) (sym same)
       (ends_so old end w0 w1 (line ∷ rest) half (rw (first_left steps half.at line rest half.left_are, is) (ends_at A old line fault told)))

@@ -5,7 +5,7 @@ use Rattle.plant.specs.declared.plant.PlantFields.{PlantFields}
 use Rattle.run_model.specs.declared.step.Out.{Out}
 use Rattle.run_model.specs.IsStateAfter.{CoreView, IsStateAfter}
 use Rattle.script_format.specs.declared.script.LineStep.{LineStep}
-use Rattle.script_format.specs.Script.{unnumbered}
+use Rattle.script_format.specs.Script.{steps_without_numbers}
 use Rattle.trace_report.specs.declared.decision.Decision.{Decision}
 use Rattle.trace_report.specs.Trace.{AreDecided, IsTraceText}
 
@@ -15,8 +15,8 @@ pub record IsTracedSoFar (plant : PlantFields) (steps : List LineStep) (core : C
   pub told : List Out
   pub decisions : List (Option Decision)
   pub text : List ℕ
-  pub reached : IsStateAfter plant (unnumbered (take at steps)) told core
-  pub decided : AreDecided plant [] (unnumbered (take at steps)) decisions
+  pub reached : IsStateAfter plant (steps_without_numbers (take at steps)) told core
+  pub decided : AreDecided plant [] (steps_without_numbers (take at steps)) decisions
   pub is_text : IsTraceText decisions text
   pub written : Appends old new text
   pub left_are : drop at steps ≡ left

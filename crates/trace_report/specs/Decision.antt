@@ -40,17 +40,17 @@ abbrev pub first_message : Operator → List Arrival → Option AtHand
 first_message op [] = None
 first_message op (first ∷ others) = message_heard op first.modem first.heard
 
-abbrev pub message_in : Option BookView → Option AtHand
-message_in None = None
-message_in (Some book) = first_message (operator book.consts book.row book.state) book.state.inbox
+abbrev pub message_at_hand : Option BookView → Option AtHand
+message_at_hand None = None
+message_at_hand (Some book) = first_message (operator book.consts book.row book.state) book.state.inbox
 
 -- an operator that works handles the first of its inbox; no other step handles a message
-abbrev pub message_handled : CoreView → Step → Option AtHand
-message_handled core (steps.Work op) = message_in (slice_get core.books op)
-message_handled core (steps.Arrive modem heard) = None
-message_handled core (steps.Tick op) = None
-message_handled core (steps.Collect op) = None
-message_handled core (steps.Reslice from rows) = None
+abbrev pub message_of_step : CoreView → Step → Option AtHand
+message_of_step core (steps.Work op) = message_at_hand (slice_get core.books op)
+message_of_step core (steps.Arrive modem heard) = None
+message_of_step core (steps.Tick op) = None
+message_of_step core (steps.Collect op) = None
+message_of_step core (steps.Reslice from rows) = None
 
 -- ---- what decides it
 
@@ -59,11 +59,11 @@ IsAck reading = (kind : Kind) × (tid : ℕ) × (code : ℕ) × (reading ≡ Ok 
 
 -- nothing decides an acknowledgement; a check of a message does; or, where the message is a request and none before it holds, a
 -- check of the request, of which the machine's verdict is the answer
-abbrev pub Decides : Operator → Modem → Reading → Option Decision → Type 0
-Decides op modem reading None = IsAck reading
-Decides op modem reading (Some (decisions.Message check)) =
+abbrev pub DecidesReading : Operator → Modem → Reading → Option Decision → Type 0
+DecidesReading op modem reading None = IsAck reading
+DecidesReading op modem reading (Some (decisions.Message check)) =
     (check ≢ Judged) × IsFirst (λ c. HoldsOf c op modem reading) message_table check
-Decides op modem reading (Some (decisions.Request check)) =
+DecidesReading op modem reading (Some (decisions.Request check)) =
     (request : Request) × (reading ≡ Ok (messages.Request request))
     × IsFirst (λ c. HoldsOf c op modem reading) message_table Judged
     × IsDecidedBy op modem (said_by request) check (verdict op modem request)
@@ -71,8 +71,8 @@ Decides op modem reading (Some (decisions.Request check)) =
 -- where no message is handled nothing is decided
 abbrev pub IsDecisionOf : Option AtHand → Option Decision → Type 0
 IsDecisionOf None decision = decision ≡ None
-IsDecisionOf (Some message) decision = Decides message.op message.modem (message_of message.bytes) decision
+IsDecisionOf (Some message) decision = DecidesReading message.op message.modem (message_of message.bytes) decision
 
 -- this decides what the step will answer in this core
 abbrev pub IsDecision : CoreView → Step → Option Decision → Type 0
-IsDecision core step decision = IsDecisionOf (message_handled core step) decision
+IsDecision core step decision = IsDecisionOf (message_of_step core step) decision

@@ -10,7 +10,7 @@ use Rattle.run_model.specs.declared.step.Step.{Step}
 use Rattle.run_model.specs.declared.step.Out.{Out}
 use Rattle.run_model.specs.IsStateAfter.{CoreView, IsStateAfter}
 use Rattle.script_format.specs.declared.script.LineStep.{LineStep}
-use Rattle.script_format.specs.Script.{unnumbered}
+use Rattle.script_format.specs.Script.{steps_without_numbers}
 use Rattle.line_service.specs.declared.steps_end.StepsEnd.{StepsEnd}
 use Rattle.line_service.specs.declared.steps_end.StepsEnd.TheVariants.{NoMemory}
 use Rattle.line_service.specs.Steps.{IsStepsEndAt}
@@ -77,8 +77,8 @@ pub record HasTraced (plant : PlantFields) (steps : List LineStep) (core : CoreV
   pub told : List Out
   pub decisions : List (Option Decision)
   pub text : List ℕ
-  pub reached : IsStateAfter plant (unnumbered (take at steps)) told core
+  pub reached : IsStateAfter plant (steps_without_numbers (take at steps)) told core
   pub ends : IsTraceEndAt core (slice_get steps at) decisions text end
-  pub decided : AreDecided plant [] (unnumbered (take at steps)) decisions
+  pub decided : AreDecided plant [] (steps_without_numbers (take at steps)) decisions
   pub is_text : IsTraceText decisions text
   pub written : Appends old new text

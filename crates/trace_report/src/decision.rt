@@ -8,7 +8,7 @@ ghost use Rattle.lists.specs.First.{IsFirst};
 ghost use Rattle.check_table.specs.Messages.{HoldsOf, message_table};
 ghost use Rattle.plant_core.specs.CoreView.{core_view};
 ghost use Rattle.plant_core.specs.Faults.{step_fault};
-ghost use Rattle.trace_report.specs.Decision.{first_message, Decides, IsDecisionOf, IsDecision};
+ghost use Rattle.trace_report.specs.Decision.{first_message, DecidesReading, IsDecisionOf, IsDecision};
 
 use check_explainer::OperatorSnapshot;
 use check_table::{Check, MessageCheck};
@@ -43,14 +43,14 @@ fn reading_of(alloc: Global, bytes: &[u8]) -> Result<Result<Message, MessageFaul
 
 /// Returns what decides a message of which no check but the last holds: a check of the request that
 /// it says.
-fn judged(
+fn decide_message(
     alloc: Global,
     operator_snapshot: &OperatorSnapshot,
     modem: Modem,
     reading: &Result<Message, MessageFault>,
 ) -> Result<Option<Decision>, AllocError>
     requires { IsFirst (λ check. HoldsOf check operator_snapshot.now modem reading.now) message_table Judged }
-    ensures { IfOk result (λ decision. Decides operator_snapshot.now modem reading.now decision) }
+    ensures { IfOk result (λ decision. DecidesReading operator_snapshot.now modem reading.now decision) }
 {
     match reading {
         Ok(Message::Request(request)) => {
@@ -75,14 +75,14 @@ fn decision_in(
     modem: Modem,
     bytes: &[u8],
 ) -> Result<Option<Decision>, AllocError>
-    ensures { IfOk result (λ decision. Decides operator_snapshot.now modem (message_of bytes.now) decision) }
+    ensures { IfOk result (λ decision. DecidesReading operator_snapshot.now modem (message_of bytes.now) decision) }
 {
     let reading = reading_of(alloc, bytes)?;
     let Some(check) = operator_snapshot.message_check(modem, &reading) else {
         return Ok(None);
     };
     match check {
-        MessageCheck::Judged => judged(alloc, operator_snapshot, modem, &reading),
+        MessageCheck::Judged => decide_message(alloc, operator_snapshot, modem, &reading),
         _ => Ok(Some(Decision::Message(check))),
     }
 }

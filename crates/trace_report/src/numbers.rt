@@ -39,7 +39,7 @@ fn is_to_be_admitted(encoding: &FlowTlv) -> bool {
 
 /// Returns the set of an encoding, where it has one.
 fn set_of(consts: &Consts, encoding: &FlowTlv) -> Option<ParamSet> {
-    let asked = consts.asked(encoding)?;
+    let asked = consts.requested_encoding(encoding)?;
     match from_tlv(&asked, &consts.get_fields().units) {
         Ok(set) => Some(set),
         Err(_refusal) => None,
@@ -156,7 +156,7 @@ fn flows_full(alloc: Global, operator_snapshot: &OperatorSnapshot) -> Result<Str
 
 /// Returns the transactions that are kept, and how many may be.
 fn kept_full(alloc: Global, operator_snapshot: &OperatorSnapshot) -> Result<String, AllocError> {
-    let count = operator_snapshot.state().kept().len();
+    let count = operator_snapshot.state().cached_responses().len();
     let most = operator_snapshot.row().get_fields().transactions;
     format!(in alloc; "{count} of {most} transactions are kept\n")
 }

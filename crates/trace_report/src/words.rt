@@ -9,7 +9,7 @@ use param_sets::{ParamSet, Units, need};
 use plant::Op;
 use plant_core::PlantCore;
 use run_model::Out;
-use script_format::{name_of, put_name};
+use script_format::{cause_name, put_name};
 use slice_scheduler::{Elements, Iuc, Span};
 use std::alloc::{AllocError, Global};
 
@@ -180,7 +180,7 @@ fn put_silent(
     if let Some(modem) = modem {
         write!(text, " to {modem}")?;
     }
-    let name = name_of(cause);
+    let name = cause_name(cause);
     write!(text, ": {name}")?;
     put_about(text, about)?;
     text.push_str("\n")

@@ -13,7 +13,7 @@ use Rattle.dsx_messages.specs.declared.modem.Modem.{Modem}
 use Rattle.transactions.specs.declared.entry.KeptEntry.{KeptEntry}
 use Rattle.transactions.specs.Waits.{Waits, IsLasting}
 use Rattle.transactions.specs.Entry.{is_of, waits_for}
-use Rattle.transactions.specs.Keeping.{begun, held_entry, acknowledged, OneEach, HasTicks, IsHeldUnsent, IsKept}
+use Rattle.transactions.specs.Keeping.{begun_entry, held_entry, entry_after_ack, OneEach, HasTicks, IsHeldUnsent, IsKept}
 use Rattle.transactions.proofs.ListLemmas.{count_by-none, count_by-weaker, find-position, find-no_position, none_changed, one_changed}
 
 -- an entry that is of a modem and a transaction ID names both
@@ -41,17 +41,17 @@ OneEach-push entries e free one modem tid =
 
 -- a new entry of a free pair, into room that is there
 module _ (times : Waits) (modem : Modem) (tid : ℕ) (kind : Kind) (reply : List ℕ) (sfid : ℕ) where
-  HasTicks-begun : (waits : Bool) → IsLasting times → HasTicks (begun times modem tid kind reply sfid waits)
+  HasTicks-begun : (waits : Bool) → IsLasting times → HasTicks (begun_entry times modem tid kind reply sfid waits)
   HasTicks-begun true lasting = lasting.ack_wait
   HasTicks-begun false lasting = lasting.hold
 
-  IsHeldUnsent-begun : (waits : Bool) → IsHeldUnsent (begun times modem tid kind reply sfid waits)
+  IsHeldUnsent-begun : (waits : Bool) → IsHeldUnsent (begun_entry times modem tid kind reply sfid waits)
   IsHeldUnsent-begun true idle = absurd (true≢false idle)
   IsHeldUnsent-begun false idle = refl
 
-  pub IsKept-begin : (waits : Bool) {capacity : ℕ} {entries : List KeptEntry} {reserved : ℕ} → find (is_of modem tid) entries ≡ None → length entries < capacity → IsKept capacity times entries reserved → IsKept capacity times (entries ++ begun times modem tid kind reply sfid waits ∷ []) reserved
+  pub IsKept-begin : (waits : Bool) {capacity : ℕ} {entries : List KeptEntry} {reserved : ℕ} → find (is_of modem tid) entries ≡ None → length entries < capacity → IsKept capacity times entries reserved → IsKept capacity times (entries ++ begun_entry times modem tid kind reply sfid waits ∷ []) reserved
   IsKept-begin waits {entries = entries} free few kept =
-      let e = begun times modem tid kind reply sfid waits in
+      let e = begun_entry times modem tid kind reply sfid waits in
       record {
         lasting = kept.lasting;
         within = omega (arith, length_push entries e);
@@ -82,14 +82,14 @@ module _ (waits : Waits) (modem : Modem) (tid : ℕ) (kind : Kind) (entries : Li
       omega (arith, one modem tid, count_by-weaker (waits_for modem tid kind) (is_of modem tid) (λ e waits. (and_parts _ _ (and_parts _ _ waits).0).0) entries)
 
   -- the acknowledgement of the entry at a place is a write there
-  pub acknowledged_at : (i : ℕ) (e : KeptEntry) → position (waits_for modem tid kind) entries ≡ Some i → e ≡ get_or entries i e → map (acknowledged waits modem tid kind) entries ≡ set entries i (held_entry waits e)
+  pub acknowledged_at : (i : ℕ) (e : KeptEntry) → position (waits_for modem tid kind) entries ≡ Some i → e ≡ get_or entries i e → map (entry_after_ack waits modem tid kind) entries ≡ set entries i (held_entry waits e)
   acknowledged_at i e found here =
       let at = position-Some (waits_for modem tid kind) entries i e found in
       one_changed (waits_for modem tid kind) (held_entry waits) entries i e one_waits at.0 at.1
       ∙ ap (λ (x : KeptEntry). set entries i (held_entry waits x)) (sym here)
 
 -- where none waits, nothing changes
-pub acknowledged_none : (waits : Waits) (modem : Modem) (tid : ℕ) (kind : Kind) (entries : List KeptEntry) → position (waits_for modem tid kind) entries ≡ None → map (acknowledged waits modem tid kind) entries ≡ entries
+pub acknowledged_none : (waits : Waits) (modem : Modem) (tid : ℕ) (kind : Kind) (entries : List KeptEntry) → position (waits_for modem tid kind) entries ≡ None → map (entry_after_ack waits modem tid kind) entries ≡ entries
 acknowledged_none waits modem tid kind entries none =
     none_changed (waits_for modem tid kind) (held_entry waits) entries
     (count_by-none (waits_for modem tid kind) entries (find-no_position (waits_for modem tid kind) entries none))

@@ -7,8 +7,8 @@ use Rattle.dsx_messages.specs.declared.modem.Modem.{Modem}
 use Rattle.transactions.specs.declared.entry.KeptEntry.{KeptEntry}
 use Rattle.transactions.specs.Waits.{Waits, IsLasting}
 use Rattle.transactions.specs.Entry.{is_waiting}
-use Rattle.transactions.specs.Timers.{is_due, is_resent, is_given_up, is_forgotten, ticked}
-use Rattle.transactions.specs.Keeping.{begun, held_entry}
+use Rattle.transactions.specs.Timers.{is_due, is_resent, is_given_up, is_forgotten, entry_after_tick}
+use Rattle.transactions.specs.Keeping.{begun_entry, held_entry}
 use Rattle.transactions.specs.Life.{after_ticks, WaitsInVain, IsOnlyHeld}
 
 -- m ticks, and then n
@@ -26,7 +26,7 @@ counted e ticks resends = record e { ticks_left = ticks; resends_left = resends 
 
 module _ (waits : Waits) where
   -- a tick within a wait
-  tick_within : (e : KeptEntry) (t r : ℕ) → 1 < t → ticked waits (counted e t r) ≡ counted e (t - 1) r
+  tick_within : (e : KeptEntry) (t r : ℕ) → 1 < t → entry_after_tick waits (counted e t r) ≡ counted e (t - 1) r
   tick_within e t r more = cond-false (is_resent (counted e t r)) _ _ (and_left _ _ (and_left _ _ (ne_eqb t 1 (omega arith))))
 
   -- the ticks within a wait
@@ -34,12 +34,12 @@ module _ (waits : Waits) where
   ticks_within e r zero t lt = let all : t ≡ t - 0 = omega arith in ap (λ (n : ℕ). counted e n r) all
   ticks_within e r (suc j) t lt =
       let less : (t - 1) - j ≡ t - suc j = omega arith in
-      ap (iterate (ticked waits) j) (tick_within e t r (omega arith))
+      ap (iterate (entry_after_tick waits) j) (tick_within e t r (omega arith))
       ∙ (ticks_within e r j (t - 1) (omega arith) ∙ ap (λ (n : ℕ). counted e n r) less)
 
   module _ (lasting : IsLasting waits) (e : KeptEntry) (waiting : is_waiting e ≡ true) where
     -- the last tick of a wait that a resend follows
-    tick_last : (r : ℕ) → 0 < r → ticked waits (counted e 1 r) ≡ counted e waits.ack_wait (r - 1)
+    tick_last : (r : ℕ) → 0 < r → entry_after_tick waits (counted e 1 r) ≡ counted e waits.ack_wait (r - 1)
     tick_last r some = cond-true (is_resent (counted e 1 r)) _ _ (and_from _ _ (and_from _ _ refl waiting) (lt-ltb 0 r some))
 
     -- a whole wait
@@ -49,9 +49,9 @@ module _ (waits : Waits) where
         let parts : waits.ack_wait ≡ (waits.ack_wait - 1) + 1 = omega arith in
         let last : waits.ack_wait - (waits.ack_wait - 1) ≡ 1 = omega arith in
         let start = counted e waits.ack_wait r in
-        ap (λ (n : ℕ). iterate (ticked waits) n start) parts
-        ∙ (iterate-add (ticked waits) (waits.ack_wait - 1) 1 start
-        ∙ (ap (ticked waits) (ticks_within e r (waits.ack_wait - 1) waits.ack_wait (omega arith) ∙ ap (λ (n : ℕ). counted e n r) last)
+        ap (λ (n : ℕ). iterate (entry_after_tick waits) n start) parts
+        ∙ (iterate-add (entry_after_tick waits) (waits.ack_wait - 1) 1 start
+        ∙ (ap (entry_after_tick waits) (ticks_within e r (waits.ack_wait - 1) waits.ack_wait (omega arith) ∙ ap (λ (n : ℕ). counted e n r) last)
         ∙ tick_last r some))
 
     -- several waits
@@ -59,22 +59,22 @@ module _ (waits : Waits) where
     more_waits zero r le =
         let none : 0 * waits.ack_wait ≡ 0 = omega arith in
         let all : r ≡ r - 0 = omega arith in
-        ap (λ (n : ℕ). iterate (ticked waits) n (counted e waits.ack_wait r)) none ∙ ap (λ (n : ℕ). counted e waits.ack_wait n) all
+        ap (λ (n : ℕ). iterate (entry_after_tick waits) n (counted e waits.ack_wait r)) none ∙ ap (λ (n : ℕ). counted e waits.ack_wait n) all
     more_waits (suc k) r le =
         let parts : suc k * waits.ack_wait ≡ waits.ack_wait + k * waits.ack_wait = omega arith in
         let less : (r - 1) - k ≡ r - suc k = omega arith in
         let start = counted e waits.ack_wait r in
-        ap (λ (n : ℕ). iterate (ticked waits) n start) parts
-        ∙ (iterate-add (ticked waits) waits.ack_wait (k * waits.ack_wait) start
-        ∙ (ap (iterate (ticked waits) (k * waits.ack_wait)) (one_wait r (omega arith))
+        ap (λ (n : ℕ). iterate (entry_after_tick waits) n start) parts
+        ∙ (iterate-add (entry_after_tick waits) waits.ack_wait (k * waits.ack_wait) start
+        ∙ (ap (iterate (entry_after_tick waits) (k * waits.ack_wait)) (one_wait r (omega arith))
         ∙ (more_waits k (r - 1) (omega arith)
         ∙ ap (λ (n : ℕ). counted e waits.ack_wait n) less)))
 
     -- several waits, and ticks within the next
     at_tick : (k j r : ℕ) → k ≤ r → j < waits.ack_wait → after_ticks waits (k * waits.ack_wait + j) (counted e waits.ack_wait r) ≡ counted e (waits.ack_wait - j) (r - k)
     at_tick k j r le lt =
-        iterate-add (ticked waits) (k * waits.ack_wait) j (counted e waits.ack_wait r)
-        ∙ (ap (iterate (ticked waits) j) (more_waits k r le) ∙ ticks_within e (r - k) j waits.ack_wait lt)
+        iterate-add (entry_after_tick waits) (k * waits.ack_wait) j (counted e waits.ack_wait r)
+        ∙ (ap (iterate (entry_after_tick waits) j) (more_waits k r le) ∙ ticks_within e (r - k) j waits.ack_wait lt)
 
     WaitsInVain-counted : WaitsInVain waits (counted e waits.ack_wait waits.resends)
     WaitsInVain-counted =
@@ -90,9 +90,9 @@ module _ (waits : Waits) where
         }
 
 -- an entry that begins to wait
-pub WaitsInVain-begun : (waits : Waits) (modem : Modem) (tid : ℕ) (kind : Kind) (reply : List ℕ) (sfid : ℕ) → IsLasting waits → WaitsInVain waits (begun waits modem tid kind reply sfid true)
+pub WaitsInVain-begun : (waits : Waits) (modem : Modem) (tid : ℕ) (kind : Kind) (reply : List ℕ) (sfid : ℕ) → IsLasting waits → WaitsInVain waits (begun_entry waits modem tid kind reply sfid true)
 WaitsInVain-begun waits modem tid kind reply sfid lasting =
-    WaitsInVain-counted waits lasting (begun waits modem tid kind reply sfid true) refl
+    WaitsInVain-counted waits lasting (begun_entry waits modem tid kind reply sfid true) refl
 
 -- an entry that is held
 pub IsOnlyHeld-held_entry : (waits : Waits) (e : KeptEntry) → IsLasting waits → IsOnlyHeld waits (held_entry waits e)

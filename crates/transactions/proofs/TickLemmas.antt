@@ -7,13 +7,13 @@ use Rattle.dsx_messages.specs.declared.modem.Modem.{Modem}
 use Rattle.transactions.specs.declared.entry.KeptEntry.{KeptEntry}
 use Rattle.transactions.specs.Waits.{Waits}
 use Rattle.transactions.specs.Entry.{is_of, is_waiting}
-use Rattle.transactions.specs.Timers.{is_due, is_resent, is_given_up, is_forgotten, ticked, kept_after}
+use Rattle.transactions.specs.Timers.{is_due, is_resent, is_given_up, is_forgotten, entry_after_tick, kept_after}
 use Rattle.transactions.specs.Keeping.{HasTicks, IsHeldUnsent, IsKept}
 use Rattle.transactions.proofs.ListLemmas.{All-kept, count_by-kept}
 
 module _ (waits : Waits) where
   -- a tick changes neither whose an entry is nor whether it waits
-  is_of-ticked : (modem : Modem) (tid : ℕ) (e : KeptEntry) → is_of modem tid (ticked waits e) ≡ is_of modem tid e
+  is_of-ticked : (modem : Modem) (tid : ℕ) (e : KeptEntry) → is_of modem tid (entry_after_tick waits e) ≡ is_of modem tid e
   is_of-ticked modem tid e =
       cond_both (is_resent e) _ _ (λ (after : KeptEntry). is_of modem tid after ≡ is_of modem tid e) (λ _. refl) (λ _. refl)
 
@@ -33,7 +33,7 @@ module _ (waits : Waits) where
       ]
 
   -- an entry that is not forgotten has ticks left afterwards
-  HasTicks-ticked : 1 ≤ waits.ack_wait → (e : KeptEntry) → HasTicks e → not (is_forgotten e) ≡ true → HasTicks (ticked waits e)
+  HasTicks-ticked : 1 ≤ waits.ack_wait → (e : KeptEntry) → HasTicks e → not (is_forgotten e) ≡ true → HasTicks (entry_after_tick waits e)
   HasTicks-ticked wait e ticks stays =
       cond_both (is_resent e) _ _ HasTicks (λ again. wait)
       (λ once. elim (cases_eq e.ticks_left 1) [
@@ -41,7 +41,7 @@ module _ (waits : Waits) where
         | inr more ↦ omega arith
       ])
 
-  IsHeldUnsent-ticked : (e : KeptEntry) → IsHeldUnsent e → not (is_forgotten e) ≡ true → IsHeldUnsent (ticked waits e)
+  IsHeldUnsent-ticked : (e : KeptEntry) → IsHeldUnsent e → not (is_forgotten e) ≡ true → IsHeldUnsent (entry_after_tick waits e)
   IsHeldUnsent-ticked e held stays =
       cond_both (is_resent e) _ _ IsHeldUnsent (λ again idle. omega (arith, held idle)) (λ _. held)
 
@@ -50,9 +50,9 @@ module _ (waits : Waits) where
       let stays : KeptEntry → Bool = λ e. not (is_forgotten e) in
       record {
         lasting = kept.lasting;
-        within = omega (arith, length-map (filter stays entries) (ticked waits), length-filter stays entries, count_by-le-length stays entries, kept.within);
+        within = omega (arith, length-map (filter stays entries) (entry_after_tick waits), length-filter stays entries, count_by-le-length stays entries, kept.within);
         room = kept.room;
-        ticking = All-kept HasTicks stays (ticked waits) (HasTicks-ticked kept.lasting.ack_wait) entries kept.ticking;
-        held = All-kept IsHeldUnsent stays (ticked waits) IsHeldUnsent-ticked entries kept.held;
-        one_each = λ modem tid. omega (arith, count_by-kept (is_of modem tid) stays (ticked waits) (is_of-ticked modem tid) entries, kept.one_each modem tid);
+        ticking = All-kept HasTicks stays (entry_after_tick waits) (HasTicks-ticked kept.lasting.ack_wait) entries kept.ticking;
+        held = All-kept IsHeldUnsent stays (entry_after_tick waits) IsHeldUnsent-ticked entries kept.held;
+        one_each = λ modem tid. omega (arith, count_by-kept (is_of modem tid) stays (entry_after_tick waits) (is_of-ticked modem tid) entries, kept.one_each modem tid);
       }

@@ -14,8 +14,8 @@ pub record Keeping : Type 0 where
   pub entries : List KeptEntry
 
 -- an entry that begins: it waits `ack_wait` ticks and may be resent `resends` times, or it is held `hold` ticks
-abbrev pub begun : Waits → Modem → ℕ → Kind → List ℕ → ℕ → Bool → KeptEntry
-begun times modem tid kind reply sfid waits = record {
+abbrev pub begun_entry : Waits → Modem → ℕ → Kind → List ℕ → ℕ → Bool → KeptEntry
+begun_entry times modem tid kind reply sfid waits = record {
   modem = modem;
   tid = tid;
   kind = kind;
@@ -31,8 +31,8 @@ abbrev pub held_entry : Waits → KeptEntry → KeptEntry
 held_entry waits e = record e { standing = Held; ticks_left = waits.hold; resends_left = 0 }
 
 -- an entry after an acknowledgement: it is held where it waited for this one, else it is as it was
-abbrev pub acknowledged : Waits → Modem → ℕ → Kind → KeptEntry → KeptEntry
-acknowledged waits modem tid kind e = if waits_for modem tid kind e then held_entry waits e else e
+abbrev pub entry_after_ack : Waits → Modem → ℕ → Kind → KeptEntry → KeptEntry
+entry_after_ack waits modem tid kind e = if waits_for modem tid kind e then held_entry waits e else e
 
 -- at most one entry exists of each modem and transaction ID
 abbrev pub OneEach : List KeptEntry → Type 0

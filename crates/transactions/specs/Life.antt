@@ -4,11 +4,11 @@ use Rattle.std.specs.Fn.{iterate}
 use Rattle.transactions.specs.declared.entry.KeptEntry.{KeptEntry}
 use Rattle.transactions.specs.Waits.{Waits}
 use Rattle.transactions.specs.Entry.{is_waiting}
-use Rattle.transactions.specs.Timers.{is_due, is_resent, is_given_up, is_forgotten, ticked}
+use Rattle.transactions.specs.Timers.{is_due, is_resent, is_given_up, is_forgotten, entry_after_tick}
 
 -- an entry after n ticks, as the tick after them finds it
 abbrev pub after_ticks : Waits → ℕ → KeptEntry → KeptEntry
-after_ticks waits n e = iterate (ticked waits) n e
+after_ticks waits n e = iterate (entry_after_tick waits) n e
 
 -- the last tick of each of its first `resends` waits resends it, the last tick of the next wait abandons it, and at the ticks between nothing is due
 pub record WaitsInVain (waits : Waits) (e : KeptEntry) : Type 0 where

@@ -23,8 +23,8 @@ abbrev pub is_forgotten : KeptEntry → Bool
 is_forgotten e = is_given_up e || is_due e && not (is_waiting e)
 
 -- an entry after the tick: where it is resent, it waits `ack_wait` ticks more with one resend less; else it has one tick less
-abbrev pub ticked : Waits → KeptEntry → KeptEntry
-ticked waits e =
+abbrev pub entry_after_tick : Waits → KeptEntry → KeptEntry
+entry_after_tick waits e =
     if is_resent e then record e { ticks_left = waits.ack_wait; resends_left = e.resends_left - 1 } else record e { ticks_left = e.ticks_left - 1 }
 
 -- what is retransmitted of an entry
@@ -37,7 +37,7 @@ given_up_of e = record { kind = e.kind; sfid = e.sfid }
 
 -- the entries that are kept after the tick
 abbrev pub kept_after : Waits → List KeptEntry → List KeptEntry
-kept_after waits entries = map (ticked waits) (filter (λ e. not (is_forgotten e)) entries)
+kept_after waits entries = map (entry_after_tick waits) (filter (λ e. not (is_forgotten e)) entries)
 
 -- what the tick retransmits
 abbrev pub resent_in : List KeptEntry → List Resend

@@ -2,8 +2,8 @@
 
 ghost use Rattle.std.specs.Prelude.{◌≡◌, not, IfOk};
 ghost use Rattle.transactions.specs.Entry.{is_of, waits_for};
-ghost use Rattle.transactions.specs.Timers.{is_due, is_resent, is_given_up, is_forgotten, ticked};
-ghost use Rattle.transactions.specs.Keeping.{begun, held_entry};
+ghost use Rattle.transactions.specs.Timers.{is_due, is_resent, is_given_up, is_forgotten, entry_after_tick};
+ghost use Rattle.transactions.specs.Keeping.{begun_entry, held_entry};
 
 use crate::timers::Timers;
 use dsx_messages::{Kind, Modem};
@@ -51,7 +51,7 @@ impl KeptEntry {
         sfid: u32,
         waits: bool,
     ) -> KeptEntry
-        ensures { result ≡ begun timers modem tid kind reply sfid waits }
+        ensures { result ≡ begun_entry timers modem tid kind reply sfid waits }
     {
         let (standing, ticks_left, resends_left) = if waits {
             (
@@ -138,7 +138,7 @@ impl KeptEntry {
     /// whether the entry stays.
     pub(crate) fn tick(&mut self, timers: Timers) -> bool
         ensures stays { result ≡ not (is_forgotten self.old) }
-        ensures after { self.new ≡ ticked timers self.old }
+        ensures after { self.new ≡ entry_after_tick timers self.old }
     {
         let stays = !self.is_forgotten();
         if self.is_resent() {

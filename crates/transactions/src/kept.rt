@@ -5,7 +5,7 @@ ghost use Rattle.std.specs.Option.{option_copied};
 ghost use Rattle.transactions.specs.Waits.{IsLasting};
 ghost use Rattle.transactions.specs.Entry.{is_of, waits_for};
 ghost use Rattle.transactions.specs.Timers.{is_resent, resent_in, given_up_in, kept_after};
-ghost use Rattle.transactions.specs.Keeping.{begun, acknowledged, OneEach, HasTicks, IsHeldUnsent};
+ghost use Rattle.transactions.specs.Keeping.{begun_entry, entry_after_ack, OneEach, HasTicks, IsHeldUnsent};
 
 use crate::entry::KeptEntry;
 use crate::tick::{Resends, Ticked, count_down, given_ups_in, resends_in};
@@ -82,7 +82,7 @@ impl Kept {
         ensures ok { OnOk result (self.new
             ≡ record self.old {
               entries = self.old.entries
-                  ++ begun self.old.waits modem tid kind reply sfid waits ∷ [];
+                  ++ begun_entry self.old.waits modem tid kind reply sfid waits ∷ [];
             }) }
         ensures was_free { OnOk result ((length self.old.entries < self.old.capacity)
             × IsNone (find (is_of modem tid) self.old.entries)) }
@@ -118,7 +118,7 @@ impl Kept {
         requires room { length self.old.entries < self.old.capacity }
         requires free { IsNone (find (is_of modem tid) self.old.entries) }
         ensures { self.new ≡ record self.old {
-          entries = self.old.entries ++ begun self.old.waits modem tid kind reply sfid waits ∷ [];
+          entries = self.old.entries ++ begun_entry self.old.waits modem tid kind reply sfid waits ∷ [];
         } }
     {
         let entry = KeptEntry::begin(self.timers, modem, tid, kind, reply, sfid, waits);
@@ -130,7 +130,7 @@ impl Kept {
     pub fn acked(&mut self, modem: Modem, tid: u16, kind: Kind) -> Option<u32>
         ensures sfid { result ≡ option_map (λ e. e.sfid) (find (waits_for modem tid kind) self.old.entries) }
         ensures state { self.new ≡ record self.old
-            { entries = map (acknowledged self.old.waits modem tid kind) self.old.entries } }
+            { entries = map (entry_after_ack self.old.waits modem tid kind) self.old.entries } }
         ensures none { result ≡ None → self.new ≡ self.old }
     {
         let place = waiting_place(&self.entries, modem, tid, kind)?;

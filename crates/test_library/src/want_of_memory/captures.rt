@@ -86,24 +86,24 @@ fn capture_of(alloc: Global) -> Result<Capture, AllocError> {
 }
 
 /// Captures the message of a step.
-fn sent(alloc: Global, capture: &mut Capture, step: &Step) -> Result<(), AllocError> {
-    again!(capture.sent(alloc, step))
+fn capture_message(alloc: Global, capture: &mut Capture, step: &Step) -> Result<(), AllocError> {
+    again!(capture.add_sent_message(alloc, step))
 }
 
 /// Captures what a step outputs.
-fn told(alloc: Global, capture: &mut Capture, outs: &[Out]) -> Result<(), AllocError> {
-    again!(capture.told(alloc, outs))
+fn capture_outputs(alloc: Global, capture: &mut Capture, outs: &[Out]) -> Result<(), AllocError> {
+    again!(capture.add_outputs(alloc, outs))
 }
 
 /// Captures a message of the modem.
 fn send(alloc: Global, capture: &mut Capture, bytes: &[u8]) -> Result<(), AllocError> {
     let step = message(alloc, bytes)?;
-    sent(alloc, capture, &step)
+    capture_message(alloc, capture, &step)
 }
 
 /// Captures one output of a step.
 fn tell(alloc: Global, capture: &mut Capture, out: Out) -> Result<(), AllocError> {
-    told(alloc, capture, &[out])
+    capture_outputs(alloc, capture, &[out])
 }
 
 /// Captures a flow's addition, its MAP and its deletion.

@@ -24,7 +24,7 @@ fn idle(alloc: Global, slice: Slice) -> Result<Elements, AllocError> {
 }
 
 /// Puts an operator's part of the first frame, and once more where that finds no memory: what is handed back is put again.
-fn put(
+fn put_part(
     alloc: Global,
     gather: &mut Gather,
     op: Op,
@@ -43,7 +43,7 @@ fn put(
 
 /// Returns whether a part is put, and results in this MAP, or to none where no byte is wanted.
 fn comes_to(alloc: Global, gather: &mut Gather, op: Op, elements: Elements, wanted: &[u8]) -> bool {
-    match &put(alloc, gather, op, elements) {
+    match &put_part(alloc, gather, op, elements) {
         Ok(Some(map)) => are(map.bytes.as_slice(), wanted),
         Ok(None) => wanted.is_empty(),
         Err(_) => false,

@@ -33,7 +33,7 @@ fn reply_bytes_are_copied(alloc: Global) -> bool {
 }
 
 /// Returns what is split, and once more where that finds no memory.
-fn split(alloc: Global, list: &[u8]) -> Result<Vec<Tlv>, TlvFault> {
+fn split_list(alloc: Global, list: &[u8]) -> Result<Vec<Tlv>, TlvFault> {
     again!(Tlvs::split(alloc, list), TlvFault::NoMemory)
 }
 
@@ -52,7 +52,7 @@ fn are_split(tlvs: &[Tlv]) -> bool {
 
 /// Returns whether the list of both is split.
 fn tlvs_are_split(alloc: Global) -> bool {
-    match &split(alloc, &[27, 0, 31, 1, 7]) {
+    match &split_list(alloc, &[27, 0, 31, 1, 7]) {
         Ok(tlvs) => are_split(tlvs.as_slice()),
         Err(_) => false,
     }

@@ -34,7 +34,7 @@ fn two_are_taken(alloc: Global) -> bool {
 
 /// Returns a table of two responses that are retransmitted at the first tick and abandoned at the
 /// second, empty yet.
-fn kept(alloc: Global) -> Result<Kept, AllocError> {
+fn response_table(alloc: Global) -> Result<Kept, AllocError> {
     again!(Kept::new(alloc, 2, Timers::new(1, 1, 5)))
 }
 
@@ -110,7 +110,7 @@ fn both_go_their_way(alloc: Global, kept: &mut Kept) -> Result<bool, AllocError>
 
 /// Returns the same of a table that is empty yet.
 fn kept_go_their_way(alloc: Global) -> Result<bool, AllocError> {
-    let mut kept = kept(alloc)?;
+    let mut kept = response_table(alloc)?;
     both_go_their_way(alloc, &mut kept)
 }
 

@@ -1,6 +1,8 @@
 //! Actions on an operator's book, and their outputs.
 
-use crate::cores::fixtures::{ADDITION, Expected, MODEM_OF_A, MODEM_OF_B, REPLY, heard, is_output};
+use crate::cores::fixtures::{
+    ADDITION, ExpectedOutput, MODEM_OF_A, MODEM_OF_B, REPLY, heard_message, is_output,
+};
 use crate::cores::opening::{book_of, strict};
 use dsx_messages::Modem;
 use operator_book::{Action, Book, BookFault, Cause, Output};
@@ -21,7 +23,7 @@ fn action(alloc: Global, call: BookCall) -> Result<Action, AllocError> {
     match call {
         BookCall::Arrive(modem, bytes) => Ok(Action::Arrive {
             modem,
-            heard: heard(alloc, bytes)?,
+            heard: heard_message(alloc, bytes)?,
         }),
         BookCall::Work => Ok(Action::Work),
         BookCall::Tick => Ok(Action::Tick),
@@ -29,9 +31,9 @@ fn action(alloc: Global, call: BookCall) -> Result<Action, AllocError> {
 }
 
 /// Returns whether outputs are the expected one alone, or none where none is expected.
-fn are_outputs(outputs: &[Output], wanted: Expected) -> bool {
+fn are_outputs(outputs: &[Output], wanted: ExpectedOutput) -> bool {
     match outputs {
-        [] => wanted == Expected::Nothing,
+        [] => wanted == ExpectedOutput::Nothing,
         [output] => is_output(output, wanted),
         _ => false,
     }
@@ -40,7 +42,7 @@ fn are_outputs(outputs: &[Output], wanted: Expected) -> bool {
 /// Returns whether an action has the expected output or fault.
 fn is_expected(
     returned: &Result<Vec<Output>, BookFault>,
-    wanted: Result<Expected, BookFault>,
+    wanted: Result<ExpectedOutput, BookFault>,
 ) -> bool {
     match (returned, wanted) {
         (Ok(outputs), Ok(wanted)) => are_outputs(outputs.as_slice(), wanted),
@@ -50,17 +52,17 @@ fn is_expected(
 }
 
 /// An action, and its expected output or fault.
-type Row = (BookCall, Result<Expected, BookFault>);
+type BookRow = (BookCall, Result<ExpectedOutput, BookFault>);
 
 /// Returns whether a book acts as expected.
-fn does(alloc: Global, book: &mut Book, row: Row) -> Result<bool, AllocError> {
+fn does(alloc: Global, book: &mut Book, row: BookRow) -> Result<bool, AllocError> {
     let (call, wanted) = row;
     let action = action(alloc, call)?;
     Ok(is_expected(&book.act(alloc, action), wanted))
 }
 
 /// Returns whether a book acts as expected, action after action.
-fn does_all(alloc: Global, book: &mut Book, rows: &[Row]) -> Result<bool, AllocError> {
+fn does_all(alloc: Global, book: &mut Book, rows: &[BookRow]) -> Result<bool, AllocError> {
     for row in rows {
         if !does(alloc, book, *row)? {
             return Ok(false);
@@ -72,7 +74,7 @@ fn does_all(alloc: Global, book: &mut Book, rows: &[Row]) -> Result<bool, AllocE
 /// Returns how many entries the history has, and how many responses are kept.
 fn counts(alloc: Global, book: &Book) -> Result<(usize, usize), AllocError> {
     let view = book.state_view(alloc)?;
-    Ok((book.history().len(), view.kept().len()))
+    Ok((book.history().len(), view.cached_responses().len()))
 }
 
 /// Returns whether the book of operator A acts as expected, and then has so many entries and cached
@@ -80,7 +82,7 @@ fn counts(alloc: Global, book: &Book) -> Result<(usize, usize), AllocError> {
 fn book_does(
     alloc: Global,
     keys: &str,
-    rows: &[Row],
+    rows: &[BookRow],
     wanted: (usize, usize),
 ) -> Result<bool, AllocError> {
     match &mut book_of(alloc, keys, 0, strict!(alloc)) {
@@ -90,27 +92,30 @@ fn book_does(
 }
 
 /// The inbox is empty, then takes four messages and drops a fifth. A modem of another operator is refused without an entry.
-const INBOX: &[Row] = &[
-    (BookCall::Work, Ok(Expected::Silent(None, Cause::Idle))),
+const INBOX: &[BookRow] = &[
     (
-        BookCall::Arrive(MODEM_OF_A, ADDITION),
-        Ok(Expected::Nothing),
+        BookCall::Work,
+        Ok(ExpectedOutput::Silent(None, Cause::Idle)),
     ),
     (
         BookCall::Arrive(MODEM_OF_A, ADDITION),
-        Ok(Expected::Nothing),
+        Ok(ExpectedOutput::Nothing),
     ),
     (
         BookCall::Arrive(MODEM_OF_A, ADDITION),
-        Ok(Expected::Nothing),
+        Ok(ExpectedOutput::Nothing),
     ),
     (
         BookCall::Arrive(MODEM_OF_A, ADDITION),
-        Ok(Expected::Nothing),
+        Ok(ExpectedOutput::Nothing),
     ),
     (
         BookCall::Arrive(MODEM_OF_A, ADDITION),
-        Ok(Expected::Silent(Some(MODEM_OF_A), Cause::InboxFull)),
+        Ok(ExpectedOutput::Nothing),
+    ),
+    (
+        BookCall::Arrive(MODEM_OF_A, ADDITION),
+        Ok(ExpectedOutput::Silent(Some(MODEM_OF_A), Cause::InboxFull)),
     ),
     (
         BookCall::Arrive(MODEM_OF_B, ADDITION),
@@ -119,26 +124,26 @@ const INBOX: &[Row] = &[
 ];
 
 /// Frame numbers are used up, so that ticks are refused without an entry. A message is still served.
-const LAST: &[Row] = &[
+const LAST: &[BookRow] = &[
     (BookCall::Tick, Err(BookFault::FramesSpent)),
     (BookCall::Tick, Err(BookFault::FramesSpent)),
     (
         BookCall::Arrive(MODEM_OF_A, ADDITION),
-        Ok(Expected::Nothing),
+        Ok(ExpectedOutput::Nothing),
     ),
-    (BookCall::Work, Ok(Expected::Reply(REPLY))),
+    (BookCall::Work, Ok(ExpectedOutput::Reply(REPLY))),
 ];
 
 /// The transaction ID is one of the CMTS's half: the refusal is not kept.
-const NOT_KEPT: &[Row] = &[
+const NOT_KEPT: &[BookRow] = &[
     (
         BookCall::Arrive(
             MODEM_OF_A,
             &[15, 128, 0, 24, 10, 1, 2, 0, 1, 6, 1, 6, 15, 1, 2],
         ),
-        Ok(Expected::Nothing),
+        Ok(ExpectedOutput::Nothing),
     ),
-    (BookCall::Work, Ok(Expected::Reply(&[16, 128, 0, 10]))),
+    (BookCall::Work, Ok(ExpectedOutput::Reply(&[16, 128, 0, 10]))),
 ];
 
 #[test]
@@ -158,7 +163,7 @@ fn a_book_returns_the_output_of_each_action(rt: HostRuntime) -> Result<(), Alloc
 const GOLD: &str = "\n[[class]]\nname = \"gold\"\nencoding = \"0F0102070105\"\n";
 
 /// An addition that names the class and has no priority of its own.
-const OF_GOLD: &[Row] = &[
+const OF_GOLD: &[BookRow] = &[
     (
         BookCall::Arrive(
             MODEM_OF_A,
@@ -166,9 +171,9 @@ const OF_GOLD: &[Row] = &[
                 15, 0, 1, 24, 14, 1, 2, 0, 1, 4, 5, 0x67, 0x6F, 0x6C, 0x64, 0, 6, 1, 6,
             ],
         ),
-        Ok(Expected::Nothing),
+        Ok(ExpectedOutput::Nothing),
     ),
-    (BookCall::Work, Ok(Expected::Reply(REPLY))),
+    (BookCall::Work, Ok(ExpectedOutput::Reply(REPLY))),
 ];
 
 /// Returns the SFID and the priority of the first flow, of the set that becomes active at its acknowledgement.

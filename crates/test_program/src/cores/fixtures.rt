@@ -24,7 +24,7 @@ pub(crate) const REPLY: &[u8] = &[
 
 /// An output that a test expects.
 #[derive(Clone, Copy, Debug, PartialEq, Eq)]
-pub(crate) enum Expected {
+pub(crate) enum ExpectedOutput {
     /// No output.
     Nothing,
     Reply(&'static [u8]),
@@ -32,16 +32,17 @@ pub(crate) enum Expected {
 }
 
 /// Returns whether an output is the expected one.
-pub(crate) fn is_output(output: &Output, wanted: Expected) -> bool {
+pub(crate) fn is_output(output: &Output, wanted: ExpectedOutput) -> bool {
     match (output, wanted) {
-        (Output::Reply { modem: _, bytes }, Expected::Reply(reply)) => bytes.as_slice() == reply,
-        (Output::Silent { modem, cause }, Expected::Silent(of, why)) => *modem == of
+        (Output::Reply { modem: _, bytes }, ExpectedOutput::Reply(reply)) => bytes.as_slice()
+            == reply,
+        (Output::Silent { modem, cause }, ExpectedOutput::Silent(of, why)) => *modem == of
             && *cause == why,
         _ => false,
     }
 }
 
 /// Returns a message of these bytes.
-pub(crate) fn heard(alloc: Global, bytes: &[u8]) -> Result<Heard, AllocError> {
+pub(crate) fn heard_message(alloc: Global, bytes: &[u8]) -> Result<Heard, AllocError> {
     Ok(Heard::Message(Bytes::from_slice(alloc, bytes)?))
 }

@@ -1,6 +1,6 @@
 //! Runs of many steps of a plant's core.
 
-use crate::cores::fixtures::{ADDITION, Expected, MODEM_OF_A, REPLY, is_output};
+use crate::cores::fixtures::{ADDITION, ExpectedOutput, MODEM_OF_A, REPLY, is_output};
 use crate::cores::opening::{core, strict};
 use crate::cores::steps::{HALF, StepCall, are_outs, steps_of};
 use operator_book::{Cause, Output};
@@ -15,7 +15,7 @@ type Stop = Option<(usize, CoreFault)>;
 
 /// Returns whether the only output of a run is that an operator's inbox is empty, and whether it stops as expected.
 fn idles(ran: &Result<Vec<Out>, RunStop>, op: Op, wanted: Stop) -> bool {
-    let idle = Expected::Silent(None, Cause::Idle);
+    let idle = ExpectedOutput::Silent(None, Cause::Idle);
     match (ran, wanted) {
         (Ok(outs), None) => are_outs(outs.as_slice(), op, idle),
         (Err(stop), Some((at, fault))) => {
@@ -106,7 +106,7 @@ fn are_of_all_kinds(outs: &[Out]) -> bool {
                 },
             },
             Out::Map(made),
-        ] => is_output(reply, Expected::Reply(REPLY)) && made.frame == 0,
+        ] => is_output(reply, ExpectedOutput::Reply(REPLY)) && made.frame == 0,
         _ => false,
     }
 }

@@ -1,6 +1,6 @@
 //! Receipts that settle with their books, and receipts that do not.
 
-use crate::cores::fixtures::{ADDITION, MODEM_OF_A, REPLY, heard};
+use crate::cores::fixtures::{ADDITION, MODEM_OF_A, REPLY, heard_message};
 use crate::cores::opening::{book_of, strict};
 use grant_policy::Ranking;
 use map_assembly::MapBytes;
@@ -20,7 +20,7 @@ enum Note {
 }
 
 /// Returns the output of the work: the reply to the addition.
-fn replied(alloc: Global) -> Result<Outputs, AllocError> {
+fn reply_outputs(alloc: Global) -> Result<Outputs, AllocError> {
     let mut outputs = Outputs::new(alloc);
     let bytes = Bytes::from_slice(alloc, REPLY)?;
     outputs.push(Output::Reply {
@@ -41,7 +41,7 @@ fn receipt(alloc: Global, note: Note) -> Result<Receipt, AllocError> {
         Note::Worked => Ok(Receipt {
             index: 1,
             action: Action::Work,
-            outputs: replied(alloc)?,
+            outputs: reply_outputs(alloc)?,
         }),
         Note::WorkedSilently => Ok(Receipt {
             index: 1,
@@ -55,7 +55,7 @@ fn receipt(alloc: Global, note: Note) -> Result<Receipt, AllocError> {
 fn arrival(alloc: Global) -> Result<Action, AllocError> {
     Ok(Action::Arrive {
         modem: MODEM_OF_A,
-        heard: heard(alloc, ADDITION)?,
+        heard: heard_message(alloc, ADDITION)?,
     })
 }
 
@@ -106,10 +106,10 @@ fn maps_of(alloc: Global, maps: Maps) -> Result<Vec<MapBytes>, AllocError> {
 }
 
 /// The receipts of operator A's callers, the MAPs, and the expected fault, if there is one.
-type Row = (&'static [&'static [Note]], Maps, Option<RunFault>);
+type SettleRow = (&'static [&'static [Note]], Maps, Option<RunFault>);
 
 /// Returns whether books, receipts and MAPs settle or are refused as expected.
-fn settles(alloc: Global, first: Book, second: Book, row: Row) -> Result<bool, AllocError> {
+fn settles(alloc: Global, first: Book, second: Book, row: SettleRow) -> Result<bool, AllocError> {
     let (lists, maps, wanted) = row;
     let books = Vec::from_array(alloc, [first, second])?;
     let receipts = Vec::from_array(alloc, [callers(alloc, lists)?, Callers::new(alloc)])?;
@@ -124,7 +124,7 @@ fn answers(alloc: Global, book: &mut Book) -> Result<bool, AllocError> {
 }
 
 /// Opens the book of operator A, and lets it handle the addition.
-fn answered(alloc: Global, ranking: Ranking) -> Result<Option<Book>, AllocError> {
+fn book_after_addition(alloc: Global, ranking: Ranking) -> Result<Option<Book>, AllocError> {
     let Some(mut book) = book_of(alloc, "", 0, ranking) else {
         return Ok(None);
     };
@@ -136,8 +136,8 @@ fn answered(alloc: Global, ranking: Ranking) -> Result<Option<Book>, AllocError>
 }
 
 /// Returns the same for the books of operators A and B, of which A's has handled the addition.
-fn both_settle(alloc: Global, row: Row) -> Result<bool, AllocError> {
-    let first = answered(alloc, strict!(alloc))?;
+fn both_settle(alloc: Global, row: SettleRow) -> Result<bool, AllocError> {
+    let first = book_after_addition(alloc, strict!(alloc))?;
     let second = book_of(alloc, "", 1, strict!(alloc));
     match (first, second) {
         (Some(first), Some(second)) => settles(alloc, first, second, row),
@@ -147,7 +147,7 @@ fn both_settle(alloc: Global, row: Row) -> Result<bool, AllocError> {
 
 /// Two callers have a receipt each. Then a receipt has other outputs, a caller has the later entry first, an entry has no receipt, and
 /// there is a MAP of a frame that no book has scheduled.
-const ROWS: [Row; 5] = [
+const ROWS: [SettleRow; 5] = [
     (&[&[Note::Arrived], &[Note::Worked]], Maps::None, None),
     (
         &[&[Note::Arrived], &[Note::WorkedSilently]],

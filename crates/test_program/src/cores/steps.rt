@@ -1,6 +1,8 @@
 //! Steps of a plant's core, and their outputs.
 
-use crate::cores::fixtures::{Expected, MODEM_OF_A, REPLY, UNKNOWN_MODEM, heard, is_output};
+use crate::cores::fixtures::{
+    ExpectedOutput, MODEM_OF_A, REPLY, UNKNOWN_MODEM, heard_message, is_output,
+};
 use crate::cores::opening::{core, strict};
 use dsx_messages::Modem;
 use operator_book::SliceRow;
@@ -27,7 +29,7 @@ fn step(alloc: Global, call: StepCall) -> Result<Step, AllocError> {
     match call {
         StepCall::Arrive(modem, bytes) => Ok(Step::Arrive {
             modem,
-            heard: heard(alloc, bytes)?,
+            heard: heard_message(alloc, bytes)?,
         }),
         StepCall::Work(op) => Ok(Step::Work { op }),
         StepCall::Tick(op) => Ok(Step::Tick { op }),
@@ -49,21 +51,21 @@ pub(crate) fn steps_of(alloc: Global, calls: &[StepCall]) -> Result<Vec<Step>, A
 }
 
 /// Returns whether outputs are the expected one of an operator alone, or none where none is expected.
-pub(crate) fn are_outs(outs: &[Out], op: Op, wanted: Expected) -> bool {
+pub(crate) fn are_outs(outs: &[Out], op: Op, wanted: ExpectedOutput) -> bool {
     match outs {
-        [] => wanted == Expected::Nothing,
+        [] => wanted == ExpectedOutput::Nothing,
         [Out::Of { op: of, output }] => *of == op && is_output(output, wanted),
         _ => false,
     }
 }
 
 /// A step, and the operator and the output that are expected, or the fault.
-type Row = (StepCall, Result<(Op, Expected), CoreFault>);
+type StepRow = (StepCall, Result<(Op, ExpectedOutput), CoreFault>);
 
 /// Returns whether a step has the expected output or fault.
 fn is_expected(
     returned: &Result<Vec<Out>, CoreFault>,
-    wanted: Result<(Op, Expected), CoreFault>,
+    wanted: Result<(Op, ExpectedOutput), CoreFault>,
 ) -> bool {
     match (returned, wanted) {
         (Ok(outs), Ok((op, wanted))) => are_outs(outs.as_slice(), op, wanted),
@@ -73,14 +75,14 @@ fn is_expected(
 }
 
 /// Returns whether a core does a step as expected.
-fn does(alloc: Global, core: &mut PlantCore, row: Row) -> Result<bool, AllocError> {
+fn does(alloc: Global, core: &mut PlantCore, row: StepRow) -> Result<bool, AllocError> {
     let (call, wanted) = row;
     let step = step(alloc, call)?;
     Ok(is_expected(&core.step(alloc, step), wanted))
 }
 
 /// Returns whether a core does steps as expected, one after the other.
-fn does_all(alloc: Global, core: &mut PlantCore, rows: &[Row]) -> Result<bool, AllocError> {
+fn does_all(alloc: Global, core: &mut PlantCore, rows: &[StepRow]) -> Result<bool, AllocError> {
     for row in rows {
         if !does(alloc, core, *row)? {
             return Ok(false);
@@ -90,7 +92,7 @@ fn does_all(alloc: Global, core: &mut PlantCore, rows: &[Row]) -> Result<bool, A
 }
 
 /// Returns whether the core of operators A and B does steps as expected.
-fn core_does(alloc: Global, rows: &[Row]) -> Result<bool, AllocError> {
+fn core_does(alloc: Global, rows: &[StepRow]) -> Result<bool, AllocError> {
     match &mut core(alloc, strict!(alloc), strict!(alloc))? {
         Some(core) => does_all(alloc, core, rows),
         None => Ok(false),
@@ -98,7 +100,7 @@ fn core_does(alloc: Global, rows: &[Row]) -> Result<bool, AllocError> {
 }
 
 /// The modem, the operator and the frame do not exist.
-const NOT_THERE: &[Row] = &[
+const NOT_THERE: &[StepRow] = &[
     (
         StepCall::Arrive(UNKNOWN_MODEM, &[]),
         Err(CoreFault::UnknownModem {
@@ -123,7 +125,7 @@ macro_rules! slices {
 pub(crate) const HALF: &[SliceRow] = slices![(8, 16, 16), (24, 48, 32)];
 
 /// Slices that are refused for one reason each; then slices that are accepted, and others before these are in force.
-const RESLICES: &[Row] = &[
+const RESLICES: &[StepRow] = &[
     (
         StepCall::Reslice(1, slices![(8, 16, 16)]),
         Err(CoreFault::Reslice(ResliceFault::Count)),
@@ -144,7 +146,7 @@ const RESLICES: &[Row] = &[
         StepCall::Reslice(1, slices![(8, 16, 17), (24, 48, 32)]),
         Err(CoreFault::Reslice(ResliceFault::BudgetOverSlice { op: 0 })),
     ),
-    (StepCall::Reslice(1, HALF), Ok((0, Expected::Nothing))),
+    (StepCall::Reslice(1, HALF), Ok((0, ExpectedOutput::Nothing))),
     (
         StepCall::Reslice(2, HALF),
         Err(CoreFault::Reslice(ResliceFault::Unfinished { op: 0 })),
@@ -152,7 +154,7 @@ const RESLICES: &[Row] = &[
 ];
 
 /// Grants of A take its whole budget of 32 minislots. Then slices are refused that leave it 16.
-const COMMITTED: &[Row] = &[
+const COMMITTED: &[StepRow] = &[
     (
         StepCall::Arrive(
             MODEM_OF_A,
@@ -161,14 +163,14 @@ const COMMITTED: &[Row] = &[
                 22, 1, 1,
             ],
         ),
-        Ok((0, Expected::Nothing)),
+        Ok((0, ExpectedOutput::Nothing)),
     ),
-    (StepCall::Work(0), Ok((0, Expected::Reply(REPLY)))),
+    (StepCall::Work(0), Ok((0, ExpectedOutput::Reply(REPLY)))),
     (
         StepCall::Arrive(MODEM_OF_A, &[17, 0, 1, 0]),
-        Ok((0, Expected::Nothing)),
+        Ok((0, ExpectedOutput::Nothing)),
     ),
-    (StepCall::Work(0), Ok((0, Expected::Nothing))),
+    (StepCall::Work(0), Ok((0, ExpectedOutput::Nothing))),
     (
         StepCall::Reslice(1, HALF),
         Err(CoreFault::Reslice(ResliceFault::Unfit { op: 0 })),

@@ -5,7 +5,7 @@ ghost use Rattle.plant_passes.specs.Passes.{IsOfCell};
 ghost use Rattle.plant_passes.specs.ViewOf.{cell_of, pass_of};
 
 use crate::passes::cells::{
-    FIRST, LAST, MODEM, REPLY, STRANGER, addition, book_from, next_of, opened, strict,
+    FIRST, LAST, MODEM, REPLY, STRANGER, addition, book_from, next_of, open_cell, strict,
 };
 use hex::encode_upper;
 use operator_book::{Book, BookFault, Heard, Output};
@@ -19,7 +19,7 @@ use std::test::Fail;
 fn with_two(alloc: Global, book: Book) -> Option<(PassedCell, Pass, Pass)>
     ensures { IfSome result (λ r. IsOfCell (cell_of r.0) (pass_of r.1) × IsOfCell (cell_of r.0) (pass_of r.2)) }
 {
-    let (cell, mut passes) = opened(alloc, book, 2)?;
+    let (cell, mut passes) = open_cell(alloc, book, 2)?;
     let one = next_of(&cell, &mut passes)?;
     let two = next_of(&cell, &mut passes)?;
     Some((cell, one, two))

@@ -72,7 +72,7 @@ pub(crate) fn addition(alloc: Global) -> Option<Heard> {
 }
 
 /// Returns a cell round a book, with so many passes.
-pub(crate) fn opened(alloc: Global, book: Book, passes: usize) -> Option<(PassedCell, Vec<Pass>)>
+pub(crate) fn open_cell(alloc: Global, book: Book, passes: usize) -> Option<(PassedCell, Vec<Pass>)>
     requires { (0 < passes) × (passes ≤ 64) }
     ensures { IfSome result (λ r. All (λ p. IsOfCell (cell_of r.0) (pass_of p)) r.1.items) }
 {

@@ -1,8 +1,8 @@
 //! Many calls by many threads, on a cell of passes and on a book behind a lock. The test asserts that each call has its entry. It also
 //! prints how many calls a second were made, which nothing asserts: `tools/measure/passes.sh` makes a table of that.
 
-use crate::passes::cells::{MODEM, addition, book, opened, strict};
-use crate::passes::teams::raced;
+use crate::passes::cells::{MODEM, addition, book, open_cell, strict};
+use crate::passes::teams::race_calls;
 use grant_policy::Ranking;
 use operator_book::{Action, Book, BookFault, Output};
 use std::alloc::{AllocError, Global};
@@ -124,9 +124,9 @@ fn passed_pace<R: Threads + Wait + Sync + Clock>(
         return None;
     }
     let calls = CALLS.checked_div(threads)?;
-    let (cell, passes) = opened(alloc, book(alloc, ranking)?, threads)?;
+    let (cell, passes) = open_cell(alloc, book(alloc, ranking)?, threads)?;
     let start = Instant::now(rt).ok()?;
-    let (passes, _receipts) = raced(rt, alloc, &cell, passes, threads, calls)?;
+    let (passes, _receipts) = race_calls(rt, alloc, &cell, passes, threads, calls)?;
     let took = start.elapsed(rt).ok()?.as_micros();
     per_second(cell.close(passes)?.history().len(), took)
 }

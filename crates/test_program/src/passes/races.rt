@@ -5,8 +5,8 @@ ghost use Rattle.plant_passes.specs.Passes.{IsOfCell};
 ghost use Rattle.plant_passes.specs.Histories.{StartsWith};
 ghost use Rattle.plant_passes.specs.ViewOf.{cell_of, pass_of};
 
-use crate::passes::cells::{REPLY, book, next_of, opened, strict};
-use crate::passes::teams::raced;
+use crate::passes::cells::{REPLY, book, next_of, open_cell, strict};
+use crate::passes::teams::race_calls;
 use hex::encode_upper;
 use operator_book::{Book, Entry, Output};
 use plant_passes::{Pass, PassedCell, Receipt};
@@ -105,7 +105,7 @@ fn settles(alloc: Global, book: Book, callers: Callers) -> Option<bool> {
 }
 
 /// Returns the history of a cell whose passes are handed back.
-fn closed(cell: PassedCell, passes: Vec<Pass>) -> Option<Book>
+fn close_cell(cell: PassedCell, passes: Vec<Pass>) -> Option<Book>
     requires { All (λ p. IsOfCell (cell_of cell) (pass_of p)) passes.items }
 {
     cell.close(passes)
@@ -115,9 +115,9 @@ fn closed(cell: PassedCell, passes: Vec<Pass>) -> Option<Book>
 fn two_threads_make_three_calls_each(rt: HostRuntime) -> Result<(), Fail> {
     let alloc = rt.alloc();
     let book = book(alloc, strict!(alloc)).ok_or("no book")?;
-    let (cell, passes) = opened(alloc, book, 2).ok_or("no cell")?;
-    let (passes, receipts) = raced(&rt, alloc, &cell, passes, 2, 3).ok_or("no race")?;
-    let book = closed(cell, passes).ok_or("no book")?;
+    let (cell, passes) = open_cell(alloc, book, 2).ok_or("no cell")?;
+    let (passes, receipts) = race_calls(&rt, alloc, &cell, passes, 2, 3).ok_or("no race")?;
+    let book = close_cell(cell, passes).ok_or("no book")?;
     let history = book.history();
     assert_eq!(rt; history.len(), 6);
     assert_eq!(rt; fit(alloc, history, receipts.as_slice()), Some(true));
@@ -131,9 +131,9 @@ fn two_threads_make_three_calls_each(rt: HostRuntime) -> Result<(), Fail> {
 fn receipts_of_two_passes_settle(rt: HostRuntime) -> Result<(), Fail> {
     let alloc = rt.alloc();
     let book = book(alloc, strict!(alloc)).ok_or("no book")?;
-    let (cell, passes) = opened(alloc, book, 2).ok_or("no cell")?;
-    let (passes, receipts) = raced(&rt, alloc, &cell, passes, 2, 3).ok_or("no race")?;
-    let book = closed(cell, passes).ok_or("no book")?;
+    let (cell, passes) = open_cell(alloc, book, 2).ok_or("no cell")?;
+    let (passes, receipts) = race_calls(&rt, alloc, &cell, passes, 2, 3).ok_or("no race")?;
+    let book = close_cell(cell, passes).ok_or("no book")?;
     let callers = callers_of(alloc, receipts, 3).ok_or("no callers")?;
     assert_eq!(rt; callers.len(), 2);
     assert_eq!(rt; settles(alloc, book, callers), Some(true));
@@ -144,9 +144,9 @@ fn receipts_of_two_passes_settle(rt: HostRuntime) -> Result<(), Fail> {
 fn eight_threads_with_sixty_four_passes(rt: HostRuntime) -> Result<(), Fail> {
     let alloc = rt.alloc();
     let book = book(alloc, strict!(alloc)).ok_or("no book")?;
-    let (cell, passes) = opened(alloc, book, 64).ok_or("no cell")?;
-    let (passes, receipts) = raced(&rt, alloc, &cell, passes, 8, 1_000).ok_or("no race")?;
-    let book = closed(cell, passes).ok_or("no book")?;
+    let (cell, passes) = open_cell(alloc, book, 64).ok_or("no cell")?;
+    let (passes, receipts) = race_calls(&rt, alloc, &cell, passes, 8, 1_000).ok_or("no race")?;
+    let book = close_cell(cell, passes).ok_or("no book")?;
     let history = book.history();
     assert_eq!(rt; history.len(), 64_000);
     assert_eq!(rt; fit(alloc, history, receipts.as_slice()), Some(true));
@@ -188,9 +188,9 @@ fn after_both<R: Wait>(
 fn a_third_is_told_what_two_threads_saw(rt: HostRuntime) -> Result<(), Fail> {
     let alloc = rt.alloc();
     let book = book(alloc, strict!(alloc)).ok_or("no book")?;
-    let (cell, mut passes) = opened(alloc, book, 3).ok_or("no cell")?;
+    let (cell, mut passes) = open_cell(alloc, book, 3).ok_or("no cell")?;
     let third = next_of(&cell, &mut passes).ok_or("no pass")?;
-    let (passes, receipts) = raced(&rt, alloc, &cell, passes, 2, 3).ok_or("no race")?;
+    let (passes, receipts) = race_calls(&rt, alloc, &cell, passes, 2, 3).ok_or("no race")?;
     assert_eq!(rt; receipts.len(), 6);
     let place = after_both(&rt, alloc, &cell, third, passes).ok_or("no place")?;
     assert!(rt; receipts.iter().all(|receipt| receipt.index < place));

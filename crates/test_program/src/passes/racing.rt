@@ -9,7 +9,7 @@ use std::thread::Threads;
 
 /// What a thread does with a value that threads share, and with a job of its own. A trait of its own, so that a thread
 /// that borrows the value asks no more of it than that it may be shared.
-pub(crate) trait Plays<R: Wait> {
+pub(crate) trait PlaysJob<R: Wait> {
     /// What a thread has of its own.
     type Job: Send + Drop;
 
@@ -23,7 +23,7 @@ pub(crate) trait Plays<R: Wait> {
 }
 
 /// Does each job in a thread of its own, and hands them back in order.
-pub(crate) fn race<R: Threads + Wait + Sync, C: Plays<R> + Sync>(
+pub(crate) fn race<R: Threads + Wait + Sync, C: PlaysJob<R> + Sync>(
     rt: &R,
     alloc: Global,
     shared: &C,

@@ -5,7 +5,7 @@ ghost use Rattle.plant_passes.specs.Passes.{IsOfCell};
 ghost use Rattle.plant_passes.specs.ViewOf.{cell_of, pass_of};
 
 use crate::passes::cells::{MODEM, addition, next_of};
-use crate::passes::racing::{Plays, race};
+use crate::passes::racing::{PlaysJob, race};
 use operator_book::BookFault;
 use plant_passes::{CellFault, Pass, PassedCell, Receipt};
 use std::alloc::{AllocError, Global};
@@ -73,7 +73,7 @@ fn keep(cell: &PassedCell, passes: &mut Vec<Pass>, pass: Pass)
     let _lost = passes.push(pass);
 }
 
-impl<R: Wait> Plays<R> for PassedCell {
+impl<R: Wait> PlaysJob<R> for PassedCell {
     type Job = Team;
 
     ghost suits = { λ cell team. All (λ p. IsOfCell (cell_of cell) (pass_of p)) team.passes.items };
@@ -170,7 +170,7 @@ fn with_more(cell: &PassedCell, mut passes: Vec<Pass>, mut more: Vec<Pass>) -> O
 }
 
 /// Returns all passes and receipts of some teams.
-fn gathered(
+fn gather_teams(
     alloc: Global,
     cell: &PassedCell,
     mut teams: Vec<Team>,
@@ -202,7 +202,7 @@ fn race_on<R: Threads + Wait + Sync>(
 }
 
 /// Threads make calls on a cell, each with so many passes and as many calls with each: the passes and the receipts.
-pub(crate) fn raced<R: Threads + Wait + Sync>(
+pub(crate) fn race_calls<R: Threads + Wait + Sync>(
     rt: &R,
     alloc: Global,
     cell: &PassedCell,
@@ -218,5 +218,5 @@ pub(crate) fn raced<R: Threads + Wait + Sync>(
     let Ok(teams) = race_on(rt, alloc, cell, teams) else {
         return None;
     };
-    gathered(alloc, cell, teams)
+    gather_teams(alloc, cell, teams)
 }

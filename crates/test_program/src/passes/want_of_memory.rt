@@ -7,7 +7,7 @@ ghost use Rattle.std.specs.Prelude.{All, IfSome};
 ghost use Rattle.plant_passes.specs.Passes.{IsOfCell};
 ghost use Rattle.plant_passes.specs.ViewOf.{cell_of, pass_of};
 
-use crate::passes::cells::{MODEM, book, next_of, opened, strict};
+use crate::passes::cells::{MODEM, book, next_of, open_cell, strict};
 use operator_book::{Book, BookFault, Heard};
 use plant_passes::{CellFault, Pass, PassedCell, Receipt};
 use std::alloc::Global;
@@ -18,9 +18,9 @@ use std::test::Fail;
 fn opened_again(alloc: Global, first: Book, spare: Book) -> Option<(PassedCell, Vec<Pass>)>
     ensures { IfSome result (λ r. All (λ p. IsOfCell (cell_of r.0) (pass_of p)) r.1.items) }
 {
-    match opened(alloc, first, 2) {
+    match open_cell(alloc, first, 2) {
         Some(made) => Some(made),
-        None => opened(alloc, spare, 2),
+        None => open_cell(alloc, spare, 2),
     }
 }
 

@@ -58,7 +58,7 @@ impl Write for Buffered<'_> {
 }
 
 /// Returns what a plant in service writes to a script's lines, where it never reads on with something held back.
-fn served(alloc: Global, script: &[u8]) -> Result<Vec<u8>, Fail> {
+fn serve_script(alloc: Global, script: &[u8]) -> Result<Vec<u8>, Fail> {
     let plant = read_plant(alloc, PLANT).ok().ok_or("no plant")?;
     let mut rankings = Vec::new(alloc);
     for row in plant.rows() {
@@ -105,12 +105,12 @@ fault: line 4
 #[test]
 fn answers_are_flushed(rt: HostRuntime) -> Result<(), Fail> {
     let alloc = rt.alloc();
-    let faults = served(alloc, b"X\n\nT Nobody\n")?;
+    let faults = serve_script(alloc, b"X\n\nT Nobody\n")?;
     assert_eq!(rt;
         faults.as_slice(),
         b"fault: line 1\nfault: line 3\n".as_slice()
     );
-    let ticked = served(alloc, b"T A\nX\nT B\nX")?;
+    let ticked = serve_script(alloc, b"T A\nX\nT B\nX")?;
     assert_eq!(rt; ticked.as_slice(), TICKED);
     Ok(())
 }

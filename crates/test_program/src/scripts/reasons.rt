@@ -4,7 +4,7 @@
 use command_line::Word;
 use diagnostics::{Trouble, reason_of, reason_of_trouble};
 use std::test::Fail;
-use test_plants::{PLANT, changed};
+use test_plants::{PLANT, replace_first};
 
 /// A key of a flow in an inline table. The flow's encoding states no set type, so no program answers it with status 0.
 #[test]
@@ -13,7 +13,7 @@ fn a_key_of_a_flow_that_nothing_reads(rt: HostRuntime) -> Result<(), Fail> {
     let policy = "policy = \"strict\"\n";
     let flow =
         "policy = \"strict\"\nflow = [{ modem = \"020000000001\", encoding = \"\", colour = 1 }]\n";
-    let plant = changed(alloc, PLANT, policy, flow)?;
+    let plant = replace_first(alloc, PLANT, policy, flow)?;
     let input = format!(in alloc; "{plant}---\nT\n")?;
     let reason = reason_of(alloc, Word::Run, input.as_str(), 0)?;
     let wanted = "warning: line 21: unknown key operator[0].flow[0].colour\n";

@@ -35,7 +35,7 @@ impl Write for Closed {
 
 /// Returns the status that an input gets under `run`, with a writer for its reasons, and the
 /// answer.
-fn told<R: Threads + Wait + Sync, E: Write>(
+fn run_with_reasons<R: Threads + Wait + Sync, E: Write>(
     rt: &R,
     alloc: Global,
     input: &str,
@@ -61,13 +61,13 @@ fn an_answer_and_its_reason(rt: HostRuntime) -> Result<(), Fail> {
     let input = format!(in alloc; "{PLANT}---\nM 020000000001 -\nZ 0 8/32/32 40/32/32\n")?;
     let wanted = b"S 020000000001 Empty\nfault: line 2\n".as_slice();
     let mut reasons = Vec::new(alloc);
-    let (status, answer) = told(&rt, alloc, input.as_str(), &mut reasons);
+    let (status, answer) = run_with_reasons(&rt, alloc, input.as_str(), &mut reasons);
     assert_eq!(rt; (status, answer.as_slice()), (4, wanted));
     let reason =
         "line 37 (script line 2), \"Z 0 8/32/32 40/32/32\": operator A is at frame 0: new slices must start at a later frame, not at 0\n";
     assert_eq!(rt; reasons.as_slice(), reason.as_bytes());
     // With reasons that are lost the others stay.
-    let (status, answer) = told(&rt, alloc, input.as_str(), &mut Closed);
+    let (status, answer) = run_with_reasons(&rt, alloc, input.as_str(), &mut Closed);
     assert_eq!(rt; (status, answer.as_slice()), (4, wanted));
     Ok(())
 }

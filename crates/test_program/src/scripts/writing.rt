@@ -11,7 +11,7 @@ use std::test::Fail;
 use std::thread::Threads;
 
 /// Returns the status that words get of the script with a writer, and what the writer holds.
-fn written<R: Threads + Wait + Sync>(
+fn run_into_writer<R: Threads + Wait + Sync>(
     rt: &R,
     alloc: Global,
     words: &[&str],
@@ -33,7 +33,7 @@ fn check_write(
 ) -> Result<(), Fail> {
     let (words, status, text) = case;
     let writer = Narrow::failing_once(alloc, 1, fails_at);
-    let (told, held) = written(rt, alloc, words, writer)?;
+    let (told, held) = run_into_writer(rt, alloc, words, writer)?;
     if fails_at >= text.len() {
         assert_eq!(rt;
             (told, held.as_slice()),
@@ -70,7 +70,7 @@ fn each_write_of_a_capture_that_fails_is_status_6(rt: HostRuntime) -> Result<(),
     let file = decode(alloc, CAPTURE).ok().ok_or("no digits")?;
     for fails_at in 0..file.len() / 3 + 2 {
         let writer = Narrow::failing_once(alloc, 3, fails_at);
-        let (told, held) = written(&rt, alloc, &["capture"], writer)?;
+        let (told, held) = run_into_writer(&rt, alloc, &["capture"], writer)?;
         let before = fails_at.saturating_mul(3);
         let mut wanted = Vec::from_slice(alloc, &file.as_slice()[..before.min(file.len())])?;
         let status = if before < file.len() { 6 } else { 0 };
@@ -91,7 +91,7 @@ fn each_write_of_a_capture_that_fails_is_status_6(rt: HostRuntime) -> Result<(),
 fn a_writer_that_takes_nothing_is_status_6(rt: HostRuntime) -> Result<(), Fail> {
     for (words, _status, _text) in CASES {
         let writer = Narrow::failing_once(rt.alloc(), 0, usize::MAX);
-        let (told, held) = written(&rt, rt.alloc(), words, writer)?;
+        let (told, held) = run_into_writer(&rt, rt.alloc(), words, writer)?;
         assert_eq!(&rt; told, 6);
         assert!(&rt; held.is_empty());
     }

@@ -3,7 +3,7 @@
 ghost use Rattle.std.specs.Prelude.{◌<◌, ◌^◌};
 
 use crate::passes::cells::{FIRST, LAST, book_from};
-use crate::threads::opening::{modem, opened, strict};
+use crate::threads::opening::{modem, opened_cell, strict};
 use dsx_messages::Modem;
 use operator_book::{Action, BookFault, Cause, Heard, Output, SliceRow, Unfit};
 use plant_workers::{CellFault, OpenGate, OperatorCell, Receipt};
@@ -263,7 +263,7 @@ fn goes_on<R: Wait>(rt: &R, alloc: Global, cell: &OperatorCell) -> bool {
 }
 
 /// Returns a new cell with the book of another, which is taken apart, and how many frames that one had collected.
-fn renewed(cell: OperatorCell) -> (OperatorCell, usize)
+fn renew_cell(cell: OperatorCell) -> (OperatorCell, usize)
     requires { cell.op < 2 ^ 64 }
 {
     let (book, taken) = cell.into_parts();
@@ -278,7 +278,7 @@ fn collects_later<R: Wait>(rt: &R, alloc: Global, cell: &OperatorCell) -> bool {
 /// Returns whether one frame of two counts as collected, and a new cell with their book collects only a later frame.
 fn renews<R: Wait>(rt: &R, alloc: Global, cell: OperatorCell) -> bool {
     let begun = begins(rt, alloc, &cell);
-    let (cell, taken) = renewed(cell);
+    let (cell, taken) = renew_cell(cell);
     begun && taken == 1 && collects_later(rt, alloc, &cell)
 }
 
@@ -315,7 +315,7 @@ fn does<R: Wait>(
 
 /// Returns whether the cell of operator A does what is wanted of it.
 fn cell_does<R: Wait>(rt: &R, alloc: Global, case: &Case) -> Result<bool, AllocError> {
-    match opened(alloc, strict!(alloc)) {
+    match opened_cell(alloc, strict!(alloc)) {
         Some(cell) => does(rt, alloc, cell, case),
         None => Ok(false),
     }
@@ -323,7 +323,7 @@ fn cell_does<R: Wait>(rt: &R, alloc: Global, case: &Case) -> Result<bool, AllocE
 
 /// Returns whether the cell of operator A counts what it collects.
 fn cell_renews<R: Wait>(rt: &R, alloc: Global) -> Result<bool, AllocError> {
-    match opened(alloc, strict!(alloc)) {
+    match opened_cell(alloc, strict!(alloc)) {
         Some(cell) => Ok(renews(rt, alloc, cell)),
         None => Ok(false),
     }
@@ -331,7 +331,7 @@ fn cell_renews<R: Wait>(rt: &R, alloc: Global) -> Result<bool, AllocError> {
 
 /// A call that the book refuses, as the table writes it.
 #[derive(Clone, Copy, Debug, PartialEq, Eq)]
-enum Call {
+enum RefusedCall {
     Arrive,
     Tick,
     ArriveInTurn,
@@ -340,12 +340,16 @@ enum Call {
 }
 
 /// The first frame of a plant, a call, and the book's fault.
-const REFUSALS: [(&str, Call, BookFault); 5] = [
-    (FIRST, Call::Arrive, STRANGER),
-    (FIRST, Call::ArriveInTurn, STRANGER),
-    (LAST, Call::Tick, BookFault::FramesSpent),
-    (LAST, Call::TickInTurn, BookFault::FramesSpent),
-    (FIRST, Call::ResliceInTurn, BookFault::Unfit(Unfit::NotPast)),
+const REFUSALS: [(&str, RefusedCall, BookFault); 5] = [
+    (FIRST, RefusedCall::Arrive, STRANGER),
+    (FIRST, RefusedCall::ArriveInTurn, STRANGER),
+    (LAST, RefusedCall::Tick, BookFault::FramesSpent),
+    (LAST, RefusedCall::TickInTurn, BookFault::FramesSpent),
+    (
+        FIRST,
+        RefusedCall::ResliceInTurn,
+        BookFault::Unfit(Unfit::NotPast),
+    ),
 ];
 
 /// The fault of an arrival of operator B's modem.
@@ -372,11 +376,11 @@ fn in_first_turn<R: Wait>(
 }
 
 /// Returns the receipt or the fault of a call.
-fn called<R: Wait>(
+fn make_call<R: Wait>(
     rt: &R,
     alloc: Global,
     cell: &OperatorCell,
-    call: Call,
+    call: RefusedCall,
 ) -> Result<Receipt, CellFault> {
     let modem = modem(3);
     let row = SliceRow {
@@ -385,14 +389,19 @@ fn called<R: Wait>(
         budget: 32,
     };
     match call {
-        Call::Arrive => cell.arrive(rt, alloc, modem, request()),
-        Call::Tick => cell.tick(rt, alloc),
-        Call::ArriveInTurn => {
+        RefusedCall::Arrive => cell.arrive(rt, alloc, modem, request()),
+        RefusedCall::Tick => cell.tick(rt, alloc),
+        RefusedCall::ArriveInTurn => {
             let heard = request();
             in_first_turn(rt, alloc, cell, Action::Arrive { modem, heard })
         }
-        Call::TickInTurn => in_first_turn(rt, alloc, cell, Action::Tick),
-        Call::ResliceInTurn => in_first_turn(rt, alloc, cell, Action::Reslice { from: 0, row }),
+        RefusedCall::TickInTurn => in_first_turn(rt, alloc, cell, Action::Tick),
+        RefusedCall::ResliceInTurn => in_first_turn(
+            rt,
+            alloc,
+            cell,
+            Action::Reslice { from: 0, row },
+        ),
     }
 }
 
@@ -401,13 +410,13 @@ fn is_refused<R: Wait>(
     rt: &R,
     alloc: Global,
     first_frame: &str,
-    call: Call,
+    call: RefusedCall,
     wanted: BookFault,
 ) -> Result<bool, AllocError> {
     let Some(book) = book_from(alloc, first_frame, strict!(alloc)) else {
         return Ok(false);
     };
-    match &called(rt, alloc, &OperatorCell::new(0, book), call) {
+    match &make_call(rt, alloc, &OperatorCell::new(0, book), call) {
         Ok(_) => Ok(false),
         Err(fault) => Ok(*fault == CellFault::Book(wanted)),
     }

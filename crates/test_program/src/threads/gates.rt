@@ -1,6 +1,6 @@
 //! Operators that work at the same time, as a gate can see.
 
-use crate::threads::playing::{Order, steps_come_to, steps_of_both};
+use crate::threads::playing::{FirstModem, steps_come_to, steps_of_both};
 use plant::Op;
 use plant_workers::Gate;
 use std::alloc::{AllocError, Global};
@@ -67,7 +67,7 @@ fn work_overlaps<R: Threads + Wait + Sync + Clock>(
     alloc: Global,
     held: Op,
     other: Op,
-    order: Order,
+    order: FirstModem,
 ) -> Result<bool, AllocError> {
     let gate = HoldingGate {
         clock: rt,
@@ -88,7 +88,7 @@ fn work_overlaps<R: Threads + Wait + Sync + Clock>(
 /// Each operator works while the other is held: not with one thread for both, nor with one lock round both.
 #[test]
 fn one_thread_or_one_lock(rt: HostRuntime) -> Result<(), AllocError> {
-    assert!(rt; work_overlaps(&rt, rt.alloc(), 0, 1, Order::FirstIsA)?);
-    assert!(rt; work_overlaps(&rt, rt.alloc(), 1, 0, Order::FirstIsB)?);
+    assert!(rt; work_overlaps(&rt, rt.alloc(), 0, 1, FirstModem::FirstIsA)?);
+    assert!(rt; work_overlaps(&rt, rt.alloc(), 1, 0, FirstModem::FirstIsB)?);
     Ok(())
 }

@@ -38,7 +38,7 @@ fn first_opened(alloc: Global, plant: &Plant, ranking: Ranking) -> Option<Operat
 }
 
 /// Returns the cell of operator A with nothing done.
-pub(crate) fn opened(alloc: Global, ranking: Ranking) -> Option<OperatorCell> {
+pub(crate) fn opened_cell(alloc: Global, ranking: Ranking) -> Option<OperatorCell> {
     match read_plant(alloc, ALONE) {
         Ok(plant) => first_opened(alloc, &plant, ranking),
         Err(_) => None,

@@ -26,22 +26,22 @@ fn asks(last: u8) -> Step {
 
 /// Whose modem is received first.
 #[derive(Clone, Copy, Debug, PartialEq, Eq)]
-pub(crate) enum Order {
+pub(crate) enum FirstModem {
     FirstIsA,
     FirstIsB,
 }
 
 /// Returns the requests for minislots of a modem of each operator.
-fn requests(order: Order) -> [Step; 2] {
+fn requests(order: FirstModem) -> [Step; 2] {
     match order {
-        Order::FirstIsA => [asks(1), asks(3)],
-        Order::FirstIsB => [asks(3), asks(1)],
+        FirstModem::FirstIsA => [asks(1), asks(3)],
+        FirstModem::FirstIsB => [asks(3), asks(1)],
     }
 }
 
 /// Returns the steps of a run: a modem of each operator requests minislots; then each operator
 /// works, ticks, and has its frame collected.
-pub(crate) fn steps_of_both(alloc: Global, order: Order) -> Result<Vec<Step>, AllocError> {
+pub(crate) fn steps_of_both(alloc: Global, order: FirstModem) -> Result<Vec<Step>, AllocError> {
     let [first, second] = requests(order);
     let steps = [
         first,
@@ -109,6 +109,6 @@ pub(crate) fn comes_to<R: Threads + Wait + Sync, G: Gate<R> + Sync>(
     stacks: &[usize],
     wanted: Result<usize, RunFault>,
 ) -> Result<bool, AllocError> {
-    let steps = steps_of_both(alloc, Order::FirstIsA)?;
+    let steps = steps_of_both(alloc, FirstModem::FirstIsA)?;
     steps_come_to(rt, alloc, steps, gate, stacks, wanted)
 }

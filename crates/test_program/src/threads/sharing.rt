@@ -1,6 +1,6 @@
 //! Two threads on one cell.
 
-use crate::threads::opening::{modem, opened, strict};
+use crate::threads::opening::{modem, opened_cell, strict};
 use dsx_messages::Modem;
 use operator_book::{Book, Heard};
 use plant_workers::{Callers, CellFault, OperatorCell, Receipt, Receipts, settle};
@@ -12,7 +12,7 @@ use std::thread::{Builder, Threads};
 
 /// What a thread does with what threads share. A trait of its own, so that a thread that borrows it asks for no more of it
 /// than that it may be shared.
-trait Plays<R: Wait> {
+trait PlaysShared<R: Wait> {
     /// Makes three calls, and returns their receipts, or None if one is refused.
     fn play(&self, rt: &R, alloc: Global, modem: Modem) -> Option<Receipts>;
 }
@@ -25,7 +25,7 @@ fn keeps(receipts: &mut Receipts, answer: Result<Receipt, CellFault>) -> bool {
     }
 }
 
-impl<R: Wait> Plays<R> for OperatorCell {
+impl<R: Wait> PlaysShared<R> for OperatorCell {
     fn play(&self, rt: &R, alloc: Global, modem: Modem) -> Option<Receipts> {
         let heard = Heard::Request {
             sid: 257,
@@ -40,7 +40,7 @@ impl<R: Wait> Plays<R> for OperatorCell {
 }
 
 /// Returns two threads play, each for a modem.
-fn race<R: Threads + Wait + Sync, P: Plays<R> + Sync>(
+fn race<R: Threads + Wait + Sync, P: PlaysShared<R> + Sync>(
     rt: &R,
     alloc: Global,
     plays: &P,
@@ -98,7 +98,7 @@ fn two_threads_settle<R: Threads + Wait + Sync>(
 
 /// Returns whether two threads do so on the cell of operator A.
 fn receipts_settle<R: Threads + Wait + Sync>(rt: &R, alloc: Global) -> Result<bool, AllocError> {
-    match opened(alloc, strict!(alloc)) {
+    match opened_cell(alloc, strict!(alloc)) {
         Some(cell) => two_threads_settle(rt, alloc, cell),
         None => Ok(false),
     }

@@ -2,7 +2,7 @@
 
 use crate::threads::cells::{has_frame, has_idled, is_taken};
 use crate::threads::gates::{LONG, is_counted};
-use crate::threads::opening::{opened, strict};
+use crate::threads::opening::{opened_cell, strict};
 use operator_book::Action;
 use plant::Op;
 use plant_workers::{CellFault, Gate, OpenGate, OperatorCell, Receipt};
@@ -187,7 +187,7 @@ fn waits<R: Threads + Wait + Sync + Clock>(
     of: Play,
     wanted: [u64; 3],
 ) -> Result<bool, AllocError> {
-    match opened(alloc, strict!(alloc)) {
+    match opened_cell(alloc, strict!(alloc)) {
         Some(cell) => Ok(plays_on(rt, alloc, &cell, of) == (true, wanted)),
         None => Ok(false),
     }

@@ -4,10 +4,10 @@ use Rattle.tlv24.specs.Tlv.{front_of}
 use Rattle.dsx_messages.specs.declared.kind.Kind.TheVariants.{Dsa}
 use Rattle.dsx_messages.specs.Reading.{flow_in, flows_in, message_of}
 use Rattle.operator_model.specs.Worked.{worked_row, first_modem}
-use Rattle.check_table.specs.Examples.{worked}
+use Rattle.check_table.specs.Examples.{worked_operator}
 use Rattle.check_table.proofs.MessageLemmas.{left_out_handled}
 use Rattle.check_table.proofs.worked.worked_messages.Goals as goal
 
 pub returns : goal.returns
 unfolding flow_in flows_in message_of fault_of flow_of front_of
-returns c = record { left_out = (_, left_out_handled (worked worked_row []) first_modem 1 Dsa 25 (omega arith) refl (omega arith), refl) }
+returns c = record { left_out = (_, left_out_handled (worked_operator worked_row []) first_modem 1 Dsa 25 (omega arith) refl (omega arith), refl) }

@@ -4,14 +4,14 @@ use Rattle.std.proofs.lemmas.Result.{err_from_is_err_and}
 use Rattle.tlv24.specs.Tlv.{front_of}
 use Rattle.tlv24.specs.Flow.{values_of}
 use Rattle.dsx_messages.specs.TlvType.{upstream_service_flow}
-use Rattle.dsx_messages.specs.Reading.{flows_after}
+use Rattle.dsx_messages.specs.Reading.{flows_read_after}
 use Rattle.dsx_messages.proofs.Passes.{fails, flows_skip, flows_take, flows_stop, flows_end}
 use Rattle.dsx_messages.proofs.reading.flows_of.Goals as goal
 use Rattle.dsx_messages.proofs.reading.flows_of.Goals.{then-first-eq-UPSTREAM_SERVICE_FLOW+in_ok-flow+in_ok-push, else-first-eq-UPSTREAM_SERVICE_FLOW}
 
 pub returns-in_err-flow : goal.returns-in_err-flow
 returns-in_err-flow c =
-    let total = flows_after c.args.tid c.args.kind [] (values_of upstream_service_flow (front_of c.args.list.now).tlvs) in
+    let total = flows_read_after c.args.tid c.args.kind [] (values_of upstream_service_flow (front_of c.args.list.now).tlvs) in
     let same : eqb c.in-Some.first.kind upstream_service_flow ≡ true = grind (arith, nat_tests, c.if-first-eq-UPSTREAM_SERVICE_FLOW.true) in
     let p = err_from_is_err_and c.from_residual-in_err-flow.result c.from_residual-in_err-flow.ensures.1 in
     rw (p.1, p.2) (fails c.in_err-flow.field-0.0 total
@@ -19,7 +19,7 @@ returns-in_err-flow c =
 
 pub loop-first-preserved : goal.loop-first-preserved
 loop-first-preserved c =
-    let total = flows_after c.args.tid c.args.kind [] (values_of upstream_service_flow (front_of c.args.list.now).tlvs) in
+    let total = flows_read_after c.args.tid c.args.kind [] (values_of upstream_service_flow (front_of c.args.list.now).tlvs) in
     elim c.if-first-eq-UPSTREAM_SERVICE_FLOW.branch [
       | then-first-eq-UPSTREAM_SERVICE_FLOW+in_ok-flow+in_ok-push w ↦
           let same : eqb c.in-Some.first.kind upstream_service_flow ≡ true = grind (arith, nat_tests, w.if-first-eq-UPSTREAM_SERVICE_FLOW.true) in
@@ -31,5 +31,5 @@ loop-first-preserved c =
 
 pub returns : goal.returns
 returns c =
-    let total = flows_after c.args.tid c.args.kind [] (values_of upstream_service_flow (front_of c.args.list.now).tlvs) in
+    let total = flows_read_after c.args.tid c.args.kind [] (values_of upstream_service_flow (front_of c.args.list.now).tlvs) in
     flows_end c.args.tid c.args.kind c.loop-first.rest.now c.loop-first.flows.items total (sym c.in_default.ensures.exact) c.loop-first.invariant

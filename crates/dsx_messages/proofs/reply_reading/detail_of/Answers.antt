@@ -1,7 +1,7 @@
 use Rattle.std.proofs.Common.{sym, subst}
 use Rattle.std.specs.Prelude.{IfSome}
 use Rattle.dsx_messages.specs.declared.kind.Kind.{Kind}
-use Rattle.dsx_messages.specs.Told.{IsTold}
+use Rattle.dsx_messages.specs.Told.{IsDetailSpelling}
 use Rattle.dsx_messages.proofs.Replies.{every_accepted_addition, every_accepted_change, every_refused_addition, every_refused_change}
 use Rattle.dsx_messages.proofs.reply_reading.detail_of.Goals as goal
 
@@ -11,7 +11,7 @@ returns-in-Okay-clause-every c =
 
 pub returns-in_default : goal.returns-in_default
 returns-in_default c = record {
-  spelled = subst (λ (k : Kind). IfSome c.refused_addition.result (IsTold k c.args.code c.args.tail.now)) (sym c.in-Dsa.is) (c.refused_addition.ensures.spelled c.in_default.not-Okay);
+  spelled = subst (λ (k : Kind). IfSome c.refused_addition.result (IsDetailSpelling k c.args.code c.args.tail.now)) (sym c.in-Dsa.is) (c.refused_addition.ensures.spelled c.in_default.not-Okay);
   every = every_refused_addition c.args.tail.now c.refused_addition.result c.args.kind c.args.code c.in-Dsa.is c.in_default.not-Okay c.refused_addition.ensures.every c.refused_addition.ensures.every_errored c.refused_addition.ensures.every_reference;
 }
 
@@ -21,6 +21,6 @@ returns-in-Okay-code-clause-every c =
 
 pub returns-in_default-code : goal.returns-in_default-code
 returns-in_default-code c = record {
-  spelled = subst (λ (k : Kind). IfSome c.refused_change.result (IsTold k c.args.code c.args.tail.now)) (sym c.in-Dsc.is) (c.refused_change.ensures.spelled c.in_default-code.not-Okay);
+  spelled = subst (λ (k : Kind). IfSome c.refused_change.result (IsDetailSpelling k c.args.code c.args.tail.now)) (sym c.in-Dsc.is) (c.refused_change.ensures.spelled c.in_default-code.not-Okay);
   every = every_refused_change c.args.tail.now c.refused_change.result c.args.kind c.args.code c.in-Dsc.is c.in_default-code.not-Okay c.refused_change.ensures.every c.refused_change.ensures.every_errored c.refused_change.ensures.every_sfid;
 }

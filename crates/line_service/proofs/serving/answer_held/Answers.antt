@@ -2,7 +2,7 @@ use Rattle.std.proofs.Common.{◌∙◌, List, ℕ, subst}
 use Rattle.std.proofs.KnownBytes.{Appends-kept}
 use Rattle.live_core.specs.LiveView.{live_view}
 use Rattle.script_format.specs.declared.fields.FieldFault.TheVariants.{Shape}
-use Rattle.line_service.specs.SoFar.{IsAnswered}
+use Rattle.line_service.specs.SoFar.{LineIsAnswered}
 use Rattle.line_service.proofs.LineLemmas.{end_written, none_answered, long_said, whole_held}
 use Rattle.line_service.proofs.StepLemmas.{on_ok, on_ok_map, reachable_on}
 use Rattle.line_service.proofs.serving.answer_held.Goals as goal
@@ -29,6 +29,6 @@ pub returns-clause-answered : goal.returns-clause-answered
 returns-clause-answered g c =
     on_ok_map c.answer_line.result _ _
     (λ answers plant start before shown after line held.
-    subst (λ (l : List ℕ). IsAnswered plant start before shown c.args.number l (live_view c.answer_line.new.core) (g.W.Write.contents c.args.writer.now) (g.W.Write.contents c.answer_line.new.writer))
+    subst (λ (l : List ℕ). LineIsAnswered plant start before shown c.args.number l (live_view c.answer_line.new.core) (g.W.Write.contents c.args.writer.now) (g.W.Write.contents c.answer_line.new.writer))
     (c.as_slice.ensures.value ∙ whole_held c.args.held.now.bytes.items line c.args.held.now.is_long c.if-held.false held) (answers plant start before shown after))
     c.answer_line.ensures

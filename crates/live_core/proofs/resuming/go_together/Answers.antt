@@ -1,5 +1,5 @@
 use Rattle.std.proofs.Common.{sym, subst, map}
-use Rattle.live_core.specs.LiveOperator.{sound_of, IsSoundAt, StandsAt, WaitsFrom}
+use Rattle.live_core.specs.LiveOperator.{sound_of, IsSoundAt, IsAtFrame, WaitsFrom}
 use Rattle.live_core.specs.Resumed.{IsOddFault}
 use Rattle.live_core.proofs.ResumeLemmas.{all_more, all_gone}
 use Rattle.live_core.proofs.ResumeFaultLemmas.{handed_on, odd_among}
@@ -10,7 +10,7 @@ loop-op-preserved g c =
     let at = c.loop-op in
     record {
       sound = all_more IsSoundAt c.args.lives.now at.op c.index-lives-op.result c.loop-op-test.true c.index-lives-op.is at.invariant.sound c.in_ok-goes_along.ensures.sound;
-      frames = all_more (StandsAt c.args.frame) c.args.lives.now at.op c.index-lives-op.result c.loop-op-test.true c.index-lives-op.is at.invariant.frames c.in_ok-goes_along.ensures.frame;
+      frames = all_more (IsAtFrame c.args.frame) c.args.lives.now at.op c.index-lives-op.result c.loop-op-test.true c.index-lives-op.is at.invariant.frames c.in_ok-goes_along.ensures.frame;
       alike = all_more (WaitsFrom c.args.from) c.args.lives.now at.op c.index-lives-op.result c.loop-op-test.true c.index-lives-op.is at.invariant.alike c.in_ok-goes_along.ensures.alike;
     }
 
@@ -19,7 +19,7 @@ returns g c =
     let at = c.loop-op in
     record {
       sound = all_gone IsSoundAt c.args.lives.now at.op c.loop-op-test.false at.invariant.sound;
-      frames = all_gone (StandsAt c.args.frame) c.args.lives.now at.op c.loop-op-test.false at.invariant.frames;
+      frames = all_gone (IsAtFrame c.args.frame) c.args.lives.now at.op c.loop-op-test.false at.invariant.frames;
       alike = all_gone (WaitsFrom c.args.from) c.args.lives.now at.op c.loop-op-test.false at.invariant.alike;
       fault = tt;
     }

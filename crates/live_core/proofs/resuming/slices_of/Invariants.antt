@@ -1,6 +1,6 @@
 use Rattle.std.proofs.Common.{◌≡◌, map, take}
-use Rattle.live_core.specs.LiveOperator.{slice_at}
+use Rattle.live_core.specs.LiveOperator.{current_slice}
 use Rattle.live_core.proofs.resuming.slices_of.Given as goal
 
 abbrev pub invariant-loop-live : goal.invariant-loop-live
-invariant-loop-live g l = l.slices.items ≡ map slice_at (take l.live-index l.lives)
+invariant-loop-live g l = l.slices.items ≡ map current_slice (take l.live-index l.lives)

@@ -1,8 +1,8 @@
 use Rattle.std.proofs.Common.{◌≡◌, ◌++◌, map, drop}
 use Rattle.map_assembly.specs.Reading.{element_of_span}
-use Rattle.map_assembly.specs.Map.{filled}
+use Rattle.map_assembly.specs.Map.{spans_with_idle}
 use Rattle.map_assembly.specs.Gathering.{part_at}
 use Rattle.map_assembly.proofs.assembling.push_filled.Given as goal
 
 abbrev pub invariant-loop-k : goal.invariant-loop-k
-invariant-loop-k l = l.list.items ++ map element_of_span (filled l.from l.channel.frame_minislots (map (part_at l.queues l.op l.part) (drop l.k-index l.order))) ≡ l.fn.list.items ++ map element_of_span (filled l.channel.head l.channel.frame_minislots (map (part_at l.queues l.op l.part) l.order))
+invariant-loop-k l = l.list.items ++ map element_of_span (spans_with_idle l.from l.channel.frame_minislots (map (part_at l.queues l.op l.part) (drop l.k-index l.order))) ≡ l.fn.list.items ++ map element_of_span (spans_with_idle l.channel.head l.channel.frame_minislots (map (part_at l.queues l.op l.part) l.order))

@@ -1,11 +1,11 @@
 use Rattle.std.proofs.Common.{◌≡◌, ◌+◌, ◌*◌, ◌≤◌, length}
 use Rattle.map_assembly.specs.Element.{elements_in}
-use Rattle.map_assembly.specs.Judging.{judged}
+use Rattle.map_assembly.specs.Judging.{count_before_null}
 use Rattle.map_assembly.proofs.reading.judge.Given as goal
 
 abbrev pub invariant-loop-first : goal.invariant-loop-first
 invariant-loop-first l = record {
-  same : judged l.at l.least (elements_in l.rest) ≡ judged 0 0 (elements_in l.fn.bytes);
+  same : count_before_null l.at l.least (elements_in l.rest) ≡ count_before_null 0 0 (elements_in l.fn.bytes);
   place : 4 * l.at + length l.rest ≤ 1020;
 }
 

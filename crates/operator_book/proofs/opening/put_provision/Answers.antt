@@ -3,10 +3,10 @@ use Rattle.flow_table.specs.Table.{FlowTable, with_flow}
 use Rattle.operator_book.proofs.Room.{longer, opened_may_stand}
 use Rattle.operator_book.proofs.opening.put_provision.Goals as goal
 
-pub put-requires : goal.put-requires
-put-requires c = opened_may_stand c.args.flows.now c.in-Some-free_sfid.sfid c.args.row.now.sids c.opened_flow-flow.result (search rules) c.requires (search rules)
+pub put_flow-requires : goal.put_flow-requires
+put_flow-requires c = opened_may_stand c.args.flows.now c.in-Some-free_sfid.sfid c.args.row.now.sids c.opened_flow-flow.result (search rules) c.requires (search rules)
 
 pub returns-clause-few : goal.returns-clause-few
 returns-clause-few c =
-    let after : c.put.new.self ≡ record c.args.flows.now { flows = with_flow c.in-Some-free_sfid.sfid c.opened_flow-flow.result c.args.flows.now.flows } = search rules in
+    let after : c.put_flow.new.self ≡ record c.args.flows.now { flows = with_flow c.in-Some-free_sfid.sfid c.opened_flow-flow.result c.args.flows.now.flows } = search rules in
     omega (arith, ap (λ (t : FlowTable). length t.flows) after, longer c.args.flows.now.flows c.in-Some-free_sfid.sfid c.opened_flow-flow.result (search rules))

@@ -1,5 +1,5 @@
 use Rattle.std.proofs.Common.{rules, ◌∷◌, [], Some, sym, ap, ◌∙◌, subst}
-use Rattle.operator_model.specs.Replay.{BookView, acted}
+use Rattle.operator_model.specs.Replay.{BookView, book_after_action}
 use Rattle.operator_book.specs.OfBook.{outputs_of}
 use Rattle.plant_passes.specs.Runs.{origin_of, IsOwnRun}
 use Rattle.plant_passes.proofs.Acting.{one_in_hand, taken_out, if_ok, on_err, acted_in_hand, unchanged_in_hand, no_stranger, no_misfit}
@@ -17,7 +17,7 @@ returns-clause-ok g c =
     let run = subst (λ (k : BookView). IsOwnRun (origin_of k) k.history) (ap (λ k. k.book) (sym out.0)) c.always_replayed.ensures.told in
     if_ok _ _ _ c.act-acted.result c.act-acted.ensures.state c.act-acted.ensures.outputs
     (λ outputs is said. acted_in_hand c.args.seat.now.me.0 c.in-Some.parts record { kept = c.into_parts-kept.result.0; ranking = c.into_parts-kept.result.1 } c.put_back.new.seat.me c.args.action outputs.items ours put
-    (ap (λ k. k.book) out.0 ∙ (is ∙ ap (λ k. acted k.book c.args.action) into.0))
+    (ap (λ k. k.book) out.0 ∙ (is ∙ ap (λ k. book_after_action k.book c.args.action) into.0))
     (out.1 ∙ (c.act-acted.ensures.ranking ∙ into.1))
     (said ∙ ap (λ k. outputs_of k.book c.args.action) into.0) run)
 

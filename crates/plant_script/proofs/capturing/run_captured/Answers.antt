@@ -18,10 +18,10 @@ loop-line-preserved g c =
 pub returns-in-Err : goal.returns-in-Err
 returns-in-Err g c =
     let at = c.loop-line in
-    if_ok c.refused.result _ _
+    if_ok c.refused_line.result _ _
     (λ refused told. rw told.0 (captured_refused (core_view c.args.core.now).plant c.args.lines.now at.line-index c.line-item.result c.in_ok-step.step (core_view at.core) (core_view c.step_over.new.self) at.capture c.in-Err.fault
     c.loop-line-test.true c.line-item.is c.in_ok-step.ensures at.invariant c.in-Err.ensures.err (fault_is_told (Unit {0}) c.in-Err.fault (step_fault (core_view at.core) c.in_ok-step.step) c.in-Err.ensures.fault told.1)))
-    c.refused.ensures
+    c.refused_line.ensures
 
 pub returns : goal.returns
 returns g c =

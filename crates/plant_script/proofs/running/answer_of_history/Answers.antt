@@ -13,7 +13,7 @@ returns g c =
     let core = core_view c.run_unheard.new.core in
     let text : string_bytes c.put_history.new.text ≡ book_text (slice_get core.books c.args.op) =
     c.in_ok-put_history.ensures ∙ ap (λ (t : List ℕ). t ++ book_text (slice_get core.books c.args.op)) c.new-text.ensures.bytes in
-    if_ok c.ended.result _ _
+    if_ok c.answer_of_text.result _ _
     (λ answer ended. history_written (core_view c.args.core.now).plant c.args.lines.items c.args.op c.in_ok-refused.refused core answer c.in_ok-refused.ensures
     (subst (λ (t : List ℕ). IsEnded t c.in_ok-refused.refused answer) text ended))
-    c.ended.ensures
+    c.answer_of_text.ensures

@@ -28,10 +28,10 @@ returns-in-Err g c =
     let at = c.loop-number in
     let line = c.in-Some.field-0 in
     let left : into_iter_items at.number-iterator ≡ line ∷ into_iter_items c.next.new.self = c.in-Some.ensures.steps.0 in
-    if_ok c.refused.result _ _
+    if_ok c.refused_line.result _ _
     (λ refused told. rw told.0 (line_refused (core_view c.args.core.now).plant c.args.lines.items (λ told. []) (core_view at.core) (core_view c.step.new.self) [] line (into_iter_items c.next.new.self) c.in-Err.fault
     (rw left at at.invariant.half) c.in-Err.ensures.err (fault_is_told (Vec Out) c.in-Err.fault (step_fault (core_view at.core) line.step) c.in-Err.ensures.fault told.1)))
-    c.refused.ensures
+    c.refused_line.ensures
 
 pub returns : goal.returns
 returns g c =

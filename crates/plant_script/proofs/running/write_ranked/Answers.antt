@@ -4,12 +4,12 @@ use Rattle.plant_script.proofs.running.write_ranked.Goals as goal
 
 pub returns-in_default : goal.returns-in_default
 returns-in_default g c well =
-    let told = c.stopped.ensures.memory refl well in
+    let told = c.write_fault.ensures.memory refl well in
     inr ([], told.0, rw c.loop-row.invariant.writer at told.1, inl refl)
 
 pub returns-then-is_err : goal.returns-then-is_err
 returns-then-is_err g c well =
-    let told = c.stopped-then-is_err.ensures.memory refl well in
+    let told = c.write_fault-then-is_err.ensures.memory refl well in
     inr ([], told.0, rw c.loop-row.invariant.writer at told.1, inl refl)
 
 pub returns : goal.returns

@@ -7,4 +7,4 @@ returns-in-Ok g c well =
     inl (c.in-Ok.answer.text.items, (λ five. c.in-Ok.answer.no_want (sym told.0 ∙ five)), rw told.0 c.in-Ok.ensures, rw c.as_slice.ensures.value at told.1)
 
 pub returns-in-Err : goal.returns-in-Err
-returns-in-Err g c well = let told = c.stopped.ensures.memory refl well in inr ([], told.0, told.1, inl refl)
+returns-in-Err g c well = let told = c.write_fault.ensures.memory refl well in inr ([], told.0, told.1, inl refl)

@@ -2,7 +2,7 @@ use Rattle.std.proofs.Common.{◌≡◌, List, map, Option, None, sym, ◌∙◌
 use Rattle.std.proofs.lemmas.List.{length-map}
 use Rattle.std.proofs.lemmas.Option.{slice_get_within}
 use Rattle.run_audit.proofs.Least.{map_there}
-use Rattle.plant_workers.specs.declared.thread_report.Refusal.{Refusal}
+use Rattle.plant_workers.specs.declared.thread_report.EarlyEnd.{EarlyEnd}
 use Rattle.plant_workers.specs.declared.thread_report.ThreadReport.{ThreadReport}
 use Rattle.plant_workers.specs.Refusing.{of_assembly}
 use Rattle.plant_workers.proofs.LeastLemmas.{next}
@@ -21,11 +21,11 @@ pub loop-thread_report-preserved : goal.loop-thread_report-preserved
 loop-thread_report-preserved c =
     next (map (λ (thread_report : ThreadReport). thread_report.refused) c.args.thread_reports.now) c.loop-thread_report.thread_report-index c.thread_report-item.result.refused
     (map_there (λ (thread_report : ThreadReport). thread_report.refused) c.args.thread_reports.now c.loop-thread_report.thread_report-index c.thread_report-item.result c.loop-thread_report-test.true c.thread_report-item.is)
-    (λ (refusal : Option Refusal). of_assembly refusal ≡ None) c.loop-thread_report.invariant (sym c.of_assembly.ensures ∙ c.in_default.is)
+    (λ (refusal : Option EarlyEnd). of_assembly refusal ≡ None) c.loop-thread_report.invariant (sym c.of_assembly.ensures ∙ c.in_default.is)
 
 pub returns : goal.returns
 returns c i other there =
-    let refused : List (Option Refusal) = map (λ (thread_report : ThreadReport). thread_report.refused) c.args.thread_reports.now in
+    let refused : List (Option EarlyEnd) = map (λ (thread_report : ThreadReport). thread_report.refused) c.args.thread_reports.now in
     let long = length-map c.args.thread_reports.now (λ (thread_report : ThreadReport). thread_report.refused) in
     let within = slice_get_within refused i other there in
     c.loop-thread_report.invariant i other (omega (arith, within, long, c.loop-thread_report-test.false, c.loop-thread_report.auto.thread_report-index-end)) there

@@ -1,22 +1,22 @@
 use Rattle.std.proofs.Common.{◌+◌, List, map, Option, sym, ap, ◌∙◌, subst, arith}
 use Rattle.std.proofs.lemmas.List.{length-map}
 use Rattle.run_audit.proofs.Least.{map_there}
-use Rattle.plant_workers.specs.declared.thread_report.Refusal.{Refusal}
+use Rattle.plant_workers.specs.declared.thread_report.EarlyEnd.{EarlyEnd}
 use Rattle.plant_workers.specs.declared.thread_report.ThreadReport.{ThreadReport}
-use Rattle.plant_workers.specs.Refusing.{lesser, IsLeastOf}
+use Rattle.plant_workers.specs.Refusing.{lesser_turn, IsLeastOf}
 use Rattle.plant_workers.proofs.LeastLemmas.{least_more, least_end}
 use Rattle.plant_workers.proofs.thread_report.least_turn.Goals as goal
 
 pub loop-thread_report-preserved : goal.loop-thread_report-preserved
 loop-thread_report-preserved c =
-    let refused : List (Option Refusal) = map (λ (thread_report : ThreadReport). thread_report.refused) c.args.thread_reports.now in
-    subst (IsLeastOf refused (c.loop-thread_report.thread_report-index + 1)) (sym (c.lesser-least.ensures ∙ ap (lesser c.loop-thread_report.least) c.own_turn.ensures))
+    let refused : List (Option EarlyEnd) = map (λ (thread_report : ThreadReport). thread_report.refused) c.args.thread_reports.now in
+    subst (IsLeastOf refused (c.loop-thread_report.thread_report-index + 1)) (sym (c.lesser_turn-least.ensures ∙ ap (lesser_turn c.loop-thread_report.least) c.own_turn.ensures))
     (least_more refused c.loop-thread_report.thread_report-index c.thread_report-item.result.refused
     (map_there (λ (thread_report : ThreadReport). thread_report.refused) c.args.thread_reports.now c.loop-thread_report.thread_report-index c.thread_report-item.result c.loop-thread_report-test.true c.thread_report-item.is)
     c.loop-thread_report.least c.loop-thread_report.invariant)
 
 pub returns : goal.returns
 returns c =
-    let refused : List (Option Refusal) = map (λ (thread_report : ThreadReport). thread_report.refused) c.args.thread_reports.now in
+    let refused : List (Option EarlyEnd) = map (λ (thread_report : ThreadReport). thread_report.refused) c.args.thread_reports.now in
     let long = length-map c.args.thread_reports.now (λ (thread_report : ThreadReport). thread_report.refused) in
     least_end refused c.loop-thread_report.thread_report-index c.loop-thread_report.least (omega (arith, long, c.loop-thread_report-test.false, c.loop-thread_report.auto.thread_report-index-end)) c.loop-thread_report.invariant

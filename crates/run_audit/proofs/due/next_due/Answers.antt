@@ -1,11 +1,11 @@
 use Rattle.plant_core.specs.Waiting.{frames_in, waiting_in}
-use Rattle.run_receipts.specs.Framing.{frame_of}
+use Rattle.run_receipts.specs.Framing.{numbered_frame}
 use Rattle.run_audit.proofs.Dues.{none_due, next_is}
 use Rattle.run_audit.proofs.due.next_due.Goals as goal
 
 pub returns-then-given-due : goal.returns-then-given-due
 returns-then-given-due c = record {
-  next = next_is (frames_in c.args.history.now) (waiting_in c.args.history.now c.args.from) c.args.due c.args.given c.if-given-due.true c.requires.place c.next_frame.result (λ next. frame_of next.1) (λ next. waiting_in c.args.history.now next.0)
+  next = next_is (frames_in c.args.history.now) (waiting_in c.args.history.now c.args.from) c.args.due c.args.given c.if-given-due.true c.requires.place c.next_frame.result (λ next. numbered_frame next.1) (λ next. waiting_in c.args.history.now next.0)
       c.next_frame.ensures;
   room = λ _. c.if-given-due.true;
 }

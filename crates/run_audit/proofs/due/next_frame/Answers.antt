@@ -5,16 +5,16 @@ use Rattle.operator_model.specs.declared.output.Output.{Output}
 use Rattle.run_model.specs.IsStateAfter.{frames_of}
 use Rattle.plant_core.specs.Waiting.{waiting_in}
 use Rattle.plant_core.proofs.WaitingLemmas.{none_here, one_here}
-use Rattle.run_receipts.specs.Framing.{frame_of}
+use Rattle.run_receipts.specs.Framing.{numbered_frame}
 use Rattle.run_audit.proofs.due.next_frame.Goals as goal
 
 pub returns-in-Some : goal.returns-in-Some
 returns-in-Some c =
     let entry : Entry = c.index-history-place.result in
-    let seen : slice_get (frames_of (get_or c.args.history.now c.loop-place.place entry).outputs) 0 ≡ Some (frame_of c.in-Some.frame) =
+    let seen : slice_get (frames_of (get_or c.args.history.now c.loop-place.place entry).outputs) 0 ≡ Some (numbered_frame c.in-Some.frame) =
     ap (λ (os : List Output). slice_get (frames_of os) 0) (sym c.as_slice.ensures) ∙ sym c.in-Some.ensures in
     let here : waiting_in c.args.history.now c.loop-place.place ≡ waiting_in c.args.history.now c.args.from = c.loop-place.invariant in
-    sym here ∙ one_here c.args.history.now c.loop-place.place entry (frame_of c.in-Some.frame) c.loop-place-test.true
+    sym here ∙ one_here c.args.history.now c.loop-place.place entry (numbered_frame c.in-Some.frame) c.loop-place-test.true
     (c.requires c.loop-place.place entry c.loop-place-test.true) seen
 
 pub loop-place-preserved : goal.loop-place-preserved

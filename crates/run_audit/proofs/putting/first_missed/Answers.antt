@@ -2,7 +2,7 @@ use Rattle.std.proofs.Common.{◌≡◌, ℕ, ◌+◌, ◌∙◌, take, drop, �
 use Rattle.std.proofs.lemmas.Option.{slice_get_within}
 use Rattle.plant_core.specs.Waiting.{frames_in}
 use Rattle.run_model.proofs.Numbers.{Numbered}
-use Rattle.run_receipts.specs.Framing.{frame_of}
+use Rattle.run_receipts.specs.Framing.{numbered_frame}
 use Rattle.run_audit.specs.Placings.{put_by, puts_of}
 use Rattle.run_audit.proofs.Differing.{walk_none, walk_here, walk_some, walk_end, same_end}
 use Rattle.run_audit.proofs.Numbered.{missed_here, missed_end}
@@ -13,9 +13,9 @@ use Rattle.run_audit.proofs.putting.first_missed.Goals.{in-Some+in-Some-behind_d
 pub returns-in_default-behind_due : goal.returns-in_default-behind_due
 returns-in_default-behind_due c first puts_are due_are =
     let due : List Numbered = take c.args.due (frames_in c.args.history.now) in
-    missed_here first (puts_of c.args.op c.args.placings.now) due _ c.loop-placing.given (frame_of c.in-Some.put) c.loop-placing.invariant.within
+    missed_here first (puts_of c.args.op c.args.placings.now) due _ c.loop-placing.given (numbered_frame c.in-Some.put) c.loop-placing.invariant.within
     (walk_here (put_by c.args.op) (puts_of c.args.op c.args.placings.now) due c.args.placings.now c.loop-placing.given c.loop-placing.placing-index c.placing-item.result
-    c.loop-placing.invariant.followed c.loop-placing-test.true c.placing-item.is (frame_of c.in-Some.put) (sym c.in-Some.ensures))
+    c.loop-placing.invariant.followed c.loop-placing-test.true c.placing-item.is (numbered_frame c.in-Some.put) (sym c.in-Some.ensures))
     c.in_default-behind_due.ensures.next puts_are
 
 pub loop-placing-preserved : goal.loop-placing-preserved
@@ -30,7 +30,7 @@ loop-placing-preserved c =
             left = rw (w.from-is, next) told.1;
             followed =
                 walk_some (put_by c.args.op) (puts_of c.args.op c.args.placings.now) due c.args.placings.now c.loop-placing.given c.loop-placing.placing-index c.placing-item.result
-                c.loop-placing.invariant.followed c.loop-placing-test.true c.placing-item.is (frame_of w.in-Some.put) (sym w.in-Some.ensures) told.0
+                c.loop-placing.invariant.followed c.loop-placing-test.true c.placing-item.is (numbered_frame w.in-Some.put) (sym w.in-Some.ensures) told.0
                 ∙ ap (λ (n : ℕ). take n due ++ puts_of c.args.op (drop (c.loop-placing.placing-index + 1) c.args.placings.now)) (sym next);
           }
       | in_default w ↦
@@ -48,7 +48,7 @@ loop-placing-preserved c =
 pub returns-in-Some-next_due : goal.returns-in-Some-next_due
 returns-in-Some-next_due c first puts_are due_are =
     let due : List Numbered = take c.args.due (frames_in c.args.history.now) in
-    missed_end first (puts_of c.args.op c.args.placings.now) due c.loop-placing.given (frame_of c.in-Some-next_due.frame)
+    missed_end first (puts_of c.args.op c.args.placings.now) due c.loop-placing.given (numbered_frame c.in-Some-next_due.frame)
     (walk_end (put_by c.args.op) (puts_of c.args.op c.args.placings.now) due c.args.placings.now c.loop-placing.given c.loop-placing.placing-index
     c.loop-placing.invariant.followed c.loop-placing-test.false)
     c.in-Some-next_due.ensures.next.0 due_are

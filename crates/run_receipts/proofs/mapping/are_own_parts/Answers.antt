@@ -1,6 +1,6 @@
 use Rattle.std.proofs.Common.{refl, sym, ◌∙◌}
 use Rattle.std.proofs.lemmas.Bool.{false≢true}
-use Rattle.run_receipts.specs.OwnParts.{IsOwnPart}
+use Rattle.run_receipts.specs.OwnParts.{IsFramePart}
 use Rattle.run_receipts.specs.Framing.{AreFramesOf}
 use Rattle.run_receipts.proofs.Lists.{zip_some, all_more, all_end, all_not}
 use Rattle.run_receipts.proofs.mapping.are_own_parts.Goals as goal
@@ -11,17 +11,17 @@ has_own_part-requires c = zip_some AreFramesOf c.args.all.now c.requires.0 c.loo
 pub returns-then-not-branch : goal.returns-then-not-branch
 returns-then-not-branch c = λ books zip. (
   λ is. absurd (false≢true is),
-  λ all. absurd (all_not AreFramesOf (IsOwnPart c.args.made.now c.args.view.now) c.args.all.now books c.loop-own.own-index c.own-item.result c.loop-own-test.true c.own-item.is zip
+  λ all. absurd (all_not AreFramesOf (IsFramePart c.args.made.now c.args.view.now) c.args.all.now books c.loop-own.own-index c.own-item.result c.loop-own-test.true c.own-item.is zip
       (λ book its own. false≢true (sym c.if-not-branch.true ∙ (c.in_ok-has_own_part.ensures book its).1 own)) all),
 )
 
 pub loop-own-preserved : goal.loop-own-preserved
 loop-own-preserved c = λ books zip.
-    all_more AreFramesOf (IsOwnPart c.args.made.now c.args.view.now) c.args.all.now books c.loop-own.own-index c.own-item.result c.loop-own-test.true c.own-item.is zip
+    all_more AreFramesOf (IsFramePart c.args.made.now c.args.view.now) c.args.all.now books c.loop-own.own-index c.own-item.result c.loop-own-test.true c.own-item.is zip
     (λ book its. (c.in_ok-has_own_part.ensures book its).0 c.if-not-branch.false) (c.loop-own.invariant books zip)
 
 pub returns : goal.returns
 returns c = λ books zip. (
-  λ is. all_end AreFramesOf (IsOwnPart c.args.made.now c.args.view.now) c.args.all.now books c.loop-own.own-index c.loop-own-test.false zip (c.loop-own.invariant books zip),
+  λ is. all_end AreFramesOf (IsFramePart c.args.made.now c.args.view.now) c.args.all.now books c.loop-own.own-index c.loop-own-test.false zip (c.loop-own.invariant books zip),
   λ all. refl,
 )

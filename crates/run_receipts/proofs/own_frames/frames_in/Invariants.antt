@@ -1,8 +1,8 @@
 use Rattle.std.proofs.Common.{◌≡◌, ◌++◌, drop}
 use Rattle.run_model.specs.IsStateAfter.{frames_of}
-use Rattle.run_receipts.specs.OwnParts.{outputs_of}
-use Rattle.run_receipts.specs.Framing.{numbered}
+use Rattle.run_receipts.specs.OwnParts.{history_outputs}
+use Rattle.run_receipts.specs.Framing.{frames_with_numbers}
 use Rattle.run_receipts.proofs.own_frames.frames_in.Given as goal
 
 abbrev pub invariant-loop-entry : goal.invariant-loop-entry
-invariant-loop-entry l = numbered l.frames.items ++ frames_of (outputs_of (drop l.entry-index l.history)) ≡ frames_of (outputs_of l.history)
+invariant-loop-entry l = frames_with_numbers l.frames.items ++ frames_of (history_outputs (drop l.entry-index l.history)) ≡ frames_of (history_outputs l.history)

@@ -1,7 +1,7 @@
 use Rattle.std.proofs.Common.{◌≡◌, ◌++◌, drop}
 use Rattle.run_model.specs.IsStateAfter.{frames_of}
-use Rattle.run_receipts.specs.Framing.{numbered}
+use Rattle.run_receipts.specs.Framing.{frames_with_numbers}
 use Rattle.run_receipts.proofs.own_frames.push_frames.Given as goal
 
 abbrev pub invariant-loop-output : goal.invariant-loop-output
-invariant-loop-output l = numbered l.frames.items ++ frames_of (drop l.output-index l.outputs) ≡ numbered l.initial.frames.items ++ frames_of l.outputs
+invariant-loop-output l = frames_with_numbers l.frames.items ++ frames_of (drop l.output-index l.outputs) ≡ frames_with_numbers l.initial.frames.items ++ frames_of l.outputs

@@ -1,7 +1,7 @@
 use Rattle.std.proofs.Common.{ℕ, length, ap, sym, ◌∙◌, arith}
 use Rattle.std.specs.List.{flat_map}
 use Rattle.std.proofs.lemmas.List.{drop_all}
-use Rattle.script_format.specs.Text.{spaced, pending_text}
+use Rattle.script_format.specs.Text.{after_space, pending_text}
 use Rattle.script_format.proofs.digits.pendings_digits.Goals as goal
 
 pub loop-left-init : goal.loop-left-init
@@ -11,5 +11,5 @@ loop-left-init c = record {
   inside = omega arith;
   written =
       drop_all 256 c.args.room.now (omega (arith, c.told-room, c.fits-room))
-      ∙ ap (flat_map (λ (sid : ℕ). spaced (pending_text sid))) (sym (drop_all (length c.args.pending.now) c.args.pending.now (omega arith)));
+      ∙ ap (flat_map (λ (sid : ℕ). after_space (pending_text sid))) (sym (drop_all (length c.args.pending.now) c.args.pending.now (omega arith)));
 }

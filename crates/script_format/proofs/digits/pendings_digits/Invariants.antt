@@ -1,6 +1,6 @@
 use Rattle.std.proofs.Common.{◌≡◌, ◌*◌, ◌≤◌, length, drop}
 use Rattle.std.specs.List.{flat_map}
-use Rattle.script_format.specs.Text.{spaced, pending_text}
+use Rattle.script_format.specs.Text.{after_space, pending_text}
 use Rattle.script_format.proofs.digits.pendings_digits.Given as goal
 
 -- the grants pending from a place on are written, and the others have room before them
@@ -9,7 +9,7 @@ invariant-loop-left l = record {
   left_is : l.left ≤ length l.pending;
   has_room : 8 * l.left ≤ l.place;
   inside : l.place ≤ 256;
-  written : drop l.place l.room ≡ flat_map (λ sid. spaced (pending_text sid)) (drop l.left l.pending);
+  written : drop l.place l.room ≡ flat_map (λ sid. after_space (pending_text sid)) (drop l.left l.pending);
 }
 
 abbrev pub decreases-loop-left : goal.decreases-loop-left

@@ -2,7 +2,7 @@ use Rattle.std.proofs.Common.{length, ap, sym, ◌∙◌, arith}
 use Rattle.std.specs.List.{flat_map}
 use Rattle.std.proofs.lemmas.List.{drop_all}
 use Rattle.slice_scheduler.specs.declared.span.Span.{Span}
-use Rattle.script_format.specs.Text.{spaced, span_text}
+use Rattle.script_format.specs.Text.{after_space, span_text}
 use Rattle.script_format.proofs.digits.spans_digits.Goals as goal
 
 pub loop-left-init : goal.loop-left-init
@@ -12,5 +12,5 @@ loop-left-init c = record {
   inside = omega arith;
   written =
       drop_all 768 c.args.room.now (omega (arith, c.told-room, c.fits-room))
-      ∙ ap (flat_map (λ (span : Span). spaced (span_text span))) (sym (drop_all (length c.args.spans.now) c.args.spans.now (omega arith)));
+      ∙ ap (flat_map (λ (span : Span). after_space (span_text span))) (sym (drop_all (length c.args.spans.now) c.args.spans.now (omega arith)));
 }

@@ -1,6 +1,6 @@
 use Rattle.std.proofs.Common.{◌≡◌, ◌*◌, ◌≤◌, length, drop}
 use Rattle.std.specs.List.{flat_map}
-use Rattle.script_format.specs.Text.{spaced, span_text}
+use Rattle.script_format.specs.Text.{after_space, span_text}
 use Rattle.script_format.proofs.digits.spans_digits.Given as goal
 
 -- the spans from a place on are written, and the others have room before them
@@ -9,7 +9,7 @@ invariant-loop-left l = record {
   left_is : l.left ≤ length l.spans;
   has_room : 24 * l.left ≤ l.place;
   inside : l.place ≤ 768;
-  written : drop l.place l.room ≡ flat_map (λ span. spaced (span_text span)) (drop l.left l.spans);
+  written : drop l.place l.room ≡ flat_map (λ span. after_space (span_text span)) (drop l.left l.spans);
 }
 
 abbrev pub decreases-loop-left : goal.decreases-loop-left

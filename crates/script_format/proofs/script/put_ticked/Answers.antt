@@ -1,9 +1,9 @@
 use Rattle.std.proofs.Common.{ap}
 use Rattle.script_format.specs.Fields.{behind}
-use Rattle.script_format.specs.Lines.{fields_of}
+use Rattle.script_format.specs.Lines.{line_fields}
 use Rattle.script_format.proofs.Scripts.{ticked_more}
 use Rattle.script_format.proofs.script.put_ticked.Goals as goal
 
 pub returns-in-Some-clause-said : goal.returns-in-Some-clause-said
 returns-in-Some-clause-said c =
-    ap (behind c.args.steps.now.items) (ticked_more c.args.plant.now c.args.number _ _ (fields_of c.args.line.now) c.in-Some.ensures)
+    ap (behind c.args.steps.now.items) (ticked_more c.args.plant.now c.args.number _ _ (line_fields c.args.line.now) c.in-Some.ensures)

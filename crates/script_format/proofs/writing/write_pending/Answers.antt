@@ -1,13 +1,13 @@
 use Rattle.std.proofs.Common.{List, ℕ, arith}
 use Rattle.std.specs.List.{flat_map}
 use Rattle.std.proofs.KnownBytes.{Appends-nil}
-use Rattle.script_format.specs.Text.{spaced, pending_text}
+use Rattle.script_format.specs.Text.{after_space, pending_text}
 use Rattle.script_format.proofs.Encoded.{flat_more, write_part, write_last}
 use Rattle.script_format.proofs.Outcomes.{if_ok}
 use Rattle.script_format.proofs.writing.write_pending.Goals as goal
 
 abbrev text : ℕ → List ℕ
-text sid = spaced (pending_text sid)
+text sid = after_space (pending_text sid)
 
 pub loop-place-init : goal.loop-place-init
 loop-place-init g c = record { inside = omega arith; written = Appends-nil _ }

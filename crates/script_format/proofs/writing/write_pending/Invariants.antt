@@ -1,13 +1,13 @@
 use Rattle.std.proofs.Common.{◌-◌, ◌≤◌, length, take}
 use Rattle.std.specs.Io.KnownBytes.{Appends}
 use Rattle.std.specs.List.{flat_map}
-use Rattle.script_format.specs.Text.{spaced, pending_text}
+use Rattle.script_format.specs.Text.{after_space, pending_text}
 use Rattle.script_format.proofs.writing.write_pending.Given as goal
 
 abbrev pub invariant-loop-place : goal.invariant-loop-place
 invariant-loop-place g l = record {
   inside : l.place ≤ length l.pending;
-  written : Appends (g.W.Write.contents l.fn.writer) (g.W.Write.contents l.writer) (flat_map (λ sid. spaced (pending_text sid)) (take l.place l.pending));
+  written : Appends (g.W.Write.contents l.fn.writer) (g.W.Write.contents l.writer) (flat_map (λ sid. after_space (pending_text sid)) (take l.place l.pending));
 }
 
 abbrev pub decreases-loop-place : goal.decreases-loop-place

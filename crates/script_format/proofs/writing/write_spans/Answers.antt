@@ -2,13 +2,13 @@ use Rattle.std.proofs.Common.{List, ℕ, arith}
 use Rattle.std.specs.List.{flat_map}
 use Rattle.std.proofs.KnownBytes.{Appends-nil}
 use Rattle.slice_scheduler.specs.declared.span.Span.{Span}
-use Rattle.script_format.specs.Text.{spaced, span_text}
+use Rattle.script_format.specs.Text.{after_space, span_text}
 use Rattle.script_format.proofs.Encoded.{flat_more, write_part, write_last}
 use Rattle.script_format.proofs.Outcomes.{if_ok}
 use Rattle.script_format.proofs.writing.write_spans.Goals as goal
 
 abbrev text : Span → List ℕ
-text span = spaced (span_text span)
+text span = after_space (span_text span)
 
 pub loop-place-init : goal.loop-place-init
 loop-place-init g c = record { inside = omega arith; written = Appends-nil _ }

@@ -13,6 +13,6 @@ loop-flow-preserved c =
     let need = sum_by-more flows i c.flow-item.result c.flow-item.result c.loop-flow-test.true c.flow-item.is (need_at c.args.at.now) in
     let most = sum_by-take-le (need_at c.args.at.now) flows (i + 1) in
     record {
-      left = omega (arith, c.taken-room.ensures.value);
-      within = omega (arith, c.taken-room.ensures.within);
+      left = omega (arith, c.base_minislots-room.ensures.value);
+      within = omega (arith, c.base_minislots-room.ensures.within);
     }

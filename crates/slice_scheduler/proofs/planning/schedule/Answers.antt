@@ -8,7 +8,7 @@ use Rattle.slice_scheduler.specs.Minislots.{Minislots}
 use Rattle.slice_scheduler.specs.Due.{due_pieces}
 use Rattle.slice_scheduler.specs.Claims.{claims_of, room_of}
 use Rattle.slice_scheduler.specs.Awards.{award_of, awards_of}
-use Rattle.slice_scheduler.specs.Schedule.{by_rank, award_pieces, pieces_of, minislots_in, spans_of, pending_of, packed, idle}
+use Rattle.slice_scheduler.specs.Schedule.{by_rank, award_pieces, pieces_of, minislots_in, spans_of, pending_of, spans_from, idle}
 use Rattle.slice_scheduler.specs.declared.span.Span.{Span}
 use Rattle.slice_scheduler.specs.Wanted.{asking}
 use Rattle.slice_scheduler.specs.declared.flowing.Flowing.{Flowing}
@@ -80,8 +80,8 @@ returns-clause-elements g c =
     ∙ ap (λ (ps : List Piece). flat_map (due_pieces at) flows ++ ps) (asking-pieces at (awards_of policy at flows))))) in
     let spans : c.from_vec.result ≡ spans_of policy at flows =
     c.from_vec.ensures ∙ (c.in_ok-spans.ensures.items
-    ∙ (ap (λ (s : Minislots). packed s.start (c.as_slice-4.result.now ++ idle (s.length - minislots_in c.as_slice-4.result.now))) c.get_slice-slice.ensures.value
-    ∙ ap (λ (ps : List Piece). packed at.slice.start (ps ++ idle (at.slice.length - minislots_in ps))) pieces)) in
+    ∙ (ap (λ (s : Minislots). spans_from s.start (c.as_slice-4.result.now ++ idle (s.length - minislots_in c.as_slice-4.result.now))) c.get_slice-slice.ensures.value
+    ∙ ap (λ (ps : List Piece). spans_from at.slice.start (ps ++ idle (at.slice.length - minislots_in ps))) pieces)) in
     let pending : c.from_vec-2.result ≡ pending_of policy at flows =
     c.from_vec-2.ensures ∙ (c.in_ok-pending.ensures
     ∙ (ap (λ (xs : List Award). map (λ (a : Award). a.sid) (filter (λ (a : Award). nat_lt a.grant a.backlog) xs)) (c.as_slice-5.ensures.value ∙ ordered)

@@ -10,8 +10,8 @@ use Rattle.slice_table.proofs.RowReading.{rows_read}
 use Rattle.slice_table.proofs.PlantReading.{valid, no_fault}
 use Rattle.slice_table.proofs.reading.plant_of.Goals as goal
 
-pub judged-requires : goal.judged-requires
-judged-requires c =
+pub checked_roster-requires : goal.checked_roster-requires
+checked_roster-requires c =
     let read = rows_read c.in_ok-consts.consts (table_view c.args.document.now) c.in_ok-rows.rows.items c.in_ok-rows.ensures in
     subst (λ (rows : List RowFields). length rows ≤ 32) (sym c.as_slice.ensures.value) read.few
 

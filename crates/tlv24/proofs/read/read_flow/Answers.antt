@@ -39,8 +39,8 @@ returns-in-Some-fault_of-clause-exact c =
 
 pub loop-rest-preserved : goal.loop-rest-preserved
 loop-rest-preserved c =
-    read_more c.args.bytes.now c.loop-rest.rest.now c.loop-rest.fields c.put.new.fields c.in-Some.first.kind c.in-Some.first.value.now c.in-Some.first.rest.now
-    c.loop-rest.invariant c.in-Some.ensures.exact c.in-Some.ensures.begins c.in_default-fault_of.ensures c.put.ensures
+    read_more c.args.bytes.now c.loop-rest.rest.now c.loop-rest.fields c.set_field.new.fields c.in-Some.first.kind c.in-Some.first.value.now c.in-Some.first.rest.now
+    c.loop-rest.invariant c.in-Some.ensures.exact c.in-Some.ensures.begins c.in_default-fault_of.ensures c.set_field.ensures
 
 pub new-requires : goal.new-requires
 new-requires c = read_in_range c.args.bytes.now c.loop-rest.rest.now c.loop-rest.fields c.loop-rest.invariant

@@ -4,7 +4,7 @@ use Rattle.std.specs.Int.{w16, w32, to_be_bytes}
 use Rattle.tlv24.specs.declared.fields.FlowFields.{FlowFields}
 use Rattle.tlv24.specs.Tlv.{spelled}
 use Rattle.tlv24.specs.Flow.{IsFlowEncoding}
-use Rattle.tlv24.specs.Spelling.{single, terminated, spelled_error, under, tlvs_of}
+use Rattle.tlv24.specs.Spelling.{single, terminated_name, spelled_error, under, tlvs_of}
 use Rattle.tlv24.proofs.Written.{at_first, and_then, all_spelled, FitTheirBytes, written_says}
 use Rattle.tlv24.proofs.write.write_flow.Goals as goal
 
@@ -14,7 +14,7 @@ returns-clause-spelling c =
     let to_1 = at_first c.new-out.result.items c.put_word.new.out.items (under 1 (option_map (to_be_bytes w16) m.reference)) c.in_ok-put_word.ensures.bytes in
     let to_2 = and_then _ _ c.put_long.new.out.items _ (under 2 (option_map (to_be_bytes w32) m.sfid)) to_1 c.in_ok-put_long.ensures.bytes in
     let to_3 = and_then _ _ c.put_word-2.new.out.items _ (under 3 (option_map (to_be_bytes w16) m.sid)) to_2 c.in_ok-put_word-2.ensures.bytes in
-    let to_4 = and_then _ _ c.put_class_name.new.out.items _ (under 4 (option_map terminated m.class_name)) to_3 c.in_ok-put_class_name.ensures.bytes in
+    let to_4 = and_then _ _ c.put_class_name.new.out.items _ (under 4 (option_map terminated_name m.class_name)) to_3 c.in_ok-put_class_name.ensures.bytes in
     let to_5 = and_then _ _ c.put_errored.new.out.items _ (under 5 (option_map spelled_error m.errored)) to_4 c.in_ok-put_errored.ensures in
     let to_6 = and_then _ _ c.put_byte.new.out.items _ (under 6 (option_map single m.set_type)) to_5 c.in_ok-put_byte.ensures in
     let to_7 = and_then _ _ c.put_byte-2.new.out.items _ (under 7 (option_map single m.traffic_priority)) to_6 c.in_ok-put_byte-2.ensures in

@@ -1,23 +1,23 @@
 use Rattle.std.proofs.Common.{◌≡◌, nat_cmp, ap}
 use Rattle.std.specs.BTreeMap.{insert_entry}
-use Rattle.admission.specs.Ledger.{Committed, minislots_of, elements_of}
+use Rattle.admission.specs.Ledger.{LedgerView, total_minislots, total_elements}
 use Rattle.admission.proofs.LedgerLemmas.{CanReplace-budget_at, minislots-insert_entry, elements-insert_entry}
 use Rattle.admission.proofs.ledger.Ledger.fits.Goals as goal
 
-pub replaced-requires : goal.replaced-requires
-replaced-requires c =
-    let rows = ap (λ (ledger : Committed). ledger.rows) c.self.view_is in
+pub replace_row-requires : goal.replace_row-requires
+replace_row-requires c =
+    let rows = ap (λ (ledger : LedgerView). ledger.rows) c.self.view_is in
     rw (c.unwrap_or-old.ensures, c.get.ensures, ← rows) (CanReplace-budget_at c.self.invariant c.args.sfid)
 
-minislots_are : (c : goal.After-within) → c.replaced.result.minislots ≡ minislots_of (insert_entry nat_cmp c.args.self.now.rows c.args.sfid c.args.budget)
+minislots_are : (c : goal.After-within) → c.replace_row.result.minislots ≡ total_minislots (insert_entry nat_cmp c.args.self.now.rows c.args.sfid c.args.budget)
 minislots_are c =
-    let rows = ap (λ (ledger : Committed). ledger.rows) c.self.view_is in
-    rw (← rows) (minislots-insert_entry c.self.invariant c.args.sfid _ c.args.budget (rw (c.unwrap_or-old.ensures, c.get.ensures, ← rows) at c.replaced.ensures.minislots))
+    let rows = ap (λ (ledger : LedgerView). ledger.rows) c.self.view_is in
+    rw (← rows) (minislots-insert_entry c.self.invariant c.args.sfid _ c.args.budget (rw (c.unwrap_or-old.ensures, c.get.ensures, ← rows) at c.replace_row.ensures.minislots))
 
-elements_are : (c : goal.After-within) → c.replaced.result.elements ≡ elements_of (insert_entry nat_cmp c.args.self.now.rows c.args.sfid c.args.budget)
+elements_are : (c : goal.After-within) → c.replace_row.result.elements ≡ total_elements (insert_entry nat_cmp c.args.self.now.rows c.args.sfid c.args.budget)
 elements_are c =
-    let rows = ap (λ (ledger : Committed). ledger.rows) c.self.view_is in
-    rw (← rows) (elements-insert_entry c.self.invariant c.args.sfid _ c.args.budget (rw (c.unwrap_or-old.ensures, c.get.ensures, ← rows) at c.replaced.ensures.elements))
+    let rows = ap (λ (ledger : LedgerView). ledger.rows) c.self.view_is in
+    rw (← rows) (elements-insert_entry c.self.invariant c.args.sfid _ c.args.budget (rw (c.unwrap_or-old.ensures, c.get.ensures, ← rows) at c.replace_row.ensures.elements))
 
 pub returns-clause-elements : goal.returns-clause-elements
 returns-clause-elements c = rw (elements_are c) at c.within.ensures.elements

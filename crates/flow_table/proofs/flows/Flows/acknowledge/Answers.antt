@@ -1,12 +1,12 @@
-use Rattle.flow_table.specs.Flow.{acknowledged}
+use Rattle.flow_table.specs.Flow.{flow_after_ack}
 use Rattle.flow_table.proofs.MovedLemmas.{told_room, told_table}
 use Rattle.flow_table.proofs.StandLemmas.{acknowledged_keeps}
 use Rattle.flow_table.proofs.flows.Flows.acknowledge.Goals as goal
 
 pub commit-requires : goal.commit-requires
-commit-requires c = told_room c.self.invariant c.args.sfid (acknowledged c.args.frame) c.in-Some.moved c.in-Some.ensures.told
+commit-requires c = told_room c.self.invariant c.args.sfid (flow_after_ack c.args.frame) c.in-Some.moved c.in-Some.ensures.told
 
 pub invariant_of-self : goal.invariant_of-self
 invariant_of-self c =
     rw (c.commit.ensures, c.free.ensures, c.acknowledge_in.ensures.flows)
-    (told_table c.self.invariant c.args.sfid (acknowledged c.args.frame) (λ old at. acknowledged_keeps c.self.inside.by_sfid.entries c.args.sfid old c.args.frame at) c.in-Some.moved c.in-Some.ensures.told)
+    (told_table c.self.invariant c.args.sfid (flow_after_ack c.args.frame) (λ old at. acknowledged_keeps c.self.inside.by_sfid.entries c.args.sfid old c.args.frame at) c.in-Some.moved c.in-Some.ensures.told)

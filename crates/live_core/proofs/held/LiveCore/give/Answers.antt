@@ -1,6 +1,6 @@
 use Rattle.std.proofs.Common.{[], List, refl, sym, subst}
 use Rattle.slice_scheduler.specs.Minislots.{Minislots}
-use Rattle.map_assembly.specs.Gathering.{Gathering, MayReslice, resliced}
+use Rattle.map_assembly.specs.Gathering.{Gathering, MayReslice, gathering_after_reslice}
 use Rattle.map_assembly.specs.LettingGo.{GoesOnAlike}
 use Rattle.run_model.specs.declared.step.Step.TheVariants as steps
 use Rattle.plant_core.proofs.FreeLemmas.{are_free}
@@ -35,7 +35,7 @@ invariant_of-self-2 g c =
       reached = stepped_on (steps.Reslice c.args.from c.args.rows.now) _ _ [] c.always.ensures.plant refl
           (reslices_on core.routes core.gather _ _ _ _ _ c.args.from c.args.rows.now c.requires c.give.ensures.books c.give.ensures.waiting
           (may_take core.routes core.gather _ _ c.args.from c.args.rows.now c.always.ensures.plant core.reached c.requires)
-          (subst (λ (slices : List Minislots). GoesOnAlike (resliced core.gather c.args.from slices) c.let_go.new.self) c.in_ok-slices.ensures
+          (subst (λ (slices : List Minislots). GoesOnAlike (gathering_after_reslice core.gather c.args.from slices) c.let_go.new.self) c.in_ok-slices.ensures
           (subst (λ (x : Gathering). GoesOnAlike x c.let_go.new.self) c.in_ok-reslice.ensures.state c.let_go.ensures.alike)) c.always-2.ensures)
           core.reached;
     }
@@ -45,5 +45,5 @@ returns-clause-ok g c =
     let core = c.args.self.now in
     reslices_on core.routes core.gather _ _ _ _ _ c.args.from c.args.rows.now c.requires c.give.ensures.books c.give.ensures.waiting
     (may_take core.routes core.gather _ _ c.args.from c.args.rows.now c.always.ensures.plant core.reached c.requires)
-    (subst (λ (slices : List Minislots). GoesOnAlike (resliced core.gather c.args.from slices) c.let_go.new.self) c.in_ok-slices.ensures
+    (subst (λ (slices : List Minislots). GoesOnAlike (gathering_after_reslice core.gather c.args.from slices) c.let_go.new.self) c.in_ok-slices.ensures
     (subst (λ (x : Gathering). GoesOnAlike x c.let_go.new.self) c.in_ok-reslice.ensures.state c.let_go.ensures.alike)) c.always-2.ensures

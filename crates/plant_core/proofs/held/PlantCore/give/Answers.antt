@@ -1,7 +1,7 @@
 use Rattle.std.proofs.Common.{[], List, refl, sym, ap, ◌∙◌, subst}
 use Rattle.slice_scheduler.specs.Minislots.{Minislots}
 use Rattle.operator_model.specs.Replay.{BookView}
-use Rattle.map_assembly.specs.Gathering.{MayReslice, resliced}
+use Rattle.map_assembly.specs.Gathering.{MayReslice, gathering_after_reslice}
 use Rattle.run_model.specs.declared.step.Step.TheVariants as steps
 use Rattle.run_model.specs.Steps.{NoneRefuses}
 use Rattle.plant_core.proofs.FreeLemmas.{are_free}
@@ -41,7 +41,7 @@ invariant_of-self-2 g c =
       reached = stepped (steps.Reslice c.args.from c.args.rows.now) _ _ [] c.always.ensures.plant c.always.ensures.gathering refl
           (reslices_at core.routes core.gather _ _ _ _ _ _ c.args.from c.args.rows.now c.requires c.make_room.ensures.books c.give.ensures.books
           (c.give.ensures.waiting ∙ c.make_room.ensures.waiting)
-          (c.in_ok-reslice.ensures.state ∙ ap (λ (slices : List Minislots). resliced core.gather c.args.from slices) c.in_ok-slices.ensures))
+          (c.in_ok-reslice.ensures.state ∙ ap (λ (slices : List Minislots). gathering_after_reslice core.gather c.args.from slices) c.in_ok-slices.ensures))
           core.reached;
     }
 
@@ -50,4 +50,4 @@ returns-clause-ok g c =
     let core = c.args.self.now in
     reslices_at core.routes core.gather _ _ _ _ _ _ c.args.from c.args.rows.now c.requires c.make_room.ensures.books c.give.ensures.books
     (c.give.ensures.waiting ∙ c.make_room.ensures.waiting)
-    (c.in_ok-reslice.ensures.state ∙ ap (λ (slices : List Minislots). resliced core.gather c.args.from slices) c.in_ok-slices.ensures)
+    (c.in_ok-reslice.ensures.state ∙ ap (λ (slices : List Minislots). gathering_after_reslice core.gather c.args.from slices) c.in_ok-slices.ensures)

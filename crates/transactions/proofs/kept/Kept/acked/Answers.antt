@@ -2,7 +2,7 @@ use Rattle.std.proofs.Common.{◌≡◌, List, map, set, position, Some, None, a
 use Rattle.std.proofs.lemmas.List.Quantifiers.{position-Some}
 use Rattle.transactions.specs.declared.entry.KeptEntry.{KeptEntry}
 use Rattle.transactions.specs.Entry.{waits_for}
-use Rattle.transactions.specs.Keeping.{Keeping, acknowledged}
+use Rattle.transactions.specs.Keeping.{Keeping, entry_after_ack}
 use Rattle.transactions.proofs.AckLemmas.{acknowledged_at, acknowledged_none, sfid_at, sfid_none, IsKept-hold}
 use Rattle.transactions.proofs.kept.Kept.acked.Goals as goal
 
@@ -44,6 +44,6 @@ returns-clause-state c =
     let items = c.self.inside.entries.items in
     let place = c.in_ok-place.place in
     let held = ap (set items place) c.hold.ensures ∙ sym (acknowledged_at c.self.inside.timers c.args.modem c.args.tid c.args.kind items c.self.invariant.one_each place _ (found c) c.index_mut-entry.ensures.value) in
-    let moved : map (acknowledged c.self.inside.timers c.args.modem c.args.tid c.args.kind) items ≡ map (acknowledged c.args.self.now.waits c.args.modem c.args.tid c.args.kind) c.args.self.now.entries = λ i. map (acknowledged (waits i) c.args.modem c.args.tid c.args.kind) (entries i) in
+    let moved : map (entry_after_ack c.self.inside.timers c.args.modem c.args.tid c.args.kind) items ≡ map (entry_after_ack c.args.self.now.waits c.args.modem c.args.tid c.args.kind) c.args.self.now.entries = λ i. map (entry_after_ack (waits i) c.args.modem c.args.tid c.args.kind) (entries i) in
     let all = held ∙ moved in
     λ i. record { capacity = capacity i; waits = waits i; entries = all i }

@@ -1,0 +1,19 @@
+use Rattle.operator_model.specs.State.{operator}
+use Rattle.std.proofs.Common.{refl, sym, ap, subst, ◌∙◌}
+use Rattle.operator_model.specs.Machine.{IsAllowed}
+use Rattle.operator_model.specs.Replay.{BookView}
+use Rattle.operator_book.specs.Kept.{HeldBook}
+use Rattle.operator_book.proofs.Replays.{replay_push}
+use Rattle.operator_book.proofs.logged.RecordedMachine.act.Goals as goal
+
+pub invariant_of-self-2 : goal.invariant_of-self-2
+invariant_of-self-2 g c =
+    rw (c.in_ok-both.ensures.state, c.push_reserved.ensures.items, c.room_for_one.ensures.items)
+    record {
+      valid = c.self.invariant.valid;
+      some = c.self.invariant.some;
+      replay = replay_push _ _ _ _ _ _ c.self.invariant.replay
+          (subst (λ (b : BookView). IsAllowed (operator b.consts b.row b.state) c.args.action) (sym (ap (λ (held : HeldBook). held.book) c.self.view_is)) c.requires.allowed)
+          refl
+          (c.from_vec.ensures ∙ (c.in_ok-both.both.same c.in_ok-both.ensures.twice ∙ c.in_ok-both.ensures.outputs));
+    }

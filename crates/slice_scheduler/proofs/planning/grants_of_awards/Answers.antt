@@ -1,0 +1,20 @@
+use Rattle.std.proofs.Common.{refl, get_or}
+use Rattle.std.specs.Prelude.{nat_lt}
+use Rattle.std.proofs.lemmas.Bool.{lt-ltb, le-ltb}
+use Rattle.slice_scheduler.specs.declared.award.Award.{Award}
+use Rattle.slice_scheduler.proofs.MoreLemmas.{map-kept, map-left}
+use Rattle.slice_scheduler.proofs.planning.grants_of_awards.Goals as goal
+use Rattle.slice_scheduler.proofs.planning.grants_of_awards.Goals.{then-award-gt0+in_ok-push, else-award-gt0}
+
+pub loop-award-preserved : goal.loop-award-preserved
+loop-award-preserved c =
+    let none : Award = record { sfid = 0; sid = 0; rank = 0; backlog = 0; grant = 0 } in
+    let awards = c.args.awards.now in
+    let i = c.loop-award.award-index in
+    let award = get_or awards i none in
+    elim c.if-award-gt0.branch [
+      | then-award-gt0+in_ok-push w ↦ rw (w.grants-is, w.in_ok-push.ensures.items)
+          (map-kept awards i award none c.loop-award-test.true refl (λ a. (a.sfid, a.grant)) (λ a. nat_lt 0 a.grant) c.loop-award.grants.items (lt-ltb _ _ w.if-award-gt0.true) c.loop-award.invariant)
+      | else-award-gt0 w ↦ rw w.grants-is
+          (map-left awards i award none c.loop-award-test.true refl (λ a. (a.sfid, a.grant)) (λ a. nat_lt 0 a.grant) c.loop-award.grants.items (le-ltb _ _ w.if-award-gt0.false) c.loop-award.invariant)
+    ]
