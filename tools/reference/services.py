@@ -9,8 +9,9 @@ def served(data):
     """Returns the exit status of `serve`, and what it prints: for each line what its steps output, and its number if it is invalid."""
     lines = data.split(b"\n")
     bar = lines.index(b"---") if b"---" in lines else len(lines)
+    file = b"".join(line + b"\n" for line in lines[:bar]) if bar < len(lines) else data
     try:
-        plant, _none = judged_plant(text_of(b"\n".join(lines[:bar])))
+        plant, _none = judged_plant(text_of(file))
     except Fault as fault:
         return fault.status, fault.last_line + "\n"
     core, out = Core(plant), []

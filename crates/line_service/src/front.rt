@@ -1,6 +1,6 @@
 //! Reading a plant's text, up to the line of three dashes.
 
-ghost use Rattle.std.specs.Prelude.{◌≡◌, ◌++◌, ◌∷◌, [], List, ℕ, Some, IfOk, OnOk, IfSome};
+ghost use Rattle.std.specs.Prelude.{◌≡◌, ◌↔◌, ◌≤◌, ◌++◌, ◌∷◌, [], List, ℕ, Some, IfOk, OnOk, IsOk, IfSome, length};
 ghost use Rattle.script_format.specs.Input.{plant_text, script_text};
 ghost use Rattle.line_service.specs.Front.{IsReadSoFar, IsFrontText, ReadsOn};
 
@@ -53,6 +53,16 @@ fn with_last_line(mut text: Vec<u8>, line: &[u8]) -> Result<Vec<u8>, AllocError>
     Ok(text)
 }
 
+/// Fails where a plant's text has more than 1,048,576 bytes.
+fn judge_length(text: &[u8]) -> io::Result<()>
+    ensures { IsOk result ↔ (length text.now ≤ 1048576) }
+{
+    if text.len() > MOST_BYTES {
+        return Err(io::Error::from(io::ErrorKind::FileTooLarge));
+    }
+    Ok(())
+}
+
 /// Reads a plant's text, up to the first line of three dashes and that line too, and answers what
 /// is before it. The reader is left where the script begins. Where there is no such line, all is
 /// the plant's text. An error is one of the reader's, out of memory, or a text of more than
@@ -60,14 +70,20 @@ fn with_last_line(mut text: Vec<u8>, line: &[u8]) -> Result<Vec<u8>, AllocError>
 pub fn read_plant_text<R: Read>(alloc: Global, reader: &mut R) -> io::Result<Vec<u8>>
     ensures text { IfOk result (λ text. IfSome (R.remaining reader.old) (λ input. text.items ≡ plant_text input)) }
     ensures script { OnOk result (IfSome (R.remaining reader.old) (λ input. R.remaining reader.new ≡ Some (script_text input))) }
+    ensures limit { IfOk result (λ text. length text.items ≤ 1048576) }
 {
     let mut text = Vec::new(alloc);
     let mut line = Vec::new(alloc);
-    for _ in 0..=MOST_BYTES + BAR_BYTES {
+    for _ in 0..MOST_BYTES + BAR_BYTES {
         match next_byte(reader)? {
-            None => return Ok(with_last_line(text, line.as_slice())?),
+            None => {
+                let whole = with_last_line(text, line.as_slice())?;
+                judge_length(whole.as_slice())?;
+                return Ok(whole);
+            }
             Some(byte) => {
                 if take_byte(&mut text, &mut line, byte)? {
+                    judge_length(text.as_slice())?;
                     return Ok(text);
                 }
             }
