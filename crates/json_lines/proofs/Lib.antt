@@ -1,0 +1,2 @@
+mod Depth
+mod PutMembers

@@ -1,0 +1,2 @@
+mod NoOption
+mod Steps
