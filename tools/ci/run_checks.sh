@@ -59,7 +59,6 @@ if [ -x "$program" ]; then
     quietly "$tools/ci/reasons"
     quietly "$tools/ci/fault_lists" 0 25
     quietly "$tools/completions" --check
-    quietly "$tools/ci/json_lines"
     echo 'the program agrees with the second implementation'
     if command -v socat >/dev/null; then
         quietly "$tools/compare/serve_behind_socat"

@@ -1,2 +1,0 @@
-mod Depth
-mod PutMembers

@@ -1,2 +1,0 @@
-mod NoOption
-mod Steps
