@@ -1,10 +1,8 @@
 pub mod CaptureRuns
 pub mod HalfDone
 pub mod LiveRuns
-pub mod Reached
 pub mod RefusedSteps
 pub mod RunSoFar
-pub mod Servables
 pub mod Services
 pub mod StepRuns
 pub mod Tasks

@@ -1,5 +1,5 @@
 -- What a service comes to.
-use Rattle.std.proofs.Common.{◌≡◌, inl, inr, ℕ, Bool, List, [], ◌++◌, Option, Some, None, IfSome, Result, Ok, Err, refl, sym, subst, codes, ◌∙◌}
+use Rattle.std.proofs.Common.{◌≡◌, ℕ, List, [], ◌++◌, Option, Some, None, IfSome, Result, Ok, Err, refl, sym, subst, codes}
 use Rattle.std.specs.Io.KnownBytes.{Appends}
 use Rattle.toml.specs.Parse.{parse_document}
 use Rattle.plant.specs.declared.plant.PlantFields.{PlantFields}
@@ -13,15 +13,8 @@ use Rattle.live_core.specs.After.{IsAfter, IsAfterFrom}
 use Rattle.script_format.specs.Input.{plant_text, script_text}
 use Rattle.line_service.specs.Service.{service_text, IsServiceOf}
 use Rattle.plant_script.specs.Check.{fault_text}
-use Rattle.command_line.specs.Order.{serve}
-use Rattle.plant_script.specs.declared.answer.Answer.{Answer}
-use Rattle.plant_script.specs.declared.input.AnswerFault.{AnswerFault}
-use Rattle.plant_script.specs.declared.input.AnswerFault.TheVariants as answer_faults
-use Rattle.plant_script.specs.declared.serving.Front.TheVariants as fronts
-use Rattle.plant_script.specs.Ends.{fault_status, fault_line}
-use Rattle.plant_script.specs.Serving.{IsServed, EndsService, IsFrontOf}
+use Rattle.plant_script.specs.Serving.{IsServed}
 use Rattle.plant_script.specs.Words.{AnswersFront, AnswersServe}
-use Rattle.plant_script.specs.Reaching.{EndsOrder}
 
 -- a service of a core as it is opened
 pub service_served : (known : Option (List ℕ)) (plant : PlantFields) (live new : CoreView) (w0 w1 : Option (List ℕ)) → IsAfter plant [] [] live
@@ -52,31 +45,3 @@ fault_answered None file fault status text w0 w1 is read three told wrote = tt
 fault_answered (Some input) file fault status text w0 w1 is read three told wrote =
     let said : text_plant (parse_document (plant_text input)) ≡ Err fault = subst (λ (f : List ℕ). text_plant (parse_document f) ≡ Err fault) is read in
     (text, subst (λ (r : Result PlantFields PlantFault). AnswersFront r (script_text input) status text) (sym said) (three, told), wrote)
-
--- ---- how `serve` ends
-
--- there is no answer
-pub serve_fault_ends : (known : Option (List ℕ)) (failed : Bool) (fault : AnswerFault) (status : ℕ) (wrote : List ℕ → Type 0) → status ≡ fault_status fault → wrote (fault_line fault)
-    → EndsOrder serve known failed status wrote
-serve_fault_ends known failed answer_faults.Memory status wrote is told = inr (inl (is, [], told, inl refl))
-serve_fault_ends known failed answer_faults.Io status wrote is told = inl (is, tt, told)
-
--- the plant is served
-pub service_ends : (known left : Option (List ℕ)) (file : List ℕ) (plant : PlantFields) (failed : Bool) (status : ℕ) (w0 w1 : Option (List ℕ))
-    → IfSome known (λ input. file ≡ plant_text input) → IfSome known (λ input. left ≡ Some (script_text input)) → text_plant (parse_document file) ≡ Ok plant
-    → EndsService plant left status (λ text. Appends w0 w1 text) → EndsOrder serve known failed status (λ text. Appends w0 w1 text)
-service_ends known left file plant failed status w0 w1 is behind read (inl (five, told)) = inr (inl (five, [], told, inl refl))
-service_ends known left file plant failed status w0 w1 is behind read (inr (zero_is, served)) = inr (inr (
-  (λ five. absurd (let bad : ◌≡◌ {A = ℕ} 0 5 = sym zero_is ∙ five in cc)),
-  (λ six. absurd (let bad : ◌≡◌ {A = ℕ} 0 6 = sym zero_is ∙ six in cc)),
-  plant_answered known left file plant status w0 w1 is behind read served,
-))
-
--- the plant file is invalid
-pub front_ends : (known : Option (List ℕ)) (file : List ℕ) (answer : Answer) (failed : Bool) (status : ℕ) (w0 w1 : Option (List ℕ)) → IfSome known (λ input. file ≡ plant_text input)
-    → IsFrontOf file (fronts.Answer answer) → status ≡ answer.status → Appends w0 w1 answer.text.items → EndsOrder serve known failed status (λ text. Appends w0 w1 text)
-front_ends known file answer failed status w0 w1 is (fault, read, three, told) same wrote = inr (inr (
-  (λ five. answer.no_want (sym same ∙ five)),
-  (λ six. answer.no_failure (sym same ∙ six)),
-  fault_answered known file fault status answer.text.items w0 w1 is read (same ∙ three) told wrote,
-))

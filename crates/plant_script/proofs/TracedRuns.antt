@@ -16,7 +16,7 @@ use Rattle.plant_script.specs.Run.{memory_line, EndsBy}
 use Rattle.plant_script.specs.Ends.{status_of, line_of}
 use Rattle.plant_script.specs.Traced.{EndsTraceBy, IsTracedRunOf, EndsTraced}
 use Rattle.plant_script.specs.Task.{IsTold}
-use Rattle.plant_script.proofs.LiveRuns.{no_five, no_six}
+use Rattle.plant_script.proofs.LiveRuns.{no_five}
 
 -- the run ends where its steps do
 ends_by : (core : CoreView) (next : Option LineStep) (end : StepsEnd) → IsStepsEndAt core next end → EndsBy core next (status_of end) (line_of end)
@@ -76,6 +76,6 @@ trace_told plant lines status w0 w1 ran = by ran.1.ends
         )
 
     by : (ends : EndsTraceBy run.core (slice_get lines run.at) run.decisions run.told status run.last) → IsTold plant Trace lines status (λ text. Appends w0 w1 text)
-    by (inl (inl well)) = inl (ran.0, no_five run.core (slice_get lines run.at) status well.0, no_six run.core (slice_get lines run.at) status well.0, run, ran.2)
+    by (inl (inl well)) = inl (ran.0, no_five run.core (slice_get lines run.at) status well.0, run, ran.2)
     by (inl (inr want)) = out want.1 want.2
     by (inr words) = out words.1 words.2

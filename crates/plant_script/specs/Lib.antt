@@ -4,9 +4,7 @@ pub mod Ends
 pub mod OnThreads
 pub mod One
 pub mod OperatorA
-pub mod Reaching
 pub mod Run
-pub mod Servable
 pub mod Serving
 pub mod Task
 pub mod Traced

@@ -1,5 +1,5 @@
 -- What of a run is written, and what a run answers to an input.
-use Rattle.std.specs.Prelude.{◌≡◌, ◌≢◌, ◌⊎◌, ⊤, ℕ, List, [], ◌∷◌, ◌++◌, slice_get, Option, Some, None, codes}
+use Rattle.std.specs.Prelude.{◌≡◌, ◌≢◌, ◌⊎◌, ℕ, List, [], ◌∷◌, ◌++◌, slice_get, Option, Some, None, codes}
 use Rattle.std.specs.Fmt.{decimal}
 use Rattle.plant.specs.declared.operator_row.RowFields.{RowFields}
 use Rattle.plant.specs.declared.plant.PlantFields.{PlantFields}
@@ -12,7 +12,7 @@ use Rattle.plant_script.specs.declared.task.OutputMode.TheVariants.{Outs, Histor
 use Rattle.plant_script.specs.declared.task.Wanted.{Wanted}
 use Rattle.plant_script.specs.declared.task.Wanted.TheVariants as wanted
 use Rattle.plant_script.specs.declared.task.InputOutcome.{InputOutcome}
-use Rattle.plant_script.specs.declared.task.InputOutcome.TheVariants as outcomes
+use Rattle.plant_script.specs.declared.task.InputOutcome.TheVariants as served
 use Rattle.plant_script.specs.Run.{memory_line, IsRunOf, IsCapturedRunOf}
 use Rattle.plant_script.specs.OnThreads.{IsThreadedRunOf}
 use Rattle.plant_script.specs.Traced.{IsTracedRunOf}
@@ -34,10 +34,10 @@ RunsTo plant Trace lines status text = IsTracedRunOf plant lines status text
 
 -- what the run results in is written; or memory ran out, and its line is written alone, or after what the run had output until then
 abbrev pub IsTold : PlantFields → OutputMode → List LineStep → ℕ → (List ℕ → Type 0) → Type 0
-IsTold plant mode lines status wrote =
-    ((text : List ℕ) × (status ≢ 5) × (status ≢ 6) × RunsTo plant mode lines status text × wrote text)
+IsTold plant told lines status wrote =
+    ((text : List ℕ) × (status ≢ 5) × RunsTo plant told lines status text × wrote text)
     ⊎ ((before : List ℕ) × (status ≡ 5) × wrote (before ++ memory_line)
-    × ((before ≡ []) ⊎ RunsTo plant mode lines 5 (before ++ memory_line)))
+    × ((before ≡ []) ⊎ RunsTo plant told lines 5 (before ++ memory_line)))
 
 -- what is answered to a plant and a script, by what is wanted of them
 abbrev pub AnswersWanted : Wanted → PlantFields → List ℕ → ℕ → List ℕ → Type 0
@@ -47,16 +47,11 @@ AnswersWanted wanted.Capture = AnswersCapture
 AnswersWanted wanted.Trace = AnswersTrace
 AnswersWanted (wanted.History name) = AnswersHistory name.now
 
--- what is done for an input is such an answer: at once, or whatever the run of the task results in
+-- what is served is such an answer: at once, or whatever the run of the task results in
 abbrev pub Comes : InputOutcome → (ℕ → List ℕ → Type 0) → Type 0
-Comes (outcomes.Answer answer) answers = answers answer.status answer.text.items
-Comes (outcomes.Task task) answers =
-    (status : ℕ) (text : List ℕ) → RunsTo task.plant task.mode task.lines.items status text → answers status text
-
--- no run on threads is asked for
-abbrev pub IsNotThreaded : InputOutcome → Type 0
-IsNotThreaded (outcomes.Answer answer) = ⊤
-IsNotThreaded (outcomes.Task task) = task.mode ≢ Threads
+Comes (served.Answer answer) answers = answers answer.status answer.text.items
+Comes (served.Task task) answers =
+    (status : ℕ) (text : List ℕ) → RunsTo task.plant task.told task.lines.items status text → answers status text
 
 -- the status and the text of an answer: what is said, and after it the invalid line, if there is one
 abbrev pub IsEnded : List ℕ → Option ℕ → Answer → Type 0

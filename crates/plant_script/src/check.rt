@@ -68,7 +68,7 @@ pub fn answer_to_line(alloc: Global, number: u64) -> Result<Answer, AllocError>
 fn answer_to_script(alloc: Global, plant: &Plant, script: &[u8]) -> Result<Answer, AnswerFault>
     ensures value { IfOk result (λ answer. (answer.status ≡ (answer_to_steps (steps_of plant.now script.now)).status)
         × (answer.text.items ≡ (answer_to_steps (steps_of plant.now script.now)).text)) }
-    ensures memory { IfErr result (λ fault. fault ≡ Memory) }
+    ensures memory { IfErr result (λ stop. stop ≡ Memory) }
 {
     match steps_of(alloc, plant, script) {
         Ok(_steps) => Ok(Answer {
@@ -96,7 +96,7 @@ pub fn check_of(alloc: Global, input: &[u8]) -> Result<Answer, AnswerFault>
     requires { is_readable input.now ≡ true }
     ensures value { IfOk result (λ answer. (answer.status ≡ (check_of input.now).status)
         × (answer.text.items ≡ (check_of input.now).text)) }
-    ensures memory { IfErr result (λ fault. fault ≡ Memory) }
+    ensures memory { IfErr result (λ stop. stop ≡ Memory) }
 {
     let place = before_bar(input);
     match plant_of_input(alloc, input, place) {

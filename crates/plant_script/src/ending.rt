@@ -3,9 +3,8 @@
 ghost use Rattle.std.specs.Prelude.{◌≡◌, ◌≢◌, Some, IfOk, OnOk};
 ghost use Rattle.std.specs.Io.KnownBytes.{Appends};
 ghost use Rattle.plant_core.specs.declared.core_fault.CoreFault.TheVariants.{NoMemory};
-ghost use Rattle.plant_script.specs.Ends.{status_of, line_of, fault_status, fault_line};
+ghost use Rattle.plant_script.specs.Ends.{status_of, line_of};
 
-use crate::input::AnswerFault;
 use line_service::StepsEnd;
 use plant_core::CoreFault;
 use std::alloc::AllocError;
@@ -55,25 +54,5 @@ pub(crate) fn write_end<W: Write>(writer: &mut W, end: StepsEnd) -> io::Result<u
             writer.write_all(b"fault: memory\n")?;
             Ok(5)
         }
-    }
-}
-
-/// Writes a text, and returns the status that it is written with.
-pub(crate) fn write_answer<W: Write>(writer: &mut W, status: u8, text: &[u8]) -> io::Result<u8>
-    ensures { IfOk result (λ told. (told ≡ status) × Appends (W.contents writer.old) (W.contents writer.new) text.now) }
-{
-    writer.write_all(text)?;
-    writer.flush()?;
-    Ok(status)
-}
-
-/// Writes why there is no answer, and returns the status of that.
-pub(crate) fn write_fault<W: Write>(writer: &mut W, fault: AnswerFault) -> io::Result<u8>
-    ensures { IfOk result (λ status. (status ≡ fault_status fault)
-        × Appends (W.contents writer.old) (W.contents writer.new) (fault_line fault)) }
-{
-    match fault {
-        AnswerFault::Memory => write_answer(writer, 5, b"fault: memory\n"),
-        AnswerFault::Io => write_answer(writer, 6, b"fault: io\n"),
     }
 }

@@ -15,7 +15,6 @@ mod on_threads;
 mod one;
 mod operator_a;
 mod program;
-mod progress;
 mod running;
 mod serving;
 mod task;
@@ -23,5 +22,4 @@ mod tracing;
 
 pub use command::{behind_name, exit_code};
 pub use ending::Ending;
-pub use program::{run_program, run_program_with_reasons, run_without_threads};
-pub use progress::Progress;
+pub use program::{run_program, run_program_with_reasons};

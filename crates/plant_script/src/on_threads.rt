@@ -2,7 +2,6 @@
 
 ghost use Rattle.std.specs.Prelude.{◌≡◌, ◌<◌, ◌++◌, length, map, slice_get, IfOk, OnOk};
 ghost use Rattle.std.specs.List.{flat_map};
-ghost use Rattle.std.specs.Io.KnownBytes.{Appends};
 ghost use Rattle.std.specs.String.{string_bytes};
 ghost use Rattle.operator_book.specs.ViewOf.{view_of, policy_of};
 ghost use Rattle.run_audit.specs.Outs.{outs_from, outs_of};
@@ -10,15 +9,11 @@ ghost use Rattle.run_receipts.specs.OwnParts.{history_outputs};
 ghost use Rattle.script_format.specs.Script.{steps_without_numbers};
 ghost use Rattle.script_format.specs.Text.{operator_name, map_line, output_line, outs_text};
 ghost use Rattle.plant_workers.specs.Faulting.{IsFault};
-ghost use Rattle.plant_script.specs.Task.{IsTold};
-ghost use Rattle.plant_script.specs.declared.task.OutputMode.TheVariants as modes;
 ghost use Rattle.plant_script.specs.OnThreads.{IsThreadedRunOf, ReportsCore, ReportsFault, ReportsPlace, ReportsStray, place_text};
 
 use crate::answer::Answer;
 use crate::check::answer_to_line;
-use crate::ending::{write_answer, write_fault};
-use crate::input::AnswerFault;
-use grant_policy::{RankInput, Ranking, rank_by};
+use grant_policy::Ranking;
 use map_assembly::MapBytes;
 use operator_book::{Book, Entry, Output};
 use plant::{Op, Plant};
@@ -29,8 +24,6 @@ use run_plan::first_spent;
 use run_receipts::{RunFault, Settled};
 use script_format::{LineStep, put_map, put_name, put_output};
 use std::alloc::{AllocError, Global};
-use std::io;
-use std::io::Write;
 use std::sync::Wait;
 use std::thread::Threads;
 
@@ -185,7 +178,7 @@ fn answer_of_fault(
 }
 
 /// Returns what `threads` answers. The rankings are in the plant's order of operators.
-fn answer_of_threads<R: Threads + Wait + Sync>(
+pub fn answer_of_threads<R: Threads + Wait + Sync>(
     rt: &R,
     alloc: Global,
     plant: Plant,
@@ -201,52 +194,4 @@ fn answer_of_threads<R: Threads + Wait + Sync>(
         Ok(settled) => answer_of_settled(alloc, &shown, &settled),
         Err(fault) => answer_of_fault(alloc, &shown, lines.as_slice(), fault),
     }
-}
-
-/// Runs lines on threads, and writes what that results in. The rankings are in the plant's order of
-/// operators. Returns the exit status.
-fn write_threaded_run<R: Threads + Wait + Sync, W: Write>(
-    rt: &R,
-    alloc: Global,
-    plant: Plant,
-    lines: Vec<LineStep>,
-    rankings: Vec<Ranking>,
-    writer: &mut W,
-) -> io::Result<u8>
-    requires { map policy_of rankings.items ≡ map (λ row. row.policy) plant.rows }
-    ensures { IfOk result (λ status. IsTold plant modes.Threads lines.items status
-        (λ text. Appends (W.contents writer.old) (W.contents writer.new) text)) }
-{
-    match answer_of_threads(rt, alloc, plant, lines, rankings) {
-        Ok(answer) => write_answer(writer, answer.status, answer.text.as_slice()),
-        Err(_full) => write_fault(writer, AnswerFault::Memory),
-    }
-}
-
-/// Runs lines on threads, each operator ranked by the policy of its row, and writes what that
-/// results in. It may wait. Returns the exit status.
-pub fn write_threads<R: Threads + Wait + Sync, W: Write>(
-    rt: &R,
-    alloc: Global,
-    plant: Plant,
-    lines: Vec<LineStep>,
-    writer: &mut W,
-) -> io::Result<u8>
-    ensures { IfOk result (λ status. IsTold plant modes.Threads lines.items status
-        (λ text. Appends (W.contents writer.old) (W.contents writer.new) text)) }
-{
-    let mut rankings = Vec::new(alloc);
-    for row in plant.rows() {
-        let policy = row.get_fields().policy;
-        let Ok(rank) = Box::new(alloc, move |input: RankInput| -> u8 {
-            rank_by(policy, &input)
-        }) else {
-            return write_fault(writer, AnswerFault::Memory);
-        };
-        let ranking = Ranking::new(row.get_fields().policy, rank);
-        if rankings.push(ranking).is_err() {
-            return write_fault(writer, AnswerFault::Memory);
-        }
-    }
-    write_threaded_run(rt, alloc, plant, lines, rankings, writer)
 }

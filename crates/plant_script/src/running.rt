@@ -11,14 +11,14 @@ ghost use Rattle.live_core.specs.LiveView.{live_view};
 ghost use Rattle.plant_script.specs.Done.{HasRun, book_text};
 ghost use Rattle.plant_script.specs.Run.{IsRunOf};
 ghost use Rattle.plant_script.specs.Task.{history_at, RunsTo, IsTold, EndsRun, IsEnded};
-ghost use Rattle.plant_script.specs.Reaching.{ReachesTask};
-ghost use Rattle.plant_script.specs.declared.task.OutputMode.TheVariants as modes;
+ghost use Rattle.plant_script.specs.declared.task.OutputMode.TheVariants as tellings;
 
 use crate::answer::Answer;
 use crate::capturing::answer_of_capture;
-use crate::ending::{Ending, put_away, refused_line, write_answer, write_end, write_fault};
+use crate::ending::{Ending, put_away, refused_line, write_end};
 use crate::input::AnswerFault;
-use crate::progress::Progress;
+use crate::on_threads::answer_of_threads;
+use crate::program::{finish, write_fault};
 use crate::task::{OutputMode, Task};
 use crate::tracing::write_traced_run;
 use grant_policy::{RankInput, Ranking, rank_by};
@@ -30,6 +30,8 @@ use script_format::{LineStep, put_actions};
 use std::alloc::{AllocError, Global};
 use std::io;
 use std::io::Write;
+use std::sync::Wait;
+use std::thread::Threads;
 
 /// Does the steps of lines, and drops their outputs. Returns the number of the first line whose
 /// step is refused, at which it stops; none where all are done.
@@ -127,21 +129,21 @@ pub(crate) fn live_core_of(
 }
 
 /// Returns what the run of a task answers that is not written as it goes. The rankings are in the
-/// plant's order of operators.
-fn answer_of_task(
+/// plant's order of operators. Only a run on threads may wait.
+fn answer_of_task<R: Threads + Wait + Sync>(
+    rt: &R,
     alloc: Global,
     task: Task,
     rankings: Vec<Ranking>,
     ending: Ending,
 ) -> Result<Answer, AllocError>
     requires policies { map (λ ranking. ranking.policy) rankings.items ≡ map (λ row. row.policy) task.plant.rows }
-    requires no_outs { task.mode ≢ modes.Outs }
-    requires no_trace { task.mode ≢ modes.Trace }
-    requires no_threads { task.mode ≢ modes.Threads }
-    ensures { IfOk result (λ answer. RunsTo task.plant task.mode task.lines.items answer.status answer.text.items) }
+    requires no_outs { task.told ≢ tellings.Outs }
+    requires no_trace { task.told ≢ tellings.Trace }
+    ensures { IfOk result (λ answer. RunsTo task.plant task.told task.lines.items answer.status answer.text.items) }
 {
-    let Task { plant, lines, mode } = task;
-    match mode {
+    let Task { plant, lines, told } = task;
+    match told {
         OutputMode::Outs => unreachable!(),
         OutputMode::History(op) => {
             let mut core = core_of(alloc, plant, rankings)?;
@@ -155,7 +157,7 @@ fn answer_of_task(
             put_away(core, ending);
             Ok(answer)
         }
-        OutputMode::Threads => unreachable!(),
+        OutputMode::Threads => answer_of_threads(rt, alloc, plant, lines, rankings),
         OutputMode::Trace => unreachable!(),
     }
 }
@@ -186,65 +188,70 @@ fn write_outs_run<W: Write>(
     rankings: Vec<Ranking>,
     ending: Ending,
     writer: &mut W,
-) -> io::Result<u8>
+) -> u8
     requires policies { map (λ ranking. ranking.policy) rankings.items ≡ map (λ row. row.policy) task.plant.rows }
-    requires outs { task.mode ≡ modes.Outs }
-    ensures { IfOk result (λ status. IsTold task.plant task.mode task.lines.items status
-        (λ text. Appends (W.contents writer.old) (W.contents writer.new) text)) }
+    requires outs { task.told ≡ tellings.Outs }
+    ensures { result ≢ 6 → IsTold task.plant task.told task.lines.items result
+        (λ text. Appends (W.contents writer.old) (W.contents writer.new) text) }
 {
     let Task {
         plant,
         lines,
-        mode: _,
+        told: _,
     } = task;
     let Ok(mut core) = live_core_of(alloc, plant, rankings) else {
         return write_fault(writer, AnswerFault::Memory);
     };
-    let status = write_run(alloc, &mut core, lines, writer)?;
-    put_away(core, ending);
-    Ok(status)
+    match write_run(alloc, &mut core, lines, writer) {
+        Ok(status) => {
+            put_away(core, ending);
+            status
+        }
+        Err(_failed) => write_fault(writer, AnswerFault::Io),
+    }
 }
 
 /// Runs a task, and writes what that results in. The rankings are in the plant's order of
-/// operators; of the script, whose steps the task has, `trace` shows the lines. Returns the exit
-/// status.
-fn write_task<W: Write>(
+/// operators; of the script, whose steps the task has, `trace` shows the lines. Only a run on
+/// threads may wait. Returns the exit status.
+fn write_task<R: Threads + Wait + Sync, W: Write>(
+    rt: &R,
     alloc: Global,
     task: Task,
     script: &[u8],
     rankings: Vec<Ranking>,
     ending: Ending,
     writer: &mut W,
-) -> io::Result<u8>
-    requires policies { map (λ ranking. ranking.policy) rankings.items ≡ map (λ row. row.policy) task.plant.rows }
-    requires no_threads { task.mode ≢ modes.Threads }
-    ensures { IfOk result (λ status. IsTold task.plant task.mode task.lines.items status
-        (λ text. Appends (W.contents writer.old) (W.contents writer.new) text)) }
+) -> u8
+    requires { map (λ ranking. ranking.policy) rankings.items ≡ map (λ row. row.policy) task.plant.rows }
+    ensures { result ≢ 6 → IsTold task.plant task.told task.lines.items result
+        (λ text. Appends (W.contents writer.old) (W.contents writer.new) text) }
 {
-    if let OutputMode::Outs = task.mode {
+    if let OutputMode::Outs = task.told {
         return write_outs_run(alloc, task, rankings, ending, writer);
     }
-    if let OutputMode::Trace = task.mode {
+    if let OutputMode::Trace = task.told {
         return write_traced_run(alloc, task, script, rankings, ending, writer);
     }
-    match answer_of_task(alloc, task, rankings, ending) {
-        Ok(answer) => write_answer(writer, answer.status, answer.text.as_slice()),
+    match answer_of_task(rt, alloc, task, rankings, ending) {
+        Ok(answer) => finish(writer, answer.status, answer.text.as_slice()),
         Err(_full) => write_fault(writer, AnswerFault::Memory),
     }
 }
 
 /// Runs a task, each operator ranked by the policy of its row, and writes what that results in; of
-/// the script, whose steps the task has, `trace` shows the lines. Returns the exit status.
-fn write_ranked<W: Write>(
+/// the script, whose steps the task has, `trace` shows the lines. Only a run on threads may wait.
+/// Returns the exit status.
+pub fn write_ranked<R: Threads + Wait + Sync, W: Write>(
+    rt: &R,
     alloc: Global,
     task: Task,
     script: &[u8],
     ending: Ending,
     writer: &mut W,
-) -> io::Result<u8>
-    requires no_threads { task.mode ≢ modes.Threads }
-    ensures { IfOk result (λ status. IsTold task.plant task.mode task.lines.items status
-        (λ text. Appends (W.contents writer.old) (W.contents writer.new) text)) }
+) -> u8
+    ensures { result ≢ 6 → IsTold task.plant task.told task.lines.items result
+        (λ text. Appends (W.contents writer.old) (W.contents writer.new) text) }
 {
     let mut rankings = Vec::new(alloc);
     for row in task.plant.rows() {
@@ -259,31 +266,5 @@ fn write_ranked<W: Write>(
             return write_fault(writer, AnswerFault::Memory);
         }
     }
-    write_task(alloc, task, script, rankings, ending, writer)
-}
-
-/// Runs a task, and writes what that results in. A run on threads is left to the caller: it may
-/// wait, and all other runs return.
-pub fn start_task<W: Write>(
-    alloc: Global,
-    task: Task,
-    script: &[u8],
-    ending: Ending,
-    writer: &mut W,
-) -> io::Result<Progress>
-    ensures { IfOk result (λ progress. ReachesTask task progress (W.contents writer.old) (W.contents writer.new)) }
-{
-    if let OutputMode::Threads = task.mode {
-        let Task {
-            plant,
-            lines,
-            mode: _,
-        } = task;
-        return Ok(Progress::Threads { plant, lines });
-    }
-    let status = write_ranked(alloc, task, script, ending, writer)?;
-    Ok(Progress::Ended {
-        status,
-        is_read_failed: false,
-    })
+    write_task(rt, alloc, task, script, rankings, ending, writer)
 }

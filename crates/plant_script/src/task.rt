@@ -1,16 +1,14 @@
 //! A run that is asked for, or what is answered in its place.
 
-ghost use Rattle.std.specs.Prelude.{◌≡◌, ◌≢◌, map, true, IfOk, IfErr};
+ghost use Rattle.std.specs.Prelude.{◌≡◌, map, true, IfOk, IfErr};
 ghost use Rattle.std.specs.List.{position_from};
 ghost use Rattle.toml.specs.Parse.{parse_document};
 ghost use Rattle.slice_table.specs.ReadPlant.{text_plant};
 ghost use Rattle.script_format.specs.Script.{is_named, steps_of};
 ghost use Rattle.plant_script.specs.One.{is_readable};
-ghost use Rattle.plant_script.specs.Task.{RunsTo, AnswersWanted, Comes, IsNotThreaded};
+ghost use Rattle.plant_script.specs.Task.{RunsTo, AnswersWanted, Comes};
 ghost use Rattle.plant_script.specs.Words.{AnswersSteps, AnswersOperator, AnswersPlant, AnswersInput};
 ghost use Rattle.plant_script.specs.declared.input.AnswerFault.TheVariants.{Memory};
-ghost use Rattle.plant_script.specs.declared.task.OutputMode.TheVariants as modes;
-ghost use Rattle.plant_script.specs.declared.task.Wanted.TheVariants as orders;
 
 use crate::answer::Answer;
 use crate::check::{answer_to_fault, answer_to_line, plant_of_input};
@@ -56,7 +54,7 @@ pub struct Task {
     pub plant: Plant,
     /// The script's steps.
     pub lines: Vec<LineStep>,
-    pub mode: OutputMode,
+    pub told: OutputMode,
 }
 
 /// What is done for an input.
@@ -72,16 +70,15 @@ pub enum InputOutcome {
 fn task_of_script(
     alloc: Global,
     plant: Plant,
-    mode: OutputMode,
+    told: OutputMode,
     script: &[u8],
 ) -> Result<InputOutcome, AnswerFault>
-    ensures value { IfOk result (λ outcome.
-        Comes outcome (AnswersSteps (RunsTo plant mode) (steps_of plant script.now))) }
-    ensures threads { mode ≢ modes.Threads → IfOk result IsNotThreaded }
-    ensures memory { IfErr result (λ fault. fault ≡ Memory) }
+    ensures value { IfOk result (λ served.
+        Comes served (AnswersSteps (RunsTo plant told) (steps_of plant script.now))) }
+    ensures memory { IfErr result (λ stop. stop ≡ Memory) }
 {
     match steps_of(alloc, &plant, script) {
-        Ok(lines) => Ok(InputOutcome::Task(Task { plant, lines, mode })),
+        Ok(lines) => Ok(InputOutcome::Task(Task { plant, lines, told })),
         Err(LineFault::Shape { number }) => {
             let answer = answer_to_line(alloc, number)?;
             Ok(InputOutcome::Answer(answer))
@@ -97,10 +94,9 @@ fn task_of_operator(
     name: &str,
     script: &[u8],
 ) -> Result<InputOutcome, AnswerFault>
-    ensures value { IfOk result (λ outcome.
-        Comes outcome (AnswersOperator plant script.now (position_from (is_named name.now) 0 plant.rows))) }
-    ensures threads { IfOk result IsNotThreaded }
-    ensures memory { IfErr result (λ fault. fault ≡ Memory) }
+    ensures value { IfOk result (λ served.
+        Comes served (AnswersOperator plant script.now (position_from (is_named name.now) 0 plant.rows))) }
+    ensures memory { IfErr result (λ stop. stop ≡ Memory) }
 {
     match place_of(plant.rows(), name.as_bytes()) {
         Some(op) => task_of_script(alloc, plant, OutputMode::History(op), script),
@@ -118,9 +114,8 @@ fn task_of_plant(
     wanted: Wanted<'_>,
     script: &[u8],
 ) -> Result<InputOutcome, AnswerFault>
-    ensures value { IfOk result (λ outcome. Comes outcome (AnswersWanted wanted.entry plant script.now)) }
-    ensures threads { wanted.entry ≢ orders.Threads → IfOk result IsNotThreaded }
-    ensures memory { IfErr result (λ fault. fault ≡ Memory) }
+    ensures value { IfOk result (λ served. Comes served (AnswersWanted wanted.entry plant script.now)) }
+    ensures memory { IfErr result (λ stop. stop ≡ Memory) }
 {
     match wanted {
         Wanted::Run => task_of_script(alloc, plant, OutputMode::Outs, script),
@@ -134,9 +129,8 @@ fn task_of_plant(
 /// Returns the run of an input's script on its plant, reported as it is wanted.
 pub fn task_of(alloc: Global, wanted: Wanted<'_>, input: &[u8]) -> Result<InputOutcome, AnswerFault>
     requires { is_readable input.now ≡ true }
-    ensures value { IfOk result (λ outcome. Comes outcome (AnswersInput (AnswersWanted wanted.entry) input.now)) }
-    ensures threads { wanted.entry ≢ orders.Threads → IfOk result IsNotThreaded }
-    ensures memory { IfErr result (λ fault. fault ≡ Memory) }
+    ensures value { IfOk result (λ served. Comes served (AnswersInput (AnswersWanted wanted.entry) input.now)) }
+    ensures memory { IfErr result (λ stop. stop ≡ Memory) }
 {
     let place = before_bar(input);
     match plant_of_input(alloc, input, place) {

@@ -1,15 +1,16 @@
 //! A script's run on a plant's core, reported in words.
 
-ghost use Rattle.std.specs.Prelude.{◌≡◌, [], map, IfOk};
+ghost use Rattle.std.specs.Prelude.{◌≡◌, ◌≢◌, [], map, IfOk};
 ghost use Rattle.std.specs.Io.KnownBytes.{Appends};
 ghost use Rattle.run_model.specs.IsStateAfter.{IsStateAfter};
 ghost use Rattle.plant_core.specs.CoreView.{core_view};
 ghost use Rattle.plant_script.specs.Traced.{EndsTraced};
 ghost use Rattle.plant_script.specs.Task.{IsTold};
-ghost use Rattle.plant_script.specs.declared.task.OutputMode.TheVariants as modes;
+ghost use Rattle.plant_script.specs.declared.task.OutputMode.TheVariants as tellings;
 
-use crate::ending::{Ending, put_away, write_end, write_fault};
+use crate::ending::{Ending, put_away, write_end};
 use crate::input::AnswerFault;
+use crate::program::write_fault;
 use crate::running::core_of;
 use crate::task::Task;
 use grant_policy::Ranking;
@@ -48,21 +49,25 @@ pub fn write_traced_run<W: Write>(
     rankings: Vec<Ranking>,
     ending: Ending,
     writer: &mut W,
-) -> io::Result<u8>
+) -> u8
     requires policies { map (λ ranking. ranking.policy) rankings.items ≡ map (λ row. row.policy) task.plant.rows }
-    requires traced { task.mode ≡ modes.Trace }
-    ensures { IfOk result (λ status. IsTold task.plant task.mode task.lines.items status
-        (λ text. Appends (W.contents writer.old) (W.contents writer.new) text)) }
+    requires traced { task.told ≡ tellings.Trace }
+    ensures { result ≢ 6 → IsTold task.plant task.told task.lines.items result
+        (λ text. Appends (W.contents writer.old) (W.contents writer.new) text) }
 {
     let Task {
         plant,
         lines,
-        mode: _,
+        told: _,
     } = task;
     let Ok(mut core) = core_of(alloc, plant, rankings) else {
         return write_fault(writer, AnswerFault::Memory);
     };
-    let status = write_traced(alloc, &mut core, script, lines, writer)?;
-    put_away(core, ending);
-    Ok(status)
+    match write_traced(alloc, &mut core, script, lines, writer) {
+        Ok(status) => {
+            put_away(core, ending);
+            status
+        }
+        Err(_failed) => write_fault(writer, AnswerFault::Io),
+    }
 }

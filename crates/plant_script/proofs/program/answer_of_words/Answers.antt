@@ -35,16 +35,16 @@ pub returns-in-Err-serve : goal.returns-in-Err-serve
 returns-in-Err-serve g c =
     let stop = c.in-Err-serve.stop in
     let old = g.W.Write.contents c.args.writer.now in
-    let new = g.W.Write.contents c.stopped.new.writer in
+    let new = g.W.Write.contents c.write_fault.new.writer in
     let wrote = Appends old new memory_line in
     record {
-      served = λ order named. stop_has_status stop c.stopped.result wrote c.stopped.ensures.memory c.stopped.ensures.io;
-      refused = λ wrong. stop_has_status stop c.stopped.result wrote c.stopped.ensures.memory c.stopped.ensures.io;
-      helped = λ asks. stop_has_status stop c.stopped.result wrote c.stopped.ensures.memory c.stopped.ensures.io;
+      served = λ order named. stop_has_status stop c.write_fault.result wrote c.write_fault.ensures.memory c.write_fault.ensures.io;
+      refused = λ wrong. stop_has_status stop c.write_fault.result wrote c.write_fault.ensures.memory c.write_fault.ensures.io;
+      helped = λ asks. stop_has_status stop c.write_fault.result wrote c.write_fault.ensures.memory c.write_fault.ensures.io;
       unread_if_wrong = λ wrong. let given : GivesWrong (Ok c.in-Ok.word) = subst GivesWrong c.in-Ok.is (c.read_words.ensures.wrong wrong) in absurd given;
       unread_for_help = λ asks. let given : GivesHelp (Ok c.in-Ok.word) = subst GivesHelp c.in-Ok.is (c.read_words.ensures.help asks) in absurd given;
       memory = λ five. told_alone (texts c.args.words.now) (g.R.Read.remaining c.args.reader.now) old new
-          (stop_wants stop c.stopped.result wrote c.stopped.ensures.memory c.stopped.ensures.io five);
+          (stop_wants stop c.write_fault.result wrote c.write_fault.ensures.memory c.write_fault.ensures.io five);
     }
 
 -- nor are they wrong

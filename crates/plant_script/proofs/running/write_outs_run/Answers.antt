@@ -1,21 +1,18 @@
-use Rattle.std.proofs.Common.{sym, subst}
+use Rattle.std.proofs.Common.{[], inl, inr, refl, sym, subst}
 use Rattle.std.specs.Io.KnownBytes.{Appends}
-use Rattle.script_format.proofs.Outcomes.{if_ok}
 use Rattle.plant_script.specs.declared.task.OutputMode.{OutputMode}
 use Rattle.plant_script.specs.Task.{IsTold}
 use Rattle.plant_script.proofs.LiveRuns.{run_told}
-use Rattle.plant_script.proofs.Reached.{memory_told}
 use Rattle.plant_script.proofs.running.write_outs_run.Goals as goal
 
-pub returns : goal.returns
-returns g c =
+pub returns-in-Ok-write_run : goal.returns-in-Ok-write_run
+returns-in-Ok-write_run g c well =
     let task = c.args.task in
     let old = g.W.Write.contents c.args.writer.now in
     let new = g.W.Write.contents c.write_run.new.writer in
-    let status = c.in_ok-status.status in
-    subst (λ (m : OutputMode). IsTold task.plant m task.lines.items status (λ text. Appends old new text)) (sym c.requires.outs)
-    (run_told task.plant task.lines.items status old new (c.in_ok-status.ensures task.plant c.in-Ok.ensures))
+    let status = c.in-Ok-write_run.status in
+    subst (λ (t : OutputMode). IsTold task.plant t task.lines.items status (λ text. Appends old new text)) (sym c.requires.outs)
+    (run_told task.plant task.lines.items status old new (c.in-Ok-write_run.ensures task.plant c.in-Ok.ensures))
 
 pub returns-in_default : goal.returns-in_default
-returns-in_default g c =
-    if_ok c.write_fault.result _ _ (λ status told. memory_told c.args.task.plant c.args.task.mode c.args.task.lines.items status _ told.0 told.1) c.write_fault.ensures
+returns-in_default g c well = let told = c.write_fault.ensures.memory refl well in inr ([], told.0, told.1, inl refl)
