@@ -1,7 +1,7 @@
 use Rattle.std.proofs.Common.{All}
 use Rattle.plant_passes.specs.Passes.{IsOfCell}
 use Rattle.plant_passes.specs.ViewOf.{cell_of, pass_of}
-use Rattle.test_program.proofs.passes.teams.PassedCellPlays.play.Given as goal
+use Rattle.test_program.proofs.passes.teams.PassedCellPlaysJob.play.Given as goal
 
 abbrev pub invariant-loop-pass : goal.invariant-loop-pass
 invariant-loop-pass g l = record {
