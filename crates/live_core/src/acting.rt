@@ -12,7 +12,7 @@ ghost use Rattle.plant_core.specs.Putting.{FitsOldest, PutsOldest, CollectsOldes
 
 use crate::desk::LiveSlot;
 use map_assembly::{Gather, MapBytes};
-use operator_book::BookFault;
+use operator_book::{BookFault, Copies};
 use operator_model::{Action, Output};
 use plant::Op;
 use plant_core::{CoreFault, append, append_map};
@@ -32,11 +32,17 @@ fn frame_in(outputs: Vec<Output>) -> Option<(u32, Elements)>
     None
 }
 
-/// Returns whether an action is a tick: no other outputs a frame.
-fn is_tick(action: &Action) -> bool
-    ensures { result ≡ is_tick action.now }
+/// Returns how many copies of an action's outputs are needed. A tick needs two: one is returned, and
+/// the frame of the other waits. No other action outputs a frame.
+fn copies_for(action: &Action) -> Copies
+    ensures { result ≡ Copies.One → is_tick action.now ≡ false }
 {
-    matches!(action, Action::Tick)
+    match action {
+        Action::Tick => Copies::Two,
+        Action::Arrive { modem: _, heard: _ }
+        | Action::Work
+        | Action::Reslice { from: _, row: _ } => Copies::One,
+    }
 }
 
 impl LiveSlot {
@@ -59,11 +65,14 @@ impl LiveSlot {
         ensures memory { IsAllowed self.old.live.sound action → IfErr result (λ fault. fault ≡ BookFault.NoMemory) }
     {
         self.waiting.reserve(1)?;
-        let ticks = is_tick(&action);
-        let (told, again) = self.live.act(alloc, action, ticks)?;
-        if ticks {
-            if let Some(frame) = frame_in(again) {
-                self.waiting.push_back_reserved(frame);
+        let copies = copies_for(&action);
+        let (told, again) = self.live.act(alloc, action, copies)?;
+        match copies {
+            Copies::One => {}
+            Copies::Two => {
+                if let Some(frame) = frame_in(again) {
+                    self.waiting.push_back_reserved(frame);
+                }
             }
         }
         Ok(told)

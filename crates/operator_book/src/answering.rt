@@ -13,7 +13,7 @@ ghost use Rattle.operator_book.specs.Held.{table_of, HasOwnSids, MayPut};
 ghost use Rattle.operator_book.specs.Does.{Does};
 ghost use Rattle.operator_book.specs.Running.{keeping, reply_output, carried_out, IsAnswered, IsCarriedOut};
 
-use crate::machine::{MachineState, OutputCopies, answer, silent};
+use crate::machine::{Copies, MachineState, OutputCopies, answer, silent};
 use crate::refusal::refusal;
 use dsx_messages::{Code, Kind, Modem, Reply, Request, write_reply};
 use flow_table::Flow;
@@ -44,7 +44,7 @@ fn tid_of(request: &Request) -> u16
 /// Returns a refusal that is not kept.
 fn unkept(
     alloc: Global,
-    twice: bool,
+    copies: Copies,
     modem: Modem,
     kind: Kind,
     tid: u16,
@@ -52,10 +52,10 @@ fn unkept(
 ) -> Result<OutputCopies, AllocError>
     requires { code ≢ Okay }
     ensures told { IfOk result (λ both. both.told.items ≡ reply_output modem (refusal kind tid code)) }
-    ensures twice { IfOk result (λ both. both.twice ≡ twice) }
+    ensures copies { IfOk result (λ both. both.copies ≡ copies) }
 {
     let reply = Bytes::from_vec(write_reply(alloc, &refusal(kind, tid, code))?);
-    answer(alloc, twice, modem, &reply)
+    answer(alloc, copies, modem, &reply)
 }
 
 impl MachineState {
@@ -72,7 +72,7 @@ impl MachineState {
     pub(crate) fn refused_out(
         &mut self,
         alloc: Global,
-        twice: bool,
+        copies: Copies,
         modem: Modem,
         kind: Kind,
         tid: u16,
@@ -80,10 +80,10 @@ impl MachineState {
     ) -> Result<OutputCopies, AllocError>
         requires free { IsNone (find (is_of modem tid) self.old.state.kept) }
         requires room { length self.old.state.kept < self.old.row.transactions }
-        ensures { Does twice self.old self.new result (carried_out self.old modem kind tid (Refused reply)) }
+        ensures { Does copies self.old self.new result (carried_out self.old modem kind tid (Refused reply)) }
     {
         let bytes = Bytes::from_vec(write_reply(alloc, &reply)?);
-        let both = answer(alloc, twice, modem, &bytes)?;
+        let both = answer(alloc, copies, modem, &bytes)?;
         self.keep(modem, kind, tid, bytes, 0, false);
         Ok(both)
     }
@@ -93,7 +93,7 @@ impl MachineState {
     fn put_out(
         &mut self,
         alloc: Global,
-        twice: bool,
+        copies: Copies,
         modem: Modem,
         kind: Kind,
         tid: u16,
@@ -104,10 +104,10 @@ impl MachineState {
         requires stands { MayStand (table_of self.old) sfid flow.now }
         requires free { IsNone (find (is_of modem tid) self.old.state.kept) }
         requires room { length self.old.state.kept < self.old.row.transactions }
-        ensures { Does twice self.old self.new result (carried_out self.old modem kind tid (Put sfid flow.now reply)) }
+        ensures { Does copies self.old self.new result (carried_out self.old modem kind tid (Put sfid flow.now reply)) }
     {
         let bytes = Bytes::from_vec(write_reply(alloc, &reply)?);
-        let both = answer(alloc, twice, modem, &bytes)?;
+        let both = answer(alloc, copies, modem, &bytes)?;
         self.flows.put_flow(sfid, flow)?;
         self.keep(modem, kind, tid, bytes, sfid, true);
         Ok(both)
@@ -118,7 +118,7 @@ impl MachineState {
     fn deleted_out(
         &mut self,
         alloc: Global,
-        twice: bool,
+        copies: Copies,
         modem: Modem,
         kind: Kind,
         tid: u16,
@@ -127,10 +127,10 @@ impl MachineState {
     ) -> Result<OutputCopies, AllocError>
         requires free { IsNone (find (is_of modem tid) self.old.state.kept) }
         requires room { length self.old.state.kept < self.old.row.transactions }
-        ensures { Does twice self.old self.new result (carried_out self.old modem kind tid (Deleted sfid reply)) }
+        ensures { Does copies self.old self.new result (carried_out self.old modem kind tid (Deleted sfid reply)) }
     {
         let bytes = Bytes::from_vec(write_reply(alloc, &reply)?);
-        let both = answer(alloc, twice, modem, &bytes)?;
+        let both = answer(alloc, copies, modem, &bytes)?;
         self.flows.remove(sfid);
         self.keep(modem, kind, tid, bytes, sfid, false);
         Ok(both)
@@ -141,7 +141,7 @@ impl MachineState {
     fn carried_out(
         &mut self,
         alloc: Global,
-        twice: bool,
+        copies: Copies,
         modem: Modem,
         kind: Kind,
         tid: u16,
@@ -150,15 +150,15 @@ impl MachineState {
         requires puts { MayPut (table_of self.old) verdict }
         requires free { IsNone (find (is_of modem tid) self.old.state.kept) }
         requires room { length self.old.state.kept < self.old.row.transactions }
-        ensures { Does twice self.old self.new result (carried_out self.old modem kind tid verdict) }
+        ensures { Does copies self.old self.new result (carried_out self.old modem kind tid verdict) }
     {
         match verdict {
-            Verdict::Refused { reply } => self.refused_out(alloc, twice, modem, kind, tid, reply),
+            Verdict::Refused { reply } => self.refused_out(alloc, copies, modem, kind, tid, reply),
             Verdict::Put { sfid, flow, reply } => {
-                self.put_out(alloc, twice, modem, kind, tid, sfid, &flow, reply)
+                self.put_out(alloc, copies, modem, kind, tid, sfid, &flow, reply)
             }
             Verdict::Deleted { sfid, reply } => {
-                self.deleted_out(alloc, twice, modem, kind, tid, sfid, reply)
+                self.deleted_out(alloc, copies, modem, kind, tid, sfid, reply)
             }
         }
     }
@@ -170,20 +170,20 @@ impl MachineState {
     pub(crate) fn early_answer(
         &self,
         alloc: Global,
-        twice: bool,
+        copies: Copies,
         modem: Modem,
         kind: Kind,
         tid: u16,
     ) -> Result<Option<OutputCopies>, AllocError>
         ensures told { IfOk result (λ early. IfSome early
             (λ both. IsAnswered self.now modem kind tid both.told.items)) }
-        ensures twice { IfOk result (λ early. IfSome early (λ both. both.twice ≡ twice)) }
+        ensures copies { IfOk result (λ early. IfSome early (λ both. both.copies ≡ copies)) }
         ensures new { IfOk result (λ early. IfNone early (IsCarriedOut self.now modem kind tid)) }
     {
         if tid >= 0x8000 {
             let both = unkept(
                 alloc,
-                twice,
+                copies,
                 modem,
                 kind,
                 tid,
@@ -193,14 +193,14 @@ impl MachineState {
         }
         if let Some(entry) = self.kept.find(modem, tid) {
             let both = if entry.kind == kind {
-                answer(alloc, twice, modem, &entry.reply)?
+                answer(alloc, copies, modem, &entry.reply)?
             } else {
-                silent(alloc, twice, Some(modem), Cause::TidInUse)?
+                silent(alloc, copies, Some(modem), Cause::TidInUse)?
             };
             return Ok(Some(both));
         }
         if self.kept.len() >= usize::from(self.row.get_fields().transactions) {
-            let both = unkept(alloc, twice, modem, kind, tid, Code::RejectTemporary)?;
+            let both = unkept(alloc, copies, modem, kind, tid, Code::RejectTemporary)?;
             return Ok(Some(both));
         }
         Ok(None)
@@ -210,19 +210,19 @@ impl MachineState {
     pub(crate) fn request_handled(
         &mut self,
         alloc: Global,
-        twice: bool,
+        copies: Copies,
         modem: Modem,
         request: &Request,
     ) -> Result<OutputCopies, AllocError>
         requires { HasOwnSids self.old }
-        ensures { Does twice self.old self.new result (message_handled self.old modem (Ok (messages.Request request.now))) }
+        ensures { Does copies self.old self.new result (message_handled self.old modem (Ok (messages.Request request.now))) }
     {
         let kind = kind_of(request);
         let tid = tid_of(request);
-        if let Some(both) = self.early_answer(alloc, twice, modem, kind, tid)? {
+        if let Some(both) = self.early_answer(alloc, copies, modem, kind, tid)? {
             return Ok(both);
         }
         let verdict = self.verdict(modem, request);
-        self.carried_out(alloc, twice, modem, kind, tid, verdict)
+        self.carried_out(alloc, copies, modem, kind, tid, verdict)
     }
 }

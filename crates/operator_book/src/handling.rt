@@ -12,7 +12,7 @@ ghost use Rattle.operator_book.specs.Held.{HasOwnSids, HasRightId};
 ghost use Rattle.operator_book.specs.Does.{Does};
 ghost use Rattle.operator_book.specs.Running.{with_flows, with_change, with_inbox, reply_output, ack_result_of, asked_of_flow, work_result_of, arrival_result_of};
 
-use crate::machine::{MachineState, OutputCopies, nothing, silent};
+use crate::machine::{Copies, MachineState, OutputCopies, nothing, silent};
 use crate::refusal::{encoding_refusal, refusal};
 use dsx_messages::{Code, Kind, Message, MessageFault, Modem, Reply, Request, read};
 use operator_model::{Arrival, Cause, Heard};
@@ -23,18 +23,18 @@ impl MachineState {
     fn fault_handled(
         &mut self,
         alloc: Global,
-        twice: bool,
+        copies: Copies,
         modem: Modem,
         kind: Kind,
         tid: u16,
         reply: Reply,
     ) -> Result<OutputCopies, AllocError>
-        ensures { Does twice self.old self.new result (transaction_result self.old modem kind tid (Refused reply)) }
+        ensures { Does copies self.old self.new result (transaction_result self.old modem kind tid (Refused reply)) }
     {
-        if let Some(both) = self.early_answer(alloc, twice, modem, kind, tid)? {
+        if let Some(both) = self.early_answer(alloc, copies, modem, kind, tid)? {
             return Ok(both);
         }
-        self.refused_out(alloc, twice, modem, kind, tid, reply)
+        self.refused_out(alloc, copies, modem, kind, tid, reply)
     }
 
     /// Makes the pending sets of a flow its sets.
@@ -59,66 +59,66 @@ impl MachineState {
     fn handle_ack(
         &mut self,
         alloc: Global,
-        twice: bool,
+        copies: Copies,
         modem: Modem,
         tid: u16,
         kind: Kind,
         code: u8,
     ) -> Result<OutputCopies, AllocError>
-        ensures { Does twice self.old self.new result (ack_result_of self.old modem tid kind code) }
+        ensures { Does copies self.old self.new result (ack_result_of self.old modem tid kind code) }
     {
         let Some(sfid) = self.kept.acked(modem, tid, kind) else {
-            return silent(alloc, twice, Some(modem), Cause::UnknownAck);
+            return silent(alloc, copies, Some(modem), Cause::UnknownAck);
         };
         if code == 0 {
             self.commit(sfid);
         } else {
             self.undo(kind, sfid);
         }
-        Ok(nothing(alloc, twice))
+        Ok(nothing(alloc, copies))
     }
 
     /// Handles a request for minislots.
     fn asked_of_flow(
         &mut self,
         alloc: Global,
-        twice: bool,
+        copies: Copies,
         modem: Modem,
         sid: u16,
         minislots: u16,
     ) -> Result<OutputCopies, AllocError>
-        ensures { Does twice self.old self.new result (asked_of_flow self.old modem sid minislots) }
+        ensures { Does copies self.old self.new result (asked_of_flow self.old modem sid minislots) }
     {
         let Some(asker) = self.flows.asker(sid) else {
-            return silent(alloc, twice, Some(modem), Cause::NoSuchSid);
+            return silent(alloc, copies, Some(modem), Cause::NoSuchSid);
         };
         if asker.modem != modem {
-            return silent(alloc, twice, Some(modem), Cause::NoSuchSid);
+            return silent(alloc, copies, Some(modem), Cause::NoSuchSid);
         }
         if !asker.may_ask {
-            return silent(alloc, twice, Some(modem), Cause::NotRequesting);
+            return silent(alloc, copies, Some(modem), Cause::NotRequesting);
         }
         self.flows.request(asker.sfid, minislots, self.frame);
-        Ok(nothing(alloc, twice))
+        Ok(nothing(alloc, copies))
     }
 
     /// Handles a message that could not be read.
     fn unread_handled(
         &mut self,
         alloc: Global,
-        twice: bool,
+        copies: Copies,
         modem: Modem,
         fault: MessageFault,
     ) -> Result<OutputCopies, AllocError>
         requires { HasRightId fault }
-        ensures does { Does twice self.old self.new result (message_handled self.old modem (Err fault)) }
+        ensures does { Does copies self.old self.new result (message_handled self.old modem (Err fault)) }
         ensures told { OnOk result ((read : Result Message MessageFault) → Fails fault read → read ≡ Err fault) }
     {
         match fault {
             MessageFault::NoMemory => Err(AllocError),
-            MessageFault::Empty => silent(alloc, twice, Some(modem), Cause::Empty),
-            MessageFault::NotOurs { mtype: _ } => silent(alloc, twice, Some(modem), Cause::NotOurs),
-            MessageFault::Short => silent(alloc, twice, Some(modem), Cause::Short),
+            MessageFault::Empty => silent(alloc, copies, Some(modem), Cause::Empty),
+            MessageFault::NotOurs { mtype: _ } => silent(alloc, copies, Some(modem), Cause::NotOurs),
+            MessageFault::Short => silent(alloc, copies, Some(modem), Cause::Short),
             MessageFault::Tlv {
                 tid,
                 kind,
@@ -126,7 +126,7 @@ impl MachineState {
                 fault,
             } => self.fault_handled(
                 alloc,
-                twice,
+                copies,
                 modem,
                 kind,
                 tid,
@@ -138,7 +138,7 @@ impl MachineState {
                 found: _,
             } => {
                 let reply = refusal(kind, tid, Code::RejectUnrecognizedSetting);
-                self.fault_handled(alloc, twice, modem, kind, tid, reply)
+                self.fault_handled(alloc, copies, modem, kind, tid, reply)
             }
         }
     }
@@ -147,17 +147,17 @@ impl MachineState {
     fn message_handled(
         &mut self,
         alloc: Global,
-        twice: bool,
+        copies: Copies,
         modem: Modem,
         message: &Message,
     ) -> Result<OutputCopies, AllocError>
         requires { HasOwnSids self.old }
-        ensures { Does twice self.old self.new result (message_handled self.old modem (Ok message.now)) }
+        ensures { Does copies self.old self.new result (message_handled self.old modem (Ok message.now)) }
     {
         match message {
-            Message::Request(request) => self.request_handled(alloc, twice, modem, request),
+            Message::Request(request) => self.request_handled(alloc, copies, modem, request),
             Message::Ack { kind, tid, code } => self.handle_ack(
-                alloc, twice, modem, *tid, *kind, *code,
+                alloc, copies, modem, *tid, *kind, *code,
             ),
         }
     }
@@ -166,19 +166,19 @@ impl MachineState {
     fn read_handled(
         &mut self,
         alloc: Global,
-        twice: bool,
+        copies: Copies,
         modem: Modem,
         said: Result<Message, MessageFault>,
     ) -> Result<OutputCopies, AllocError>
         requires sids { HasOwnSids self.old }
         requires right { IfErr said HasRightId }
         ensures does { (read : Result Message MessageFault) → Gives (λ m. m) said read
-            → Does twice self.old self.new result (message_handled self.old modem read) }
+            → Does copies self.old self.new result (message_handled self.old modem read) }
         ensures err { OnErr result (self.new ≡ self.old) }
     {
         match said {
-            Ok(message) => self.message_handled(alloc, twice, modem, &message),
-            Err(fault) => self.unread_handled(alloc, twice, modem, fault),
+            Ok(message) => self.message_handled(alloc, copies, modem, &message),
+            Err(fault) => self.unread_handled(alloc, copies, modem, fault),
         }
     }
 
@@ -191,24 +191,24 @@ impl MachineState {
 
     /// Handles what was received first, and takes it out of the inbox.
     #[inline(always)]
-    pub(crate) fn work(&mut self, alloc: Global, twice: bool) -> Result<OutputCopies, AllocError>
+    pub(crate) fn work(&mut self, alloc: Global, copies: Copies) -> Result<OutputCopies, AllocError>
         requires { HasOwnSids self.old }
-        ensures { Does twice self.old self.new result (work_result_of self.old) }
+        ensures { Does copies self.old self.new result (work_result_of self.old) }
     {
         let Some(first) = self.inbox.front() else {
-            return silent(alloc, twice, None, Cause::Idle);
+            return silent(alloc, copies, None, Cause::Idle);
         };
         let modem = first.modem;
         match &first.heard {
             Heard::Message(bytes) => {
                 let said = read(alloc, bytes.as_slice());
-                let both = self.read_handled(alloc, twice, modem, said)?;
+                let both = self.read_handled(alloc, copies, modem, said)?;
                 self.take_first();
                 Ok(both)
             }
             Heard::Request { sid, minislots } => {
                 let (sid, minislots) = (*sid, *minislots);
-                let both = self.asked_of_flow(alloc, twice, modem, sid, minislots)?;
+                let both = self.asked_of_flow(alloc, copies, modem, sid, minislots)?;
                 self.take_first();
                 Ok(both)
             }
@@ -220,30 +220,30 @@ impl MachineState {
     pub(crate) fn take_in(
         &mut self,
         alloc: Global,
-        twice: bool,
+        copies: Copies,
         modem: Modem,
         heard: Heard,
     ) -> Result<OutputCopies, AllocError>
-        ensures { Does twice self.old self.new result (arrival_result_of self.old modem heard) }
+        ensures { Does copies self.old self.new result (arrival_result_of self.old modem heard) }
     {
         if self.inbox.len() >= usize::from(self.row.get_fields().inbox) {
-            return silent(alloc, twice, Some(modem), Cause::InboxFull);
+            return silent(alloc, copies, Some(modem), Cause::InboxFull);
         }
         self.inbox.push_back(Arrival { modem, heard })?;
-        Ok(nothing(alloc, twice))
+        Ok(nothing(alloc, copies))
     }
 
     /// Puts a copy of what was received at the end of the inbox.
     pub(crate) fn arrive(
         &mut self,
         alloc: Global,
-        twice: bool,
+        copies: Copies,
         modem: Modem,
         heard: &Heard,
     ) -> Result<OutputCopies, AllocError>
-        ensures { Does twice self.old self.new result (arrival_result_of self.old modem heard.now) }
+        ensures { Does copies self.old self.new result (arrival_result_of self.old modem heard.now) }
     {
         let heard = heard.copy(alloc)?;
-        self.take_in(alloc, twice, modem, heard)
+        self.take_in(alloc, copies, modem, heard)
     }
 }

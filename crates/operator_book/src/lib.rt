@@ -21,6 +21,7 @@ mod verdict;
 pub use book::{Book, BookFault, OpenFault};
 pub use live::{Machine, SoundMachine};
 pub use logged::RecordedMachine;
+pub use machine::Copies;
 pub use operator_model::{
     Action, Arrival, Cause, Entry, Heard, NextShare, Output, Outputs, Share, SliceRow, Unfit,
 };

@@ -11,7 +11,7 @@ ghost use Rattle.operator_model.specs.Sound.{IsSound};
 ghost use Rattle.operator_book.specs.MostOutputs.{most_outputs_of};
 
 use crate::book::{BookFault, OpenFault};
-use crate::machine::{MachineState, OutputCopies};
+use crate::machine::{Copies, MachineState, OutputCopies};
 use grant_policy::Ranking;
 use operator_model::{
     Action, NextShare, Output, Share, SliceRow, Unfit, opened_is_sound, step_keeps_sound,
@@ -78,12 +78,12 @@ impl SoundMachine {
         let _ = &self.machine;
     }
 
-    /// Does an action that is not refused, and reports what it outputs, maybe twice.
+    /// Does an action that is not refused, and returns so many copies of what it outputs.
     #[inline(always)]
     fn act(
         &mut self,
         alloc: Global,
-        twice: bool,
+        copies: Copies,
         ranking: &Ranking,
         action: Action,
     ) -> Result<OutputCopies, AllocError>
@@ -91,12 +91,12 @@ impl SoundMachine {
         requires allowed { IsAllowed self.old action }
         ensures state { OnOk result (self.new ≡ after_step self.old action) }
         ensures outputs { IfOk result (λ both. both.told.items ≡ (own_step self.old action).outputs) }
-        ensures twice { IfOk result (λ both. both.twice ≡ twice) }
+        ensures copies { IfOk result (λ both. both.copies ≡ copies) }
         ensures err { OnErr result (self.new ≡ self.old) }
     {
         // For the proof: an action that is not refused leaves a sound state.
         step_keeps_sound();
-        self.machine.step_with(alloc, twice, ranking, action)
+        self.machine.step_with(alloc, copies, ranking, action)
     }
 
     /// Takes a slice that fits from a later frame on, with no memory.
@@ -131,18 +131,18 @@ impl Machine {
         Ok(Machine { sound, ranking })
     }
 
-    /// Does an action, and reports what it outputs, and where `twice` once more: for what the
-    /// caller keeps of it. A refused action changes nothing.
+    /// Does an action, and reports what it outputs, and where two copies are made once more: for
+    /// what the caller keeps of it. A refused action changes nothing.
     #[inline(always)]
     pub fn act(
         &mut self,
         alloc: Global,
         action: Action,
-        twice: bool,
+        copies: Copies,
     ) -> Result<(Vec<Output>, Vec<Output>), BookFault>
         ensures state { OnOk result (self.new.sound ≡ after_step self.old.sound action) }
         ensures outputs { IfOk result (λ both. both.0.items ≡ (own_step self.old.sound action).outputs) }
-        ensures again { IfOk result (λ both. twice ≡ true → both.1.items ≡ (own_step self.old.sound action).outputs) }
+        ensures again { IfOk result (λ both. copies ≡ Copies.Two → both.1.items ≡ (own_step self.old.sound action).outputs) }
 
         // A stranger is refused first, then a tick past the last frame, then a slice that does not fit, and only these are;
         // else only memory can be wanting.
@@ -157,7 +157,7 @@ impl Machine {
         if let Err(fault) = self.sound.machine.judge(&action) {
             return Err(fault);
         }
-        let both = self.sound.act(alloc, twice, &self.ranking, action)?;
+        let both = self.sound.act(alloc, copies, &self.ranking, action)?;
         Ok((both.told, both.kept))
     }
 

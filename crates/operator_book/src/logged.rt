@@ -6,7 +6,7 @@ ghost use Rattle.operator_model.specs.declared.action.Action.TheVariants as acti
 ghost use Rattle.operator_model.specs.Replay.{book_after_action};
 ghost use Rattle.operator_book.specs.OfBook.{opened_book, outputs_of, unfit_from, IsAllowed, IsReplayed, IsSound};
 
-use crate::machine::MachineState;
+use crate::machine::{Copies, MachineState};
 use grant_policy::Ranking;
 use operator_model::{Action, Entry, Output, Outputs, SliceRow, replay_is_sound};
 use plant::{Consts, OperatorRow};
@@ -82,7 +82,7 @@ impl RecordedMachine {
         // For the proof: what always holds of `self`.
         self.always();
         room_for_one(&mut self.history)?;
-        let both = self.machine.step(alloc, true, ranking, &action)?;
+        let both = self.machine.step(alloc, Copies::Two, ranking, &action)?;
         self.history.push_reserved(Entry {
             action,
             outputs: Outputs::from_vec(both.kept),

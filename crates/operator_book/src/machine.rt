@@ -1,7 +1,8 @@
 //! The machine of a book: what it holds, and the outputs of an action.
 
-ghost use Rattle.std.specs.Prelude.{◌≡◌, true, [], ◌∷◌, IfOk};
+ghost use Rattle.std.specs.Prelude.{◌≡◌, [], ◌∷◌, IfOk};
 ghost use Rattle.operator_model.specs.declared.output.Output.TheVariants as outputs;
+ghost use Rattle.operator_book.specs.declared.machine.Copies.TheVariants.{Two};
 
 use dsx_messages::Modem;
 use flow_table::Flows;
@@ -41,25 +42,34 @@ impl Model for MachineState {
     ghost invariant = { λ m. IsMachine m.consts m.row m.flows m.kept };
 }
 
-/// The outputs of an action for the caller and, where they are reported twice, once more: for the
+/// How many copies of an action's outputs are made.
+#[derive(Clone, Copy, Debug, PartialEq, Eq)]
+pub enum Copies {
+    /// One list of outputs, for the caller.
+    One,
+    /// A second list, which the caller keeps: a history does.
+    Two,
+}
+
+/// The outputs of an action for the caller and, where two copies are made, once more: for the
 /// history.
 #[derive(Drop)]
 pub(crate) struct OutputCopies {
     pub kept: Vec<Output>,
     pub told: Vec<Output>,
-    pub twice: bool,
-    pub ghost same: { twice ≡ true → kept.items ≡ told.items },
+    pub copies: Copies,
+    pub ghost same: { copies ≡ Two → kept.items ≡ told.items },
 }
 
 /// Returns the outputs of an action that outputs nothing.
-pub(crate) fn nothing(alloc: Global, twice: bool) -> OutputCopies
+pub(crate) fn nothing(alloc: Global, copies: Copies) -> OutputCopies
     ensures told { result.told.items ≡ [] }
-    ensures twice { result.twice ≡ twice }
+    ensures copies { result.copies ≡ copies }
 {
     OutputCopies {
         kept: Vec::new(alloc),
         told: Vec::new(alloc),
-        twice,
+        copies,
     }
 }
 
@@ -73,19 +83,19 @@ fn single(alloc: Global, output: Output) -> Result<Vec<Output>, AllocError>
     Ok(outputs)
 }
 
-/// Returns no answer, where it is wanted.
-fn silence_if(
+/// Returns the second copy of the output that says why there is no reply, or an empty list where
+/// one copy is made.
+fn second_silence(
     alloc: Global,
-    wanted: bool,
+    copies: Copies,
     modem: Option<Modem>,
     cause: Cause,
 ) -> Result<Vec<Output>, AllocError>
-    ensures { IfOk result (λ told. wanted ≡ true → told.items ≡ outputs.Silent modem cause ∷ []) }
+    ensures { IfOk result (λ kept. copies ≡ Two → kept.items ≡ outputs.Silent modem cause ∷ []) }
 {
-    if wanted {
-        single(alloc, Output::Silent { modem, cause })
-    } else {
-        Ok(Vec::new(alloc))
+    match copies {
+        Copies::One => Ok(Vec::new(alloc)),
+        Copies::Two => single(alloc, Output::Silent { modem, cause }),
     }
 }
 
@@ -93,16 +103,16 @@ fn silence_if(
 #[inline(always)]
 pub(crate) fn silent(
     alloc: Global,
-    twice: bool,
+    copies: Copies,
     modem: Option<Modem>,
     cause: Cause,
 ) -> Result<OutputCopies, AllocError>
     ensures told { IfOk result (λ both. both.told.items ≡ outputs.Silent modem cause ∷ []) }
-    ensures twice { IfOk result (λ both. both.twice ≡ twice) }
+    ensures copies { IfOk result (λ both. both.copies ≡ copies) }
 {
-    let kept = silence_if(alloc, twice, modem, cause)?;
+    let kept = second_silence(alloc, copies, modem, cause)?;
     let told = single(alloc, Output::Silent { modem, cause })?;
-    Ok(OutputCopies { kept, told, twice })
+    Ok(OutputCopies { kept, told, copies })
 }
 
 /// Returns a reply of these bytes.
@@ -114,20 +124,19 @@ fn reply_of(alloc: Global, modem: Modem, reply: &Bytes) -> Result<Vec<Output>, A
     single(alloc, Output::Reply { modem, bytes })
 }
 
-/// Returns a reply of these bytes, where it is wanted.
+/// Returns the second copy of a reply of these bytes, or an empty list where one copy is made.
 #[inline(always)]
-fn reply_if(
+fn second_reply(
     alloc: Global,
-    wanted: bool,
+    copies: Copies,
     modem: Modem,
     reply: &Bytes,
 ) -> Result<Vec<Output>, AllocError>
-    ensures { IfOk result (λ told. wanted ≡ true → told.items ≡ outputs.Reply modem reply.now ∷ []) }
+    ensures { IfOk result (λ kept. copies ≡ Two → kept.items ≡ outputs.Reply modem reply.now ∷ []) }
 {
-    if wanted {
-        reply_of(alloc, modem, reply)
-    } else {
-        Ok(Vec::new(alloc))
+    match copies {
+        Copies::One => Ok(Vec::new(alloc)),
+        Copies::Two => reply_of(alloc, modem, reply),
     }
 }
 
@@ -135,14 +144,14 @@ fn reply_if(
 #[inline(always)]
 pub(crate) fn answer(
     alloc: Global,
-    twice: bool,
+    copies: Copies,
     modem: Modem,
     reply: &Bytes,
 ) -> Result<OutputCopies, AllocError>
     ensures told { IfOk result (λ both. both.told.items ≡ outputs.Reply modem reply.now ∷ []) }
-    ensures twice { IfOk result (λ both. both.twice ≡ twice) }
+    ensures copies { IfOk result (λ both. both.copies ≡ copies) }
 {
-    let kept = reply_if(alloc, twice, modem, reply)?;
+    let kept = second_reply(alloc, copies, modem, reply)?;
     let told = reply_of(alloc, modem, reply)?;
-    Ok(OutputCopies { kept, told, twice })
+    Ok(OutputCopies { kept, told, copies })
 }

@@ -5,7 +5,7 @@ ghost use Rattle.operator_model.specs.Machine.{is_spent, unfit_of, own_step};
 ghost use Rattle.operator_model.specs.Sound.{IsSound};
 ghost use Rattle.operator_book.specs.Does.{Does};
 
-use crate::machine::{MachineState, OutputCopies, nothing};
+use crate::machine::{Copies, MachineState, OutputCopies, nothing};
 use grant_policy::Ranking;
 use operator_model::Action;
 use std::alloc::{AllocError, Global};
@@ -16,7 +16,7 @@ impl MachineState {
     pub(crate) fn step(
         &mut self,
         alloc: Global,
-        twice: bool,
+        copies: Copies,
         ranking: &Ranking,
         action: &Action,
     ) -> Result<OutputCopies, AllocError>
@@ -24,19 +24,19 @@ impl MachineState {
         requires policy { ranking.now.policy ≡ self.old.row.policy }
         requires not_spent { is_spent self.old.state action.now ≡ false }
         requires fit { unfit_of self.old.consts self.old.state action.now ≡ None }
-        ensures { Does twice self.old self.new result (own_step self.old action.now) }
+        ensures { Does copies self.old self.new result (own_step self.old action.now) }
     {
         match action {
-            Action::Arrive { modem, heard } => self.arrive(alloc, twice, *modem, heard),
-            Action::Work => self.work(alloc, twice),
+            Action::Arrive { modem, heard } => self.arrive(alloc, copies, *modem, heard),
+            Action::Work => self.work(alloc, copies),
             Action::Tick => {
                 // For the proof: what the type of `self.frame` keeps.
                 let _frame = self.frame;
-                self.tick(alloc, twice, ranking)
+                self.tick(alloc, copies, ranking)
             }
             Action::Reslice { from, row } => {
                 self.reslice(*from, *row);
-                Ok(nothing(alloc, twice))
+                Ok(nothing(alloc, copies))
             }
         }
     }
@@ -47,7 +47,7 @@ impl MachineState {
     pub(crate) fn step_with(
         &mut self,
         alloc: Global,
-        twice: bool,
+        copies: Copies,
         ranking: &Ranking,
         action: Action,
     ) -> Result<OutputCopies, AllocError>
@@ -55,19 +55,19 @@ impl MachineState {
         requires policy { ranking.now.policy ≡ self.old.row.policy }
         requires not_spent { is_spent self.old.state action ≡ false }
         requires fit { unfit_of self.old.consts self.old.state action ≡ None }
-        ensures { Does twice self.old self.new result (own_step self.old action) }
+        ensures { Does copies self.old self.new result (own_step self.old action) }
     {
         match action {
-            Action::Arrive { modem, heard } => self.take_in(alloc, twice, modem, heard),
-            Action::Work => self.work(alloc, twice),
+            Action::Arrive { modem, heard } => self.take_in(alloc, copies, modem, heard),
+            Action::Work => self.work(alloc, copies),
             Action::Tick => {
                 // For the proof: what the type of `self.frame` keeps.
                 let _frame = self.frame;
-                self.tick(alloc, twice, ranking)
+                self.tick(alloc, copies, ranking)
             }
             Action::Reslice { from, row } => {
                 self.reslice(from, row);
-                Ok(nothing(alloc, twice))
+                Ok(nothing(alloc, copies))
             }
         }
     }

@@ -8,7 +8,7 @@ ghost use Rattle.operator_model.specs.Sound.{IsSound};
 ghost use Rattle.operator_book.specs.Does.{Does};
 ghost use Rattle.operator_book.specs.Running.{with_flows, with_change, schedule_elements, granted_in};
 
-use crate::machine::{MachineState, OutputCopies};
+use crate::machine::{Copies, MachineState, OutputCopies};
 use grant_policy::Ranking;
 use operator_model::{Output, given_up_have_no_grants, schedule_can_serve};
 use slice_scheduler::{At, AtFields, Elements, Grants, Served, schedule};
@@ -33,7 +33,7 @@ struct Rooms {
     told: Vec<Output>,
 }
 
-/// Makes room for so many outputs and one more, twice.
+/// Makes room for two copies of so many outputs and one more.
 fn rooms_for(alloc: Global, count: usize) -> Result<Rooms, AllocError>
     requires { count ≤ 4294967295 }
     ensures kept { IfOk result (λ rooms. (rooms.kept.items ≡ []) × (count + 1 ≤ vec_capacity rooms.kept)) }
@@ -137,7 +137,7 @@ impl MachineState {
         }
     }
 
-    /// Returns what the frame gives out, its elements twice.
+    /// Returns what the frame gives out, with two copies of its elements.
     fn frame_plan(&self, alloc: Global, ranking: &Ranking) -> Result<FramePlan, AllocError>
         requires sound { IsSound self.now }
         requires policy { ranking.now.policy ≡ self.now.row.policy }
@@ -171,18 +171,18 @@ impl MachineState {
         self.go_on();
     }
 
-    /// Counts the timers one tick on, gives out the frame, and goes on to the next. What it outputs
-    /// is reported twice in any case.
+    /// Counts the timers one tick on, gives out the frame, and goes on to the next. Two copies of
+    /// what it outputs are made in any case.
     pub(crate) fn tick(
         &mut self,
         alloc: Global,
-        twice: bool,
+        copies: Copies,
         ranking: &Ranking,
     ) -> Result<OutputCopies, AllocError>
         requires sound { IsSound self.old }
         requires policy { ranking.now.policy ≡ self.old.row.policy }
         requires not_spent { self.old.state.frame < 4294967295 }
-        ensures { Does twice self.old self.new result (tick_result self.old) }
+        ensures { Does copies self.old self.new result (tick_result self.old) }
     {
         let plan = self.frame_plan(alloc, ranking)?;
         // For the proof: what the type of `self.row.get_fields()` keeps.
@@ -194,6 +194,6 @@ impl MachineState {
         self.pass_frame(given_up, plan.granted);
         let kept = frame_outputs(rooms.kept, resends, number, plan.copied);
         let told = frame_outputs(rooms.told, resend, number, plan.elements);
-        Ok(OutputCopies { kept, told, twice })
+        Ok(OutputCopies { kept, told, copies })
     }
 }

@@ -15,5 +15,5 @@ invariant_of-self-2 g c =
       replay = replay_push _ _ _ _ _ _ c.self.invariant.replay
           (subst (λ (b : BookView). IsAllowed (operator b.consts b.row b.state) c.args.action) (sym (ap (λ (held : HeldBook). held.book) c.self.view_is)) c.requires.allowed)
           refl
-          (c.from_vec.ensures ∙ (c.in_ok-both.both.same c.in_ok-both.ensures.twice ∙ c.in_ok-both.ensures.outputs));
+          (c.from_vec.ensures ∙ (c.in_ok-both.both.same c.in_ok-both.ensures.copies ∙ c.in_ok-both.ensures.outputs));
     }

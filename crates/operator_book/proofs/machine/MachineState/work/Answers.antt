@@ -20,7 +20,7 @@ returns-in_ok-both-in-Message c =
     record {
       state = c.take_first.ensures ∙ ap without_first done.state ∙ ap (with_state c.args.self.now) is;
       outputs = done.outputs ∙ ap (λ (r : StepResult). r.outputs) is;
-      twice = done.twice;
+      copies = done.copies;
       err = tt;
     }
 
@@ -32,6 +32,6 @@ returns-in_ok-both-in-Request c =
     record {
       state = c.take_first-in-Request.ensures ∙ ap without_first done.state ∙ ap (with_state c.args.self.now) is;
       outputs = done.outputs ∙ ap (λ (r : StepResult). r.outputs) is;
-      twice = done.twice;
+      copies = done.copies;
       err = tt;
     }
