@@ -1,4 +1,5 @@
 pub mod Over
+pub mod Choices
 pub mod Held
 pub mod Does
 pub mod Running

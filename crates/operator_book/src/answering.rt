@@ -9,6 +9,7 @@ ghost use Rattle.operator_model.specs.declared.verdict.Verdict.{Verdict};
 ghost use Rattle.operator_model.specs.declared.verdict.Verdict.TheVariants.{Refused, Put, Deleted};
 ghost use Rattle.operator_model.specs.Asked.{refusal};
 ghost use Rattle.operator_model.specs.Handle.{message_handled, tid_of, kind_of};
+ghost use Rattle.operator_book.specs.Choices.{kept_sfid, waits_for_ack};
 ghost use Rattle.operator_book.specs.Held.{table_of, HasOwnSids, MayPut};
 ghost use Rattle.operator_book.specs.Does.{Does};
 ghost use Rattle.operator_book.specs.Running.{keeping, reply_output, carried_out, IsAnswered, IsCarriedOut};
@@ -20,6 +21,17 @@ use flow_table::Flow;
 use operator_model::{Cause, Verdict};
 use std::alloc::{AllocError, Global};
 use tlv24::Bytes;
+
+/// What a cached response awaits.
+#[derive(Clone, Copy)]
+pub(crate) enum Awaits {
+    /// The acknowledgement of the flow of this SFID, which was added or changed.
+    Ack { sfid: u32 },
+    /// No acknowledgement: the flow of this SFID was deleted.
+    NoAck { sfid: u32 },
+    /// Nothing: the request was refused, and no flow belongs to it.
+    Nothing,
+}
 
 fn kind_of(request: &Request) -> Kind
     ensures { result ≡ kind_of request.now }
@@ -38,6 +50,26 @@ fn tid_of(request: &Request) -> u16
         Request::Dsa { tid, flows: _ }
         | Request::Dsc { tid, flows: _ }
         | Request::Dsd { tid, sfid: _ } => *tid,
+    }
+}
+
+/// Returns the SFID that is kept with a response.
+fn kept_sfid(awaits: Awaits) -> u32
+    ensures { result ≡ kept_sfid awaits }
+{
+    match awaits {
+        Awaits::Ack { sfid } | Awaits::NoAck { sfid } => sfid,
+        Awaits::Nothing => 0,
+    }
+}
+
+/// Returns whether a response awaits an acknowledgement.
+fn waits_for_ack(awaits: Awaits) -> bool
+    ensures { result ≡ waits_for_ack awaits }
+{
+    match awaits {
+        Awaits::Ack { sfid: _ } => true,
+        Awaits::NoAck { sfid: _ } | Awaits::Nothing => false,
     }
 }
 
@@ -60,11 +92,13 @@ fn unkept(
 
 impl MachineState {
     /// Caches a reply under its modem and transaction ID.
-    fn keep(&mut self, modem: Modem, kind: Kind, tid: u16, reply: Bytes, sfid: u32, waits: bool)
+    fn keep(&mut self, modem: Modem, kind: Kind, tid: u16, reply: Bytes, awaits: Awaits)
         requires free { IsNone (find (is_of modem tid) self.old.state.kept) }
         requires room { length self.old.state.kept < self.old.row.transactions }
-        ensures { self.new ≡ keeping self.old modem tid kind reply sfid waits }
+        ensures { self.new ≡ keeping self.old modem tid kind reply (kept_sfid awaits) (waits_for_ack awaits) }
     {
+        let sfid = kept_sfid(awaits);
+        let waits = waits_for_ack(awaits);
         self.kept.begin_new(modem, tid, kind, reply, sfid, waits);
     }
 
@@ -84,7 +118,7 @@ impl MachineState {
     {
         let bytes = Bytes::from_vec(write_reply(alloc, &reply)?);
         let both = answer(alloc, copies, modem, &bytes)?;
-        self.keep(modem, kind, tid, bytes, 0, false);
+        self.keep(modem, kind, tid, bytes, Awaits::Nothing);
         Ok(both)
     }
 
@@ -109,7 +143,7 @@ impl MachineState {
         let bytes = Bytes::from_vec(write_reply(alloc, &reply)?);
         let both = answer(alloc, copies, modem, &bytes)?;
         self.flows.put_flow(sfid, flow)?;
-        self.keep(modem, kind, tid, bytes, sfid, true);
+        self.keep(modem, kind, tid, bytes, Awaits::Ack { sfid });
         Ok(both)
     }
 
@@ -132,7 +166,7 @@ impl MachineState {
         let bytes = Bytes::from_vec(write_reply(alloc, &reply)?);
         let both = answer(alloc, copies, modem, &bytes)?;
         self.flows.remove(sfid);
-        self.keep(modem, kind, tid, bytes, sfid, false);
+        self.keep(modem, kind, tid, bytes, Awaits::NoAck { sfid });
         Ok(both)
     }
 
