@@ -6,6 +6,7 @@ ghost use Rattle.dsx_messages.specs.declared.kind.Kind.TheVariants.{Dsd};
 ghost use Rattle.flow_table.specs.Table.{flow_at, sids_of, MayStand};
 ghost use Rattle.operator_model.specs.Asked.{transaction, free_flow};
 ghost use Rattle.operator_model.specs.Verdict.{addition_within_limit, added_under, changed_with, change_within_limit, verdict, limit_of, no_room, new_flow, added_reply, changed_flow, changed_reply, wants_sid, deletion_verdict};
+ghost use Rattle.operator_book.specs.Choices.{is_new_sid};
 ghost use Rattle.operator_book.specs.Held.{table_of, HasOwnSids, MayPut};
 ghost use Rattle.operator_book.specs.Running.{put_within_limit, addition_verdict, change_verdict};
 
@@ -19,6 +20,15 @@ use operator_model::{Addition, Change, Transaction, Verdict};
 use param_sets::Sets;
 use std::alloc::{AllocError, Global};
 use tlv24::FlowTlv;
+
+/// Where the SID of a changed flow comes from.
+#[derive(Clone, Copy)]
+pub(crate) enum SidOrigin {
+    /// The flow keeps the SID that it has, or has none.
+    Kept,
+    /// The flow gets a free SID of the row's range.
+    New,
+}
 
 /// Returns the refusal of a request for which there is no room.
 fn no_room(kind: Kind, tid: u16) -> Verdict
@@ -64,15 +74,25 @@ fn added_reply(tid: u16, reference: u16, sfid: u32, sid: u16) -> Reply
     })
 }
 
+/// Returns whether a change gives its flow a SID that the flow had not.
+fn is_new_sid(origin: SidOrigin) -> bool
+    ensures { result ≡ is_new_sid origin }
+{
+    match origin {
+        SidOrigin::Kept => false,
+        SidOrigin::New => true,
+    }
+}
+
 /// Returns a flow of which a change waits.
-fn changed_flow(change: &Change, sid: Option<u16>, sid_is_new: bool) -> Flow
-    ensures { result ≡ changed_flow change.now sid sid_is_new }
+fn changed_flow(change: &Change, sid: Option<u16>, origin: SidOrigin) -> Flow
+    ensures { result ≡ changed_flow change.now sid (is_new_sid origin) }
 {
     Flow {
         sid,
         pending: Some(Pending {
             sets: change.sets,
-            sid_is_new,
+            sid_is_new: is_new_sid(origin),
         }),
         ..change.flow
     }
@@ -202,13 +222,13 @@ impl MachineState {
     }
 
     /// Returns a change of a flow to this SID, where there is room for it.
-    fn changed_with(&self, tid: u16, change: &Change, sid: Option<u16>, sid_is_new: bool) -> Verdict
-        requires stands { MayStand (table_of self.now) change.now.sfid (changed_flow change.now sid sid_is_new) }
+    fn changed_with(&self, tid: u16, change: &Change, sid: Option<u16>, origin: SidOrigin) -> Verdict
+        requires stands { MayStand (table_of self.now) change.now.sfid (changed_flow change.now sid (is_new_sid origin)) }
         requires range { IfSome sid (λ n. n ≤ 8191) }
         ensures puts { MayPut (table_of self.now) result }
-        ensures value { result ≡ changed_with self.now tid change.now sid sid_is_new }
+        ensures value { result ≡ changed_with self.now tid change.now sid (is_new_sid origin) }
     {
-        let flow = changed_flow(change, sid, sid_is_new);
+        let flow = changed_flow(change, sid, origin);
         let reply = changed_reply(tid, change.sfid, change.sets, sid);
         self.put_within_limit(Kind::Dsc, tid, change.sfid, &flow, reply)
     }
@@ -224,11 +244,11 @@ impl MachineState {
         // For the proof: what always holds of `self.flows`.
         self.flows.always();
         if !wants_sid(change) {
-            return self.changed_with(tid, change, change.flow.sid, false);
+            return self.changed_with(tid, change, change.flow.sid, SidOrigin::Kept);
         }
         match self.flows.free_sid(&self.row.get_fields().sids) {
             None => no_room(Kind::Dsc, tid),
-            Some(sid) => self.changed_with(tid, change, Some(self.sid_of(sid)), true),
+            Some(sid) => self.changed_with(tid, change, Some(self.sid_of(sid)), SidOrigin::New),
         }
     }
 
