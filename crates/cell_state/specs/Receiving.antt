@@ -1,20 +1,20 @@
 -- What a receipt says of an action that a book takes (implementation-specific).
 use Rattle.std.specs.Prelude.{◌≡◌, length}
 use Rattle.operator_model.specs.declared.action.Action.{Action}
-use Rattle.operator_model.specs.Replay.{BookView}
-use Rattle.operator_book.specs.OfBook.{outputs_of, IsAllowed, IsReplayed}
+use Rattle.operator_model.specs.Machine.{own_step, IsAllowed}
+use Rattle.operator_model.specs.Replay.{BookView, operator_of_book, IsReplayed}
 use Rattle.run_receipts.specs.declared.receipt.Receipt.{Receipt}
 
 -- it has the place after all that was done, the action, and what the operator's machine outputs
 pub record IsReceiptOf (book : BookView) (action : Action) (receipt : Receipt) : Type 0 where
   pub index_is : receipt.index ≡ length book.history
   pub action_is : receipt.action ≡ action
-  pub outputs_are : receipt.outputs ≡ outputs_of book action
+  pub outputs_are : receipt.outputs ≡ (own_step (operator_of_book book) action).outputs
 
 -- The receipt is of an action that some book took: a book whose state is the replay of its history, and which has just the
 -- entries before the receipt's index. So a receipt is not made up, whichever book is under the lock.
 pub record IsOfSomeBook (action : Action) (receipt : Receipt) : Type 0 where
   pub book : BookView
   pub replayed : IsReplayed book
-  pub allowed : IsAllowed book action
+  pub allowed : IsAllowed (operator_of_book book) action
   pub receipt_is : IsReceiptOf book action receipt

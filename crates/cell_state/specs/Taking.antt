@@ -4,8 +4,7 @@ use Rattle.slice_scheduler.specs.declared.elements.ElementsFields.{ElementsField
 use Rattle.operator_model.specs.declared.action.Entry.{Entry}
 use Rattle.operator_model.specs.declared.output.Output.{Output}
 use Rattle.operator_model.specs.declared.output.Output.TheVariants.{Reply, Silent, Frame}
-use Rattle.operator_model.specs.Replay.{BookView}
-use Rattle.operator_book.specs.OfBook.{IsReplayed}
+use Rattle.operator_model.specs.Replay.{BookView, IsReplayed}
 use Rattle.plant_core.specs.Waiting.{frames_in, waiting_in}
 
 -- all frames of a book's history, each with its number

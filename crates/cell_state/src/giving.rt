@@ -3,7 +3,7 @@
 ghost use Rattle.std.specs.Prelude.{◌≡◌, ◌<◌, ◌≤◌, ◌^◌, All, None, length, map, option_map, vec_len, vec_capacity, OnOk, OnErr};
 ghost use Rattle.operator_model.specs.declared.action.Action.TheVariants as actions;
 ghost use Rattle.operator_model.specs.Machine.{unfit_from};
-ghost use Rattle.operator_model.specs.Replay.{book_after_action};
+ghost use Rattle.operator_model.specs.Replay.{operator_of_book, book_after_action};
 ghost use Rattle.run_model.specs.Steps.{NoneRefuses};
 ghost use Rattle.plant_core.specs.declared.core_fault.CoreFault.TheVariants as core_faults;
 ghost use Rattle.plant_core.specs.Faults.{IsReported};
@@ -34,7 +34,7 @@ impl Held {
     /// Takes a row from a later frame on, and returns the owner's receipt. Takes no memory.
     fn reslice(&mut self, alloc: Global, from: u32, row: SliceRow) -> Receipt
         requires within { self.old.desk.collected ≤ length (book_of self.old).history }
-        requires fit { unfit_from (book_of self.old).consts (book_of self.old).state from row ≡ None }
+        requires fit { unfit_from (operator_of_book (book_of self.old)) from row ≡ None }
         requires room { 0 < history_room self.old }
         ensures receipt { IsReceiptOf (book_of self.old) (actions.Reslice from row) result }
         ensures book { book_of self.new ≡ book_after_action (book_of self.old) (actions.Reslice from row) }

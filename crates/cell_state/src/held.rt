@@ -1,8 +1,8 @@
 //! The state that an operator's lock guards.
 
 ghost use Rattle.std.specs.Prelude.{◌≡◌, ◌≢◌, ◌↔◌, ◌++◌, ◌≤◌, length, Some, Err, IfOk, IfErr, IfSome, OnOk, OnErr};
-ghost use Rattle.operator_model.specs.Replay.{book_after_action};
-ghost use Rattle.operator_book.specs.OfBook.{outputs_of};
+ghost use Rattle.operator_model.specs.Machine.{own_step};
+ghost use Rattle.operator_model.specs.Replay.{operator_of_book, book_after_action};
 ghost use Rattle.operator_book.specs.declared.book.BookFault.{BookFault};
 ghost use Rattle.run_model.specs.IsStateAfter.{frames_of};
 ghost use Rattle.cell_state.specs.HeldView.{book_of, waiting_of};
@@ -42,7 +42,7 @@ impl Held {
         ensures some_book { IfOk result (IsOfSomeBook action) }
         ensures book { OnOk result (book_of self.new ≡ book_after_action (book_of self.old) action) }
         ensures waiting { OnOk result (waiting_of self.new
-            ≡ waiting_of self.old ++ frames_of (outputs_of (book_of self.old) action)) }
+            ≡ waiting_of self.old ++ frames_of (own_step (operator_of_book (book_of self.old)) action).outputs) }
         ensures refused { (fault : BookFault) → fault ≢ BookFault.NoMemory
             → (result ≡ Err fault) ↔ (refusal_of (book_of self.old) action ≡ Some fault) }
         ensures of_action { IfErr result (IsFaultOf action) }

@@ -93,7 +93,7 @@ module _ (op : Operator) (modem : Modem) where
   -- of this kind under this transaction ID alone, and read as far as that; the rest of the table makes this of it
   module _ (reading : Result Message MessageFault) (kind : Kind) (tid : ℕ) (v : Verdict) (is : ReadsAsRequest reading kind tid)
       (only : (k : Kind) (n : ℕ) → ReadsAsRequest reading k n → (k ≡ kind) × (n ≡ tid)) (was_read : Off reading Unread)
-      (rest : AllByRecursion (Off reading) (Unread ∷ OfCmts ∷ Repeated ∷ KeptFull ∷ []) → Handled reading (carried_out op.consts op.state modem kind tid v)) where
+      (rest : AllByRecursion (Off reading) (Unread ∷ OfCmts ∷ Repeated ∷ KeptFull ∷ []) → Handled reading (carried_out op modem kind tid v)) where
     of_modem : is_of_cmts tid ≡ false → AllByRecursion (Off reading) (Unread ∷ OfCmts ∷ [])
     of_modem low = (was_read, ((λ h. let same = (only h.0 h.1 h.2).1 in let high = h.3 in let least = leb-false 32768 tid low in absurd (omega arith)), tt))
 
@@ -145,7 +145,7 @@ module _ (op : Operator) (modem : Modem) where
         (read_so (messages.Request request)) (λ none. by none (request-decided op modem request sound))
       where
         by : AllByRecursion (Off (Ok (messages.Request request))) (Unread ∷ OfCmts ∷ Repeated ∷ KeptFull ∷ []) → IsDecided op modem (said_by request) (verdict op modem request)
-            → Handled (Ok (messages.Request request)) (carried_out op.consts op.state modem kind tid (verdict op modem request))
+            → Handled (Ok (messages.Request request)) (carried_out op modem kind tid (verdict op modem request))
         by none decided =
             handled (Ok (messages.Request request)) (Unread ∷ OfCmts ∷ Repeated ∷ KeptFull ∷ Faulty ∷ []) Judged [] _ refl
             (all_more (Off (Ok (messages.Request request))) (Unread ∷ OfCmts ∷ Repeated ∷ KeptFull ∷ []) Faulty none (λ h. cc (h.4))) (request, refl) (
@@ -154,8 +154,8 @@ module _ (op : Operator) (modem : Modem) where
               verdict op modem request,
               refl,
               decided.1,
-              ap (λ (k : Kind). carried_out op.consts op.state modem k tid (verdict op modem request)) (sym is_kind)
-                  ∙ ap (λ (n : ℕ). carried_out op.consts op.state modem (said_by request).kind n (verdict op modem request)) (sym is_tid),
+              ap (λ (k : Kind). carried_out op modem k tid (verdict op modem request)) (sym is_kind)
+                  ∙ ap (λ (n : ℕ). carried_out op modem (said_by request).kind n (verdict op modem request)) (sym is_tid),
             )
 
   -- a fault behind the fixed part
@@ -239,10 +239,10 @@ bytes-handled op modem bytes sound are no_ack = read-handled op modem sound (mes
 -- a type that is left out, where nothing is kept
 pub left_out_handled : (op : Operator) (modem : Modem) (tid : ℕ) (kind : Kind) (found : ℕ) → tid < 32768 → op.state.kept ≡ [] → 0 < op.row.transactions
     → IsHandledBy op modem (Err (faults.LeftOut tid kind found)) Faulty
-    (carried_out op.consts op.state modem kind tid (Refused (record { kind = kind; tid = tid; code = RejectUnrecognizedSetting; detail = Nothing })))
+    (carried_out op modem kind tid (Refused (record { kind = kind; tid = tid; code = RejectUnrecognizedSetting; detail = Nothing })))
 left_out_handled op modem tid kind found low nothing some =
     handled_by op modem (Err (faults.LeftOut tid kind found)) (Unread ∷ OfCmts ∷ Repeated ∷ KeptFull ∷ []) Faulty (Judged ∷ [])
-    (carried_out op.consts op.state modem kind tid (Refused (record { kind = kind; tid = tid; code = RejectUnrecognizedSetting; detail = Nothing }))) refl (
+    (carried_out op modem kind tid (Refused (record { kind = kind; tid = tid; code = RejectUnrecognizedSetting; detail = Nothing }))) refl (
       left_out_read op modem tid kind found,
       (
         (λ h. let high = h.3 in let same = h.2.1 in absurd (omega arith)),

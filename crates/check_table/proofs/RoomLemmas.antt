@@ -121,7 +121,7 @@ module _ (op : Operator) (modem : Modem) (said : Said) (not_dsd : said.kind ≢ 
   pub within-decided : (flows : List (ℕ × Flow)) → committed_elements op.consts.units flows ≡ would_commit (λ need. need.elements) op about set
       → committed_minislots op.consts.units flows ≡ would_commit (λ need. need.minislots) op about set → (v : Verdict)
       → (AllByRecursion (Fails op modem said) up_to_room → IsDecided op modem said v)
-      → IsDecided op modem said (within_limit said.kind said.tid op.consts.units (limit_of op.row op.state) flows v)
+      → IsDecided op modem said (within_limit said.kind said.tid op.consts.units (limit_of op) flows v)
   within-decided flows is_elements is_minislots v accepted =
       cond_both (nat_lt op.row.elements (committed_elements op.consts.units flows)) _ _ (IsDecided op modem said)
       (λ over. decided op modem said up_to_sids ElementsOver (MinislotsOver ∷ Accepted ∷ []) _ refl none

@@ -81,7 +81,7 @@ module _ (op : Operator) (sound : IsSound op) (held : Held op.state) where
     entry_of : Verdict → KeptEntry
     entry_of v = begun_entry op.consts.timers modem tid kind (spell_reply (reply_of v)) (sfid_of v) (does_wait v)
 
-    carried : (v : Verdict) → Leaves (carried_out op.consts op.state modem kind tid v)
+    carried : (v : Verdict) → Leaves (carried_out op modem kind tid v)
     unfolding entry_of
     carried (Refused reply) = record {
       own = own-push op.state.kept (entry_of (Refused reply)) held.own free;
@@ -122,7 +122,7 @@ module _ (op : Operator) (sound : IsSound op) (held : Held op.state) where
       (λ _. at-change_other q sfid apart op.state.flows (flow_after_ack op.state.frame))
       (λ _. at-undone_other q sfid apart op.state.flows kind)
 
-  acked_held : (modem : Modem) (tid : ℕ) (kind : Kind) (code : ℕ) → Leaves (ack_result op.consts op.state modem tid kind code)
+  acked_held : (modem : Modem) (tid : ℕ) (kind : Kind) (code : ℕ) → Leaves (ack_result op modem tid kind code)
   acked_held modem tid kind code = by (find (waits_for modem tid kind) op.state.kept) refl
     where
       ended : (x : KeptEntry) → find (waits_for modem tid kind) op.state.kept ≡ Some x → ¬ IsPending (flows_acked kind code op.state.frame x.sfid op.state.flows) x.sfid
@@ -140,7 +140,7 @@ module _ (op : Operator) (sound : IsSound op) (held : Held op.state) where
           awaits-acked op.consts.timers modem tid kind op.state.kept x q held.own is apart
           (held.waits q (pending.0, sym (acked_other kind code x.sfid q apart) ∙ pending.1, pending.2))
 
-      by : (o : Option KeptEntry) → find (waits_for modem tid kind) op.state.kept ≡ o → Leaves (acked_if op.consts op.state modem tid kind code (option_map (λ entry. entry.sfid) o))
+      by : (o : Option KeptEntry) → find (waits_for modem tid kind) op.state.kept ≡ o → Leaves (acked_if op modem tid kind code (option_map (λ entry. entry.sfid) o))
       by None is = held
       by (Some x) is = record {
         own = own-acked op.consts.timers modem tid kind op.state.kept held.own;
@@ -197,7 +197,7 @@ module _ (op : Operator) (sound : IsSound op) (held : Held op.state) where
     own = own-ticked op.consts.timers op.state.kept held.own;
     waits = λ q pending.
         let left = still_pending op.consts.units (given_up_in op.state.kept) op.state.flows q (sound-AreFlows sound) (given_up-HaveFlows op.state.flows op.state.kept sound.waiting sound.own_flows)
-        (all_granted_pending q op.state.frame (granted_of op.row.policy (at_frame op.consts op.state) (flowing_in (flows_left op.state))) (flows_left op.state) pending) in
+        (all_granted_pending q op.state.frame (granted_of op.row.policy (at_frame op) (flowing_in (flows_left op.state))) (flows_left op.state) pending) in
         awaits-ticked op.consts.timers op.state.kept q left.0 (held.waits q left.1);
   }
 

@@ -105,12 +105,12 @@ AnswersOf Faulty op modem reading ran =
     (kind : Kind) × (tid : ℕ) × (fault : MessageFault) × (code : Code) × (detail : Detail)
     × ReadsAsRequest reading kind tid × (reading ≡ Err fault)
     × IsRefusedFor fault code detail
-    × (ran ≡ carried_out op.consts op.state modem kind tid
+    × (ran ≡ carried_out op modem kind tid
     (Refused (record { kind = kind; tid = tid; code = code; detail = detail })))
 AnswersOf Judged op modem reading ran =
     (request : Request) × (check : Check) × (verdict : Verdict) × (reading ≡ Ok (messages.Request request))
     × IsDecidedBy op modem (said_by request) check verdict
-    × (ran ≡ carried_out op.consts op.state modem (said_by request).kind (said_by request).tid verdict)
+    × (ran ≡ carried_out op modem (said_by request).kind (said_by request).tid verdict)
 
 -- the checks in their order
 abbrev pub message_table : List MessageCheck

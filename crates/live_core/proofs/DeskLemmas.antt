@@ -61,7 +61,7 @@ waits_at_all op (frame ∷ waiting) some = refl
 pub only_memory : {A : Type 0} (op : Operator) (action : Action) (result : Result A BookFault) (fault : BookFault) → result ≡ Err fault
     → ((modem : Modem) → (result ≡ Err (faults.NotMine modem)) ↔ (stranger_of op.row action ≡ Some modem))
     → ((result ≡ Err faults.FramesSpent) ↔ (is_spent op.state action ≡ true))
-    → ((u : Unfit) → (result ≡ Err (faults.Unfit u)) ↔ (unfit_of op.consts op.state action ≡ Some u))
+    → ((u : Unfit) → (result ≡ Err (faults.Unfit u)) ↔ (unfit_of op action ≡ Some u))
     → IsAllowed op action → fault ≡ faults.NoMemory
 only_memory op action result faults.NoMemory is not_mine spent unfit allowed = refl
 only_memory op action result (faults.NotMine modem) is not_mine spent unfit allowed =

@@ -11,7 +11,7 @@ use Rattle.operator_model.specs.declared.action.Action.TheVariants as actions
 use Rattle.operator_model.specs.declared.action.Unfit.{Unfit}
 use Rattle.operator_model.specs.declared.action.Unfit.TheVariants as unfits
 use Rattle.operator_model.specs.Machine.{unfit_from}
-use Rattle.operator_model.specs.Replay.{BookView}
+use Rattle.operator_model.specs.Replay.{BookView, operator_of_book}
 use Rattle.slice_scheduler.specs.declared.elements.ElementsFields.{ElementsFields}
 use Rattle.run_model.specs.declared.step.Step.{Step}
 use Rattle.run_model.specs.declared.step.Step.TheVariants as steps
@@ -29,7 +29,7 @@ same_unfit : (unfit : Unfit) (from n : ℕ) (books : List BookView) (rows : List
 same_unfit unfit from n [] rows = refl
 same_unfit unfit from n (book ∷ books) [] = refl
 same_unfit unfit from n (book ∷ books) (row ∷ rows) =
-    ap (λ (o : Option ℕ). if is_unfit unfit (unfit_from book.consts book.state from row) then Some n else o) (same_unfit unfit from (n + 1) books rows)
+    ap (λ (o : Option ℕ). if is_unfit unfit (unfit_from (operator_of_book book) from row) then Some n else o) (same_unfit unfit from (n + 1) books rows)
 
 same_row_fault : (from : ℕ) (books : List BookView) (rows : List SliceRow) → row_fault from (map forgotten books) rows ≡ row_fault from books rows
 same_row_fault from books rows = λ k. first_fault (record {

@@ -6,7 +6,7 @@ use Rattle.std.proofs.lemmas.Option.{same_Some, slice_get_within, slice_get-get_
 use Rattle.operator_model.specs.declared.action.SliceRow.{SliceRow}
 use Rattle.operator_model.specs.declared.action.Unfit.{Unfit}
 use Rattle.operator_model.specs.Machine.{unfit_from}
-use Rattle.operator_model.specs.Replay.{BookView}
+use Rattle.operator_model.specs.Replay.{BookView, operator_of_book}
 use Rattle.plant_core.specs.Reslicing.{is_unfit, least_unfit}
 
 -- the list from a place on
@@ -20,13 +20,13 @@ module _ (unfit : Unfit) (from : ℕ) (books : List BookView) (rows : List Slice
   least_from op = least_unfit unfit from op (drop op books) (drop op rows)
 
   module _ (op : ℕ) (book : BookView) (row : SliceRow) (b : slice_get books op ≡ Some book) (r : slice_get rows op ≡ Some row) where
-    here : least_from op ≡ (if is_unfit unfit (unfit_from book.consts book.state from row) then Some op else least_from (op + 1))
+    here : least_from op ≡ (if is_unfit unfit (unfit_from (operator_of_book book) from row) then Some op else least_from (op + 1))
     here = ap₂ (λ (bs : List BookView) (rs : List SliceRow). least_unfit unfit from op bs rs) (from_here books op book b) (from_here rows op row r)
 
-    pub is_here : true ≡ is_unfit unfit (unfit_from book.consts book.state from row) → Some op ≡ least_from op
+    pub is_here : true ≡ is_unfit unfit (unfit_from (operator_of_book book) from row) → Some op ≡ least_from op
     is_here is = sym (here ∙ ap (λ (c : Bool). if c then Some op else least_from (op + 1)) (sym is))
 
-    pub is_later : false ≡ is_unfit unfit (unfit_from book.consts book.state from row) → least_from (op + 1) ≡ least_from op
+    pub is_later : false ≡ is_unfit unfit (unfit_from (operator_of_book book) from row) → least_from (op + 1) ≡ least_from op
     is_later is = sym (here ∙ ap (λ (c : Bool). if c then Some op else least_from (op + 1)) (sym is))
 
   no_rows : (n : ℕ) (bs : List BookView) → least_unfit unfit from n bs [] ≡ None

@@ -1,9 +1,8 @@
 -- A core whose histories are forgotten goes on as the core that has them (implementation-specific).
 use Rattle.std.specs.Prelude.{◌≡◌, List, [], map}
 use Rattle.operator_model.specs.declared.action.Action.{Action}
-use Rattle.operator_model.specs.State.{operator}
 use Rattle.operator_model.specs.Machine.{own_step}
-use Rattle.operator_model.specs.Replay.{BookView}
+use Rattle.operator_model.specs.Replay.{BookView, operator_of_book}
 use Rattle.map_assembly.specs.Gathering.{IsGathering}
 use Rattle.map_assembly.specs.LettingGo.{GoesOnAlike}
 use Rattle.run_model.specs.declared.step.Out.{Out}
@@ -18,7 +17,7 @@ abbrev pub went : BookView → Action → BookView
 went book action = record {
   row = book.row;
   consts = book.consts;
-  state = (own_step (operator book.consts book.row book.state) action).state;
+  state = (own_step (operator_of_book book) action).state;
   history = [];
 }
 

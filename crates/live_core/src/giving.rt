@@ -19,7 +19,7 @@ use std::alloc::{AllocError, Global};
 impl LiveSlot {
     /// Takes a row from a later frame on. Takes no memory.
     fn reslice(&mut self, from: u32, row: SliceRow)
-        requires { unfit_from (book_at self.old).consts (book_at self.old).state from row ≡ None }
+        requires { unfit_from self.old.live.sound from row ≡ None }
         ensures book { book_at self.new ≡ went (book_at self.old) (actions.Reslice from row) }
         ensures waiting { waiting_at self.new ≡ waiting_at self.old }
     {

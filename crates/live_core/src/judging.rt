@@ -6,7 +6,6 @@ ghost use Rattle.run_model.specs.Steps.{Reslices};
 ghost use Rattle.plant_core.specs.declared.core_fault.CoreFault.TheVariants as faults;
 ghost use Rattle.plant_core.specs.Faults.{IsReported};
 ghost use Rattle.plant_core.specs.Reslicing.{is_unfit, least_unfit, row_fault, reslice_fault};
-ghost use Rattle.live_core.specs.DeskView.{book_at};
 ghost use Rattle.live_core.specs.GoingOn.{GoesOn};
 ghost use Rattle.live_core.specs.LiveView.{live_view};
 
@@ -20,8 +19,7 @@ use std::alloc::Global;
 impl LiveSlot {
     /// Returns whether the machine refuses a row from a frame on with this fault. Takes no memory.
     fn refuses(&self, from: u32, row: SliceRow, unfit: Unfit) -> bool
-        ensures { result ≡ is_unfit unfit
-            (unfit_from (book_at self.now).consts (book_at self.now).state from row) }
+        ensures { result ≡ is_unfit unfit (unfit_from self.now.live.sound from row) }
     {
         match self.live.offer(from, row) {
             Ok(()) => false,

@@ -46,7 +46,7 @@ module _ (op : Operator) (modem : Modem) where
   again kind entry false = one
 
   room : (kind : Kind) (tid : ℕ) (v : Verdict) (b : Bool)
-      → length (if b then reply_result op.state modem (spell_reply (refusal kind tid codes.RejectTemporary)) else carried_out op.consts op.state modem kind tid v).outputs ≤ 1
+      → length (if b then reply_result op.state modem (spell_reply (refusal kind tid codes.RejectTemporary)) else carried_out op modem kind tid v).outputs ≤ 1
   room kind tid v true = one
   room kind tid v false = one
 
@@ -62,7 +62,7 @@ module _ (op : Operator) (modem : Modem) where
   few_transacted : (kind : Kind) (tid : ℕ) (v : Verdict) → length (transaction_result op modem kind tid v).outputs ≤ 1
   few_transacted kind tid v = first kind tid v (is_of_cmts tid)
 
-  few_acked : (tid : ℕ) (kind : Kind) (code : ℕ) (o : Option ℕ) → length (acked_if op.consts op.state modem tid kind code o).outputs ≤ 1
+  few_acked : (tid : ℕ) (kind : Kind) (code : ℕ) (o : Option ℕ) → length (acked_if op modem tid kind code o).outputs ≤ 1
   few_acked tid kind code None = one
   few_acked tid kind code (Some sfid) = none
 
@@ -101,7 +101,7 @@ module _ (op : Operator) (modem : Modem) where
   arriving heard true = one
   arriving heard false = none
 
-  few_arrived : (heard : Heard) → length (arrival_result op.row op.state modem heard).outputs ≤ 1
+  few_arrived : (heard : Heard) → length (arrival_result op modem heard).outputs ≤ 1
   few_arrived heard = arriving heard (nat_le op.row.inbox (length op.state.inbox))
 
 few_worked : (op : Operator) (inbox : List Arrival) → length (work_result op inbox).outputs ≤ 1

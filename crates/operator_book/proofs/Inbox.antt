@@ -37,7 +37,7 @@ module _ (op : Operator) (modem : Modem) where
   again kind entry false = refl
 
   room : (kind : Kind) (tid : ℕ) (v : Verdict) (b : Bool)
-      → (if b then reply_result op.state modem (spell_reply (refusal kind tid codes.RejectTemporary)) else carried_out op.consts op.state modem kind tid v).state.inbox ≡ op.state.inbox
+      → (if b then reply_result op.state modem (spell_reply (refusal kind tid codes.RejectTemporary)) else carried_out op modem kind tid v).state.inbox ≡ op.state.inbox
   room kind tid v true = refl
   room kind tid v false = refl
 
@@ -53,7 +53,7 @@ module _ (op : Operator) (modem : Modem) where
   transacted_keeps : (kind : Kind) (tid : ℕ) (v : Verdict) → (transaction_result op modem kind tid v).state.inbox ≡ op.state.inbox
   transacted_keeps kind tid v = first kind tid v (is_of_cmts tid)
 
-  acked_keeps : (tid : ℕ) (kind : Kind) (code : ℕ) (o : Option ℕ) → (acked_if op.consts op.state modem tid kind code o).state.inbox ≡ op.state.inbox
+  acked_keeps : (tid : ℕ) (kind : Kind) (code : ℕ) (o : Option ℕ) → (acked_if op modem tid kind code o).state.inbox ≡ op.state.inbox
   acked_keeps tid kind code None = refl
   acked_keeps tid kind code (Some sfid) = refl
 

@@ -42,5 +42,5 @@ unfolding own_step
 resliced_is op from slice = refl
 
 pub reslice_allowed : (op : Operator) (from : ℕ) (slice : SliceRow)
-    → unfit_from op.consts op.state from slice ≡ None → IsAllowed op (actions.Reslice from slice)
+    → unfit_from op from slice ≡ None → IsAllowed op (actions.Reslice from slice)
 reslice_allowed op from slice fit = record { mine = refl; not_spent = refl; fit = fit }

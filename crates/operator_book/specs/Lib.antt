@@ -2,9 +2,7 @@ pub mod Over
 pub mod Choices
 pub mod Held
 pub mod Does
-pub mod Running
 pub mod Opening
 pub mod Kept
-pub mod OfBook
 pub mod ViewOf
 pub mod MostOutputs

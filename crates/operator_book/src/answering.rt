@@ -8,11 +8,11 @@ ghost use Rattle.flow_table.specs.Table.{MayStand};
 ghost use Rattle.operator_model.specs.declared.verdict.Verdict.{Verdict};
 ghost use Rattle.operator_model.specs.declared.verdict.Verdict.TheVariants.{Refused, Put, Deleted};
 ghost use Rattle.operator_model.specs.Asked.{refusal};
-ghost use Rattle.operator_model.specs.Handle.{message_handled, tid_of, kind_of};
+ghost use Rattle.operator_model.specs.Changed.{with_response};
+ghost use Rattle.operator_model.specs.Handle.{reply_output, carried_out, IsAnswered, IsCarriedOut, message_handled, tid_of, kind_of};
 ghost use Rattle.operator_book.specs.Choices.{kept_sfid, waits_for_ack};
 ghost use Rattle.operator_book.specs.Held.{table_of, HasOwnSids, MayPut};
 ghost use Rattle.operator_book.specs.Does.{Does};
-ghost use Rattle.operator_book.specs.Running.{keeping, reply_output, carried_out, IsAnswered, IsCarriedOut};
 
 use crate::machine::{Copies, MachineState, OutputCopies, answer, silent};
 use crate::refusal::refusal;
@@ -95,7 +95,7 @@ impl MachineState {
     fn keep(&mut self, modem: Modem, kind: Kind, tid: u16, reply: Bytes, awaits: Awaits)
         requires free { IsNone (find (is_of modem tid) self.old.state.kept) }
         requires room { length self.old.state.kept < self.old.row.transactions }
-        ensures { self.new ≡ keeping self.old modem tid kind reply (kept_sfid awaits) (waits_for_ack awaits) }
+        ensures { self.new ≡ with_response self.old modem tid kind reply (kept_sfid awaits) (waits_for_ack awaits) }
     {
         let sfid = kept_sfid(awaits);
         let waits = waits_for_ack(awaits);

@@ -6,10 +6,10 @@ ghost use Rattle.plant.specs.Row.{IsRowOf};
 ghost use Rattle.operator_model.specs.declared.action.Unfit.{Unfit};
 ghost use Rattle.operator_model.specs.declared.action.Action.{Action};
 ghost use Rattle.operator_model.specs.declared.action.Action.TheVariants as actions;
-ghost use Rattle.operator_model.specs.Machine.{is_spent};
-ghost use Rattle.operator_model.specs.Replay.{book_after_action};
+ghost use Rattle.operator_model.specs.Machine.{own_step, stranger_of, is_spent, unfit_of, unfit_from, IsAllowed};
+ghost use Rattle.operator_model.specs.Replay.{operator_of_book, opened_book, IsReplayed, book_after_action};
+ghost use Rattle.operator_model.specs.Sound.{IsSound};
 ghost use Rattle.operator_book.specs.MostOutputs.{most_outputs_of};
-ghost use Rattle.operator_book.specs.OfBook.{opened_book, outputs_of, stranger_of, unfit_of, unfit_from, IsAllowed, IsReplayed, IsSound};
 ghost use Rattle.operator_book.specs.declared.book.OpenFault.TheVariants as open_faults;
 ghost use Rattle.operator_book.specs.declared.book.BookFault.TheVariants.{NoMemory};
 
@@ -89,7 +89,7 @@ impl Book {
         ranking: Ranking,
     ) -> Result<Book, OpenFault>
         requires { IsRowOf consts.now row.now }
-        ensures ok { IfOk result (λ book. book.kept.book ≡ opened_book row.now consts.now) }
+        ensures ok { IfOk result (λ book. book.kept.book ≡ opened_book consts.now row.now) }
         ensures mismatch { (result ≡ Err OpenFault.PolicyMismatch) ↔ (ranking.policy ≢ row.now.policy) }
     {
         if ranking.policy() != row.get_fields().policy {
@@ -103,16 +103,17 @@ impl Book {
     /// may be more spare room.
     pub fn act(&mut self, alloc: Global, action: Action) -> Result<Vec<Output>, BookFault>
         ensures state { OnOk result (self.new.kept.book ≡ book_after_action self.old.kept.book action) }
-        ensures outputs { IfOk result (λ outputs. outputs.items ≡ outputs_of self.old.kept.book action) }
+        ensures outputs { IfOk result (λ outputs. outputs.items
+            ≡ (own_step (operator_of_book self.old.kept.book) action).outputs) }
 
         // A stranger is refused first, then a tick past the last frame, then a slice that does not fit, and only these are;
         // else only memory can be wanting.
         ensures not_mine { (modem : Modem) → (result ≡ Err (BookFault.NotMine modem))
-            ↔ (stranger_of self.old.kept.book action ≡ Some modem) }
+            ↔ (stranger_of self.old.kept.book.row action ≡ Some modem) }
         ensures spent { (result ≡ Err BookFault.FramesSpent) ↔ (is_spent self.old.kept.book.state action ≡ true) }
         ensures unfit { (u : Unfit) → (result ≡ Err (BookFault.Unfit u))
-            ↔ (unfit_of self.old.kept.book action ≡ Some u) }
-        ensures allowed { OnOk result (IsAllowed self.old.kept.book action) }
+            ↔ (unfit_of (operator_of_book self.old.kept.book) action ≡ Some u) }
+        ensures allowed { OnOk result (IsAllowed (operator_of_book self.old.kept.book) action) }
         ensures err { OnErr result (self.new.kept.book ≡ self.old.kept.book) }
         ensures ranking { self.new.ranking ≡ self.old.ranking }
     {
@@ -124,8 +125,9 @@ impl Book {
 
     /// Returns whether a slice and a budget can be taken from this frame on. Takes no memory.
     pub fn offer(&self, from: u32, row: SliceRow) -> Result<(), Unfit>
-        ensures unfit { (u : Unfit) → (result ≡ Err u) ↔ (unfit_from self.now.kept.book from row ≡ Some u) }
-        ensures fit { OnOk result (unfit_from self.now.kept.book from row ≡ None) }
+        ensures unfit { (u : Unfit) → (result ≡ Err u)
+            ↔ (unfit_from (operator_of_book self.now.kept.book) from row ≡ Some u) }
+        ensures fit { OnOk result (unfit_from (operator_of_book self.now.kept.book) from row ≡ None) }
     {
         match self.kept.machine.unfit_from(from, row) {
             Some(unfit) => Err(unfit),
@@ -143,7 +145,7 @@ impl Book {
 
     /// Takes a slice that `offer` found fit, in the room that `make_room` made. Takes no memory, and cannot fail.
     pub fn reslice(&mut self, from: u32, row: SliceRow)
-        requires fit { unfit_from self.old.kept.book from row ≡ None }
+        requires fit { unfit_from (operator_of_book self.old.kept.book) from row ≡ None }
         requires spare { 0 < self.old.kept.spare }
         ensures { self.new.kept.book ≡ book_after_action self.old.kept.book (actions.Reslice from row) }
     {
@@ -154,7 +156,7 @@ impl Book {
     /// retransmits and its frame, any other action one. At most 65,537.
     pub fn most_outputs(&self, action: &Action) -> usize
         ensures value { result ≡ most_outputs_of self.now.kept.book.state action.now }
-        ensures bound { length (outputs_of self.now.kept.book action.now) ≤ result }
+        ensures bound { length (own_step (operator_of_book self.now.kept.book) action.now).outputs ≤ result }
         ensures few { result ≤ 65537 }
     {
         self.kept.machine.most_outputs(action)
@@ -225,7 +227,7 @@ impl Book {
     /// own; flows, cached responses and inbox never pass the row's limits; what is committed never
     /// passes the quota, nor the budget in force, nor one that waits for its frame.
     pub fn always_sound(&self)
-        ensures { IsSound self.now.kept.book }
+        ensures { IsSound (operator_of_book self.now.kept.book) }
     {
         // For the proof: what always holds of `self.kept`.
         self.kept.always();

@@ -7,10 +7,11 @@ ghost use Rattle.dsx_messages.specs.Reading.{Fails, Gives};
 ghost use Rattle.flow_table.specs.Flow.{flow_after_ack};
 ghost use Rattle.operator_model.specs.declared.verdict.Verdict.TheVariants.{Refused};
 ghost use Rattle.operator_model.specs.Asked.{refusal};
-ghost use Rattle.operator_model.specs.Handle.{transaction_result, message_handled, undone};
+ghost use Rattle.operator_model.specs.Changed.{with_flows, with_change, with_inbox};
+ghost use Rattle.operator_model.specs.Handle.{transaction_result, ack_result, message_handled, bandwidth_request_result, undone};
+ghost use Rattle.operator_model.specs.Machine.{work_result, arrival_result};
 ghost use Rattle.operator_book.specs.Held.{HasOwnSids, HasRightId};
 ghost use Rattle.operator_book.specs.Does.{Does};
-ghost use Rattle.operator_book.specs.Running.{with_flows, with_change, with_inbox, reply_output, ack_result_of, asked_of_flow, work_result_of, arrival_result_of};
 
 use crate::machine::{Copies, MachineState, OutputCopies, nothing, silent};
 use crate::refusal::{encoding_refusal, refusal};
@@ -65,7 +66,7 @@ impl MachineState {
         kind: Kind,
         code: u8,
     ) -> Result<OutputCopies, AllocError>
-        ensures { Does copies self.old self.new result (ack_result_of self.old modem tid kind code) }
+        ensures { Does copies self.old self.new result (ack_result self.old modem tid kind code) }
     {
         let Some(sfid) = self.kept.acked(modem, tid, kind) else {
             return silent(alloc, copies, Some(modem), Cause::UnknownAck);
@@ -78,8 +79,8 @@ impl MachineState {
         Ok(nothing(alloc, copies))
     }
 
-    /// Handles a request for minislots.
-    fn asked_of_flow(
+    /// Handles a bandwidth request of a modem.
+    fn handle_bandwidth_request(
         &mut self,
         alloc: Global,
         copies: Copies,
@@ -87,7 +88,7 @@ impl MachineState {
         sid: u16,
         minislots: u16,
     ) -> Result<OutputCopies, AllocError>
-        ensures { Does copies self.old self.new result (asked_of_flow self.old modem sid minislots) }
+        ensures { Does copies self.old self.new result (bandwidth_request_result self.old modem sid minislots) }
     {
         let Some(asker) = self.flows.asker(sid) else {
             return silent(alloc, copies, Some(modem), Cause::NoSuchSid);
@@ -117,7 +118,12 @@ impl MachineState {
         match fault {
             MessageFault::NoMemory => Err(AllocError),
             MessageFault::Empty => silent(alloc, copies, Some(modem), Cause::Empty),
-            MessageFault::NotOurs { mtype: _ } => silent(alloc, copies, Some(modem), Cause::NotOurs),
+            MessageFault::NotOurs { mtype: _ } => silent(
+                alloc,
+                copies,
+                Some(modem),
+                Cause::NotOurs,
+            ),
             MessageFault::Short => silent(alloc, copies, Some(modem), Cause::Short),
             MessageFault::Tlv {
                 tid,
@@ -193,7 +199,7 @@ impl MachineState {
     #[inline(always)]
     pub(crate) fn work(&mut self, alloc: Global, copies: Copies) -> Result<OutputCopies, AllocError>
         requires { HasOwnSids self.old }
-        ensures { Does copies self.old self.new result (work_result_of self.old) }
+        ensures { Does copies self.old self.new result (work_result self.old self.old.state.inbox) }
     {
         let Some(first) = self.inbox.front() else {
             return silent(alloc, copies, None, Cause::Idle);
@@ -208,7 +214,7 @@ impl MachineState {
             }
             Heard::Request { sid, minislots } => {
                 let (sid, minislots) = (*sid, *minislots);
-                let both = self.asked_of_flow(alloc, copies, modem, sid, minislots)?;
+                let both = self.handle_bandwidth_request(alloc, copies, modem, sid, minislots)?;
                 self.take_first();
                 Ok(both)
             }
@@ -224,7 +230,7 @@ impl MachineState {
         modem: Modem,
         heard: Heard,
     ) -> Result<OutputCopies, AllocError>
-        ensures { Does copies self.old self.new result (arrival_result_of self.old modem heard) }
+        ensures { Does copies self.old self.new result (arrival_result self.old modem heard) }
     {
         if self.inbox.len() >= usize::from(self.row.get_fields().inbox) {
             return silent(alloc, copies, Some(modem), Cause::InboxFull);
@@ -241,7 +247,7 @@ impl MachineState {
         modem: Modem,
         heard: &Heard,
     ) -> Result<OutputCopies, AllocError>
-        ensures { Does copies self.old self.new result (arrival_result_of self.old modem heard.now) }
+        ensures { Does copies self.old self.new result (arrival_result self.old modem heard.now) }
     {
         let heard = heard.copy(alloc)?;
         self.take_in(alloc, copies, modem, heard)

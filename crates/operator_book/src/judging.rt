@@ -33,7 +33,7 @@ impl MachineState {
             ↔ (stranger_of self.now.row action.now ≡ Some modem) }
         ensures spent { (result ≡ Err BookFault.FramesSpent) ↔ (is_spent self.now.state action.now ≡ true) }
         ensures unfit { (u : Unfit) → (result ≡ Err (BookFault.Unfit u))
-            ↔ (unfit_of self.now.consts self.now.state action.now ≡ Some u) }
+            ↔ (unfit_of self.now action.now ≡ Some u) }
         ensures allowed { OnOk result (IsAllowed self.now action.now) }
         ensures memory { result ≡ Err BookFault.NoMemory → ⊥ }
     {

@@ -102,7 +102,7 @@ impl SoundMachine {
     /// Takes a slice that fits from a later frame on, with no memory.
     #[tactic(auto, using(crate::proofs::Replays::resliced_is, crate::proofs::Replays::reslice_allowed))]
     fn reslice(&mut self, from: u32, row: SliceRow)
-        requires { unfit_from self.old.consts self.old.state from row ≡ None }
+        requires { unfit_from self.old from row ≡ None }
         ensures { self.new ≡ after_step self.old (actions.Reslice from row) }
     {
         // For the proof: an action that is not refused leaves a sound state.
@@ -150,7 +150,7 @@ impl Machine {
             ↔ (stranger_of self.old.sound.row action ≡ Some modem) }
         ensures spent { (result ≡ Err BookFault.FramesSpent) ↔ (is_spent self.old.sound.state action ≡ true) }
         ensures unfit { (u : Unfit) → (result ≡ Err (BookFault.Unfit u))
-            ↔ (unfit_of self.old.sound.consts self.old.sound.state action ≡ Some u) }
+            ↔ (unfit_of self.old.sound action ≡ Some u) }
         ensures allowed { OnOk result (IsAllowed self.old.sound action) }
         ensures err { OnErr result (self.new.sound ≡ self.old.sound) }
     {
@@ -164,8 +164,8 @@ impl Machine {
     /// Returns whether a slice and a budget can be taken from this frame on. Takes no memory.
     pub fn offer(&self, from: u32, row: SliceRow) -> Result<(), Unfit>
         ensures unfit { (u : Unfit) → (result ≡ Err u)
-            ↔ (unfit_from self.now.sound.consts self.now.sound.state from row ≡ Some u) }
-        ensures fit { OnOk result (unfit_from self.now.sound.consts self.now.sound.state from row ≡ None) }
+            ↔ (unfit_from self.now.sound from row ≡ Some u) }
+        ensures fit { OnOk result (unfit_from self.now.sound from row ≡ None) }
     {
         match self.sound.machine.unfit_from(from, row) {
             Some(unfit) => Err(unfit),
@@ -175,7 +175,7 @@ impl Machine {
 
     /// Takes a slice that `offer` found fit. Takes no memory, and cannot fail.
     pub fn reslice(&mut self, from: u32, row: SliceRow)
-        requires { unfit_from self.old.sound.consts self.old.sound.state from row ≡ None }
+        requires { unfit_from self.old.sound from row ≡ None }
         ensures { self.new.sound ≡ after_step self.old.sound (actions.Reslice from row) }
     {
         self.sound.reslice(from, row);

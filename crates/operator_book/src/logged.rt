@@ -3,8 +3,9 @@
 ghost use Rattle.std.specs.Prelude.{◌≡◌, ◌<◌, None, IfOk, OnOk, OnErr, vec_len, vec_capacity};
 ghost use Rattle.plant.specs.Row.{IsRowOf};
 ghost use Rattle.operator_model.specs.declared.action.Action.TheVariants as actions;
-ghost use Rattle.operator_model.specs.Replay.{book_after_action};
-ghost use Rattle.operator_book.specs.OfBook.{opened_book, outputs_of, unfit_from, IsAllowed, IsReplayed, IsSound};
+ghost use Rattle.operator_model.specs.Machine.{own_step, unfit_from, IsAllowed};
+ghost use Rattle.operator_model.specs.Replay.{operator_of_book, opened_book, IsReplayed, book_after_action};
+ghost use Rattle.operator_model.specs.Sound.{IsSound};
 
 use crate::machine::{Copies, MachineState};
 use grant_policy::Ranking;
@@ -56,7 +57,7 @@ impl RecordedMachine {
         consts: &Consts,
     ) -> Result<RecordedMachine, AllocError>
         requires { IsRowOf consts.now row.now }
-        ensures { IfOk result (λ held. held.book ≡ opened_book row.now consts.now) }
+        ensures { IfOk result (λ held. held.book ≡ opened_book consts.now row.now) }
     {
         // For the proof: what the type of `row.get_fields().slice.get_length()` keeps.
         let _some = row.get_fields().slice.get_length();
@@ -74,9 +75,10 @@ impl RecordedMachine {
         action: Action,
     ) -> Result<Vec<Output>, AllocError>
         requires policy { ranking.now.policy ≡ self.old.book.row.policy }
-        requires allowed { IsAllowed self.old.book action }
+        requires allowed { IsAllowed (operator_of_book self.old.book) action }
         ensures state { OnOk result (self.new.book ≡ book_after_action self.old.book action) }
-        ensures outputs { IfOk result (λ outputs. outputs.items ≡ outputs_of self.old.book action) }
+        ensures outputs { IfOk result (λ outputs. outputs.items
+            ≡ (own_step (operator_of_book self.old.book) action).outputs) }
         ensures err { OnErr result (self.new.book ≡ self.old.book) }
     {
         // For the proof: what always holds of `self`.
@@ -101,7 +103,7 @@ impl RecordedMachine {
     /// Takes a slice that fits from a later frame on, with no memory.
     #[tactic(auto, using(crate::proofs::Replays::resliced_is))]
     pub(crate) fn reslice(&mut self, from: u32, row: SliceRow)
-        requires fit { unfit_from self.old.book from row ≡ None }
+        requires fit { unfit_from (operator_of_book self.old.book) from row ≡ None }
         requires spare { 0 < self.old.spare }
         ensures { self.new.book ≡ book_after_action self.old.book (actions.Reslice from row) }
     {
@@ -115,7 +117,7 @@ impl RecordedMachine {
     /// States what always holds, for a caller's proof. Does nothing.
     pub(crate) fn always(&self)
         ensures replay { IsReplayed self.now.book }
-        ensures sound { IsSound self.now.book }
+        ensures sound { IsSound (operator_of_book self.now.book) }
     {
         // For the proof: the replay of a history is sound, whatever was done.
         replay_is_sound();

@@ -22,7 +22,7 @@ impl MachineState {
 
     /// Returns why an offered slice cannot be taken from this frame on.
     pub(crate) fn unfit_from(&self, from: u32, row: SliceRow) -> Option<Unfit>
-        ensures { result ≡ unfit_from self.now.consts self.now.state from row }
+        ensures { result ≡ unfit_from self.now from row }
     {
         if from <= self.frame {
             return Some(Unfit::NotPast);
@@ -44,7 +44,7 @@ impl MachineState {
 
     /// Takes another slice and budget from a later frame on. Takes no memory.
     pub(crate) fn reslice(&mut self, from: u32, row: SliceRow)
-        requires { unfit_from self.old.consts self.old.state from row ≡ None }
+        requires { unfit_from self.old from row ≡ None }
         ensures { self.new ≡ with_state self.old (reslice_result self.old.state from row) }
     {
         // For the proof: what the type of `self.consts.get_fields()` keeps.

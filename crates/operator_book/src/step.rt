@@ -23,7 +23,7 @@ impl MachineState {
         requires sound { IsSound self.old }
         requires policy { ranking.now.policy ≡ self.old.row.policy }
         requires not_spent { is_spent self.old.state action.now ≡ false }
-        requires fit { unfit_of self.old.consts self.old.state action.now ≡ None }
+        requires fit { unfit_of self.old action.now ≡ None }
         ensures { Does copies self.old self.new result (own_step self.old action.now) }
     {
         match action {
@@ -54,7 +54,7 @@ impl MachineState {
         requires sound { IsSound self.old }
         requires policy { ranking.now.policy ≡ self.old.row.policy }
         requires not_spent { is_spent self.old.state action ≡ false }
-        requires fit { unfit_of self.old.consts self.old.state action ≡ None }
+        requires fit { unfit_of self.old action ≡ None }
         ensures { Does copies self.old self.new result (own_step self.old action) }
     {
         match action {

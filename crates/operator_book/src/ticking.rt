@@ -3,10 +3,10 @@
 ghost use Rattle.std.specs.Prelude.{◌≡◌, ◌<◌, ◌≤◌, ◌+◌, [], ◌∷◌, ◌++◌, map, length, IfOk, vec_capacity};
 ghost use Rattle.operator_model.specs.declared.output.Output.TheVariants as outputs;
 ghost use Rattle.flow_table.specs.Flow.{flow_after_grant};
-ghost use Rattle.operator_model.specs.Frame.{tick_result, resent, all_undone, all_granted, share_at, next_at};
+ghost use Rattle.operator_model.specs.Changed.{with_flows, with_change};
+ghost use Rattle.operator_model.specs.Frame.{tick_result, resent, all_undone, all_granted, share_at, next_at, frame_elements, frame_grants};
 ghost use Rattle.operator_model.specs.Sound.{IsSound};
 ghost use Rattle.operator_book.specs.Does.{Does};
-ghost use Rattle.operator_book.specs.Running.{with_flows, with_change, schedule_elements, granted_in};
 
 use crate::machine::{Copies, MachineState, OutputCopies};
 use grant_policy::Ranking;
@@ -72,8 +72,8 @@ impl MachineState {
     fn frame_schedule(&self, alloc: Global, ranking: &Ranking) -> Result<Served, AllocError>
         requires sound { IsSound self.now }
         requires policy { ranking.now.policy ≡ self.now.row.policy }
-        ensures elements { IfOk result (λ served. served.elements ≡ schedule_elements self.now) }
-        ensures granted { IfOk result (λ served. served.granted ≡ granted_in self.now) }
+        ensures elements { IfOk result (λ served. served.elements ≡ frame_elements self.now) }
+        ensures granted { IfOk result (λ served. served.granted ≡ frame_grants self.now) }
     {
         // For the proof: the slice in force can serve the flows.
         schedule_can_serve();
@@ -141,9 +141,9 @@ impl MachineState {
     fn frame_plan(&self, alloc: Global, ranking: &Ranking) -> Result<FramePlan, AllocError>
         requires sound { IsSound self.now }
         requires policy { ranking.now.policy ≡ self.now.row.policy }
-        ensures elements { IfOk result (λ plan. plan.elements ≡ schedule_elements self.now) }
-        ensures copied { IfOk result (λ plan. plan.copied ≡ schedule_elements self.now) }
-        ensures granted { IfOk result (λ plan. plan.granted ≡ granted_in self.now) }
+        ensures elements { IfOk result (λ plan. plan.elements ≡ frame_elements self.now) }
+        ensures copied { IfOk result (λ plan. plan.copied ≡ frame_elements self.now) }
+        ensures granted { IfOk result (λ plan. plan.granted ≡ frame_grants self.now) }
     {
         let Served { elements, granted } = self.frame_schedule(alloc, ranking)?;
         let copied = elements.copy(alloc)?;

@@ -2,13 +2,12 @@
 
 ghost use Rattle.std.specs.Prelude.{◌≡◌, ◌<◌, ◌≤◌, IfSome, Some, length};
 ghost use Rattle.admission.specs.Free.{IsLeastFree};
-ghost use Rattle.dsx_messages.specs.declared.kind.Kind.TheVariants.{Dsd};
+ghost use Rattle.dsx_messages.specs.declared.kind.Kind.TheVariants.{Dsa, Dsc, Dsd};
 ghost use Rattle.flow_table.specs.Table.{flow_at, sids_of, MayStand};
-ghost use Rattle.operator_model.specs.Asked.{transaction, free_flow};
-ghost use Rattle.operator_model.specs.Verdict.{addition_within_limit, added_under, changed_with, change_within_limit, verdict, limit_of, no_room, new_flow, added_reply, changed_flow, changed_reply, wants_sid, deletion_verdict};
+ghost use Rattle.operator_model.specs.Asked.{transaction, free_flow, addition_of, change_of};
+ghost use Rattle.operator_model.specs.Verdict.{put_within_limit, addition_within_limit, added_under, changed_with, change_within_limit, verdict, limit_of, no_room, new_flow, added_reply, changed_flow, changed_reply, wants_sid, addition_verdict, change_verdict, deletion_verdict};
 ghost use Rattle.operator_book.specs.Choices.{is_new_sid};
 ghost use Rattle.operator_book.specs.Held.{table_of, HasOwnSids, MayPut};
-ghost use Rattle.operator_book.specs.Running.{put_within_limit, addition_verdict, change_verdict};
 
 use crate::asked::{addition_of, change_of, free_flow};
 use crate::machine::MachineState;
@@ -131,7 +130,7 @@ impl MachineState {
     /// Returns what may be committed: the budget in force, and while another waits the smaller of
     /// the two; and the quota of elements.
     fn limit(&self) -> Budget
-        ensures { result ≡ limit_of self.now.row self.now.state }
+        ensures { result ≡ limit_of self.now }
     {
         let budget = match self.next {
             None => self.share.budget,
@@ -222,7 +221,13 @@ impl MachineState {
     }
 
     /// Returns a change of a flow to this SID, where there is room for it.
-    fn changed_with(&self, tid: u16, change: &Change, sid: Option<u16>, origin: SidOrigin) -> Verdict
+    fn changed_with(
+        &self,
+        tid: u16,
+        change: &Change,
+        sid: Option<u16>,
+        origin: SidOrigin,
+    ) -> Verdict
         requires stands { MayStand (table_of self.now) change.now.sfid (changed_flow change.now sid (is_new_sid origin)) }
         requires range { IfSome sid (λ n. n ≤ 8191) }
         ensures puts { MayPut (table_of self.now) result }
@@ -255,7 +260,8 @@ impl MachineState {
     /// Returns what becomes of an addition.
     #[inline(always)]
     fn addition_verdict(&self, modem: Modem, tid: u16, encodings: &[FlowTlv]) -> Verdict
-        ensures value { result ≡ addition_verdict self.now modem tid encodings.now }
+        ensures value { result ≡ addition_verdict self.now modem tid
+            (addition_of self.now.consts (transaction modem Dsa tid) encodings.now) }
         ensures puts { MayPut (table_of self.now) result }
     {
         let t = Transaction {
@@ -272,7 +278,8 @@ impl MachineState {
     /// Returns what becomes of a change.
     fn change_verdict(&self, modem: Modem, tid: u16, encodings: &[FlowTlv]) -> Verdict
         requires { HasOwnSids self.now }
-        ensures value { result ≡ change_verdict self.now modem tid encodings.now }
+        ensures value { result ≡ change_verdict self.now tid
+            (change_of self.now.consts self.now.state.flows (transaction modem Dsc tid) encodings.now) }
         ensures puts { MayPut (table_of self.now) result }
     {
         let t = Transaction {

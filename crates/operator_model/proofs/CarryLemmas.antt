@@ -73,7 +73,7 @@ module _ (op : Operator) (sound : IsSound op) (few : length op.state.kept < op.r
           subst (λ (o : Option Flow). IsSome o × IfSome o (IsWaitingOf e.kind)) (sym (ap (λ (n : ℕ). flow_at n (with_flow sfid flow op.state.flows)) is_sfid ∙ at-insert_same op.state.flows sfid flow))
           (refl, subst (λ (k : Kind). IsWaitingOf k flow) (sym is_kind) is.waits)
 
-  carried_sound : (modem : Modem) (kind : Kind) (tid : ℕ) (v : Verdict) → IsRight op kind v → IsSound (operator op.consts op.row (carried_out op.consts op.state modem kind tid v).state)
+  carried_sound : (modem : Modem) (kind : Kind) (tid : ℕ) (v : Verdict) → IsRight op kind v → IsSound (operator op.consts op.row (carried_out op modem kind tid v).state)
   carried_sound modem kind tid (Refused reply) is =
       held_sound op.state.flows (begun_entry op.consts.timers modem tid kind (spell_reply reply) 0 false) refl (stay-MayStep (sound-AreFlows sound)) sound.waiting
   carried_sound modem kind tid (Put sfid flow reply) is =

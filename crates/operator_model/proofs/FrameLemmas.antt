@@ -60,7 +60,7 @@ module _ (op : Operator) where
       by None = cond_both (nat_le op.row.transactions (length op.state.kept)) _ _ PutsNone (λ _. record { numbers = refl; frame = refl; share = refl; waits = refl }) (λ _. record { numbers = refl; frame = refl; share = refl; waits = refl })
       by (Some entry) = cond_both (same_kind entry.kind kind) _ _ PutsNone (λ _. record { numbers = refl; frame = refl; share = refl; waits = refl }) (λ _. record { numbers = refl; frame = refl; share = refl; waits = refl })
 
-  acked_none : (modem : Modem) (tid : ℕ) (kind : Kind) (code : ℕ) (o : Option ℕ) → PutsNone (acked_if op.consts op.state modem tid kind code o)
+  acked_none : (modem : Modem) (tid : ℕ) (kind : Kind) (code : ℕ) (o : Option ℕ) → PutsNone (acked_if op modem tid kind code o)
   acked_none modem tid kind code None = record { numbers = refl; frame = refl; share = refl; waits = refl }
   acked_none modem tid kind code (Some sfid) = record { numbers = refl; frame = refl; share = refl; waits = refl }
 
@@ -88,7 +88,7 @@ module _ (op : Operator) where
   worked_none [] = record { numbers = refl; frame = refl; share = refl; waits = refl }
   worked_none (first ∷ others) = let ran = handle_none first.modem first.heard in record { numbers = ran.numbers; frame = ran.frame; share = ran.share; waits = ran.waits }
 
-  pub arrived_none : (modem : Modem) (heard : Heard) → PutsNone (arrival_result op.row op.state modem heard)
+  pub arrived_none : (modem : Modem) (heard : Heard) → PutsNone (arrival_result op modem heard)
   arrived_none modem heard = cond_both (nat_le op.row.inbox (length op.state.inbox)) _ _ PutsNone (λ _. record { numbers = refl; frame = refl; share = refl; waits = refl }) (λ _. record { numbers = refl; frame = refl; share = refl; waits = refl })
 
   -- what is resent is no frame

@@ -63,10 +63,10 @@ module _ (op : Operator) (sound : IsSound op) where
       (λ _. at-change_other q sfid apart op.state.flows (flows.flow_after_ack op.state.frame))
       (λ _. at-undone_other q sfid apart op.state.flows kind)
 
-  pub acked_sound : (modem : Modem) (tid : ℕ) (kind : Kind) (code : ℕ) → IsSound (operator op.consts op.row (ack_result op.consts op.state modem tid kind code).state)
+  pub acked_sound : (modem : Modem) (tid : ℕ) (kind : Kind) (code : ℕ) → IsSound (operator op.consts op.row (ack_result op modem tid kind code).state)
   acked_sound modem tid kind code = by (find (waits_for modem tid kind) op.state.kept) refl
     where
-      by : (o : Option KeptEntry) → find (waits_for modem tid kind) op.state.kept ≡ o → IsSound (operator op.consts op.row (acked_if op.consts op.state modem tid kind code (option_map (λ entry. entry.sfid) o)).state)
+      by : (o : Option KeptEntry) → find (waits_for modem tid kind) op.state.kept ≡ o → IsSound (operator op.consts op.row (acked_if op modem tid kind code (option_map (λ entry. entry.sfid) o)).state)
       by None is = sound
       by (Some x) is =
           let apart = find-apart (waits_for modem tid kind) (waits_for_waits modem tid kind) op.state.kept x sound.own_flows is in

@@ -90,7 +90,7 @@ module _ (op : Operator) (sound : IsSound op) where
   flows = flowing_in op.state.flows
 
   abbrev made_of : List Flowing → ElementsFields
-  made_of fs = elements_of op.row.policy (at_frame op.consts op.state) fs
+  made_of fs = elements_of op.row.policy (at_frame op) fs
 
   same : made_of flows ≡ frame_elements op
   same = ap made_of (sym (flows_left_same op sound))
@@ -109,23 +109,23 @@ module _ (op : Operator) (sound : IsSound op) where
       (λ k d lt. (sound.flows k d lt, sids-each (IsIn op.row.sids) op.state.flows sound.sids k d lt))
 
   pub part_tiled : IsTiled (frame_elements op)
-  part_tiled = subst IsTiled same (elements-tiled op.row.policy (at_frame op.consts op.state) flows (can_ascend op sound) (can_fit op sound) kinds)
+  part_tiled = subst IsTiled same (elements-tiled op.row.policy (at_frame op) flows (can_ascend op sound) (can_fit op sound) kinds)
 
   pub part_spans : list_all (λ span. is_own_sid op.row.sids span.sid) (frame_elements op).spans ≡ true
   part_spans = subst (λ (e : ElementsFields). list_all (λ span. is_own_sid op.row.sids span.sid) e.spans ≡ true) same
-      (all-list_all (λ (span : Span). is_own_sid op.row.sids span.sid) (made_of flows).spans (spans-named (λ sid. is_own_sid op.row.sids sid ≡ true) op.row.policy (at_frame op.consts op.state) flows own refl))
+      (all-list_all (λ (span : Span). is_own_sid op.row.sids span.sid) (made_of flows).spans (spans-named (λ sid. is_own_sid op.row.sids sid ≡ true) op.row.policy (at_frame op) flows own refl))
 
   pub part_pending : list_all (is_own_sid op.row.sids) (frame_elements op).pending ≡ true
   part_pending = subst (λ (e : ElementsFields). list_all (is_own_sid op.row.sids) e.pending ≡ true) same
-      (all-list_all (is_own_sid op.row.sids) (made_of flows).pending (pending-named (λ sid. is_own_sid op.row.sids sid ≡ true) op.row.policy (at_frame op.consts op.state) flows own))
+      (all-list_all (is_own_sid op.row.sids) (made_of flows).pending (pending-named (λ sid. is_own_sid op.row.sids sid ≡ true) op.row.policy (at_frame op) flows own))
 
   pub part_some : IsRow op.row → All (λ sid. sid ≢ 0) (frame_elements op).pending
   part_some keys = subst (λ (e : ElementsFields). All (λ sid. sid ≢ 0) e.pending) same
-      (All-from_recursion (λ sid. sid ≢ 0) (made_of flows).pending (pending-named (λ sid. sid ≢ 0) op.row.policy (at_frame op.consts op.state) flows (some keys)))
+      (All-from_recursion (λ sid. sid ≢ 0) (made_of flows).pending (pending-named (λ sid. sid ≢ 0) op.row.policy (at_frame op) flows (some keys)))
 
   pub part_nobody : IsRow op.row → count_by (λ (span : Span). span.sid == 0) (frame_elements op).spans ≤ 1
-  part_nobody keys = subst (λ (e : ElementsFields). count_by (λ (span : Span). span.sid == 0) e.spans ≤ 1) same (one-nobody op.row.policy (at_frame op.consts op.state) flows (some keys))
+  part_nobody keys = subst (λ (e : ElementsFields). count_by (λ (span : Span). span.sid == 0) e.spans ≤ 1) same (one-nobody op.row.policy (at_frame op) flows (some keys))
 
   pub part_few : length (frame_elements op).spans + length (frame_elements op).pending ≤ op.row.elements + 1
   part_few = subst (λ (e : ElementsFields). length e.spans + length e.pending ≤ op.row.elements + 1) same
-      (omega (arith, elements-few op.row.policy (at_frame op.consts op.state) flows asks, elements_within (at_frame op.consts op.state) op.state.flows sound.flows, sound.elements))
+      (omega (arith, elements-few op.row.policy (at_frame op) flows asks, elements_within (at_frame op) op.state.flows sound.flows, sound.elements))

@@ -97,5 +97,5 @@ module _ (op : Operator) (sound : IsSound op) where
   pub can_pass : All (IsPast op.state.frame) (flowing_in op.state.flows)
   can_pass = past op.state.frame op.state.flows sound.flows
 
-  pub can_fit : total_need (at_frame op.consts op.state) (flowing_in op.state.flows) ≤ op.state.share.slice.length
-  can_fit = omega (arith, within (at_frame op.consts op.state) op.state.flows sound.flows, sound.minislots, sound.share.budget)
+  pub can_fit : total_need (at_frame op) (flowing_in op.state.flows) ≤ op.state.share.slice.length
+  can_fit = omega (arith, within (at_frame op) op.state.flows sound.flows, sound.minislots, sound.share.budget)

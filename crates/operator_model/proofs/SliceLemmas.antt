@@ -113,7 +113,7 @@ module _ (op : Operator) (to_come : IsToCome op.state.frame op.state.next) where
     same = λ n le. ap (λ (s : Share). slice_then s ran.state.next n) still.share ∙ ap (λ (o : Option NextShare). slice_then op.state.share o n) still.waits;
   }
 
-  offered : (from : ℕ) (slice_row : SliceRow) → unfit_from op.consts op.state from slice_row ≡ None → Slices op.state (record { from = from; slice = record { start = slice_row.start; length = slice_row.length } } ∷ []) (reslice_result op.state from slice_row).state
+  offered : (from : ℕ) (slice_row : SliceRow) → unfit_from op from slice_row ≡ None → Slices op.state (record { from = from; slice = record { start = slice_row.start; length = slice_row.length } } ∷ []) (reslice_result op.state from slice_row).state
   offered from slice_row fit =
       let past = passed (nat_le from op.state.frame) NotPast _ fit in
       let free = passed (is_some op.state.next) Unfinished _ past.1 in
@@ -126,7 +126,7 @@ module _ (op : Operator) (to_come : IsToCome op.state.frame op.state.next) where
 
   step_slices : (action : Action) → IsAllowed op action → Slices op.state (cons_option (slice_from action) []) (own_step op action).state
   unfolding own_step
-  step_slices (Arrive modem heard) allowed = stays (arrival_result op.row op.state modem heard) (arrived_none op modem heard)
+  step_slices (Arrive modem heard) allowed = stays (arrival_result op modem heard) (arrived_none op modem heard)
   step_slices Work allowed = stays (work_result op op.state.inbox) (worked_none op op.state.inbox)
   step_slices Tick allowed = record {
     on = omega arith;

@@ -33,7 +33,7 @@ passed true x o none = absurd (none-some x (sym none))
 passed false x o none = (refl, none)
 
 module _ (op : Operator) (sound : IsSound op) where
-  is_next : (from : ℕ) (offered : SliceRow) → unfit_from op.consts op.state from offered ≡ None
+  is_next : (from : ℕ) (offered : SliceRow) → unfit_from op from offered ≡ None
       → IsNextShare op.consts op.state.frame (committed_minislots op.consts.units op.state.flows) (record { from = from; share = record { slice = record { start = offered.start; length = offered.length }; budget = offered.budget } })
   is_next from offered fit =
       let a = passed (nat_le from op.state.frame) NotPast _ fit in
@@ -54,7 +54,7 @@ module _ (op : Operator) (sound : IsSound op) where
         fits = ltb-false offered.budget (committed_minislots op.consts.units op.state.flows) e.0;
       }
 
-  resliced_sound : (from : ℕ) (offered : SliceRow) → unfit_from op.consts op.state from offered ≡ None → IsSound (operator op.consts op.row (reslice_result op.state from offered).state)
+  resliced_sound : (from : ℕ) (offered : SliceRow) → unfit_from op from offered ≡ None → IsSound (operator op.consts op.row (reslice_result op.state from offered).state)
   resliced_sound from offered fit = record {
     ascending = sound.ascending;
     sfids = sound.sfids;
@@ -74,7 +74,7 @@ module _ (op : Operator) (sound : IsSound op) where
 
   -- ---- the inbox
 
-  arrived_sound : (modem : Modem) (heard : Heard) → IsSound (operator op.consts op.row (arrival_result op.row op.state modem heard).state)
+  arrived_sound : (modem : Modem) (heard : Heard) → IsSound (operator op.consts op.row (arrival_result op modem heard).state)
   arrived_sound modem heard = cond_both (nat_le op.row.inbox (length op.state.inbox)) _ _ (λ (ran : StepResult). IsSound (operator op.consts op.row ran.state)) (λ _. sound)
       (λ room. inbox_on sound (op.state.inbox ++ record { modem = modem; heard = heard } ∷ []) (omega (arith, leb-false _ _ room, length_push {X = Arrival} op.state.inbox (record { modem = modem; heard = heard }))))
 

@@ -64,9 +64,9 @@ module _ (op : Operator) (sound : IsSound op) where
 
   pub tick_sound : IsSound (operator op.consts op.row (tick_result op).state)
   tick_sound =
-      let step = granted-step (granted_of op.row.policy (at_frame op.consts op.state) (flowing_in (flows_left op.state))) in
+      let step = granted-step (granted_of op.row.policy (at_frame op) (flowing_in (flows_left op.state))) in
       let less = then-CommitLess step.less undone-step.less in
-      let after : List (ℕ × Flow) = all_granted op.state.frame (granted_of op.row.policy (at_frame op.consts op.state) (flowing_in (flows_left op.state))) (flows_left op.state) in
+      let after : List (ℕ × Flow) = all_granted op.state.frame (granted_of op.row.policy (at_frame op) (flowing_in (flows_left op.state))) (flows_left op.state) in
       let shares = turned op.consts op.state.frame (committed_minislots op.consts.units op.state.flows) (committed_minislots op.consts.units after) op.state.share op.state.next (record { share = sound.share; budget = sound.minislots; next = sound.next }) less.minislots in
       record {
         ascending = step.are.ascending;
@@ -77,7 +77,7 @@ module _ (op : Operator) (sound : IsSound op) where
         few_flows = step.are.few;
         few_kept = omega (arith, kept-few op.consts.timers op.state.kept, sound.few_kept);
         few_heard = sound.few_heard;
-        waiting = waiting-after (granted_of op.row.policy (at_frame op.consts op.state) (flowing_in (flows_left op.state)));
+        waiting = waiting-after (granted_of op.row.policy (at_frame op) (flowing_in (flows_left op.state)));
         own_flows = kept-apart op.consts.timers op.state.kept sound.own_flows;
         elements = omega (arith, less.elements, sound.elements);
         minislots = shares.budget;

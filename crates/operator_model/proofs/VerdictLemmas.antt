@@ -59,7 +59,7 @@ module _ (op : Operator) (sound : IsSound op) where
   abbrev Right : Kind → Verdict → Type 0
   Right kind v = IsRight op kind v
 
-  right-within : (kind told : Kind) (tid : ℕ) (flows : List (ℕ × Flow)) (v : Verdict) → (AreAllowed op flows → Right kind v) → Right kind (within_limit told tid op.consts.units (limit_of op.row op.state) flows v)
+  right-within : (kind told : Kind) (tid : ℕ) (flows : List (ℕ × Flow)) (v : Verdict) → (AreAllowed op flows → Right kind v) → Right kind (within_limit told tid op.consts.units (limit_of op) flows v)
   right-within kind told tid flows v right =
       cond_both (nat_lt op.row.elements (committed_elements op.consts.units flows)) _ _ (Right kind) (λ _. tt)
       (λ few. cond_both (nat_lt (minislots_allowed op.state.share.budget op.state.next) (committed_minislots op.consts.units flows)) _ _ (Right kind) (λ _. tt)

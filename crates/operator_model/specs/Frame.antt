@@ -7,7 +7,6 @@ use Rattle.transactions.specs.Timers.{resent_in, given_up_in, kept_after}
 use Rattle.slice_scheduler.specs.declared.flowing.AtFields.{AtFields}
 use Rattle.slice_scheduler.specs.declared.elements.ElementsFields.{ElementsFields}
 use Rattle.slice_scheduler.specs.Schedule.{elements_of, granted_of}
-use Rattle.plant.specs.declared.consts.ConstsFields.{ConstsFields}
 use Rattle.flow_table.specs.declared.flow.Flow.{Flow}
 use Rattle.flow_table.specs.Flow.{flow_after_grant}
 use Rattle.flow_table.specs.Table.{flowing_in}
@@ -32,8 +31,8 @@ all_undone (g ∷ given_up) flows = all_undone given_up (undone g.kind g.sfid fl
 -- ---- the frame
 
 -- the frame that is scheduled, in the slice in force
-abbrev pub at_frame : ConstsFields → OperatorState → AtFields
-at_frame consts state = record { slice = state.share.slice; frame = state.frame; short_max = consts.short_max; units = consts.units }
+abbrev pub at_frame : Operator → AtFields
+at_frame op = record { slice = op.state.share.slice; frame = op.state.frame; short_max = op.consts.short_max; units = op.consts.units }
 
 -- each grant lowers its flow's backlog
 abbrev pub all_granted : ℕ → List (ℕ × ℕ) → List (ℕ × Flow) → List (ℕ × Flow)
@@ -59,13 +58,17 @@ flows_left state = all_undone (given_up_in state.kept) state.flows
 
 -- the elements that a tick outputs: the frame, scheduled over the flows that are left
 abbrev pub frame_elements : Operator → ElementsFields
-frame_elements op = elements_of op.row.policy (at_frame op.consts op.state) (flowing_in (flows_left op.state))
+frame_elements op = elements_of op.row.policy (at_frame op) (flowing_in (flows_left op.state))
+
+-- and the minislots that it grants to flows
+abbrev pub frame_grants : Operator → List (ℕ × ℕ)
+frame_grants op = granted_of op.row.policy (at_frame op) (flowing_in (flows_left op.state))
 
 -- resends in the order of their transactions, then the frame; then the next frame
 abbrev pub tick_result : Operator → StepResult
 tick_result op = record {
   state = record {
-    flows = all_granted op.state.frame (granted_of op.row.policy (at_frame op.consts op.state) (flowing_in (flows_left op.state))) (flows_left op.state);
+    flows = all_granted op.state.frame (frame_grants op) (flows_left op.state);
     kept = kept_after op.consts.timers op.state.kept;
     inbox = op.state.inbox;
     frame = op.state.frame + 1;

@@ -1,5 +1,5 @@
 -- How what was received is handled (CM-SP-MULPIv3.1, 7.2 and 11.2; the cached responses are implementation-specific).
-use Rattle.std.specs.Prelude.{◌==◌, ℕ, Bool, true, false, not, List, [], ◌∷◌, ◌++◌, map, length, find, nat_le, Option, Some, None, Result, Ok, Err, if◌then◌else◌}
+use Rattle.std.specs.Prelude.{◌≡◌, ◌==◌, ◌<◌, ℕ, Bool, true, false, not, List, [], ◌∷◌, ◌++◌, map, length, find, nat_le, Option, Some, None, IsNone, Result, Ok, Err, if◌then◌else◌}
 use Rattle.std.specs.Option.{option_map}
 use Rattle.std.specs.Ordering.{nat_cmp}
 use Rattle.std.specs.Map.{remove_entry}
@@ -21,7 +21,6 @@ use Rattle.transactions.specs.declared.entry.KeptEntry.{KeptEntry}
 use Rattle.transactions.specs.Entry.{same_kind, is_of, waits_for}
 use Rattle.transactions.specs.Keeping.{begun_entry}
 use Rattle.transactions.specs.Keeping as keeping
-use Rattle.plant.specs.declared.consts.ConstsFields.{ConstsFields}
 use Rattle.plant.specs.Row.{same_modem}
 use Rattle.flow_table.specs.declared.flow.Flow.{Flow}
 use Rattle.flow_table.specs.Flow.{asks_for_grants, flow_after_ack, taken_back, flow_after_request}
@@ -47,6 +46,10 @@ pub record StepResult : Type 0 where
 -- nothing changes, and nothing is answered
 abbrev pub silent : OperatorState → Modem → Cause → StepResult
 silent state modem cause = record { state = state; outputs = outputs.Silent (Some modem) cause ∷ [] }
+
+-- this reply alone is output
+abbrev pub reply_output : Modem → ReplyFields → List Output
+reply_output modem reply = outputs.Reply modem (spell_reply reply) ∷ []
 
 -- nothing changes, and these bytes are answered
 abbrev pub reply_result : OperatorState → Modem → List ℕ → StepResult
@@ -89,13 +92,13 @@ does_wait (Put sfid flow reply) = true
 does_wait (Deleted sfid reply) = false
 
 -- the verdict is carried out, and its reply is reported and kept
-abbrev pub carried_out : ConstsFields → OperatorState → Modem → Kind → ℕ → Verdict → StepResult
-carried_out consts state modem kind tid v = record {
-  state = record state {
-    flows = flows_after v state.flows;
-    kept = state.kept ++ begun_entry consts.timers modem tid kind (spell_reply (reply_of v)) (sfid_of v) (does_wait v) ∷ [];
+abbrev pub carried_out : Operator → Modem → Kind → ℕ → Verdict → StepResult
+carried_out op modem kind tid v = record {
+  state = record op.state {
+    flows = flows_after v op.state.flows;
+    kept = op.state.kept ++ begun_entry op.consts.timers modem tid kind (spell_reply (reply_of v)) (sfid_of v) (does_wait v) ∷ [];
   };
-  outputs = outputs.Reply modem (spell_reply (reply_of v)) ∷ [];
+  outputs = reply_output modem (reply_of v);
 }
 
 -- transaction IDs from 0x8000 on are the CMTS's
@@ -111,13 +114,24 @@ abbrev pub new_unless : Operator → Modem → Kind → ℕ → Verdict → Opti
 new_unless op modem kind tid v (Some entry) = repeat_result op.state modem kind entry
 new_unless op modem kind tid v None =
     if nat_le op.row.transactions (length op.state.kept) then reply_result op.state modem (spell_reply (refusal kind tid codes.RejectTemporary)) else
-    carried_out op.consts op.state modem kind tid v
+    carried_out op modem kind tid v
 
 -- checks 1 to 3, which do not ask what the request says further; then the verdict
 abbrev pub transaction_result : Operator → Modem → Kind → ℕ → Verdict → StepResult
 transaction_result op modem kind tid v =
     if is_of_cmts tid then reply_result op.state modem (spell_reply (refusal kind tid codes.RejectUnknownTransaction)) else
     new_unless op modem kind tid v (find (is_of modem tid) op.state.kept)
+
+-- whatever the verdict would be, nothing changes, and this is output
+abbrev pub IsAnswered : Operator → Modem → Kind → ℕ → List Output → Type 0
+IsAnswered op modem kind tid outputs =
+    (v : Verdict) → transaction_result op modem kind tid v ≡ record { state = op.state; outputs = outputs }
+
+-- whatever the verdict is, it is carried out, and there is room to keep its reply
+pub record IsCarriedOut (op : Operator) (modem : Modem) (kind : Kind) (tid : ℕ) : Type 0 where
+  pub judged : (v : Verdict) → transaction_result op modem kind tid v ≡ carried_out op modem kind tid v
+  pub free : IsNone (find (is_of modem tid) op.state.kept)
+  pub room : length op.state.kept < op.row.transactions
 
 -- ---- an acknowledgement
 
@@ -126,19 +140,19 @@ abbrev pub flows_acked : Kind → ℕ → ℕ → ℕ → List (ℕ × Flow) →
 flows_acked kind code frame sfid flows = if code == 0 then change_at sfid (flow_after_ack frame) flows else undone kind sfid flows
 
 -- nothing waits for it; else the entry that did is held from now on
-abbrev pub acked_if : ConstsFields → OperatorState → Modem → ℕ → Kind → ℕ → Option ℕ → StepResult
-acked_if consts state modem tid kind code None = silent state modem causes.UnknownAck
-acked_if consts state modem tid kind code (Some sfid) = record {
-  state = record state {
-    flows = flows_acked kind code state.frame sfid state.flows;
-    kept = map (keeping.entry_after_ack consts.timers modem tid kind) state.kept;
+abbrev pub acked_if : Operator → Modem → ℕ → Kind → ℕ → Option ℕ → StepResult
+acked_if op modem tid kind code None = silent op.state modem causes.UnknownAck
+acked_if op modem tid kind code (Some sfid) = record {
+  state = record op.state {
+    flows = flows_acked kind code op.state.frame sfid op.state.flows;
+    kept = map (keeping.entry_after_ack op.consts.timers modem tid kind) op.state.kept;
   };
   outputs = [];
 }
 
-abbrev pub ack_result : ConstsFields → OperatorState → Modem → ℕ → Kind → ℕ → StepResult
-ack_result consts state modem tid kind code =
-    acked_if consts state modem tid kind code (option_map (λ entry. entry.sfid) (find (waits_for modem tid kind) state.kept))
+abbrev pub ack_result : Operator → Modem → ℕ → Kind → ℕ → StepResult
+ack_result op modem tid kind code =
+    acked_if op modem tid kind code (option_map (λ entry. entry.sfid) (find (waits_for modem tid kind) op.state.kept))
 
 -- ---- a message
 
@@ -160,7 +174,7 @@ message_handled op modem (Err faults.Short) = silent op.state modem causes.Short
 message_handled op modem (Err (faults.Tlv tid kind id fault)) = transaction_result op modem kind tid (Refused (encoding_refusal kind tid id fault))
 message_handled op modem (Err (faults.LeftOut tid kind found)) = transaction_result op modem kind tid (Refused (refusal kind tid codes.RejectUnrecognizedSetting))
 message_handled op modem (Err faults.NoMemory) = silent op.state modem causes.NotOurs
-message_handled op modem (Ok (messages.Ack kind tid code)) = ack_result op.consts op.state modem tid kind code
+message_handled op modem (Ok (messages.Ack kind tid code)) = ack_result op modem tid kind code
 message_handled op modem (Ok (messages.Request request)) =
     transaction_result op modem (kind_of request) (tid_of request) (verdict op modem request)
 
@@ -174,8 +188,11 @@ asked_of_flow state modem minislots (Some entry) =
     if not (asks_for_grants entry.1.sets.active) then silent state modem causes.NotRequesting else
     record { state = record state { flows = with_flow entry.0 (flow_after_request minislots state.frame entry.1) state.flows }; outputs = [] }
 
+abbrev pub bandwidth_request_result : Operator → Modem → ℕ → ℕ → StepResult
+bandwidth_request_result op modem sid minislots = asked_of_flow op.state modem minislots (flow_with sid op.state.flows)
+
 -- ---- what was received
 
 abbrev pub handle : Operator → Modem → Heard → StepResult
 handle op modem (heards.Message bytes) = message_handled op modem (message_of bytes)
-handle op modem (heards.Request sid minislots) = asked_of_flow op.state modem minislots (flow_with sid op.state.flows)
+handle op modem (heards.Request sid minislots) = bandwidth_request_result op modem sid minislots

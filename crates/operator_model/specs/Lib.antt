@@ -1,4 +1,5 @@
 pub mod State
+pub mod Changed
 pub mod Asked
 pub mod Verdict
 pub mod Handle

@@ -15,16 +15,16 @@ use Rattle.operator_model.specs.declared.action.Unfit.TheVariants.{NotPast, Unfi
 use Rattle.operator_model.specs.declared.output.Cause.TheVariants.{InboxFull, Idle}
 use Rattle.operator_model.specs.declared.output.Output.TheVariants as outputs
 use Rattle.operator_model.specs.State.{OperatorState, Operator}
-use Rattle.operator_model.specs.Handle.{StepResult, handle}
+use Rattle.operator_model.specs.Handle.{StepResult, silent, handle}
 use Rattle.operator_model.specs.Frame.{tick_result}
 
 -- ---- the actions
 
 -- to the end of the inbox; a full inbox drops it
-abbrev pub arrival_result : RowFields → OperatorState → Modem → Heard → StepResult
-arrival_result row state modem heard =
-    if nat_le row.inbox (length state.inbox) then record { state = state; outputs = outputs.Silent (Some modem) InboxFull ∷ [] }
-    else record { state = record state { inbox = state.inbox ++ record { modem = modem; heard = heard } ∷ [] }; outputs = [] }
+abbrev pub arrival_result : Operator → Modem → Heard → StepResult
+arrival_result op modem heard =
+    if nat_le op.row.inbox (length op.state.inbox) then silent op.state modem InboxFull
+    else record { state = record op.state { inbox = op.state.inbox ++ record { modem = modem; heard = heard } ∷ [] }; outputs = [] }
 
 -- what was handled is taken out of the inbox
 abbrev pub taken_out : List Arrival → StepResult → StepResult
@@ -45,7 +45,7 @@ reslice_result state from row = record {
 }
 
 unfoldable pub own_step : Operator → Action → StepResult
-own_step o (Arrive modem heard) = arrival_result o.row o.state modem heard
+own_step o (Arrive modem heard) = arrival_result o modem heard
 own_step o Work = work_result o o.state.inbox
 own_step o Tick = tick_result o
 own_step o (Reslice from slice_row) = reslice_result o.state from slice_row
@@ -71,26 +71,26 @@ abbrev pub is_off_frame : ConstsFields → SliceRow → Bool
 is_off_frame consts row = (row.length == 0) || nat_lt row.start consts.channel.head || nat_lt consts.channel.frame_minislots (row.start + row.length)
 
 -- why a slice cannot be taken from this frame on
-abbrev pub unfit_from : ConstsFields → OperatorState → ℕ → SliceRow → Option Unfit
-unfit_from consts state from row =
-    if nat_le from state.frame then Some NotPast else
-    if is_some state.next then Some Unfinished else
-    if is_off_frame consts row then Some OffFrame else
+abbrev pub unfit_from : Operator → ℕ → SliceRow → Option Unfit
+unfit_from o from row =
+    if nat_le from o.state.frame then Some NotPast else
+    if is_some o.state.next then Some Unfinished else
+    if is_off_frame o.consts row then Some OffFrame else
     if nat_lt row.length row.budget then Some BudgetOverSlice else
-    if nat_lt row.budget (committed_minislots consts.units state.flows) then Some OverBudget else
+    if nat_lt row.budget (committed_minislots o.consts.units o.state.flows) then Some OverBudget else
     None
 
-abbrev pub unfit_of : ConstsFields → OperatorState → Action → Option Unfit
-unfit_of consts state (Arrive modem heard) = None
-unfit_of consts state Work = None
-unfit_of consts state Tick = None
-unfit_of consts state (Reslice from row) = unfit_from consts state from row
+abbrev pub unfit_of : Operator → Action → Option Unfit
+unfit_of o (Arrive modem heard) = None
+unfit_of o Work = None
+unfit_of o Tick = None
+unfit_of o (Reslice from row) = unfit_from o from row
 
 -- an action that is not refused
 pub record IsAllowed (o : Operator) (action : Action) : Type 0 where
   pub mine : stranger_of o.row action ≡ None
   pub not_spent : is_spent o.state action ≡ false
-  pub fit : unfit_of o.consts o.state action ≡ None
+  pub fit : unfit_of o action ≡ None
 
 -- ---- runs
 

@@ -35,11 +35,23 @@ pub record BookView : Type 0 where
   pub state : OperatorState
   pub history : List Entry
 
+-- the operator whose book it is, as it is now
+abbrev pub operator_of_book : BookView → Operator
+operator_of_book b = operator b.consts b.row b.state
+
+-- a book with nothing done
+abbrev pub opened_book : ConstsFields → RowFields → BookView
+opened_book consts row = record { row = row; consts = consts; state = opened_state consts row; history = [] }
+
+-- the state is the replay of the history
+abbrev pub IsReplayed : BookView → Type 0
+IsReplayed b = IsReplay b.consts b.row b.history b.state
+
 -- all that an action changes: the state by the machine, and one more entry
 abbrev pub book_after_action : BookView → Action → BookView
 book_after_action b action = record {
   row = b.row;
   consts = b.consts;
-  state = (own_step (operator b.consts b.row b.state) action).state;
-  history = b.history ++ record { action = action; outputs = (own_step (operator b.consts b.row b.state) action).outputs } ∷ [];
+  state = (own_step (operator_of_book b) action).state;
+  history = b.history ++ record { action = action; outputs = (own_step (operator_of_book b) action).outputs } ∷ [];
 }

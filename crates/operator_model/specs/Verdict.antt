@@ -16,7 +16,6 @@ use Rattle.admission.specs.Free.{least_free_of}
 use Rattle.admission.specs.declared.budget.Budget.{Budget}
 use Rattle.param_sets.specs.Units.{UnitSizes}
 use Rattle.param_sets.specs.declared.sets.SetsFields.{SetsFields}
-use Rattle.plant.specs.declared.operator_row.RowFields.{RowFields}
 use Rattle.flow_table.specs.declared.flow.Flow.{Flow}
 use Rattle.flow_table.specs.Table.{sfids_of, sids_of, flow_at, with_flow, committed_minislots, committed_elements}
 use Rattle.operator_model.specs.declared.share.NextShare.{NextShare}
@@ -24,7 +23,7 @@ use Rattle.operator_model.specs.declared.verdict.Addition.{Addition}
 use Rattle.operator_model.specs.declared.verdict.Change.{Change}
 use Rattle.operator_model.specs.declared.verdict.Verdict.{Verdict}
 use Rattle.operator_model.specs.declared.verdict.Verdict.TheVariants.{Refused, Put, Deleted}
-use Rattle.operator_model.specs.State.{OperatorState, Operator}
+use Rattle.operator_model.specs.State.{Operator}
 use Rattle.operator_model.specs.Asked.{transaction, refusal, free_flow, addition_of, change_of}
 
 -- ---- what may be committed
@@ -35,8 +34,8 @@ minislots_allowed budget None = budget
 minislots_allowed budget (Some next) = min budget next.share.budget
 
 -- the budget in force and the operator's quota of elements
-abbrev pub limit_of : RowFields → OperatorState → Budget
-limit_of row state = record { minislots = minislots_allowed state.share.budget state.next; elements = row.elements }
+abbrev pub limit_of : Operator → Budget
+limit_of op = record { minislots = minislots_allowed op.state.share.budget op.state.next; elements = op.row.elements }
 
 -- there is no room for what is asked
 abbrev pub no_room : Kind → ℕ → Verdict
@@ -48,6 +47,12 @@ within_limit kind tid units limit flows verdict =
     if nat_lt limit.elements (committed_elements units flows) then no_room kind tid else
     if nat_lt limit.minislots (committed_minislots units flows) then no_room kind tid else
     verdict
+
+-- the flow is put under the SFID, unless more would be committed with it than may be
+abbrev pub put_within_limit : Operator → Kind → ℕ → ℕ → Flow → ReplyFields → Verdict
+put_within_limit op kind tid sfid flow reply =
+    within_limit kind tid op.consts.units (limit_of op) (with_flow sfid flow op.state.flows)
+    (Put sfid flow reply)
 
 -- ---- an addition: checks 17 to 21
 
@@ -71,8 +76,7 @@ abbrev pub added_under : Operator → Modem → ℕ → Addition → Option ℕ 
 added_under op modem tid addition None sid = no_room Dsa tid
 added_under op modem tid addition (Some sfid) None = no_room Dsa tid
 added_under op modem tid addition (Some sfid) (Some sid) =
-    within_limit Dsa tid op.consts.units (limit_of op.row op.state) (with_flow sfid (new_flow modem op.state.frame addition.sets sid) op.state.flows)
-    (Put sfid (new_flow modem op.state.frame addition.sets sid) (added_reply tid addition.reference sfid sid))
+    put_within_limit op Dsa tid sfid (new_flow modem op.state.frame addition.sets sid) (added_reply tid addition.reference sfid sid)
 
 -- as many flows are as the row allows; else the flow gets the least free identifiers
 unfoldable pub addition_within_limit : Operator → Modem → ℕ → Addition → Verdict
@@ -92,8 +96,7 @@ changed_reply tid sfid sets sid = record { kind = Dsc; tid = tid; code = codes.O
 
 abbrev pub changed_with : Operator → ℕ → Change → Option ℕ → Bool → Verdict
 changed_with op tid change sid sid_is_new =
-    within_limit Dsc tid op.consts.units (limit_of op.row op.state) (with_flow change.sfid (changed_flow change sid sid_is_new) op.state.flows)
-    (Put change.sfid (changed_flow change sid sid_is_new) (changed_reply tid change.sfid change.sets sid))
+    put_within_limit op Dsc tid change.sfid (changed_flow change sid sid_is_new) (changed_reply tid change.sfid change.sets sid)
 
 -- no SID is free; else it is the flow's
 abbrev pub changed_with_new : Operator → ℕ → Change → Option ℕ → Verdict

@@ -14,7 +14,7 @@ use Rattle.operator_model.specs.declared.action.Action.TheVariants.{Arrive, Work
 use Rattle.operator_model.specs.declared.output.Cause.{Cause}
 use Rattle.operator_model.specs.declared.output.Output.{Output}
 use Rattle.operator_model.specs.declared.output.Output.TheVariants.{Reply, Silent, Frame}
-use Rattle.operator_model.specs.State.{operator, OperatorState, opened_state}
+use Rattle.operator_model.specs.State.{Operator, operator, OperatorState, opened_state}
 use Rattle.operator_model.specs.Machine.{own_run}
 
 -- frames of 72 minislots of 16 bytes in 2 ms, the first 8 of them for all modems
@@ -128,6 +128,9 @@ answers consts row actions = (own_run (operator consts row (opened_state consts 
 -- and the state that it leads to
 abbrev pub after : ConstsFields → RowFields → List Action → OperatorState
 after consts row actions = (own_run (operator consts row (opened_state consts row)) actions).state
+
+abbrev pub operator_after : ConstsFields → RowFields → List Action → Operator
+operator_after consts row actions = operator consts row (after consts row actions)
 
 abbrev pub hex_reply : Modem → List ℕ → Output
 hex_reply modem text = Reply modem (hex text)

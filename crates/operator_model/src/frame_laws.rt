@@ -19,7 +19,7 @@ pub fn schedule_can_serve()
     ensures ascending { (op : Operator) → IsSound op → SfidsAscend (flowing_in op.state.flows) }
     ensures past { (op : Operator) → IsSound op → All (IsPast op.state.frame) (flowing_in op.state.flows) }
     ensures within { (op : Operator) → IsSound op
-        → total_need (at_frame op.consts op.state) (flowing_in op.state.flows) ≤ op.state.share.slice.length }
+        → total_need (at_frame op) (flowing_in op.state.flows) ≤ op.state.share.slice.length }
 {}
 
 /// States that what a tick abandons is not scheduled, and leaves all that is scheduled: a new flow

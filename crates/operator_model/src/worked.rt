@@ -9,7 +9,7 @@ ghost use Rattle.operator_model.specs.declared.action.Unfit.TheVariants.{NotPast
 ghost use Rattle.operator_model.specs.declared.heard.Heard.TheVariants.{Message};
 ghost use Rattle.operator_model.specs.declared.output.Cause.TheVariants.{Empty, Idle, InboxFull, NoSuchSid, NotOurs, NotRequesting, Short, TidInUse, UnknownAck};
 ghost use Rattle.operator_model.specs.declared.output.Output.TheVariants.{Silent};
-ghost use Rattle.operator_model.specs.Worked.{worked_consts, worked_row, first_modem, second_modem, hex, message_actions, request_actions, addition, addition_reply, addition_ack, full_addition, answers, after, hex_reply, silent, frame_within, frame, span, classed_consts};
+ghost use Rattle.operator_model.specs.Worked.{worked_consts, worked_row, first_modem, second_modem, hex, message_actions, request_actions, addition, addition_reply, addition_ack, full_addition, answers, after, operator_after, hex_reply, silent, frame_within, frame, span, classed_consts};
 
 /// States that an addition is answered, reported again where it is repeated, and refused for each
 /// of these faults and wants.
@@ -176,22 +176,22 @@ pub fn worked_shares_compute()
         ++ request_actions first_modem 257 20 ++ Tick ∷ [])
         ≡ hex_reply first_modem addition_reply ∷ frame 0 (span 257 Long 8 20 ∷ span 0 Long 28 12 ∷ []) []
         ∷ frame_within (record { start = 8; length = 16 }) 1 (span 257 Long 8 16 ∷ []) (257 ∷ []) ∷ [] }
-    ensures fits { unfit_of worked_consts (after worked_consts worked_row ([])) (Reslice 1
+    ensures fits { unfit_of (operator_after worked_consts worked_row ([])) (Reslice 1
         (record { start = 8; length = 16; budget = 16 })) ≡ None }
-    ensures not_past { unfit_of worked_consts (after worked_consts worked_row ([])) (Reslice 0
+    ensures not_past { unfit_of (operator_after worked_consts worked_row ([])) (Reslice 0
         (record { start = 8; length = 16; budget = 16 }))
         ≡ Some NotPast }
-    ensures unfinished { unfit_of worked_consts (after worked_consts worked_row (Reslice 1
+    ensures unfinished { unfit_of (operator_after worked_consts worked_row (Reslice 1
         (record { start = 8; length = 16; budget = 16 })
         ∷ [])) (Reslice 2 (record { start = 8; length = 16; budget = 16 }))
         ≡ Some Unfinished }
-    ensures off_frame { unfit_of worked_consts (after worked_consts worked_row ([])) (Reslice 1
+    ensures off_frame { unfit_of (operator_after worked_consts worked_row ([])) (Reslice 1
         (record { start = 7; length = 16; budget = 16 }))
         ≡ Some OffFrame }
-    ensures over_slice { unfit_of worked_consts (after worked_consts worked_row ([])) (Reslice 1
+    ensures over_slice { unfit_of (operator_after worked_consts worked_row ([])) (Reslice 1
         (record { start = 8; length = 16; budget = 17 }))
         ≡ Some BudgetOverSlice }
-    ensures over_budget { unfit_of worked_consts (after worked_consts worked_row (message_actions first_modem full_addition
+    ensures over_budget { unfit_of (operator_after worked_consts worked_row (message_actions first_modem full_addition
         ++ message_actions first_modem addition_ack)) (Reslice 1 (record { start = 8; length = 16; budget = 16 }))
         ≡ Some OverBudget }
     ensures both_budgets { answers worked_consts worked_row (Reslice 1

@@ -10,7 +10,7 @@ use Rattle.operator_model.specs.declared.action.SliceRow.{SliceRow}
 use Rattle.operator_model.specs.declared.action.Unfit.{Unfit}
 use Rattle.operator_model.specs.declared.action.Unfit.TheVariants as unfits
 use Rattle.operator_model.specs.Machine.{unfit_from}
-use Rattle.operator_model.specs.Replay.{BookView}
+use Rattle.operator_model.specs.Replay.{BookView, operator_of_book}
 use Rattle.map_assembly.proofs.OrderLemmas.{PairsByRecursion}
 use Rattle.map_assembly.proofs.NewLemmas.{AllPairs-from_pairs}
 use Rattle.run_model.specs.OwnSteps.{slice_of}
@@ -29,17 +29,17 @@ none_is f (Some x) h = absurd (cc)
 -- ---- no book refuses
 
 not_this : (unfit : Unfit) (from n : ℕ) (books : List BookView) (rows : List SliceRow) → least_unfit unfit from n books rows ≡ None
-    → (i : ℕ) (row : SliceRow) (book : BookView) → slice_get rows i ≡ Some row → slice_get books i ≡ Some book → is_unfit unfit (unfit_from book.consts book.state from row) ≡ false
+    → (i : ℕ) (row : SliceRow) (book : BookView) → slice_get rows i ≡ Some row → slice_get books i ≡ Some book → is_unfit unfit (unfit_from (operator_of_book book) from row) ≡ false
 not_this unfit from n [] rows h i row book e f = let g : ◌≡◌ {A = Option BookView} None (Some book) = f in absurd (none-some book g)
 not_this unfit from n (b ∷ books) [] h i row book e f = let g : ◌≡◌ {A = Option SliceRow} None (Some row) = e in absurd (none-some row g)
-not_this unfit from n (b ∷ books) (r ∷ rows) h i row book e f = by (is_unfit unfit (unfit_from b.consts b.state from r)) refl h i e f (not_this unfit from (n + 1) books rows)
+not_this unfit from n (b ∷ books) (r ∷ rows) h i row book e f = by (is_unfit unfit (unfit_from (operator_of_book b) from r)) refl h i e f (not_this unfit from (n + 1) books rows)
   where
-    by : (found : Bool) → is_unfit unfit (unfit_from b.consts b.state from r) ≡ found → (if found then Some n else least_unfit unfit from (n + 1) books rows) ≡ None
+    by : (found : Bool) → is_unfit unfit (unfit_from (operator_of_book b) from r) ≡ found → (if found then Some n else least_unfit unfit from (n + 1) books rows) ≡ None
         → (i : ℕ) → slice_get (r ∷ rows) i ≡ Some row → slice_get (b ∷ books) i ≡ Some book
-        → (least_unfit unfit from (n + 1) books rows ≡ None → (k : ℕ) (row : SliceRow) (book : BookView) → slice_get rows k ≡ Some row → slice_get books k ≡ Some book → is_unfit unfit (unfit_from book.consts book.state from row) ≡ false)
-        → is_unfit unfit (unfit_from book.consts book.state from row) ≡ false
+        → (least_unfit unfit from (n + 1) books rows ≡ None → (k : ℕ) (row : SliceRow) (book : BookView) → slice_get rows k ≡ Some row → slice_get books k ≡ Some book → is_unfit unfit (unfit_from (operator_of_book book) from row) ≡ false)
+        → is_unfit unfit (unfit_from (operator_of_book book) from row) ≡ false
     by true p h i e f rest = absurd (cc)
-    by false p h zero e f rest = (λ k. is_unfit unfit (unfit_from (sym (same_Some b book f) k).consts (sym (same_Some b book f) k).state from (sym (same_Some r row e) k))) ∙ p
+    by false p h zero e f rest = (λ k. is_unfit unfit (unfit_from (operator_of_book (sym (same_Some b book f) k)) from (sym (same_Some r row e) k))) ∙ p
     by false p h (suc i) e f rest = rest h i row book e f
 
 none_at_all : (o : Option Unfit) → is_unfit unfits.NotPast o ≡ false → is_unfit unfits.Unfinished o ≡ false → is_unfit unfits.OffFrame o ≡ false → is_unfit unfits.BudgetOverSlice o ≡ false → is_unfit unfits.OverBudget o ≡ false → o ≡ None
@@ -84,7 +84,7 @@ rows_free from books rows one h =
     record {
       one_each = one;
       fit = λ i row book p q.
-          none_at_all (unfit_from book.consts book.state from row)
+          none_at_all (unfit_from (operator_of_book book) from row)
           (not_this unfits.NotPast from 0 books rows a.0 i row book p q) (not_this unfits.Unfinished from 0 books rows b.0 i row book p q) (not_this unfits.OffFrame from 0 books rows c.0 i row book p q)
           (not_this unfits.BudgetOverSlice from 0 books rows e.0 i row book p q) (not_this unfits.OverBudget from 0 books rows f i row book p q);
       apart = AllPairs-from_pairs (λ (a b : SliceRow). slices_overlap (slice_of a) (slice_of b) ≡ false) rows (no_pairs 0 rows d.0);

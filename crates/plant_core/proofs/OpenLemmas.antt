@@ -8,9 +8,9 @@ use Rattle.plant.specs.declared.consts.ConstsFields.{ConstsFields}
 use Rattle.plant.specs.declared.operator_row.RowFields.{RowFields}
 use Rattle.plant.specs.declared.plant.PlantFields.{PlantFields}
 use Rattle.plant.specs.Plant.{IsPlant}
-use Rattle.operator_model.specs.Replay.{BookView}
+use Rattle.operator_model.specs.Replay.{BookView, opened_book}
 use Rattle.map_assembly.specs.Gathering.{Gathering, gathering_of}
-use Rattle.run_model.specs.Opened.{opened_book, opened_core}
+use Rattle.run_model.specs.Opened.{opened_core}
 use Rattle.run_model.specs.IsStateAfter.{CoreView, IsStateAfter}
 use Rattle.run_model.proofs.Opening.{opened_reached}
 use Rattle.plant_core.specs.Reachable.{core_of, IsReachable}

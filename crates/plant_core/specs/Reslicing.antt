@@ -7,7 +7,7 @@ use Rattle.operator_model.specs.declared.action.SliceRow.{SliceRow}
 use Rattle.operator_model.specs.declared.action.Unfit.{Unfit}
 use Rattle.operator_model.specs.declared.action.Unfit.TheVariants as unfits
 use Rattle.operator_model.specs.Machine.{unfit_from}
-use Rattle.operator_model.specs.Replay.{BookView}
+use Rattle.operator_model.specs.Replay.{BookView, operator_of_book}
 use Rattle.run_model.specs.OwnSteps.{slice_of}
 use Rattle.plant_core.specs.declared.core_fault.Unfits.{Unfits}
 use Rattle.plant_core.specs.declared.core_fault.ResliceFault.{ResliceFault}
@@ -24,7 +24,7 @@ is_unfit unfit found = false
 -- the least operator, counted from n on, whose book refuses its row so
 abbrev pub least_unfit : Unfit → ℕ → ℕ → List BookView → List SliceRow → Option ℕ
 least_unfit unfit from n (book ∷ books) (row ∷ rows) =
-    if is_unfit unfit (unfit_from book.consts book.state from row) then Some n else least_unfit unfit from (n + 1) books rows
+    if is_unfit unfit (unfit_from (operator_of_book book) from row) then Some n else least_unfit unfit from (n + 1) books rows
 least_unfit unfit from n books rows = None
 
 abbrev pub do_meet : SliceRow → SliceRow → Bool

@@ -4,10 +4,9 @@ ghost use Rattle.std.specs.Prelude.{◌≡◌, ◌≢◌, ◌↔◌, ◌≤◌, 
 ghost use Rattle.dsx_messages.specs.declared.modem.Modem.{Modem};
 ghost use Rattle.plant.specs.Row.{IsRowOf};
 ghost use Rattle.operator_model.specs.declared.action.Unfit.{Unfit};
-ghost use Rattle.operator_model.specs.State.{opened_state, operator};
-ghost use Rattle.operator_model.specs.Machine.{own_step, is_spent, IsAllowed};
-ghost use Rattle.operator_book.specs.OfBook.{stranger_of, unfit_of};
-ghost use Rattle.operator_model.specs.Replay.{book_after_action};
+ghost use Rattle.operator_model.specs.State.{opened_state};
+ghost use Rattle.operator_model.specs.Machine.{own_step, stranger_of, is_spent, unfit_of, IsAllowed};
+ghost use Rattle.operator_model.specs.Replay.{operator_of_book, book_after_action};
 ghost use Rattle.run_model.specs.OwnSteps.{outputs_under};
 ghost use Rattle.run_model.specs.IsStateAfter.{frames_of};
 ghost use Rattle.plant_core.specs.Faults.{act_fault, collect_fault, IsReported};
@@ -50,21 +49,19 @@ impl OperatorSlot {
         requires within { self.old.collected ≤ length (book_at self.old).history }
         ensures book { OnOk result (book_at self.new ≡ book_after_action (book_at self.old) action) }
         ensures waiting { OnOk result (waiting_at self.new ≡ waiting_at self.old
-            ++ frames_of (own_step (operator (book_at self.old).consts (book_at self.old).row
-            (book_at self.old).state) action).outputs) }
+            ++ frames_of (own_step (operator_of_book (book_at self.old)) action).outputs) }
         ensures outputs { IfOk result (λ outputs. outputs.items
-            ≡ (own_step (operator (book_at self.old).consts (book_at self.old).row (book_at self.old).state)
-            action).outputs) }
-        ensures allowed { OnOk result (IsAllowed
-            (operator (book_at self.old).consts (book_at self.old).row (book_at self.old).state) action) }
+            ≡ (own_step (operator_of_book (book_at self.old)) action).outputs) }
+        ensures allowed { OnOk result (IsAllowed (operator_of_book (book_at self.old)) action) }
         ensures same_book { OnErr result (book_at self.new ≡ book_at self.old) }
         ensures same_waiting { OnErr result (waiting_at self.new ≡ waiting_at self.old) }
 
         // The faults are those of the book.
         ensures not_mine { (modem : Modem) → (result ≡ Err (BookFault.NotMine modem))
-            ↔ (stranger_of (book_at self.old) action ≡ Some modem) }
+            ↔ (stranger_of (book_at self.old).row action ≡ Some modem) }
         ensures spent { (result ≡ Err BookFault.FramesSpent) ↔ (is_spent (book_at self.old).state action ≡ true) }
-        ensures unfit { (u : Unfit) → (result ≡ Err (BookFault.Unfit u)) ↔ (unfit_of (book_at self.old) action ≡ Some u) }
+        ensures unfit { (u : Unfit) → (result ≡ Err (BookFault.Unfit u))
+            ↔ (unfit_of (operator_of_book (book_at self.old)) action ≡ Some u) }
     {
         self.book.act(alloc, action)
     }
@@ -80,12 +77,10 @@ impl OperatorSlot {
         requires within { self.old.collected ≤ length (book_at self.old).history }
         ensures book { OnOk result (book_at self.new ≡ book_after_action (book_at self.old) action) }
         ensures waiting { OnOk result (waiting_at self.new ≡ waiting_at self.old
-            ++ frames_of (own_step (operator (book_at self.old).consts (book_at self.old).row
-            (book_at self.old).state) action).outputs) }
+            ++ frames_of (own_step (operator_of_book (book_at self.old)) action).outputs) }
         ensures outputs { OnOk result (outs.new.items ≡ outs.old.items ++ outputs_under op
-            (own_step (operator (book_at self.old).consts (book_at self.old).row (book_at self.old).state) action).outputs) }
-        ensures allowed { OnOk result (IsAllowed
-            (operator (book_at self.old).consts (book_at self.old).row (book_at self.old).state) action) }
+            (own_step (operator_of_book (book_at self.old)) action).outputs) }
+        ensures allowed { OnOk result (IsAllowed (operator_of_book (book_at self.old)) action) }
         ensures outs { OnErr result (outs.new.items ≡ outs.old.items) }
         ensures same_book { OnErr result (book_at self.new ≡ book_at self.old) }
         ensures same_waiting { OnErr result (waiting_at self.new ≡ waiting_at self.old) }

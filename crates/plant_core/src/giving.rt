@@ -3,7 +3,7 @@
 ghost use Rattle.std.specs.Prelude.{◌≡◌, ◌<◌, ◌≤◌, ◌^◌, [], map, length, vec_len, All, None, IfOk, OnOk, OnErr};
 ghost use Rattle.operator_model.specs.declared.action.Action.TheVariants as actions;
 ghost use Rattle.operator_model.specs.Machine.{unfit_from};
-ghost use Rattle.operator_model.specs.Replay.{book_after_action};
+ghost use Rattle.operator_model.specs.Replay.{operator_of_book, book_after_action};
 ghost use Rattle.run_model.specs.OwnSteps.{slice_of};
 ghost use Rattle.run_model.specs.Steps.{Reslices, NoneRefuses};
 ghost use Rattle.plant_core.specs.Reslicing.{reslice_fault};
@@ -30,7 +30,7 @@ impl OperatorSlot {
 
     /// Takes a row from a later frame on. Takes no memory.
     fn reslice(&mut self, from: u32, row: SliceRow)
-        requires fit { unfit_from (book_at self.old).consts (book_at self.old).state from row ≡ None }
+        requires fit { unfit_from (operator_of_book (book_at self.old)) from row ≡ None }
         requires room { 0 < room_at self.old }
         ensures book { book_at self.new ≡ book_after_action (book_at self.old) (actions.Reslice from row) }
         ensures waiting { waiting_at self.new ≡ waiting_at self.old }

@@ -4,7 +4,8 @@ ghost use Rattle.std.specs.Prelude.{◌≡◌, ◌≢◌, ◌↔◌, [], map, le
 ghost use Rattle.plant.specs.Row.{IsRowOf};
 ghost use Rattle.plant.specs.Plant.{IsPlant};
 ghost use Rattle.map_assembly.specs.Gathering.{gathering_of};
-ghost use Rattle.run_model.specs.Opened.{opened_book, opened_core};
+ghost use Rattle.operator_model.specs.Replay.{opened_book};
+ghost use Rattle.run_model.specs.Opened.{opened_core};
 ghost use Rattle.run_model.specs.IsStateAfter.{IsStateAfter};
 ghost use Rattle.plant_core.specs.DeskView.{book_at, waiting_at};
 ghost use Rattle.plant_core.specs.CoreView.{core_view};

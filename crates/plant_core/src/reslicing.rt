@@ -2,7 +2,8 @@
 
 ghost use Rattle.std.specs.Prelude.{◌≡◌, ◌+◌, [], length, vec_len, drop, option_map, ◌≤◌, Some, OnOk, OnErr};
 ghost use Rattle.std.specs.List.{position_from};
-ghost use Rattle.operator_book.specs.OfBook.{unfit_from};
+ghost use Rattle.operator_model.specs.Machine.{unfit_from};
+ghost use Rattle.operator_model.specs.Replay.{operator_of_book};
 ghost use Rattle.operator_book.specs.ViewOf.{view_of};
 ghost use Rattle.plant_core.specs.Reslicing.{is_unfit, least_unfit, do_meet, least_meeting, first_fault, row_fault, reslice_fault};
 ghost use Rattle.run_model.specs.Steps.{Reslices};
@@ -25,7 +26,7 @@ pub fn is_same(a: Unfit, b: Unfit) -> bool
 
 /// Returns whether a book refuses a row from a frame on with this fault. Takes no memory.
 pub fn is_refused(book: &Book, from: u32, row: SliceRow, unfit: Unfit) -> bool
-    ensures { result ≡ is_unfit unfit (unfit_from (view_of book.now) from row) }
+    ensures { result ≡ is_unfit unfit (unfit_from (operator_of_book (view_of book.now)) from row) }
 {
     match book.offer(from, row) {
         Ok(()) => false,

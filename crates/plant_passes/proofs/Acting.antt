@@ -8,12 +8,10 @@ use Rattle.operator_model.specs.declared.action.Action.{Action}
 use Rattle.operator_model.specs.declared.action.Entry.{Entry}
 use Rattle.operator_model.specs.declared.output.Output.{Output}
 use Rattle.operator_model.specs.State.{OperatorState}
-use Rattle.operator_model.specs.Machine.{is_spent}
-use Rattle.operator_model.specs.Replay.{BookView, book_after_action}
-use Rattle.operator_model.specs.Machine as machines
+use Rattle.operator_model.specs.Machine.{own_step, stranger_of, is_spent, unfit_of}
+use Rattle.operator_model.specs.Replay.{BookView, operator_of_book, book_after_action}
 use Rattle.operator_model.specs.declared.action.Unfit.{Unfit}
 use Rattle.dsx_messages.specs.declared.modem.Modem.{Modem}
-use Rattle.operator_book.specs.OfBook.{outputs_of, stranger_of, unfit_of}
 use Rattle.plant_passes.specs.declared.view.MarkedEntry.{MarkedEntry}
 use Rattle.plant_passes.specs.declared.view.Origin.{Origin}
 use Rattle.plant_passes.specs.declared.view.Knowledge.{Knowledge}
@@ -66,23 +64,23 @@ on_err P R (Err e) p f = f p
 
 -- an action of a modem of the row is no stranger's
 pub no_stranger : (origin : Origin) (b : BookView) (action : Action) (modem : Modem) → origin_of b ≡ origin → IsCellAction origin action
-    → stranger_of b action ≡ Some modem → ⊥
+    → stranger_of b.row action ≡ Some modem → ⊥
 no_stranger origin b action modem e does h =
-    let z : None ≡ Some modem = sym (ap (λ (o : Origin). machines.stranger_of o.row action) e ∙ does.mine) ∙ h in absurd (cc z)
+    let z : None ≡ Some modem = sym (ap (λ (o : Origin). stranger_of o.row action) e ∙ does.mine) ∙ h in absurd (cc z)
 
-pub no_misfit : (origin : Origin) (b : BookView) (action : Action) (why : Unfit) → IsCellAction origin action → unfit_of b action ≡ Some why → ⊥
-no_misfit origin b action why does h = let z : None ≡ Some why = sym (does.fits b.consts b.state) ∙ h in absurd (cc z)
+pub no_misfit : (origin : Origin) (b : BookView) (action : Action) (why : Unfit) → IsCellAction origin action → unfit_of (operator_of_book b) action ≡ Some why → ⊥
+no_misfit origin b action why does h = let z : None ≡ Some why = sym (does.fits (operator_of_book b)) ∙ h in absurd (cc z)
 
 -- the book has one entry more, of the outputs that it told
 acted_history : (book b : BookView) (action : Action) (outputs : List Output) (seen : List MarkedEntry) → b ≡ book_after_action book action
-    → outputs ≡ outputs_of book action → book.history ≡ entries seen → b.history ≡ entries seen ++ entry_of action outputs ∷ []
+    → outputs ≡ (own_step (operator_of_book book) action).outputs → book.history ≡ entries seen → b.history ≡ entries seen ++ entry_of action outputs ∷ []
 acted_history book b action outputs seen is said line =
     ap (λ (x : BookView). x.history) is ∙ (λ i. line i ++ entry_of action (sym said i) ∷ [])
 
 -- the book that was put back, after it acted
 pub acted_in_hand : {X : Type 0} (v : Knowledge X) (book b : BookParts X) (m : SeatNow X) (action : Action) (outputs : List Output) → IsOurs v book
     → m ≡ (v, (0, Some b) ∷ []) → b.kept.book ≡ book_after_action book.kept.book action → b.ranking ≡ book.ranking
-    → outputs ≡ outputs_of book.kept.book action → IsOwnRun (origin_of b.kept.book) b.kept.book.history
+    → outputs ≡ (own_step (operator_of_book book.kept.book) action).outputs → IsOwnRun (origin_of b.kept.book) b.kept.book.history
     → HasBookWith (entries v.seen ++ entry_of action outputs ∷ []) m
 acted_in_hand {X} v book b m action outputs ours put is same said run = record {
   book = b;

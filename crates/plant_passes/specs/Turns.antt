@@ -4,9 +4,8 @@ use Rattle.grant_policy.specs.declared.policy.Policy.{Policy}
 use Rattle.atomic_table.specs.declared.shared.Seat.{Seat}
 use Rattle.operator_model.specs.declared.action.Action.{Action}
 use Rattle.operator_model.specs.declared.action.Entry.{Entry}
-use Rattle.operator_model.specs.State.{OperatorState}
+use Rattle.operator_model.specs.State.{Operator}
 use Rattle.operator_model.specs.Machine.{stranger_of, unfit_of}
-use Rattle.plant.specs.declared.consts.ConstsFields.{ConstsFields}
 use Rattle.plant_passes.specs.declared.view.Origin.{Origin}
 use Rattle.plant_passes.specs.declared.view.MarkedEntry.{MarkedEntry}
 use Rattle.plant_passes.specs.declared.view.Knowledge.{Knowledge}
@@ -36,7 +35,7 @@ FollowsPolicy policy known = option_map policy known.ranking ≡ Some known.orig
 -- an action that a cell does: of a modem of the row, and no slice change
 pub record IsCellAction (origin : Origin) (action : Action) : Type 0 where
   pub mine : stranger_of origin.row action ≡ None
-  pub fits : (consts : ConstsFields) (state : OperatorState) → unfit_of consts state action ≡ None
+  pub fits : (op : Operator) → unfit_of op action ≡ None
 
 -- a pass that waits for the turn of its ticket
 pub record WaitsForTurn {X : Type 0} (ticket : ℕ) (now : SeatNow X) : Type 0 where

@@ -3,10 +3,10 @@
 ghost use Rattle.std.specs.Prelude.{◌≡◌, ◌++◌, [], ◌∷◌, IfOk, OnOk};
 ghost use Rattle.operator_model.specs.State.{operator};
 ghost use Rattle.operator_model.specs.Machine.{own_step, own_run, IsAllowed};
+ghost use Rattle.operator_model.specs.Replay.{opened_book};
 ghost use Rattle.plant_script.specs.OperatorA.{row_a, consts_a};
 ghost use Rattle.plant_script.specs.One.{actions_of, outputs_of, line_of, text_of};
 ghost use Rattle.grant_policy.specs.declared.policy.Policy.TheVariants.{Strict};
-ghost use Rattle.operator_book.specs.OfBook.{opened_book};
 ghost use Rattle.operator_book.specs.ViewOf.{view_of};
 ghost use Rattle.plant_script.specs.View.{IsOfA};
 
@@ -97,7 +97,7 @@ fn put_message(
 /// Returns operator A's book as it is opened.
 fn book_of(alloc: Global, ranking: Ranking) -> Result<Book, AllocError>
     requires { ranking.policy ≡ Strict }
-    ensures { IfOk result (λ book. view_of book ≡ opened_book row_a consts_a) }
+    ensures { IfOk result (λ book. view_of book ≡ opened_book consts_a row_a) }
 {
     let row = row_a(alloc)?;
     match Book::open(alloc, &row, &consts_a(alloc), ranking) {

@@ -19,11 +19,11 @@ use Rattle.operator_model.specs.declared.action.Action.{Action}
 use Rattle.operator_model.specs.declared.action.Action.TheVariants.{Arrive, Work, Tick, Reslice}
 use Rattle.operator_model.specs.declared.action.Unfit.TheVariants.{NotPast, Unfinished, OffFrame, BudgetOverSlice, OverBudget}
 use Rattle.operator_model.specs.declared.share.NextShare.{NextShare}
-use Rattle.operator_model.specs.State.{OperatorState, operator}
+use Rattle.operator_model.specs.State.{OperatorState, Operator, operator}
 use Rattle.operator_model.specs.Frame.{next_at}
 use Rattle.operator_model.specs.Frames.{is_tick}
 use Rattle.operator_model.specs.Machine.{arrival_result, work_result, own_step, own_run, is_off_frame, unfit_from, IsAllowed}
-use Rattle.operator_model.specs.Replay.{BookView}
+use Rattle.operator_model.specs.Replay.{BookView, operator_of_book}
 use Rattle.operator_model.specs.Slices.{SliceFrom, reslicings_in, MayRun, waiting_slice}
 use Rattle.operator_model.proofs.FrameLemmas.{arrived_none, worked_none, run_puts}
 use Rattle.operator_model.proofs.KeptLemmas.{pairs-map}
@@ -50,18 +50,18 @@ record Takes (consts : ConstsFields) (state : OperatorState) (from : ℕ) (row :
   pub free : is_some state.next ≡ false
   pub on : is_off_frame consts row ≡ false
 
-takes : (consts : ConstsFields) (state : OperatorState) (from : ℕ) (row : SliceRow) → unfit_from consts state from row ≡ None → Takes consts state from row
-takes consts state from row h = by (nat_le from state.frame) (is_some state.next) (is_off_frame consts row) refl refl refl h
+takes : (op : Operator) (from : ℕ) (row : SliceRow) → unfit_from op from row ≡ None → Takes op.consts op.state from row
+takes op from row h = by (nat_le from op.state.frame) (is_some op.state.next) (is_off_frame op.consts row) refl refl refl h
   where
-    by : (a b c : Bool) → nat_le from state.frame ≡ a → is_some state.next ≡ b → is_off_frame consts row ≡ c
+    by : (a b c : Bool) → nat_le from op.state.frame ≡ a → is_some op.state.next ≡ b → is_off_frame op.consts row ≡ c
         → (if a then Some NotPast else if b then Some Unfinished else if c then Some OffFrame else
         if nat_lt row.length row.budget then Some BudgetOverSlice else
-        if nat_lt row.budget (committed_minislots consts.units state.flows) then Some OverBudget else
-        None) ≡ None → Takes consts state from row
+        if nat_lt row.budget (committed_minislots op.consts.units op.state.flows) then Some OverBudget else
+        None) ≡ None → Takes op.consts op.state from row
     by true b c p q r h = cc
     by false true c p q r h = cc
     by false false true p q r h = cc
-    by false false false p q r h = record { past = leb-false from state.frame p; free = q; on = r }
+    by false false false p q r h = record { past = leb-false from op.state.frame p; free = q; on = r }
 
 in_frame : (consts : ConstsFields) (row : SliceRow) → is_off_frame consts row ≡ false → IsInFrame consts.channel (slice_of row)
 in_frame consts row h =
@@ -102,11 +102,11 @@ stays old new frame next = let same : reach new ≡ reach old = λ n. reach_of (
 module _ (consts : ConstsFields) (row : RowFields) where
   step_reach : (state : OperatorState) (action : Action) → IsAllowed (operator consts row state) action → reach state ≤ reach (own_step (operator consts row state) action).state
   unfolding own_step
-  step_reach state (Arrive modem heard) allowed = let same = arrived_none (operator consts row state) modem heard in stays state (arrival_result row state modem heard).state same.frame same.waits
+  step_reach state (Arrive modem heard) allowed = let same = arrived_none (operator consts row state) modem heard in stays state (arrival_result (operator consts row state) modem heard).state same.frame same.waits
   step_reach state Work allowed = let same = worked_none (operator consts row state) state.inbox in stays state (work_result (operator consts row state) state.inbox).state same.frame same.waits
   step_reach state Tick allowed = turned state.frame state.next
   step_reach state (Reslice from offered) allowed =
-      let fit = takes consts state from offered allowed.fit in
+      let fit = takes (operator consts row state) from offered allowed.fit in
       omega (arith, none_waits state.frame state.next fit.free, fit.past)
 
   offered_reach : (state : OperatorState) (from : ℕ) (offered : SliceRow) → reach (own_step (operator consts row state) (Reslice from offered)).state ≡ from
@@ -146,7 +146,7 @@ length_range a (suc n) = omega (arith, length_range (a + 1) n)
 
 module _ (plant : PlantFields) (start : Start) (done : List Step) (outs : List Out) (core : CoreView) (from : ℕ) (rows : List SliceRow) (valid : IsPlant plant) (starts : IsStart plant start) (reached : IsStateAfterFrom plant start done outs core) (is : IsGathering core.gathering)
     (one : length rows ≡ length core.books) (apart : AllPairs (λ a b. slices_overlap (slice_of a) (slice_of b) ≡ false) rows)
-    (fit : (i : ℕ) (row : SliceRow) (book : BookView) → slice_get rows i ≡ Some row → slice_get core.books i ≡ Some book → unfit_from book.consts book.state from row ≡ None) where
+    (fit : (i : ℕ) (row : SliceRow) (book : BookView) → slice_get rows i ≡ Some row → slice_get core.books i ≡ Some book → unfit_from (operator_of_book book) from row ≡ None) where
   abbrev g : Gathering
   g = core.gathering
 
@@ -162,8 +162,8 @@ module _ (plant : PlantFields) (start : Start) (done : List Step) (outs : List O
       let after = reached.books i row book.0 here book.1 in (
         offered.0,
         offered.1,
-        takes plant.consts (isolated_run_from plant.consts start row i done).state from offered.0
-            ((λ n. unfit_from (sym after.consts_are n) (sym after.state_is n) from offered.0) ∙ fit i offered.0 book.0 offered.1 book.1),
+        takes (operator plant.consts row (isolated_run_from plant.consts start row i done).state) from offered.0
+            ((λ n. unfit_from (operator (sym after.consts_are n) row (sym after.state_is n)) from offered.0) ∙ fit i offered.0 book.0 offered.1 book.1),
       )
 
   each_in_frame : All (IsInFrame g.channel) (map slice_of rows)
@@ -225,6 +225,6 @@ module _ (plant : PlantFields) (start : Start) (done : List Step) (outs : List O
 
 module _ (plant : PlantFields) (done : List Step) (outs : List Out) (core : CoreView) (from : ℕ) (rows : List SliceRow) (valid : IsPlant plant) (reached : IsStateAfter plant done outs core) (is : IsGathering core.gathering)
     (one : length rows ≡ length core.books) (apart : AllPairs (λ a b. slices_overlap (slice_of a) (slice_of b) ≡ false) rows)
-    (fit : (i : ℕ) (row : SliceRow) (book : BookView) → slice_get rows i ≡ Some row → slice_get core.books i ≡ Some book → unfit_from book.consts book.state from row ≡ None) where
+    (fit : (i : ℕ) (row : SliceRow) (book : BookView) → slice_get rows i ≡ Some row → slice_get core.books i ≡ Some book → unfit_from (operator_of_book book) from row ≡ None) where
   pub slices_anew : MayReslice core.gathering from (map slice_of rows)
   slices_anew = anew_from plant (first_start plant) done outs core from rows valid (opened_starts plant core.gathering valid reached.gathered.slices_are is) reached is one apart fit

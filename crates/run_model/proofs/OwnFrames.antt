@@ -68,7 +68,7 @@ module _ (consts : ConstsFields) (row : RowFields) where
 
   step_own : (state : OperatorState) (action : Action) → IsSound (operator consts row state) → OwnFrames row (own_step (operator consts row state) action).outputs
   unfolding own_step
-  step_own state (Arrive modem heard) sound = no_frames row (arrival_result row state modem heard).outputs (arrived_none (operator consts row state) modem heard).numbers
+  step_own state (Arrive modem heard) sound = no_frames row (arrival_result (operator consts row state) modem heard).outputs (arrived_none (operator consts row state) modem heard).numbers
   step_own state Work sound = no_frames row (work_result (operator consts row state) state.inbox).outputs (worked_none (operator consts row state) state.inbox).numbers
   step_own state Tick sound =
       subst (λ (frames : List Numbered). AllByRecursion (λ frame. IsOwn row frame.1) frames) (sym (tick_frames state))

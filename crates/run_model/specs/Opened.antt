@@ -3,16 +3,11 @@ use Rattle.std.specs.Prelude.{[], map, length, replicate}
 use Rattle.plant.specs.declared.consts.ConstsFields.{ConstsFields}
 use Rattle.plant.specs.declared.operator_row.RowFields.{RowFields}
 use Rattle.plant.specs.declared.plant.PlantFields.{PlantFields}
-use Rattle.operator_model.specs.State.{opened_state}
-use Rattle.operator_model.specs.Replay.{BookView}
+use Rattle.operator_model.specs.Replay.{BookView, opened_book}
 use Rattle.map_assembly.specs.Part.{quota_of}
 use Rattle.map_assembly.specs.Gathering.{Gathering, gathering_of}
 use Rattle.run_model.specs.Starts.{Start}
 use Rattle.run_model.specs.IsStateAfter.{CoreView}
-
--- an operator's book in which nothing was done
-abbrev pub opened_book : ConstsFields → RowFields → BookView
-opened_book consts row = record { row = row; consts = consts; state = opened_state consts row; history = [] }
 
 -- each operator's book is opened, no frame waits, and nothing is gathered
 abbrev pub opened_core : PlantFields → CoreView

@@ -6,9 +6,8 @@ use Rattle.plant.specs.Roster.{holder}
 use Rattle.operator_model.specs.declared.action.SliceRow.{SliceRow}
 use Rattle.operator_model.specs.declared.action.Action.{Action}
 use Rattle.operator_model.specs.declared.action.Action.TheVariants as actions
-use Rattle.operator_model.specs.State.{operator}
 use Rattle.operator_model.specs.Machine.{own_step, unfit_from, IsAllowed}
-use Rattle.operator_model.specs.Replay.{BookView, book_after_action}
+use Rattle.operator_model.specs.Replay.{BookView, operator_of_book, book_after_action}
 use Rattle.map_assembly.specs.declared.map_bytes.MapBytes.{MapBytes}
 use Rattle.map_assembly.specs.Gathering.{after_put, put_fault, gathering_after_reslice}
 use Rattle.map_assembly.specs.Assembled.{IsPutResult}
@@ -26,12 +25,12 @@ pub record Acts (i : ℕ) (action : Action) (old new : CoreView) (now : List Out
   pub waiting : List (ℕ × ElementsFields)
   pub book_is : slice_get old.books i ≡ Some book
   pub waiting_is : slice_get old.queues i ≡ Some waiting
-  pub allowed : IsAllowed (operator book.consts book.row book.state) action
+  pub allowed : IsAllowed (operator_of_book book) action
   pub new_is : new ≡ record old {
     books = slice_set old.books i (book_after_action book action);
-    queues = slice_set old.queues i (waiting ++ frames_of (own_step (operator book.consts book.row book.state) action).outputs);
+    queues = slice_set old.queues i (waiting ++ frames_of (own_step (operator_of_book book) action).outputs);
   }
-  pub now_is : now ≡ outputs_under i (own_step (operator book.consts book.row book.state) action).outputs
+  pub now_is : now ≡ outputs_under i (own_step (operator_of_book book) action).outputs
 
 abbrev pub told_map : Option MapBytes → List Out
 told_map None = []
@@ -55,7 +54,7 @@ HaveSlicesApart rows = AllPairs (λ a b. slices_overlap (slice_of a) (slice_of b
 
 -- no book refuses its row
 abbrev pub NoneRefuses : ℕ → List BookView → List SliceRow → Type 0
-NoneRefuses from books rows = AtEachPlace rows books (λ i row book. unfit_from book.consts book.state from row ≡ None)
+NoneRefuses from books rows = AtEachPlace rows books (λ i row book. unfit_from (operator_of_book book) from row ≡ None)
 
 -- each operator takes its own row, and the assembly the slices, from that frame on
 pub record Reslices (from : ℕ) (rows : List SliceRow) (old new : CoreView) (now : List Out) : Type 0 where

@@ -1,6 +1,6 @@
 use Rattle.std.proofs.Common.{◌≡◌, ℕ, ◌∷◌, ap, length, get_or, ◌∙◌, arith}
 use Rattle.std.specs.Vec.Iter.{into_iter_items}
-use Rattle.run_model.specs.Opened.{opened_book}
+use Rattle.operator_model.specs.Replay.{opened_book}
 use Rattle.plant_core.specs.DeskView.{book_at, waiting_at}
 use Rattle.plant_core.proofs.DeskPlaces.{opened_one}
 use Rattle.plant_core.proofs.opening.opened_desks.Goals as goal

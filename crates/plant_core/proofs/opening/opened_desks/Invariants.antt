@@ -1,7 +1,7 @@
 use Rattle.std.proofs.Common.{◌≡◌, ◌+◌, [], length, take, map, vec_len}
 use Rattle.std.specs.Prelude.{replicate}
 use Rattle.std.specs.Vec.Iter.{into_iter_items, into_iter_len}
-use Rattle.run_model.specs.Opened.{opened_book}
+use Rattle.operator_model.specs.Replay.{opened_book}
 use Rattle.plant_core.specs.DeskView.{book_at, waiting_at}
 use Rattle.plant_core.proofs.opening.opened_desks.Given as goal
 

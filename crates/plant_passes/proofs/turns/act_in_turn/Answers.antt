@@ -1,6 +1,6 @@
 use Rattle.std.proofs.Common.{rules, ◌∷◌, [], Some, sym, ap, ◌∙◌, subst}
-use Rattle.operator_model.specs.Replay.{BookView, book_after_action}
-use Rattle.operator_book.specs.OfBook.{outputs_of}
+use Rattle.operator_model.specs.Machine.{own_step}
+use Rattle.operator_model.specs.Replay.{BookView, operator_of_book, book_after_action}
 use Rattle.plant_passes.specs.Runs.{origin_of, IsOwnRun}
 use Rattle.plant_passes.proofs.Acting.{one_in_hand, taken_out, if_ok, on_err, acted_in_hand, unchanged_in_hand, no_stranger, no_misfit}
 use Rattle.plant_passes.proofs.turns.act_in_turn.Goals as goal
@@ -19,7 +19,7 @@ returns-clause-ok g c =
     (λ outputs is said. acted_in_hand c.args.seat.now.me.0 c.in-Some.parts record { kept = c.into_parts-kept.result.0; ranking = c.into_parts-kept.result.1 } c.put_back.new.seat.me c.args.action outputs.items ours put
     (ap (λ k. k.book) out.0 ∙ (is ∙ ap (λ k. book_after_action k.book c.args.action) into.0))
     (out.1 ∙ (c.act-acted.ensures.ranking ∙ into.1))
-    (said ∙ ap (λ k. outputs_of k.book c.args.action) into.0) run)
+    (said ∙ ap (λ k. (own_step (operator_of_book k.book) c.args.action).outputs) into.0) run)
 
 pub returns-clause-err : goal.returns-clause-err
 returns-clause-err g c =

@@ -1,7 +1,9 @@
-use Rattle.std.proofs.Common.{◌≡◌, Option, Some, None, Err, ap, ◌∙◌}
+use Rattle.std.proofs.Common.{◌≡◌, Option, Some, None, Err, ap, ap₂, ◌∙◌}
 use Rattle.plant.specs.declared.operator_row.RowFields.{RowFields}
 use Rattle.plant.specs.declared.consts.ConstsFields.{ConstsFields}
+use Rattle.operator_model.specs.State.{operator}
 use Rattle.operator_model.specs.Machine.{stranger_of, unfit_of}
+use Rattle.operator_model.specs.Replay.{operator_of_book}
 use Rattle.operator_book.specs.ViewOf.{view_of}
 use Rattle.plant_script.proofs.one.put_action.Goals as goal
 
@@ -19,6 +21,6 @@ unreachable-requires g c =
 pub unreachable-requires-in-Err-Unfit : goal.unreachable-requires-in-Err-Unfit
 unreachable-requires-in-Err-Unfit g c =
     let book = view_of c.args.book.now in
-    no_one (unfit_of book.consts book.state c.args.action) c.in-Err-Unfit.field-0-0
-    (ap (λ (consts : ConstsFields). unfit_of consts book.state c.args.action) c.requires.of_a.consts_is ∙ c.requires.allowed.fit)
+    no_one (unfit_of (operator_of_book book) c.args.action) c.in-Err-Unfit.field-0-0
+    (ap₂ (λ (consts : ConstsFields) (row : RowFields). unfit_of (operator consts row book.state) c.args.action) c.requires.of_a.consts_is c.requires.of_a.row_is ∙ c.requires.allowed.fit)
     ((c.in-Err-Unfit.ensures.unfit c.in-Err-Unfit.field-0-0).0 (ap Err c.in-Err-Unfit.field-0-is))

@@ -1,7 +1,6 @@
-use Rattle.operator_model.specs.State.{operator}
 use Rattle.std.proofs.Common.{refl, sym, ap, subst, ◌∙◌}
 use Rattle.operator_model.specs.Machine.{IsAllowed}
-use Rattle.operator_model.specs.Replay.{BookView}
+use Rattle.operator_model.specs.Replay.{BookView, operator_of_book}
 use Rattle.operator_book.specs.Kept.{HeldBook}
 use Rattle.operator_book.proofs.Replays.{replay_push}
 use Rattle.operator_book.proofs.logged.RecordedMachine.act.Goals as goal
@@ -13,7 +12,7 @@ invariant_of-self-2 g c =
       valid = c.self.invariant.valid;
       some = c.self.invariant.some;
       replay = replay_push _ _ _ _ _ _ c.self.invariant.replay
-          (subst (λ (b : BookView). IsAllowed (operator b.consts b.row b.state) c.args.action) (sym (ap (λ (held : HeldBook). held.book) c.self.view_is)) c.requires.allowed)
+          (subst (λ (b : BookView). IsAllowed (operator_of_book b) c.args.action) (sym (ap (λ (held : HeldBook). held.book) c.self.view_is)) c.requires.allowed)
           refl
           (c.from_vec.ensures ∙ (c.in_ok-both.both.same c.in_ok-both.ensures.copies ∙ c.in_ok-both.ensures.outputs));
     }

@@ -1,9 +1,8 @@
-use Rattle.operator_model.specs.State.{operator}
 use Rattle.std.proofs.Common.{sym, ap, subst, ◌∙◌}
 use Rattle.operator_model.specs.declared.action.Action.TheVariants as actions
 use Rattle.operator_model.specs.Machine.{IsAllowed}
 use Rattle.operator_model.specs.Handle.{StepResult}
-use Rattle.operator_model.specs.Replay.{BookView}
+use Rattle.operator_model.specs.Replay.{BookView, operator_of_book}
 use Rattle.operator_book.specs.Kept.{HeldBook}
 use Rattle.operator_book.proofs.Replays.{replay_push, resliced_is, reslice_allowed}
 use Rattle.operator_book.proofs.logged.RecordedMachine.reslice.Goals as goal
@@ -15,8 +14,8 @@ invariant_of-self c =
       valid = c.self.invariant.valid;
       some = c.self.invariant.some;
       replay = replay_push _ _ _ _ _ _ c.self.invariant.replay
-          (subst (λ (b : BookView). IsAllowed (operator b.consts b.row b.state) (actions.Reslice c.args.from c.args.row)) (sym (ap (λ (held : HeldBook). held.book) c.self.view_is))
-          (reslice_allowed (operator c.args.self.now.book.consts c.args.self.now.book.row c.args.self.now.book.state) c.args.from c.args.row c.requires.fit))
+          (subst (λ (b : BookView). IsAllowed (operator_of_book b) (actions.Reslice c.args.from c.args.row)) (sym (ap (λ (held : HeldBook). held.book) c.self.view_is))
+          (reslice_allowed (operator_of_book c.args.self.now.book) c.args.from c.args.row c.requires.fit))
           (ap (λ (r : StepResult). r.state) (sym (resliced_is c.self.inside.machine c.args.from c.args.row)))
           (c.from_vec.ensures ∙ (c.new.ensures.items ∙ ap (λ (r : StepResult). r.outputs) (sym (resliced_is c.self.inside.machine c.args.from c.args.row))));
     }

@@ -17,13 +17,13 @@ returns-clause-elements g c =
     let here : AtFields = record { slice = c.self.inside.share.slice; frame = c.self.inside.frame; short_max = c.get_fields-consts.result.now.short_max; units = c.get_fields-consts.result.now.units } in
     let flows : c.as_slice.result.now ≡ flowing_in c.args.self.now.state.flows = search rules in
     let left : flowing_in (flows_left c.args.self.now.state) ≡ flowing_in c.args.self.now.state.flows = c.given_up_have_no_grants.ensures c.args.self.now c.requires.sound in
-    let at : here ≡ at_frame c.args.self.now.consts c.args.self.now.state = search rules in
-    c.in_ok-served.ensures.elements ∙ same_elements c.args.ranking.now.policy c.args.self.now.row.policy c.new-at.result (at_frame c.args.self.now.consts c.args.self.now.state) c.as_slice.result.now (flowing_in (flows_left c.args.self.now.state)) c.requires.policy (c.new-at.ensures ∙ at) (flows ∙ sym left)
+    let at : here ≡ at_frame c.args.self.now = search rules in
+    c.in_ok-served.ensures.elements ∙ same_elements c.args.ranking.now.policy c.args.self.now.row.policy c.new-at.result (at_frame c.args.self.now) c.as_slice.result.now (flowing_in (flows_left c.args.self.now.state)) c.requires.policy (c.new-at.ensures ∙ at) (flows ∙ sym left)
 
 pub returns-clause-granted : goal.returns-clause-granted
 returns-clause-granted g c =
     let here : AtFields = record { slice = c.self.inside.share.slice; frame = c.self.inside.frame; short_max = c.get_fields-consts.result.now.short_max; units = c.get_fields-consts.result.now.units } in
     let flows : c.as_slice.result.now ≡ flowing_in c.args.self.now.state.flows = search rules in
     let left : flowing_in (flows_left c.args.self.now.state) ≡ flowing_in c.args.self.now.state.flows = c.given_up_have_no_grants.ensures c.args.self.now c.requires.sound in
-    let at : here ≡ at_frame c.args.self.now.consts c.args.self.now.state = search rules in
-    c.in_ok-served.ensures.granted ∙ same_grants c.args.ranking.now.policy c.args.self.now.row.policy c.new-at.result (at_frame c.args.self.now.consts c.args.self.now.state) c.as_slice.result.now (flowing_in (flows_left c.args.self.now.state)) c.requires.policy (c.new-at.ensures ∙ at) (flows ∙ sym left)
+    let at : here ≡ at_frame c.args.self.now = search rules in
+    c.in_ok-served.ensures.granted ∙ same_grants c.args.ranking.now.policy c.args.self.now.row.policy c.new-at.result (at_frame c.args.self.now) c.as_slice.result.now (flowing_in (flows_left c.args.self.now.state)) c.requires.policy (c.new-at.ensures ∙ at) (flows ∙ sym left)
