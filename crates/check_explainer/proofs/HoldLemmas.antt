@@ -7,7 +7,10 @@ use Rattle.std.proofs.lemmas.Bool.{false≢true, and_parts, and_from, not-true, 
 use Rattle.std.proofs.lemmas.Option.{none-some}
 use Rattle.std.proofs.lemmas.Bool.Decides.{Decides-eqb, Decides-like, Decides-not, Decides-and, Decides-or, Decides-ltb}
 use Rattle.std.proofs.lemmas.List.Elements.{All-contains}
+use Rattle.tlv24.specs.SetType.{set_type_number}
 use Rattle.tlv24.specs.declared.fields.FlowFields.{FlowFields}
+use Rattle.tlv24.specs.declared.set_type.SetType.{SetType}
+use Rattle.tlv24.specs.declared.set_type.SetType.TheVariants.{Null, Admitted, Active, AdmittedAndActive}
 use Rattle.dsx_messages.specs.declared.modem.Modem.{Modem}
 use Rattle.dsx_messages.specs.declared.kind.Kind.{Kind}
 use Rattle.dsx_messages.specs.declared.kind.Kind.TheVariants.{Dsa, Dsc, Dsd}
@@ -23,9 +26,9 @@ use Rattle.flow_table.specs.declared.flow.Flow.{Flow}
 use Rattle.flow_table.specs.Table.{sfids_of, sids_of, sid_if}
 use Rattle.operator_model.specs.declared.share.NextShare.{NextShare}
 use Rattle.operator_model.specs.State.{Operator}
-use Rattle.operator_model.specs.Asked.{is_same, is_unclassed, stand_together}
-use Rattle.check_table.specs.Said.{Said, identifier, NamesFlow, IsOfFlow, IsAbout, EncodingAsksFor, set_asked, Admits, Activates, IsSetWhere, IsToBeAdmitted, IsToBeActive}
-use Rattle.check_table.specs.Holding.{NamesUnknownClass, AreTwoAndFour, IsTaken, GivesNoSet, IsUsedUp, would_commit, WouldCommit, IsOverBudget, Holds}
+use Rattle.operator_model.specs.Asked.{is_same, has_set_type, is_unclassed, stand_together}
+use Rattle.check_table.specs.Said.{Said, identifier, NamesFlow, IsOfFlow, IsAbout, EncodingAsksFor, set_asked, Admits, Activates, IsSetWhere, IsToBeAdmitted, IsToBeActive, IsSetType}
+use Rattle.check_table.specs.Holding.{NamesUnknownClass, AreAdmittedAndActive, IsTaken, GivesNoSet, IsUsedUp, would_commit, WouldCommit, IsOverBudget, Holds}
 use Rattle.check_table.specs.declared.check.Check.{Check}
 use Rattle.check_table.specs.declared.check.Check.TheVariants as checks
 use Rattle.check_table.proofs.ListLemmas.{contains-here, contains-later, contains_cases, any_from}
@@ -85,15 +88,15 @@ no_identifier_decides Dsa e = none_decides e.reference
 no_identifier_decides Dsc e = none_decides e.sfid
 no_identifier_decides Dsd e = ((λ _. refl), (λ _. refl))
 
-shape_two : (es : List FlowFields) → IsShape es → 1 < length es → AreTwoAndFour (map (λ (e : FlowFields). e.set_type) es)
+shape_two : (es : List FlowFields) → IsShape es → 1 < length es → AreAdmittedAndActive (map (λ (e : FlowFields). e.set_type) es)
 shape_two [] shape more = absurd shape
 shape_two (e ∷ []) shape more = absurd (omega arith)
-shape_two (a ∷ b ∷ []) (inl h) more = inl (ap (λ (x : Option ℕ). x ∷ b.set_type ∷ []) h.0 ∙ ap (λ (x : Option ℕ). Some 2 ∷ x ∷ []) h.1)
-shape_two (a ∷ b ∷ []) (inr h) more = inr (ap (λ (x : Option ℕ). x ∷ b.set_type ∷ []) h.0 ∙ ap (λ (x : Option ℕ). Some 4 ∷ x ∷ []) h.1)
+shape_two (a ∷ b ∷ []) (inl h) more = inl (ap (λ (x : Option ℕ). x ∷ b.set_type ∷ []) h.0 ∙ ap (λ (x : Option ℕ). Some (set_type_number Admitted) ∷ x ∷ []) h.1)
+shape_two (a ∷ b ∷ []) (inr h) more = inr (ap (λ (x : Option ℕ). x ∷ b.set_type ∷ []) h.0 ∙ ap (λ (x : Option ℕ). Some (set_type_number Active) ∷ x ∷ []) h.1)
 shape_two (a ∷ b ∷ c ∷ rest) shape more = absurd shape
 
 apart_decides : (es : List FlowFields)
-    → Decides (nat_lt 1 (length es) && not (stand_together es)) ((1 < length es) × (¬ AreTwoAndFour (map (λ encoding. encoding.set_type) es)))
+    → Decides (nat_lt 1 (length es) && not (stand_together es)) ((1 < length es) × (¬ AreAdmittedAndActive (map (λ encoding. encoding.set_type) es)))
 apart_decides [] = ((λ is. absurd (false≢true is)), (λ h. absurd (omega (arith, h.0))))
 apart_decides (first ∷ others) = (
   (λ is. apart_more first others (not-true (stand_together (first ∷ others)) (and_parts (nat_lt 1 (length (first ∷ others))) (not (stand_together (first ∷ others))) is).1)),
@@ -102,25 +105,28 @@ apart_decides (first ∷ others) = (
       (λ is. h.1 (shape_two (first ∷ others) (together_shape (first ∷ others) is) h.0))))),
 )
 
+type_decides : (set_type : SetType) (e : FlowFields) → Decides (has_set_type set_type e) (IsSetType set_type e.set_type)
+type_decides set_type e = same_decides e.set_type (Some (set_type_number set_type))
+
 taken_decides : (kind : Kind) (e : FlowFields) → Decides (is_taken kind e) (IsTaken kind e.set_type)
 taken_decides Dsa e =
-    Decides-or (is_same e.set_type (Some 2)) (is_same e.set_type (Some 6)) (same_decides e.set_type (Some 2))
-    (Decides-like (is_same e.set_type (Some 6)) inl only (same_decides e.set_type (Some 6)))
+    Decides-or (has_set_type Admitted e) (has_set_type AdmittedAndActive e) (type_decides Admitted e)
+    (Decides-like (has_set_type AdmittedAndActive e) inl only (type_decides AdmittedAndActive e))
   where
-    only : (e.set_type ≡ Some 6) ⊎ ((Dsa ≡ Dsc) × (e.set_type ≡ Some 0)) → e.set_type ≡ Some 6
+    only : IsSetType AdmittedAndActive e.set_type ⊎ ((Dsa ≡ Dsc) × IsSetType Null e.set_type) → IsSetType AdmittedAndActive e.set_type
     only (inl is) = is
     only (inr is) = let other : Dsa ≡ Dsc = is.0 in cc
 taken_decides Dsd e =
-    Decides-or (is_same e.set_type (Some 2)) (is_same e.set_type (Some 6)) (same_decides e.set_type (Some 2))
-    (Decides-like (is_same e.set_type (Some 6)) inl only (same_decides e.set_type (Some 6)))
+    Decides-or (has_set_type Admitted e) (has_set_type AdmittedAndActive e) (type_decides Admitted e)
+    (Decides-like (has_set_type AdmittedAndActive e) inl only (type_decides AdmittedAndActive e))
   where
-    only : (e.set_type ≡ Some 6) ⊎ ((Dsd ≡ Dsc) × (e.set_type ≡ Some 0)) → e.set_type ≡ Some 6
+    only : IsSetType AdmittedAndActive e.set_type ⊎ ((Dsd ≡ Dsc) × IsSetType Null e.set_type) → IsSetType AdmittedAndActive e.set_type
     only (inl is) = is
     only (inr is) = let other : Dsd ≡ Dsc = is.0 in cc
 taken_decides Dsc e =
-    Decides-or (is_same e.set_type (Some 2)) (is_same e.set_type (Some 6) || is_same e.set_type (Some 0)) (same_decides e.set_type (Some 2))
-    (Decides-or (is_same e.set_type (Some 6)) (is_same e.set_type (Some 0)) (same_decides e.set_type (Some 6))
-    (Decides-like (is_same e.set_type (Some 0)) (λ is. (refl, is)) (λ is. is.1) (same_decides e.set_type (Some 0))))
+    Decides-or (has_set_type Admitted e) (has_set_type AdmittedAndActive e || has_set_type Null e) (type_decides Admitted e)
+    (Decides-or (has_set_type AdmittedAndActive e) (has_set_type Null e) (type_decides AdmittedAndActive e)
+    (Decides-like (has_set_type Null e) (λ is. (refl, is)) (λ is. is.1) (type_decides Null e)))
 
 wrong_decides : (kind : Kind) (es : List FlowFields)
     → Decides (is_wrong_alone kind es) ((encoding : FlowFields) × (es ≡ encoding ∷ []) × (¬ IsTaken kind encoding.set_type))
@@ -140,9 +146,9 @@ module _ (consts : ConstsFields) (e : FlowFields) where
 
   none_given_decides : Decides (gives_none consts e) (GivesNoSet consts e)
   none_given_decides =
-      Decides-like (not (is_same e.set_type (Some 0)) && is_err_of (set_asked consts e)) (λ h. (h.0, h.1.0, h.1.1)) (λ h. (h.0, (h.1, h.2)))
-      (Decides-and (not (is_same e.set_type (Some 0))) (is_err_of (set_asked consts e))
-      (Decides-not (is_same e.set_type (Some 0)) (same_decides e.set_type (Some 0))) (err_decides (set_asked consts e)))
+      Decides-like (not (has_set_type Null e) && is_err_of (set_asked consts e)) (λ h. (h.0, h.1.0, h.1.1)) (λ h. (h.0, (h.1, h.2)))
+      (Decides-and (not (has_set_type Null e)) (is_err_of (set_asked consts e))
+      (Decides-not (has_set_type Null e) (type_decides Null e)) (err_decides (set_asked consts e)))
 
   -- the set that is given is the one that is asked for
   pub given_is : (set : ParamFields) → set_given consts e ≡ Some set → EncodingAsksFor consts e set
@@ -207,8 +213,8 @@ IsFor Admit encoding = Admits encoding
 IsFor Activate encoding = Activates encoding
 
 for_decides : (u : Use) (e : FlowFields) → Decides (is_for u e) (IsFor u e)
-for_decides Admit e = Decides-or (is_same e.set_type (Some 2)) (is_same e.set_type (Some 6)) (same_decides e.set_type (Some 2)) (same_decides e.set_type (Some 6))
-for_decides Activate e = Decides-or (is_same e.set_type (Some 4)) (is_same e.set_type (Some 6)) (same_decides e.set_type (Some 4)) (same_decides e.set_type (Some 6))
+for_decides Admit e = Decides-or (has_set_type Admitted e) (has_set_type AdmittedAndActive e) (type_decides Admitted e) (type_decides AdmittedAndActive e)
+for_decides Activate e = Decides-or (has_set_type Active e) (has_set_type AdmittedAndActive e) (type_decides Active e) (type_decides AdmittedAndActive e)
 
 module _ (u : Use) (op : Operator) (said : Said) where
   abbrev IsSet : Option ParamFields → Type 0

@@ -2,6 +2,7 @@
 use Rattle.std.specs.Prelude.{◌&&◌, ◌||◌, ℕ, Bool, true, false, List, [], ◌∷◌, ◌++◌, map, filter, Option, Some, None, Result, Ok, Err, is_some, if◌then◌else◌}
 use Rattle.std.specs.List.{list_any}
 use Rattle.tlv24.specs.declared.fields.FlowFields.{FlowFields}
+use Rattle.tlv24.specs.declared.set_type.SetType.TheVariants.{Admitted, Active, AdmittedAndActive}
 use Rattle.dsx_messages.specs.declared.kind.Kind.{Kind}
 use Rattle.dsx_messages.specs.declared.kind.Kind.TheVariants.{Dsa, Dsc, Dsd}
 use Rattle.param_sets.specs.declared.param_set.ParamFields.{ParamFields}
@@ -47,8 +48,8 @@ subjects_of op said = (if is_addition said.kind then None ∷ [] else []) ++ map
 
 -- the set type says that the set is to be put to this use
 abbrev pub is_for : Use → FlowFields → Bool
-is_for Admit encoding = has_set_type 2 encoding || has_set_type 6 encoding
-is_for Activate encoding = has_set_type 4 encoding || has_set_type 6 encoding
+is_for Admit encoding = has_set_type Admitted encoding || has_set_type AdmittedAndActive encoding
+is_for Activate encoding = has_set_type Active encoding || has_set_type AdmittedAndActive encoding
 
 abbrev pub ok_of : Option (Result ParamFields Refusal) → Option ParamFields
 ok_of None = None

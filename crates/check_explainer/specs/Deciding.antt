@@ -2,6 +2,7 @@
 use Rattle.std.specs.Prelude.{◌==◌, ◌&&◌, ◌||◌, not, ℕ, Bool, true, false, List, [], ◌∷◌, length, nat_le, nat_lt, Option, Some, None, Result, Ok, Err, is_some, is_none}
 use Rattle.std.specs.List.{list_any}
 use Rattle.tlv24.specs.declared.fields.FlowFields.{FlowFields}
+use Rattle.tlv24.specs.declared.set_type.SetType.TheVariants.{Null, Admitted, AdmittedAndActive}
 use Rattle.dsx_messages.specs.declared.modem.Modem.{Modem}
 use Rattle.dsx_messages.specs.declared.kind.Kind.{Kind}
 use Rattle.dsx_messages.specs.declared.kind.Kind.TheVariants.{Dsa, Dsc, Dsd}
@@ -41,11 +42,12 @@ do_differ kind encodings = list_any (is_alone kind encodings) encodings
 abbrev pub has_no_identifier : Kind → FlowFields → Bool
 has_no_identifier kind encoding = is_none (id_number kind encoding)
 
--- one of set type 0 is taken in a change alone
+-- the null set type is taken in a change alone
 abbrev pub is_taken : Kind → FlowFields → Bool
-is_taken Dsa encoding = has_set_type 2 encoding || has_set_type 6 encoding
-is_taken Dsc encoding = has_set_type 2 encoding || (has_set_type 6 encoding || has_set_type 0 encoding)
-is_taken Dsd encoding = has_set_type 2 encoding || has_set_type 6 encoding
+is_taken Dsa encoding = has_set_type Admitted encoding || has_set_type AdmittedAndActive encoding
+is_taken Dsc encoding =
+    has_set_type Admitted encoding || (has_set_type AdmittedAndActive encoding || has_set_type Null encoding)
+is_taken Dsd encoding = has_set_type Admitted encoding || has_set_type AdmittedAndActive encoding
 
 abbrev pub is_wrong_alone : Kind → List FlowFields → Bool
 is_wrong_alone kind [] = false
@@ -58,7 +60,7 @@ is_err_of (Some (Ok set)) = false
 is_err_of (Some (Err refusal)) = true
 
 abbrev pub gives_none : ConstsFields → FlowFields → Bool
-gives_none consts encoding = not (has_set_type 0 encoding) && is_err_of (set_asked consts encoding)
+gives_none consts encoding = not (has_set_type Null encoding) && is_err_of (set_asked consts encoding)
 
 -- ---- the flow
 

@@ -13,7 +13,7 @@ use operator_model::{has_set_type, is_same};
 use param_sets::{ParamSet, Refusal, from_tlv};
 use plant::Consts;
 use std::alloc::{AllocError, Global};
-use tlv24::FlowTlv;
+use tlv24::{FlowTlv, SetType};
 
 /// What the set of an encoding is for (CM-SP-MULPIv3.1, Annex C, subtype 6).
 #[derive(Clone, Copy, Debug, PartialEq, Eq)]
@@ -86,8 +86,14 @@ fn is_for(for_use: Use, encoding: &FlowTlv) -> bool
     ensures { result ≡ is_for for_use encoding.now }
 {
     match for_use {
-        Use::Admit => has_set_type(2, encoding) || has_set_type(6, encoding),
-        Use::Activate => has_set_type(4, encoding) || has_set_type(6, encoding),
+        Use::Admit => {
+            has_set_type(SetType::Admitted, encoding)
+                || has_set_type(SetType::AdmittedAndActive, encoding)
+        }
+        Use::Activate => {
+            has_set_type(SetType::Active, encoding)
+                || has_set_type(SetType::AdmittedAndActive, encoding)
+        }
     }
 }
 

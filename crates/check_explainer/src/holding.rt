@@ -17,7 +17,7 @@ use flow_table::Flow;
 use operator_model::{has_set_type, id_number, is_same, stand_together};
 use param_sets::{ParamSet, Units, need_if, within};
 use plant::Consts;
-use tlv24::FlowTlv;
+use tlv24::{FlowTlv, SetType};
 
 /// What a request is about and asks for.
 #[derive(Drop)]
@@ -46,14 +46,19 @@ fn do_differ(kind: Kind, encodings: &[FlowTlv]) -> bool
     encodings.iter().any(|a| is_alone(kind, encodings, a))
 }
 
-/// Returns whether one encoding alone may have its set type: 0 in a change alone.
+/// Returns whether one encoding alone may have its set type: the null set type in a change alone.
 fn is_taken(kind: Kind, encoding: &FlowTlv) -> bool
     ensures { result ≡ is_taken kind encoding.now }
 {
     match kind {
-        Kind::Dsa | Kind::Dsd => has_set_type(2, encoding) || has_set_type(6, encoding),
+        Kind::Dsa | Kind::Dsd => {
+            has_set_type(SetType::Admitted, encoding)
+                || has_set_type(SetType::AdmittedAndActive, encoding)
+        }
         Kind::Dsc => {
-            has_set_type(2, encoding) || has_set_type(6, encoding) || has_set_type(0, encoding)
+            has_set_type(SetType::Admitted, encoding)
+                || has_set_type(SetType::AdmittedAndActive, encoding)
+                || has_set_type(SetType::Null, encoding)
         }
     }
 }
@@ -72,7 +77,7 @@ fn is_wrong_alone(kind: Kind, encodings: &[FlowTlv]) -> bool
 fn gives_none(consts: &Consts, encoding: &FlowTlv) -> bool
     ensures { result ≡ gives_none consts.now encoding.now }
 {
-    if has_set_type(0, encoding) {
+    if has_set_type(SetType::Null, encoding) {
         return false;
     }
     match set_asked(consts, encoding) {

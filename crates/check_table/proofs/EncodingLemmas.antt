@@ -5,7 +5,9 @@ use Rattle.std.specs.List.{AllByRecursion, list_all}
 use Rattle.std.proofs.lemmas.Bool.{cond_both, and_parts, and_from, or_cases, or_left, or_right, eqb-true, eq-eqb, true≢false, false≢true}
 use Rattle.std.proofs.lemmas.List.Elements.{All-from_recursion, All-contains}
 use Rattle.std.proofs.lemmas.Slice.Eq.{bytes_eq-Decides}
+use Rattle.tlv24.specs.SetType.{set_type_number}
 use Rattle.tlv24.specs.declared.fields.FlowFields.{FlowFields}
+use Rattle.tlv24.specs.declared.set_type.SetType.TheVariants.{Admitted, Active}
 use Rattle.dsx_messages.specs.declared.modem.Modem.{Modem}
 use Rattle.dsx_messages.specs.declared.kind.Kind.{Kind}
 use Rattle.dsx_messages.specs.declared.kind.Kind.TheVariants.{Dsa, Dsc, Dsd}
@@ -23,8 +25,8 @@ use Rattle.operator_model.specs.declared.verdict.Verdict.TheVariants.{Refused}
 use Rattle.operator_model.specs.State.{Operator}
 use Rattle.operator_model.specs.Asked.{transaction, id_of, refusal_naming, stated_or_refusal, id_number, is_same, has_set_type, stand_together, first_of, is_unclassed, first_unless, first_encoding}
 use Rattle.lists.specs.First.{IsFirst}
-use Rattle.check_table.specs.Said.{Said, identifier, told_identifier, identifier_subtype}
-use Rattle.check_table.specs.Holding.{NamesUnknownClass, AreTwoAndFour}
+use Rattle.check_table.specs.Said.{Said, identifier, told_identifier, identifier_subtype, IsSetType}
+use Rattle.check_table.specs.Holding.{NamesUnknownClass, AreAdmittedAndActive}
 use Rattle.check_table.specs.Answering.{refusal_verdict, naming}
 use Rattle.check_table.specs.declared.check.Check.TheVariants.{UnknownClass, NoEncoding, IdentifiersDiffer, NotTogether, NoIdentifier, UnknownFlow, NotOwner, FlowWaits, WrongSetType, NoParameterSet, ActiveNotWithin, AdmittedNotWithin, FlowsFull, NoSfidFree, NoSidFree, ElementsOver, MinislotsOver, Accepted}
 use Rattle.check_table.proofs.ListLemmas.{contains-here, contains-later, contains_cases, any_from, none_any, all_more, find-first, first_contains, all_pass, one_fails}
@@ -105,33 +107,33 @@ module _ (classes : List Class) where
 
 -- ---- which stand together
 
--- one alone; or two, one of set type 2 and one of set type 4
+-- one alone; or two, one for the admitted set and one for the active set
 abbrev pub IsShape : List FlowFields → Type 0
 IsShape [] = ⊥
 IsShape (e ∷ []) = Unit {0}
-IsShape (a ∷ b ∷ []) = ((a.set_type ≡ Some 2) × (b.set_type ≡ Some 4)) ⊎ ((a.set_type ≡ Some 4) × (b.set_type ≡ Some 2))
+IsShape (a ∷ b ∷ []) = (IsSetType Admitted a.set_type × IsSetType Active b.set_type) ⊎ (IsSetType Active a.set_type × IsSetType Admitted b.set_type)
 IsShape (a ∷ b ∷ c ∷ more) = ⊥
 
 two_types : (a b : FlowFields) → stand_together (a ∷ b ∷ []) ≡ true → IsShape (a ∷ b ∷ [])
-two_types a b is = by (or_cases (has_set_type 2 a && has_set_type 4 b) (has_set_type 4 a && has_set_type 2 b) is)
+two_types a b is = by (or_cases (has_set_type Admitted a && has_set_type Active b) (has_set_type Active a && has_set_type Admitted b) is)
   where
-    by : ((has_set_type 2 a && has_set_type 4 b) ≡ true) ⊎ ((has_set_type 4 a && has_set_type 2 b) ≡ true) → IsShape (a ∷ b ∷ [])
-    by (inl h) = let both = and_parts (has_set_type 2 a) (has_set_type 4 b) h in inl (is_same_true a.set_type (Some 2) both.0, is_same_true b.set_type (Some 4) both.1)
-    by (inr h) = let both = and_parts (has_set_type 4 a) (has_set_type 2 b) h in inr (is_same_true a.set_type (Some 4) both.0, is_same_true b.set_type (Some 2) both.1)
+    by : ((has_set_type Admitted a && has_set_type Active b) ≡ true) ⊎ ((has_set_type Active a && has_set_type Admitted b) ≡ true) → IsShape (a ∷ b ∷ [])
+    by (inl h) = let both = and_parts (has_set_type Admitted a) (has_set_type Active b) h in inl (is_same_true a.set_type (Some (set_type_number Admitted)) both.0, is_same_true b.set_type (Some (set_type_number Active)) both.1)
+    by (inr h) = let both = and_parts (has_set_type Active a) (has_set_type Admitted b) h in inr (is_same_true a.set_type (Some (set_type_number Active)) both.0, is_same_true b.set_type (Some (set_type_number Admitted)) both.1)
 
-types_two : (a b : FlowFields) → AreTwoAndFour (map (λ (e : FlowFields). e.set_type) (a ∷ b ∷ [])) → stand_together (a ∷ b ∷ []) ≡ true
+types_two : (a b : FlowFields) → AreAdmittedAndActive (map (λ (e : FlowFields). e.set_type) (a ∷ b ∷ [])) → stand_together (a ∷ b ∷ []) ≡ true
 types_two a b (inl is) =
-    or_left (has_set_type 2 a && has_set_type 4 b) (has_set_type 4 a && has_set_type 2 b)
-    (and_from (has_set_type 2 a) (has_set_type 4 b) (is_same_from a.set_type (Some 2) cc) (is_same_from b.set_type (Some 4) cc))
+    or_left (has_set_type Admitted a && has_set_type Active b) (has_set_type Active a && has_set_type Admitted b)
+    (and_from (has_set_type Admitted a) (has_set_type Active b) (is_same_from a.set_type (Some (set_type_number Admitted)) cc) (is_same_from b.set_type (Some (set_type_number Active)) cc))
 types_two a b (inr is) =
-    or_right (has_set_type 2 a && has_set_type 4 b) (has_set_type 4 a && has_set_type 2 b)
-    (and_from (has_set_type 4 a) (has_set_type 2 b) (is_same_from a.set_type (Some 4) cc) (is_same_from b.set_type (Some 2) cc))
+    or_right (has_set_type Admitted a && has_set_type Active b) (has_set_type Active a && has_set_type Admitted b)
+    (and_from (has_set_type Active a) (has_set_type Admitted b) (is_same_from a.set_type (Some (set_type_number Active)) cc) (is_same_from b.set_type (Some (set_type_number Admitted)) cc))
 
-shape_types : (es : List FlowFields) → IsShape es → 1 < length es → AreTwoAndFour (map (λ (e : FlowFields). e.set_type) es)
+shape_types : (es : List FlowFields) → IsShape es → 1 < length es → AreAdmittedAndActive (map (λ (e : FlowFields). e.set_type) es)
 shape_types [] shape more = absurd shape
 shape_types (e ∷ []) shape more = absurd (omega arith)
-shape_types (a ∷ b ∷ []) (inl h) more = inl (ap (λ (x : Option ℕ). x ∷ b.set_type ∷ []) h.0 ∙ ap (λ (x : Option ℕ). Some 2 ∷ x ∷ []) h.1)
-shape_types (a ∷ b ∷ []) (inr h) more = inr (ap (λ (x : Option ℕ). x ∷ b.set_type ∷ []) h.0 ∙ ap (λ (x : Option ℕ). Some 4 ∷ x ∷ []) h.1)
+shape_types (a ∷ b ∷ []) (inl h) more = inl (ap (λ (x : Option ℕ). x ∷ b.set_type ∷ []) h.0 ∙ ap (λ (x : Option ℕ). Some (set_type_number Admitted) ∷ x ∷ []) h.1)
+shape_types (a ∷ b ∷ []) (inr h) more = inr (ap (λ (x : Option ℕ). x ∷ b.set_type ∷ []) h.0 ∙ ap (λ (x : Option ℕ). Some (set_type_number Active) ∷ x ∷ []) h.1)
 shape_types (a ∷ b ∷ c ∷ rest) shape more = absurd shape
 
 pub together_shape : (es : List FlowFields) → stand_together es ≡ true → IsShape es
@@ -141,12 +143,12 @@ together_shape (a ∷ b ∷ []) is = two_types a b is
 together_shape (a ∷ b ∷ c ∷ rest) is = absurd (false≢true is)
 
 pub apart_more : (first : FlowFields) (others : List FlowFields) → stand_together (first ∷ others) ≡ false
-    → (1 < length (first ∷ others)) × (¬ AreTwoAndFour (map (λ (e : FlowFields). e.set_type) (first ∷ others)))
+    → (1 < length (first ∷ others)) × (¬ AreAdmittedAndActive (map (λ (e : FlowFields). e.set_type) (first ∷ others)))
 apart_more first [] is = absurd (true≢false is)
 apart_more first (b ∷ []) is = (omega arith, λ two. true≢false (sym (types_two first b two) ∙ is))
 apart_more first (b ∷ c ∷ rest) is = (omega arith, λ two. no two)
   where
-    no : AreTwoAndFour (map (λ (e : FlowFields). e.set_type) (first ∷ b ∷ c ∷ rest)) → ⊥
+    no : AreAdmittedAndActive (map (λ (e : FlowFields). e.set_type) (first ∷ b ∷ c ∷ rest)) → ⊥
     no (inl same) = cc
     no (inr same) = cc
 

@@ -3,7 +3,9 @@ use Rattle.std.proofs.Common.{◌≡◌, ◌≢◌, ℕ, ◌<◌, ◌≤◌, Lis
 use Rattle.std.specs.Prelude.{Contains}
 use Rattle.std.specs.List.{AllByRecursion}
 use Rattle.std.proofs.lemmas.List.Elements.{All-head, All-contains, All-from_recursion}
+use Rattle.tlv24.specs.SetType.{set_type_number}
 use Rattle.tlv24.specs.declared.fields.FlowFields.{FlowFields}
+use Rattle.tlv24.specs.declared.set_type.SetType.TheVariants.{Admitted, Active, AdmittedAndActive}
 use Rattle.dsx_messages.specs.declared.modem.Modem.{Modem}
 use Rattle.dsx_messages.specs.declared.kind.Kind.TheVariants.{Dsa, Dsc, Dsd}
 use Rattle.dsx_messages.specs.declared.code.Code.TheVariants.{RejectTemporary, RejectInvalidForContext, RejectAuthorizationFailure, RejectNotOwner, RejectFlowNotFound, RejectRequiredParameterNotPresent, RejectDuplicateReference, RejectMultipleUpstreamFlows}
@@ -23,8 +25,8 @@ use Rattle.operator_model.specs.Verdict.{new_flow}
 use Rattle.operator_model.specs.Worked.{first_modem, second_modem}
 use Rattle.plant.specs.Row.{same_modem}
 use Rattle.std.proofs.lemmas.Bool.{true≢false}
-use Rattle.check_table.specs.Said.{Said, said_by, identifier, NamesFlow, IsAbout, EncodingAsksFor, EncodingIsRefused, Admits, Activates, IsSetWhere}
-use Rattle.check_table.specs.Holding.{would_commit, NamesUnknownClass, AreTwoAndFour, IsTaken, GivesNoSet}
+use Rattle.check_table.specs.Said.{Said, said_by, identifier, NamesFlow, IsAbout, EncodingAsksFor, EncodingIsRefused, Admits, Activates, IsSetWhere, IsSetType}
+use Rattle.check_table.specs.Holding.{would_commit, NamesUnknownClass, AreAdmittedAndActive, IsTaken, GivesNoSet}
 use Rattle.check_table.specs.Answering.{refusal_verdict, naming, set_type_code}
 use Rattle.check_table.specs.Table.{IsDecidedBy}
 use Rattle.check_table.specs.declared.check.Check.TheVariants.{UnknownClass, NoEncoding, IdentifiersDiffer, NotTogether, NoIdentifier, UnknownFlow, NotOwner, FlowWaits, WrongSetType, NoParameterSet, ActiveNotWithin, AdmittedNotWithin, FlowsFull, NoSfidFree, NoSidFree, ElementsOver, MinislotsOver, Accepted}
@@ -63,7 +65,7 @@ module _ (op : Operator) (modem : Modem) (tid : ℕ) where
         (refusal_verdict (adds two) RejectMultipleUpstreamFlows Nothing) refl two_named
         (a, b, contains-here a (b ∷ []), contains-later a (b ∷ []) b (contains-here b []), apart) refl
 
-    pub two_apart : AllByRecursion (λ e. e.reference ≡ a.reference) two → ¬ AreTwoAndFour (a.set_type ∷ b.set_type ∷ [])
+    pub two_apart : AllByRecursion (λ e. e.reference ≡ a.reference) two → ¬ AreAdmittedAndActive (a.set_type ∷ b.set_type ∷ [])
         → IsDecidedBy op modem (adds two) NotTogether (refusal_verdict (adds two) RejectDuplicateReference Nothing)
     two_apart same apart =
         decided_by op modem (adds two) (UnknownClass ∷ NoEncoding ∷ IdentifiersDiffer ∷ []) NotTogether
@@ -76,7 +78,7 @@ module _ (op : Operator) (modem : Modem) (tid : ℕ) where
         each e has = All-contains (λ (x : FlowFields). x.reference ≡ a.reference) two e (All-from_recursion (λ (x : FlowFields). x.reference ≡ a.reference) two same) has
 
     -- the one of set type 2 and the other of set type 4, of one reference
-    module _ (n : ℕ) (is_a : a.reference ≡ Some n) (is_b : b.reference ≡ Some n) (is_two : a.set_type ≡ Some 2) (is_four : b.set_type ≡ Some 4)
+    module _ (n : ℕ) (is_a : a.reference ≡ Some n) (is_b : b.reference ≡ Some n) (is_two : IsSetType Admitted a.set_type) (is_four : IsSetType Active b.set_type)
         (x y : ParamFields) (asks_x : EncodingAsksFor op.consts a x) (asks_y : EncodingAsksFor op.consts b y) where
       two_one : (e : FlowFields) → Contains two e → e.reference ≡ Some n
       two_one e has =
@@ -87,7 +89,7 @@ module _ (op : Operator) (modem : Modem) (tid : ℕ) where
           all_append (Fails op modem (adds two)) (UnknownClass ∷ NoEncoding ∷ []) (IdentifiersDiffer ∷ NotTogether ∷ NoIdentifier ∷ UnknownFlow ∷ NotOwner ∷ FlowWaits ∷ []) two_named (
             (λ h. h.4 (two_one h.0 h.2 ∙ sym (two_one h.1 h.3))),
             (
-              (λ h. h.1 (inl (ap (λ (t : Option ℕ). t ∷ b.set_type ∷ []) is_two ∙ ap (λ (t : Option ℕ). Some 2 ∷ t ∷ []) is_four))),
+              (λ h. h.1 (inl (ap (λ (t : Option ℕ). t ∷ b.set_type ∷ []) is_two ∙ ap (λ (t : Option ℕ). Some (set_type_number Admitted) ∷ t ∷ []) is_four))),
               (
                 none_any (λ (e : FlowFields). e.reference ≡ None) two ((λ h. cc), ((λ h. cc), tt)),
                 ((λ h. h.1), ((λ h. h.2.0), ((λ h. h.2.0), tt))),
@@ -157,11 +159,11 @@ module _ (op : Operator) (modem : Modem) (tid : ℕ) where
           (NoParameterSet ∷ ActiveNotWithin ∷ AdmittedNotWithin ∷ FlowsFull ∷ NoSfidFree ∷ NoSidFree ∷ ElementsOver ∷ MinislotsOver ∷ Accepted ∷ [])
           (refusal_verdict (adds one) (set_type_code e.set_type) (naming (adds one) e 6)) refl one_flow (e, refl, untaken) (e, refl, refl)
 
-      pub one_typed : e.set_type ≡ Some 6 → AllByRecursion (Fails op modem (adds one)) (up_to_flow ++ WrongSetType ∷ [])
+      pub one_typed : IsSetType AdmittedAndActive e.set_type → AllByRecursion (Fails op modem (adds one)) (up_to_flow ++ WrongSetType ∷ [])
       one_typed six = all_more (Fails op modem (adds one)) up_to_flow WrongSetType one_flow
           (λ h. let same : e ≡ h.0 = cc in h.2 (inr (inl (sym (ap (λ (x : FlowFields). x.set_type) same) ∙ six))))
 
-      pub one_refused : e.set_type ≡ Some 6 → (r : Refusal) → EncodingIsRefused op.consts e r
+      pub one_refused : IsSetType AdmittedAndActive e.set_type → (r : Refusal) → EncodingIsRefused op.consts e r
           → IsDecidedBy op modem (adds one) NoParameterSet (refusal_verdict (adds one) r.code (naming (adds one) e r.subtype))
       one_refused six r is_refused =
           decided_by op modem (adds one) (up_to_flow ++ WrongSetType ∷ []) NoParameterSet
@@ -174,7 +176,7 @@ module _ (op : Operator) (modem : Modem) (tid : ℕ) where
 
       -- ---- its set is read, and is admitted and active
 
-      module _ (six : e.set_type ≡ Some 6) (set : ParamFields) (asks : EncodingAsksFor op.consts e set) where
+      module _ (six : IsSetType AdmittedAndActive e.set_type) (set : ParamFields) (asks : EncodingAsksFor op.consts e set) where
         is_set : IsSetWhere Admits op.consts one (Some set)
         is_set = any_from (λ (x : FlowFields). Admits x × EncodingAsksFor op.consts x set) one e (contains-here e []) (inr six, asks)
 
@@ -257,7 +259,7 @@ module _ (op : Operator) (modem : Modem) (tid : ℕ) where
   -- ---- changes
 
   -- one encoding that admits and activates a set of the one flow that stands
-  module _ (e : FlowFields) (plain : e.class_name ≡ None) (n : ℕ) (is : e.sfid ≡ Some n) (six : e.set_type ≡ Some 6) (set : ParamFields) (asks : EncodingAsksFor op.consts e set)
+  module _ (e : FlowFields) (plain : e.class_name ≡ None) (n : ℕ) (is : e.sfid ≡ Some n) (six : IsSetType AdmittedAndActive e.set_type) (set : ParamFields) (asks : EncodingAsksFor op.consts e set)
       (flow : Flow) (there : op.state.flows ≡ (n, flow) ∷ []) (mine : flow.modem ≡ modem) (rests : flow.pending ≡ None) where
     abbrev changes : Said
     changes = said_by (requests.Dsc tid (e ∷ []))
@@ -435,9 +437,9 @@ reserving rate = record {
 abbrev pub best_effort : ℕ → FlowFields
 best_effort n = record unstated { reference = Some n; set_type = Some 6; scheduling_type = Some 2 }
 
-pub not_two_and_four : ¬ AreTwoAndFour (Some 6 ∷ Some 6 ∷ [])
-not_two_and_four (inl h) = let e : ◌≡◌ {A = ℕ} 6 2 = cc in absurd (omega arith)
-not_two_and_four (inr h) = let e : ◌≡◌ {A = ℕ} 6 4 = cc in absurd (omega arith)
+pub not_one_for_each : ¬ AreAdmittedAndActive (Some 6 ∷ Some 6 ∷ [])
+not_one_for_each (inl h) = let e : ◌≡◌ {A = ℕ} 6 2 = cc in absurd (omega arith)
+not_one_for_each (inr h) = let e : ◌≡◌ {A = ℕ} 6 4 = cc in absurd (omega arith)
 
 pub null_untaken : ¬ IsTaken Dsa (Some 0)
 null_untaken (inl h) = let e : ◌≡◌ {A = ℕ} 0 2 = cc in absurd (omega arith)

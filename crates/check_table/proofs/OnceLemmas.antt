@@ -19,7 +19,7 @@ use Rattle.operator_model.specs.Asked.{is_same, stand_together}
 use Rattle.operator_model.proofs.MapLemmas.{Ascends}
 use Rattle.lists.specs.First.{IsFirst}
 use Rattle.check_table.specs.Said.{Said, identifier, told_identifier, NamesFlow, IsOfFlow, EncodingIsRefused, Admits, Activates, IsSetWhere}
-use Rattle.check_table.specs.Holding.{Holds, AreTwoAndFour, NamesUnknownClass, GivesNoSet}
+use Rattle.check_table.specs.Holding.{Holds, AreAdmittedAndActive, NamesUnknownClass, GivesNoSet}
 use Rattle.check_table.specs.Answering.{IsAdded, GetsSid, IsChanged, IsDeleted, IsAccepted, Answers}
 use Rattle.check_table.specs.Table.{table, IsDecidedBy}
 use Rattle.check_table.specs.declared.check.Check.{Check}
@@ -73,7 +73,7 @@ names_once Dsd es fixed same m n h k = cc
 
 -- there are no encodings that do not stand together
 abbrev StandTogether : List FlowFields → Type 0
-StandTogether es = ¬ ((1 < length es) × (¬ AreTwoAndFour (map (λ (e : FlowFields). e.set_type) es)))
+StandTogether es = ¬ ((1 < length es) × (¬ AreAdmittedAndActive (map (λ (e : FlowFields). e.set_type) es)))
 
 two_shape : (a b : FlowFields) → StandTogether (a ∷ b ∷ []) → IsShape (a ∷ b ∷ [])
 two_shape a b together = by (stand_together (a ∷ b ∷ [])) refl
@@ -82,7 +82,7 @@ two_shape a b together = by (stand_together (a ∷ b ∷ [])) refl
     by true is = together_shape (a ∷ b ∷ []) is
     by false is = absurd (together (apart_more a (b ∷ []) is))
 
--- where of two of set types 2 and 4 P holds of one, it holds of one of those that stand together
+-- where of two encodings, one for each set, P holds of one, it holds of one of those that stand together
 agree : (P : FlowFields → Type 0) → ((a b : FlowFields) → IsShape (a ∷ b ∷ []) → P a → P b → ⊥) → (es : List FlowFields) → StandTogether es
     → (a b : FlowFields) → Contains es a → Contains es b → P a → P b → a ≡ b
 agree P apart [] together a b has_a has_b p q = absurd (contains-nothing a has_a)

@@ -1,11 +1,15 @@
 -- The checks of the sets that an addition or a change asks for.
-use Rattle.std.proofs.Common.{◌≡◌, ◌≢◌, ℕ, ◌==◌, ◌&&◌, true, false, List, [], ◌∷◌, ◌++◌, ◌⊎◌, Option, Some, None, Result, Ok, Err, is_none, option_map, refl, sym, ap, ◌∙◌, subst, inl, inr}
+use Rattle.std.proofs.Common.{◌≡◌, ◌≢◌, ℕ, ◌==◌, true, false, List, [], ◌∷◌, ◌++◌, ◌⊎◌, Option, Some, None, IfSome, Result, Ok, Err, is_none, option_map, find, refl, sym, ap, ◌∙◌, subst, inl, inr}
 use Rattle.std.specs.Prelude.{Contains, MatchResult}
 use Rattle.std.specs.List.{AllByRecursion}
-use Rattle.std.proofs.lemmas.Bool.{cond_both, cond-true, cond-false, and_parts, and_from, eqb-true, eq-eqb, true≢false, false≢true}
+use Rattle.std.proofs.lemmas.Bool.{cond_both, cond-true, cond-false, eqb-true, true≢false, false≢true}
 use Rattle.std.proofs.lemmas.List.Elements.{All-from_recursion, All-contains}
 use Rattle.lists.specs.Results.{◌>>=◌}
+use Rattle.tlv24.specs.Subtype.{set_type_subtype}
+use Rattle.tlv24.specs.SetType.{set_type_number, known_set_types, set_type_of}
 use Rattle.tlv24.specs.declared.fields.FlowFields.{FlowFields}
+use Rattle.tlv24.specs.declared.set_type.SetType.{SetType}
+use Rattle.tlv24.specs.declared.set_type.SetType.TheVariants.{Null, Provisioned, Admitted, ProvisionedAndAdmitted, Active, AdmittedAndActive, AllSets}
 use Rattle.dsx_messages.specs.declared.modem.Modem.{Modem}
 use Rattle.dsx_messages.specs.declared.kind.Kind.{Kind}
 use Rattle.dsx_messages.specs.declared.kind.Kind.TheVariants.{Dsa, Dsc, Dsd}
@@ -22,8 +26,8 @@ use Rattle.flow_table.specs.declared.flow.Flow.{Flow}
 use Rattle.operator_model.specs.declared.verdict.AskedSets.{AskedSets}
 use Rattle.operator_model.specs.declared.verdict.Verdict.TheVariants.{Refused}
 use Rattle.operator_model.specs.State.{Operator}
-use Rattle.operator_model.specs.Asked.{refusal_naming, is_same, has_set_type, set_or_refusal, set_over_class, set_of, is_change, asked_by_one, in_order, asked_by_two, asked_sets, failing_active, failing_admitted, nested_unless, nested_sets}
-use Rattle.check_table.specs.Said.{IsAbout, EncodingAsksFor, EncodingIsRefused, Admits, Activates, IsSetWhere}
+use Rattle.operator_model.specs.Asked.{refusal_naming, is_same, has_set_type, set_or_refusal, set_over_class, set_of, is_change, asked_by_type, asked_by_one, in_order, asked_by_two, asked_sets, failing_active, failing_admitted, nested_unless, nested_sets}
+use Rattle.check_table.specs.Said.{IsAbout, EncodingAsksFor, EncodingIsRefused, Admits, Activates, IsSetWhere, IsSetType}
 use Rattle.check_table.specs.Holding.{NamesUnknownClass, IsTaken, GivesNoSet}
 use Rattle.check_table.specs.Answering.{set_type_code}
 use Rattle.check_table.specs.declared.check.Check.{Check}
@@ -31,6 +35,18 @@ use Rattle.check_table.specs.declared.check.Check.TheVariants.{WrongSetType, NoP
 use Rattle.check_table.proofs.ListLemmas.{contains-here, contains-later, contains_cases, contains-nothing, any_from, none_any, all_more, first-here, first-later}
 use Rattle.check_table.proofs.TableLemmas.{up_to_flow, up_to_sets, Fails, IsDecided, decided}
 use Rattle.check_table.proofs.EncodingLemmas.{is_same_from, unclassed, IsShape, said_of, trans, named_refusal, IsReady}
+
+-- ---- the set type of a number
+
+first_found : (n : ℕ) (types : List SetType) → IfSome (find (λ (t : SetType). n == set_type_number t) types) (λ t. n ≡ set_type_number t)
+first_found n [] = tt
+first_found n (t ∷ types) =
+    cond_both (n == set_type_number t) _ _ (λ (o : Option SetType). IfSome o (λ t. n ≡ set_type_number t)) (λ same. eqb-true n (set_type_number t) same) (λ other. first_found n types)
+
+number_of : (n : ℕ) (set_type : SetType) → set_type_of n ≡ Some set_type → n ≡ set_type_number set_type
+number_of n set_type is = subst (λ (o : Option SetType). IfSome o (λ t. n ≡ set_type_number t)) is (first_found n known_set_types)
+
+-- ---- one check after the other
 
 -- what a check gives the next one takes over
 pub match_then : {A B : Type 0} (P : A → Type 0) (R : B → Type 0) (Q : ReplyFields → Type 0) (r : Result A ReplyFields) (f : A → Result B ReplyFields)
@@ -88,7 +104,7 @@ one_of_two P first second a b apart has_a has_b p q = by (two a has_a) (two b ha
     by (inl x) (inr y) = absurd (apart (subst P (sym x) p) (subst P (sym y) q))
     by (inr x) (inl y) = absurd (apart (subst P (sym y) q) (subst P (sym x) p))
 
--- of two of set types 2 and 4 just one admits, and just one activates
+-- of two encodings, one for each set, just one admits, and just one activates
 pub not_both_admit : (a b : FlowFields) → IsShape (a ∷ b ∷ []) → Admits a → Admits b → ⊥
 not_both_admit a b (inl is) p (inl q) = cc (is.1)
 not_both_admit a b (inl is) p (inr q) = cc (is.1)
@@ -160,7 +176,7 @@ module _ (op : Operator) (modem : Modem) (kind : Kind) (tid : ℕ) (not_dsd : ki
     right_type taken = all_more (Failing (e ∷ [])) up_to_flow WrongSetType none
         (λ h. let same : e ≡ h.0 = cc in h.2 (subst (λ (x : FlowFields). IsTaken kind x.set_type) same taken))
 
-    no_set : IsTaken kind e.set_type → e.set_type ≢ Some 0 → (reply : ReplyFields) → IsNoSet e reply → Decided (e ∷ []) reply
+    no_set : IsTaken kind e.set_type → ¬ IsSetType Null e.set_type → (reply : ReplyFields) → IsNoSet e reply → Decided (e ∷ []) reply
     no_set taken not_null reply is =
         decided op modem (said_of op modem kind tid not_dsd (e ∷ [])) (up_to_flow ++ WrongSetType ∷ []) NoParameterSet
         (ActiveNotWithin ∷ AdmittedNotWithin ∷ FlowsFull ∷ NoSfidFree ∷ NoSidFree ∷ ElementsOver ∷ MinislotsOver ∷ Accepted ∷ [])
@@ -176,7 +192,7 @@ module _ (op : Operator) (modem : Modem) (kind : Kind) (tid : ℕ) (not_dsd : ki
     some_set taken set asks = all_more (Failing (e ∷ [])) (up_to_flow ++ WrongSetType ∷ []) NoParameterSet (right_type taken)
         (none_any (GivesNoSet op.consts) (e ∷ []) ((λ h. let refused : EncodingIsRefused op.consts e h.1 = h.2 in cc), tt))
 
-    admits_one : e.set_type ≡ Some 2 → View (e ∷ []) (set_of (trans op modem kind tid not_dsd) op.consts e >>= λ set. Ok (record { admitted = Some set; active = None }))
+    admits_one : IsSetType Admitted e.set_type → View (e ∷ []) (set_of (trans op modem kind tid not_dsd) op.consts e >>= λ set. Ok (record { admitted = Some set; active = None }))
     admits_one is = by (set_of (trans op modem kind tid not_dsd) op.consts e) (set-view e known)
       where
         idle : ¬ Activates e
@@ -197,7 +213,7 @@ module _ (op : Operator) (modem : Modem) (kind : Kind) (tid : ℕ) (not_dsd : ki
               none = some_set (inl is) set asks;
             }
 
-    activates_one : e.set_type ≡ Some 6 → View (e ∷ []) (set_of (trans op modem kind tid not_dsd) op.consts e >>= λ set. Ok (record { admitted = Some set; active = Some set }))
+    activates_one : IsSetType AdmittedAndActive e.set_type → View (e ∷ []) (set_of (trans op modem kind tid not_dsd) op.consts e >>= λ set. Ok (record { admitted = Some set; active = Some set }))
     activates_one is = by (set_of (trans op modem kind tid not_dsd) op.consts e) (set-view e known)
       where
         by : (r : Result ParamFields ReplyFields) → MatchResult r (EncodingAsksFor op.consts e) (IsNoSet e) → View (e ∷ []) (r >>= λ set. Ok (record { admitted = Some set; active = Some set }))
@@ -214,7 +230,7 @@ module _ (op : Operator) (modem : Modem) (kind : Kind) (tid : ℕ) (not_dsd : ki
               none = some_set (inr (inl is)) set asks;
             }
 
-    clears_one : e.set_type ≡ Some 0 → kind ≡ Dsc → AreAsked (e ∷ []) (record { admitted = None; active = None })
+    clears_one : IsSetType Null e.set_type → kind ≡ Dsc → AreAsked (e ∷ []) (record { admitted = None; active = None })
     clears_one is dsc =
         let admitted : IsSetWhere Admits op.consts (e ∷ []) None = none_of_one op Admits e no_admission in
         let active : IsSetWhere Activates op.consts (e ∷ []) None = none_of_one op Activates e no_activation in
@@ -239,12 +255,14 @@ module _ (op : Operator) (modem : Modem) (kind : Kind) (tid : ℕ) (not_dsd : ki
     one-view : View (e ∷ []) (asked_by_one (trans op modem kind tid not_dsd) op.consts e e.set_type)
     one-view = go e.set_type refl
       where
-        untaken : (n : ℕ) → e.set_type ≡ Some n → (n == 2) ≡ false → (n == 6) ≡ false → (n == 0 && is_change kind) ≡ false → ¬ IsTaken kind e.set_type
-        untaken n is a b c (inl two) = let same : n ≡ 2 = cc in true≢false (sym (eq-eqb n 2 same) ∙ a)
-        untaken n is a b c (inr (inl six)) = let same : n ≡ 6 = cc in true≢false (sym (eq-eqb n 6 same) ∙ b)
-        untaken n is a b c (inr (inr zero)) =
-            let same : n ≡ 0 = cc (zero.1) in
-            true≢false (sym (and_from (n == 0) (is_change kind) (eq-eqb n 0 same) (ap is_change zero.0)) ∙ c)
+        untaken : (n : ℕ) (set_type : Option SetType) → e.set_type ≡ Some n → set_type_of n ≡ set_type → set_type ≢ Some Admitted → set_type ≢ Some AdmittedAndActive → (kind ≡ Dsc → set_type ≢ Some Null)
+            → ¬ IsTaken kind e.set_type
+        untaken n set_type is found a b c (inl admitted) = let same : n ≡ set_type_number Admitted = cc in a (sym found ∙ ap set_type_of same)
+        untaken n set_type is found a b c (inr (inl both)) = let same : n ≡ set_type_number AdmittedAndActive = cc in b (sym found ∙ ap set_type_of same)
+        untaken n set_type is found a b c (inr (inr null)) = let same : n ≡ set_type_number Null = cc (null.1) in c null.0 (sym found ∙ ap set_type_of same)
+
+        wrong : (n : ℕ) → e.set_type ≡ Some n → ¬ IsTaken kind e.set_type → Decided (e ∷ []) (refusal_naming (trans op modem kind tid not_dsd) RejectInvalidForContext e set_type_subtype)
+        wrong n is not_taken = wrong_type not_taken RejectInvalidForContext (ap set_type_code (sym is))
 
         changes : (k : Kind) → is_change k ≡ true → k ≡ Dsc
         changes Dsa is = absurd (false≢true is)
@@ -252,18 +270,28 @@ module _ (op : Operator) (modem : Modem) (kind : Kind) (tid : ℕ) (not_dsd : ki
         changes Dsd is = absurd (false≢true is)
 
         absent : e.set_type ≡ None → ¬ IsTaken kind e.set_type
-        absent is (inl two) = cc
-        absent is (inr (inl six)) = cc
-        absent is (inr (inr zero)) = cc (zero.1)
+        absent is (inl admitted) = cc
+        absent is (inr (inl both)) = cc
+        absent is (inr (inr null)) = cc (null.1)
+
+        of_number : (n : ℕ) (set_type : SetType) → e.set_type ≡ Some n → set_type_of n ≡ Some set_type → IsSetType set_type e.set_type
+        of_number n set_type is found = is ∙ ap (λ (k : ℕ). Some k) (number_of n set_type found)
+
+        typed : (n : ℕ) (set_type : Option SetType) → e.set_type ≡ Some n → set_type_of n ≡ set_type → View (e ∷ []) (asked_by_type (trans op modem kind tid not_dsd) op.consts e set_type)
+        typed n (Some Admitted) is found = admits_one (of_number n Admitted is found)
+        typed n (Some AdmittedAndActive) is found = activates_one (of_number n AdmittedAndActive is found)
+        typed n (Some Null) is found =
+            cond_both (is_change kind) _ _ (View (e ∷ [])) (λ change. clears_one (of_number n Null is found) (changes kind change))
+            (λ no_change. wrong n is (untaken n (Some Null) is found (λ h. cc) (λ h. cc) (λ dsc h. true≢false (sym (ap is_change dsc) ∙ no_change))))
+        typed n (Some Provisioned) is found = wrong n is (untaken n (Some Provisioned) is found (λ h. cc) (λ h. cc) (λ dsc h. cc))
+        typed n (Some ProvisionedAndAdmitted) is found = wrong n is (untaken n (Some ProvisionedAndAdmitted) is found (λ h. cc) (λ h. cc) (λ dsc h. cc))
+        typed n (Some Active) is found = wrong n is (untaken n (Some Active) is found (λ h. cc) (λ h. cc) (λ dsc h. cc))
+        typed n (Some AllSets) is found = wrong n is (untaken n (Some AllSets) is found (λ h. cc) (λ h. cc) (λ dsc h. cc))
+        typed n None is found = wrong n is (untaken n None is found (λ h. cc) (λ h. cc) (λ dsc h. cc))
 
         go : (o : Option ℕ) → e.set_type ≡ o → View (e ∷ []) (asked_by_one (trans op modem kind tid not_dsd) op.consts e o)
         go None is = wrong_type (absent is) RejectRequiredParameterNotPresent (ap set_type_code (sym is))
-        go (Some n) is =
-            cond_both (n == 2) _ _ (View (e ∷ [])) (λ two. admits_one (is ∙ ap (λ (k : ℕ). Some k) (eqb-true n 2 two)))
-            (λ not_two. cond_both (n == 6) _ _ (View (e ∷ [])) (λ six. activates_one (is ∙ ap (λ (k : ℕ). Some k) (eqb-true n 6 six)))
-            (λ not_six. cond_both (n == 0 && is_change kind) _ _ (View (e ∷ []))
-            (λ zero. let both = and_parts (n == 0) (is_change kind) zero in clears_one (is ∙ ap (λ (k : ℕ). Some k) (eqb-true n 0 both.0)) (changes kind both.1))
-            (λ not_zero. wrong_type (untaken n is not_two not_six not_zero) RejectInvalidForContext (ap set_type_code (sym is)))))
+        go (Some n) is = typed n (set_type_of n) is refl
 
   -- ---- two encodings
 
@@ -275,7 +303,7 @@ module _ (op : Operator) (modem : Modem) (kind : Kind) (tid : ℕ) (not_dsd : ki
     two_types : AllByRecursion (Failing both) (up_to_flow ++ WrongSetType ∷ [])
     two_types = all_more (Failing both) up_to_flow WrongSetType none (λ h. cc (h.1))
 
-    first_no_set : a.set_type ≢ Some 0 → (reply : ReplyFields) → IsNoSet a reply → Decided both reply
+    first_no_set : ¬ IsSetType Null a.set_type → (reply : ReplyFields) → IsNoSet a reply → Decided both reply
     first_no_set not_null reply is =
         decided op modem (said_of op modem kind tid not_dsd both) (up_to_flow ++ WrongSetType ∷ []) NoParameterSet
         (ActiveNotWithin ∷ AdmittedNotWithin ∷ FlowsFull ∷ NoSfidFree ∷ NoSidFree ∷ ElementsOver ∷ MinislotsOver ∷ Accepted ∷ [])
@@ -290,7 +318,7 @@ module _ (op : Operator) (modem : Modem) (kind : Kind) (tid : ℕ) (not_dsd : ki
     gives_a_set : (e : FlowFields) (set : ParamFields) → EncodingAsksFor op.consts e set → ¬ GivesNoSet op.consts e
     gives_a_set e set asks h = let refused : EncodingIsRefused op.consts e h.1 = h.2 in cc
 
-    second_no_set : b.set_type ≢ Some 0 → (set : ParamFields) → EncodingAsksFor op.consts a set → (reply : ReplyFields) → IsNoSet b reply → Decided both reply
+    second_no_set : ¬ IsSetType Null b.set_type → (set : ParamFields) → EncodingAsksFor op.consts a set → (reply : ReplyFields) → IsNoSet b reply → Decided both reply
     second_no_set not_null set asks reply is =
         decided op modem (said_of op modem kind tid not_dsd both) (up_to_flow ++ WrongSetType ∷ []) NoParameterSet
         (ActiveNotWithin ∷ AdmittedNotWithin ∷ FlowsFull ∷ NoSfidFree ∷ NoSidFree ∷ ElementsOver ∷ MinislotsOver ∷ Accepted ∷ [])
@@ -330,20 +358,20 @@ module _ (op : Operator) (modem : Modem) (kind : Kind) (tid : ℕ) (not_dsd : ki
 
     ordered : (x y : ParamFields) → EncodingAsksFor op.consts a x → EncodingAsksFor op.consts b y → IsShape both → AreAsked both (in_order a x y)
     ordered x y asks_x asks_y (inl is) =
-        subst (AreAsked both) (sym (cond-true (has_set_type 2 a) _ _ (is_same_from a.set_type (Some 2) is.0)))
+        subst (AreAsked both) (sym (cond-true (has_set_type Admitted a) _ _ (is_same_from a.set_type (Some (set_type_number Admitted)) is.0)))
         (two_asked x y a b has_a has_b (inl is.0) (inl is.1) asks_x asks_y (two_sets x y asks_x asks_y))
     ordered x y asks_x asks_y (inr is) =
-        subst (AreAsked both) (sym (cond-false (has_set_type 2 a) _ _ (ap (λ (o : Option ℕ). is_same o (Some 2)) is.0)))
+        subst (AreAsked both) (sym (cond-false (has_set_type Admitted a) _ _ (ap (λ (o : Option ℕ). is_same o (Some (set_type_number Admitted))) is.0)))
         (two_asked y x b a has_b has_a (inl is.1) (inl is.0) asks_y asks_x (two_sets x y asks_x asks_y))
 
-    not_null_a : a.set_type ≢ Some 0
+    not_null_a : ¬ IsSetType Null a.set_type
     not_null_a null = by shape
       where
         by : IsShape both → ⊥
         by (inl is) = cc (is.0)
         by (inr is) = cc (is.0)
 
-    not_null_b : b.set_type ≢ Some 0
+    not_null_b : ¬ IsSetType Null b.set_type
     not_null_b null = by shape
       where
         by : IsShape both → ⊥

@@ -1,6 +1,8 @@
 -- When each check of the table holds, by itself (CM-SP-MULPIv3.1, 11.2.2 and 11.2.3; which checks there are is implementation-specific).
 use Rattle.std.specs.Prelude.{◌≡◌, ◌≢◌, ℕ, ◌+◌, ◌-◌, ◌<◌, ◌≤◌, max, List, [], ◌∷◌, length, map, sum_by, All, Any, Contains, Option, Some, None, IsSome, ◌⊎◌}
+use Rattle.tlv24.specs.SetType.{set_type_number}
 use Rattle.tlv24.specs.declared.fields.FlowFields.{FlowFields}
+use Rattle.tlv24.specs.declared.set_type.SetType.TheVariants.{Null, Admitted, Active, AdmittedAndActive}
 use Rattle.dsx_messages.specs.declared.modem.Modem.{Modem}
 use Rattle.dsx_messages.specs.declared.kind.Kind.{Kind}
 use Rattle.dsx_messages.specs.declared.kind.Kind.TheVariants.{Dsa, Dsc, Dsd}
@@ -19,24 +21,27 @@ use Rattle.operator_model.specs.declared.share.NextShare.{NextShare}
 use Rattle.operator_model.specs.State.{Operator}
 use Rattle.check_table.specs.declared.check.Check.{Check}
 use Rattle.check_table.specs.declared.check.Check.TheVariants.{UnknownClass, NoEncoding, IdentifiersDiffer, NotTogether, NoIdentifier, UnknownFlow, NotOwner, FlowWaits, WrongSetType, NoParameterSet, ActiveNotWithin, AdmittedNotWithin, FlowsFull, NoSfidFree, NoSidFree, ElementsOver, MinislotsOver, Accepted}
-use Rattle.check_table.specs.Said.{Said, identifier, NamesFlow, IsOfFlow, IsAbout, EncodingIsRefused, IsToBeAdmitted, IsToBeActive}
+use Rattle.check_table.specs.Said.{Said, identifier, NamesFlow, IsOfFlow, IsAbout, EncodingIsRefused, IsSetType, IsToBeAdmitted, IsToBeActive}
 
 -- an encoding names a class, and no class of the plant has that name
 abbrev pub NamesUnknownClass : List Class → FlowFields → Type 0
 NamesUnknownClass classes encoding =
     (name : List ℕ) × (encoding.class_name ≡ Some name) × All (λ class. class.name ≢ name) classes
 
--- two encodings, one of set type 2 and one of set type 4
-abbrev pub AreTwoAndFour : List (Option ℕ) → Type 0
-AreTwoAndFour set_types = (set_types ≡ Some 2 ∷ Some 4 ∷ []) ⊎ (set_types ≡ Some 4 ∷ Some 2 ∷ [])
+-- the set types of two encodings, one for the admitted set and one for the active set
+abbrev pub AreAdmittedAndActive : List (Option ℕ) → Type 0
+AreAdmittedAndActive set_types =
+    (set_types ≡ Some (set_type_number Admitted) ∷ Some (set_type_number Active) ∷ [])
+    ⊎ (set_types ≡ Some (set_type_number Active) ∷ Some (set_type_number Admitted) ∷ [])
 
--- a set type that one encoding may have: 2, 6, and in a change 0
+-- a set type that one encoding may have: for the admitted set, for both sets, and in a change null
 abbrev pub IsTaken : Kind → Option ℕ → Type 0
-IsTaken kind set_type = (set_type ≡ Some 2) ⊎ ((set_type ≡ Some 6) ⊎ ((kind ≡ Dsc) × (set_type ≡ Some 0)))
+IsTaken kind set_type =
+    IsSetType Admitted set_type ⊎ (IsSetType AdmittedAndActive set_type ⊎ ((kind ≡ Dsc) × IsSetType Null set_type))
 
 -- an encoding that is to give a set, and is refused
 abbrev pub GivesNoSet : ConstsFields → FlowFields → Type 0
-GivesNoSet consts encoding = (encoding.set_type ≢ Some 0) × (refusal : Refusal) × EncodingIsRefused consts encoding refusal
+GivesNoSet consts encoding = (¬ IsSetType Null encoding.set_type) × (refusal : Refusal) × EncodingIsRefused consts encoding refusal
 
 -- no number of the range is free
 abbrev pub IsUsedUp : Numbers → List ℕ → Type 0
@@ -70,7 +75,7 @@ Holds IdentifiersDiffer op modem said =
     (a : FlowFields) × (b : FlowFields) × Contains said.encodings a × Contains said.encodings b
     × (identifier said.kind a ≢ identifier said.kind b)
 Holds NotTogether op modem said =
-    (1 < length said.encodings) × (¬ AreTwoAndFour (map (λ encoding. encoding.set_type) said.encodings))
+    (1 < length said.encodings) × (¬ AreAdmittedAndActive (map (λ encoding. encoding.set_type) said.encodings))
 Holds NoIdentifier op modem said = Any (λ encoding. identifier said.kind encoding ≡ None) said.encodings
 Holds UnknownFlow op modem said =
     (sfid : ℕ) × NamesFlow said.kind said.encodings said.sfid sfid × (¬ Contains (sfids_of op.state.flows) sfid)

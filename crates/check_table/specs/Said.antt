@@ -2,7 +2,10 @@
 use Rattle.std.specs.Prelude.{◌≡◌, ℕ, List, [], All, Any, Contains, Option, Some, None, Result, Ok, Err, ◌⊎◌}
 use Rattle.std.specs.Option.{option_map}
 use Rattle.tlv24.specs.Subtype.{reference_subtype, sfid_subtype}
+use Rattle.tlv24.specs.SetType.{set_type_number}
 use Rattle.tlv24.specs.declared.fields.FlowFields.{FlowFields}
+use Rattle.tlv24.specs.declared.set_type.SetType.{SetType}
+use Rattle.tlv24.specs.declared.set_type.SetType.TheVariants.{Admitted, Active, AdmittedAndActive}
 use Rattle.dsx_messages.specs.declared.kind.Kind.{Kind}
 use Rattle.dsx_messages.specs.declared.kind.Kind.TheVariants.{Dsa, Dsc, Dsd}
 use Rattle.dsx_messages.specs.declared.message.Request.{Request}
@@ -81,12 +84,16 @@ EncodingAsksFor consts encoding set = set_asked consts encoding ≡ Some (Ok set
 abbrev pub EncodingIsRefused : ConstsFields → FlowFields → Refusal → Type 0
 EncodingIsRefused consts encoding refusal = set_asked consts encoding ≡ Some (Err refusal)
 
--- set types are bits: 2 (binary 010) admits the set of the encoding, 4 (100) activates it, 6 (110) does both
+-- what an encoding states as its set type is this one
+abbrev pub IsSetType : SetType → Option ℕ → Type 0
+IsSetType set_type stated = stated ≡ Some (set_type_number set_type)
+
+-- the set of the encoding is to be admitted; it is to be active
 abbrev pub Admits : FlowFields → Type 0
-Admits encoding = (encoding.set_type ≡ Some 2) ⊎ (encoding.set_type ≡ Some 6)
+Admits encoding = IsSetType Admitted encoding.set_type ⊎ IsSetType AdmittedAndActive encoding.set_type
 
 abbrev pub Activates : FlowFields → Type 0
-Activates encoding = (encoding.set_type ≡ Some 4) ⊎ (encoding.set_type ≡ Some 6)
+Activates encoding = IsSetType Active encoding.set_type ⊎ IsSetType AdmittedAndActive encoding.set_type
 
 -- the set of an encoding of which P holds; the null set where P holds of none
 abbrev pub IsSetWhere : (FlowFields → Type 0) → ConstsFields → List FlowFields → Option ParamFields → Type 0

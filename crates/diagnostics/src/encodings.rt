@@ -8,7 +8,7 @@ use dsx_messages::Code;
 use hex::FromHexError;
 use param_sets::{ParamSet, Refusal, Units, from_tlv, need, overridden};
 use slice_table::{Field, Place};
-use tlv24::{FlowTlv, TlvFault, read_flow};
+use tlv24::{FlowTlv, SetType, TlvFault, read_flow};
 use toml::Table;
 
 /// Says why a text cannot be decoded as hexadecimal.
@@ -177,9 +177,14 @@ fn requested_encoding(reason: &mut Reason, document: &Table, stated: FlowTlv) ->
     }
 }
 
-/// Says that a set type is not one of a provisioned flow.
-fn say_set_type(reason: &mut Reason, set_type: Option<u8>) {
-    match set_type {
+/// Returns the set type of a value of subtype 6, where the value has a meaning.
+fn set_type_of(number: Option<u8>) -> Option<SetType> {
+    SetType::from_number(number?)
+}
+
+/// Says that a value of subtype 6 is not one of a provisioned flow.
+fn say_set_type(reason: &mut Reason, number: Option<u8>) {
+    match number {
         Some(other) => reason.say(
             "subtype 6 (set type) must be 1, 3 or 7, not {}",
             &[GapText::Number(u64::from(other))],
@@ -213,14 +218,14 @@ pub(crate) fn need_of(
     digits: &str,
 ) -> Option<Budget> {
     let stated = encoding_in(reason, digits)?;
-    let set_type = stated.get_set_type();
+    let number = stated.get_set_type();
     let asked = requested_encoding(reason, document, stated)?;
     let set = set_of(reason, &asked, units)?;
-    match set_type {
-        Some(1) => None,
-        Some(3) | Some(7) => Some(need(&set, &units)),
-        other => {
-            say_set_type(reason, other);
+    match set_type_of(number) {
+        Some(SetType::Provisioned) => None,
+        Some(SetType::ProvisionedAndAdmitted | SetType::AllSets) => Some(need(&set, &units)),
+        _ => {
+            say_set_type(reason, number);
             None
         }
     }

@@ -16,7 +16,7 @@ use operator_model::{
 };
 use param_sets::{ParamSet, Refusal, Sets, from_tlv, within};
 use plant::Consts;
-use tlv24::{FlowTlv, subtype};
+use tlv24::{FlowTlv, SetType, subtype};
 
 /// Returns whether each encoding has the identifier of this one.
 fn all_name(kind: Kind, first: &FlowTlv, others: &[FlowTlv]) -> bool
@@ -145,27 +145,27 @@ fn asked_by_type(
     t: Transaction,
     consts: &Consts,
     flow: &FlowTlv,
-    set_type: u8,
+    set_type: Option<SetType>,
 ) -> Result<AskedSets, Reply>
     requires { t.kind ≢ Dsd }
     ensures { result ≡ asked_by_type t consts.now flow.now set_type }
 {
     match set_type {
-        2 => {
+        Some(SetType::Admitted) => {
             let set = set_of(t, consts, flow)?;
             Ok(AskedSets {
                 admitted: Some(set),
                 active: None,
             })
         }
-        6 => {
+        Some(SetType::AdmittedAndActive) => {
             let set = set_of(t, consts, flow)?;
             Ok(AskedSets {
                 admitted: Some(set),
                 active: Some(set),
             })
         }
-        0 if is_change(t.kind) => Ok(AskedSets {
+        Some(SetType::Null) if is_change(t.kind) => Ok(AskedSets {
             admitted: None,
             active: None,
         }),
@@ -186,7 +186,7 @@ fn asked_by_one(t: Transaction, consts: &Consts, flow: &FlowTlv) -> Result<Asked
             flow,
             subtype::SET_TYPE,
         )),
-        Some(set_type) => asked_by_type(t, consts, flow, set_type),
+        Some(number) => asked_by_type(t, consts, flow, SetType::from_number(number)),
     }
 }
 
@@ -194,7 +194,7 @@ fn asked_by_one(t: Transaction, consts: &Consts, flow: &FlowTlv) -> Result<Asked
 fn in_order(first: &FlowTlv, a: ParamSet, b: ParamSet) -> AskedSets
     ensures { result ≡ in_order first.now a b }
 {
-    if has_set_type(2, first) {
+    if has_set_type(SetType::Admitted, first) {
         AskedSets {
             admitted: Some(a),
             active: Some(b),

@@ -1,9 +1,12 @@
 -- What is asked for is nested, and of a flow that waits for nothing.
-use Rattle.std.proofs.Common.{◌≡◌, ℕ, ◌==◌, ◌&&◌, not, false, List, [], ◌∷◌, Option, Some, None, Result, Ok, Err, IfOk, IfSome, is_some, refl}
+use Rattle.std.proofs.Common.{◌≡◌, ℕ, not, false, List, [], ◌∷◌, Option, Some, None, Result, Ok, Err, IfOk, IfSome, is_some, refl}
 use Rattle.std.proofs.lemmas.Bool.{cond_both}
 use Rattle.lists.specs.Results.{◌>>=◌}
 use Rattle.tlv24.specs.Subtype.{reference_subtype, sfid_subtype}
+use Rattle.tlv24.specs.SetType.{set_type_of}
 use Rattle.tlv24.specs.declared.fields.FlowFields.{FlowFields}
+use Rattle.tlv24.specs.declared.set_type.SetType.{SetType}
+use Rattle.tlv24.specs.declared.set_type.SetType.TheVariants.{Null, Provisioned, Admitted, ProvisionedAndAdmitted, Active, AdmittedAndActive, AllSets}
 use Rattle.dsx_messages.specs.declared.code.Code.TheVariants as codes
 use Rattle.dsx_messages.specs.declared.reply.ReplyFields.{ReplyFields}
 use Rattle.param_sets.specs.Reading.{parameter_set_of}
@@ -55,17 +58,21 @@ module _ (t : Transaction) (consts : ConstsFields) where
       over None = tt
       over (Some asked) = unless (parameter_set_of asked consts.units) (read_kind asked consts.units)
 
-  by_one : (flow : FlowFields) (n : ℕ) → IfOk (asked_by_type t consts flow n) AreKept
-  by_one flow n =
-      cond_both (n == 2) _ _ (λ (r : Result AskedSets ReplyFields). IfOk r AreKept) (λ _. and_then KeepsItsKind AreKept (set_of t consts flow) _ (set-kind flow) (λ set h. (h, tt)))
-      (λ _. cond_both (n == 6) _ _ (λ (r : Result AskedSets ReplyFields). IfOk r AreKept) (λ _. and_then KeepsItsKind AreKept (set_of t consts flow) _ (set-kind flow) (λ set h. (h, h)))
-      (λ _. cond_both (n == 0 && is_change t.kind) _ _ (λ (r : Result AskedSets ReplyFields). IfOk r AreKept) (λ _. (tt, tt)) (λ _. tt)))
+  by_one : (flow : FlowFields) (set_type : Option SetType) → IfOk (asked_by_type t consts flow set_type) AreKept
+  by_one flow (Some Admitted) = and_then KeepsItsKind AreKept (set_of t consts flow) _ (set-kind flow) (λ set h. (h, tt))
+  by_one flow (Some AdmittedAndActive) = and_then KeepsItsKind AreKept (set_of t consts flow) _ (set-kind flow) (λ set h. (h, h))
+  by_one flow (Some Null) = cond_both (is_change t.kind) _ _ (λ (r : Result AskedSets ReplyFields). IfOk r AreKept) (λ _. (tt, tt)) (λ _. tt)
+  by_one flow (Some Provisioned) = tt
+  by_one flow (Some ProvisionedAndAdmitted) = tt
+  by_one flow (Some Active) = tt
+  by_one flow (Some AllSets) = tt
+  by_one flow None = tt
 
   by_two : (first second : FlowFields) → IfOk (asked_by_two t consts first second) AreKept
   by_two first second =
       and_then KeepsItsKind AreKept (set_of t consts first) _ (set-kind first) (λ a is_a.
       and_then KeepsItsKind AreKept (set_of t consts second) _ (set-kind second) (λ b is_b.
-      cond_both (has_set_type 2 first) _ _ AreKept (λ _. (is_a, is_b)) (λ _. (is_b, is_a))))
+      cond_both (has_set_type Admitted first) _ _ AreKept (λ _. (is_a, is_b)) (λ _. (is_b, is_a))))
 
   asked-AreKept : (encodings : List FlowFields) → IfOk (asked_sets t consts encodings) AreKept
   unfolding asked_sets
@@ -74,7 +81,7 @@ module _ (t : Transaction) (consts : ConstsFields) where
     where
       by : (o : Option ℕ) → IfOk (asked_by_one t consts flow o) AreKept
       by None = tt
-      by (Some n) = by_one flow n
+      by (Some n) = by_one flow (set_type_of n)
   asked-AreKept (first ∷ second ∷ []) = by_two first second
   asked-AreKept (first ∷ second ∷ third ∷ others) = tt
 

@@ -1,12 +1,14 @@
 -- Provisioned flows: their sets are nested and of their kinds, and how they stand as flows.
-use Rattle.std.proofs.Common.{◌≡◌, ℕ, ◌==◌, List, [], ◌∷◌, Option, Some, None, Result, Ok, Err, IfOk, IfSome, map, refl, ap}
+use Rattle.std.proofs.Common.{◌≡◌, ℕ, List, [], ◌∷◌, Option, Some, None, Result, Ok, Err, IfOk, IfSome, map, refl, ap}
 use Rattle.std.specs.List.{cons_option}
 use Rattle.std.specs.declared.cmp.Ordering.{Ordering}
 use Rattle.std.specs.declared.cmp.Ordering.TheVariants.{Less, Equal, Greater}
 use Rattle.std.specs.Ordering.{nat_cmp, match_ordering}
 use Rattle.std.specs.BTreeMap.{insert_entry}
-use Rattle.std.proofs.lemmas.Bool.{cond_both}
+use Rattle.tlv24.specs.SetType.{set_type_of}
 use Rattle.tlv24.specs.declared.fields.FlowFields.{FlowFields}
+use Rattle.tlv24.specs.declared.set_type.SetType.{SetType}
+use Rattle.tlv24.specs.declared.set_type.SetType.TheVariants.{Null, Provisioned, Admitted, ProvisionedAndAdmitted, Active, AdmittedAndActive, AllSets}
 use Rattle.tlv24.specs.declared.fault.FlowFault.{FlowFault}
 use Rattle.param_sets.specs.Units.{UnitSizes}
 use Rattle.param_sets.specs.Reading.{parameter_set_of}
@@ -30,14 +32,18 @@ pub record AreFit (sets : SetsFields) : Type 0 where
   pub nested : AreNested sets
   pub kinds : AreOfTheirKinds sets
 
-by_type : (n : ℕ) (set : ParamFields) → KeepsItsKind set → IfSome (sets_of_type n set) AreFit
-by_type n set kind =
-    cond_both (n == 1) _ _ (λ o. IfSome o AreFit) (λ _. record { nested = record { active = tt; admitted = tt }; kinds = record { admitted = tt; active = tt } })
-    (λ _. cond_both (n == 3) _ _ (λ o. IfSome o AreFit) (λ _. record { nested = record { active = tt; admitted = within_self set }; kinds = record { admitted = kind; active = tt } })
-    (λ _. cond_both (n == 7) _ _ (λ o. IfSome o AreFit) (λ _. record { nested = record { active = within_self set; admitted = within_self set }; kinds = record { admitted = kind; active = kind } }) (λ _. tt)))
+by_type : (set_type : Option SetType) (set : ParamFields) → KeepsItsKind set → IfSome (sets_of_type set_type set) AreFit
+by_type (Some Provisioned) set kind = record { nested = record { active = tt; admitted = tt }; kinds = record { admitted = tt; active = tt } }
+by_type (Some ProvisionedAndAdmitted) set kind = record { nested = record { active = tt; admitted = within_self set }; kinds = record { admitted = kind; active = tt } }
+by_type (Some AllSets) set kind = record { nested = record { active = within_self set; admitted = within_self set }; kinds = record { admitted = kind; active = kind } }
+by_type (Some Null) set kind = tt
+by_type (Some Admitted) set kind = tt
+by_type (Some Active) set kind = tt
+by_type (Some AdmittedAndActive) set kind = tt
+by_type None set kind = tt
 
 by_set : (set_type : Option ℕ) (set : Result ParamFields Refusal) → IfOk set KeepsItsKind → IfSome (sets_of_set set_type set) AreFit
-by_set (Some n) (Ok set) kind = by_type n set kind
+by_set (Some n) (Ok set) kind = by_type (set_type_of n) set kind
 by_set (Some n) (Err refusal) kind = tt
 by_set None set kind = tt
 

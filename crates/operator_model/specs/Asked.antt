@@ -7,6 +7,9 @@ use Rattle.std.specs.Option.{option_map}
 use Rattle.std.specs.List.{list_all}
 use Rattle.lists.specs.Results.{◌>>=◌}
 use Rattle.tlv24.specs.Subtype.{reference_subtype, sfid_subtype, class_name_subtype, set_type_subtype, scheduling_type_subtype}
+use Rattle.tlv24.specs.SetType.{set_type_number, set_type_of}
+use Rattle.tlv24.specs.declared.set_type.SetType.{SetType}
+use Rattle.tlv24.specs.declared.set_type.SetType.TheVariants.{Null, Admitted, Active, AdmittedAndActive}
 use Rattle.tlv24.specs.declared.fields.FlowFields.{FlowFields}
 use Rattle.dsx_messages.specs.declared.modem.Modem.{Modem}
 use Rattle.dsx_messages.specs.declared.kind.Kind.{Kind}
@@ -73,13 +76,14 @@ is_same None None = true
 is_same (Some a) (Some b) = a == b
 is_same a b = false
 
-abbrev pub has_set_type : ℕ → FlowFields → Bool
-has_set_type n flow = is_same flow.set_type (Some n)
+abbrev pub has_set_type : SetType → FlowFields → Bool
+has_set_type set_type flow = is_same flow.set_type (Some (set_type_number set_type))
 
--- one encoding alone; or two of which one admits a set (2) and the other activates one (4)
+-- one encoding alone; or two of which one is for the admitted set and the other for the active set
 abbrev pub stand_together : List FlowFields → Bool
 stand_together (flow ∷ []) = true
-stand_together (a ∷ b ∷ []) = (has_set_type 2 a && has_set_type 4 b) || (has_set_type 4 a && has_set_type 2 b)
+stand_together (a ∷ b ∷ []) =
+    (has_set_type Admitted a && has_set_type Active b) || (has_set_type Active a && has_set_type Admitted b)
 stand_together flows = false
 
 -- the first of the encodings: there is none; their identifiers differ; they may not be together
@@ -131,22 +135,23 @@ is_change Dsa = false
 is_change Dsc = true
 is_change Dsd = false
 
--- one encoding: set type 2 admits a set, 6 admits and activates it, 0 makes both null in a change
-abbrev pub asked_by_type : Transaction → ConstsFields → FlowFields → ℕ → Result AskedSets ReplyFields
-asked_by_type t consts flow n =
-    if n == 2 then (set_of t consts flow >>= λ set. Ok (record { admitted = Some set; active = None })) else
-    if n == 6 then (set_of t consts flow >>= λ set. Ok (record { admitted = Some set; active = Some set })) else
-    if n == 0 && is_change t.kind then Ok (record { admitted = None; active = None }) else
+-- one encoding: its set is to be admitted, or admitted and active; the null set type makes both null, in a change
+abbrev pub asked_by_type : Transaction → ConstsFields → FlowFields → Option SetType → Result AskedSets ReplyFields
+asked_by_type t consts flow (Some Admitted) = set_of t consts flow >>= λ set. Ok (record { admitted = Some set; active = None })
+asked_by_type t consts flow (Some AdmittedAndActive) = set_of t consts flow >>= λ set. Ok (record { admitted = Some set; active = Some set })
+asked_by_type t consts flow (Some Null) =
+    if is_change t.kind then Ok (record { admitted = None; active = None }) else
     Err (refusal_naming t codes.RejectInvalidForContext flow set_type_subtype)
+asked_by_type t consts flow other = Err (refusal_naming t codes.RejectInvalidForContext flow set_type_subtype)
 
 abbrev pub asked_by_one : Transaction → ConstsFields → FlowFields → Option ℕ → Result AskedSets ReplyFields
 asked_by_one t consts flow None = Err (refusal_naming t codes.RejectRequiredParameterNotPresent flow set_type_subtype)
-asked_by_one t consts flow (Some n) = asked_by_type t consts flow n
+asked_by_one t consts flow (Some n) = asked_by_type t consts flow (set_type_of n)
 
 -- two encodings in order of bytes, of which one admits and the other activates
 abbrev pub in_order : FlowFields → ParamFields → ParamFields → AskedSets
 in_order first a b =
-    if has_set_type 2 first then record { admitted = Some a; active = Some b } else
+    if has_set_type Admitted first then record { admitted = Some a; active = Some b } else
     record { admitted = Some b; active = Some a }
 
 abbrev pub asked_by_two : Transaction → ConstsFields → FlowFields → FlowFields → Result AskedSets ReplyFields

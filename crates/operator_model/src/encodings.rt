@@ -4,7 +4,7 @@ ghost use Rattle.std.specs.Prelude.{◌≡◌};
 ghost use Rattle.operator_model.specs.Asked.{id_number, is_same, has_set_type, stand_together};
 
 use dsx_messages::Kind;
-use tlv24::FlowTlv;
+use tlv24::{FlowTlv, SetType};
 
 /// Returns the identifier of an encoding as a number: the reference in an addition, the SFID in a
 /// change.
@@ -30,24 +30,25 @@ pub fn is_same(a: Option<u32>, b: Option<u32>) -> bool
 }
 
 /// Returns whether an encoding has this set type (CM-SP-MULPIv3.1, Annex C, subtype 6).
-pub fn has_set_type(number: u8, flow: &FlowTlv) -> bool
-    ensures { result ≡ has_set_type number flow.now }
+pub fn has_set_type(set_type: SetType, flow: &FlowTlv) -> bool
+    ensures { result ≡ has_set_type set_type flow.now }
 {
     match flow.get_set_type() {
         None => false,
-        Some(set_type) => set_type == number,
+        Some(number) => number == set_type.number(),
     }
 }
 
-/// Returns whether encodings may be in one request: one alone, or two of which one admits and the
-/// other activates.
+/// Returns whether encodings may be in one request: one alone, or two of which one is for the
+/// admitted set and the other for the active set.
 pub fn stand_together(encodings: &[FlowTlv]) -> bool
     ensures { result ≡ stand_together encodings.now }
 {
     match encodings {
         [_] => true,
         [a, b] => {
-            has_set_type(2, a) && has_set_type(4, b) || has_set_type(4, a) && has_set_type(2, b)
+            has_set_type(SetType::Admitted, a) && has_set_type(SetType::Active, b)
+                || has_set_type(SetType::Active, a) && has_set_type(SetType::Admitted, b)
         }
         _ => false,
     }

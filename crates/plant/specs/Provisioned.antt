@@ -1,10 +1,13 @@
 -- Which flows an operator is opened with (own; set types: CM-SP-MULPIv3.1, Annex C, subtype 6).
-use Rattle.std.specs.Prelude.{◌==◌, ℕ, List, [], ◌∷◌, map, filter_map, Option, Some, None, is_some, Result, Ok, Err, if◌then◌else◌}
+use Rattle.std.specs.Prelude.{ℕ, List, [], ◌∷◌, map, filter_map, Option, Some, None, is_some, Result, Ok, Err, if◌then◌else◌}
 use Rattle.std.specs.Ordering.{nat_cmp}
 use Rattle.std.specs.BTreeMap.{insert_entry}
 use Rattle.tlv24.specs.declared.fields.FlowFields.{FlowFields}
 use Rattle.tlv24.specs.declared.fault.FlowFault.{FlowFault}
 use Rattle.tlv24.specs.Flow.{flow_of}
+use Rattle.tlv24.specs.SetType.{set_type_of}
+use Rattle.tlv24.specs.declared.set_type.SetType.{SetType}
+use Rattle.tlv24.specs.declared.set_type.SetType.TheVariants as set_types
 use Rattle.dsx_messages.specs.declared.modem.Modem.{Modem}
 use Rattle.admission.specs.Free.{least_free_of}
 use Rattle.param_sets.specs.Units.{UnitSizes}
@@ -19,17 +22,16 @@ use Rattle.plant.specs.Classes.{asked_of}
 
 -- ---- the sets of a provisioned flow
 
--- set type 1 provisions a parameter set, 3 also admits it, 7 also activates it; there is no other
-abbrev pub sets_of_type : ℕ → ParamFields → Option SetsFields
-sets_of_type set_type set =
-    if set_type == 1 then Some (record { provisioned = Some set; admitted = None; active = None }) else
-    if set_type == 3 then Some (record { provisioned = Some set; admitted = Some set; active = None }) else
-    if set_type == 7 then Some (record { provisioned = Some set; admitted = Some set; active = Some set }) else
-    None
+-- a parameter set is provisioned, provisioned and admitted, or all three; no other set type is provisioned
+abbrev pub sets_of_type : Option SetType → ParamFields → Option SetsFields
+sets_of_type (Some set_types.Provisioned) set = Some (record { provisioned = Some set; admitted = None; active = None })
+sets_of_type (Some set_types.ProvisionedAndAdmitted) set = Some (record { provisioned = Some set; admitted = Some set; active = None })
+sets_of_type (Some set_types.AllSets) set = Some (record { provisioned = Some set; admitted = Some set; active = Some set })
+sets_of_type other set = None
 
 abbrev pub sets_of_set : Option ℕ → Result ParamFields Refusal → Option SetsFields
-sets_of_set (Some set_type) (Ok set) = sets_of_type set_type set
-sets_of_set (Some set_type) (Err refusal) = None
+sets_of_set (Some n) (Ok set) = sets_of_type (set_type_of n) set
+sets_of_set (Some n) (Err refusal) = None
 sets_of_set None set = None
 
 -- the sets of a flow that asks for this

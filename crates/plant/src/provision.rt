@@ -9,7 +9,7 @@ use dsx_messages::Modem;
 use lists::Listed;
 use param_sets::{ParamSet, Sets, Units, from_tlv};
 use std::alloc::{AllocError, Global};
-use tlv24::{Bytes, FlowTlv, read_flow};
+use tlv24::{Bytes, FlowTlv, SetType, read_flow};
 
 /// A flow that an operator is provisioned with.
 #[derive(Debug, Drop)]
@@ -48,18 +48,19 @@ fn sets_of_asked(units: Units, set_type: Option<u8>, asked: &FlowTlv) -> Option<
     ensures { result ≡ sets_of_asked units set_type asked.now }
 {
     let set = from_tlv(asked, &units).ok()?;
-    sets_of_type(set_type?, set)
+    sets_of_type(SetType::from_number(set_type?), set)
 }
 
-/// Returns the sets that a set type makes of one parameter set.
-fn sets_of_type(set_type: u8, set: ParamSet) -> Option<Sets>
+/// Returns the sets that a set type makes of one parameter set. None for a set type that does not
+/// provision a set.
+fn sets_of_type(set_type: Option<SetType>, set: ParamSet) -> Option<Sets>
     ensures { result ≡ sets_of_type set_type set }
 {
     let provisioned = Sets::provisioned(set);
     match set_type {
-        1 => Some(provisioned),
-        3 => provisioned.admit(set).ok(),
-        7 => provisioned.admit(set).ok()?.activate(set).ok(),
+        Some(SetType::Provisioned) => Some(provisioned),
+        Some(SetType::ProvisionedAndAdmitted) => provisioned.admit(set).ok(),
+        Some(SetType::AllSets) => provisioned.admit(set).ok()?.activate(set).ok(),
         _ => None,
     }
 }

@@ -1,4 +1,5 @@
 pub mod Subtype
+pub mod SetType
 pub mod Tlv
 pub mod Name
 pub mod Padding

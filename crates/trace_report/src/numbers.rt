@@ -6,11 +6,11 @@ use check_explainer::OperatorSnapshot;
 use check_table::{Check, MessageCheck};
 use dsx_messages::{Message, Request, read};
 use flow_table::Flow;
-use operator_model::Heard;
+use operator_model::{Heard, has_set_type};
 use param_sets::{ParamSet, Units, from_tlv, need};
 use plant::Consts;
 use std::alloc::{AllocError, Global};
-use tlv24::FlowTlv;
+use tlv24::{FlowTlv, SetType};
 
 /// What all flows have committed.
 #[derive(Clone, Copy)]
@@ -34,7 +34,7 @@ pub(crate) fn committed_by(units: Units, flows: &[(u32, Flow)]) -> Committed {
 
 /// Returns whether an encoding asks for an admitted set (CM-SP-MULPIv3.1, Annex C, subtype 6).
 fn is_to_be_admitted(encoding: &FlowTlv) -> bool {
-    matches!(encoding.get_set_type(), Some(2 | 6))
+    has_set_type(SetType::Admitted, encoding) || has_set_type(SetType::AdmittedAndActive, encoding)
 }
 
 /// Returns the set of an encoding, where it has one.

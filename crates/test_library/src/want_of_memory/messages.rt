@@ -2,9 +2,10 @@
 
 use crate::want_of_memory::again::{again, are};
 use dsx_messages::{Message, MessageFault, Reply, Request, read, read_reply, write_reply};
+use operator_model::has_set_type;
 use std::alloc::{AllocError, Global};
 use std::process::Abort;
-use tlv24::{Bytes, FlowTlv, Tlv, TlvFault, Tlvs, read_flow, write_flow};
+use tlv24::{Bytes, FlowTlv, SetType, Tlv, TlvFault, Tlvs, read_flow, write_flow};
 
 /// An addition of two encodings that admit and activate, under transaction 1 and reference 1.
 const ADDITION: [u8; 27] = [
@@ -83,15 +84,15 @@ fn message(alloc: Global, bytes: &[u8]) -> Result<Message, MessageFault> {
 }
 
 /// Returns whether a flow is of reference 1 and of this set type.
-fn is_one(flow: &FlowTlv, set_type: u8) -> bool {
-    flow.get_reference() == Some(1) && flow.get_set_type() == Some(set_type)
+fn is_one(flow: &FlowTlv, set_type: SetType) -> bool {
+    flow.get_reference() == Some(1) && has_set_type(set_type, flow)
 }
 
-/// Returns whether these are two flows of reference 1, the one with set type 2 and the other with
-/// 4.
+/// Returns whether these are two flows of reference 1, the one for the admitted set and the other
+/// for the active set.
 fn are_two(flows: &[FlowTlv]) -> bool {
     match flows {
-        [first, second] => is_one(first, 2) && is_one(second, 4),
+        [first, second] => is_one(first, SetType::Admitted) && is_one(second, SetType::Active),
         _ => false,
     }
 }

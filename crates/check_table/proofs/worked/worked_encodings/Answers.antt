@@ -5,7 +5,7 @@ use Rattle.dsx_messages.specs.declared.code.Code.TheVariants.{RejectInvalidForCo
 use Rattle.dsx_messages.specs.Reading.{flow_in, flows_in, message_of}
 use Rattle.operator_model.specs.Worked.{worked_row, first_modem}
 use Rattle.check_table.specs.Examples.{worked_operator}
-use Rattle.check_table.proofs.ExampleLemmas.{unstated, best_effort, not_two_and_four, null_untaken, nothing_added, two_differ, two_apart, one_unnamed, one_mistyped, one_refused}
+use Rattle.check_table.proofs.ExampleLemmas.{unstated, best_effort, not_one_for_each, null_untaken, nothing_added, two_differ, two_apart, one_unnamed, one_mistyped, one_refused}
 use Rattle.check_table.proofs.worked.worked_encodings.Goals as goal
 
 pub returns-clause-no_encoding : goal.returns-clause-no_encoding
@@ -18,7 +18,7 @@ returns-clause-differ c = (_, two_differ (worked_operator worked_row []) first_m
 
 pub returns-clause-together : goal.returns-clause-together
 unfolding flow_in flows_in message_of fault_of flow_of front_of
-returns-clause-together c = (_, two_apart (worked_operator worked_row []) first_modem 2 (best_effort 1) (best_effort 1) refl refl (refl, (refl, tt)) not_two_and_four, refl)
+returns-clause-together c = (_, two_apart (worked_operator worked_row []) first_modem 2 (best_effort 1) (best_effort 1) refl refl (refl, (refl, tt)) not_one_for_each, refl)
 
 pub returns-clause-no_identifier : goal.returns-clause-no_identifier
 unfolding flow_in flows_in message_of fault_of flow_of front_of
