@@ -4,28 +4,42 @@ ghost use Rattle.command_line.specs.declared.asked.WordsFault.TheVariants.{NoMem
 
 use std::alloc::AllocError;
 
-/// The command that the program is to carry out.
+/// What is printed of the run of a script on a plant.
+///
+/// `Operator` is how an operator is stated: by its name in a command line, by its place in a plant.
 #[derive(Clone, Copy, Debug, PartialEq, Eq)]
-pub enum Word<'a> {
+pub enum RunReport<Operator> {
+    /// Replies, frames and MAPs.
+    Outputs,
+    /// A pcap file of the messages of the modems, the replies and the MAPs.
+    Capture,
+    /// The check that decided each step, and its output, in words.
+    Trace,
+    /// The steps of one operator.
+    History(Operator),
+}
+
+/// A command that reads all of its input before it answers.
+#[derive(Clone, Copy, Debug, PartialEq, Eq)]
+pub enum BatchWord<'a> {
     /// Processes messages of one modem on a built-in plant.
     One,
     /// Checks a plant file and a script, and runs nothing.
     Check,
-    /// Runs a script on a plant, and prints replies, frames and MAPs.
-    Run,
-    /// Runs a script as `Run` does, with a thread for each operator.
+    /// Runs a script with a thread for each operator, and prints replies, frames and MAPs.
     Threads,
-    /// Runs a script on a plant, and writes a pcap file.
-    Capture,
+    /// Runs a script on a plant, and prints this of the run. An operator is stated by its name, as it
+    /// was written.
+    Run(RunReport<&'a str>),
+}
+
+/// The command that the program is to carry out.
+#[derive(Clone, Copy, Debug, PartialEq, Eq)]
+pub enum Word<'a> {
     /// Keeps a plant running, and processes each line as it arrives.
     Serve,
-    /// Runs a script on a plant, and explains what decided each step.
-    Trace,
-    /// Runs a script on a plant, and prints the history of an operator.
-    History {
-        /// The operator's name, as it was written.
-        operator: &'a str,
-    },
+    /// Reads all of its input, and answers it.
+    Batch(BatchWord<'a>),
 }
 
 /// Why a command line has no command that is carried out.

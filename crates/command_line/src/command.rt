@@ -23,6 +23,8 @@ const PROGRAM_INPUT: &str =
 
     plant_script run < script.txt
 
+With `--input FILE` it reads the file in place of standard input. `plant_script --version` prints the version.
+
 A line of a script is a message of a modem, `M ADDRESS MESSAGE`, a bandwidth request, `Q ADDRESS SID MINISLOTS`, the
 next frame, `T` or `T OPERATOR`, or new slices, `Z FRAME START/LENGTH/BUDGET ..`, one for each operator.
 
@@ -32,7 +34,11 @@ Exit status: 0 success, 2 invalid command line, 3 invalid plant file, 4 invalid 
 7 internal error of `threads`.";
 
 /// The end of the help of `one`.
-const ONE_INPUT: &str = "Standard input: messages in hexadecimal, one a line.
+const ONE_INPUT: &str = "Further options, before the command or after it:
+
+    --input FILE    read FILE in place of standard input
+
+Standard input: messages in hexadecimal, one a line.
 Standard output: for each message the reply, or `S` and the reason why there is none. An accepted
 acknowledgement has no line.
 
@@ -41,8 +47,13 @@ acknowledgement has no line.
 Exit status: 0 success, 4 invalid line, 5 out of memory, 6 I/O error.";
 
 /// The end of the help of `check`: the policies are here, since a plant file is what is checked.
-const CHECK_INPUT: &str =
-    "Standard input: a plant file, a line --- and a script; the script may be left out.
+const CHECK_INPUT: &str = "Further options, before the command or after it:
+
+    --input FILE    read FILE in place of standard input
+    --json          write a JSON object for each line of the output
+    --strict        refuse unknown keys, with status 3 and `fault: plant 12 KEY`
+
+Standard input: a plant file, a line --- and a script; the script may be left out.
 Standard output: `ok`, or a line `fault:` with the first fault.
 Standard error: all faults, each with its line number, and warnings of unknown keys. They do not change the status.
 
@@ -59,7 +70,12 @@ The key `policy` of an operator orders the grants of its flows:
 Exit status: 0 success, 3 invalid plant file, 4 invalid line, 5 out of memory, 6 I/O error.";
 
 /// The end of the help of `run`.
-const RUN_INPUT: &str = "Standard input: a plant file, a line --- and a script.
+const RUN_INPUT: &str = "Further options, before the command or after it:
+
+    --input FILE    read FILE in place of standard input
+    --json          write a JSON object for each line of the output
+
+Standard input: a plant file, a line --- and a script.
 Standard output: `R` for each reply, `S` where there is none, `F` for each frame of an operator, and `MAP` for each MAP.
 
     plant_script run < script.txt
@@ -70,7 +86,11 @@ The second command runs the same script with the policy aged in place of strict 
 Exit status: 0 success, 3 invalid plant file, 4 invalid line or refused step, 5 out of memory, 6 I/O error.";
 
 /// The end of the help of `threads`.
-const THREADS_INPUT: &str = "Standard input: a plant file, a line --- and a script.
+const THREADS_INPUT: &str = "Further options, before the command or after it:
+
+    --input FILE    read FILE in place of standard input
+
+Standard input: a plant file, a line --- and a script.
 Standard output: as of `run`, written when all threads have ended.
 
     plant_script threads < script.txt
@@ -79,7 +99,11 @@ Exit status: 0 success, 3 invalid plant file, 4 invalid line or refused step, 5 
 7 internal error: the threads did not follow the script.";
 
 /// The end of the help of `capture`.
-const CAPTURE_INPUT: &str = "Standard input: a plant file, a line --- and a script.
+const CAPTURE_INPUT: &str = "Further options, before the command or after it:
+
+    --input FILE    read FILE in place of standard input
+
+Standard input: a plant file, a line --- and a script.
 Standard output: a pcap file of DOCSIS frames, with the messages of the modems, the replies and the MAPs. If a step is
 refused, the file ends before it. If the plant file or a line is invalid, a line `fault:` takes the place of the file.
 
@@ -88,8 +112,12 @@ refused, the file ends before it. If the plant file or a line is invalid, a line
 Exit status: 0 success, 3 invalid plant file, 4 invalid line or refused step, 5 out of memory, 6 I/O error.";
 
 /// The end of the help of `serve`.
-const SERVE_INPUT: &str =
-    "Standard input: a plant file, a line --- and lines of a script, as long as there are any.
+const SERVE_INPUT: &str = "Further options, before the command or after it:
+
+    --input FILE    read FILE in place of standard input
+    --json          write a JSON object for each line of the output
+
+Standard input: a plant file, a line --- and lines of a script, as long as there are any.
 Standard output: as of `run`. The output of a line is flushed before the next line is read.
 
     (cat plant.toml; echo ---; cat) | plant_script serve
@@ -102,7 +130,12 @@ Exit status: 0 end of the input, 3 invalid plant file, 5 out of memory before th
 file that is too long or not UTF-8.";
 
 /// The end of the help of `trace`.
-const TRACE_INPUT: &str = "Standard input: a plant file, a line --- and a script.
+const TRACE_INPUT: &str = "Further options, before the command or after it:
+
+    --input FILE    read FILE in place of standard input
+    --json          write a JSON object for each line of the output
+
+Standard input: a plant file, a line --- and a script.
 Standard output: each line of the script. For each of its steps: the check that decided it, with its number and name,
 the output, and why there is none. The program keeps the history of each operator in memory, as for `threads`.
 
@@ -111,7 +144,11 @@ the output, and why there is none. The program keeps the history of each operato
 Exit status: 0 success, 3 invalid plant file, 4 invalid line or refused step, 5 out of memory, 6 I/O error.";
 
 /// The end of the help of `history`.
-const HISTORY_INPUT: &str = "Standard input: a plant file, a line --- and a script.
+const HISTORY_INPUT: &str = "Further options, before the command or after it:
+
+    --input FILE    read FILE in place of standard input
+
+Standard input: a plant file, a line --- and a script.
 Standard output: each step of this operator, with its output.
 
     plant_script history A < script.txt

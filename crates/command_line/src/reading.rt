@@ -6,7 +6,7 @@ ghost use Rattle.command_line.specs.Order.{Order, order_of};
 ghost use Rattle.command_line.specs.ClapLine.{IsFaultOf, StandsFor};
 ghost use Rattle.command_line.specs.CommandLine.{Allows, AreWrong, AsksHelp, GivesHelp, GivesOrder, GivesWrong, Names};
 
-use crate::asked::{Word, WordsFault};
+use crate::asked::{BatchWord, RunReport, Word, WordsFault};
 use crate::command::matches_of;
 use clap::error::ErrorKind;
 use clap::{ArgMatches, Error};
@@ -46,16 +46,16 @@ fn word_named<'a>(name: &str, inner: &ArgMatches<'a>) -> Option<Word<'a>>
     ensures none { IfNone result ((o : Order) → StandsFor o (name.now, rows_of (found_of inner.now)) → ⊥) }
 {
     match name {
-        "one" => Some(Word::One),
-        "check" => Some(Word::Check),
-        "run" => Some(Word::Run),
-        "threads" => Some(Word::Threads),
-        "capture" => Some(Word::Capture),
+        "one" => Some(Word::Batch(BatchWord::One)),
+        "check" => Some(Word::Batch(BatchWord::Check)),
+        "run" => Some(Word::Batch(BatchWord::Run(RunReport::Outputs))),
+        "threads" => Some(Word::Batch(BatchWord::Threads)),
+        "capture" => Some(Word::Batch(BatchWord::Run(RunReport::Capture))),
         "serve" => Some(Word::Serve),
-        "trace" => Some(Word::Trace),
+        "trace" => Some(Word::Batch(BatchWord::Run(RunReport::Trace))),
         "history" => {
             let operator = inner.get_str("operator")?;
-            Some(Word::History { operator })
+            Some(Word::Batch(BatchWord::Run(RunReport::History(operator))))
         }
         _ => None,
     }

@@ -18,9 +18,11 @@ mod refusals;
 mod report;
 mod scan;
 mod show;
+mod strict;
 mod tree;
 mod unread;
 mod values;
 mod wanted;
 
 pub use reasons::{Trouble, reason_of, reason_of_trouble, reason_of_words};
+pub use strict::{UnknownKeysFault, fault_of_unknown_keys};

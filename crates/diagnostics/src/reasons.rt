@@ -9,7 +9,7 @@ use crate::reason::{GapText, Reason};
 use crate::refusals::refused_of;
 use crate::report::Report;
 use crate::unread::say_all_unread;
-use command_line::{Word, text_of_wrong};
+use command_line::{BatchWord, RunReport, Word, text_of_wrong};
 use plant::Plant;
 use slice_table::{PlantFault, read_plant};
 use std::alloc::{AllocError, Global};
@@ -114,11 +114,11 @@ fn say_beside_script(
     status: u8,
 ) {
     match (word, status) {
-        (Word::History { operator }, 2) => {
+        (Word::Batch(BatchWord::Run(RunReport::History(operator))), 2) => {
             say_stranger(reason, plant.rows(), operator);
             reason.say("\n", &[]);
         }
-        (Word::Serve, _) | (Word::Check, _) => {}
+        (Word::Serve, _) | (Word::Batch(BatchWord::Check), _) => {}
         (_, 0) => say_no_bar(reason, parts),
         _ => {}
     }
@@ -237,8 +237,8 @@ pub fn reason_of(
 ) -> Result<String, AllocError> {
     let mut reason = Reason::new(alloc);
     match (word, status) {
-        (Word::One, 4) => say_of_one(&mut reason, input),
-        (Word::One, _) => {}
+        (Word::Batch(BatchWord::One), 4) => say_of_one(&mut reason, input),
+        (Word::Batch(BatchWord::One), _) => {}
         _ => say_of_plant(&mut reason, word, input, status),
     }
     reason.into_text()

@@ -7,6 +7,7 @@ use crate::tree::{values, values_below, values_in};
 use crate::wanted::has;
 use plant_file_laws::{class_fields, flow_fields, operator_fields, plant_fields};
 use slice_table::{Field, Place};
+use std::alloc::{AllocError, Global};
 use strsim::osa_distance;
 use toml::Value;
 
@@ -65,6 +66,63 @@ impl<'a> Nearest<'a> {
     }
 }
 
+/// What an unknown key is.
+#[derive(Clone, Copy, PartialEq, Eq)]
+pub(crate) enum Severity {
+    /// A warning, which changes no status.
+    Warning,
+    /// A fault of the plant file.
+    Fault,
+}
+
+/// The unknown keys of a plant file: a message of each, and the name of the first.
+#[derive(Drop)]
+pub(crate) struct UnknownKeyMessages {
+    report: Report,
+    severity: Severity,
+    /// The name of the first, as messages show it. Silent where none is unknown.
+    first: Reason,
+}
+
+impl UnknownKeyMessages {
+    /// Returns a list that has none.
+    fn new(alloc: Global, severity: Severity) -> UnknownKeyMessages {
+        UnknownKeyMessages {
+            report: Report::new(alloc, MOST),
+            severity,
+            first: Reason::new(alloc),
+        }
+    }
+
+    /// Returns a message that says nothing yet but that it is a warning, if it is one.
+    fn new_message(&self) -> Reason {
+        let mut message = Reason::new(self.report.alloc());
+        if self.severity == Severity::Warning {
+            message.say("warning: ", &[]);
+        }
+        message
+    }
+
+    /// Adds a key or a table of this name with its message.
+    fn add(&mut self, name: &Reason, message: &Reason) {
+        if self.report.is_empty() {
+            self.first.say("{}", &[GapText::Cut(name)]);
+        }
+        self.report.add(message);
+    }
+
+    /// Says the messages, and how many more there are.
+    pub(crate) fn say(&self, reason: &mut Reason) {
+        self.report.say(reason, "unknown key", "unknown keys");
+    }
+
+    /// Returns the name of the first, as messages show it. It is empty where none is unknown.
+    pub(crate) fn into_first_name(self) -> Result<String, AllocError> {
+        let UnknownKeyMessages { first, .. } = self;
+        first.into_text()
+    }
+}
+
 /// Returns the table that has a key of this name, as a file writes it.
 fn table_with(word: &str) -> Option<&'static str> {
     if has(&operator_fields(), word) {
@@ -93,49 +151,54 @@ fn say_meant(reason: &mut Reason, nearest: &Nearest<'_>) {
     }
 }
 
-/// Adds the warning of a key or a table that is not known: its line, what it is, its name, and what may be meant.
+/// Adds a key or a table that is not known, with its message: its line, what it is, its name, and what may be meant.
 fn add_unread(
-    report: &mut Report,
+    found: &mut UnknownKeyMessages,
     line: Option<u64>,
     kind: &str,
     name: &Reason,
     nearest: &Nearest<'_>,
 ) {
-    let mut message = Reason::new(report.alloc());
-    message.say("warning: ", &[]);
+    let mut message = found.new_message();
     if let Some(line) = line {
         message.say("line {}: ", &[GapText::Number(line)]);
     }
     message.say("unknown {} {}", &[GapText::Words(kind), GapText::Cut(name)]);
     say_meant(&mut message, nearest);
-    report.add(&message);
+    found.add(name, &message);
 }
 
-/// Adds the warning of a key of a table.
+/// Adds a key of a table that is not known, with its message.
 fn add_unread_key(
-    report: &mut Report,
+    found: &mut UnknownKeyMessages,
     file: &File<'_>,
     word: &str,
     place: Place,
     fields: &[Field],
 ) {
-    let mut name = Reason::new(report.alloc());
+    let mut name = Reason::new(found.report.alloc());
     let mut nearest = Nearest::new(word);
     let mut line = None;
-    if report.is_open() {
+    if found.report.is_open() {
         name.say("{}.{}", &[GapText::Place(place), GapText::Words(word)]);
         nearest.try_fields(&mut name, fields);
         line = file.lines.line_in(place, word);
     }
-    add_unread(report, line, "key", &name, &nearest);
+    add_unread(found, line, "key", &name, &nearest);
 }
 
 /// Adds the keys of a table that are not known, where it is one.
-fn add_table(report: &mut Report, file: &File<'_>, value: &Value, place: Place, fields: &[Field]) {
+fn add_table(
+    found: &mut UnknownKeyMessages,
+    file: &File<'_>,
+    value: &Value,
+    place: Place,
+    fields: &[Field],
+) {
     if let Some(table) = value.as_table() {
         for (key, _value) in table.iter() {
             if !has(fields, key.as_str()) {
-                add_unread_key(report, file, key.as_str(), place, fields);
+                add_unread_key(found, file, key.as_str(), place, fields);
             }
         }
     }
@@ -151,8 +214,8 @@ fn has_tables(value: &Value) -> bool {
     false
 }
 
-/// Adds the warning of a key or a table at the top of a file, by its name as a file writes it.
-fn add_unread_at_top(report: &mut Report, file: &File<'_>, word: &str, value: &Value) {
+/// Adds a key or a table at the top of a file that is not known, by its name as a file writes it.
+fn add_unread_at_top(found: &mut UnknownKeyMessages, file: &File<'_>, word: &str, value: &Value) {
     let (kind, written) = if has_tables(value) {
         ("table", "[[{}]]")
     } else if value.is_table() {
@@ -160,58 +223,67 @@ fn add_unread_at_top(report: &mut Report, file: &File<'_>, word: &str, value: &V
     } else {
         ("key", "{}")
     };
-    let mut name = Reason::new(report.alloc());
+    let mut name = Reason::new(found.report.alloc());
     let mut nearest = Nearest::new(word);
     let mut line = None;
-    if report.is_open() {
+    if found.report.is_open() {
         name.say(written, &[GapText::Words(word)]);
         nearest.try_words(&mut name, &AT_HEAD);
         line = file.lines.line_at_top(word);
     }
-    add_unread(report, line, kind, &name, &nearest);
+    add_unread(found, line, kind, &name, &nearest);
 }
 
 /// Adds the tables and keys at the top of a file that are not known.
-fn add_top(report: &mut Report, file: &File<'_>) {
+fn add_top(found: &mut UnknownKeyMessages, file: &File<'_>) {
     for (key, value) in file.document.iter() {
         if !AT_HEAD.contains(&key.as_str()) {
-            add_unread_at_top(report, file, key.as_str(), value);
+            add_unread_at_top(found, file, key.as_str(), value);
         }
     }
 }
 
 /// Adds the keys of classes that are not known.
-fn add_classes(report: &mut Report, file: &File<'_>) {
+fn add_classes(found: &mut UnknownKeyMessages, file: &File<'_>) {
     for (class, value) in values(file.document, "class").iter().enumerate() {
-        add_table(report, file, value, Place::Class(class), &class_fields());
+        add_table(found, file, value, Place::Class(class), &class_fields());
     }
 }
 
 /// Adds the keys of an operator's provisioned flows that are not known.
-fn add_flows(report: &mut Report, file: &File<'_>, operator: usize, flows: &[Value]) {
+fn add_flows(found: &mut UnknownKeyMessages, file: &File<'_>, operator: usize, flows: &[Value]) {
     for (flow, value) in flows.iter().enumerate() {
         let place = Place::Flow(operator, flow);
-        add_table(report, file, value, place, &flow_fields());
+        add_table(found, file, value, place, &flow_fields());
     }
 }
 
 /// Adds the keys of operators and of their flows that are not known.
-fn add_operators(report: &mut Report, file: &File<'_>) {
+fn add_operators(found: &mut UnknownKeyMessages, file: &File<'_>) {
     for (operator, value) in values(file.document, "operator").iter().enumerate() {
         let place = Place::Operator(operator);
-        add_table(report, file, value, place, &operator_fields());
-        add_flows(report, file, operator, values_below(value, "flow"));
+        add_table(found, file, value, place, &operator_fields());
+        add_flows(found, file, operator, values_below(value, "flow"));
     }
+}
+
+/// Returns the keys and tables of a plant file that are not known.
+pub(crate) fn unknown_keys(
+    alloc: Global,
+    file: &File<'_>,
+    severity: Severity,
+) -> UnknownKeyMessages {
+    let mut found = UnknownKeyMessages::new(alloc, severity);
+    add_top(&mut found, file);
+    if let Some(value) = file.document.get("plant") {
+        add_table(&mut found, file, value, Place::Plant, &plant_fields());
+    }
+    add_classes(&mut found, file);
+    add_operators(&mut found, file);
+    found
 }
 
 /// Says in a line of each key and each table of a plant file that it is not known, and which key may be meant.
 pub(crate) fn say_all_unread(reason: &mut Reason, file: &File<'_>) {
-    let mut report = Report::new(reason.alloc, MOST);
-    add_top(&mut report, file);
-    if let Some(value) = file.document.get("plant") {
-        add_table(&mut report, file, value, Place::Plant, &plant_fields());
-    }
-    add_classes(&mut report, file);
-    add_operators(&mut report, file);
-    report.say(reason, "unknown key", "unknown keys");
+    unknown_keys(reason.alloc, file, Severity::Warning).say(reason);
 }
