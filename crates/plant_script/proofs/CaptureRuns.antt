@@ -18,6 +18,7 @@ use Rattle.pcap_capture.proofs.RunLemmas.{opened_run}
 use Rattle.plant_script.specs.declared.answer.Answer.{Answer}
 use Rattle.plant_script.specs.Run.{IsEnd, IsCapturedRunOf}
 use Rattle.plant_script.specs.Done.{IsRefused, AreCaptured, HasCaptured, IsStatusOf}
+use Rattle.plant_script.specs.Statuses.{status_code}
 
 -- nothing is done, and nothing captured
 pub none_captured : (plant : PlantFields) (core : CoreView) (captured : CaptureView) → IsStateAfter plant [] [] core → captured ≡ opened_capture plant.consts
@@ -87,14 +88,14 @@ end_status core (Some line) refused status told is = (subst (λ (r : Option ℕ)
 pub filed_run : (plant : PlantFields) (lines these : List LineStep) (refused : Option ℕ) (core : CoreView) (captured : CaptureView) (file : List ℕ) (answer : Answer)
     → these ≡ lines → HasCaptured plant these refused core captured
     → ((p : PlantFields) (steps : List Step) (outs : List Out) → IsOfRun p steps outs captured → IsCaptureOf p steps outs file)
-    → answer.text.items ≡ file → IsStatusOf refused answer.status → IsCapturedRunOf plant lines answer.status answer.text.items
+    → answer.text.items ≡ file → IsStatusOf refused (status_code answer.status) → IsCapturedRunOf plant lines (status_code answer.status) answer.text.items
 filed_run plant lines these refused core captured file answer same run of_run text status =
-    subst (λ (l : List LineStep). IsCapturedRunOf plant l answer.status answer.text.items) same (record {
+    subst (λ (l : List LineStep). IsCapturedRunOf plant l (status_code answer.status) answer.text.items) same (record {
       at = run.at;
       outs = run.done.outs;
       core = core;
       reached = run.done.reached;
-      ends = end_status core (slice_get these run.at) refused answer.status run.ends status;
+      ends = end_status core (slice_get these run.at) refused (status_code answer.status) run.ends status;
       captured = subst (λ (t : List ℕ). IsCaptureOf plant (steps_without_numbers (take run.at these)) run.done.outs t) (sym text)
           (of_run plant (steps_without_numbers (take run.at these)) run.done.outs run.done.of_run);
     })

@@ -1,6 +1,7 @@
 pub mod CaptureRuns
 pub mod HalfDone
 pub mod LiveRuns
+pub mod Reached
 pub mod RefusedSteps
 pub mod RunSoFar
 pub mod Services

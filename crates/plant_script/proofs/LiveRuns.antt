@@ -15,10 +15,10 @@ use Rattle.script_format.specs.Text.{outs_text}
 use Rattle.line_service.specs.declared.steps_end.StepsEnd.{StepsEnd}
 use Rattle.line_service.specs.declared.steps_end.StepsEnd.TheVariants as ends
 use Rattle.line_service.specs.Steps.{IsStepsEndAt, HasDone}
-use Rattle.plant_script.specs.declared.task.OutputMode.TheVariants.{Outs}
+use Rattle.command_line.specs.declared.asked.RunReport.TheVariants.{Outputs}
 use Rattle.plant_script.specs.Run.{memory_line, IsEnd, EndsBy, IsRunOf}
 use Rattle.plant_script.specs.Ends.{status_of, line_of}
-use Rattle.plant_script.specs.Task.{IsTold, EndsRun}
+use Rattle.plant_script.specs.Task.{RunsTo, IsWritten, EndsRun}
 
 -- the run of the core with histories ends where the live core's does
 ends_by : (live core : CoreView) (next : Option LineStep) (end : StepsEnd) → IsOf live core → IsStepsEndAt live next end → EndsBy core next (status_of end) (line_of end)
@@ -53,16 +53,21 @@ pub no_five : (core : CoreView) (next : Option LineStep) (status : ℕ) → IsEn
 no_five core None status is = λ five. absurd (let wrong : ◌≡◌ {A = ℕ} 0 5 = sym is ∙ five in cc)
 no_five core (Some line) status is = λ five. absurd (let wrong : ◌≡◌ {A = ℕ} 4 5 = sym is.0 ∙ five in cc)
 
--- what a run came to is told
-pub run_told : (plant : PlantFields) (lines : List LineStep) (status : ℕ) (w0 w1 : Option (List ℕ)) → EndsRun plant lines status (λ text. Appends w0 w1 text)
-    → IsTold plant Outs lines status (λ text. Appends w0 w1 text)
-run_told plant lines status w0 w1 ran = by ran.1.ends
+-- nor 6
+pub no_six : (core : CoreView) (next : Option LineStep) (status : ℕ) → IsEnd core next status → status ≢ 6
+no_six core None status is = λ six. absurd (let wrong : ◌≡◌ {A = ℕ} 0 6 = sym is ∙ six in cc)
+no_six core (Some line) status is = λ six. absurd (let wrong : ◌≡◌ {A = ℕ} 4 6 = sym is.0 ∙ six in cc)
+
+-- what a run results in is written
+pub run_written : (plant : PlantFields) (lines : List LineStep) (status : ℕ) (w0 w1 : Option (List ℕ)) → EndsRun plant lines status (λ text. Appends w0 w1 text)
+    → IsWritten (RunsTo plant Outputs lines) status (λ text. Appends w0 w1 text)
+run_written plant lines status w0 w1 ran = by ran.1.ends
   where
     run : IsRunOf plant lines (λ done told. outs_text plant told) status ran.0
     run = ran.1
 
-    by : (ends : EndsBy run.core (slice_get lines run.at) status run.last) → IsTold plant Outs lines status (λ text. Appends w0 w1 text)
-    by (inl well) = inl (ran.0, no_five run.core (slice_get lines run.at) status well.0, run, ran.2)
+    by : (ends : EndsBy run.core (slice_get lines run.at) status run.last) → IsWritten (RunsTo plant Outputs lines) status (λ text. Appends w0 w1 text)
+    by (inl well) = inl (ran.0, no_five run.core (slice_get lines run.at) status well.0, no_six run.core (slice_get lines run.at) status well.0, run, ran.2)
     by (inr want) =
         let text_is : ran.0 ≡ outs_text plant run.outs ++ memory_line = run.text_is ∙ ap (λ (l : List ℕ). outs_text plant run.outs ++ l) want.2 in
         inr (

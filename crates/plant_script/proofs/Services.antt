@@ -1,5 +1,5 @@
 -- What a service comes to.
-use Rattle.std.proofs.Common.{◌≡◌, ℕ, List, [], ◌++◌, Option, Some, None, IfSome, Result, Ok, Err, refl, sym, subst, codes}
+use Rattle.std.proofs.Common.{◌≡◌, inl, inr, ℕ, Bool, List, [], Option, Some, None, IfSome, Result, Ok, refl, sym, subst, ◌∙◌}
 use Rattle.std.specs.Io.KnownBytes.{Appends}
 use Rattle.toml.specs.Parse.{parse_document}
 use Rattle.plant.specs.declared.plant.PlantFields.{PlantFields}
@@ -12,9 +12,10 @@ use Rattle.run_model.specs.IsStateAfter.{CoreView}
 use Rattle.live_core.specs.After.{IsAfter, IsAfterFrom}
 use Rattle.script_format.specs.Input.{plant_text, script_text}
 use Rattle.line_service.specs.Service.{service_text, IsServiceOf}
-use Rattle.plant_script.specs.Check.{fault_text}
-use Rattle.plant_script.specs.Serving.{IsServed}
+use Rattle.command_line.specs.Order.{serve}
+use Rattle.plant_script.specs.Serving.{IsServed, EndsService}
 use Rattle.plant_script.specs.Words.{AnswersFront, AnswersServe}
+use Rattle.plant_script.specs.Reaching.{EndsOrder}
 
 -- a service of a core as it is opened
 pub service_served : (known : Option (List ℕ)) (plant : PlantFields) (live new : CoreView) (w0 w1 : Option (List ℕ)) → IsAfter plant [] [] live
@@ -37,11 +38,15 @@ plant_answered (Some input) left file plant status w0 w1 is behind read served =
     let said : text_plant (parse_document (plant_text input)) ≡ Ok plant = subst (λ (f : List ℕ). text_plant (parse_document f) ≡ Ok plant) is read in
     (at.0, subst (λ (r : Result PlantFields PlantFault). AnswersFront r (script_text input) status at.0) (sym said) at.1, at.2)
 
--- the plant file is at fault
-pub fault_answered : (known : Option (List ℕ)) (file : List ℕ) (fault : PlantFault) (status : ℕ) (text : List ℕ) (w0 w1 : Option (List ℕ)) → IfSome known (λ input. file ≡ plant_text input)
-    → text_plant (parse_document file) ≡ Err fault → status ≡ 3 → text ≡ codes "fault: plant " ++ fault_text fault → Appends w0 w1 text
-    → IfSome known (λ input. (text : List ℕ) × AnswersServe input status text × Appends w0 w1 text)
-fault_answered None file fault status text w0 w1 is read three told wrote = tt
-fault_answered (Some input) file fault status text w0 w1 is read three told wrote =
-    let said : text_plant (parse_document (plant_text input)) ≡ Err fault = subst (λ (f : List ℕ). text_plant (parse_document f) ≡ Err fault) is read in
-    (text, subst (λ (r : Result PlantFields PlantFault). AnswersFront r (script_text input) status text) (sym said) (three, told), wrote)
+-- ---- how `serve` ends
+
+-- the plant is served
+pub service_ends : (known left : Option (List ℕ)) (file : List ℕ) (plant : PlantFields) (failed : Bool) (status : ℕ) (w0 w1 : Option (List ℕ))
+    → IfSome known (λ input. file ≡ plant_text input) → IfSome known (λ input. left ≡ Some (script_text input)) → text_plant (parse_document file) ≡ Ok plant
+    → EndsService plant left status (λ text. Appends w0 w1 text) → EndsOrder serve known failed status (λ text. Appends w0 w1 text)
+service_ends known left file plant failed status w0 w1 is behind read (inl (five, told)) = inr (inl (five, ([], told, inl refl)))
+service_ends known left file plant failed status w0 w1 is behind read (inr (zero_is, served)) = inr (inr (
+  (λ five. absurd (let bad : ◌≡◌ {A = ℕ} 0 5 = sym zero_is ∙ five in cc)),
+  (λ six. absurd (let bad : ◌≡◌ {A = ℕ} 0 6 = sym zero_is ∙ six in cc)),
+  plant_answered known left file plant status w0 w1 is behind read served,
+))

@@ -20,6 +20,7 @@ use Rattle.script_format.specs.Script.{steps_without_numbers}
 use Rattle.script_format.specs.Text.{outs_text}
 use Rattle.plant_script.specs.declared.answer.Answer.{Answer}
 use Rattle.plant_script.specs.OnThreads.{HasSettled, ReportsCore, ReportsFault, HasFault, IsThreadedRunOf}
+use Rattle.plant_script.specs.Statuses.{status_code}
 use Rattle.plant_script.proofs.RefusedSteps.{first_of_all, core_spent}
 
 -- what is refused before a thread starts
@@ -37,7 +38,7 @@ same_fault result a b first second = cc
 pub settled_run : {S : Type 0} (plant shown : PlantFields) (lines : List LineStep) (steps : List Step) (result : Result S RunFault) (settled : S)
     (books : List BookView) (receipts : List (List (List Receipt))) (maps : List MapBytes) (answer : Answer) → shown ≡ plant → steps ≡ steps_without_numbers lines
     → IsRefusedFirst plant steps result → result ≡ Ok settled → IsOutcome plant steps books receipts maps
-    → (answer.status ≡ 0) × (answer.text.items ≡ outs_text shown (outs_of books maps)) → IsThreadedRunOf plant lines answer.status answer.text.items
+    → ((status_code answer.status) ≡ 0) × (answer.text.items ≡ outs_text shown (outs_of books maps)) → IsThreadedRunOf plant lines (status_code answer.status) answer.text.items
 settled_run plant shown lines steps result settled books receipts maps answer same are refuses ok outcome told =
     let here = subst (λ (s : List Step). IsRefusedFirst plant s result) are refuses in
     record {
@@ -69,12 +70,12 @@ fault_reported plant lines result fault status text refuses err comes reports =
 
 pub fault_run : {S : Type 0} (plant shown : PlantFields) (lines these : List LineStep) (steps : List Step) (result : Result S RunFault) (fault : RunFault) (answer : Answer)
     → shown ≡ plant → these ≡ lines → steps ≡ steps_without_numbers lines → IsRefusedFirst plant steps result → result ≡ Err fault → IsFault plant steps fault
-    → ReportsFault shown these fault answer.status answer.text.items → IsThreadedRunOf plant lines answer.status answer.text.items
+    → ReportsFault shown these fault (status_code answer.status) answer.text.items → IsThreadedRunOf plant lines (status_code answer.status) answer.text.items
 fault_run plant shown lines these steps result fault answer same are are_steps refuses err comes told =
-    fault_reported plant lines result fault answer.status answer.text.items (subst (λ (s : List Step). IsRefusedFirst plant s result) are_steps refuses) err
+    fault_reported plant lines result fault (status_code answer.status) answer.text.items (subst (λ (s : List Step). IsRefusedFirst plant s result) are_steps refuses) err
     (subst (λ (s : List Step). IsFault plant s fault) are_steps comes)
-    (subst (λ (l : List LineStep). ReportsFault plant l fault answer.status answer.text.items) are
-    (subst (λ (p : PlantFields). ReportsFault p these fault answer.status answer.text.items) same told))
+    (subst (λ (l : List LineStep). ReportsFault plant l fault (status_code answer.status) answer.text.items) are
+    (subst (λ (p : PlantFields). ReportsFault p these fault (status_code answer.status) answer.text.items) same told))
 
 -- the fault comes of the steps of the script's lines
 pub fault_comes : (plant shown : PlantFields) (lines these : List LineStep) (steps : List Step) (fault : RunFault) → shown ≡ plant → these ≡ lines → steps ≡ steps_without_numbers lines

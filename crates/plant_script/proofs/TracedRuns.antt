@@ -11,12 +11,12 @@ use Rattle.line_service.specs.declared.steps_end.StepsEnd.TheVariants as ends
 use Rattle.line_service.specs.Steps.{IsStepsEndAt}
 use Rattle.trace_report.specs.declared.decision.Decision.{Decision}
 use Rattle.trace_report.specs.Trace.{HasNoWords, IsTraceEndAt, HasTraced}
-use Rattle.plant_script.specs.declared.task.OutputMode.TheVariants.{Trace}
+use Rattle.command_line.specs.declared.asked.RunReport.TheVariants.{Trace}
 use Rattle.plant_script.specs.Run.{memory_line, EndsBy}
 use Rattle.plant_script.specs.Ends.{status_of, line_of}
 use Rattle.plant_script.specs.Traced.{EndsTraceBy, IsTracedRunOf, EndsTraced}
-use Rattle.plant_script.specs.Task.{IsTold}
-use Rattle.plant_script.proofs.LiveRuns.{no_five}
+use Rattle.plant_script.specs.Task.{RunsTo, IsWritten}
+use Rattle.plant_script.proofs.LiveRuns.{no_five, no_six}
 
 -- the run ends where its steps do
 ends_by : (core : CoreView) (next : Option LineStep) (end : StepsEnd) → IsStepsEndAt core next end → EndsBy core next (status_of end) (line_of end)
@@ -56,16 +56,16 @@ trace_ends plant lines core end status w0 w1 w2 has is wrote = (
   Appends-trans w0 w1 w2 has.text (line_of end) has.written wrote,
 )
 
--- what a trace came to is told
-pub trace_told : (plant : PlantFields) (lines : List LineStep) (status : ℕ) (w0 w1 : Option (List ℕ)) → EndsTraced plant lines status (λ text. Appends w0 w1 text)
-    → IsTold plant Trace lines status (λ text. Appends w0 w1 text)
-trace_told plant lines status w0 w1 ran = by ran.1.ends
+-- what a trace results in is written
+pub trace_written : (plant : PlantFields) (lines : List LineStep) (status : ℕ) (w0 w1 : Option (List ℕ)) → EndsTraced plant lines status (λ text. Appends w0 w1 text)
+    → IsWritten (RunsTo plant Trace lines) status (λ text. Appends w0 w1 text)
+trace_written plant lines status w0 w1 ran = by ran.1.ends
   where
     run : IsTracedRunOf plant lines status ran.0
     run = ran.1
 
     -- memory ran out for the next step, or for the words of the last one
-    out : status ≡ 5 → run.last ≡ memory_line → IsTold plant Trace lines status (λ text. Appends w0 w1 text)
+    out : status ≡ 5 → run.last ≡ memory_line → IsWritten (RunsTo plant Trace lines) status (λ text. Appends w0 w1 text)
     out five last_is =
         let text_is : ran.0 ≡ run.told ++ memory_line = run.text_is ∙ ap (λ (l : List ℕ). run.told ++ l) last_is in
         inr (
@@ -75,7 +75,7 @@ trace_told plant lines status w0 w1 ran = by ran.1.ends
           inr (subst (λ (t : List ℕ). IsTracedRunOf plant lines 5 t) text_is (subst (λ (n : ℕ). IsTracedRunOf plant lines n ran.0) five run)),
         )
 
-    by : (ends : EndsTraceBy run.core (slice_get lines run.at) run.decisions run.told status run.last) → IsTold plant Trace lines status (λ text. Appends w0 w1 text)
-    by (inl (inl well)) = inl (ran.0, no_five run.core (slice_get lines run.at) status well.0, run, ran.2)
+    by : (ends : EndsTraceBy run.core (slice_get lines run.at) run.decisions run.told status run.last) → IsWritten (RunsTo plant Trace lines) status (λ text. Appends w0 w1 text)
+    by (inl (inl well)) = inl (ran.0, no_five run.core (slice_get lines run.at) status well.0, no_six run.core (slice_get lines run.at) status well.0, run, ran.2)
     by (inl (inr want)) = out want.1 want.2
     by (inr words) = out words.1 words.2

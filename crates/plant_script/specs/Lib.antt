@@ -4,8 +4,10 @@ pub mod Ends
 pub mod OnThreads
 pub mod One
 pub mod OperatorA
+pub mod Reaching
 pub mod Run
 pub mod Serving
+pub mod Statuses
 pub mod Task
 pub mod Traced
 pub mod View

@@ -24,6 +24,10 @@ last_line (Some line) = codes "fault: line " ++ (decimal line.number ++ 10 ∷ [
 abbrev pub memory_line : List ℕ
 memory_line = codes "fault: memory" ++ 10 ∷ []
 
+-- what is written if the input cannot be read
+abbrev pub io_line : List ℕ
+io_line = codes "fault: io" ++ 10 ∷ []
+
 -- An allocation for the next step failed: there is a next step, and the core does not refuse it. So no refusal is reported as out of
 -- memory, nor is the end of the run.
 abbrev pub IsOutOfMemory : CoreView → Option LineStep → Type 0

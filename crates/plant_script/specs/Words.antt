@@ -1,37 +1,22 @@
 -- What each order answers to an input (implementation-specific).
-use Rattle.std.specs.Prelude.{◌≡◌, ◌≢◌, ◌⊎◌, ℕ, List, [], ◌∷◌, ◌++◌, MatchBool, slice_get, Option, Some, None, IfSome, Result, Ok, Err, codes}
+use Rattle.std.specs.Prelude.{◌≡◌, ℕ, List, [], ◌∷◌, ◌++◌, MatchBool, slice_get, Option, Some, None, Result, Ok, Err, codes}
 use Rattle.std.specs.List.{position_from}
-use Rattle.std.specs.String.{string_bytes}
-use Rattle.std.specs.Io.KnownBytes.{Appends}
 use Rattle.toml.specs.Parse.{parse_document}
 use Rattle.plant.specs.declared.operator_row.RowFields.{RowFields}
 use Rattle.plant.specs.declared.plant.PlantFields.{PlantFields}
 use Rattle.slice_table.specs.declared.plant_fault.PlantFault.{PlantFault}
 use Rattle.slice_table.specs.ReadPlant.{text_plant}
 use Rattle.script_format.specs.declared.script.LineStep.{LineStep}
-use Rattle.command_line.specs.declared.asked.WordsFault.{WordsFault}
-use Rattle.command_line.specs.declared.asked.WordsFault.TheVariants as faults
 use Rattle.command_line.specs.Order.{Order, one, check, run, threads, capture, serve, trace, history}
-use Rattle.command_line.specs.CommandLine.{Names, AsksHelp, AreWrong}
 use Rattle.script_format.specs.Input.{plant_text, script_text}
 use Rattle.script_format.specs.Script.{is_named, steps_of}
 use Rattle.script_format.specs.Text.{outs_text, history_text}
 use Rattle.plant_script.specs.One.{Answer, is_readable, answer_of}
 use Rattle.plant_script.specs.Check.{answer_to_steps, answer_to_plant, check_of}
-use Rattle.plant_script.specs.Run.{memory_line, IsRunOf, IsCapturedRunOf}
+use Rattle.plant_script.specs.Run.{io_line, IsRunOf, IsCapturedRunOf}
 use Rattle.plant_script.specs.OnThreads.{IsThreadedRunOf}
 use Rattle.plant_script.specs.Traced.{IsTracedRunOf}
 use Rattle.plant_script.specs.Serving.{IsServed}
-
--- ---- no answer
-
--- ---- words that give no order
-
--- wrong words are reported as such, with status 2, and help with 0; out of memory has no status but 5
-abbrev pub AnswersFault : WordsFault → ℕ → (List ℕ → Type 0) → Type 0
-AnswersFault (faults.Help text) status told = (status ≡ 0) × told (string_bytes text)
-AnswersFault faults.Wrong status told = (status ≡ 2) × told (codes "fault: words" ++ 10 ∷ [])
-AnswersFault faults.NoMemory status told = ⊥
 
 -- ---- answers
 
@@ -85,14 +70,14 @@ abbrev pub AnswersInput : (PlantFields → List ℕ → ℕ → List ℕ → Typ
 AnswersInput answers input status text =
     MatchBool (is_readable input)
     (AnswersPlant answers (text_plant (parse_document (plant_text input))) (script_text input) status text)
-    (Is (record { status = 6; text = codes "fault: io" ++ 10 ∷ [] }) status text)
+    (Is (record { status = 6; text = io_line }) status text)
 
 -- an invalid plant is reported alone; else its plant is served as long as there are lines
 abbrev pub AnswersFront : Result PlantFields PlantFault → List ℕ → ℕ → List ℕ → Type 0
 AnswersFront (Ok plant) script status text = IsServed plant script status text
 AnswersFront (Err fault) script status text = Is (answer_to_plant (Err fault) script) status text
 
--- of a plant file that is too long or no text nothing is said but its status, 6
+-- the plant file is judged first; that it is too long or not UTF-8 is no answer
 abbrev pub AnswersServe : List ℕ → ℕ → List ℕ → Type 0
 AnswersServe input status text = AnswersFront (text_plant (parse_document (plant_text input))) (script_text input) status text
 
@@ -105,27 +90,3 @@ Answers capture input status text = AnswersInput AnswersCapture input status tex
 Answers serve input status text = AnswersServe input status text
 Answers trace input status text = AnswersInput AnswersTrace input status text
 Answers (history operator) input status text = AnswersInput (AnswersHistory operator) input status text
-
--- ---- what a writer that had the bytes old, and has new, was given with this status; of statuses 5 and 6 nothing is said here
-
--- under words that name an order, an answer to what is read
-abbrev pub AnswersWhatIsRead : List (List ℕ) → Option (List ℕ) → ℕ → Option (List ℕ) → Option (List ℕ) → Type 0
-AnswersWhatIsRead words read status old new = (order : Order) → Names words order → status ≢ 5 → status ≢ 6
-    → IfSome read (λ input. (text : List ℕ) × Answers order input status text × Appends old new text)
-
--- under wrong words, with status 2, that they are a fault
-abbrev pub TellsWrong : List (List ℕ) → ℕ → Option (List ℕ) → Option (List ℕ) → Type 0
-TellsWrong words status old new = AreWrong words → status ≢ 5 → status ≢ 6
-    → (status ≡ 2) × Appends old new (codes "fault: words" ++ 10 ∷ [])
-
--- under words that ask for help, with status 0, some text
-abbrev pub TellsHelp : List (List ℕ) → ℕ → Option (List ℕ) → Option (List ℕ) → Type 0
-TellsHelp words status old new = AsksHelp words → status ≢ 5 → status ≢ 6
-    → (text : List ℕ) × (status ≡ 0) × Appends old new text
-
--- ---- out of memory
-
--- its line is written alone; or after what a run, which writes as it goes, had output until then
-abbrev pub TellsMemory : List (List ℕ) → Option (List ℕ) → (List ℕ → Type 0) → Type 0
-TellsMemory words read wrote = (before : List ℕ) × wrote (before ++ memory_line) × ((before ≡ [])
-    ⊎ ((order : Order) × Names words order × IfSome read (λ input. Answers order input 5 (before ++ memory_line))))

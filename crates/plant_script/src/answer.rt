@@ -1,13 +1,16 @@
 //! What the program answers.
 
 ghost use Rattle.std.specs.Prelude.{◌≢◌};
+ghost use Rattle.plant_script.specs.Statuses.{status_code};
 
-/// What the program answers to what it has read: its exit status, 0 to 4 or 7, and what it writes. Statuses 5 and 6 are
-/// not answers: they say that there is none.
+use crate::status::Status;
+
+/// What the program answers to what it has read: its status, and what it writes. Out of memory and an I/O error are not
+/// answers: they say that there is none.
 #[derive(Drop)]
 pub struct Answer {
-    pub status: u8,
+    pub status: Status,
     pub text: Vec<u8>,
-    ghost no_want: { status ≢ 5 },
-    ghost no_failure: { status ≢ 6 },
+    ghost no_want: { status_code status ≢ 5 },
+    ghost no_failure: { status_code status ≢ 6 },
 }

@@ -10,9 +10,11 @@ ghost use Rattle.plant_core.specs.CoreView.{core_view};
 ghost use Rattle.pcap_capture.specs.Capture.{opened_capture, IsOfRun};
 ghost use Rattle.plant_script.specs.Done.{HasCaptured, IsStatusOf};
 ghost use Rattle.plant_script.specs.Run.{IsCapturedRunOf};
+ghost use Rattle.plant_script.specs.Statuses.{status_code};
 
 use crate::answer::Answer;
 use crate::ending::refused_line;
+use crate::status::Status;
 use pcap_capture::Capture;
 use plant_core::PlantCore;
 use run_model::{Out, Step};
@@ -63,11 +65,11 @@ fn run_captured(
 /// Returns the file, with the status of its run.
 fn answer_of_file(file: Vec<u8>, refused: Option<u64>) -> Answer
     ensures text { result.text ≡ file }
-    ensures status { IsStatusOf refused result.status }
+    ensures status { IsStatusOf refused (status_code result.status) }
 {
     let status = match refused {
-        None => 0,
-        Some(_number) => 4,
+        None => Status::Success,
+        Some(_number) => Status::InvalidLine,
     };
     Answer { status, text: file }
 }
@@ -79,7 +81,7 @@ pub fn answer_of_capture(
     lines: Vec<LineStep>,
 ) -> Result<Answer, AllocError>
     requires { IsStateAfter (core_view core.old).plant [] [] (core_view core.old) }
-    ensures { IfOk result (λ answer. IsCapturedRunOf (core_view core.old).plant lines.items answer.status answer.text.items) }
+    ensures { IfOk result (λ answer. IsCapturedRunOf (core_view core.old).plant lines.items (status_code answer.status) answer.text.items) }
 {
     let mut capture = Capture::open(alloc, core.plant().consts());
     let refused = run_captured(alloc, core, lines.as_slice(), &mut capture)?;

@@ -12,9 +12,11 @@ ghost use Rattle.script_format.specs.Script.{steps_of};
 ghost use Rattle.plant_script.specs.Check.{fault_text, answer_to_steps, check_of};
 ghost use Rattle.plant_script.specs.One.{is_readable};
 ghost use Rattle.plant_script.specs.declared.input.AnswerFault.TheVariants.{Memory};
+ghost use Rattle.plant_script.specs.Statuses.{status_code};
 
 use crate::answer::Answer;
 use crate::input::AnswerFault;
+use crate::status::Status;
 use plant::Plant;
 use script_format::{LineFault, before_bar, plant_text, script_text, steps_of};
 use slice_table::{PlantFault, read_plant};
@@ -46,33 +48,39 @@ fn plant_line(alloc: Global, fault: PlantFault) -> Result<String, AllocError>
 
 /// Returns what is answered to an invalid plant.
 pub fn answer_to_fault(alloc: Global, fault: PlantFault) -> Result<Answer, AllocError>
-    ensures { IfOk result (λ answer. (answer.status ≡ 3)
+    ensures { IfOk result (λ answer. (status_code answer.status ≡ 3)
         × (answer.text.items ≡ codes "fault: plant " ++ fault_text fault)) }
 {
     let line = plant_line(alloc, fault)?;
     let text = line.into_bytes();
-    Ok(Answer { status: 3, text })
+    Ok(Answer {
+        status: Status::InvalidPlant,
+        text,
+    })
 }
 
 /// Returns what is answered to an invalid line.
 pub fn answer_to_line(alloc: Global, number: u64) -> Result<Answer, AllocError>
-    ensures { IfOk result (λ answer. (answer.status ≡ 4)
+    ensures { IfOk result (λ answer. (status_code answer.status ≡ 4)
         × (answer.text.items ≡ codes "fault: line " ++ (decimal number ++ 10 ∷ []))) }
 {
     let line = format!(in alloc; "fault: line {number}\n")?;
     let text = line.into_bytes();
-    Ok(Answer { status: 4, text })
+    Ok(Answer {
+        status: Status::InvalidLine,
+        text,
+    })
 }
 
 /// Returns what is answered to the script of a plant.
 fn answer_to_script(alloc: Global, plant: &Plant, script: &[u8]) -> Result<Answer, AnswerFault>
-    ensures value { IfOk result (λ answer. (answer.status ≡ (answer_to_steps (steps_of plant.now script.now)).status)
+    ensures value { IfOk result (λ answer. (status_code answer.status ≡ (answer_to_steps (steps_of plant.now script.now)).status)
         × (answer.text.items ≡ (answer_to_steps (steps_of plant.now script.now)).text)) }
-    ensures memory { IfErr result (λ stop. stop ≡ Memory) }
+    ensures memory { IfErr result (λ fault. fault ≡ Memory) }
 {
     match steps_of(alloc, plant, script) {
         Ok(_steps) => Ok(Answer {
-            status: 0,
+            status: Status::Success,
             text: Vec::from_slice(alloc, b"ok\n")?,
         }),
         Err(LineFault::Shape { number }) => Ok(answer_to_line(alloc, number)?),
@@ -94,9 +102,9 @@ pub(crate) fn plant_of_input(alloc: Global, input: &[u8], place: usize) -> Resul
 #[tactic(auto, unfolding(crate::specs::Check::check_of))]
 pub fn check_of(alloc: Global, input: &[u8]) -> Result<Answer, AnswerFault>
     requires { is_readable input.now ≡ true }
-    ensures value { IfOk result (λ answer. (answer.status ≡ (check_of input.now).status)
+    ensures value { IfOk result (λ answer. (status_code answer.status ≡ (check_of input.now).status)
         × (answer.text.items ≡ (check_of input.now).text)) }
-    ensures memory { IfErr result (λ stop. stop ≡ Memory) }
+    ensures memory { IfErr result (λ fault. fault ≡ Memory) }
 {
     let place = before_bar(input);
     match plant_of_input(alloc, input, place) {

@@ -6,6 +6,7 @@ ghost use Rattle.std.specs.IoError.{error_kind};
 ghost use Rattle.std.specs.Process.{exit_status};
 ghost use Rattle.std.specs.declared.io.ErrorKind.TheVariants.{OutOfMemory};
 
+use crate::status::Status;
 use std::io;
 use std::process::ExitCode;
 
@@ -28,7 +29,9 @@ pub fn exit_code(outcome: io::Result<u8>) -> ExitCode
 {
     match outcome {
         Ok(status) => ExitCode::from(status),
-        Err(error) if error.kind() == io::ErrorKind::OutOfMemory => ExitCode::from(5),
-        Err(_error) => ExitCode::from(6),
+        Err(error) if error.kind() == io::ErrorKind::OutOfMemory => ExitCode::from(
+            Status::OutOfMemory.code(),
+        ),
+        Err(_error) => ExitCode::from(Status::IoError.code()),
     }
 }

@@ -24,7 +24,7 @@ pub enum AnswerFault {
 }
 
 impl From<AllocError> for AnswerFault {
-    ghost from_gives = { λ _ stop. stop ≡ Memory };
+    ghost from_gives = { λ _ fault. fault ≡ Memory };
 
     fn from(_error: AllocError) -> AnswerFault {
         AnswerFault::Memory
@@ -32,7 +32,7 @@ impl From<AllocError> for AnswerFault {
 }
 
 impl<T: Drop> From<AllocFailed<T>> for AnswerFault {
-    ghost from_gives = { λ _ stop. stop ≡ Memory };
+    ghost from_gives = { λ _ fault. fault ≡ Memory };
 
     fn from(_error: AllocFailed<T>) -> AnswerFault {
         AnswerFault::Memory
@@ -83,9 +83,9 @@ fn read_bytes<R: Read>(
     unreachable!()
 }
 
-/// Returns the whole input, where it can be read. `AnswerFault::Io` comes only where a read has
-/// failed, which is noted, or where the input is too long or no UTF-8; of the latter it is noted how
-/// many bytes are.
+/// Returns the whole input, where it can be read. `AnswerFault::Io` comes only where a read has failed,
+/// which is noted, or where the input is too long or no UTF-8; of the latter it is noted how many
+/// bytes are.
 #[tactic(auto, using(crate::proofs::Unreadable::unreadable_long, crate::proofs::Unreadable::unreadable_text))]
 pub fn read_input<R: Read>(
     alloc: Global,

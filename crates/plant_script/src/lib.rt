@@ -15,11 +15,15 @@ mod on_threads;
 mod one;
 mod operator_a;
 mod program;
+mod progress;
 mod running;
 mod serving;
+mod status;
 mod task;
 mod tracing;
 
 pub use command::{behind_name, exit_code};
 pub use ending::Ending;
-pub use program::{run_program, run_program_with_reasons};
+pub use program::{run_program, run_program_with_reasons, run_without_threads};
+pub use progress::Progress;
+pub use status::Status;

@@ -2,6 +2,7 @@
 
 ghost use Rattle.std.specs.Prelude.{◌≡◌, ◌<◌, ◌++◌, length, map, slice_get, IfOk, OnOk};
 ghost use Rattle.std.specs.List.{flat_map};
+ghost use Rattle.std.specs.Io.KnownBytes.{Appends};
 ghost use Rattle.std.specs.String.{string_bytes};
 ghost use Rattle.operator_book.specs.ViewOf.{view_of, policy_of};
 ghost use Rattle.run_audit.specs.Outs.{outs_from, outs_of};
@@ -9,11 +10,16 @@ ghost use Rattle.run_receipts.specs.OwnParts.{history_outputs};
 ghost use Rattle.script_format.specs.Script.{steps_without_numbers};
 ghost use Rattle.script_format.specs.Text.{operator_name, map_line, output_line, outs_text};
 ghost use Rattle.plant_workers.specs.Faulting.{IsFault};
+ghost use Rattle.plant_script.specs.Task.{IsWritten};
 ghost use Rattle.plant_script.specs.OnThreads.{IsThreadedRunOf, ReportsCore, ReportsFault, ReportsPlace, ReportsStray, place_text};
+ghost use Rattle.plant_script.specs.Statuses.{status_code};
 
 use crate::answer::Answer;
 use crate::check::answer_to_line;
-use grant_policy::Ranking;
+use crate::ending::{write_fault, write_outcome};
+use crate::input::AnswerFault;
+use crate::status::Status;
+use grant_policy::{RankInput, Ranking, rank_by};
 use map_assembly::MapBytes;
 use operator_book::{Book, Entry, Output};
 use plant::{Op, Plant};
@@ -24,6 +30,8 @@ use run_plan::first_spent;
 use run_receipts::{RunFault, Settled};
 use script_format::{LineStep, put_map, put_name, put_output};
 use std::alloc::{AllocError, Global};
+use std::io;
+use std::io::Write;
 use std::sync::Wait;
 use std::thread::Threads;
 
@@ -100,20 +108,23 @@ fn put_maps(alloc: Global, text: &mut String, maps: &[MapBytes]) -> Result<(), A
 
 /// Returns what is answered where the run is settled.
 fn answer_of_settled(alloc: Global, plant: &Plant, settled: &Settled) -> Result<Answer, AllocError>
-    ensures { IfOk result (λ answer. (answer.status ≡ 0) × (answer.text.items
+    ensures { IfOk result (λ answer. (status_code answer.status ≡ 0) × (answer.text.items
         ≡ outs_text plant.now (outs_of (map view_of settled.now.books.items) settled.now.maps.items))) }
 {
     let mut text = String::new(alloc);
     put_books(alloc, &mut text, plant, settled.books.as_slice())?;
     put_maps(alloc, &mut text, settled.maps.as_slice())?;
     let text = text.into_bytes();
-    Ok(Answer { status: 0, text })
+    Ok(Answer {
+        status: Status::Success,
+        text,
+    })
 }
 
 /// Returns what is answered where the line at a place of the script's steps is refused.
 fn answer_to_place(alloc: Global, lines: &[LineStep], place: usize) -> Result<Answer, AllocError>
     requires { place < length lines.now }
-    ensures { IfOk result (λ answer. ReportsPlace lines.now place answer.status answer.text.items) }
+    ensures { IfOk result (λ answer. ReportsPlace lines.now place (status_code answer.status) answer.text.items) }
 {
     answer_to_line(alloc, lines[place].number)
 }
@@ -121,13 +132,13 @@ fn answer_to_place(alloc: Global, lines: &[LineStep], place: usize) -> Result<An
 /// Returns what is answered where the core refused a step: the line of the first Tick that finds
 /// its operator's frame numbers spent; where there is none, that the run strayed.
 fn answer_to_core(alloc: Global, plant: &Plant, lines: &[LineStep]) -> Result<Answer, AllocError>
-    ensures { IfOk result (λ answer. ReportsCore plant.now lines.now answer.status answer.text.items) }
+    ensures { IfOk result (λ answer. ReportsCore plant.now lines.now (status_code answer.status) answer.text.items) }
 {
     let steps = steps_in(alloc, lines)?;
     match first_spent(plant, steps.as_slice()) {
         Some(place) => answer_to_place(alloc, lines, place),
         None => Ok(Answer {
-            status: 7,
+            status: Status::Strayed,
             text: Vec::from_slice(alloc, b"fault: strayed - -\n")?,
         }),
     }
@@ -141,7 +152,7 @@ fn answer_to_stray(
     index: Option<usize>,
 ) -> Result<Answer, AllocError>
     ensures { IfOk result (λ answer.
-        ReportsStray (operator_name (slice_get plant.now.rows op)) (place_text index) answer.status answer.text.items) }
+        ReportsStray (operator_name (slice_get plant.now.rows op)) (place_text index) (status_code answer.status) answer.text.items) }
 {
     let mut text = String::from_str(alloc, "fault: strayed ")?;
     put_name(&mut text, plant, op)?;
@@ -150,7 +161,10 @@ fn answer_to_stray(
         None => text.push_str(" -\n")?,
     }
     let text = text.into_bytes();
-    Ok(Answer { status: 7, text })
+    Ok(Answer {
+        status: Status::Strayed,
+        text,
+    })
 }
 
 /// Returns what is answered to a fault that comes of the run's steps.
@@ -161,7 +175,7 @@ fn answer_of_fault(
     fault: RunFault,
 ) -> Result<Answer, AllocError>
     requires { IsFault plant.now (steps_without_numbers lines.now) fault }
-    ensures { IfOk result (λ answer. ReportsFault plant.now lines.now fault answer.status answer.text.items) }
+    ensures { IfOk result (λ answer. ReportsFault plant.now lines.now fault (status_code answer.status) answer.text.items) }
 {
     match fault {
         RunFault::Strayed { op, index } => answer_to_stray(alloc, plant, op, Some(index)),
@@ -169,7 +183,10 @@ fn answer_of_fault(
         RunFault::MapStrayed { frame } => {
             let line = format!(in alloc; "fault: strayed - {frame}\n")?;
             let text = line.into_bytes();
-            Ok(Answer { status: 7, text })
+            Ok(Answer {
+                status: Status::Strayed,
+                text,
+            })
         }
         RunFault::NoMemory | RunFault::Core(CoreFault::NoMemory) => Err(AllocError),
         RunFault::Core(_) => answer_to_core(alloc, plant, lines),
@@ -178,7 +195,7 @@ fn answer_of_fault(
 }
 
 /// Returns what `threads` answers. The rankings are in the plant's order of operators.
-pub fn answer_of_threads<R: Threads + Wait + Sync>(
+fn answer_of_threads<R: Threads + Wait + Sync>(
     rt: &R,
     alloc: Global,
     plant: Plant,
@@ -186,7 +203,7 @@ pub fn answer_of_threads<R: Threads + Wait + Sync>(
     rankings: Vec<Ranking>,
 ) -> Result<Answer, AllocError>
     requires { map policy_of rankings.items ≡ map (λ row. row.policy) plant.rows }
-    ensures { IfOk result (λ answer. IsThreadedRunOf plant lines.items answer.status answer.text.items) }
+    ensures { IfOk result (λ answer. IsThreadedRunOf plant lines.items (status_code answer.status) answer.text.items) }
 {
     let steps = steps_in(alloc, lines.as_slice())?;
     let shown = plant.copy(alloc)?;
@@ -194,4 +211,49 @@ pub fn answer_of_threads<R: Threads + Wait + Sync>(
         Ok(settled) => answer_of_settled(alloc, &shown, &settled),
         Err(fault) => answer_of_fault(alloc, &shown, lines.as_slice(), fault),
     }
+}
+
+/// Runs lines on threads, and writes what that results in. The rankings are in the plant's order of
+/// operators. Returns the exit status.
+fn write_threaded_run<R: Threads + Wait + Sync, W: Write>(
+    rt: &R,
+    alloc: Global,
+    plant: Plant,
+    lines: Vec<LineStep>,
+    rankings: Vec<Ranking>,
+    writer: &mut W,
+) -> io::Result<Status>
+    requires { map policy_of rankings.items ≡ map (λ row. row.policy) plant.rows }
+    ensures { IfOk result (λ status. IsWritten (IsThreadedRunOf plant lines.items) (status_code status)
+        (λ text. Appends (W.contents writer.old) (W.contents writer.new) text)) }
+{
+    write_outcome(writer, answer_of_threads(rt, alloc, plant, lines, rankings))
+}
+
+/// Runs lines on threads, each operator ranked by the policy of its row, and writes what that
+/// results in. It may wait. Returns the exit status.
+pub fn write_threads<R: Threads + Wait + Sync, W: Write>(
+    rt: &R,
+    alloc: Global,
+    plant: Plant,
+    lines: Vec<LineStep>,
+    writer: &mut W,
+) -> io::Result<Status>
+    ensures { IfOk result (λ status. IsWritten (IsThreadedRunOf plant lines.items) (status_code status)
+        (λ text. Appends (W.contents writer.old) (W.contents writer.new) text)) }
+{
+    let mut rankings = Vec::new(alloc);
+    for row in plant.rows() {
+        let policy = row.get_fields().policy;
+        let Ok(rank) = Box::new(alloc, move |input: RankInput| -> u8 {
+            rank_by(policy, &input)
+        }) else {
+            return write_fault(writer, AnswerFault::Memory);
+        };
+        let ranking = Ranking::new(row.get_fields().policy, rank);
+        if rankings.push(ranking).is_err() {
+            return write_fault(writer, AnswerFault::Memory);
+        }
+    }
+    write_threaded_run(rt, alloc, plant, lines, rankings, writer)
 }

@@ -1,29 +1,34 @@
 //! The program over any reader and any writer.
 
-ghost use Rattle.std.specs.Prelude.{◌≡◌, ◌≢◌, ◌⊎◌, true, false, Err, IfOk, IfErr, IfSome};
+ghost use Rattle.std.specs.Prelude.{◌≡◌, ◌≢◌, ◌⊎◌, true, false, Err, IfOk, IfErr, IfSome, MatchResult};
 ghost use Rattle.clap.specs.Walk.{texts};
 ghost use Rattle.std.specs.Io.KnownBytes.{Appends};
-ghost use Rattle.plant_script.specs.Task.{Comes};
-ghost use Rattle.command_line.specs.declared.asked.Word.TheVariants as words;
-ghost use Rattle.command_line.specs.Order.{order_of};
+ghost use Rattle.plant_script.specs.Task.{Comes, IsNotThreaded};
+ghost use Rattle.plant_script.specs.Reaching.{AnswersFault, AnswersWords, Completes, ReachesOrder, ReachesWords};
+ghost use Rattle.command_line.specs.declared.asked.BatchWord.TheVariants as batch;
+ghost use Rattle.command_line.specs.Order.{batch_order, order_of};
 ghost use Rattle.command_line.specs.CommandLine.{AsksHelp, AreWrong};
-ghost use Rattle.plant_script.specs.Run.{memory_line};
-ghost use Rattle.plant_script.specs.Words.{AnswersFault, Answers, AnswersWhatIsRead, TellsWrong, TellsHelp, TellsMemory};
+ghost use Rattle.plant_script.specs.Words.{Answers};
 ghost use Rattle.plant_script.specs.One.{answer_of, is_readable};
+ghost use Rattle.plant_script.specs.Statuses.{status_code};
 
 use crate::answer::Answer;
 use crate::check::check_of;
-use crate::ending::Ending;
+use crate::ending::{Ending, write_answer, write_fault};
 use crate::input::{AnswerFault, read_input};
+use crate::on_threads::write_threads;
 use crate::one::text_of;
+use crate::progress::Progress;
 use crate::running::write_ranked;
 use crate::serving::serve_words;
-use crate::task::{InputOutcome, Wanted, task_of};
-use command_line::{Word, WordsFault, read_words};
+use crate::status::Status;
+use crate::task::{InputOutcome, task_of, threads_of};
+use command_line::{BatchWord, Word, WordsFault, read_words};
 use diagnostics::{Trouble, reason_of, reason_of_trouble, reason_of_words};
 use script_format::{LineFault, before_bar, messages_of, parts_of, script_text};
 use simdutf8::compat::from_utf8;
 use std::alloc::{AllocError, Global};
+use std::io;
 use std::io::{Read, Write};
 use std::sync::Wait;
 use std::thread::Threads;
@@ -56,10 +61,10 @@ impl<'a> Seen<'a> {
 }
 
 /// Returns why an input could not be read or an output not be written.
-fn trouble_of(seen: &Seen<'_>, status: u8) -> Trouble {
+fn trouble_of(seen: &Seen<'_>, status: Status) -> Trouble {
     match (status, seen.valid) {
-        (5, _) => Trouble::Memory,
-        (7, _) => Trouble::Strayed,
+        (Status::OutOfMemory, _) => Trouble::Memory,
+        (Status::Strayed, _) => Trouble::Strayed,
         (_, Some(valid)) => Trouble::NoText { valid },
         _ if seen.failed => Trouble::Read,
         _ if seen.word.is_some() && seen.input.is_none() => Trouble::TooLong,
@@ -72,14 +77,14 @@ fn reasons_of<'a>(
     alloc: Global,
     words: &'a [&'a str],
     seen: &Seen<'a>,
-    status: u8,
+    status: Status,
 ) -> Result<String, AllocError> {
     match (seen.word, &seen.input) {
         (Some(word), Some(input)) => {
             let text = from_utf8(input.as_slice()).unwrap_or("");
-            reason_of(alloc, word, text, status)
+            reason_of(alloc, word, text, status.code())
         }
-        (None, _) if status == 2 => reason_of_words(alloc, words),
+        (None, _) if status == Status::WrongArguments => reason_of_words(alloc, words),
         _ => Ok(String::new(alloc)),
     }
 }
@@ -89,13 +94,14 @@ fn tell_reasons<'a, E: Write>(
     alloc: Global,
     words: &'a [&'a str],
     seen: &Seen<'a>,
-    status: u8,
+    status: Status,
     reasons: &mut E,
 ) {
-    let told = if status < 5 {
-        reasons_of(alloc, words, seen, status)
-    } else {
-        reason_of_trouble(alloc, trouble_of(seen, status))
+    let told = match status {
+        Status::OutOfMemory | Status::IoError | Status::Strayed => {
+            reason_of_trouble(alloc, trouble_of(seen, status))
+        }
+        _ => reasons_of(alloc, words, seen, status),
     };
     let _lost = match told {
         Ok(text) => reasons.write_all(text.as_bytes()),
@@ -104,72 +110,65 @@ fn tell_reasons<'a, E: Write>(
     let _lost = reasons.flush();
 }
 
-/// Writes the text, and answers the status. Where that fails, it tries to write the line of a failed write, which may be
-/// lost too, and answers 6.
-pub(crate) fn finish<W: Write>(writer: &mut W, status: u8, text: &[u8]) -> u8
-    ensures { result ≢ 6 → (result ≡ status) × Appends (W.contents writer.old) (W.contents writer.new) text.now }
-{
-    if writer.write_all(text).is_ok() && writer.flush().is_ok() {
-        status
-    } else {
-        let _lost = writer.write_all(b"fault: io\n");
-        6
-    }
-}
-
 /// Returns what `one` answers to an input.
 #[tactic(auto, unfolding(crate::specs::One::answer_of))]
 fn answer_of(alloc: Global, input: &[u8]) -> Result<Answer, AnswerFault>
     requires { is_readable input.now ≡ true }
-    ensures value { IfOk result (λ answer. (answer.status ≡ (answer_of input.now).status)
+    ensures value { IfOk result (λ answer. (status_code answer.status ≡ (answer_of input.now).status)
         × (answer.text.items ≡ (answer_of input.now).text)) }
-    ensures memory { IfErr result (λ stop. stop ≡ AnswerFault.Memory) }
+    ensures memory { IfErr result (λ fault. fault ≡ AnswerFault.Memory) }
 {
     let lines = parts_of(alloc, b'\n', input)?;
     match messages_of(alloc, lines.as_slice()) {
         Ok(messages) => {
             let text = text_of(alloc, messages.as_slice())?;
-            Ok(Answer { status: 0, text })
+            Ok(Answer {
+                status: Status::Success,
+                text,
+            })
         }
         Err(LineFault::Shape { number }) => {
             let line = format!(in alloc; "fault: line {number}\n")?;
             let text = line.into_bytes();
-            Ok(Answer { status: 4, text })
+            Ok(Answer {
+                status: Status::InvalidLine,
+                text,
+            })
         }
         Err(LineFault::NoMemory) => Err(AnswerFault::Memory),
     }
 }
 
 /// Returns what is done for an input.
-fn serve_input(alloc: Global, word: Word<'_>, input: &[u8]) -> Result<InputOutcome, AnswerFault>
-    requires readable { is_readable input.now ≡ true }
-    requires whole { word ≢ words.Serve }
-    ensures served { IfOk result (λ served. Comes served (Answers (order_of word.entry) input.now)) }
-    ensures memory { IfErr result (λ stop. stop ≡ AnswerFault.Memory) }
+fn serve_input(
+    alloc: Global,
+    word: BatchWord<'_>,
+    input: &[u8],
+) -> Result<InputOutcome, AnswerFault>
+    requires { is_readable input.now ≡ true }
+    ensures served { IfOk result (λ outcome. Comes outcome (Answers (batch_order word.entry) input.now)) }
+    ensures threads { word.entry ≢ batch.Threads → IfOk result IsNotThreaded }
+    ensures memory { IfErr result (λ fault. fault ≡ AnswerFault.Memory) }
 {
     match word {
-        Word::One => Ok(InputOutcome::Answer(answer_of(alloc, input)?)),
-        Word::Check => Ok(InputOutcome::Answer(check_of(alloc, input)?)),
-        Word::Run => task_of(alloc, Wanted::Run, input),
-        Word::Threads => task_of(alloc, Wanted::Threads, input),
-        Word::Capture => task_of(alloc, Wanted::Capture, input),
-        Word::Serve => unreachable!(),
-        Word::Trace => task_of(alloc, Wanted::Trace, input),
-        Word::History { operator } => task_of(alloc, Wanted::History(operator), input),
+        BatchWord::One => Ok(InputOutcome::Answer(answer_of(alloc, input)?)),
+        BatchWord::Check => Ok(InputOutcome::Answer(check_of(alloc, input)?)),
+        BatchWord::Threads => threads_of(alloc, input),
+        BatchWord::Run(report) => task_of(alloc, report, input),
     }
 }
 
 /// Returns what is done for what a reader has left. The input is noted where it can be read.
 fn serve<R: Read>(
     alloc: Global,
-    word: Word<'_>,
+    word: BatchWord<'_>,
     reader: &mut R,
     seen: &mut Seen<'_>,
 ) -> Result<InputOutcome, AnswerFault>
-    requires untried { seen.old.failed ≡ false }
-    requires whole { word ≢ words.Serve }
-    ensures served { IfOk result (λ served.
-        IfSome (R.remaining reader.old) (λ input. Comes served (Answers (order_of word.entry) input))) }
+    requires { seen.old.failed ≡ false }
+    ensures served { IfOk result (λ outcome.
+        IfSome (R.remaining reader.old) (λ input. Comes outcome (Answers (batch_order word.entry) input))) }
+    ensures threads { word.entry ≢ batch.Threads → IfOk result IsNotThreaded }
     ensures io { (result ≡ Err AnswerFault.Io)
         → (seen.new.failed ≡ true) ⊎ IfSome (R.remaining reader.old) (λ input. is_readable input ≡ false) }
 {
@@ -187,80 +186,183 @@ fn script_of<'s>(seen: &'s Seen<'_>) -> &'s [u8] {
     }
 }
 
-/// Writes why there is no answer.
-pub(crate) fn write_fault<W: Write>(writer: &mut W, stop: AnswerFault) -> u8
-    ensures memory { stop ≡ AnswerFault.Memory → result ≢ 6 → (result ≡ 5)
-        × Appends (W.contents writer.old) (W.contents writer.new) memory_line }
-    ensures io { stop ≡ AnswerFault.Io → result ≡ 6 }
-{
-    match stop {
-        AnswerFault::Memory => finish(writer, 5, b"fault: memory\n"),
-        AnswerFault::Io => finish(writer, 6, b"fault: io\n"),
-    }
-}
-
-/// Returns words that give no order.
-fn answer_to_words<W: Write>(writer: &mut W, fault: WordsFault) -> u8
-    ensures answered { result ≢ 5 → result ≢ 6
-        → AnswersFault fault result (λ text. Appends (W.contents writer.old) (W.contents writer.new) text) }
-    ensures memory { result ≡ 5 → Appends (W.contents writer.old) (W.contents writer.new) memory_line }
+/// Writes what is answered to words that give no order. Returns the exit status.
+fn answer_to_words<W: Write>(writer: &mut W, fault: WordsFault) -> io::Result<Status>
+    ensures { IfOk result (λ status. AnswersFault fault (status_code status)
+        (λ text. Appends (W.contents writer.old) (W.contents writer.new) text)) }
 {
     match fault {
-        WordsFault::Help { text } => finish(writer, 0, text.as_bytes()),
-        WordsFault::Wrong => finish(writer, 2, b"fault: words\n"),
+        WordsFault::Help { text } => write_answer(writer, Status::Success, text.as_bytes()),
+        WordsFault::Wrong => write_answer(writer, Status::WrongArguments, b"fault: words\n"),
         WordsFault::NoMemory => write_fault(writer, AnswerFault::Memory),
     }
 }
 
-/// Returns the words, and notes what was seen on the way.
-#[tactic(auto, using(crate::proofs::Tasks::told_alone))]
-fn answer_of_words<'a, H: Threads + Wait + Sync, R: Read, W: Write>(
-    rt: &H,
+/// Carries out a command that reads all of its input, and notes what was seen on the way. The run of
+/// `threads` is left to the caller. An `Err` is a write that failed.
+fn answer_batch<'a, R: Read, W: Write>(
+    alloc: Global,
+    word: BatchWord<'a>,
+    reader: &mut R,
+    writer: &mut W,
+    seen: &mut Seen<'a>,
+    ending: Ending,
+) -> io::Result<Progress>
+    requires { seen.old.failed ≡ false }
+    ensures { IfOk result (λ progress. ReachesOrder (batch_order word.entry) (R.remaining reader.old) progress
+        (W.contents writer.old) (W.contents writer.new)) }
+{
+    match serve(alloc, word, reader, seen) {
+        Ok(InputOutcome::Task(task)) => {
+            let status = write_ranked(alloc, task, script_of(seen), ending, writer)?;
+            Ok(Progress::Ended {
+                status,
+                is_read_failed: seen.failed,
+            })
+        }
+        Ok(InputOutcome::Threads { plant, lines }) => Ok(Progress::Threads { plant, lines }),
+        Ok(InputOutcome::Answer(answer)) => {
+            let status = write_answer(writer, answer.status, answer.text.as_slice())?;
+            Ok(Progress::Ended {
+                status,
+                is_read_failed: seen.failed,
+            })
+        }
+        Err(fault) => {
+            let status = write_fault(writer, fault)?;
+            Ok(Progress::Ended {
+                status,
+                is_read_failed: seen.failed,
+            })
+        }
+    }
+}
+
+/// Carries out a command, and notes what was seen on the way. The run of `threads` is left to the
+/// caller. An `Err` is a write that failed, or under `serve` a read after the plant file.
+fn answer_word<'a, R: Read, W: Write>(
+    alloc: Global,
+    word: Word<'a>,
+    reader: &mut R,
+    writer: &mut W,
+    seen: &mut Seen<'a>,
+    ending: Ending,
+) -> io::Result<Progress>
+    requires untried { seen.old.failed ≡ false }
+    ensures { IfOk result (λ progress. ReachesOrder (order_of word.entry) (R.remaining reader.old) progress
+        (W.contents writer.old) (W.contents writer.new)) }
+{
+    match word {
+        Word::Serve => {
+            let (file, failed, valid) = (&mut seen.input, &mut seen.failed, &mut seen.valid);
+            let status = serve_words(alloc, reader, writer, file, failed, valid)?;
+            Ok(Progress::Ended {
+                status,
+                is_read_failed: seen.failed,
+            })
+        }
+        Word::Batch(word) => answer_batch(alloc, word, reader, writer, seen, ending),
+    }
+}
+
+/// Answers the words, and notes what was seen on the way. The run of `threads` is left to the
+/// caller. An `Err` is a write that failed, or under `serve` a read after the plant file.
+fn answer_words<'a, R: Read, W: Write>(
     alloc: Global,
     words: &'a [&'a str],
     reader: &mut R,
     writer: &mut W,
     seen: &mut Seen<'a>,
     ending: Ending,
-) -> u8
+) -> io::Result<Progress>
     requires untried { seen.old.failed ≡ false }
-    // What is written answers what is read.
-    ensures served { AnswersWhatIsRead (texts words.entry.now) (R.remaining reader.old) result
-        (W.contents writer.old) (W.contents writer.new) }
-    // Other words are a fault.
-    ensures refused { TellsWrong (texts words.entry.now) result (W.contents writer.old) (W.contents writer.new) }
-    // Help is reported where it is asked for.
-    ensures helped { TellsHelp (texts words.entry.now) result (W.contents writer.old) (W.contents writer.new) }
+    ensures answered { IfOk result (λ progress. ReachesWords (texts words.entry.now) (R.remaining reader.old) progress
+        (W.contents writer.old) (W.contents writer.new)) }
     // Nothing is read for words that are wrong or ask for help.
     ensures unread_if_wrong { AreWrong (texts words.entry.now) → reader.new ≡ reader.old }
     ensures unread_for_help { AsksHelp (texts words.entry.now) → reader.new ≡ reader.old }
-    // Out of memory is reported as such, and nothing else is; what `run` or `trace` had written until then is before it.
-    ensures memory { result ≡ 5 → TellsMemory (texts words.entry.now) (R.remaining reader.old)
-        (λ text. Appends (W.contents writer.old) (W.contents writer.new) text) }
 {
-    let word = match read_words(alloc, words) {
-        Ok(word) => word,
-        Err(fault) => return answer_to_words(writer, fault),
-    };
-    seen.word = Some(word);
-    if let Word::Serve = word {
-        return serve_words(
-            alloc,
-            reader,
-            writer,
-            &mut seen.input,
-            &mut seen.failed,
-            &mut seen.valid,
-        );
-    }
-    let task = match serve(alloc, word, reader, seen) {
-        Ok(InputOutcome::Task(task)) => task,
-        Ok(InputOutcome::Answer(answer)) => {
-            return finish(writer, answer.status, answer.text.as_slice());
+    match read_words(alloc, words) {
+        Ok(word) => {
+            seen.word = Some(word);
+            answer_word(alloc, word, reader, writer, seen, ending)
         }
-        Err(stop) => return write_fault(writer, stop),
-    };
-    write_ranked(rt, alloc, task, script_of(seen), ending, writer)
+        Err(fault) => {
+            let status = answer_to_words(writer, fault)?;
+            Ok(Progress::Ended {
+                status,
+                is_read_failed: false,
+            })
+        }
+    }
+}
+
+/// Does what is left of the program, the run of `threads`. Returns the exit status.
+fn complete<H: Threads + Wait + Sync, W: Write>(
+    rt: &H,
+    alloc: Global,
+    reached: io::Result<Progress>,
+    writer: &mut W,
+) -> io::Result<Status>
+    ensures { IfOk result (λ status. MatchResult reached
+        (λ progress. Completes progress (status_code status) (W.contents writer.old) (W.contents writer.new)) (λ error. ⊥)) }
+{
+    match reached {
+        Ok(
+            Progress::Ended {
+                status,
+                is_read_failed: _,
+            },
+        ) => Ok(status),
+        Ok(Progress::Threads { plant, lines }) => write_threads(rt, alloc, plant, lines, writer),
+        Err(error) => Err(error),
+    }
+}
+
+/// Ends the program: does what is left of it, and returns the exit status. After a write that
+/// failed, or under `serve` a read, it tries to write the line that says so, and returns 6. What is
+/// written then no clause says, since nothing is known of a write that failed.
+fn end_program<H: Threads + Wait + Sync, W: Write>(
+    rt: &H,
+    alloc: Global,
+    reached: io::Result<Progress>,
+    writer: &mut W,
+) -> Status
+    ensures { status_code result ≢ 6 → MatchResult reached
+        (λ progress. Completes progress (status_code result) (W.contents writer.old) (W.contents writer.new)) (λ error. ⊥) }
+{
+    match complete(rt, alloc, reached, writer) {
+        Ok(status) => status,
+        Err(_failed) => {
+            let _lost = writer.write_all(b"fault: io\n");
+            let _lost = writer.flush();
+            Status::IoError
+        }
+    }
+}
+
+/// Carries out the command that the arguments after the program's name give, as `run_program` does,
+/// up to the run of `threads`. All other commands have ended when it returns, and it waits for
+/// nobody.
+///
+/// An `Err` is a write that failed, or under `serve` a read after the plant file: what is written
+/// then no clause says.
+pub fn run_without_threads<'a, R: Read, W: Write>(
+    alloc: Global,
+    words: &'a [&'a str],
+    reader: &mut R,
+    writer: &mut W,
+    ending: Ending,
+) -> io::Result<Progress>
+    // What is written answers the words and what is read, status 6 included; or the words are `threads`.
+    ensures answered { IfOk result (λ progress. ReachesWords (texts words.entry.now) (R.remaining reader.old) progress
+        (W.contents writer.old) (W.contents writer.new)) }
+    // Nothing is read for words that are wrong or ask for help.
+    ensures unread_if_wrong { AreWrong (texts words.entry.now) → reader.new ≡ reader.old }
+    ensures unread_for_help { AsksHelp (texts words.entry.now) → reader.new ≡ reader.old }
+{
+    let mut seen = Seen::new();
+    answer_words(alloc, words, reader, writer, &mut seen, ending)
 }
 
 /// Runs the program on the arguments after its name, an input and an output, and returns the exit
@@ -272,14 +374,17 @@ fn answer_of_words<'a, H: Threads + Wait + Sync, R: Read, W: Write>(
 /// The command `capture` writes a file, or the one line `fault:` of an invalid plant or line. A file
 /// that ends at a refused step has status 4 and no line after it.
 ///
-/// The command `threads` may wait, and nothing is said of its returning. All others wait for nobody.
+/// The command `threads` may wait, and nothing is said of its returning. All others are carried out
+/// by `run_without_threads`, which returns.
 ///
 /// The command `run` writes the outputs of each step as they are made, and keeps no history. If
 /// memory runs out for a later step, the lines of those before it are before the last line, `fault:
 /// memory`. The command `trace` writes what decided each step in the same way.
 ///
-/// Statuses 5 and 6 may come at any time, since no clause says what memory or a writer does. With 6
-/// it is not fixed what is before the last line. No clause says anything of the text of help.
+/// Status 6 may come at any time, since no clause says what a writer does. What is written with it
+/// is fixed where no write has failed (`run_without_threads`). Status 5 may come wherever memory is
+/// allocated, and never in place of a refused step of `run`, `trace` or `serve`. No clause says
+/// anything of the text of help.
 pub fn run_program<'a, H: Threads + Wait + Sync, R: Read, W: Write>(
     rt: &H,
     alloc: Global,
@@ -287,23 +392,15 @@ pub fn run_program<'a, H: Threads + Wait + Sync, R: Read, W: Write>(
     reader: &mut R,
     writer: &mut W,
 ) -> u8
-    // What is written answers what is read.
-    ensures served { AnswersWhatIsRead (texts words.entry.now) (R.remaining reader.old) result
-        (W.contents writer.old) (W.contents writer.new) }
-    // Other words are a fault.
-    ensures refused { TellsWrong (texts words.entry.now) result (W.contents writer.old) (W.contents writer.new) }
-    // Help is reported where it is asked for.
-    ensures helped { TellsHelp (texts words.entry.now) result (W.contents writer.old) (W.contents writer.new) }
+    // Where no write has failed, what is written answers the words and what is read.
+    ensures answered { result ≢ 6 → AnswersWords (texts words.entry.now) (R.remaining reader.old) result
+        (λ text. Appends (W.contents writer.old) (W.contents writer.new) text) }
     // Nothing is read for words that are wrong or ask for help.
     ensures unread_if_wrong { AreWrong (texts words.entry.now) → reader.new ≡ reader.old }
     ensures unread_for_help { AsksHelp (texts words.entry.now) → reader.new ≡ reader.old }
-    // Out of memory is reported as such, and nothing else is; what `run` or `trace` had written until then is before it.
-    ensures memory { result ≡ 5 → TellsMemory (texts words.entry.now) (R.remaining reader.old)
-        (λ text. Appends (W.contents writer.old) (W.contents writer.new) text) }
 {
-    let ending = Ending::GoesOn;
-    let mut seen = Seen::new();
-    answer_of_words(rt, alloc, words, reader, writer, &mut seen, ending)
+    let reached = run_without_threads(alloc, words, reader, writer, Ending::GoesOn);
+    end_program(rt, alloc, reached, writer).code()
 }
 
 /// Runs the program as `run_program` does, under the same contract, and writes the reasons of its
@@ -320,22 +417,16 @@ pub fn run_program_with_reasons<'a, H: Threads + Wait + Sync, R: Read, W: Write,
     reasons: &mut E,
     ending: Ending,
 ) -> u8
-    // What is written answers what is read.
-    ensures served { AnswersWhatIsRead (texts words.entry.now) (R.remaining reader.old) result
-        (W.contents writer.old) (W.contents writer.new) }
-    // Other words are a fault.
-    ensures refused { TellsWrong (texts words.entry.now) result (W.contents writer.old) (W.contents writer.new) }
-    // Help is reported where it is asked for.
-    ensures helped { TellsHelp (texts words.entry.now) result (W.contents writer.old) (W.contents writer.new) }
+    // Where no write has failed, what is written answers the words and what is read.
+    ensures answered { result ≢ 6 → AnswersWords (texts words.entry.now) (R.remaining reader.old) result
+        (λ text. Appends (W.contents writer.old) (W.contents writer.new) text) }
     // Nothing is read for words that are wrong or ask for help.
     ensures unread_if_wrong { AreWrong (texts words.entry.now) → reader.new ≡ reader.old }
     ensures unread_for_help { AsksHelp (texts words.entry.now) → reader.new ≡ reader.old }
-    // Out of memory is reported as such, and nothing else is; what `run` or `trace` had written until then is before it.
-    ensures memory { result ≡ 5 → TellsMemory (texts words.entry.now) (R.remaining reader.old)
-        (λ text. Appends (W.contents writer.old) (W.contents writer.new) text) }
 {
     let mut seen = Seen::new();
-    let status = answer_of_words(rt, alloc, words, reader, writer, &mut seen, ending);
+    let reached = answer_words(alloc, words, reader, writer, &mut seen, ending);
+    let status = end_program(rt, alloc, reached, writer);
     tell_reasons(alloc, words, &seen, status, reasons);
-    status
+    status.code()
 }

@@ -9,18 +9,19 @@ ghost use Rattle.plant_core.specs.CoreView.{core_view};
 ghost use Rattle.live_core.specs.After.{IsAfter, IsReachable};
 ghost use Rattle.live_core.specs.LiveView.{live_view};
 ghost use Rattle.plant_script.specs.Done.{HasRun, book_text};
+ghost use Rattle.command_line.specs.declared.asked.RunReport.TheVariants.{Outputs, Capture, History};
 ghost use Rattle.plant_script.specs.Run.{IsRunOf};
-ghost use Rattle.plant_script.specs.Task.{history_at, RunsTo, IsTold, EndsRun, IsEnded};
-ghost use Rattle.plant_script.specs.declared.task.OutputMode.TheVariants as tellings;
+ghost use Rattle.plant_script.specs.Statuses.{status_code};
+ghost use Rattle.plant_script.specs.Task.{history_at, RunsTo, IsWritten, EndsRun, IsEnded};
 
 use crate::answer::Answer;
 use crate::capturing::answer_of_capture;
-use crate::ending::{Ending, put_away, refused_line, write_end};
+use crate::ending::{Ending, put_away, refused_line, write_end, write_fault, write_outcome};
 use crate::input::AnswerFault;
-use crate::on_threads::answer_of_threads;
-use crate::program::{finish, write_fault};
-use crate::task::{OutputMode, Task};
+use crate::status::Status;
+use crate::task::Task;
 use crate::tracing::write_traced_run;
+use command_line::RunReport;
 use grant_policy::{RankInput, Ranking, rank_by};
 use line_service::run_steps;
 use live_core::LiveCore;
@@ -30,8 +31,6 @@ use script_format::{LineStep, put_actions};
 use std::alloc::{AllocError, Global};
 use std::io;
 use std::io::Write;
-use std::sync::Wait;
-use std::thread::Threads;
 
 /// Does the steps of lines, and drops their outputs. Returns the number of the first line whose
 /// step is refused, at which it stops; none where all are done.
@@ -57,10 +56,10 @@ fn run_unheard(
 fn answer_of_text(mut text: String, refused: Option<u64>) -> Result<Answer, AllocError>
     ensures { IfOk result (λ answer. IsEnded (string_bytes text) refused answer) }
 {
-    let mut status = 0;
+    let mut status = Status::Success;
     if let Some(number) = refused {
         write!(text, "fault: line {number}\n")?;
-        status = 4;
+        status = Status::InvalidLine;
     }
     let text = text.into_bytes();
     Ok(Answer { status, text })
@@ -86,7 +85,7 @@ fn answer_of_history(
 ) -> Result<Answer, AllocError>
     requires { IsStateAfter (core_view core.old).plant [] [] (core_view core.old) }
     ensures { IfOk result (λ answer. IsRunOf (core_view core.old).plant lines.items
-        (λ done told. history_at (slice_get (core_view core.old).plant.rows op) op done) answer.status answer.text.items) }
+        (λ done told. history_at (slice_get (core_view core.old).plant.rows op) op done) (status_code answer.status) answer.text.items) }
 {
     let refused = run_unheard(alloc, core, lines)?;
     let mut text = String::new(alloc);
@@ -128,38 +127,39 @@ pub(crate) fn live_core_of(
     }
 }
 
-/// Returns what the run of a task answers that is not written as it goes. The rankings are in the
-/// plant's order of operators. Only a run on threads may wait.
-fn answer_of_task<R: Threads + Wait + Sync>(
-    rt: &R,
+/// Returns the capture of a run. The rankings are in the plant's order of operators.
+fn answer_of_capture_run(
     alloc: Global,
-    task: Task,
+    plant: Plant,
+    lines: Vec<LineStep>,
     rankings: Vec<Ranking>,
     ending: Ending,
 ) -> Result<Answer, AllocError>
-    requires policies { map (λ ranking. ranking.policy) rankings.items ≡ map (λ row. row.policy) task.plant.rows }
-    requires no_outs { task.told ≢ tellings.Outs }
-    requires no_trace { task.told ≢ tellings.Trace }
-    ensures { IfOk result (λ answer. RunsTo task.plant task.told task.lines.items answer.status answer.text.items) }
+    requires { map (λ ranking. ranking.policy) rankings.items ≡ map (λ row. row.policy) plant.rows }
+    ensures { IfOk result (λ answer. RunsTo plant Capture lines.items (status_code answer.status) answer.text.items) }
 {
-    let Task { plant, lines, told } = task;
-    match told {
-        OutputMode::Outs => unreachable!(),
-        OutputMode::History(op) => {
-            let mut core = core_of(alloc, plant, rankings)?;
-            let answer = answer_of_history(alloc, &mut core, op, lines)?;
-            put_away(core, ending);
-            Ok(answer)
-        }
-        OutputMode::Capture => {
-            let mut core = core_of(alloc, plant, rankings)?;
-            let answer = answer_of_capture(alloc, &mut core, lines)?;
-            put_away(core, ending);
-            Ok(answer)
-        }
-        OutputMode::Threads => answer_of_threads(rt, alloc, plant, lines, rankings),
-        OutputMode::Trace => unreachable!(),
-    }
+    let mut core = core_of(alloc, plant, rankings)?;
+    let answer = answer_of_capture(alloc, &mut core, lines)?;
+    put_away(core, ending);
+    Ok(answer)
+}
+
+/// Returns the steps of an operator in a run. The rankings are in the plant's order of operators.
+fn answer_of_history_run(
+    alloc: Global,
+    plant: Plant,
+    op: Op,
+    lines: Vec<LineStep>,
+    rankings: Vec<Ranking>,
+    ending: Ending,
+) -> Result<Answer, AllocError>
+    requires { map (λ ranking. ranking.policy) rankings.items ≡ map (λ row. row.policy) plant.rows }
+    ensures { IfOk result (λ answer. RunsTo plant (History op) lines.items (status_code answer.status) answer.text.items) }
+{
+    let mut core = core_of(alloc, plant, rankings)?;
+    let answer = answer_of_history(alloc, &mut core, op, lines)?;
+    put_away(core, ending);
+    Ok(answer)
 }
 
 /// Does the steps of lines on a core as it is opened, and writes what each outputs as it is made,
@@ -169,10 +169,10 @@ fn write_run<W: Write>(
     core: &mut LiveCore,
     lines: Vec<LineStep>,
     writer: &mut W,
-) -> io::Result<u8>
+) -> io::Result<Status>
     requires reached { IsReachable (live_view core.old) }
     ensures { IfOk result (λ status. (plant : PlantFields) → IsAfter plant [] [] (live_view core.old)
-        → EndsRun plant lines.items status (λ text. Appends (W.contents writer.old) (W.contents writer.new) text)) }
+        → EndsRun plant lines.items (status_code status) (λ text. Appends (W.contents writer.old) (W.contents writer.new) text)) }
 {
     let end = run_steps(alloc, core, lines, writer)?;
     let status = write_end(writer, end)?;
@@ -180,78 +180,73 @@ fn write_run<W: Write>(
     Ok(status)
 }
 
-/// Runs a task whose outputs are reported, and writes them as they are made. No history is kept.
-/// Returns the exit status.
-fn write_outs_run<W: Write>(
+/// Runs a script, and writes the outputs as they are made. No history is kept. The rankings are in
+/// the plant's order of operators. Returns the exit status.
+fn write_outputs_run<W: Write>(
     alloc: Global,
-    task: Task,
+    plant: Plant,
+    lines: Vec<LineStep>,
     rankings: Vec<Ranking>,
     ending: Ending,
     writer: &mut W,
-) -> u8
-    requires policies { map (λ ranking. ranking.policy) rankings.items ≡ map (λ row. row.policy) task.plant.rows }
-    requires outs { task.told ≡ tellings.Outs }
-    ensures { result ≢ 6 → IsTold task.plant task.told task.lines.items result
-        (λ text. Appends (W.contents writer.old) (W.contents writer.new) text) }
+) -> io::Result<Status>
+    requires { map (λ ranking. ranking.policy) rankings.items ≡ map (λ row. row.policy) plant.rows }
+    ensures { IfOk result (λ status. IsWritten (RunsTo plant Outputs lines.items) (status_code status)
+        (λ text. Appends (W.contents writer.old) (W.contents writer.new) text)) }
+{
+    let Ok(mut core) = live_core_of(alloc, plant, rankings) else {
+        return write_fault(writer, AnswerFault::Memory);
+    };
+    let status = write_run(alloc, &mut core, lines, writer)?;
+    put_away(core, ending);
+    Ok(status)
+}
+
+/// Runs a task, and writes what is printed of its run. The rankings are in the plant's order of
+/// operators; of the script, whose steps the task has, `trace` prints the lines. Returns the exit
+/// status.
+fn write_task<W: Write>(
+    alloc: Global,
+    task: Task,
+    script: &[u8],
+    rankings: Vec<Ranking>,
+    ending: Ending,
+    writer: &mut W,
+) -> io::Result<Status>
+    requires { map (λ ranking. ranking.policy) rankings.items ≡ map (λ row. row.policy) task.plant.rows }
+    ensures { IfOk result (λ status. IsWritten (RunsTo task.plant task.report task.lines.items) (status_code status)
+        (λ text. Appends (W.contents writer.old) (W.contents writer.new) text)) }
 {
     let Task {
         plant,
         lines,
-        told: _,
+        report,
     } = task;
-    let Ok(mut core) = live_core_of(alloc, plant, rankings) else {
-        return write_fault(writer, AnswerFault::Memory);
-    };
-    match write_run(alloc, &mut core, lines, writer) {
-        Ok(status) => {
-            put_away(core, ending);
-            status
+    match report {
+        RunReport::Outputs => write_outputs_run(alloc, plant, lines, rankings, ending, writer),
+        RunReport::Capture => {
+            let answer = answer_of_capture_run(alloc, plant, lines, rankings, ending);
+            write_outcome(writer, answer)
         }
-        Err(_failed) => write_fault(writer, AnswerFault::Io),
+        RunReport::Trace => write_traced_run(alloc, plant, lines, script, rankings, ending, writer),
+        RunReport::History(op) => {
+            let answer = answer_of_history_run(alloc, plant, op, lines, rankings, ending);
+            write_outcome(writer, answer)
+        }
     }
 }
 
-/// Runs a task, and writes what that results in. The rankings are in the plant's order of
-/// operators; of the script, whose steps the task has, `trace` shows the lines. Only a run on
-/// threads may wait. Returns the exit status.
-fn write_task<R: Threads + Wait + Sync, W: Write>(
-    rt: &R,
-    alloc: Global,
-    task: Task,
-    script: &[u8],
-    rankings: Vec<Ranking>,
-    ending: Ending,
-    writer: &mut W,
-) -> u8
-    requires { map (λ ranking. ranking.policy) rankings.items ≡ map (λ row. row.policy) task.plant.rows }
-    ensures { result ≢ 6 → IsTold task.plant task.told task.lines.items result
-        (λ text. Appends (W.contents writer.old) (W.contents writer.new) text) }
-{
-    if let OutputMode::Outs = task.told {
-        return write_outs_run(alloc, task, rankings, ending, writer);
-    }
-    if let OutputMode::Trace = task.told {
-        return write_traced_run(alloc, task, script, rankings, ending, writer);
-    }
-    match answer_of_task(rt, alloc, task, rankings, ending) {
-        Ok(answer) => finish(writer, answer.status, answer.text.as_slice()),
-        Err(_full) => write_fault(writer, AnswerFault::Memory),
-    }
-}
-
-/// Runs a task, each operator ranked by the policy of its row, and writes what that results in; of
-/// the script, whose steps the task has, `trace` shows the lines. Only a run on threads may wait.
-/// Returns the exit status.
-pub fn write_ranked<R: Threads + Wait + Sync, W: Write>(
-    rt: &R,
+/// Runs a task, each operator ranked by the policy of its row, and writes what is printed of its
+/// run; of the script, whose steps the task has, `trace` prints the lines. Returns the exit status.
+pub fn write_ranked<W: Write>(
     alloc: Global,
     task: Task,
     script: &[u8],
     ending: Ending,
     writer: &mut W,
-) -> u8
-    ensures { result ≢ 6 → IsTold task.plant task.told task.lines.items result
-        (λ text. Appends (W.contents writer.old) (W.contents writer.new) text) }
+) -> io::Result<Status>
+    ensures { IfOk result (λ status. IsWritten (RunsTo task.plant task.report task.lines.items) (status_code status)
+        (λ text. Appends (W.contents writer.old) (W.contents writer.new) text)) }
 {
     let mut rankings = Vec::new(alloc);
     for row in task.plant.rows() {
@@ -266,5 +261,5 @@ pub fn write_ranked<R: Threads + Wait + Sync, W: Write>(
             return write_fault(writer, AnswerFault::Memory);
         }
     }
-    write_task(rt, alloc, task, script, rankings, ending, writer)
+    write_task(alloc, task, script, rankings, ending, writer)
 }

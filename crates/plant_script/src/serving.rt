@@ -1,16 +1,18 @@
 //! The command `serve`: a plant that is kept running, and answers each line of a script as it comes.
 
-ghost use Rattle.std.specs.Prelude.{◌≡◌, ◌≢◌, List, ℕ, map, IfOk, IfSome};
+ghost use Rattle.std.specs.Prelude.{◌≡◌, map, IfOk};
 ghost use Rattle.std.specs.Io.KnownBytes.{Appends};
-ghost use Rattle.plant_script.specs.Run.{memory_line};
-ghost use Rattle.plant_script.specs.Serving.{IsFrontOf, IsServed};
-ghost use Rattle.plant_script.specs.Words.{AnswersServe};
+ghost use Rattle.plant_script.specs.Serving.{IsFrontOf, EndsService};
+ghost use Rattle.plant_script.specs.Reaching.{EndsOrder};
+ghost use Rattle.command_line.specs.Order as orders;
+ghost use Rattle.plant_script.specs.Statuses.{status_code};
 
 use crate::answer::Answer;
 use crate::check::answer_to_fault;
+use crate::ending::{write_answer, write_fault};
 use crate::input::AnswerFault;
-use crate::program::{finish, write_fault};
 use crate::running::live_core_of;
+use crate::status::Status;
 use grant_policy::{RankInput, Ranking, rank_by};
 use line_service::{LineBuffer, read_plant_text, serve};
 use plant::Plant;
@@ -34,8 +36,8 @@ pub enum Front {
     Answer(Answer),
 }
 
-/// Returns the plant of a plant file; `AnswerFault::Io` where it is not UTF-8, of which it is noted
-/// how many bytes are.
+/// Returns the plant of a plant file; `AnswerFault::Io` where it is not UTF-8, of which it is noted how
+/// many bytes are.
 fn front_of(alloc: Global, text: &[u8], valid: &mut Option<usize>) -> Result<Front, AnswerFault>
     ensures { IfOk result (λ front. IsFrontOf text.now front) }
 {
@@ -56,8 +58,16 @@ fn front_of(alloc: Global, text: &[u8], valid: &mut Option<usize>) -> Result<Fro
     }
 }
 
-/// Returns why a plant file could not be read.
-fn stop_of(error: &io::Error) -> AnswerFault {
+/// Returns whether a read failed: the plant file is not too long, and memory did not run out.
+fn is_failed_read(error: &io::Error) -> bool {
+    match error.kind() {
+        io::ErrorKind::FileTooLarge | io::ErrorKind::OutOfMemory => false,
+        _ => true,
+    }
+}
+
+/// Returns why there is no answer where a plant file could not be read.
+fn answer_fault_of(error: &io::Error) -> AnswerFault {
     if error.kind() == io::ErrorKind::OutOfMemory {
         AnswerFault::Memory
     } else {
@@ -66,18 +76,17 @@ fn stop_of(error: &io::Error) -> AnswerFault {
 }
 
 /// Serves a plant as it is opened, up to the end of the input. The rankings are in the plant's
-/// order of operators. Returns the exit status.
+/// order of operators. Returns the exit status, or that a read or a write failed.
 fn serve_ranked<R: Read, W: Write>(
     alloc: Global,
     service: Service,
     rankings: Vec<Ranking>,
     reader: &mut R,
     writer: &mut W,
-) -> u8
+) -> io::Result<Status>
     requires { map (λ ranking. ranking.policy) rankings.items ≡ map (λ row. row.policy) service.plant.rows }
-    ensures served { result ≢ 5 → result ≢ 6 → IfSome (R.remaining reader.old) (λ script. (text : List ℕ)
-        × IsServed service.plant script result text × Appends (W.contents writer.old) (W.contents writer.new) text) }
-    ensures memory { result ≡ 5 → Appends (W.contents writer.old) (W.contents writer.new) memory_line }
+    ensures { IfOk result (λ status. EndsService service.plant (R.remaining reader.old) (status_code status)
+        (λ text. Appends (W.contents writer.old) (W.contents writer.new) text)) }
 {
     let Service { plant } = service;
     let Ok(held) = LineBuffer::new(alloc) else {
@@ -86,10 +95,8 @@ fn serve_ranked<R: Read, W: Write>(
     let Ok(mut core) = live_core_of(alloc, plant, rankings) else {
         return write_fault(writer, AnswerFault::Memory);
     };
-    match serve(alloc, &mut core, held, reader, writer) {
-        Ok(()) => 0,
-        Err(_failed) => write_fault(writer, AnswerFault::Io),
-    }
+    serve(alloc, &mut core, held, reader, writer)?;
+    Ok(Status::Success)
 }
 
 /// Serves a plant, each operator by the policy of its row. Returns the exit status.
@@ -98,10 +105,9 @@ fn serve_plant<R: Read, W: Write>(
     service: Service,
     reader: &mut R,
     writer: &mut W,
-) -> u8
-    ensures served { result ≢ 5 → result ≢ 6 → IfSome (R.remaining reader.old) (λ script. (text : List ℕ)
-        × IsServed service.plant script result text × Appends (W.contents writer.old) (W.contents writer.new) text) }
-    ensures memory { result ≡ 5 → Appends (W.contents writer.old) (W.contents writer.new) memory_line }
+) -> io::Result<Status>
+    ensures { IfOk result (λ status. EndsService service.plant (R.remaining reader.old) (status_code status)
+        (λ text. Appends (W.contents writer.old) (W.contents writer.new) text)) }
 {
     let mut rankings = Vec::new(alloc);
     for row in service.plant.rows() {
@@ -128,23 +134,22 @@ pub(crate) fn serve_words<R: Read, W: Write>(
     file: &mut Option<Vec<u8>>,
     failed: &mut bool,
     valid: &mut Option<usize>,
-) -> u8
-    ensures served { result ≢ 5 → result ≢ 6 → IfSome (R.remaining reader.old) (λ input.
-        (text : List ℕ) × AnswersServe input result text × Appends (W.contents writer.old) (W.contents writer.new) text) }
-    ensures memory { result ≡ 5 → Appends (W.contents writer.old) (W.contents writer.new) memory_line }
+) -> io::Result<Status>
+    ensures { IfOk result (λ status. EndsOrder orders.serve (R.remaining reader.old) failed.new
+        (status_code status) (λ text. Appends (W.contents writer.old) (W.contents writer.new) text)) }
 {
     let text = match read_plant_text(alloc, reader) {
         Ok(text) => text,
         Err(error) => {
-            *failed = error.kind() != io::ErrorKind::FileTooLarge;
-            return write_fault(writer, stop_of(&error));
+            *failed = is_failed_read(&error);
+            return write_fault(writer, answer_fault_of(&error));
         }
     };
     let front = front_of(alloc, text.as_slice(), valid);
     *file = Some(text);
     match front {
         Ok(Front::Plant(service)) => serve_plant(alloc, service, reader, writer),
-        Ok(Front::Answer(answer)) => finish(writer, answer.status, answer.text.as_slice()),
-        Err(stop) => write_fault(writer, stop),
+        Ok(Front::Answer(answer)) => write_answer(writer, answer.status, answer.text.as_slice()),
+        Err(fault) => write_fault(writer, fault),
     }
 }

@@ -1,60 +1,33 @@
 //! A run that is asked for, or what is answered in its place.
 
-ghost use Rattle.std.specs.Prelude.{◌≡◌, map, true, IfOk, IfErr};
+ghost use Rattle.std.specs.Prelude.{◌≡◌, ◌≢◌, map, true, IfOk, IfErr};
 ghost use Rattle.std.specs.List.{position_from};
 ghost use Rattle.toml.specs.Parse.{parse_document};
 ghost use Rattle.slice_table.specs.ReadPlant.{text_plant};
 ghost use Rattle.script_format.specs.Script.{is_named, steps_of};
 ghost use Rattle.plant_script.specs.One.{is_readable};
-ghost use Rattle.plant_script.specs.Task.{RunsTo, AnswersWanted, Comes};
-ghost use Rattle.plant_script.specs.Words.{AnswersSteps, AnswersOperator, AnswersPlant, AnswersInput};
+ghost use Rattle.plant_script.specs.Task.{RunsTo, AnswersReport, Comes, IsNotThreaded};
+ghost use Rattle.plant_script.specs.Words.{AnswersSteps, AnswersOperator, AnswersPlant, AnswersInput, AnswersThreads};
 ghost use Rattle.plant_script.specs.declared.input.AnswerFault.TheVariants.{Memory};
 
 use crate::answer::Answer;
 use crate::check::{answer_to_fault, answer_to_line, plant_of_input};
 use crate::input::AnswerFault;
+use crate::status::Status;
+use command_line::RunReport;
 use plant::{Op, Plant};
 use script_format::{LineFault, LineStep, before_bar, place_of, script_text, steps_of};
 use slice_table::PlantFault;
 use std::alloc::Global;
 
-/// What is written of a run.
-#[derive(Clone, Copy, Debug, PartialEq, Eq)]
-pub enum OutputMode {
-    /// A line for each output.
-    Outs,
-    /// A line for each of an operator's own steps.
-    History(Op),
-    /// A line for each output of a run on threads: operator by operator, and then the MAPs.
-    Threads,
-    /// A capture file, with what the modems send, the replies and the MAPs.
-    Capture,
-    /// What decided each step, and what came of it, in words.
-    Trace,
-}
-
-/// What is wanted of a plant and a script.
-#[derive(Clone, Copy, Debug)]
-pub enum Wanted<'a> {
-    /// The outputs of their run.
-    Run,
-    /// The outputs of their run on threads.
-    Threads,
-    /// The capture of their run.
-    Capture,
-    /// What decided each step of their run.
-    Trace,
-    /// What the operator of this name did in their run.
-    History(&'a str),
-}
-
-/// A run that is asked for: its plant and its script are well.
+/// The run of a script on a plant, and what is printed of it.
 #[derive(Drop)]
 pub struct Task {
     pub plant: Plant,
-    /// The script's steps.
+    /// The steps of the script.
     pub lines: Vec<LineStep>,
-    pub told: OutputMode,
+    /// What is printed. An operator is stated by its place in the plant.
+    pub report: RunReport<Op>,
 }
 
 /// What is done for an input.
@@ -64,21 +37,28 @@ pub enum InputOutcome {
     Answer(Answer),
     /// A run answers it.
     Task(Task),
+    /// A run on threads answers it: of a plant, and the steps of a script.
+    Threads { plant: Plant, lines: Vec<LineStep> },
 }
 
-/// Returns the run of a script, where it is well.
+/// Returns the run of a script on a plant, or the answer to its first invalid line.
 fn task_of_script(
     alloc: Global,
     plant: Plant,
-    told: OutputMode,
+    report: RunReport<Op>,
     script: &[u8],
 ) -> Result<InputOutcome, AnswerFault>
-    ensures value { IfOk result (λ served.
-        Comes served (AnswersSteps (RunsTo plant told) (steps_of plant script.now))) }
-    ensures memory { IfErr result (λ stop. stop ≡ Memory) }
+    ensures value { IfOk result (λ outcome.
+        Comes outcome (AnswersSteps (RunsTo plant report) (steps_of plant script.now))) }
+    ensures threads { IfOk result IsNotThreaded }
+    ensures memory { IfErr result (λ fault. fault ≡ Memory) }
 {
     match steps_of(alloc, &plant, script) {
-        Ok(lines) => Ok(InputOutcome::Task(Task { plant, lines, told })),
+        Ok(lines) => Ok(InputOutcome::Task(Task {
+            plant,
+            lines,
+            report,
+        })),
         Err(LineFault::Shape { number }) => {
             let answer = answer_to_line(alloc, number)?;
             Ok(InputOutcome::Answer(answer))
@@ -87,54 +67,98 @@ fn task_of_script(
     }
 }
 
-/// Returns the run of a script, reported of the operator of this name.
+/// Returns the run of a script on a plant, of which the steps of the operator of this name are
+/// printed. Where the plant has no such operator, that is the answer.
 fn task_of_operator(
     alloc: Global,
     plant: Plant,
     name: &str,
     script: &[u8],
 ) -> Result<InputOutcome, AnswerFault>
-    ensures value { IfOk result (λ served.
-        Comes served (AnswersOperator plant script.now (position_from (is_named name.now) 0 plant.rows))) }
-    ensures memory { IfErr result (λ stop. stop ≡ Memory) }
+    ensures value { IfOk result (λ outcome.
+        Comes outcome (AnswersOperator plant script.now (position_from (is_named name.now) 0 plant.rows))) }
+    ensures threads { IfOk result IsNotThreaded }
+    ensures memory { IfErr result (λ fault. fault ≡ Memory) }
 {
     match place_of(plant.rows(), name.as_bytes()) {
-        Some(op) => task_of_script(alloc, plant, OutputMode::History(op), script),
+        Some(op) => task_of_script(alloc, plant, RunReport::History(op), script),
         None => Ok(InputOutcome::Answer(Answer {
-            status: 2,
+            status: Status::WrongArguments,
             text: Vec::from_slice(alloc, b"fault: words\n")?,
         })),
     }
 }
 
-/// Returns the run of a script, reported as it is wanted.
+/// Returns the run of a script on a plant, and what is printed of it.
 fn task_of_plant(
     alloc: Global,
     plant: Plant,
-    wanted: Wanted<'_>,
+    report: RunReport<&str>,
     script: &[u8],
 ) -> Result<InputOutcome, AnswerFault>
-    ensures value { IfOk result (λ served. Comes served (AnswersWanted wanted.entry plant script.now)) }
-    ensures memory { IfErr result (λ stop. stop ≡ Memory) }
+    ensures value { IfOk result (λ outcome. Comes outcome (AnswersReport report.entry plant script.now)) }
+    ensures threads { IfOk result IsNotThreaded }
+    ensures memory { IfErr result (λ fault. fault ≡ Memory) }
 {
-    match wanted {
-        Wanted::Run => task_of_script(alloc, plant, OutputMode::Outs, script),
-        Wanted::Threads => task_of_script(alloc, plant, OutputMode::Threads, script),
-        Wanted::Capture => task_of_script(alloc, plant, OutputMode::Capture, script),
-        Wanted::Trace => task_of_script(alloc, plant, OutputMode::Trace, script),
-        Wanted::History(name) => task_of_operator(alloc, plant, name, script),
+    match report {
+        RunReport::Outputs => task_of_script(alloc, plant, RunReport::Outputs, script),
+        RunReport::Capture => task_of_script(alloc, plant, RunReport::Capture, script),
+        RunReport::Trace => task_of_script(alloc, plant, RunReport::Trace, script),
+        RunReport::History(name) => task_of_operator(alloc, plant, name, script),
     }
 }
 
-/// Returns the run of an input's script on its plant, reported as it is wanted.
-pub fn task_of(alloc: Global, wanted: Wanted<'_>, input: &[u8]) -> Result<InputOutcome, AnswerFault>
+/// Returns the run of an input's script on its plant, and what is printed of it; or the answer to
+/// an invalid input.
+pub fn task_of(
+    alloc: Global,
+    report: RunReport<&str>,
+    input: &[u8],
+) -> Result<InputOutcome, AnswerFault>
     requires { is_readable input.now ≡ true }
-    ensures value { IfOk result (λ served. Comes served (AnswersInput (AnswersWanted wanted.entry) input.now)) }
-    ensures memory { IfErr result (λ stop. stop ≡ Memory) }
+    ensures value { IfOk result (λ outcome. Comes outcome (AnswersInput (AnswersReport report.entry) input.now)) }
+    ensures threads { IfOk result IsNotThreaded }
+    ensures memory { IfErr result (λ fault. fault ≡ Memory) }
 {
     let place = before_bar(input);
     match plant_of_input(alloc, input, place) {
-        Ok(plant) => task_of_plant(alloc, plant, wanted, script_text(input, place)),
+        Ok(plant) => task_of_plant(alloc, plant, report, script_text(input, place)),
+        Err(PlantFault::NoMemory) => Err(AnswerFault::Memory),
+        Err(fault) => {
+            let answer = answer_to_fault(alloc, fault)?;
+            Ok(InputOutcome::Answer(answer))
+        }
+    }
+}
+
+/// Returns the run of a script on threads, or the answer to its first invalid line.
+fn threads_of_script(
+    alloc: Global,
+    plant: Plant,
+    script: &[u8],
+) -> Result<InputOutcome, AnswerFault>
+    ensures value { IfOk result (λ outcome. Comes outcome (AnswersThreads plant script.now)) }
+    ensures memory { IfErr result (λ fault. fault ≡ Memory) }
+{
+    match steps_of(alloc, &plant, script) {
+        Ok(lines) => Ok(InputOutcome::Threads { plant, lines }),
+        Err(LineFault::Shape { number }) => {
+            let answer = answer_to_line(alloc, number)?;
+            Ok(InputOutcome::Answer(answer))
+        }
+        Err(LineFault::NoMemory) => Err(AnswerFault::Memory),
+    }
+}
+
+/// Returns the run of an input's script on its plant, on threads; or the answer to an invalid input.
+pub fn threads_of(alloc: Global, input: &[u8]) -> Result<InputOutcome, AnswerFault>
+    requires { is_readable input.now ≡ true }
+    ensures value { IfOk result (λ outcome. Comes outcome (AnswersInput AnswersThreads input.now)) }
+    ensures memory { IfErr result (λ fault. fault ≡ Memory) }
+{
+    let place = before_bar(input);
+    match plant_of_input(alloc, input, place) {
+        Ok(plant) => threads_of_script(alloc, plant, script_text(input, place)),
         Err(PlantFault::NoMemory) => Err(AnswerFault::Memory),
         Err(fault) => {
             let answer = answer_to_fault(alloc, fault)?;

@@ -1,19 +1,20 @@
 //! A script's run on a plant's core, reported in words.
 
-ghost use Rattle.std.specs.Prelude.{◌≡◌, ◌≢◌, [], map, IfOk};
+ghost use Rattle.std.specs.Prelude.{◌≡◌, [], map, IfOk};
 ghost use Rattle.std.specs.Io.KnownBytes.{Appends};
 ghost use Rattle.run_model.specs.IsStateAfter.{IsStateAfter};
 ghost use Rattle.plant_core.specs.CoreView.{core_view};
 ghost use Rattle.plant_script.specs.Traced.{EndsTraced};
-ghost use Rattle.plant_script.specs.Task.{IsTold};
-ghost use Rattle.plant_script.specs.declared.task.OutputMode.TheVariants as tellings;
+ghost use Rattle.plant_script.specs.Statuses.{status_code};
+ghost use Rattle.plant_script.specs.Task.{RunsTo, IsWritten};
+ghost use Rattle.command_line.specs.declared.asked.RunReport.TheVariants.{Trace};
 
-use crate::ending::{Ending, put_away, write_end};
+use crate::ending::{Ending, put_away, write_end, write_fault};
 use crate::input::AnswerFault;
-use crate::program::write_fault;
 use crate::running::core_of;
-use crate::task::Task;
+use crate::status::Status;
 use grant_policy::Ranking;
+use plant::Plant;
 use plant_core::PlantCore;
 use script_format::LineStep;
 use std::alloc::Global;
@@ -29,9 +30,9 @@ fn write_traced<W: Write>(
     script: &[u8],
     lines: Vec<LineStep>,
     writer: &mut W,
-) -> io::Result<u8>
+) -> io::Result<Status>
     requires opened { IsStateAfter (core_view core.old).plant [] [] (core_view core.old) }
-    ensures { IfOk result (λ status. EndsTraced (core_view core.old).plant lines.items status
+    ensures { IfOk result (λ status. EndsTraced (core_view core.old).plant lines.items (status_code status)
         (λ text. Appends (W.contents writer.old) (W.contents writer.new) text)) }
 {
     let end = write_trace(alloc, core, script, lines, writer)?;
@@ -40,34 +41,26 @@ fn write_traced<W: Write>(
     Ok(status)
 }
 
-/// Runs a task of `trace`, and writes what decides its steps as they are done. Every book keeps its
-/// history. Returns the exit status.
+/// Runs a script, and writes the lines of the script and what decided its steps as they are done.
+/// Every book keeps its history. The rankings are in the plant's order of operators. Returns the
+/// exit status.
 pub fn write_traced_run<W: Write>(
     alloc: Global,
-    task: Task,
+    plant: Plant,
+    lines: Vec<LineStep>,
     script: &[u8],
     rankings: Vec<Ranking>,
     ending: Ending,
     writer: &mut W,
-) -> u8
-    requires policies { map (λ ranking. ranking.policy) rankings.items ≡ map (λ row. row.policy) task.plant.rows }
-    requires traced { task.told ≡ tellings.Trace }
-    ensures { result ≢ 6 → IsTold task.plant task.told task.lines.items result
-        (λ text. Appends (W.contents writer.old) (W.contents writer.new) text) }
+) -> io::Result<Status>
+    requires { map (λ ranking. ranking.policy) rankings.items ≡ map (λ row. row.policy) plant.rows }
+    ensures { IfOk result (λ status. IsWritten (RunsTo plant Trace lines.items) (status_code status)
+        (λ text. Appends (W.contents writer.old) (W.contents writer.new) text)) }
 {
-    let Task {
-        plant,
-        lines,
-        told: _,
-    } = task;
     let Ok(mut core) = core_of(alloc, plant, rankings) else {
         return write_fault(writer, AnswerFault::Memory);
     };
-    match write_traced(alloc, &mut core, script, lines, writer) {
-        Ok(status) => {
-            put_away(core, ending);
-            status
-        }
-        Err(_failed) => write_fault(writer, AnswerFault::Io),
-    }
+    let status = write_traced(alloc, &mut core, script, lines, writer)?;
+    put_away(core, ending);
+    Ok(status)
 }

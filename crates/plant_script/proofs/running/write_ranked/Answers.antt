@@ -1,16 +1,23 @@
--- What is written for want of memory is told as such; else it is what the task's run writes.
-use Rattle.std.proofs.Common.{[], inl, inr, refl}
+-- Out of memory is reported as such; else it is what the task's run writes.
+use Rattle.script_format.proofs.Outcomes.{if_ok}
+use Rattle.plant_script.specs.Task.{RunsTo}
+use Rattle.plant_script.specs.Statuses.{status_code}
+use Rattle.plant_script.proofs.Reached.{memory_written}
 use Rattle.plant_script.proofs.running.write_ranked.Goals as goal
 
 pub returns-in_default : goal.returns-in_default
-returns-in_default g c well =
-    let told = c.write_fault.ensures.memory refl well in
-    inr ([], told.0, rw c.loop-row.invariant.writer at told.1, inl refl)
+returns-in_default g c =
+    let task = c.args.task in
+    if_ok c.write_fault.result _ _
+    (λ status told. memory_written (RunsTo task.plant task.report task.lines.items) (status_code status) _ told.0 (rw c.loop-row.invariant.writer at told.1))
+    c.write_fault.ensures
 
 pub returns-then-is_err : goal.returns-then-is_err
-returns-then-is_err g c well =
-    let told = c.write_fault-then-is_err.ensures.memory refl well in
-    inr ([], told.0, rw c.loop-row.invariant.writer at told.1, inl refl)
+returns-then-is_err g c =
+    let task = c.args.task in
+    if_ok c.write_fault-then-is_err.result _ _
+    (λ status told. memory_written (RunsTo task.plant task.report task.lines.items) (status_code status) _ told.0 (rw c.loop-row.invariant.writer at told.1))
+    c.write_fault-then-is_err.ensures
 
 pub returns : goal.returns
-returns g c well = rw c.loop-row.invariant.writer at (c.write_task.ensures well)
+returns g c = rw c.loop-row.invariant.writer at c.write_task.ensures

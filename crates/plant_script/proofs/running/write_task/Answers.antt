@@ -1,10 +1,27 @@
-use Rattle.std.proofs.Common.{[], inl, inr, refl, sym, ◌∙◌}
+use Rattle.std.proofs.Common.{ℕ, IfOk, sym, subst}
+use Rattle.script_format.proofs.Outcomes.{if_ok}
+use Rattle.command_line.specs.declared.asked.RunReport.{RunReport}
+use Rattle.plant_script.specs.Statuses.{status_code}
+use Rattle.plant_script.specs.Task.{RunsTo}
+use Rattle.plant_script.proofs.Reached.{outcome_written}
 use Rattle.plant_script.proofs.running.write_task.Goals as goal
 
-pub returns-in-Ok : goal.returns-in-Ok
-returns-in-Ok g c well =
-    let told = c.finish.ensures well in
-    inl (c.in-Ok.answer.text.items, (λ five. c.in-Ok.answer.no_want (sym told.0 ∙ five)), rw told.0 c.in-Ok.ensures, rw c.as_slice.ensures.value at told.1)
+pub returns-in-Capture : goal.returns-in-Capture
+returns-in-Capture g c =
+    let task = c.args.task in
+    let outcome = c.answer_of_capture_run-answer.result in
+    if_ok c.write_outcome.result _ _
+    (λ status told. outcome_written (RunsTo task.plant task.report task.lines.items) outcome (status_code status) _
+    (subst (λ (r : RunReport ℕ). IfOk outcome (λ answer. RunsTo task.plant r task.lines.items (status_code answer.status) answer.text.items))
+    (sym c.in-Capture.is) c.answer_of_capture_run-answer.ensures) told)
+    c.write_outcome.ensures
 
-pub returns-in-Err : goal.returns-in-Err
-returns-in-Err g c well = let told = c.write_fault.ensures.memory refl well in inr ([], told.0, told.1, inl refl)
+pub returns-in-History : goal.returns-in-History
+returns-in-History g c =
+    let task = c.args.task in
+    let outcome = c.answer_of_history_run-answer.result in
+    if_ok c.write_outcome-in-History.result _ _
+    (λ status told. outcome_written (RunsTo task.plant task.report task.lines.items) outcome (status_code status) _
+    (subst (λ (r : RunReport ℕ). IfOk outcome (λ answer. RunsTo task.plant r task.lines.items (status_code answer.status) answer.text.items))
+    (sym c.in-History.is) c.answer_of_history_run-answer.ensures) told)
+    c.write_outcome-in-History.ensures

@@ -1,8 +1,13 @@
+use Rattle.std.proofs.Common.{inl, inr, refl}
+use Rattle.script_format.proofs.Outcomes.{if_ok}
 use Rattle.live_core.specs.LiveView.{live_view}
 use Rattle.plant_script.proofs.Services.{service_served}
 use Rattle.plant_script.proofs.serving.serve_ranked.Goals as goal
 
-pub returns-in-Ok-serve-clause-served : goal.returns-in-Ok-serve-clause-served
-returns-in-Ok-serve-clause-served g c no_memory no_io =
-    service_served (g.R.Read.remaining c.args.reader.now) c.args.service.plant (live_view c.in-Ok-live_core_of.core) (live_view c.serve.new.core) (g.W.Write.contents c.args.writer.now) (g.W.Write.contents c.serve.new.writer)
-    c.in-Ok-live_core_of.ensures c.in-Ok-serve.ensures
+pub returns : goal.returns
+returns g c =
+    inr (
+      refl,
+      service_served (g.R.Read.remaining c.args.reader.now) c.args.service.plant (live_view c.in-Ok-live_core_of.core) (live_view c.serve.new.core) (g.W.Write.contents c.args.writer.now) (g.W.Write.contents c.serve.new.writer)
+          c.in-Ok-live_core_of.ensures c.in_ok-serve.ensures,
+    )

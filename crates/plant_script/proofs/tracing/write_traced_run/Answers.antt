@@ -1,18 +1,23 @@
-use Rattle.std.proofs.Common.{sym, subst}
+use Rattle.std.proofs.Common.{subst}
 use Rattle.std.specs.Io.KnownBytes.{Appends}
+use Rattle.script_format.proofs.Outcomes.{if_ok}
 use Rattle.plant.specs.declared.plant.PlantFields.{PlantFields}
-use Rattle.plant_script.specs.declared.task.OutputMode.{OutputMode}
-use Rattle.plant_script.specs.Task.{IsTold}
+use Rattle.command_line.specs.declared.asked.RunReport.TheVariants.{Trace}
+use Rattle.plant_script.specs.Task.{RunsTo}
 use Rattle.plant_script.specs.Traced.{EndsTraced}
-use Rattle.plant_script.proofs.TracedRuns.{trace_told}
+use Rattle.plant_script.specs.Statuses.{status_code}
+use Rattle.plant_script.proofs.Reached.{memory_written}
+use Rattle.plant_script.proofs.TracedRuns.{trace_written}
 use Rattle.plant_script.proofs.tracing.write_traced_run.Goals as goal
 
-pub returns-in-Ok-write_traced : goal.returns-in-Ok-write_traced
-returns-in-Ok-write_traced g c well =
-    let task = c.args.task in
+pub returns : goal.returns
+returns g c =
     let old = g.W.Write.contents c.args.writer.now in
     let new = g.W.Write.contents c.write_traced.new.writer in
-    let status = c.in-Ok-write_traced.status in
-    subst (λ (t : OutputMode). IsTold task.plant t task.lines.items status (λ text. Appends old new text)) (sym c.requires.traced)
-    (trace_told task.plant task.lines.items status old new
-    (subst (λ (p : PlantFields). EndsTraced p task.lines.items status (λ text. Appends old new text)) c.in-Ok.ensures.plant_is c.in-Ok-write_traced.ensures))
+    let status = status_code c.in_ok-status.status in
+    trace_written c.args.plant c.args.lines.items status old new
+    (subst (λ (p : PlantFields). EndsTraced p c.args.lines.items status (λ text. Appends old new text)) c.in-Ok.ensures.plant_is c.in_ok-status.ensures)
+
+pub returns-in_default : goal.returns-in_default
+returns-in_default g c =
+    if_ok c.write_fault.result _ _ (λ status told. memory_written (RunsTo c.args.plant Trace c.args.lines.items) (status_code status) _ told.0 told.1) c.write_fault.ensures

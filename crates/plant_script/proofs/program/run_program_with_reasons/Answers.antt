@@ -1,0 +1,18 @@
+-- What was reached without threads is completed. The reasons are written elsewhere.
+use Rattle.std.proofs.Common.{◌≢◌, ℕ, sym, subst, ◌∙◌}
+use Rattle.std.specs.Io.KnownBytes.{Appends}
+use Rattle.clap.specs.Walk.{texts}
+use Rattle.plant_script.specs.Reaching.{AnswersWords}
+use Rattle.plant_script.specs.Statuses.{status_code}
+use Rattle.plant_script.proofs.Reached.{words_completed}
+use Rattle.plant_script.proofs.program.run_program_with_reasons.Goals as goal
+
+pub returns-clause-answered : goal.returns-clause-answered
+returns-clause-answered g c = λ no_io.
+    let ended = status_code c.end_program-status.result in
+    let old = g.W.Write.contents c.args.writer.now in
+    let new = g.W.Write.contents c.end_program-status.new.writer in
+    let no_io_here : ended ≢ 6 = λ six. no_io (c.code.ensures ∙ six) in
+    subst (λ (n : ℕ). AnswersWords (texts c.args.words.now) (g.R.Read.remaining c.args.reader.now) n (λ text. Appends old new text)) (sym c.code.ensures)
+    (words_completed (texts c.args.words.now) (g.R.Read.remaining c.args.reader.now) c.answer_words-reached.result ended old (g.W.Write.contents c.answer_words-reached.new.writer) new c.answer_words-reached.ensures.answered
+    (c.end_program-status.ensures no_io_here) no_io_here)

@@ -1,0 +1,17 @@
+use Rattle.std.specs.Io.KnownBytes.{Appends}
+use Rattle.script_format.proofs.Outcomes.{if_ok}
+use Rattle.command_line.specs.declared.asked.RunReport.TheVariants.{Outputs}
+use Rattle.plant_script.specs.Task.{RunsTo}
+use Rattle.plant_script.specs.Statuses.{status_code}
+use Rattle.plant_script.proofs.LiveRuns.{run_written}
+use Rattle.plant_script.proofs.Reached.{memory_written}
+use Rattle.plant_script.proofs.running.write_outputs_run.Goals as goal
+
+pub returns : goal.returns
+returns g c =
+    run_written c.args.plant c.args.lines.items (status_code c.in_ok-status.status) (g.W.Write.contents c.args.writer.now) (g.W.Write.contents c.write_run.new.writer)
+    (c.in_ok-status.ensures c.args.plant c.in-Ok.ensures)
+
+pub returns-in_default : goal.returns-in_default
+returns-in_default g c =
+    if_ok c.write_fault.result _ _ (λ status told. memory_written (RunsTo c.args.plant Outputs c.args.lines.items) (status_code status) _ told.0 told.1) c.write_fault.ensures
