@@ -3,6 +3,13 @@ _plant_script() {
     local command='' words='' at
     local word=${COMP_WORDS[COMP_CWORD]} before=${COMP_WORDS[COMP_CWORD - 1]}
     COMPREPLY=()
+    case $before in
+    --input)
+        compopt -o filenames
+        mapfile -t COMPREPLY < <(compgen -f -- "$word")
+        return
+        ;;
+    esac
     for ((at = 1; at < COMP_CWORD; at++)); do
         case ${COMP_WORDS[at]} in
         one | check | run | threads | capture | serve | trace | history | help)
@@ -13,14 +20,14 @@ _plant_script() {
     done
     case $command in
     '') words='one check run threads capture serve trace history help -h --help' ;;
-    one) words='-h --help' ;;
-    check) words='-h --help' ;;
-    run) words='-h --help' ;;
-    threads) words='-h --help' ;;
-    capture) words='-h --help' ;;
-    serve) words='-h --help' ;;
-    trace) words='-h --help' ;;
-    history) words='-h --help' ;;
+    one) words='-h --help --input' ;;
+    check) words='-h --help --input --json --strict' ;;
+    run) words='-h --help --input --json' ;;
+    threads) words='-h --help --input' ;;
+    capture) words='-h --help --input' ;;
+    serve) words='-h --help --input --json' ;;
+    trace) words='-h --help --input --json' ;;
+    history) words='-h --help --input' ;;
     help) words='one check run threads capture serve trace history help' ;;
     esac
     mapfile -t COMPREPLY < <(compgen -W "$words" -- "$word")

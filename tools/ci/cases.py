@@ -21,6 +21,7 @@ from tools.reference.answers import reference_answer
 PLANT = (EXAMPLES / "plant_p2.toml").read_text()
 # What is expected, by its sign: the field of a case that keeps it, and the text before and after that of the line.
 EXPECTED = {"=": ("output", "", "\n"), "x": ("digits", "", ""), "check": ("checks", "  check ", "\n"), "!": ("errors", "", "\n")}
+OPTIONS = ("--input", "--json", "--strict", "--version")
 SPELLED = {b"r": b"\r", b"t": b"\t"}
 # A number that is counted up, by how much where that is not 1, and how it is written.
 COUNTED = re.compile(r"\{([0-9]+)(?:\+([0-9]+))?(?::([0-9a-zA-Z]+))?\}")
@@ -179,18 +180,19 @@ def differences(case, status, output, errors=None):
 def by_program(program, case):
     """Returns what differs if the program runs a case. If standard error is expected, it runs once more with one that cannot be written."""
     data = case.plant.encode() + case.data
-    done = subprocess.run([program, *case.words], input=data, capture_output=True, timeout=120)
+    done = subprocess.run([program, *case.words], input=data, capture_output=True, timeout=120, cwd=ROOT)
     found = list(differences(case, done.returncode, done.stdout, done.stderr))
     if case.errors is not None:
         with open("/dev/full", "wb") as full:
-            done = subprocess.run([program, *case.words], input=data, stdout=subprocess.PIPE, stderr=full, timeout=120)
+            done = subprocess.run([program, *case.words], input=data, stdout=subprocess.PIPE, stderr=full, timeout=120, cwd=ROOT)
         found += differences(case, done.returncode, done.stdout)
     return found
 
 
 def by_reference(case):
-    """Returns what differs if the second implementation runs a case. It has no help, and of `trace` the lines of checks and faults alone."""
-    if {"-h", "--help"} & set(case.words):
+    """Returns what differs if the second implementation runs a case. It has no help and no options, and of `trace` the lines of checks and
+    faults alone."""
+    if {"-h", "--help", *OPTIONS} & set(case.words):
         return []
     known = fixed(case) if case.words == ["trace"] else case
     return list(differences(known, *reference_answer(case.words, case.plant.encode() + case.data)))
@@ -205,7 +207,7 @@ def fixed(case):
 
 def main():
     show_help(__doc__)
-    program = sys.argv[1] if len(sys.argv) == 2 else PROGRAM
+    program = os.path.abspath(sys.argv[1]) if len(sys.argv) == 2 else PROGRAM
     files = {path.name: cases_of(path) for path in sorted((ROOT / "tests").glob("*.txt"))}
     cases = [case for of_file in files.values() for case in of_file]
     found = [("the second implementation", case, pair) for case in cases for pair in by_reference(case)]

@@ -27,6 +27,13 @@ quietly() {
 quietly "$tools/ci/check_prose"
 quietly "$tools/ci/crate_lists" --check
 quietly "$tools/ci/doc_comments"
+# --version prints the version of CHANGELOG.md and the kit of README.md.
+version=$(sed -n 's/^## \([0-9.]*\) .*/\1/p' "$tools/../CHANGELOG.md" | head -n 1)
+kit=$(sed -n 's/.*(`\(rattle-kit[^`]*\)`).*/\1/p' "$tools/../README.md")
+grep -qF "\"plant_script $version\\nkit $kit\\n\"" "$tools/../crates/program_runner/src/version.rt" || {
+    echo "crates/program_runner/src/version.rt has not the version $version and the kit $kit" >&2
+    exit 1
+}
 quietly "$tools/ci/examples.sh"
 quietly "$tools/ci/cases"
 if "$tools/ci/cases" "$(type -P true)" >"$work/output"; then
@@ -59,6 +66,7 @@ if [ -x "$program" ]; then
     quietly "$tools/ci/reasons"
     quietly "$tools/ci/fault_lists" 0 25
     quietly "$tools/completions" --check
+    quietly "$tools/ci/json_lines"
     echo 'the program agrees with the second implementation'
     if command -v socat >/dev/null; then
         quietly "$tools/compare/serve_behind_socat"

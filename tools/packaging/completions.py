@@ -20,8 +20,10 @@ from tools.compare.program import PROGRAM
 NAME = "plant_script"
 FOLDER = "packaging/completions"
 HEADING = re.compile(r"(\w+):\s*$")
+# The heading of the options that clap does not read. An empty line follows it.
+FURTHER = "Further options, before the command or after it:"
 ROW = re.compile(r"  +(\S.*?)(?:  +(\S.*))?$")
-OPTION = re.compile(r"(?:(-\w)(?:, )?)?(--[\w-]+)?(?: <(\w+)>)?$")
+OPTION = re.compile(r"(?:(-\w)(?:, )?)?(--[\w-]+)?(?: <?(\w+)>?)?$")
 # The values of options and the operands that are names of files.
 FILES = ("FILE", "PATH")
 
@@ -56,11 +58,13 @@ def sections_of(text):
     rows, sections = [], {}
     for line in text.splitlines():
         heading, row = HEADING.match(line), ROW.match(line)
-        if heading:
+        if line == FURTHER:
+            rows = sections[FURTHER] = []
+        elif heading:
             rows = sections[heading[1]] = []
         elif row:
             rows.append((row[1], row[2] or ""))
-        else:
+        elif line or rows:
             rows = []
     return sections
 
@@ -77,7 +81,8 @@ def read_command(name, text, help_text):
     if "Options" not in sections:
         raise NoHelp(f"the help of {name} lists no options")
     operands = [term.strip("<>[]") for term, _ in sections.get("Arguments", [])]
-    return Command(name, text, [option_of(*row) for row in sections["Options"]], operands)
+    options = sections["Options"] + sections.get(FURTHER, [])
+    return Command(name, text, [option_of(*row) for row in options], operands)
 
 
 def help_of(program, *words):

@@ -53,6 +53,12 @@ Arguments:
 
 Options:
   -h, --help  Print help
+
+Further options, before the command or after it:
+
+    --input FILE    read FILE
+
+    plant_script history A < script.txt
 """
 PROGRAM = f"""#!/bin/sh
 case "$*" in
@@ -105,6 +111,7 @@ class Completions(unittest.TestCase):
         self.assertEqual(top.options, [TOOL.Option(("-h", "--help"), None, "Print help")])
         self.assertEqual(commands[0].options, [TOOL.Option(("--input",), "FILE", "Read FILE"), TOOL.Option(("--json",), None, "Write JSON: a line each"),
                                                TOOL.Option(("--level",), "N", "Set the level"), TOOL.Option(("-h", "--help"), None, "Print help")])
+        self.assertEqual(commands[1].options, [TOOL.Option(("-h", "--help"), None, "Print help"), TOOL.Option(("--input",), "FILE", "read FILE")])
         self.assertEqual([command.operands for command in commands], [[], ["OPERATOR"], []])
 
     def test_bash(self):
@@ -112,7 +119,7 @@ class Completions(unittest.TestCase):
         self.assertEqual(self.bash("h"), ["history", "help"])
         self.assertEqual(self.bash("run", "--"), ["--input", "--json", "--level", "--help"])
         self.assertEqual(self.bash("run", "--input", "plant"), ["plant_script"])
-        self.assertEqual(self.bash("history", "--"), ["--help"])
+        self.assertEqual(self.bash("history", "--"), ["--help", "--input"])
         self.assertEqual(self.bash("help", "r"), ["run"])
 
     @is_here("fish")
@@ -129,7 +136,7 @@ class Completions(unittest.TestCase):
         self.assertEqual(self.shell("zsh", "-n", self.path("_plant_script")), "")
         text = self.path("_plant_script").read_text()
         for part in ("#compdef plant_script\n", "'run:Run it\\: the operator'\"'\"'s part'", "'--input[Read FILE]:FILE:_files'", "'--json[Write JSON\\: a line each]'",
-                     "'--level[Set the level]:N:'", "'(-h --help)'{-h,--help}'[Print help]'", "        history) _arguments '(-h --help)'{-h,--help}'[Print help]' :OPERATOR: ;;",
+                     "'--level[Set the level]:N:'", "'(-h --help)'{-h,--help}'[Print help]'", "        history) _arguments '(-h --help)'{-h,--help}'[Print help]' '--input[read FILE]:FILE:_files' :OPERATOR: ;;",
                      "        help) _describe command commands ;;\n"):
             self.assertIn(part, text)
 

@@ -25,12 +25,15 @@ RT = r"""#!/bin/sh
 here=$(dirname -- "$(readlink -f -- "$0")")
 for word; do printf '%s|' "$word"; done >>"$here/calls"
 echo "${PWD##*/}" >>"$here/calls"
+file=
+[ "$1 $2" != 'try --data' ] || { file=$3 && shift 3 && set -- try "$@"; }
 case "$1 $2" in
 'try --')
     shift 2
     [ ! -e "$here/silent" ] || { echo 'checked: no-answer: 1048577 bytes of output'; echo 'run=no-answer runners=0 proved=no'; exit 6; } >&2
     printf 'words:'; printf ' <%s>' "$@"; echo
     cat
+    [ -z "$file" ] || { echo "${file%%=*} has:"; cat "${file#*=}"; }
     echo 'checked: a line of the program that looks like one of rt' >&2
     echo 'a reason of the program' >&2
     status=$(cat "$here/status")
@@ -159,7 +162,7 @@ class Unproved(Starting):
     def test_help_waits_for_no_input(self):
         place = self.place()
         reading, writing = os.pipe()
-        for words in (["--help"], ["run", "-h"], ["help"], ["serve", "--help"], []):
+        for words in (["--help"], ["run", "-h"], ["help"], ["--version"], ["serve", "--help"], []):
             self.assertEqual(place.run("plant_script", *words, given=reading)[0], 0)
         os.close(reading)
         os.close(writing)
@@ -174,6 +177,25 @@ class Unproved(Starting):
         status, output, errors = place.run("plant_script", "serve")
         self.assertEqual((status, output, place.calls()), (126, "", []))
         self.one_line(errors, "serve", "not built", "./prove")
+
+    def test_serve_is_refused_behind_options(self):
+        place = self.place()
+        for words in (["--json", "serve"], ["--strict", "--input", "run", "serve"]):
+            self.assertEqual(place.run("plant_script", *words)[0], 126, words)
+        self.assertEqual(place.calls(), [])
+        self.assertEqual(place.run("plant_script", "history", "serve")[0], 0)
+
+    def test_a_file_is_read_in_place_of_standard_input(self):
+        place = self.place()
+        place.write("a file", "its lines\n")
+        reading, writing = os.pipe()
+        for words, before in ((["run", "--input", "a file"], "<run> <--input>"), (["--input", "a file", "run"], "<--input>")):
+            status, output, _ = place.run("plant_script", *words, given=reading)
+            after = " <run>" if words[0] != "run" else ""
+            self.assertEqual((status, output), (0, f"words: {before} <file>{after}\nfile has:\nits lines\n"))
+        self.assertEqual(place.run("plant_script", "run", "--input", "no file", given=reading)[:2], (0, "words: <run> <--input> <no file>\n"))
+        os.close(reading)
+        os.close(writing)
 
     def test_a_service_is_refused(self):
         place = self.place()
@@ -288,12 +310,17 @@ EDITS = [
     ("plant_script", '        exit 125\n        ;;', '        exit "$status"\n        ;;'),
     ("plant_script", '"run=ended status=$status "*)', "*proved=no)"),
     ("plant_script", 'exit "$status"\n}', "exit 0\n}"),
-    ("plant_script", 'exec rt try -- "$@"', "exec rt try -- $*"),
-    ("plant_script", 'exec rt try -- "$@") <"$work/input"', 'exec rt try -- "$@") </dev/null'),
+    ("plant_script", 'exec rt try "$@"', "exec rt try $*"),
+    ("plant_script", 'exec rt try "$@") <"$work/input"', 'exec rt try "$@") </dev/null'),
+    ("plant_script", '&& argument=file; }', "; }"),
+    ("plant_script", '[ "$argument" != --input ] ||', '[ "$argument" = --input ] ||'),
+    ("plant_script", '|| reads_file "$@"; then', "; then"),
+    ("plant_script", '--input) [ $# -lt 2 ] || shift ;;', "--input) ;;"),
+    ("plant_script", "--json | --strict) ;;", "--json) ;;"),
     ("plant_script", "trap 'rm -rf \"$work\"' EXIT", ":"),
     ("plant_script", "head -c $((most_input + 1))", "head -c $most_input"),
-    ("plant_script", "        -h | --help) return 0 ;;\n", ""),
-    ("plant_script", 'if [ "${1-}" = serve ]', "if false"),
+    ("plant_script", "        -h | --help | --version) return 0 ;;\n", ""),
+    ("plant_script", 'if [ "$(command_of "$@")" = serve ]', "if false"),
     ("plant_script", "if ! command -v rt >/dev/null; then", "if false; then"),
     ("plant_script", '    exec "$program" "$@"', '    [ -z "$source" ] || "$prove"\n    exec "$program" "$@"'),
     ("plant_script", '    [ -z "$source" ] || say', "    true || say"),

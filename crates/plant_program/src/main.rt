@@ -1,10 +1,11 @@
 //! The executable: passes its arguments and standard streams to `plant_script`.
 #![tactic(auto)]
 
-use plant_script::{Ending, behind_name, exit_code, run_program_with_reasons};
+use plant_script::{Ending, behind_name, exit_code};
+use program_runner::run_with_options;
 use std::io::{BufReader, BufWriter, IsTerminal, Read, Write};
 use std::process::ExitCode;
-use std::rt::Env;
+use std::rt::{Env, Files};
 use std::sync::Wait;
 use std::thread::Threads;
 use std::{env, io};
@@ -73,7 +74,7 @@ fn main(rt: HostRuntime) -> ExitCode {
 
 /// Returns the status that the program answers to its words.
 fn run<N: Write>(
-    rt: &(impl Env + Input + Print + AllocGlobal + Threads + Wait + Sync),
+    rt: &(impl Env + Files + Input + Print + AllocGlobal + Threads + Wait + Sync),
     note: Option<&mut N>,
     reasons: &mut impl Write,
 ) -> io::Result<u8> {
@@ -96,7 +97,7 @@ fn run<N: Write>(
     let mut reader = BufReader::new(rt.alloc(), awaited)?;
     let mut writer = BufWriter::new(rt.alloc(), left)?;
     let mut told = Vec::new(rt.alloc());
-    let status = run_program_with_reasons(
+    let status = run_with_options(
         rt,
         rt.alloc(),
         behind_name(texts.as_slice()),

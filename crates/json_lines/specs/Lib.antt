@@ -1,0 +1,3 @@
+pub mod Props
+pub mod Writable
+pub mod Written

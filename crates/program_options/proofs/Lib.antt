@@ -1,0 +1,2 @@
+pub mod NoOption
+mod Steps

@@ -1,0 +1,13 @@
+use Rattle.std.proofs.Common.{refl, arith, ◌∙◌, ap}
+use Rattle.std.proofs.lemmas.List.{map-append}
+use Rattle.clap.specs.Walk.{texts}
+use Rattle.program_options.proofs.Steps.{other_taken, one_or_more}
+use Rattle.program_options.proofs.separating.keep.Goals as goal
+
+pub returns : goal.returns
+returns c = (
+  omega arith,
+  one_or_more _,
+  λ all so. other_taken all _ _ _ so c.push.new.self.items c.requires
+      (ap texts c.in_ok-push.ensures.items ∙ map-append (λ s. s.now) _ _) _ refl refl,
+)

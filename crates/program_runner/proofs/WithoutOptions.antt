@@ -1,0 +1,92 @@
+-- What is written for words without an option.
+use Rattle.std.proofs.Common.{◌≡◌, ◌≢◌, ◌≤◌, [], ℕ, List, Option, Some, None, refl, sym, subst, ◌∙◌, arith, inl}
+use Rattle.std.specs.Io.KnownBytes.{Appends}
+use Rattle.clap.specs.Walk.{texts}
+use Rattle.program_options.specs.declared.options.OptionName.TheVariants.{Input, Json, Strict}
+use Rattle.program_options.specs.declared.options.OutputFormat.{OutputFormat}
+use Rattle.program_options.specs.declared.options.OutputFormat.TheVariants.{Plain, JsonLines}
+use Rattle.program_options.specs.declared.options.UnknownKeyHandling.{UnknownKeyHandling}
+use Rattle.program_options.specs.declared.options.UnknownKeyHandling.TheVariants.{Warn, Refuse}
+use Rattle.program_options.specs.declared.options.SeparatedWords.{SeparatedWords}
+use Rattle.program_options.specs.declared.options.OptionsFault.{OptionsFault}
+use Rattle.program_options.specs.declared.options.OptionsFault.TheVariants.{Twice, NoFile, NotOf, NoMemory}
+use Rattle.program_options.specs.Options.{input_count, json_count, strict_count}
+use Rattle.program_options.specs.Separating.{IsSeparatedFrom, HasOptionsFault}
+use Rattle.program_options.proofs.NoOption.{all_left}
+use Rattle.plant_script.specs.Run.{memory_line}
+use Rattle.command_line.specs.CommandLine.{AreWrong, AsksHelp}
+use Rattle.program_runner.specs.Answered.{IsProgramAnswer, IsWithoutOption, HasNoOption}
+
+-- ---- a fault
+
+not_one : (n : ℕ) → n ≡ 0 → 1 ≤ n → ⊥
+not_one n none some = omega arith
+
+not_two : (n : ℕ) → n ≡ 0 → 2 ≤ n → ⊥
+not_two n none some = omega arith
+
+-- words without an option have no fault but a failed allocation
+no_fault : (words : List (List ℕ)) (fault : OptionsFault) → HasNoOption words → HasOptionsFault words fault → fault ≡ NoMemory
+no_fault words (Twice option) none has = absurd (not_two _ (none option) has)
+no_fault words NoFile none (before, last, all, kind, there) = absurd (not_one _ (none Input) there)
+no_fault words (NotOf option) none has = absurd (not_one _ (none option) has.is_there)
+no_fault words NoMemory none has = refl
+
+-- ---- no fault
+
+plain : (output : OutputFormat) → json_count output ≡ 0 → output ≡ Plain
+plain Plain is = refl
+plain JsonLines is = absurd (omega (arith, is))
+
+warned : (unknown : UnknownKeyHandling) → strict_count unknown ≡ 0 → unknown ≡ Warn
+warned Warn is = refl
+warned Refuse is = absurd (omega (arith, is))
+
+no_file : {X : Type 0} (input : Option X) → input_count input ≡ 0 → input ≡ None
+no_file None is = refl
+no_file (Some file) is = absurd (omega (arith, is))
+
+module _ (words : List (List ℕ)) (found : SeparatedWords) (none : HasNoOption words) (is : IsSeparatedFrom words found) where
+  without : IsWithoutOption found
+  without = record {
+    is_plain = plain _ (is.json_is ∙ none Json);
+    warns = warned _ (is.strict_is ∙ none Strict);
+    has_no_file = no_file _ (is.input_is ∙ none Input);
+  }
+
+  same : texts found.words.items ≡ words
+  same = is.words_are ∙ all_left words none
+
+  -- what is answered to the words that are left is answered to words without an option
+  pub separated : (read : Option (List ℕ)) (status : ℕ) (old new : Option (List ℕ))
+      → (IsWithoutOption found → IsProgramAnswer (texts found.words.items) read status old new) → IsProgramAnswer words read status old new
+  separated read status old new answers = subst (λ all. IsProgramAnswer all read status old new) same (answers without)
+
+  -- and nothing is read for them where nothing is read for those
+  pub unread_wrong : {X : Type 0} (old new : X) → (IsWithoutOption found → AreWrong (texts found.words.items) → new ≡ old)
+      → AreWrong words → new ≡ old
+  unread_wrong old new unread wrong = unread without (subst AreWrong (sym same) wrong)
+
+  pub unread_help : {X : Type 0} (old new : X) → (IsWithoutOption found → AsksHelp (texts found.words.items) → new ≡ old)
+      → AsksHelp words → new ≡ old
+  unread_help old new unread help = unread without (subst AsksHelp (sym same) help)
+
+-- ---- out of memory
+
+-- no word was read: the line of a failed allocation is written alone
+out_of_memory : (words : List (List ℕ)) (read : Option (List ℕ)) (status : ℕ) (old new : Option (List ℕ))
+    → (status ≢ 6 → (status ≡ 5) × Appends old new memory_line) → IsProgramAnswer words read status old new
+out_of_memory words read status old new wrote = record {
+  answered = λ not_six. record {
+    served = λ order names not_five. absurd (not_five (wrote not_six).0);
+    refused = λ wrong not_five. absurd (not_five (wrote not_six).0);
+    helped = λ help not_five. absurd (not_five (wrote not_six).0);
+    memory = λ five. ([], (wrote not_six).1, inl refl);
+  };
+}
+
+-- what is written for invalid options
+pub refused : (words : List (List ℕ)) (fault : OptionsFault) (read : Option (List ℕ)) (status : ℕ) (old new : Option (List ℕ)) → HasNoOption words
+    → HasOptionsFault words fault → (fault ≡ NoMemory → status ≢ 6 → (status ≡ 5) × Appends old new memory_line)
+    → IsProgramAnswer words read status old new
+refused words fault read status old new none has wrote = out_of_memory words read status old new (wrote (no_fault words fault none has))

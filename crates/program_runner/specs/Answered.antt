@@ -1,0 +1,23 @@
+-- What a writer gets for words without an option (implementation-specific).
+use Rattle.std.specs.Prelude.{◌≡◌, ◌≢◌, ℕ, List, Option, None, false}
+use Rattle.std.specs.Io.KnownBytes.{Appends}
+use Rattle.plant_script.specs.Reaching.{AnswersWords}
+use Rattle.program_options.specs.declared.options.OptionName.{OptionName}
+use Rattle.program_options.specs.declared.options.OutputFormat.TheVariants.{Plain}
+use Rattle.program_options.specs.declared.options.SeparatedWords.{SeparatedWords}
+use Rattle.program_options.specs.declared.options.UnknownKeyHandling.TheVariants.{Warn}
+use Rattle.program_options.specs.Options.{option_count}
+
+-- the words have no option
+abbrev pub HasNoOption : List (List ℕ) → Type 0
+HasNoOption words = (option : OptionName) → option_count option false words ≡ 0
+
+-- no option was found
+pub record IsWithoutOption (found : SeparatedWords) : Type 0 where
+  pub is_plain : found.options.output ≡ Plain
+  pub warns : found.options.unknown_keys ≡ Warn
+  pub has_no_file : found.options.input ≡ None
+
+-- it gets what `run_program` writes for the words and for what is read; status 6 is for what could not be read or written
+pub record IsProgramAnswer (words : List (List ℕ)) (read : Option (List ℕ)) (status : ℕ) (old new : Option (List ℕ)) : Type 0 where
+  pub answered : status ≢ 6 → AnswersWords words read status (λ text. Appends old new text)

@@ -1,0 +1,13 @@
+//! The program with its options: separates them from the words, and performs the command that is left.
+#![tactic(auto)]
+
+mod answering;
+mod command;
+mod file_input;
+mod objects;
+mod recording;
+mod running;
+mod strict;
+mod version;
+
+pub use running::run_with_options;

@@ -1,0 +1,100 @@
+//! Commands with the option `--json`.
+
+use crate::answering::finish;
+use crate::command::Command;
+use crate::recording::RecordingReader;
+use crate::strict::run_keys;
+use command_line::{BatchWord, RunReport, Word, WordsFault, read_words};
+use json_lines::{JsonLines, LineSource, OutputNote, TraceNotes};
+use program_options::UnknownKeyHandling;
+use std::alloc::Global;
+use std::io::{Read, Write};
+use std::sync::Wait;
+use std::thread::Threads;
+
+/// Performs a command, and writes an object for each of its lines. Returns the status: 5 where an allocation failed for an
+/// object.
+fn run_lines<H: Threads + Wait + Sync, R: Read, W: Write, E: Write>(
+    command: &Command<'_, H>,
+    source: LineSource,
+    reader: &mut R,
+    writer: &mut W,
+    reasons: &mut E,
+) -> u8 {
+    let mut lines = JsonLines::new(command.alloc, writer, source);
+    let status = run_keys(command, reader, &mut lines, reasons);
+    if lines.is_full() { 5 } else { status }
+}
+
+/// Writes the object of a last line. Returns the status.
+fn finish_line<W: Write>(alloc: Global, writer: &mut W, status: u8, line: &[u8]) -> u8 {
+    let mut lines = JsonLines::new(alloc, writer, LineSource::Alone);
+    finish(&mut lines, status, line)
+}
+
+/// Returns what is known of each output of a run: it is performed as a trace. What is read is recorded. None where an allocation
+/// failed, or a read.
+fn notes_of<H: Threads + Wait + Sync, R: Read, E: Write>(
+    command: &Command<'_, H>,
+    recording: &mut RecordingReader<'_, R>,
+    reasons: &mut E,
+) -> Result<Vec<OutputNote>, u8> {
+    let words = ["trace"];
+    let traced = Command {
+        rt: command.rt,
+        alloc: command.alloc,
+        words: words.as_slice(),
+        unknown_keys: UnknownKeyHandling::Warn,
+        ending: command.ending,
+    };
+    let mut notes = TraceNotes::new(command.alloc);
+    let mut message = Vec::new(command.alloc);
+    let status = traced.run(recording, &mut notes, &mut message);
+    let status = match notes.into_notes() {
+        Some(notes) if status != 5 && status != 6 => return Ok(notes),
+        Some(_notes) => status,
+        None => 5,
+    };
+    let _lost = reasons.write_all(message.as_slice());
+    Err(status)
+}
+
+/// Performs `run`, and writes an object for each output, with the line of the script and the check that decided it. Returns the
+/// status.
+fn run_noted<H: Threads + Wait + Sync, R: Read, W: Write, E: Write>(
+    command: &Command<'_, H>,
+    reader: &mut R,
+    writer: &mut W,
+    reasons: &mut E,
+) -> u8 {
+    let mut recording = RecordingReader::new(command.alloc, reader);
+    let noted = notes_of(command, &mut recording, reasons);
+    match (noted, recording.record()) {
+        (Ok(notes), Some(mut input)) => {
+            let source = LineSource::Run(notes.into_iter());
+            run_lines(command, source, &mut input, writer, reasons)
+        }
+        (Err(6), Some(_input)) => finish_line(command.alloc, writer, 6, b"fault: io\n"),
+        _ => finish_line(command.alloc, writer, 5, b"fault: memory\n"),
+    }
+}
+
+/// Performs a command, and writes objects in place of lines. Help has no object. Returns the status.
+pub(crate) fn run_objects<H: Threads + Wait + Sync, R: Read, W: Write, E: Write>(
+    command: &Command<'_, H>,
+    reader: &mut R,
+    writer: &mut W,
+    reasons: &mut E,
+) -> u8 {
+    match read_words(command.alloc, command.words) {
+        Ok(Word::Batch(BatchWord::Run(RunReport::Outputs))) => run_noted(
+            command, reader, writer, reasons,
+        ),
+        Ok(Word::Batch(BatchWord::Run(RunReport::Trace))) => {
+            run_lines(command, LineSource::trace(), reader, writer, reasons)
+        }
+        Ok(Word::Serve) => run_lines(command, LineSource::Service(1), reader, writer, reasons),
+        Err(WordsFault::Help { .. }) => command.run(reader, writer, reasons),
+        _ => run_lines(command, LineSource::Alone, reader, writer, reasons),
+    }
+}

@@ -1,0 +1,88 @@
+//! The command `check` with the option `--strict`: unknown keys are a fault of the plant file.
+
+ghost use Rattle.std.specs.Prelude.{◌≡◌};
+ghost use Rattle.clap.specs.Walk.{texts};
+ghost use Rattle.command_line.specs.CommandLine.{AreWrong, AsksHelp};
+ghost use Rattle.program_options.specs.declared.options.UnknownKeyHandling.TheVariants.{Warn};
+ghost use Rattle.program_runner.specs.Answered.{IsProgramAnswer};
+
+use crate::answering::{answer_out_of_memory, finish, pass_on, tell};
+use crate::command::Command;
+use crate::recording::RecordingReader;
+use diagnostics::{UnknownKeysFault, fault_of_unknown_keys};
+use program_options::UnknownKeyHandling;
+use std::alloc::{AllocError, Global};
+use std::io::{Read, Write};
+use std::sync::Wait;
+use std::thread::Threads;
+
+/// Returns the unknown keys of an input whose plant file is valid otherwise.
+fn unknown_in(
+    alloc: Global,
+    record: Option<&[u8]>,
+    status: u8,
+) -> Result<Option<UnknownKeysFault>, AllocError> {
+    match (status, record) {
+        (0 | 4, Some(record)) => {
+            fault_of_unknown_keys(alloc, str::from_utf8(record).unwrap_or(""))
+        }
+        (0 | 4, None) => Err(AllocError),
+        _ => Ok(None),
+    }
+}
+
+/// Answers that a plant file has unknown keys. Returns the status.
+fn refuse_unknown<W: Write, E: Write>(
+    alloc: Global,
+    fault: UnknownKeysFault,
+    writer: &mut W,
+    reasons: &mut E,
+) -> u8 {
+    let UnknownKeysFault { first, reason } = fault;
+    let status = match format!(in alloc; "fault: plant 12 {first}\n") {
+        Ok(line) => finish(writer, 3, line.as_bytes()),
+        Err(_full) => finish(writer, 5, b"fault: memory\n"),
+    };
+    tell(reasons, Ok(reason));
+    status
+}
+
+/// Performs `check`, and answers as it does, except where the plant file is valid and has unknown keys: then that is a fault of
+/// it. Returns the status.
+pub(crate) fn check_strictly<H: Threads + Wait + Sync, R: Read, W: Write, E: Write>(
+    command: &Command<'_, H>,
+    reader: &mut R,
+    writer: &mut W,
+    reasons: &mut E,
+) -> u8 {
+    let alloc = command.alloc;
+    let mut recording = RecordingReader::new(alloc, reader);
+    let (mut answer, mut message) = (Vec::new(alloc), Vec::new(alloc));
+    let status = command.run(&mut recording, &mut answer, &mut message);
+    match unknown_in(alloc, recording.record(), status) {
+        Ok(Some(fault)) => refuse_unknown(alloc, fault, writer, reasons),
+        Ok(None) => {
+            pass_on(message.as_slice(), reasons);
+            finish(writer, status, answer.as_slice())
+        }
+        Err(_full) => answer_out_of_memory(writer, reasons),
+    }
+}
+
+/// Performs a command, whose unknown keys are warnings or a fault. Returns the status.
+pub(crate) fn run_keys<H: Threads + Wait + Sync, R: Read, W: Write, E: Write>(
+    command: &Command<'_, H>,
+    reader: &mut R,
+    writer: &mut W,
+    reasons: &mut E,
+) -> u8
+    ensures answered { command.now.unknown_keys ≡ Warn → IsProgramAnswer (texts command.now.words.now) (R.remaining reader.old)
+        result (W.contents writer.old) (W.contents writer.new) }
+    ensures unread_if_wrong { command.now.unknown_keys ≡ Warn → AreWrong (texts command.now.words.now) → reader.new ≡ reader.old }
+    ensures unread_for_help { command.now.unknown_keys ≡ Warn → AsksHelp (texts command.now.words.now) → reader.new ≡ reader.old }
+{
+    match command.unknown_keys {
+        UnknownKeyHandling::Warn => command.run(reader, writer, reasons),
+        UnknownKeyHandling::Refuse => check_strictly(command, reader, writer, reasons),
+    }
+}
