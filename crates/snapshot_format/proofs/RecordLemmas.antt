@@ -1,0 +1,259 @@
+-- Records that were written are read again.
+use Rattle.std.proofs.Common.{◌≡◌, ◌≢◌, ℕ, ◌<◌, ◌^◌, ◌==◌, ◌||◌, Bool, true, false, List, [], ◌∷◌, ◌++◌, length, Option, Some, None, Ok, refl, sym, ap, ◌∙◌, append_assoc, append-nil, arith, rules, codes}
+use Rattle.std.specs.Prelude.{IfSome}
+use Rattle.std.specs.List.{flat_map, AllByRecursion}
+use Rattle.std.specs.Fmt.{decimal}
+use Rattle.std.specs.Char.{digit_value}
+use Rattle.std.proofs.lemmas.Bool.{le-leb, eq-eqb}
+use Rattle.hex.specs.Hex.{IsBytes}
+use Rattle.dsx_messages.specs.declared.kind.Kind.{Kind}
+use Rattle.dsx_messages.specs.declared.kind.Kind.TheVariants.{Dsa, Dsc, Dsd}
+use Rattle.dsx_messages.specs.declared.modem.Modem.{Modem}
+use Rattle.transactions.specs.declared.entry.KeptEntry.{KeptEntry}
+use Rattle.transactions.specs.declared.entry.ResponseState.{ResponseState}
+use Rattle.transactions.specs.declared.entry.ResponseState.TheVariants.{Waiting, Held}
+use Rattle.transactions.specs.Entry.{is_waiting}
+use Rattle.transactions.specs.Keeping.{HasTicks, IsHeldUnsent}
+use Rattle.flow_table.specs.declared.flow.Pending.{Pending}
+use Rattle.operator_model.specs.declared.heard.Heard.{Heard}
+use Rattle.operator_model.specs.declared.heard.Heard.TheVariants.{Message, Request}
+use Rattle.operator_model.specs.declared.heard.Arrival.{Arrival}
+use Rattle.operator_model.specs.declared.share.Share.{Share}
+use Rattle.operator_model.specs.declared.share.NextShare.{NextShare}
+use Rattle.snapshot_format.specs.declared.saved.SavedFlow.{SavedFlow}
+use Rattle.snapshot_format.specs.declared.saved.SavedOperator.{SavedOperator}
+use Rattle.snapshot_format.specs.Reading.{Taken, items_at, AllFollow}
+use Rattle.snapshot_format.specs.Fields.{literal_at, presence_at, number_at, bytes_at}
+use Rattle.snapshot_format.specs.Records.{sid_at, waiting_at, pending_at, flow_at, flow_follows, flows_at, kind_at, state_at, is_timed, entry_at, entry_follows, entries_at, message_at, request_at, arrival_at, arrival_follows, arrivals_at, share_at, slice_at, next_share_at, next_at, head_at, operator_at, operator_follows, operators_at}
+use Rattle.snapshot_format.specs.Text.{address, bytes_text, sets_text, sid_text, flag_text, pending_text, flow_text, kind_text, state_text, entry_text, heard_text, arrival_text, share_text, next_text, head_text, operator_text}
+use Rattle.snapshot_format.specs.Saved.{IsModem, IsPending, IsSavedFlow, IsSavedEntry, IsHeard, IsSavedArrival, IsSavedShare, IsSavedNext, IsSavedOperator}
+use Rattle.snapshot_format.proofs.FieldLemmas.{IsOutside, field_back, name_back, modem_back, bytes_back}
+use Rattle.snapshot_format.proofs.SetLemmas.{long_back, short_back, byte_back, sets_back}
+
+-- ---- the bytes that end a field
+
+space : 10 < digit_value 32
+space = omega arith
+
+line_end : 10 < digit_value 10
+line_end = omega arith
+
+space_outside : IsOutside 32
+space_outside = search rules
+
+end_outside : IsOutside 10
+end_outside = search rules
+
+dash_inside : ◌≢◌ {A = ℕ} 45 10
+dash_inside = omega arith
+
+-- bytes that end a line
+last_back : (bytes rest : List ℕ) → IsBytes bytes → bytes_at 10 (bytes_text bytes ++ 10 ∷ rest) ≡ Ok (bytes, rest)
+last_back bytes rest is = bytes_back 10 bytes rest end_outside dash_inside is
+
+-- ---- a flow
+
+sid_back : (sid : Option ℕ) (rest : List ℕ) → IfSome sid (λ n. n < 2 ^ 16) → sid_at (sid_text sid ++ rest) ≡ Ok (sid, rest)
+unfolding sid_at sid_text presence_at literal_at
+sid_back None rest is = refl
+sid_back (Some sid) rest is =
+    let whole : decimal sid ++ codes " " ++ rest ≡ decimal sid ++ 32 ∷ rest = append_assoc (decimal sid) (codes " ") rest in
+    rw (whole, short_back 32 sid rest space is) refl
+
+flag_back : (flag : Bool) (rest : List ℕ) → (n : ℕ) × (number_at 1 32 (flag_text flag ++ rest) ≡ Ok (n, rest)) × ((n == 1) ≡ flag)
+unfolding number_at
+flag_back false rest = (0, rw (field_back 32 (48 ∷ []) rest (search rules)) refl, refl)
+flag_back true rest = (1, rw (field_back 32 (49 ∷ []) rest (search rules)) refl, refl)
+
+waiting_back : (pending : Pending) (rest : List ℕ) → IsPending pending → waiting_at ((flag_text pending.sid_is_new ++ sets_text pending.sets) ++ rest) ≡ Ok (pending, rest)
+unfolding waiting_at
+waiting_back pending rest is =
+    let flag = flag_back pending.sid_is_new (sets_text pending.sets ++ rest) in
+    rw (append_assoc (flag_text pending.sid_is_new) (sets_text pending.sets) rest, flag.1, sets_back pending.sets rest is, flag.2) refl
+
+pending_back : (pending : Option Pending) (rest : List ℕ) → IfSome pending IsPending → pending_at (pending_text pending ++ rest) ≡ Ok (pending, rest)
+unfolding pending_at pending_text presence_at literal_at
+pending_back None rest is = refl
+pending_back (Some pending) rest is = rw (waiting_back pending rest is) refl
+
+flow_back : (saved : SavedFlow) (rest : List ℕ) → IsSavedFlow saved → flow_at (flow_text saved ++ rest) ≡ Ok (saved, rest)
+unfolding flow_at flow_text literal_at
+flow_back saved rest is =
+    let t7 : List ℕ = decimal saved.flow.since ++ 10 ∷ rest in
+    let t6 : List ℕ = decimal saved.flow.backlog ++ 32 ∷ t7 in
+    let t5 : List ℕ = decimal saved.flow.start ++ 32 ∷ t6 in
+    let t4 : List ℕ = pending_text saved.flow.pending ++ t5 in
+    let t3 : List ℕ = sets_text saved.flow.sets ++ t4 in
+    let t2 : List ℕ = sid_text saved.flow.sid ++ t3 in
+    let t1 : List ℕ = address saved.flow.modem ++ 32 ∷ t2 in
+    let whole : flow_text saved ++ rest ≡ codes "flow " ++ (decimal saved.sfid ++ 32 ∷ t1) = simp append_assoc in
+    ap flow_at whole
+    ∙ rw (
+      long_back 32 saved.sfid t1 space is.sfid,
+      modem_back 32 saved.flow.modem t2 space_outside is.modem,
+      sid_back saved.flow.sid t3 is.sid,
+      sets_back saved.flow.sets t4 is.sets,
+      pending_back saved.flow.pending t5 is.pending,
+      long_back 32 saved.flow.start t6 space is.start,
+      short_back 32 saved.flow.backlog t7 space is.backlog,
+      long_back 10 saved.flow.since rest line_end is.since,
+    ) refl
+
+items_back : {A : Type 0} (text : A → List ℕ) (item_at : List ℕ → Taken A) (may_follow : List A → A → Bool) (Is : A → Type 0)
+    → ((item : A) (rest : List ℕ) → Is item → item_at (text item ++ rest) ≡ Ok (item, rest))
+    → (before items : List A) (rest : List ℕ) → AllByRecursion Is items → AllFollow may_follow before items
+    → items_at item_at may_follow (length items) before (flat_map text items ++ rest) ≡ Ok (before ++ items, rest)
+items_back {A = A} text item_at may_follow Is back before [] rest are follow = ap (λ (all : List A). Ok (all, rest)) (sym (append-nil before))
+items_back {A = A} text item_at may_follow Is back before (item ∷ items) rest are follow =
+    rw (append_assoc (text item) (flat_map text items) rest, back item (flat_map text items ++ rest) are.0, follow.0)
+    (items_back text item_at may_follow Is back (before ++ item ∷ []) items rest are.1 follow.1 ∙ ap (λ (all : List A). Ok (all, rest)) (append_assoc before (item ∷ []) items))
+
+flows_back : (flows : List SavedFlow) (rest : List ℕ) → AllByRecursion IsSavedFlow flows → AllFollow flow_follows [] flows
+    → flows_at (length flows) (flat_map flow_text flows ++ rest) ≡ Ok (flows, rest)
+unfolding flows_at
+flows_back flows rest are follow = items_back flow_text flow_at flow_follows IsSavedFlow flow_back [] flows rest are follow
+
+-- ---- a cached response
+
+kind_back : (kind : Kind) (rest : List ℕ) → kind_at (kind_text kind ++ 32 ∷ rest) ≡ Ok (kind, rest)
+unfolding kind_at
+kind_back Dsa rest = rw (field_back 32 (kind_text Dsa) rest (search rules)) refl
+kind_back Dsc rest = rw (field_back 32 (kind_text Dsc) rest (search rules)) refl
+kind_back Dsd rest = rw (field_back 32 (kind_text Dsd) rest (search rules)) refl
+
+state_back : (standing : ResponseState) (rest : List ℕ) → state_at (state_text standing ++ 32 ∷ rest) ≡ Ok (standing, rest)
+unfolding state_at
+state_back Waiting rest = rw (field_back 32 (state_text Waiting) rest (search rules)) refl
+state_back Held rest = rw (field_back 32 (state_text Held) rest (search rules)) refl
+
+timed : (entry : KeptEntry) → HasTicks entry → IsHeldUnsent entry → is_timed entry ≡ true
+timed entry ticking held = rw (le-leb _ _ ticking) (by (is_waiting entry) held)
+  where
+    by : (waits : Bool) → (waits ≡ false → entry.resends_left ≡ 0) → (waits || entry.resends_left == 0) ≡ true
+    by true none = refl
+    by false none = eq-eqb _ _ (none refl)
+
+entry_back : (entry : KeptEntry) (rest : List ℕ) → IsSavedEntry entry → entry_at (entry_text entry ++ rest) ≡ Ok (entry, rest)
+unfolding entry_at entry_text literal_at
+entry_back entry rest is =
+    let t7 : List ℕ = bytes_text entry.reply ++ 10 ∷ rest in
+    let t6 : List ℕ = decimal entry.resends_left ++ 32 ∷ t7 in
+    let t5 : List ℕ = decimal entry.ticks_left ++ 32 ∷ t6 in
+    let t4 : List ℕ = state_text entry.standing ++ 32 ∷ t5 in
+    let t3 : List ℕ = decimal entry.sfid ++ 32 ∷ t4 in
+    let t2 : List ℕ = kind_text entry.kind ++ 32 ∷ t3 in
+    let t1 : List ℕ = decimal entry.tid ++ 32 ∷ t2 in
+    let whole : entry_text entry ++ rest ≡ codes "response " ++ (address entry.modem ++ 32 ∷ t1) = simp append_assoc in
+    ap entry_at whole
+    ∙ rw (
+      modem_back 32 entry.modem t1 space_outside is.modem,
+      short_back 32 entry.tid t2 space is.tid,
+      kind_back entry.kind t3,
+      long_back 32 entry.sfid t4 space is.sfid,
+      state_back entry.standing t5,
+      short_back 32 entry.ticks_left t6 space is.ticks,
+      byte_back 32 entry.resends_left t7 space is.resends,
+      last_back entry.reply rest is.reply,
+      timed entry is.ticking is.held,
+    ) refl
+
+entries_back : (entries : List KeptEntry) (rest : List ℕ) → AllByRecursion IsSavedEntry entries → AllFollow entry_follows [] entries
+    → entries_at (length entries) (flat_map entry_text entries ++ rest) ≡ Ok (entries, rest)
+unfolding entries_at
+entries_back entries rest are follow = items_back entry_text entry_at entry_follows IsSavedEntry entry_back [] entries rest are follow
+
+-- ---- what was received
+
+heard_back : (modem : Modem) (heard : Heard) (rest : List ℕ) → IsModem modem → IsHeard heard → arrival_at (heard_text modem heard ++ rest) ≡ Ok (record { modem = modem; heard = heard }, rest)
+unfolding arrival_at message_at request_at literal_at
+heard_back modem (Message bytes) rest is heard =
+    let t1 : List ℕ = bytes_text bytes ++ 10 ∷ rest in
+    let whole : heard_text modem (Message bytes) ++ rest ≡ codes "message " ++ (address modem ++ 32 ∷ t1) = simp append_assoc in
+    ap arrival_at whole ∙ rw (modem_back 32 modem t1 space_outside is, last_back bytes rest heard) refl
+heard_back modem (Request sid minislots) rest is heard =
+    let t2 : List ℕ = decimal minislots ++ 10 ∷ rest in
+    let t1 : List ℕ = decimal sid ++ 32 ∷ t2 in
+    let whole : heard_text modem (Request sid minislots) ++ rest ≡ codes "request " ++ (address modem ++ 32 ∷ t1) = simp append_assoc in
+    ap arrival_at whole ∙ rw (modem_back 32 modem t1 space_outside is, short_back 32 sid t2 space heard.0, short_back 10 minislots rest line_end heard.1) refl
+
+arrival_back : (arrival : Arrival) (rest : List ℕ) → IsSavedArrival arrival → arrival_at (arrival_text arrival ++ rest) ≡ Ok (arrival, rest)
+unfolding arrival_text
+arrival_back arrival rest is = heard_back arrival.modem arrival.heard rest is.modem is.heard
+
+any_follow : (before arrivals : List Arrival) → AllFollow arrival_follows before arrivals
+any_follow before [] = tt
+any_follow before (arrival ∷ arrivals) = (refl, any_follow (before ++ arrival ∷ []) arrivals)
+
+arrivals_back : (arrivals : List Arrival) (rest : List ℕ) → AllByRecursion IsSavedArrival arrivals
+    → arrivals_at (length arrivals) (flat_map arrival_text arrivals ++ rest) ≡ Ok (arrivals, rest)
+unfolding arrivals_at
+arrivals_back arrivals rest are = items_back arrival_text arrival_at arrival_follows IsSavedArrival arrival_back [] arrivals rest are (any_follow [] arrivals)
+
+-- ---- slices and budgets
+
+share_back : (share : Share) (rest : List ℕ) → IsSavedShare share → share_at (share_text share ++ rest) ≡ Ok (share, rest)
+unfolding share_at share_text
+share_back share rest is =
+    let t2 : List ℕ = decimal share.budget ++ 10 ∷ rest in
+    let t1 : List ℕ = decimal share.slice.length ++ 32 ∷ t2 in
+    let whole : share_text share ++ rest ≡ decimal share.slice.start ++ 32 ∷ t1 = simp append_assoc in
+    let some = is.slice.some in
+    let in_range = is.slice.in_range in
+    ap share_at whole
+    ∙ rw (
+      short_back 32 share.slice.start t1 space (omega (arith, some, in_range)),
+      short_back 32 share.slice.length t2 space (omega (arith, some, in_range)),
+      short_back 10 share.budget rest line_end is.budget,
+      le-leb _ _ some,
+      le-leb _ _ in_range,
+    ) refl
+
+next_back : (next : Option NextShare) (rest : List ℕ) → IfSome next IsSavedNext → next_at (next_text next ++ rest) ≡ Ok (next, rest)
+unfolding next_at next_text next_share_at presence_at literal_at
+next_back None rest is = refl
+next_back (Some next) rest is =
+    let t1 : List ℕ = share_text next.share ++ rest in
+    let whole : next_text (Some next) ++ rest ≡ codes "next =" ++ (decimal next.from ++ 32 ∷ t1) = simp append_assoc in
+    ap next_at whole ∙ rw (long_back 32 next.from t1 space is.from, share_back next.share rest is.share) refl
+
+-- ---- an operator
+
+head_back : (saved : SavedOperator) (rest : List ℕ) → IsSavedOperator saved
+    → head_at (head_text saved ++ rest) ≡ Ok (record { name = saved.name; flows = length saved.flows; kept = length saved.kept; inbox = length saved.inbox }, rest)
+unfolding head_at head_text literal_at
+head_back saved rest is =
+    let t3 : List ℕ = decimal (length saved.inbox) ++ 10 ∷ rest in
+    let t2 : List ℕ = decimal (length saved.kept) ++ 32 ∷ t3 in
+    let t1 : List ℕ = decimal (length saved.flows) ++ 32 ∷ t2 in
+    let whole : head_text saved ++ rest ≡ codes "operator " ++ (saved.name ++ 32 ∷ t1) = simp append_assoc in
+    ap head_at whole
+    ∙ rw (
+      name_back 32 saved.name t1 refl is.name,
+      short_back 32 (length saved.flows) t2 space is.few_flows,
+      short_back 32 (length saved.kept) t3 space is.few_kept,
+      short_back 10 (length saved.inbox) rest line_end is.few_heard,
+    ) refl
+
+operator_back : (saved : SavedOperator) (rest : List ℕ) → IsSavedOperator saved → operator_at (operator_text saved ++ rest) ≡ Ok (saved, rest)
+unfolding operator_at operator_text slice_at literal_at
+operator_back saved rest is =
+    let t5 : List ℕ = flat_map arrival_text saved.inbox ++ rest in
+    let t4 : List ℕ = flat_map entry_text saved.kept ++ t5 in
+    let t3 : List ℕ = flat_map flow_text saved.flows ++ t4 in
+    let t2 : List ℕ = next_text saved.next ++ t3 in
+    let t1 : List ℕ = share_text saved.share ++ t2 in
+    let whole : operator_text saved ++ rest ≡ head_text saved ++ (codes "slice " ++ t1) = simp append_assoc in
+    ap operator_at whole
+    ∙ rw (
+      head_back saved (codes "slice " ++ t1) is,
+      share_back saved.share t2 is.share,
+      next_back saved.next t3 is.next,
+      flows_back saved.flows t4 is.flows is.ascending,
+      entries_back saved.kept t5 is.kept is.one_each,
+      arrivals_back saved.inbox rest is.inbox,
+    ) refl
+
+pub operators_back : (operators : List SavedOperator) (rest : List ℕ) → AllByRecursion IsSavedOperator operators → AllFollow operator_follows [] operators
+    → operators_at (length operators) (flat_map operator_text operators ++ rest) ≡ Ok (operators, rest)
+unfolding operators_at
+operators_back operators rest are follow = items_back operator_text operator_at operator_follows IsSavedOperator operator_back [] operators rest are follow

@@ -1,0 +1,8 @@
+use Rattle.std.proofs.Common.{◌≡◌, ◌++◌, take}
+use Rattle.std.specs.List.{flat_map}
+use Rattle.std.specs.String.{string_bytes}
+use Rattle.snapshot_format.specs.Text.{operator_text}
+use Rattle.snapshot_format.proofs.operator_text.put_operators.Given as goal
+
+abbrev pub invariant-loop-operator : goal.invariant-loop-operator
+invariant-loop-operator l = string_bytes l.text ≡ string_bytes l.fn.text ++ flat_map operator_text (take l.operator-index l.operators)

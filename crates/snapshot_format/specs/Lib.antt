@@ -1,0 +1,10 @@
+pub mod Reading
+pub mod Fields
+pub mod Sets
+pub mod Records
+pub mod Checksum
+pub mod Text
+pub mod Snapshot
+pub mod Saved
+pub mod Kept
+pub mod States

@@ -1,0 +1,41 @@
+-- The states of operators' machines that a snapshot holds (implementation-specific).
+use Rattle.std.specs.Prelude.{ℕ, List, map}
+use Rattle.flow_table.specs.declared.flow.Flow.{Flow}
+use Rattle.operator_model.specs.State.{OperatorState}
+use Rattle.snapshot_format.specs.declared.saved.SavedFlow.{SavedFlow}
+use Rattle.snapshot_format.specs.declared.saved.SavedOperator.{SavedOperator}
+use Rattle.snapshot_format.specs.declared.saved.Snapshot.{Snapshot}
+
+-- a flow under its identifier
+abbrev pub entry_of : SavedFlow → ℕ × Flow
+entry_of saved = (saved.sfid, saved.flow)
+
+-- the state of an operator's machine before this frame
+abbrev pub state_of : ℕ → SavedOperator → OperatorState
+state_of frame saved = record {
+  flows = map entry_of saved.flows;
+  kept = saved.kept;
+  inbox = saved.inbox;
+  frame = frame;
+  share = saved.share;
+  next = saved.next;
+}
+
+-- the state of each operator's machine, under the operator's name
+abbrev pub states_of : Snapshot → List (List ℕ × OperatorState)
+states_of saved = map (λ operator. (operator.name, state_of saved.frame operator)) saved.operators
+
+-- ---- what is saved of a state
+
+abbrev pub saved_flow : ℕ × Flow → SavedFlow
+saved_flow entry = record { sfid = entry.0; flow = entry.1 }
+
+abbrev pub saved_state : List ℕ → OperatorState → SavedOperator
+saved_state name state = record {
+  name = name;
+  share = state.share;
+  next = state.next;
+  flows = map saved_flow state.flows;
+  kept = state.kept;
+  inbox = state.inbox;
+}
