@@ -1,0 +1,13 @@
+mod Append
+mod FirstLine
+mod Files
+mod Kept
+mod LineLaws
+mod Moments
+mod PushLaws
+mod ReadLaws
+mod Recovering
+mod Repair
+mod RunLaws
+mod Stages
+mod StoredLaws

@@ -1,0 +1,95 @@
+//! A file as the journal sees it: what a read returns, and what a crash may leave.
+ghost use Rattle.std.specs.Prelude.{◌≡◌, ◌⊎◌, ◌≤◌, List, ℕ, length, take, IfOk, OnOk};
+ghost use Rattle.line_journal.specs.declared.device.DeviceError.TheVariants.{Memory};
+ghost use Rattle.line_journal.specs.Device.{Only, Follows, Torn, Cut, Holds, Elapses, HasCause};
+
+use std::alloc::{AllocError, AllocFailed, Global};
+
+/// Says why a call failed: out of memory, the disk failed, or the file has as many bytes as a journal may have.
+#[derive(Clone, Copy, Debug, PartialEq, Eq)]
+pub enum DeviceError {
+    Memory,
+    Failed,
+    Full,
+}
+
+impl From<AllocError> for DeviceError {
+    ghost from_gives = { λ _ e. e ≡ Memory };
+
+    fn from(_: AllocError) -> Self {
+        DeviceError::Memory
+    }
+}
+
+impl<T: Drop> From<AllocFailed<T>> for DeviceError {
+    ghost from_gives = { λ _ e. e ≡ Memory };
+
+    fn from(_: AllocFailed<T>) -> Self {
+        DeviceError::Memory
+    }
+}
+
+/// Describes one file on a disk that may crash at any moment. Its clauses are what the journal assumes of a disk.
+pub trait Device {
+    /// The bytes that a read returns.
+    ghost seen: { Self → List ℕ };
+
+    /// What a crash at this moment may leave.
+    ghost may_leave: { Self → List ℕ → Type 0 };
+
+    /// The moment, as a number that does not fall.
+    ghost moment: { Self → ℕ };
+
+    /// What a crash at some moment from that one on might have left, during a call or between two.
+    ghost left_since: { Self → ℕ → List ℕ → Type 0 };
+
+    /// How often the disk has failed.
+    ghost faults: { Self → ℕ };
+
+    /// Returns all the bytes of the file.
+    fn read(&mut self, alloc: Global) -> Result<Vec<u8>, DeviceError>
+        ensures bytes { IfOk result (λ bytes. bytes.items ≡ seen self.old) }
+        ensures seen { seen self.new ≡ seen self.old }
+        ensures crash { (c : List ℕ) → may_leave self.new c → may_leave self.old c }
+        ensures time { Elapses (moment self.old) (moment self.new) (left_since self.old) (left_since self.new) (may_leave self.new) }
+        ensures cause { HasCause (faults self.old) (faults self.new) result };
+
+    /// Writes over the bytes from an offset on, and past the end. Until a sync, a crash may leave any bytes in the range.
+    fn write_at(&mut self, at: usize, bytes: &[u8]) -> Result<(), DeviceError>
+        requires { at ≤ length (seen self.old) }
+        ensures written { OnOk result (Holds (seen self.old) at bytes.now (seen self.new)) }
+        ensures crash { Follows (Torn at (length bytes.now)) (may_leave self.old) (may_leave self.new) }
+        ensures time { Elapses (moment self.old) (moment self.new) (left_since self.old) (left_since self.new) (may_leave self.new) }
+        ensures cause { HasCause (faults self.old) (faults self.new) result };
+
+    /// Cuts the file to a length in bytes. Until a sync, a crash may leave any length between.
+    fn truncate(&mut self, len: usize) -> Result<(), DeviceError>
+        requires { len ≤ length (seen self.old) }
+        ensures truncated { OnOk result (seen self.new ≡ take len (seen self.old)) }
+        ensures crash { Follows (Cut len) (may_leave self.old) (may_leave self.new) }
+        ensures time { Elapses (moment self.old) (moment self.new) (left_since self.old) (left_since self.new) (may_leave self.new) }
+        ensures cause { HasCause (faults self.old) (faults self.new) result };
+
+    /// Forces what was written onto the disk. After it, a crash leaves what a read returns.
+    fn sync(&mut self) -> Result<(), DeviceError>
+        ensures durable { OnOk result (Only (seen self.old) (may_leave self.new)) }
+        ensures seen { seen self.new ≡ seen self.old }
+        ensures crash { (c : List ℕ) → may_leave self.new c → may_leave self.old c }
+        ensures time { Elapses (moment self.old) (moment self.new) (left_since self.old) (left_since self.new) (may_leave self.new) }
+        ensures cause { HasCause (faults self.old) (faults self.new) result };
+
+    /// Puts another file in the place of this one, under its name, and forces it onto the disk. A crash leaves all of the
+    /// new file or none of it.
+    fn replace(&mut self, bytes: &[u8]) -> Result<(), DeviceError>
+        ensures replaced { OnOk result (seen self.new ≡ bytes.now) }
+        ensures durable { OnOk result (Only bytes.now (may_leave self.new)) }
+        ensures crash { (c : List ℕ) → may_leave self.new c → may_leave self.old c ⊎ (c ≡ bytes.now) }
+        ensures time { Elapses (moment self.old) (moment self.new) (left_since self.old) (left_since self.new) (may_leave self.new) }
+        ensures cause { HasCause (faults self.old) (faults self.new) result };
+
+    /// This moment is one of those since an earlier one.
+    ghost counts_now: { (file : Self) (t : ℕ) (c : List ℕ) → t ≤ moment file → may_leave file c → left_since file t c };
+
+    /// Since this moment there is no other.
+    ghost only_now: { (file : Self) (c : List ℕ) → left_since file (moment file) c → may_leave file c };
+}
