@@ -5,7 +5,6 @@ mod books;
 pub(crate) mod fixtures;
 mod live;
 mod opening;
-mod resuming;
 mod runs;
 mod settling;
 pub(crate) mod steps;

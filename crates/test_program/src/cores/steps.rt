@@ -25,7 +25,7 @@ pub(crate) enum StepCall {
 }
 
 /// Returns the step that a table writes so.
-pub(crate) fn step(alloc: Global, call: StepCall) -> Result<Step, AllocError> {
+fn step(alloc: Global, call: StepCall) -> Result<Step, AllocError> {
     match call {
         StepCall::Arrive(modem, bytes) => Ok(Step::Arrive {
             modem,
