@@ -12,18 +12,18 @@ use Rattle.dsx_messages.specs.declared.fault.MessageFault.TheVariants as faults
 use Rattle.dsx_messages.specs.declared.message.Message.{Message}
 use Rattle.dsx_messages.specs.Message.{HasType, IsFirstMessageFault}
 use Rattle.dsx_messages.specs.Reading.{id_of_fault}
-use Rattle.dsx_messages.specs.WellFormed.{Names}
+use Rattle.dsx_messages.specs.WellFormed.{IsFlowIdOf}
 use Rattle.operator_book.specs.Held.{HasRightId}
 
-names_reference : (o : Option ℕ) → IfSome (option_map Reference o) (Names Dsa)
+names_reference : (o : Option ℕ) → IfSome (option_map Reference o) (IsFlowIdOf Dsa)
 names_reference None = tt
 names_reference (Some n) = tt
 
-names_sfid : (o : Option ℕ) → IfSome (option_map Sfid o) (Names Dsc)
+names_sfid : (o : Option ℕ) → IfSome (option_map Sfid o) (IsFlowIdOf Dsc)
 names_sfid None = tt
 names_sfid (Some n) = tt
 
-names_id : (kind : Kind) (told : FlowFault) → IfSome (id_of_fault kind told) (Names kind)
+names_id : (kind : Kind) (told : FlowFault) → IfSome (id_of_fault kind told) (IsFlowIdOf kind)
 names_id Dsa told = names_reference told.reference
 names_id Dsc told = names_sfid told.sfid
 names_id Dsd told = tt
@@ -40,8 +40,8 @@ right_id bytes faults.Short h = tt
 right_id bytes (faults.Tlv tid kind id fault) h = (
   no_deletion kind h.1.mtype h.1.typed,
   elim h.2 [
-    | inl cut ↦ subst (λ (o : Option FlowId). IfSome o (Names kind)) (sym cut.id_is) tt
-    | inr faulty ↦ subst (λ (o : Option FlowId). IfSome o (Names kind)) (sym faulty.id_is) (names_id kind faulty.told)
+    | inl cut ↦ subst (λ (o : Option FlowId). IfSome o (IsFlowIdOf kind)) (sym cut.id_is) tt
+    | inr faulty ↦ subst (λ (o : Option FlowId). IfSome o (IsFlowIdOf kind)) (sym faulty.id_is) (names_id kind faulty.told)
   ],
 )
 right_id bytes (faults.LeftOut tid kind found) h = tt

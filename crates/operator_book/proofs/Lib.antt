@@ -8,3 +8,6 @@ pub mod Nested
 pub mod Replays
 pub mod Room
 pub mod Serving
+pub mod Resumes
+pub mod SoundState
+pub mod UnderState

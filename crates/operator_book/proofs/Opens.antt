@@ -1,5 +1,5 @@
 -- The provisioned flows that are put are those that the plant file opens.
-use Rattle.std.proofs.Common.{◌≡◌, ℕ, List, [], ◌∷◌, map, Option, Some, None, refl, ap, ◌∙◌}
+use Rattle.std.proofs.Common.{◌≡◌, ℕ, List, [], ◌∷◌, map, Option, Some, None, Result, Ok, Err, refl, sym, ap, ◌∙◌}
 use Rattle.std.specs.Prelude.{is_some, if◌then◌else◌}
 use Rattle.std.specs.List.{cons_option}
 use Rattle.std.specs.declared.cmp.Ordering.{Ordering}
@@ -9,13 +9,14 @@ use Rattle.std.specs.BTreeMap.{insert_entry}
 use Rattle.admission.specs.Free.{least_free_of}
 use Rattle.dsx_messages.specs.declared.modem.Modem.{Modem}
 use Rattle.param_sets.specs.declared.sets.SetsFields.{SetsFields}
+use Rattle.tlv24.specs.Flow.{flow_of}
 use Rattle.plant.specs.declared.consts.ConstsFields.{ConstsFields}
 use Rattle.plant.specs.declared.operator_row.RowFields.{RowFields}
 use Rattle.plant.specs.declared.provision.Provision.{Provision}
-use Rattle.plant.specs.Provisioned.{OpenedFlow, sets_of_encoding, opened_sfids, opened_sids, opened_sid, and_under, and_opened, all_opened}
+use Rattle.plant.specs.Provisioned.{OpenedFlow, sets_of_flow, sets_of_encoding, opened_sfids, opened_sids, opened_sid, and_under, and_opened, all_opened}
 use Rattle.flow_table.specs.declared.flow.Flow.{Flow}
 use Rattle.flow_table.specs.Table.{sfids_of, sids_of, with_flow}
-use Rattle.operator_model.specs.State.{opened_flow, opened_state}
+use Rattle.operator_model.specs.State.{opened_flow, consts_from, opened_before}
 use Rattle.operator_book.specs.Opening.{sid_for, put_under, put_opened, put_provision, put_provisions}
 
 -- the flows as they are opened in this frame
@@ -62,13 +63,22 @@ one_opened frame row os modem (Some sets) =
     ap (λ (sfids : List ℕ). put_under frame row (as_flows frame os) modem sets (least_free_of row.sfids sfids)) (same_sfids frame os)
     ∙ under frame row os modem sets (least_free_of row.sfids (opened_sfids os))
 
-all_put : (consts : ConstsFields) (row : RowFields) (os : List (ℕ × OpenedFlow)) (provisions : List Provision)
-    → put_provisions consts row (as_flows consts.channel.first_frame os) provisions ≡ as_flows consts.channel.first_frame (all_opened consts row os provisions)
-unfolding put_provision
-all_put consts row os [] = refl
-all_put consts row os (p ∷ provisions) =
-    ap (λ (flows : List (ℕ × Flow)). put_provisions consts row flows provisions) (one_opened consts.channel.first_frame row os p.modem (sets_of_encoding consts p.encoding))
-    ∙ all_put consts row (and_opened row os p.modem (sets_of_encoding consts p.encoding)) provisions
+-- no set depends on where a plant begins
+same_flow : (frame : ℕ) (consts : ConstsFields) (r : Result _ _) → sets_of_flow (consts_from frame consts) r ≡ sets_of_flow consts r
+same_flow frame consts (Err fault) = refl
+same_flow frame consts (Ok stated) = refl
 
-pub provisions_open : (consts : ConstsFields) (row : RowFields) → put_provisions consts row [] row.provisions ≡ (opened_state consts row).flows
-provisions_open consts row = all_put consts row [] row.provisions
+same_sets : (frame : ℕ) (consts : ConstsFields) (bytes : List ℕ) → sets_of_encoding consts bytes ≡ sets_of_encoding (consts_from frame consts) bytes
+same_sets frame consts bytes = sym (same_flow frame consts (flow_of bytes))
+
+all_put : (frame : ℕ) (consts : ConstsFields) (row : RowFields) (os : List (ℕ × OpenedFlow)) (provisions : List Provision)
+    → put_provisions frame consts row (as_flows frame os) provisions ≡ as_flows frame (all_opened (consts_from frame consts) row os provisions)
+unfolding put_provision
+all_put frame consts row os [] = refl
+all_put frame consts row os (p ∷ provisions) =
+    ap (λ (sets : Option SetsFields). put_provisions frame consts row (put_opened frame row (as_flows frame os) p.modem sets) provisions) (same_sets frame consts p.encoding)
+    ∙ (ap (λ (flows : List (ℕ × Flow)). put_provisions frame consts row flows provisions) (one_opened frame row os p.modem (sets_of_encoding (consts_from frame consts) p.encoding))
+    ∙ all_put frame consts row (and_opened row os p.modem (sets_of_encoding (consts_from frame consts) p.encoding)) provisions)
+
+pub provisions_open : (frame : ℕ) (consts : ConstsFields) (row : RowFields) → put_provisions frame consts row [] row.provisions ≡ (opened_before frame consts row).flows
+provisions_open frame consts row = all_put frame consts row [] row.provisions

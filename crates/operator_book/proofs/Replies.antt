@@ -1,7 +1,7 @@
 -- Refusals are well formed.
 use Rattle.std.proofs.Common.{◌≡◌, ℕ, Option, refl, rules, subst}
 use Rattle.std.specs.Prelude.{◌≢◌, IfSome, Some, None, Result, Ok, Err}
-use Rattle.dsx_messages.specs.WellFormed.{Names, GoesWith}
+use Rattle.dsx_messages.specs.WellFormed.{IsFlowIdOf, GoesWith}
 use Rattle.dsx_messages.specs.declared.kind.Kind.{Kind}
 use Rattle.dsx_messages.specs.declared.kind.Kind.TheVariants.{Dsa, Dsc, Dsd}
 use Rattle.dsx_messages.specs.declared.code.Code.{Code}
@@ -22,7 +22,7 @@ refuses Dsa code refused = refused
 refuses Dsc code refused = refused
 refuses Dsd code refused = tt
 
-pub refuses_naming : (kind : Kind) (code : Code) (id : Option FlowId) (subtype : ℕ) → kind ≢ Dsd → code ≢ Okay → IfSome id (Names kind)
+pub refuses_naming : (kind : Kind) (code : Code) (id : Option FlowId) (subtype : ℕ) → kind ≢ Dsd → code ≢ Okay → IfSome id (IsFlowIdOf kind)
     → GoesWith kind code (Errored id subtype)
 refuses_naming Dsa code id subtype other refused names = (refused, names)
 refuses_naming Dsc code id subtype other refused names = (refused, names)

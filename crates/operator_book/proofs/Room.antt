@@ -13,7 +13,7 @@ use Rattle.std.proofs.lemmas.Map.Entries.{sum_by-insert_entry}
 use Rattle.std.proofs.lemmas.List.Elements.{All-contains}
 use Rattle.admission.specs.Free.{Numbers, IsLeastFree, IsIn}
 use Rattle.flow_table.specs.declared.flow.Flow.{Flow}
-use Rattle.flow_table.specs.Table.{FlowTable, sids_of, flow_at, sid_if, with_flow, MayStand}
+use Rattle.flow_table.specs.Table.{FlowTable, sids_of, flow_at, sid_if, with_flow, HasRoomFor}
 use Rattle.flow_table.proofs.IndexLemmas.{sid_used}
 
 -- ---- how many flows there are with one more, or with another in its place
@@ -41,18 +41,18 @@ as_long es k v old sorted there =
 
 -- a SID that no flow has
 pub with_free_sid : (table : FlowTable) (sfid sid : ℕ) (range : Numbers) (flow : Flow) → flow.sid ≡ Some sid
-    → IsLeastFree range (sids_of table.flows) sid → length (with_flow sfid flow table.flows) ≤ table.capacity → MayStand table sfid flow
+    → IsLeastFree range (sids_of table.flows) sid → length (with_flow sfid flow table.flows) ≤ table.capacity → HasRoomFor table sfid flow
 with_free_sid table sfid sid range flow is free room = record { sid = rw is (inl free.free.unused); room = room }
 
 -- a new flow, where there is room for one more
 pub new_may_stand : (table : FlowTable) (sfid sid : ℕ) (range : Numbers) (flow : Flow) → IsStrictlySortedBy nat_cmp (keys_of table.flows)
-    → length table.flows < table.capacity → flow.sid ≡ Some sid → IsLeastFree range (sids_of table.flows) sid → MayStand table sfid flow
+    → length table.flows < table.capacity → flow.sid ≡ Some sid → IsLeastFree range (sids_of table.flows) sid → HasRoomFor table sfid flow
 new_may_stand table sfid sid range flow sorted room is free =
     with_free_sid table sfid sid range flow is free (omega (arith, room, longer table.flows sfid flow sorted))
 
 -- a flow that changes, and gets a SID
 pub given_may_stand : (table : FlowTable) (sfid sid : ℕ) (range : Numbers) (old flow : Flow) → IsStrictlySortedBy nat_cmp (keys_of table.flows)
-    → length table.flows ≤ table.capacity → flow_at sfid table.flows ≡ Some old → flow.sid ≡ Some sid → IsLeastFree range (sids_of table.flows) sid → MayStand table sfid flow
+    → length table.flows ≤ table.capacity → flow_at sfid table.flows ≡ Some old → flow.sid ≡ Some sid → IsLeastFree range (sids_of table.flows) sid → HasRoomFor table sfid flow
 given_may_stand table sfid sid range old flow sorted room there is free =
     with_free_sid table sfid sid range flow is free (omega (arith, room, as_long table.flows sfid flow old sorted there))
 
@@ -62,7 +62,7 @@ own_sid (Some sid) flows old same = inr (sym same)
 
 -- a flow that changes, and keeps its SID
 pub same_may_stand : (table : FlowTable) (sfid : ℕ) (old flow : Flow) → IsStrictlySortedBy nat_cmp (keys_of table.flows)
-    → length table.flows ≤ table.capacity → flow_at sfid table.flows ≡ Some old → flow.sid ≡ old.sid → MayStand table sfid flow
+    → length table.flows ≤ table.capacity → flow_at sfid table.flows ≡ Some old → flow.sid ≡ old.sid → HasRoomFor table sfid flow
 same_may_stand table sfid old flow sorted room there same = record {
   sid = own_sid flow.sid table.flows (flow_at sfid table.flows) (same ∙ sym (ap sid_if there));
   room = omega (arith, room, as_long table.flows sfid flow old sorted there);
@@ -85,7 +85,7 @@ few_sids None last few in_range = tt
 few_sids (Some sid) last few in_range = omega arith
 
 -- a table of the same flows and the same room
-pub may_stand_same : (t u : FlowTable) (sfid : ℕ) (flow : Flow) → t.flows ≡ u.flows → t.capacity ≡ u.capacity → MayStand t sfid flow → MayStand u sfid flow
+pub may_stand_same : (t u : FlowTable) (sfid : ℕ) (flow : Flow) → t.flows ≡ u.flows → t.capacity ≡ u.capacity → HasRoomFor t sfid flow → HasRoomFor u sfid flow
 may_stand_same t u sfid flow flows capacity h = record {
   sid = subst (λ (fs : List (ℕ × Flow)). IfSome flow.sid (λ sid. (¬ Contains (sids_of fs) sid) ⊎ (sid_if (flow_at sfid fs) ≡ Some sid))) flows h.sid;
   room = subst (λ (n : ℕ). length (with_flow sfid flow u.flows) ≤ n) capacity (subst (λ (fs : List (ℕ × Flow)). length (with_flow sfid flow fs) ≤ t.capacity) flows h.room);
@@ -93,7 +93,7 @@ may_stand_same t u sfid flow flows capacity h = record {
 
 -- a flow that is opened
 pub opened_may_stand : (table : FlowTable) (sfid : ℕ) (range : Numbers) (flow : Flow) → IsStrictlySortedBy nat_cmp (keys_of table.flows)
-    → length table.flows < table.capacity → IfSome flow.sid (IsLeastFree range (sids_of table.flows)) → MayStand table sfid flow
+    → length table.flows < table.capacity → IfSome flow.sid (IsLeastFree range (sids_of table.flows)) → HasRoomFor table sfid flow
 opened_may_stand table sfid range flow sorted room free = record {
   sid = unused_sid flow.sid free;
   room = omega (arith, room, longer table.flows sfid flow sorted);

@@ -4,8 +4,8 @@ use Rattle.admission.specs.Free.{IsIn}
 use Rattle.dsx_messages.specs.declared.kind.Kind.TheVariants.{Dsd}
 use Rattle.dsx_messages.specs.declared.fault.MessageFault.{MessageFault}
 use Rattle.dsx_messages.specs.declared.fault.MessageFault.TheVariants as faults
-use Rattle.dsx_messages.specs.WellFormed.{Names}
-use Rattle.flow_table.specs.Table.{FlowTable, MayStand, sids_of}
+use Rattle.dsx_messages.specs.WellFormed.{IsFlowIdOf}
+use Rattle.flow_table.specs.Table.{FlowTable, HasRoomFor, sids_of}
 use Rattle.plant.specs.declared.consts.ConstsFields.{ConstsFields}
 use Rattle.plant.specs.declared.operator_row.RowFields.{RowFields}
 use Rattle.transactions.specs.Keeping.{Keeping}
@@ -22,8 +22,8 @@ pub record IsMachine (consts : ConstsFields) (row : RowFields) (flows : FlowTabl
   pub timers : kept.waits ≡ consts.timers
 
 -- the machine's flows as a table
-abbrev pub table_of : Operator → FlowTable
-table_of m = record { capacity = m.row.flows; units = m.consts.units; flows = m.state.flows }
+abbrev pub flow_table_of : Operator → FlowTable
+flow_table_of m = record { capacity = m.row.flows; units = m.consts.units; flows = m.state.flows }
 
 -- the SIDs of the flows are of the row's range
 abbrev pub HasOwnSids : Operator → Type 0
@@ -32,7 +32,7 @@ HasOwnSids m = All (IsIn m.row.sids) (sids_of m.state.flows)
 -- a flow that is to be put may be
 abbrev pub MayPut : FlowTable → Verdict → Type 0
 MayPut table (Refused reply) = Unit {0}
-MayPut table (Put sfid flow reply) = MayStand table sfid flow
+MayPut table (Put sfid flow reply) = HasRoomFor table sfid flow
 MayPut table (Deleted sfid reply) = Unit {0}
 
 -- what has run, and what it output
@@ -41,5 +41,5 @@ with_state m ran = record m { state = ran.state }
 
 -- of a request at fault: it is an addition or a change, and the identifier that is reported is of its kind
 abbrev pub HasRightId : MessageFault → Type 0
-HasRightId (faults.Tlv tid kind id fault) = (kind ≢ Dsd) × IfSome id (Names kind)
+HasRightId (faults.Tlv tid kind id fault) = (kind ≢ Dsd) × IfSome id (IsFlowIdOf kind)
 HasRightId fault = Unit {0}

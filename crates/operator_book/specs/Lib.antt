@@ -6,3 +6,4 @@ pub mod Opening
 pub mod Kept
 pub mod ViewOf
 pub mod MostOutputs
+pub mod Resuming

@@ -23,10 +23,10 @@ abbrev pub put_opened : ℕ → RowFields → List (ℕ × Flow) → Modem → O
 put_opened frame row flows modem None = flows
 put_opened frame row flows modem (Some sets) = put_under frame row flows modem sets (least_free_of row.sfids (sfids_of flows))
 
--- one provisioned flow more
-unfoldable pub put_provision : ConstsFields → RowFields → List (ℕ × Flow) → Provision → List (ℕ × Flow)
-put_provision consts row flows p = put_opened consts.channel.first_frame row flows p.modem (sets_of_encoding consts p.encoding)
+-- one provisioned flow more, opened in this frame
+unfoldable pub put_provision : ℕ → ConstsFields → RowFields → List (ℕ × Flow) → Provision → List (ℕ × Flow)
+put_provision frame consts row flows p = put_opened frame row flows p.modem (sets_of_encoding consts p.encoding)
 
-abbrev pub put_provisions : ConstsFields → RowFields → List (ℕ × Flow) → List Provision → List (ℕ × Flow)
-put_provisions consts row flows [] = flows
-put_provisions consts row flows (p ∷ provisions) = put_provisions consts row (put_provision consts row flows p) provisions
+abbrev pub put_provisions : ℕ → ConstsFields → RowFields → List (ℕ × Flow) → List Provision → List (ℕ × Flow)
+put_provisions frame consts row flows [] = flows
+put_provisions frame consts row flows (p ∷ provisions) = put_provisions frame consts row (put_provision frame consts row flows p) provisions

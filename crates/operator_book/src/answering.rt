@@ -4,14 +4,14 @@ ghost use Rattle.std.specs.Prelude.{◌≡◌, ◌≢◌, ◌<◌, None, IsNone,
 ghost use Rattle.dsx_messages.specs.declared.code.Code.TheVariants.{Okay};
 ghost use Rattle.dsx_messages.specs.declared.message.Message.TheVariants as messages;
 ghost use Rattle.transactions.specs.Entry.{is_of};
-ghost use Rattle.flow_table.specs.Table.{MayStand};
+ghost use Rattle.flow_table.specs.Table.{HasRoomFor};
 ghost use Rattle.operator_model.specs.declared.verdict.Verdict.{Verdict};
 ghost use Rattle.operator_model.specs.declared.verdict.Verdict.TheVariants.{Refused, Put, Deleted};
 ghost use Rattle.operator_model.specs.Asked.{refusal};
 ghost use Rattle.operator_model.specs.Changed.{with_response};
 ghost use Rattle.operator_model.specs.Handle.{reply_output, carried_out, IsAnswered, IsCarriedOut, message_handled, tid_of, kind_of};
 ghost use Rattle.operator_book.specs.Choices.{kept_sfid, waits_for_ack};
-ghost use Rattle.operator_book.specs.Held.{table_of, HasOwnSids, MayPut};
+ghost use Rattle.operator_book.specs.Held.{flow_table_of, HasOwnSids, MayPut};
 ghost use Rattle.operator_book.specs.Does.{Does};
 
 use crate::machine::{Copies, MachineState, OutputCopies, answer, silent};
@@ -135,7 +135,7 @@ impl MachineState {
         flow: &Flow,
         reply: Reply,
     ) -> Result<OutputCopies, AllocError>
-        requires stands { MayStand (table_of self.old) sfid flow.now }
+        requires stands { HasRoomFor (flow_table_of self.old) sfid flow.now }
         requires free { IsNone (find (is_of modem tid) self.old.state.kept) }
         requires room { length self.old.state.kept < self.old.row.transactions }
         ensures { Does copies self.old self.new result (carried_out self.old modem kind tid (Put sfid flow.now reply)) }
@@ -181,7 +181,7 @@ impl MachineState {
         tid: u16,
         verdict: Verdict,
     ) -> Result<OutputCopies, AllocError>
-        requires puts { MayPut (table_of self.old) verdict }
+        requires puts { MayPut (flow_table_of self.old) verdict }
         requires free { IsNone (find (is_of modem tid) self.old.state.kept) }
         requires room { length self.old.state.kept < self.old.row.transactions }
         ensures { Does copies self.old self.new result (carried_out self.old modem kind tid verdict) }

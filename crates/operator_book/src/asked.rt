@@ -6,7 +6,7 @@ ghost use Rattle.std.specs.List.{list_all};
 ghost use Rattle.dsx_messages.specs.declared.kind.Kind.TheVariants.{Dsc, Dsd};
 ghost use Rattle.flow_table.specs.Table.{flow_at};
 ghost use Rattle.operator_book.specs.Over.{asked_sets_over};
-ghost use Rattle.operator_model.specs.Asked.{is_unclassed, id_number, is_same, first_of, first_encoding, free_flow, set_over_class, set_of, is_change, asked_by_type, asked_by_one, in_order, asked_by_two, asked_sets, failing_active, nested_sets, addition_of, change_of};
+ghost use Rattle.operator_model.specs.Asked.{is_unclassed, id_number, is_same, first_of, first_encoding, free_flow, set_over_class, set_of, is_change, asked_by_type, asked_by_one, asked_in_order, asked_by_two, asked_sets, failing_active, nested_sets, addition_of, change_of};
 
 use crate::refusal::{refusal, refusal_naming};
 use dsx_messages::{Code, Kind, Reply};
@@ -191,8 +191,8 @@ fn asked_by_one(t: Transaction, consts: &Consts, flow: &FlowTlv) -> Result<Asked
 }
 
 /// Returns two sets, of which one is admitted and the other active.
-fn in_order(first: &FlowTlv, a: ParamSet, b: ParamSet) -> AskedSets
-    ensures { result ≡ in_order first.now a b }
+fn asked_in_order(first: &FlowTlv, a: ParamSet, b: ParamSet) -> AskedSets
+    ensures { result ≡ asked_in_order first.now a b }
 {
     if has_set_type(SetType::Admitted, first) {
         AskedSets {
@@ -219,7 +219,7 @@ fn asked_by_two(
 {
     let a = set_of(t, consts, first)?;
     let b = set_of(t, consts, second)?;
-    Ok(in_order(first, a, b))
+    Ok(asked_in_order(first, a, b))
 }
 
 /// Returns the sets that the encodings of a request ask for.

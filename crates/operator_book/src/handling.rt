@@ -3,7 +3,8 @@
 ghost use Rattle.std.specs.Prelude.{◌≡◌, ◌<◌, None, Result, Ok, Err, IfErr, OnOk, OnErr, drop};
 ghost use Rattle.dsx_messages.specs.declared.message.Message.{Message};
 ghost use Rattle.dsx_messages.specs.declared.fault.MessageFault.{MessageFault};
-ghost use Rattle.dsx_messages.specs.Reading.{Fails, Gives};
+ghost use Rattle.lists.specs.Results.{Fails, Gives};
+ghost use Rattle.dsx_messages.specs.Reading.{message_cause};
 ghost use Rattle.flow_table.specs.Flow.{flow_after_ack};
 ghost use Rattle.operator_model.specs.declared.verdict.Verdict.TheVariants.{Refused};
 ghost use Rattle.operator_model.specs.Asked.{refusal};
@@ -113,7 +114,7 @@ impl MachineState {
     ) -> Result<OutputCopies, AllocError>
         requires { HasRightId fault }
         ensures does { Does copies self.old self.new result (message_handled self.old modem (Err fault)) }
-        ensures told { OnOk result ((read : Result Message MessageFault) → Fails fault read → read ≡ Err fault) }
+        ensures told { OnOk result ((read : Result Message MessageFault) → Fails (message_cause fault) read → read ≡ Err fault) }
     {
         match fault {
             MessageFault::NoMemory => Err(AllocError),
@@ -178,7 +179,7 @@ impl MachineState {
     ) -> Result<OutputCopies, AllocError>
         requires sids { HasOwnSids self.old }
         requires right { IfErr said HasRightId }
-        ensures does { (read : Result Message MessageFault) → Gives (λ m. m) said read
+        ensures does { (read : Result Message MessageFault) → Gives message_cause (λ m. m) said read
             → Does copies self.old self.new result (message_handled self.old modem read) }
         ensures err { OnErr result (self.new ≡ self.old) }
     {

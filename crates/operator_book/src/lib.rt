@@ -5,6 +5,7 @@
 mod answering;
 mod asked;
 mod book;
+mod flow_fault;
 mod handling;
 mod judging;
 mod live;
@@ -13,6 +14,10 @@ mod machine;
 mod opening;
 mod refusal;
 mod reslicing;
+mod response_fault;
+mod resuming;
+mod share_fault;
+mod state_fault;
 mod state_view;
 mod step;
 mod ticking;
@@ -25,4 +30,5 @@ pub use machine::Copies;
 pub use operator_model::{
     Action, Arrival, Cause, Entry, Heard, NextShare, Output, Outputs, Share, SliceRow, Unfit,
 };
+pub use state_fault::StateFault;
 pub use state_view::StateView;

@@ -1,21 +1,23 @@
 //! One operator's machine at work, with no history.
 
-ghost use Rattle.std.specs.Prelude.{◌≡◌, ◌≢◌, ◌↔◌, ◌≤◌, true, length, Err, Some, None, IfOk, OnOk, OnErr};
+ghost use Rattle.std.specs.Prelude.{◌≡◌, ◌≢◌, ◌↔◌, ◌≤◌, ◌⊎◌, true, length, Err, Some, None, IfOk, IfErr, OnOk, OnErr};
 ghost use Rattle.dsx_messages.specs.declared.modem.Modem.{Modem};
 ghost use Rattle.plant.specs.Row.{IsRowOf};
 ghost use Rattle.operator_model.specs.declared.action.Unfit.{Unfit};
 ghost use Rattle.operator_model.specs.declared.action.Action.TheVariants as actions;
-ghost use Rattle.operator_model.specs.State.{operator, opened_state};
+ghost use Rattle.operator_model.specs.State.{operator, opened_state, opened_before};
 ghost use Rattle.operator_model.specs.Machine.{stranger_of, is_spent, unfit_of, unfit_from, own_step, after_step, IsAllowed};
 ghost use Rattle.operator_model.specs.Sound.{IsSound};
 ghost use Rattle.operator_book.specs.MostOutputs.{most_outputs_of};
+ghost use Rattle.operator_book.specs.Resuming.{state_fault, IsStateFault, IsStateUnder};
+ghost use Rattle.operator_book.specs.declared.state_fault.StateFault.TheVariants.{NoMemory};
 
 use crate::book::{BookFault, OpenFault};
 use crate::machine::{Copies, MachineState, OutputCopies};
+use crate::state_fault::StateFault;
+use crate::state_view::StateView;
 use grant_policy::Ranking;
-use operator_model::{
-    Action, NextShare, Output, Share, SliceRow, Unfit, opened_is_sound, step_keeps_sound,
-};
+use operator_model::{Action, NextShare, Output, Share, SliceRow, Unfit, step_keeps_sound};
 use plant::{Consts, OperatorRow};
 use std::alloc::{AllocError, Global};
 use std::marker::Model;
@@ -58,15 +60,20 @@ impl Drop for Machine {
 }
 
 impl SoundMachine {
-    /// Returns the machine of an operator as it is opened.
-    fn open(alloc: Global, row: &OperatorRow, consts: &Consts) -> Result<SoundMachine, AllocError>
+    /// Returns the machine of an operator as it is opened before this frame.
+    #[tactic(auto, using(operator_model::proofs::OpenedBeforeLemmas::opened_before_sound))]
+    fn open_before(
+        alloc: Global,
+        row: &OperatorRow,
+        consts: &Consts,
+        frame: u32,
+    ) -> Result<SoundMachine, AllocError>
         requires { IsRowOf consts.now row.now }
-        ensures { IfOk result (λ sound. sound ≡ operator consts.now row.now (opened_state consts.now row.now)) }
+        ensures { IfOk result (λ sound. sound ≡ operator consts.now row.now (opened_before frame consts.now row.now)) }
     {
-        // For the proof: a machine is opened sound.
-        opened_is_sound();
+        // For the proof: that the slice has a minislot, which makes the opened machine sound.
         let _some = row.get_fields().slice.get_length();
-        let machine = MachineState::open(alloc, row, consts)?;
+        let machine = MachineState::open_before(alloc, row, consts, frame)?;
         Ok(SoundMachine { machine })
     }
 
@@ -76,6 +83,24 @@ impl SoundMachine {
     {
         // For the proof: what the type keeps, which is known where a field is read.
         let _ = &self.machine;
+    }
+
+    /// Returns the machine of an operator that goes on from a state.
+    #[tactic(auto, using(crate::proofs::UnderState::only_memory))]
+    fn resume(
+        alloc: Global,
+        row: &OperatorRow,
+        consts: &Consts,
+        state: StateView,
+    ) -> Result<SoundMachine, StateFault>
+        ensures ok { IfOk result (λ sound. sound ≡ operator consts.now row.now state) }
+        ensures fault { IfErr result (λ f. (f ≡ NoMemory) ⊎ (state_fault consts.now row.now state ≡ Some f)) }
+        ensures only { IsStateUnder consts.now row.now state → IfErr result (λ f. f ≡ NoMemory) }
+    {
+        match MachineState::resume(alloc, row, consts, state) {
+            Ok(machine) => Ok(SoundMachine { machine }),
+            Err(fault) => Err(fault),
+        }
     }
 
     /// Does an action that is not refused, and returns so many copies of what it outputs.
@@ -124,10 +149,51 @@ impl Machine {
         ensures ok { IfOk result (λ live. live.sound ≡ operator consts.now row.now (opened_state consts.now row.now)) }
         ensures mismatch { (result ≡ Err OpenFault.PolicyMismatch) ↔ (ranking.policy ≢ row.now.policy) }
     {
+        let frame = consts.get_fields().channel.first_frame;
+        Machine::open_before(alloc, row, consts, ranking, frame)
+    }
+
+    /// Returns the machine of an operator that joins a running plant before this frame, with
+    /// nothing done: its provisioned flows exist from this frame on, and nothing else. The caller
+    /// knows that the row is one of a plant with these constants.
+    pub fn open_before(
+        alloc: Global,
+        row: &OperatorRow,
+        consts: &Consts,
+        ranking: Ranking,
+        frame: u32,
+    ) -> Result<Machine, OpenFault>
+        requires { IsRowOf consts.now row.now }
+        ensures ok { IfOk result (λ live. live.sound ≡ operator consts.now row.now (opened_before frame consts.now row.now)) }
+        ensures mismatch { (result ≡ Err OpenFault.PolicyMismatch) ↔ (ranking.policy ≢ row.now.policy) }
+    {
         if ranking.policy() != row.get_fields().policy {
             return Err(OpenFault::PolicyMismatch);
         }
-        let sound = SoundMachine::open(alloc, row, consts)?;
+        let sound = SoundMachine::open_before(alloc, row, consts, frame)?;
+        Ok(Machine { sound, ranking })
+    }
+
+    /// Returns the machine of an operator that goes on from a state under this row: a state that was
+    /// saved, or that of a machine with another row. It goes on from every state that is sound under
+    /// the row, whose responses are as the cache keeps them, and of which all modems are the row's.
+    pub fn resume(
+        alloc: Global,
+        row: &OperatorRow,
+        consts: &Consts,
+        ranking: Ranking,
+        state: StateView,
+    ) -> Result<Machine, StateFault>
+        ensures ok { IfOk result (λ live. live.sound ≡ operator consts.now row.now state) }
+        ensures mismatch { ranking.policy ≢ row.now.policy → result ≡ Err StateFault.PolicyMismatch }
+        ensures fault { IfErr result (IsStateFault ranking.policy consts.now row.now state) }
+        ensures only { IsStateUnder consts.now row.now state → ranking.policy ≡ row.now.policy
+            → IfErr result (λ fault. fault ≡ NoMemory) }
+    {
+        if ranking.policy() != row.get_fields().policy {
+            return Err(StateFault::PolicyMismatch);
+        }
+        let sound = SoundMachine::resume(alloc, row, consts, state)?;
         Ok(Machine { sound, ranking })
     }
 
@@ -187,6 +253,27 @@ impl Machine {
     {
         // For the proof: what always holds of `self.sound`.
         self.sound.always();
+    }
+
+    /// Returns a copy of the state.
+    pub fn state_view(&self, alloc: Global) -> Result<StateView, AllocError>
+        ensures { IfOk result (λ view. view ≡ self.now.sound.state) }
+    {
+        self.sound.machine.state_view(alloc)
+    }
+
+    /// Returns the operator's row, as the machine was opened with it.
+    pub fn row(&self) -> &OperatorRow
+        ensures { result.now ≡ self.now.sound.row }
+    {
+        &self.sound.machine.row
+    }
+
+    /// Returns what all operators of the plant share.
+    pub fn consts(&self) -> &Consts
+        ensures { result.now ≡ self.now.sound.consts }
+    {
+        &self.sound.machine.consts
     }
 
     /// Returns the number of the next frame.

@@ -4,7 +4,7 @@ ghost use Rattle.std.specs.Prelude.{◌≡◌, ◌<◌, ◌≤◌, ◌+◌, [], 
 ghost use Rattle.admission.specs.Free.{IsLeastFree};
 ghost use Rattle.flow_table.specs.Table.{sids_of};
 ghost use Rattle.plant.specs.Row.{IsRowOf};
-ghost use Rattle.operator_model.specs.State.{opened_flow, opened_state};
+ghost use Rattle.operator_model.specs.State.{opened_flow, opened_state, opened_before};
 ghost use Rattle.operator_book.specs.Opening.{sid_for, put_provision, put_provisions};
 
 use crate::machine::MachineState;
@@ -47,9 +47,10 @@ fn opened_flow(frame: u32, modem: Modem, sid: Option<u16>, sets: Sets) -> Flow
     }
 }
 
-/// Returns one provisioned flow more, under the least free SFID.
+/// Puts one provisioned flow more, opened in this frame, under the least free SFID.
 #[tactic(auto, using(crate::proofs::Room::longer), unfolding(crate::specs::Opening::put_provision))]
 fn put_provision(
+    frame: u32,
     consts: &Consts,
     row: &OperatorRow,
     flows: &mut Flows,
@@ -58,7 +59,7 @@ fn put_provision(
     requires { length flows.old.flows < flows.old.capacity }
     ensures few { OnOk result (length flows.new.flows ≤ length flows.old.flows + 1) }
     ensures ok { OnOk result (flows.new
-        ≡ record flows.old { flows = put_provision consts.now row.now flows.old.flows provision.now }) }
+        ≡ record flows.old { flows = put_provision frame consts.now row.now flows.old.flows provision.now }) }
 {
     let Some(sets) = provision.sets(consts) else {
         return Ok(());
@@ -69,36 +70,41 @@ fn put_provision(
     let sid = sid_for(row, flows, sets);
     // For the proof: what always holds of `flows`.
     flows.always();
-    let flow = opened_flow(
-        consts.get_fields().channel.first_frame,
-        provision.modem,
-        sid,
-        sets,
-    );
+    let flow = opened_flow(frame, provision.modem, sid, sets);
     flows.put_flow(sfid, &flow)?;
     Ok(())
 }
 
-/// Returns the provisioned flows, in the file's order.
-fn put_provisions(consts: &Consts, row: &OperatorRow, flows: &mut Flows) -> Result<(), AllocError>
+/// Puts the provisioned flows, opened in this frame, in the file's order.
+fn put_provisions(
+    frame: u32,
+    consts: &Consts,
+    row: &OperatorRow,
+    flows: &mut Flows,
+) -> Result<(), AllocError>
     requires none { flows.old.flows ≡ [] }
     requires fits { length row.now.provisions ≤ flows.old.capacity }
     ensures ok { OnOk result (flows.new
-        ≡ record flows.old { flows = put_provisions consts.now row.now [] row.now.provisions }) }
+        ≡ record flows.old { flows = put_provisions frame consts.now row.now [] row.now.provisions }) }
 {
     for provision in row.get_fields().provisions.as_slice() {
-        put_provision(consts, row, flows, provision)?;
+        put_provision(frame, consts, row, flows, provision)?;
     }
     Ok(())
 }
 
-/// Returns the flows of an operator as it is opened: its provisioned ones.
-fn flows_of(alloc: Global, row: &OperatorRow, consts: &Consts) -> Result<Flows, AllocError>
+/// Returns the flows of an operator as it is opened in this frame: its provisioned ones.
+fn flows_of(
+    alloc: Global,
+    row: &OperatorRow,
+    consts: &Consts,
+    frame: u32,
+) -> Result<Flows, AllocError>
     requires { IsRowOf consts.now row.now }
     ensures { IfOk result (λ flows. flows ≡ record {
       capacity = row.now.flows;
       units = consts.now.units;
-      flows = put_provisions consts.now row.now [] row.now.provisions;
+      flows = put_provisions frame consts.now row.now [] row.now.provisions;
     }) }
 {
     let mut flows = Flows::new(
@@ -106,13 +112,12 @@ fn flows_of(alloc: Global, row: &OperatorRow, consts: &Consts) -> Result<Flows, 
         u32::from(row.get_fields().flows),
         consts.get_fields().units,
     )?;
-    put_provisions(consts, row, &mut flows)?;
+    put_provisions(frame, consts, row, &mut flows)?;
     Ok(flows)
 }
 
 impl MachineState {
     /// Returns the machine of an operator as it is opened: its provisioned flows, and nothing else.
-    #[tactic(auto, using(crate::proofs::Opens::provisions_open))]
     pub(crate) fn open(
         alloc: Global,
         row: &OperatorRow,
@@ -122,9 +127,26 @@ impl MachineState {
         ensures { IfOk result (λ machine. machine
             ≡ record { consts = consts.now; row = row.now; state = opened_state consts.now row.now }) }
     {
+        let frame = consts.get_fields().channel.first_frame;
+        MachineState::open_before(alloc, row, consts, frame)
+    }
+
+    /// Returns the machine of an operator as it is opened before this frame: its provisioned flows,
+    /// and nothing else.
+    #[tactic(auto, using(crate::proofs::Opens::provisions_open))]
+    pub(crate) fn open_before(
+        alloc: Global,
+        row: &OperatorRow,
+        consts: &Consts,
+        frame: u32,
+    ) -> Result<MachineState, AllocError>
+        requires { IsRowOf consts.now row.now }
+        ensures { IfOk result (λ machine. machine
+            ≡ record { consts = consts.now; row = row.now; state = opened_before frame consts.now row.now }) }
+    {
         let keys = row.get_fields();
         let shared = consts.get_fields();
-        let flows = flows_of(alloc, row, consts)?;
+        let flows = flows_of(alloc, row, consts, frame)?;
         let kept = Kept::new(alloc, u32::from(keys.transactions), shared.timers)?;
         Ok(MachineState {
             consts: consts.copy(alloc)?,
@@ -132,7 +154,7 @@ impl MachineState {
             flows,
             kept,
             inbox: VecDeque::new(alloc),
-            frame: shared.channel.first_frame,
+            frame,
             share: Share {
                 slice: keys.slice,
                 budget: keys.budget,

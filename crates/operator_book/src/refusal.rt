@@ -1,7 +1,7 @@
 //! Replies that refuse a request.
 
 ghost use Rattle.std.specs.Prelude.{◌≡◌, ◌≢◌, IfSome};
-ghost use Rattle.dsx_messages.specs.WellFormed.{Names};
+ghost use Rattle.dsx_messages.specs.WellFormed.{IsFlowIdOf};
 ghost use Rattle.dsx_messages.specs.declared.code.Code.TheVariants.{Okay};
 ghost use Rattle.dsx_messages.specs.declared.kind.Kind.TheVariants.{Dsd};
 ghost use Rattle.dsx_messages.specs.declared.reply.Detail.TheVariants.{Errored};
@@ -29,7 +29,7 @@ pub(crate) fn refusal(kind: Kind, tid: u16, code: Code) -> Reply
 /// Returns how a request of this kind names the flow of an encoding.
 fn id_of(kind: Kind, flow: &FlowTlv) -> Option<FlowId>
     ensures value { result ≡ id_of kind flow.now }
-    ensures names { IfSome result (Names kind) }
+    ensures names { IfSome result (IsFlowIdOf kind) }
 {
     match kind {
         Kind::Dsa => Some(FlowId::Reference(flow.get_reference()?)),
@@ -43,7 +43,7 @@ fn id_of(kind: Kind, flow: &FlowTlv) -> Option<FlowId>
 pub(crate) fn naming(kind: Kind, tid: u16, code: Code, id: Option<FlowId>, subtype: u8) -> Reply
     requires kind { kind ≢ Dsd }
     requires code { code ≢ Okay }
-    requires names { IfSome id (Names kind) }
+    requires names { IfSome id (IsFlowIdOf kind) }
     ensures { result ≡ record { kind = kind; tid = tid; code = code; detail = Errored id subtype } }
 {
     Reply::new(ReplyFields {
@@ -66,7 +66,7 @@ pub(crate) fn refusal_naming(t: Transaction, code: Code, flow: &FlowTlv, subtype
 /// Returns a refusal of what could not be read.
 pub(crate) fn encoding_refusal(kind: Kind, tid: u16, id: Option<FlowId>, fault: TlvFault) -> Reply
     requires kind { kind ≢ Dsd }
-    requires names { IfSome id (Names kind) }
+    requires names { IfSome id (IsFlowIdOf kind) }
     ensures { result ≡ encoding_refusal kind tid id fault }
 {
     match fault {

@@ -1,4 +1,4 @@
-//! A copy of a book's state.
+//! The state of a machine as a value: a copy of a machine's state, or one that a machine is to go on from.
 
 ghost use Rattle.std.specs.Prelude.{◌≡◌, IfOk};
 
@@ -10,15 +10,15 @@ use std::collections::VecDeque;
 use std::marker::Model;
 use transactions::KeptEntry;
 
-/// A copy of a book's state. Contracts see it as the state.
+/// The state of a machine as a value: a copy, or one that was saved. Contracts see it as the state.
 #[derive(Debug, Drop)]
 pub struct StateView {
-    flows: Vec<(u32, Flow)>,
-    kept: Vec<KeptEntry>,
-    inbox: Vec<Arrival>,
-    frame: u32,
-    share: Share,
-    next: Option<NextShare>,
+    pub(crate) flows: Vec<(u32, Flow)>,
+    pub(crate) kept: Vec<KeptEntry>,
+    pub(crate) inbox: Vec<Arrival>,
+    pub(crate) frame: u32,
+    pub(crate) share: Share,
+    pub(crate) next: Option<NextShare>,
 }
 
 impl Model for StateView {
@@ -71,7 +71,37 @@ impl MachineState {
 }
 
 impl StateView {
-    /// Returns the flows under their SFIDs, ascending.
+    /// Returns the state of these parts: the flows under their SFIDs, the cached responses in the order in which their
+    /// transactions began, what was received and not handled in its order, the number of the next frame, the share in
+    /// force, and the one that waits for its frame.
+    pub fn new(
+        flows: Vec<(u32, Flow)>,
+        kept: Vec<KeptEntry>,
+        inbox: Vec<Arrival>,
+        frame: u32,
+        share: Share,
+        next: Option<NextShare>,
+    ) -> StateView
+        ensures { result ≡ record {
+          flows = flows.items;
+          kept = kept.items;
+          inbox = inbox.items;
+          frame = frame;
+          share = share;
+          next = next;
+        } }
+    {
+        StateView {
+            flows,
+            kept,
+            inbox,
+            frame,
+            share,
+            next,
+        }
+    }
+
+    /// Returns the flows under their SFIDs: in a copy of a machine's state, ascending.
     pub fn flows(&self) -> &[(u32, Flow)]
         ensures { result.now ≡ self.now.flows }
     {

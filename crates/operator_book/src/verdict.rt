@@ -3,11 +3,11 @@
 ghost use Rattle.std.specs.Prelude.{◌≡◌, ◌<◌, ◌≤◌, IfSome, Some, length};
 ghost use Rattle.admission.specs.Free.{IsLeastFree};
 ghost use Rattle.dsx_messages.specs.declared.kind.Kind.TheVariants.{Dsa, Dsc, Dsd};
-ghost use Rattle.flow_table.specs.Table.{flow_at, sids_of, MayStand};
+ghost use Rattle.flow_table.specs.Table.{flow_at, sids_of, HasRoomFor};
 ghost use Rattle.operator_model.specs.Asked.{transaction, free_flow, addition_of, change_of};
 ghost use Rattle.operator_model.specs.Verdict.{put_within_limit, addition_within_limit, added_under, changed_with, change_within_limit, verdict, limit_of, no_room, new_flow, added_reply, changed_flow, changed_reply, wants_sid, addition_verdict, change_verdict, deletion_verdict};
 ghost use Rattle.operator_book.specs.Choices.{is_new_sid};
-ghost use Rattle.operator_book.specs.Held.{table_of, HasOwnSids, MayPut};
+ghost use Rattle.operator_book.specs.Held.{flow_table_of, HasOwnSids, MayPut};
 
 use crate::asked::{addition_of, change_of, free_flow};
 use crate::machine::MachineState;
@@ -164,9 +164,9 @@ impl MachineState {
         flow: &Flow,
         reply: Reply,
     ) -> Verdict
-        requires { MayStand (table_of self.now) sfid flow.now }
+        requires { HasRoomFor (flow_table_of self.now) sfid flow.now }
         ensures value { result ≡ put_within_limit self.now kind tid sfid flow.now reply }
-        ensures puts { MayPut (table_of self.now) result }
+        ensures puts { MayPut (flow_table_of self.now) result }
     {
         match self.flows.fits(self.limit(), sfid, flow) {
             Ok(()) => Verdict::Put {
@@ -183,7 +183,7 @@ impl MachineState {
     #[inline(always)]
     fn addition_within_limit(&self, modem: Modem, tid: u16, addition: &Addition) -> Verdict
         ensures value { result ≡ addition_within_limit self.now modem tid addition.now }
-        ensures puts { MayPut (table_of self.now) result }
+        ensures puts { MayPut (flow_table_of self.now) result }
     {
         let row = self.row.get_fields();
         if self.flows.len() >= usize::from(row.flows) {
@@ -206,7 +206,7 @@ impl MachineState {
     ) -> Verdict
         requires room { length self.now.state.flows < self.now.row.flows }
         requires free { IfSome sid (IsLeastFree self.now.row.sids (sids_of self.now.state.flows)) }
-        ensures puts { MayPut (table_of self.now) result }
+        ensures puts { MayPut (flow_table_of self.now) result }
         ensures value { result ≡ added_under self.now modem tid addition.now sfid sid }
     {
         let (Some(sfid), Some(sid)) = (sfid, sid) else {
@@ -228,9 +228,9 @@ impl MachineState {
         sid: Option<u16>,
         origin: SidOrigin,
     ) -> Verdict
-        requires stands { MayStand (table_of self.now) change.now.sfid (changed_flow change.now sid (is_new_sid origin)) }
+        requires stands { HasRoomFor (flow_table_of self.now) change.now.sfid (changed_flow change.now sid (is_new_sid origin)) }
         requires range { IfSome sid (λ n. n ≤ 8191) }
-        ensures puts { MayPut (table_of self.now) result }
+        ensures puts { MayPut (flow_table_of self.now) result }
         ensures value { result ≡ changed_with self.now tid change.now sid (is_new_sid origin) }
     {
         let flow = changed_flow(change, sid, origin);
@@ -244,7 +244,7 @@ impl MachineState {
         requires there { flow_at change.now.sfid self.now.state.flows ≡ Some change.now.flow }
         requires range { IfSome change.now.flow.sid (λ n. n ≤ 8191) }
         ensures value { result ≡ change_within_limit self.now tid change.now }
-        ensures puts { MayPut (table_of self.now) result }
+        ensures puts { MayPut (flow_table_of self.now) result }
     {
         // For the proof: what always holds of `self.flows`.
         self.flows.always();
@@ -262,7 +262,7 @@ impl MachineState {
     fn addition_verdict(&self, modem: Modem, tid: u16, encodings: &[FlowTlv]) -> Verdict
         ensures value { result ≡ addition_verdict self.now modem tid
             (addition_of self.now.consts (transaction modem Dsa tid) encodings.now) }
-        ensures puts { MayPut (table_of self.now) result }
+        ensures puts { MayPut (flow_table_of self.now) result }
     {
         let t = Transaction {
             modem,
@@ -280,7 +280,7 @@ impl MachineState {
         requires { HasOwnSids self.now }
         ensures value { result ≡ change_verdict self.now tid
             (change_of self.now.consts self.now.state.flows (transaction modem Dsc tid) encodings.now) }
-        ensures puts { MayPut (table_of self.now) result }
+        ensures puts { MayPut (flow_table_of self.now) result }
     {
         let t = Transaction {
             modem,
@@ -328,7 +328,7 @@ impl MachineState {
     pub(crate) fn verdict(&self, modem: Modem, request: &Request) -> Verdict
         requires { HasOwnSids self.now }
         ensures value { result ≡ verdict self.now modem request.now }
-        ensures puts { MayPut (table_of self.now) result }
+        ensures puts { MayPut (flow_table_of self.now) result }
     {
         match request {
             Request::Dsa { tid, flows } => self.addition_verdict(modem, *tid, flows.as_slice()),

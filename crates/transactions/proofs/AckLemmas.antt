@@ -39,6 +39,18 @@ OneEach-push entries e free one modem tid =
           omega arith
     ]
 
+-- an entry of a free pair that was kept before, into room that is there
+pub IsKept-put_back : {times : Waits} {capacity : ℕ} {entries : List KeptEntry} {reserved : ℕ} (e : KeptEntry) → find (is_of e.modem e.tid) entries ≡ None → length entries < capacity → HasTicks e → IsHeldUnsent e
+    → IsKept capacity times entries reserved → IsKept capacity times (entries ++ e ∷ []) reserved
+IsKept-put_back {entries = entries} e free few ticking held kept = record {
+  lasting = kept.lasting;
+  within = omega (arith, length_push entries e);
+  room = kept.room;
+  ticking = All-push HasTicks entries e kept.ticking ticking;
+  held = All-push IsHeldUnsent entries e kept.held held;
+  one_each = OneEach-push entries e free kept.one_each;
+}
+
 -- a new entry of a free pair, into room that is there
 module _ (times : Waits) (modem : Modem) (tid : ℕ) (kind : Kind) (reply : List ℕ) (sfid : ℕ) where
   HasTicks-begun : (waits : Bool) → IsLasting times → HasTicks (begun_entry times modem tid kind reply sfid waits)

@@ -7,7 +7,7 @@ use Rattle.dsx_messages.specs.declared.modem.Modem.{Modem}
 use Rattle.transactions.specs.declared.entry.KeptEntry.{KeptEntry}
 use Rattle.transactions.specs.Waits.{Waits, IsLasting}
 use Rattle.transactions.specs.Entry.{is_waiting}
-use Rattle.transactions.specs.Timers.{is_due, is_resent, is_given_up, is_forgotten, entry_after_tick}
+use Rattle.transactions.specs.Timers.{is_response_due, is_resent, is_given_up, is_forgotten, entry_after_tick}
 use Rattle.transactions.specs.Keeping.{begun_entry, held_entry}
 use Rattle.transactions.specs.Life.{after_ticks, WaitsInVain, IsOnlyHeld}
 
@@ -81,7 +81,7 @@ module _ (waits : Waits) where
         let wait = lasting.ack_wait in
         let last : waits.ack_wait - (waits.ack_wait - 1) ≡ 1 = omega arith in
         record {
-          between = λ k j le lt. ap is_due (at_tick k j waits.resends le (omega arith)) ∙ ne_eqb (waits.ack_wait - j) 1 (omega arith);
+          between = λ k j le lt. ap is_response_due (at_tick k j waits.resends le (omega arith)) ∙ ne_eqb (waits.ack_wait - j) 1 (omega arith);
           resent = λ k lt.
               ap is_resent (at_tick k (waits.ack_wait - 1) waits.resends (omega arith) (omega arith))
               ∙ and_from _ _ (and_from _ _ (eq-eqb _ 1 last) waiting) (lt-ltb 0 (waits.resends - k) (omega arith));
@@ -101,7 +101,7 @@ IsOnlyHeld-held_entry waits e lasting =
     let last : waits.hold - (waits.hold - 1) ≡ 1 = omega arith in
     let held = held_entry waits e in
     record {
-      before = λ j lt. ap is_due (ticks_within waits held 0 j waits.hold (omega arith)) ∙ ne_eqb (waits.hold - j) 1 (omega arith);
+      before = λ j lt. ap is_response_due (ticks_within waits held 0 j waits.hold (omega arith)) ∙ ne_eqb (waits.hold - j) 1 (omega arith);
       forgotten = ap is_forgotten (ticks_within waits held 0 (waits.hold - 1) waits.hold (omega arith) ∙ ap (λ (n : ℕ). counted held n 0) last);
       silent = λ j lt. ap is_waiting (ticks_within waits held 0 j waits.hold lt);
     }

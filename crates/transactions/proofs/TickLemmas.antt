@@ -7,7 +7,7 @@ use Rattle.dsx_messages.specs.declared.modem.Modem.{Modem}
 use Rattle.transactions.specs.declared.entry.KeptEntry.{KeptEntry}
 use Rattle.transactions.specs.Waits.{Waits}
 use Rattle.transactions.specs.Entry.{is_of, is_waiting}
-use Rattle.transactions.specs.Timers.{is_due, is_resent, is_given_up, is_forgotten, entry_after_tick, kept_after}
+use Rattle.transactions.specs.Timers.{is_response_due, is_resent, is_given_up, is_forgotten, entry_after_tick, kept_after}
 use Rattle.transactions.specs.Keeping.{HasTicks, IsHeldUnsent, IsKept}
 use Rattle.transactions.proofs.ListLemmas.{All-kept, count_by-kept}
 
@@ -20,8 +20,8 @@ module _ (waits : Waits) where
   -- an entry that is neither resent nor forgotten is not due
   not_due : (e : KeptEntry) → not (is_forgotten e) ≡ true → is_resent e ≡ false → e.ticks_left ≡ 1 → ⊥
   not_due e stays once last =
-      let due : is_due e ≡ true = eq-eqb e.ticks_left 1 last in
-      let kept = or_parts (is_given_up e) (is_due e && not (is_waiting e)) (not-true (is_forgotten e) stays) in
+      let due : is_response_due e ≡ true = eq-eqb e.ticks_left 1 last in
+      let kept = or_parts (is_given_up e) (is_response_due e && not (is_waiting e)) (not-true (is_forgotten e) stays) in
       elim (cases_Bool (is_waiting e)) [
         | inl waiting ↦ elim (cases_lt 0 e.resends_left) [
           | inl left ↦
@@ -29,7 +29,7 @@ module _ (waits : Waits) where
           | inr none ↦
               both_ways (is_given_up e) kept.0 (and_from _ _ (and_from _ _ due waiting) (eq-eqb e.resends_left 0 (omega arith)))
         ]
-        | inr held ↦ both_ways (is_due e && not (is_waiting e)) kept.1 (and_from _ _ due (not_from_false (is_waiting e) held))
+        | inr held ↦ both_ways (is_response_due e && not (is_waiting e)) kept.1 (and_from _ _ due (not_from_false (is_waiting e) held))
       ]
 
   -- an entry that is not forgotten has ticks left afterwards

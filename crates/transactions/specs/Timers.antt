@@ -7,20 +7,20 @@ use Rattle.transactions.specs.Waits.{Waits}
 use Rattle.transactions.specs.Entry.{is_waiting}
 
 -- the tick ends its time
-abbrev pub is_due : KeptEntry → Bool
-is_due e = e.ticks_left == 1
+abbrev pub is_response_due : KeptEntry → Bool
+is_response_due e = e.ticks_left == 1
 
 -- the tick retransmits its response: it is due, waits, and a resend is left
 abbrev pub is_resent : KeptEntry → Bool
-is_resent e = is_due e && is_waiting e && nat_lt 0 e.resends_left
+is_resent e = is_response_due e && is_waiting e && nat_lt 0 e.resends_left
 
 -- the tick abandons it: it is due, waits, and no resend is left
 abbrev pub is_given_up : KeptEntry → Bool
-is_given_up e = is_due e && is_waiting e && e.resends_left == 0
+is_given_up e = is_response_due e && is_waiting e && e.resends_left == 0
 
 -- the tick forgets it: it is abandoned, or it is due and held
 abbrev pub is_forgotten : KeptEntry → Bool
-is_forgotten e = is_given_up e || is_due e && not (is_waiting e)
+is_forgotten e = is_given_up e || is_response_due e && not (is_waiting e)
 
 -- an entry after the tick: where it is resent, it waits `ack_wait` ticks more with one resend less; else it has one tick less
 abbrev pub entry_after_tick : Waits → KeptEntry → KeptEntry

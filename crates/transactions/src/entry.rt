@@ -2,7 +2,7 @@
 
 ghost use Rattle.std.specs.Prelude.{◌≡◌, not, IfOk};
 ghost use Rattle.transactions.specs.Entry.{is_of, waits_for};
-ghost use Rattle.transactions.specs.Timers.{is_due, is_resent, is_given_up, is_forgotten, entry_after_tick};
+ghost use Rattle.transactions.specs.Timers.{is_response_due, is_resent, is_given_up, is_forgotten, entry_after_tick};
 ghost use Rattle.transactions.specs.Keeping.{begun_entry, held_entry};
 
 use crate::timers::Timers;
@@ -106,8 +106,8 @@ impl KeptEntry {
     }
 
     /// Returns whether the next tick ends its time.
-    pub(crate) fn is_due(&self) -> bool
-        ensures { result ≡ is_due self.now }
+    pub(crate) fn is_response_due(&self) -> bool
+        ensures { result ≡ is_response_due self.now }
     {
         self.ticks_left == 1
     }
@@ -116,14 +116,14 @@ impl KeptEntry {
     pub(crate) fn is_resent(&self) -> bool
         ensures { result ≡ is_resent self.now }
     {
-        self.is_due() && self.standing == ResponseState::Waiting && self.resends_left > 0
+        self.is_response_due() && self.standing == ResponseState::Waiting && self.resends_left > 0
     }
 
     /// Returns whether the next tick abandons it.
     pub(crate) fn is_given_up(&self) -> bool
         ensures { result ≡ is_given_up self.now }
     {
-        self.is_due() && self.standing == ResponseState::Waiting && self.resends_left == 0
+        self.is_response_due() && self.standing == ResponseState::Waiting && self.resends_left == 0
     }
 
     /// Returns whether the next tick forgets it: it is abandoned, or its last tick as a held entry
@@ -131,7 +131,7 @@ impl KeptEntry {
     pub(crate) fn is_forgotten(&self) -> bool
         ensures { result ≡ is_forgotten self.now }
     {
-        self.is_given_up() || self.is_due() && self.standing == ResponseState::Held
+        self.is_given_up() || self.is_response_due() && self.standing == ResponseState::Held
     }
 
     /// Counts one tick down, and where the response is retransmitted, begins the next wait. Returns

@@ -125,6 +125,19 @@ impl Kept {
         self.entries.push_reserved(entry);
     }
 
+    /// Puts back an entry that was kept before, after those that exist: its timer goes on from the
+    /// ticks that are left. The caller knows that there is room, that no entry of its modem and transaction ID
+    /// exists, that its time has not ended, and that no retransmission is left where it is held.
+    pub fn put_back(&mut self, saved: KeptEntry)
+        requires room { length self.old.entries < self.old.capacity }
+        requires free { IsNone (find (is_of saved.modem saved.tid) self.old.entries) }
+        requires ticking { HasTicks saved }
+        requires held { IsHeldUnsent saved }
+        ensures { self.new ≡ record self.old { entries = self.old.entries ++ saved ∷ [] } }
+    {
+        self.entries.push_reserved(saved);
+    }
+
     /// Takes an acknowledgement: the SFID of the entry that waited for it, which is only held from now on. `None` where no
     /// entry of this modem and transaction ID waits, or one of another kind; then all is as it was.
     pub fn acked(&mut self, modem: Modem, tid: u16, kind: Kind) -> Option<u32>

@@ -4,7 +4,7 @@ use Rattle.operator_book.proofs.opening.put_provisions.Given as goal
 
 abbrev pub invariant-loop-provision : goal.invariant-loop-provision
 invariant-loop-provision l = record {
-  flows : put_provisions l.consts l.row l.flows.flows (drop l.provision-index l.row.provisions) ≡ put_provisions l.consts l.row [] l.row.provisions;
+  flows : put_provisions l.frame l.consts l.row l.flows.flows (drop l.provision-index l.row.provisions) ≡ put_provisions l.frame l.consts l.row [] l.row.provisions;
   few : length l.flows.flows ≤ l.provision-index;
   capacity : l.flows.capacity ≡ l.fn.flows.capacity;
   units : l.flows.units ≡ l.fn.flows.units;
