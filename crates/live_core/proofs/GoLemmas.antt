@@ -43,7 +43,7 @@ use Rattle.plant_core.proofs.ReachLemmas.{step_acts}
 use Rattle.plant_core.proofs.PlaceLemmas.{seen_at, set_alike, set_seen}
 use Rattle.plant_core.specs.Putting.{FitsOldest, PutsOldest}
 use Rattle.live_core.specs.GoingOn.{forgotten, went, IsOf, GoesOn}
-use Rattle.live_core.specs.After.{IsAfter, IsAfterFrom, IsReachable}
+use Rattle.live_core.specs.After.{IsAfter, IsAfterFrom, IsReachableFromStart}
 use Rattle.live_core.proofs.AlikeLemmas.{same_fault, same_answer, alike_put, held_put, alike_resliced, held_resliced, may_too}
 
 -- ---- a book behind one without its history
@@ -150,7 +150,7 @@ after_more plant start before told step old new now valid goes so_far =
       is_of = done.2;
     }
 
-pub stepped_on : (step : Step) (old new : CoreView) (now : List Out) → IsPlant old.plant → new.plant ≡ old.plant → GoesOn (Steps step) old new now → ∥ IsReachable old ∥₁ → ∥ IsReachable new ∥₁
+pub stepped_on : (step : Step) (old new : CoreView) (now : List Out) → IsPlant old.plant → new.plant ≡ old.plant → GoesOn (Steps step) old new now → ∥ IsReachableFromStart old ∥₁ → ∥ IsReachableFromStart new ∥₁
 stepped_on step old new now valid same goes reached = ∥∥₁_map reached (λ r. (
   r.0,
   r.1 ++ step ∷ [],
@@ -166,7 +166,7 @@ acts_step step op action old new now goal goes = λ core is.
 -- ---- what the core that has the histories knows
 
 none_refused : (plant : PlantFields) (gathering : Gathering) (lives : List BookView) (queues : List (List (ℕ × ElementsFields))) (op frame : ℕ) (part : ElementsFields) (rest : List (ℕ × ElementsFields)) (fault : GatherFault)
-    → IsPlant plant → ∥ IsReachable (core_of plant lives queues gathering) ∥₁ → slice_get queues op ≡ Some ((frame, part) ∷ rest) → put_fault gathering op frame part ≡ Some fault → ⊥
+    → IsPlant plant → ∥ IsReachableFromStart (core_of plant lives queues gathering) ∥₁ → slice_get queues op ≡ Some ((frame, part) ∷ rest) → put_fault gathering op frame part ≡ Some fault → ⊥
 none_refused plant gathering lives queues op frame part rest fault valid reached there refused =
     ∥∥₁_elim reached (λ x y. absurd x) (λ r.
     let core = r.3.core in
@@ -176,7 +176,7 @@ none_refused plant gathering lives queues op frame part rest fault valid reached
 
 -- the assembly takes each frame that waits longest
 pub oldest_fits : (plant : PlantFields) (gathering : Gathering) (lives : List BookView) (queues : List (List (ℕ × ElementsFields))) (op : ℕ) (waiting : List (ℕ × ElementsFields))
-    → IsPlant plant → ∥ IsReachable (core_of plant lives queues gathering) ∥₁ → slice_get queues op ≡ Some waiting → FitsOldest op waiting gathering
+    → IsPlant plant → ∥ IsReachableFromStart (core_of plant lives queues gathering) ∥₁ → slice_get queues op ≡ Some waiting → FitsOldest op waiting gathering
 oldest_fits plant gathering lives queues op waiting valid reached there = λ frame part rest front.
     by frame part rest (there ∙ ap (λ (fs : List (ℕ × ElementsFields)). Some fs) front) (put_fault gathering op frame part) refl
   where
@@ -186,7 +186,7 @@ oldest_fits plant gathering lives queues op waiting valid reached there = λ fra
 
 -- the desk of a place puts its oldest frame, and has its book as before
 pub desk_collects : {X : Type 0} (book : X → BookView) (waits : X → List (ℕ × ElementsFields)) (plant : PlantFields) (old put new : Gathering) (desks : List X) (n op : ℕ) (desk after : X) (made : Option MapBytes)
-    → IsPlant plant → ∥ IsReachable (core_of plant (map book desks) (map waits desks) old) ∥₁ → n ≡ length desks → op < n → desk ≡ get_or desks op desk
+    → IsPlant plant → ∥ IsReachableFromStart (core_of plant (map book desks) (map waits desks) old) ∥₁ → n ≡ length desks → op < n → desk ≡ get_or desks op desk
     → PutsOldest op (waits desk) (waits after) old put made → book after ≡ book desk → GoesOnAlike put new → IsGathering new
     → GoesOn (Collects op) (core_of plant (map book desks) (map waits desks) old) (core_of plant (map book (slice_set desks op after)) (map waits (slice_set desks op after)) new) (told_map made)
 desk_collects book waits plant old put new desks n op desk after made valid reached long within at puts same on held =
@@ -282,7 +282,7 @@ may_prop : (g : Gathering) (from : ℕ) (slices : List Minislots) → IsProp (Ma
 may_prop g from slices = hlevel props
 
 pub may_take : (plant : PlantFields) (gathering : Gathering) (lives : List BookView) (queues : List (List (ℕ × ElementsFields))) (from : ℕ) (rows : List SliceRow) → IsPlant plant
-    → ∥ IsReachable (core_of plant lives queues gathering) ∥₁ → reslice_fault from lives rows ≡ None → MayReslice gathering from (map slice_of rows)
+    → ∥ IsReachableFromStart (core_of plant lives queues gathering) ∥₁ → reslice_fault from lives rows ≡ None → MayReslice gathering from (map slice_of rows)
 may_take plant gathering lives queues from rows valid reached none =
     ∥∥₁_elim reached (may_prop gathering from (map slice_of rows)) (λ r.
     let core = r.3.core in

@@ -11,3 +11,4 @@ pub mod OpenLemmas
 pub mod RestLemmas
 pub mod ResumeFaultLemmas
 pub mod ChangedLemmas
+pub mod RestFaultLemmas

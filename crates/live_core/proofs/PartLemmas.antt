@@ -24,14 +24,14 @@ use Rattle.plant_core.specs.Reachable.{core_of, IsOfAStep}
 use Rattle.plant_core.proofs.PlaceLemmas.{seen_at, set_alike}
 use Rattle.plant_core.proofs.StepLemmas.{same_view}
 use Rattle.live_core.specs.GoingOn.{went, IsOf, GoesOn}
-use Rattle.live_core.specs.After.{IsReachable}
+use Rattle.live_core.specs.After.{IsReachableFromStart}
 use Rattle.live_core.proofs.GoLemmas.{acts_on, acts_step, stepped_on}
 
-pub same_plant : (new old : PlantFields) (lives : List BookView) (queues : List (List (ℕ × ElementsFields))) (gathering : Gathering) → new ≡ old → ∥ IsReachable (core_of old lives queues gathering) ∥₁ → ∥ IsReachable (core_of new lives queues gathering) ∥₁
-same_plant new old lives queues gathering same reached = subst (λ (p : PlantFields). ∥ IsReachable (core_of p lives queues gathering) ∥₁) (sym same) reached
+pub same_plant : (new old : PlantFields) (lives : List BookView) (queues : List (List (ℕ × ElementsFields))) (gathering : Gathering) → new ≡ old → ∥ IsReachableFromStart (core_of old lives queues gathering) ∥₁ → ∥ IsReachableFromStart (core_of new lives queues gathering) ∥₁
+same_plant new old lives queues gathering same reached = subst (λ (p : PlantFields). ∥ IsReachableFromStart (core_of p lives queues gathering) ∥₁) (sym same) reached
 
-pub same_gathering : (plant : PlantFields) (lives : List BookView) (queues : List (List (ℕ × ElementsFields))) (new old : Gathering) → new ≡ old → ∥ IsReachable (core_of plant lives queues old) ∥₁ → ∥ IsReachable (core_of plant lives queues new) ∥₁
-same_gathering plant lives queues new old same reached = subst (λ (g : Gathering). ∥ IsReachable (core_of plant lives queues g) ∥₁) (sym same) reached
+pub same_gathering : (plant : PlantFields) (lives : List BookView) (queues : List (List (ℕ × ElementsFields))) (new old : Gathering) → new ≡ old → ∥ IsReachableFromStart (core_of plant lives queues old) ∥₁ → ∥ IsReachableFromStart (core_of plant lives queues new) ∥₁
+same_gathering plant lives queues new old same reached = subst (λ (g : Gathering). ∥ IsReachableFromStart (core_of plant lives queues g) ∥₁) (sym same) reached
 
 pub same_begun : (new old : Gathering) → new ≡ old → has_begun old ≡ false → has_begun new ≡ false
 same_begun new old same fresh = ap (λ (g : Gathering). has_begun g) same ∙ fresh
@@ -44,8 +44,8 @@ desk_same book waits plant new old desks n op desk after long within at books wa
     core_of plant (set_alike book desks op after (book desk) (seen_at book desks n op desk long within at) books k)
     (set_alike waits desks op after (waits desk) (seen_at waits desks n op desk long within at) waiting k) (same k)
 
-pub reached_again : (new old : CoreView) → new ≡ old → ∥ IsReachable old ∥₁ → ∥ IsReachable new ∥₁
-reached_again new old same reached = subst (λ (core : CoreView). ∥ IsReachable core ∥₁) (sym same) reached
+pub reached_again : (new old : CoreView) → new ≡ old → ∥ IsReachableFromStart old ∥₁ → ∥ IsReachableFromStart new ∥₁
+reached_again new old same reached = subst (λ (core : CoreView). ∥ IsReachableFromStart core ∥₁) (sym same) reached
 
 -- whether the desk did it or refused it
 pub acted_reaches : {A E : Type 0} (result : Result A E) (plant : PlantFields) (gathering : Gathering) (lives lives' : List BookView) (queues queues' : List (List (ℕ × ElementsFields)))
@@ -54,7 +54,7 @@ pub acted_reaches : {A E : Type 0} (result : Result A E) (plant : PlantFields) (
     → OnOk result (IsAllowed (operator b.consts b.row b.state) action)
     → OnOk result (lives' ≡ slice_set lives op (went b action)) → OnOk result (queues' ≡ slice_set queues op (waiting ++ frames_of (own_step (operator b.consts b.row b.state) action).outputs))
     → OnErr result (lives' ≡ lives) → OnErr result (queues' ≡ queues)
-    → ∥ IsReachable (core_of plant lives queues gathering) ∥₁ → ∥ IsReachable (core_of plant lives' queues' gathering) ∥₁
+    → ∥ IsReachableFromStart (core_of plant lives queues gathering) ∥₁ → ∥ IsReachableFromStart (core_of plant lives' queues' gathering) ∥₁
 acted_reaches (Ok x) plant gathering lives lives' queues queues' op action b waiting valid goal there waits allowed new_lives new_queues same_lives same_queues reached =
     let outs = outputs_under op (own_step (operator b.consts b.row b.state) action).outputs in
     stepped_on goal.0 (core_of plant lives queues gathering) (core_of plant lives' queues' gathering) outs valid refl
@@ -62,7 +62,7 @@ acted_reaches (Ok x) plant gathering lives lives' queues queues' op action b wai
     (acts_on plant gathering lives lives' queues queues' op action b waiting outs there waits allowed new_lives new_queues refl))
     reached
 acted_reaches (Err y) plant gathering lives lives' queues queues' op action b waiting valid goal there waits allowed new_lives new_queues same_lives same_queues reached =
-    subst (λ (core : CoreView). ∥ IsReachable core ∥₁) (sym (same_view plant gathering lives lives' queues queues' same_lives same_queues)) reached
+    subst (λ (core : CoreView). ∥ IsReachableFromStart core ∥₁) (sym (same_view plant gathering lives lives' queues queues' same_lives same_queues)) reached
 
 pub acts_on_if : {A E : Type 0} (result : Result A E) (plant : PlantFields) (gathering : Gathering) (lives lives' : List BookView) (queues queues' : List (List (ℕ × ElementsFields)))
     (op : ℕ) (action : Action) (b : BookView) (waiting : List (ℕ × ElementsFields)) (outs outs' : List Out)

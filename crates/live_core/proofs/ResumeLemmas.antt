@@ -30,7 +30,7 @@ use Rattle.run_model.specs.Opened.{started_book, started_core, gathering_from}
 use Rattle.run_model.specs.IsStateAfter.{CoreView}
 use Rattle.plant_core.specs.Reachable.{core_of}
 use Rattle.slice_scheduler.specs.declared.elements.ElementsFields.{ElementsFields}
-use Rattle.live_core.specs.After.{IsAfterFrom, IsReachable}
+use Rattle.live_core.specs.After.{IsAfterFrom, IsReachableFromStart}
 use Rattle.live_core.proofs.GoLemmas.{started_after}
 use Rattle.run_model.proofs.Entries.{some_at}
 use Rattle.run_model.proofs.OwnFrames.{at_place}
@@ -330,7 +330,7 @@ module _ {X : Type 0} (see : X → Operator) (plant routes : PlantFields) (frame
       subst (λ (v : CoreView). IsAfterFrom plant begun_with [] [] v) (sym resumed_view)
       (started_after plant begun_with valid (resumed_starts plant frame (map see lives) valid may) (subst IsGathering g held))
 
-  pub resumed_reaches : ∥ IsReachable (core_of routes books queues gathering) ∥₁
+  pub resumed_reaches : ∥ IsReachableFromStart (core_of routes books queues gathering) ∥₁
   resumed_reaches = ∣ (begun_with, [], [], subst (λ (p : PlantFields). IsAfterFrom p begun_with [] [] (core_of routes books queues gathering)) (sym r) resumed_after) ∣₁
 
   pub resumed_fresh : has_begun gathering ≡ false

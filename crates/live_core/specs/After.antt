@@ -23,12 +23,12 @@ abbrev pub IsAfter : PlantFields → List Step → List Out → CoreView → Typ
 IsAfter plant steps outs live = IsAfterFrom plant (first_start plant) steps outs live
 
 -- some run of its plant leads to it
-abbrev pub IsReachable : CoreView → Type 0
-IsReachable live = (start : Start) × (steps : List Step) × (outs : List Out) × IsAfterFrom live.plant start steps outs live
+abbrev pub IsReachableFromStart : CoreView → Type 0
+IsReachableFromStart live = (start : Start) × (steps : List Step) × (outs : List Out) × IsAfterFrom live.plant start steps outs live
 
 -- after whatever start, steps and outputs led to the one live core, these more lead to the other
-abbrev pub LeadsOn : CoreView → List Step → List Out → CoreView → Type 0
-LeadsOn old steps outs new =
+abbrev pub LeadsOnFromStart : CoreView → List Step → List Out → CoreView → Type 0
+LeadsOnFromStart old steps outs new =
     (start : Start) (before : List Step) (told : List Out) → IsAfterFrom old.plant start before told old → IsAfterFrom old.plant start (before ++ steps) (told ++ outs) new
 
 -- this holds of a plant, its start, steps and outputs, whatever they are that led to the live core

@@ -10,7 +10,7 @@ use Rattle.run_model.specs.Starts.{Start}
 use Rattle.map_assembly.specs.Gathering.{IsGathering}
 use Rattle.run_model.specs.Opened.{gathering_from}
 use Rattle.run_model.specs.IsStateAfter.{CoreView}
-use Rattle.run_model.specs.Changing.{IsChanged}
+use Rattle.run_model.specs.Changing.{IsPlantChange}
 use Rattle.live_core.specs.After.{IsAfterFrom}
 use Rattle.live_core.specs.Resumed.{start_with, MayResume}
 use Rattle.live_core.specs.Resting.{Rests}
@@ -25,4 +25,4 @@ pub record ComeFrom (live : CoreView) (plant : PlantFields) (frame : ℕ) (ops :
 abbrev pub ResumedIsChanged : Type 0
 ResumedIsChanged = (plant next : PlantFields) (start : Start) (steps : List Step) (outs : List Out) (live : CoreView) (frame : ℕ) (ops : List Operator)
     → IsAfterFrom plant start steps outs live → Rests live frame → IsPlant next → next.consts ≡ plant.consts → MayResume next frame ops → IsGathering (gathering_from next (start_with next frame ops)) → ComeFrom live next frame ops
-    → IsChanged (record { plant = plant; start = start; steps = steps; outs = outs }) (record { plant = next; start = start_with next frame ops; steps = []; outs = [] })
+    → IsPlantChange (record { plant = plant; start = start; steps = steps; outs = outs }) (record { plant = next; start = start_with next frame ops; steps = []; outs = [] })

@@ -3,8 +3,8 @@ use Rattle.std.specs.Prelude.{map}
 use Rattle.run_model.specs.IsStateAfter.{CoreView}
 use Rattle.plant_core.specs.Reachable.{core_of}
 use Rattle.live_core.specs.declared.held.LiveCore.{LiveCore}
-use Rattle.live_core.specs.DeskView.{book_at, waiting_at}
+use Rattle.live_core.specs.DeskView.{slot_book, slot_waiting}
 
 -- a core of which the histories are forgotten
 abbrev pub live_view : {D : Type 0} {F : D → Type 0} {m : _} → LiveCore D F m → CoreView
-live_view core = core_of core.routes (map book_at core.desks.items) (map waiting_at core.desks.items) core.gather
+live_view core = core_of core.routes (map slot_book core.desks.items) (map slot_waiting core.desks.items) core.gather

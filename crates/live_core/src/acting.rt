@@ -1,13 +1,13 @@
 //! What is done to an operator's live desk.
 
-ghost use Rattle.std.specs.Prelude.{◌≡◌, ◌≢◌, ◌↔◌, ◌<◌, false, [], ◌++◌, length, slice_get, Some, Err, IfOk, IfErr, OnOk, OnErr};
+ghost use Rattle.std.specs.Prelude.{◌≡◌, ◌≢◌, ◌<◌, true, false, [], ◌++◌, length, slice_get, Some, Err, IfOk, IfErr, OnOk, OnErr};
 ghost use Rattle.operator_model.specs.Frames.{is_tick};
 ghost use Rattle.operator_model.specs.Machine.{own_step, is_spent, IsAllowed};
 ghost use Rattle.run_model.specs.OwnSteps.{outputs_under};
 ghost use Rattle.run_model.specs.IsStateAfter.{frames_of};
 ghost use Rattle.plant_core.specs.Faults.{act_fault, collect_fault, IsReported};
 ghost use Rattle.live_core.specs.GoingOn.{went};
-ghost use Rattle.live_core.specs.DeskView.{book_at, waiting_at};
+ghost use Rattle.live_core.specs.DeskView.{slot_book, slot_waiting};
 ghost use Rattle.plant_core.specs.Putting.{FitsOldest, PutsOldest, CollectsOldest};
 
 use crate::desk::LiveSlot;
@@ -35,7 +35,8 @@ fn frame_in(outputs: Vec<Output>) -> Option<(u32, Elements)>
 /// Returns how many copies of an action's outputs are needed. A tick needs two: one is returned, and
 /// the frame of the other waits. No other action outputs a frame.
 fn copies_for(action: &Action) -> Copies
-    ensures { result ≡ Copies.One → is_tick action.now ≡ false }
+    ensures one { result ≡ Copies.One → is_tick action.now ≡ false }
+    ensures two { result ≡ Copies.Two → is_tick action.now ≡ true }
 {
     match action {
         Action::Tick => Copies::Two,
@@ -52,14 +53,14 @@ impl LiveSlot {
     #[inline(always)]
     pub fn act(&mut self, alloc: Global, action: Action) -> Result<Vec<Output>, BookFault>
         requires fresh { is_spent self.old.live.sound.state action ≡ false }
-        ensures book { OnOk result (book_at self.new ≡ went (book_at self.old) action) }
-        ensures waiting { OnOk result (waiting_at self.new ≡ waiting_at self.old
+        ensures book { OnOk result (slot_book self.new ≡ went (slot_book self.old) action) }
+        ensures waiting { OnOk result (slot_waiting self.new ≡ slot_waiting self.old
             ++ frames_of (own_step self.old.live.sound action).outputs) }
         ensures outputs { IfOk result (λ outputs. outputs.items
             ≡ (own_step self.old.live.sound action).outputs) }
         ensures allowed { OnOk result (IsAllowed self.old.live.sound action) }
-        ensures same_book { OnErr result (book_at self.new ≡ book_at self.old) }
-        ensures same_waiting { OnErr result (waiting_at self.new ≡ waiting_at self.old) }
+        ensures same_book { OnErr result (slot_book self.new ≡ slot_book self.old) }
+        ensures same_waiting { OnErr result (slot_waiting self.new ≡ slot_waiting self.old) }
 
         // Where the machine allows it, only memory can be wanting.
         ensures memory { IsAllowed self.old.live.sound action → IfErr result (λ fault. fault ≡ BookFault.NoMemory) }
@@ -87,16 +88,16 @@ impl LiveSlot {
         action: Action,
         outs: &mut Vec<Out>,
     ) -> Result<(), CoreFault>
-        ensures book { OnOk result (book_at self.new ≡ went (book_at self.old) action) }
-        ensures waiting { OnOk result (waiting_at self.new ≡ waiting_at self.old
+        ensures book { OnOk result (slot_book self.new ≡ went (slot_book self.old) action) }
+        ensures waiting { OnOk result (slot_waiting self.new ≡ slot_waiting self.old
             ++ frames_of (own_step self.old.live.sound action).outputs) }
         ensures outputs { OnOk result (outs.new.items ≡ outs.old.items
             ++ outputs_under op (own_step self.old.live.sound action).outputs) }
         ensures allowed { OnOk result (IsAllowed self.old.live.sound action) }
         ensures outs { OnErr result (outs.new.items ≡ outs.old.items) }
-        ensures same_book { OnErr result (book_at self.new ≡ book_at self.old) }
-        ensures same_waiting { OnErr result (waiting_at self.new ≡ waiting_at self.old) }
-        ensures fault { IsReported result (act_fault op action (Some (book_at self.old))) }
+        ensures same_book { OnErr result (slot_book self.new ≡ slot_book self.old) }
+        ensures same_waiting { OnErr result (slot_waiting self.new ≡ slot_waiting self.old) }
+        ensures fault { IsReported result (act_fault op action (Some (slot_book self.old))) }
     {
         if self.live.is_spent(&action) {
             return Err(CoreFault::Book(BookFault::FramesSpent));
@@ -121,11 +122,11 @@ impl LiveSlot {
         op: Op,
         gather: &mut Gather,
     ) -> Result<Option<MapBytes>, AllocError>
-        requires waits { 0 < length (waiting_at self.old) }
-        requires fits { FitsOldest op (waiting_at self.old) gather.old }
-        ensures ok { IfOk result (PutsOldest op (waiting_at self.old) (waiting_at self.new) gather.old gather.new) }
-        ensures book { book_at self.new ≡ book_at self.old }
-        ensures same_waiting { OnErr result (waiting_at self.new ≡ waiting_at self.old) }
+        requires waits { 0 < length (slot_waiting self.old) }
+        requires fits { FitsOldest op (slot_waiting self.old) gather.old }
+        ensures ok { IfOk result (PutsOldest op (slot_waiting self.old) (slot_waiting self.new) gather.old gather.new) }
+        ensures book { slot_book self.new ≡ slot_book self.old }
+        ensures same_waiting { OnErr result (slot_waiting self.new ≡ slot_waiting self.old) }
         ensures same_gather { OnErr result (gather.new ≡ gather.old) }
     {
         let (number, elements) = self.waiting.pop_front().unwrap();
@@ -148,14 +149,14 @@ impl LiveSlot {
         gather: &mut Gather,
         outs: &mut Vec<Out>,
     ) -> Result<(), CoreFault>
-        requires { FitsOldest op (waiting_at self.old) gather.old }
-        ensures ok { OnOk result (CollectsOldest op (waiting_at self.old) (waiting_at self.new) gather.old gather.new
+        requires { FitsOldest op (slot_waiting self.old) gather.old }
+        ensures ok { OnOk result (CollectsOldest op (slot_waiting self.old) (slot_waiting self.new) gather.old gather.new
             outs.old.items outs.new.items) }
-        ensures book { book_at self.new ≡ book_at self.old }
+        ensures book { slot_book self.new ≡ slot_book self.old }
         ensures outs { OnErr result (outs.new.items ≡ outs.old.items) }
-        ensures same_waiting { OnErr result (waiting_at self.new ≡ waiting_at self.old) }
+        ensures same_waiting { OnErr result (slot_waiting self.new ≡ slot_waiting self.old) }
         ensures same_gather { OnErr result (gather.new ≡ gather.old) }
-        ensures fault { IsReported result (collect_fault op (Some (waiting_at self.old))) }
+        ensures fault { IsReported result (collect_fault op (Some (slot_waiting self.old))) }
     {
         if self.waiting.is_empty() {
             return Err(CoreFault::NothingToCollect { op });

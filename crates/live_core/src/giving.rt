@@ -6,7 +6,7 @@ ghost use Rattle.operator_model.specs.Machine.{unfit_from};
 ghost use Rattle.run_model.specs.Steps.{Reslices, NoneRefuses};
 ghost use Rattle.plant_core.specs.Reslicing.{reslice_fault};
 ghost use Rattle.plant_core.specs.Giving.{HaveTakenAs};
-ghost use Rattle.live_core.specs.DeskView.{book_at, waiting_at};
+ghost use Rattle.live_core.specs.DeskView.{slot_book, slot_waiting};
 ghost use Rattle.live_core.specs.GoingOn.{went, GoesOn};
 ghost use Rattle.live_core.specs.LiveView.{live_view};
 
@@ -20,8 +20,8 @@ impl LiveSlot {
     /// Takes a row from a later frame on. Takes no memory.
     fn reslice(&mut self, from: u32, row: SliceRow)
         requires { unfit_from self.old.live.sound from row ≡ None }
-        ensures book { book_at self.new ≡ went (book_at self.old) (actions.Reslice from row) }
-        ensures waiting { waiting_at self.new ≡ waiting_at self.old }
+        ensures book { slot_book self.new ≡ went (slot_book self.old) (actions.Reslice from row) }
+        ensures waiting { slot_waiting self.new ≡ slot_waiting self.old }
     {
         self.live.reslice(from, row);
     }
@@ -30,10 +30,10 @@ impl LiveSlot {
 /// Gives each operator its row of a slice change. Takes no memory.
 fn give(desks: &mut Vec<LiveSlot>, from: u32, rows: &[SliceRow])
     requires one_each { length rows.now ≡ vec_len desks.old }
-    requires fit { NoneRefuses from (map book_at desks.old.items) rows.now }
+    requires fit { NoneRefuses from (map slot_book desks.old.items) rows.now }
     ensures books { HaveTakenAs (λ book row. went book (actions.Reslice from row)) rows.now
-        (map book_at desks.old.items) (map book_at desks.new.items) }
-    ensures waiting { map waiting_at desks.new.items ≡ map waiting_at desks.old.items }
+        (map slot_book desks.old.items) (map slot_book desks.new.items) }
+    ensures waiting { map slot_waiting desks.new.items ≡ map slot_waiting desks.old.items }
 {
     for (op, row) in rows.iter().enumerate() {
         desks[op].reslice(from, *row);

@@ -3,8 +3,8 @@
 ghost use Rattle.std.specs.Prelude.{◌≡◌, false, map};
 ghost use Rattle.map_assembly.specs.LettingGo.{has_begun};
 ghost use Rattle.plant_core.specs.Reachable.{core_of};
-ghost use Rattle.live_core.specs.DeskView.{book_at, waiting_at};
-ghost use Rattle.live_core.specs.After.{IsReachable};
+ghost use Rattle.live_core.specs.DeskView.{slot_book, slot_waiting};
+ghost use Rattle.live_core.specs.After.{IsReachableFromStart};
 
 use crate::desk::LiveSlot;
 use map_assembly::Gather;
@@ -25,7 +25,7 @@ pub struct LiveCore {
     pub(crate) desks: Vec<LiveSlot>,
     pub(crate) gather: Gather,
     ghost let_go: { has_begun gather ≡ false },
-    ghost reached: { ∥ IsReachable (core_of routes (map book_at desks.items) (map waiting_at desks.items) gather) ∥₁ },
+    ghost reached: { ∥ IsReachableFromStart (core_of routes (map slot_book desks.items) (map slot_waiting desks.items) gather) ∥₁ },
 }
 
 /// Written out, so that the crates above prove nothing of how the parts of a core are dropped.

@@ -1,13 +1,15 @@
 //! What a live core always keeps.
 
-ghost use Rattle.std.specs.Prelude.{◌≡◌, false};
+ghost use Rattle.std.specs.Prelude.{◌≡◌, ◌≤◌, false, length, option_map, slice_get};
 ghost use Rattle.plant.specs.Plant.{IsPlant};
 ghost use Rattle.map_assembly.specs.Gathering.{IsGathering};
 ghost use Rattle.map_assembly.specs.LettingGo.{has_begun};
+ghost use Rattle.live_core.specs.DeskView.{book_of};
 ghost use Rattle.live_core.specs.LiveView.{live_view};
 
 use crate::held::LiveCore;
-use plant::Plant;
+use operator_book::Machine;
+use plant::{Op, Plant};
 
 impl LiveCore {
     /// States that the plant is valid, what is gathered is as the assembly always keeps it, and no
@@ -23,10 +25,31 @@ impl LiveCore {
         self.gather.always();
     }
 
+    /// States that there is a machine for each row of the plant, with a queue of its frames that
+    /// wait, and at least one. Does nothing.
+    pub fn always_one_each(&self)
+        ensures books { length (live_view self.now).books ≡ length (live_view self.now).plant.rows }
+        ensures queues { length (live_view self.now).queues ≡ length (live_view self.now).plant.rows }
+        ensures some { 1 ≤ length (live_view self.now).books }
+    {
+        // For the proof: a plant has an operator.
+        self.always();
+    }
+
     /// Returns the plant that was opened.
     pub fn plant(&self) -> &Plant
         ensures { result.now ≡ (live_view self.now).plant }
     {
         self.routes.plant()
+    }
+
+    /// Returns the machine of the operator at this place, or nothing past the last operator.
+    pub fn machine(&self, op: Op) -> Option<&Machine>
+        ensures { option_map (λ machine. book_of machine.now.sound) result ≡ slice_get (live_view self.now).books op }
+    {
+        match self.desks.get(op) {
+            Some(desk) => Some(&desk.live),
+            None => None,
+        }
     }
 }

@@ -10,6 +10,8 @@ mod judging;
 mod keeping;
 mod laws;
 mod opening;
+mod rest_fault;
+mod resting;
 mod resume_fault;
 mod resuming;
 mod stepping;
@@ -19,4 +21,5 @@ pub use laws::{
     books_stand_now, faults_are_the_same, live_run_is_shown, resting_core_is_at_rest,
     resumed_is_changed, started_core_is_after, step_goes_on, two_live_cores, two_resumed_cores,
 };
+pub use rest_fault::RestFault;
 pub use resume_fault::ResumeFault;

@@ -6,7 +6,7 @@ ghost use Rattle.operator_model.specs.Sound.{IsSound};
 ghost use Rattle.map_assembly.specs.Plan.{AreSlices};
 ghost use Rattle.map_assembly.specs.Gathering.{IsGathering};
 ghost use Rattle.run_model.specs.Opened.{gathering_from, started_core};
-ghost use Rattle.live_core.specs.DeskView.{book_of, book_at, waiting_at};
+ghost use Rattle.live_core.specs.DeskView.{book_of, slot_book, slot_waiting};
 ghost use Rattle.live_core.specs.After.{IsAfterFrom};
 ghost use Rattle.live_core.specs.LiveOperator.{sound_of, row_of, current_slice, later_at, book_by, IsSoundAt, Shares, IsAtFrame, WaitsFrom, IsOdd};
 ghost use Rattle.live_core.specs.LiveView.{live_view};
@@ -92,8 +92,8 @@ fn later_slices(alloc: Global, lives: &[Machine]) -> Result<Vec<Slice>, AllocErr
 
 /// Returns a desk for each operator, at which no frame waits.
 fn desks_of(alloc: Global, lives: Vec<Machine>) -> Result<Vec<LiveSlot>, AllocError>
-    ensures books { IfOk result (λ desks. map book_at desks.items ≡ map book_by lives.items) }
-    ensures queues { IfOk result (λ desks. map waiting_at desks.items ≡ replicate (length lives.items) []) }
+    ensures books { IfOk result (λ desks. map slot_book desks.items ≡ map book_by lives.items) }
+    ensures queues { IfOk result (λ desks. map slot_waiting desks.items ≡ replicate (length lives.items) []) }
 {
     let mut desks = Vec::with_capacity(alloc, lives.len())?;
     for live in lives {

@@ -8,7 +8,7 @@ ghost use Rattle.run_model.specs.Steps.{Acts, Collects, Steps};
 ghost use Rattle.plant_core.specs.Faults.{act_fault, collect_fault, step_fault, IsReported};
 ghost use Rattle.plant_core.specs.Reachable.{IsOfAStep};
 ghost use Rattle.live_core.specs.GoingOn.{GoesOn};
-ghost use Rattle.live_core.specs.After.{LeadsOn};
+ghost use Rattle.live_core.specs.After.{LeadsOnFromStart};
 ghost use Rattle.live_core.specs.LiveView.{live_view};
 
 use crate::held::LiveCore;
@@ -117,6 +117,7 @@ impl LiveCore {
     }
 
     /// Does one step, whose outputs replace those that are in `outs`. A refused step changes nothing of the core, and has no outputs.
+    #[inline(always)]
     pub fn step_over(
         &mut self,
         alloc: Global,
@@ -124,7 +125,7 @@ impl LiveCore {
         outs: &mut Vec<Out>,
     ) -> Result<(), CoreFault>
         ensures ok { OnOk result (GoesOn (Steps step) (live_view self.old) (live_view self.new) outs.new.items) }
-        ensures reached { OnOk result (LeadsOn (live_view self.old) (step ∷ []) outs.new.items (live_view self.new)) }
+        ensures reached { OnOk result (LeadsOnFromStart (live_view self.old) (step ∷ []) outs.new.items (live_view self.new)) }
         ensures err { OnErr result (live_view self.new ≡ live_view self.old) }
         ensures outs { OnErr result (outs.new.items ≡ []) }
         ensures fault { IsReported result (step_fault (live_view self.old) step) }
@@ -139,7 +140,7 @@ impl LiveCore {
     /// Returns one step, and what it outputs. A refused step changes nothing.
     pub fn step(&mut self, alloc: Global, step: Step) -> Result<Vec<Out>, CoreFault>
         ensures ok { IfOk result (λ outs. GoesOn (Steps step) (live_view self.old) (live_view self.new) outs.items) }
-        ensures reached { IfOk result (λ outs. LeadsOn (live_view self.old) (step ∷ []) outs.items (live_view self.new)) }
+        ensures reached { IfOk result (λ outs. LeadsOnFromStart (live_view self.old) (step ∷ []) outs.items (live_view self.new)) }
         ensures err { OnErr result (live_view self.new ≡ live_view self.old) }
         ensures fault { IsReported result (step_fault (live_view self.old) step) }
     {

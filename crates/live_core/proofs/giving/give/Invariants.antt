@@ -1,8 +1,8 @@
-use Rattle.live_core.specs.DeskView.{book_at, waiting_at}
+use Rattle.live_core.specs.DeskView.{slot_book, slot_waiting}
 use Rattle.plant_core.proofs.GiveLemmas.{HaveTakenSoFar}
 use Rattle.operator_model.specs.declared.action.Action.TheVariants as actions
 use Rattle.live_core.specs.GoingOn.{went}
 use Rattle.live_core.proofs.giving.give.Given as goal
 
 abbrev pub invariant-loop-op : goal.invariant-loop-op
-invariant-loop-op g l = HaveTakenSoFar book_at waiting_at (λ b row. went b (actions.Reslice l.from row)) l.rows l.initial.desks.items l.desks.items l.op
+invariant-loop-op g l = HaveTakenSoFar slot_book slot_waiting (λ b row. went b (actions.Reslice l.from row)) l.rows l.initial.desks.items l.desks.items l.op

@@ -1,7 +1,7 @@
 use Rattle.std.proofs.Common.{◌≡◌, ◌+◌, ◌++◌, [], length, map, vec_len}
 use Rattle.std.specs.Prelude.{replicate}
 use Rattle.std.specs.Vec.Iter.{into_iter_items, into_iter_len}
-use Rattle.live_core.specs.DeskView.{book_at, waiting_at}
+use Rattle.live_core.specs.DeskView.{slot_book, slot_waiting}
 use Rattle.live_core.specs.LiveOperator.{book_by}
 use Rattle.live_core.proofs.resuming.desks_of.Given as goal
 
@@ -9,8 +9,8 @@ abbrev pub invariant-loop-live : goal.invariant-loop-live
 invariant-loop-live g l = record {
   next : (goal.iterator-loop-live g).can_next l.live-iterator;
   finite : (goal.iterator-loop-live g).is_finite l.live-iterator;
-  books : map book_at l.desks.items ++ map book_by (into_iter_items l.live-iterator) ≡ map book_by l.fn.lives.items;
-  queues : map waiting_at l.desks.items ≡ replicate (vec_len l.desks) [];
+  books : map slot_book l.desks.items ++ map book_by (into_iter_items l.live-iterator) ≡ map book_by l.fn.lives.items;
+  queues : map slot_waiting l.desks.items ≡ replicate (vec_len l.desks) [];
   count : vec_len l.desks + length (into_iter_items l.live-iterator) ≡ length l.fn.lives.items;
   left : into_iter_len l.live-iterator ≡ length (into_iter_items l.live-iterator);
 }

@@ -4,7 +4,7 @@ use Rattle.run_model.specs.Steps.{told_map}
 use Rattle.plant_core.specs.Faults.{collect_fault}
 use Rattle.plant_core.proofs.PlaceLemmas.{seen_at}
 use Rattle.plant_core.proofs.StepLemmas.{collect_told}
-use Rattle.live_core.specs.DeskView.{book_at, waiting_at}
+use Rattle.live_core.specs.DeskView.{slot_book, slot_waiting}
 use Rattle.live_core.proofs.GoLemmas.{desk_collects, oldest_fits, stepped_on}
 use Rattle.live_core.proofs.PartLemmas.{desk_same, reached_again, same_begun}
 use Rattle.live_core.proofs.held.LiveCore.collect.Goals as goal
@@ -12,8 +12,8 @@ use Rattle.live_core.proofs.held.LiveCore.collect.Goals as goal
 pub collect_into-requires : goal.collect_into-requires
 collect_into-requires g c =
     let core = c.args.self.now in
-    oldest_fits core.routes core.gather _ _ c.args.op (waiting_at c.index_mut.result.now) c.always.ensures.plant core.reached
-    (seen_at waiting_at core.desks.items _ c.args.op c.index_mut.result.now (c.len.ensures ∙ core.desks.ok.0) c.if-op-len.false c.index_mut.ensures.value)
+    oldest_fits core.routes core.gather _ _ c.args.op (slot_waiting c.index_mut.result.now) c.always.ensures.plant core.reached
+    (seen_at slot_waiting core.desks.items _ c.args.op c.index_mut.result.now (c.len.ensures ∙ core.desks.ok.0) c.if-op-len.false c.index_mut.ensures.value)
 
 pub invariant_of-self-in-Ok : goal.invariant_of-self-in-Ok
 invariant_of-self-in-Ok g c =
@@ -22,7 +22,7 @@ invariant_of-self-in-Ok g c =
     record {
       let_go = c.let_go.ensures.begun;
       reached = stepped_on (steps.Collect c.args.op) _ _ (told_map put.0) c.always.ensures.plant refl
-          (desk_collects book_at waiting_at core.routes core.gather c.collect_into.new.gather c.let_go.new.self core.desks.items _ c.args.op c.index_mut.result.now c.collect_into.new.self put.0
+          (desk_collects slot_book slot_waiting core.routes core.gather c.collect_into.new.gather c.let_go.new.self core.desks.items _ c.args.op c.index_mut.result.now c.collect_into.new.self put.0
           c.always.ensures.plant core.reached (c.len.ensures ∙ core.desks.ok.0) c.if-op-len.false c.index_mut.ensures.value put.1 c.in-Ok.ensures.book c.let_go.ensures.alike c.always-in-Ok.ensures)
           core.reached;
     }
@@ -33,7 +33,7 @@ invariant_of-self-in-Err-1 g c =
     record {
       let_go = same_begun _ _ c.in-Err.ensures.same_gather core.let_go;
       reached = reached_again _ _
-          (desk_same book_at waiting_at core.routes _ _ core.desks.items _ c.args.op c.index_mut.result.now c.collect_into.new.self
+          (desk_same slot_book slot_waiting core.routes _ _ core.desks.items _ c.args.op c.index_mut.result.now c.collect_into.new.self
           (c.len.ensures ∙ core.desks.ok.0) c.if-op-len.false c.index_mut.ensures.value c.in-Err.ensures.book c.in-Err.ensures.same_waiting c.in-Err.ensures.same_gather)
           core.reached;
     }
@@ -44,24 +44,24 @@ returns-in-Ok-clause-ok g c =
     let put = c.in-Ok.ensures.ok in (
       told_map put.0,
       put.2,
-      desk_collects book_at waiting_at core.routes core.gather c.collect_into.new.gather c.let_go.new.self core.desks.items _ c.args.op c.index_mut.result.now c.collect_into.new.self put.0
+      desk_collects slot_book slot_waiting core.routes core.gather c.collect_into.new.gather c.let_go.new.self core.desks.items _ c.args.op c.index_mut.result.now c.collect_into.new.self put.0
           c.always.ensures.plant core.reached (c.len.ensures ∙ core.desks.ok.0) c.if-op-len.false c.index_mut.ensures.value put.1 c.in-Ok.ensures.book c.let_go.ensures.alike c.always-in-Ok.ensures,
     )
 
 pub returns-in-Ok-clause-fault : goal.returns-in-Ok-clause-fault
 returns-in-Ok-clause-fault g c =
     let core = c.args.self.now in
-    ap (collect_fault c.args.op) (seen_at waiting_at core.desks.items _ c.args.op c.index_mut.result.now (c.len.ensures ∙ core.desks.ok.0) c.if-op-len.false c.index_mut.ensures.value)
+    ap (collect_fault c.args.op) (seen_at slot_waiting core.desks.items _ c.args.op c.index_mut.result.now (c.len.ensures ∙ core.desks.ok.0) c.if-op-len.false c.index_mut.ensures.value)
     ∙ c.in-Ok.ensures.fault
 
 pub returns-in-Err-clause-err : goal.returns-in-Err-clause-err
 returns-in-Err-clause-err g c =
     let core = c.args.self.now in
-    desk_same book_at waiting_at core.routes _ _ core.desks.items _ c.args.op c.index_mut.result.now c.collect_into.new.self
+    desk_same slot_book slot_waiting core.routes _ _ core.desks.items _ c.args.op c.index_mut.result.now c.collect_into.new.self
     (c.len.ensures ∙ core.desks.ok.0) c.if-op-len.false c.index_mut.ensures.value c.in-Err.ensures.book c.in-Err.ensures.same_waiting c.in-Err.ensures.same_gather
 
 pub returns-in-Err-clause-fault : goal.returns-in-Err-clause-fault
 returns-in-Err-clause-fault g c =
     let core = c.args.self.now in
-    collect_told {A = Unit {0}} (Err c.in-Err.fault) c.args.op _ (waiting_at c.index_mut.result.now)
-    (seen_at waiting_at core.desks.items _ c.args.op c.index_mut.result.now (c.len.ensures ∙ core.desks.ok.0) c.if-op-len.false c.index_mut.ensures.value) c.in-Err.ensures.fault
+    collect_told {A = Unit {0}} (Err c.in-Err.fault) c.args.op _ (slot_waiting c.index_mut.result.now)
+    (seen_at slot_waiting core.desks.items _ c.args.op c.index_mut.result.now (c.len.ensures ∙ core.desks.ok.0) c.if-op-len.false c.index_mut.ensures.value) c.in-Err.ensures.fault

@@ -1,8 +1,8 @@
 use Rattle.std.proofs.Common.{◌≡◌, drop, map}
 use Rattle.plant_core.specs.Reslicing.{least_unfit}
-use Rattle.live_core.specs.DeskView.{book_at}
+use Rattle.live_core.specs.DeskView.{slot_book}
 use Rattle.live_core.proofs.held.LiveCore.least_unfit.Given as goal
 
 abbrev pub invariant-loop-op : goal.invariant-loop-op
 invariant-loop-op g l =
-    least_unfit l.unfit l.from l.op (drop l.op (map book_at l.self.desks.items)) (drop l.op l.rows) ≡ least_unfit l.unfit l.from 0 (map book_at l.self.desks.items) l.rows
+    least_unfit l.unfit l.from l.op (drop l.op (map slot_book l.self.desks.items)) (drop l.op l.rows) ≡ least_unfit l.unfit l.from 0 (map slot_book l.self.desks.items) l.rows

@@ -1,0 +1,10 @@
+use Rattle.std.proofs.Common.{map, take}
+use Rattle.plant_core.specs.Reachable.{core_of}
+use Rattle.live_core.specs.DeskView.{slot_book, slot_waiting}
+use Rattle.live_core.specs.Resting.{Rests}
+use Rattle.live_core.proofs.held.LiveCore.resting_frame.Given as goal
+
+-- the operators so far rest before the first one's frame
+abbrev pub invariant-loop-op : goal.invariant-loop-op
+invariant-loop-op g l =
+    Rests (core_of l.self.routes (take l.op (map slot_book l.self.desks.items)) (take l.op (map slot_waiting l.self.desks.items)) l.self.gather) l.frame
