@@ -10,10 +10,10 @@ use Rattle.plant.specs.declared.plant.PlantFields.{PlantFields}
 use Rattle.run_model.specs.declared.step.Step.{Step}
 use Rattle.run_receipts.specs.declared.run_fault.RunFault.{RunFault}
 use Rattle.run_plan.specs.Serving.{IsServable}
-use Rattle.plant_workers.specs.Faulting.{IsResliceTold, IsOfRun, IsFault}
+use Rattle.plant_workers.specs.Faulting.{IsResliceTold, IsRunFault, IsFault}
 
 -- the fault of a run whose steps are served is one of a run
-pub of_served : {T : Type 0} (plant : PlantFields) (all : List Step) (result : Result T RunFault) → IsServable plant all → IfErr result (IsOfRun plant all) → IfErr result (IsFault plant all)
+pub of_served : {T : Type 0} (plant : PlantFields) (all : List Step) (result : Result T RunFault) → IsServable plant all → IfErr result (IsRunFault plant all) → IfErr result (IsFault plant all)
 of_served plant all (Ok x) served is = tt
 of_served plant all (Err fault) served is = inr (served, is)
 

@@ -57,10 +57,10 @@ IsOfReslice plant all at books refusal (ResliceRefused place fault) =
 IsOfReslice plant all at books refusal fault = ⊥
 
 -- a fault that comes once each step is known to find what it asks for
-abbrev pub IsOfRun : PlantFields → List Step → RunFault → Type 0
-IsOfRun plant all (Core fault) = IsOfThreads fault
-IsOfRun plant all (ResliceRefused at fault) = IsResliceFault plant all at fault
-IsOfRun plant all fault = Unit {0}
+abbrev pub IsRunFault : PlantFields → List Step → RunFault → Type 0
+IsRunFault plant all (Core fault) = IsOfThreads fault
+IsRunFault plant all (ResliceRefused at fault) = IsResliceFault plant all at fault
+IsRunFault plant all fault = Unit {0}
 
 -- the first step that does not find what it asks for is reported
 abbrev pub IsOfWalk : PlantFields → List Step → RunFault → Type 0
@@ -69,4 +69,4 @@ IsOfWalk plant all fault = ⊥
 
 -- a fault of a run: the first step that does not find what it asks for; or, where each does, one of those
 abbrev pub IsFault : PlantFields → List Step → RunFault → Type 0
-IsFault plant all fault = IsOfWalk plant all fault ⊎ (IsServable plant all × IsOfRun plant all fault)
+IsFault plant all fault = IsOfWalk plant all fault ⊎ (IsServable plant all × IsRunFault plant all fault)

@@ -113,7 +113,7 @@ IsEndAfter refused (Some turn) reported = reported ≡ Some (fault_of_turn turn.
 
 -- this is reported of threads that ended so: the turn that the least operator refused for itself comes before what the
 -- assembly refused
-pub record IsEnd (refused : List (Option EarlyEnd)) (reported : Option RunFault) : Type 0 where
+pub record IsEndOfRun (refused : List (Option EarlyEnd)) (reported : Option RunFault) : Type 0 where
   pub turn : Option (ℕ × CellFault)
   pub turn_is : IsLeastTurn refused turn
   pub after : IsEndAfter refused turn reported

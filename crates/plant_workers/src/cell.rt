@@ -8,6 +8,7 @@ ghost use Rattle.cell_state.specs.Taking.{frames_at, IsFrameOfSomeBook};
 ghost use Rattle.cell_state.specs.Telling.{IsOfBook, IsOfTurn, IsOfTaking};
 
 use crate::gate::Gate;
+use crate::signal::Signal;
 use crate::turn::Turn;
 use cell_state::{CellFault, Held};
 use dsx_messages::Modem;
@@ -17,7 +18,7 @@ use plant::Op;
 use run_receipts::Receipt;
 use slice_scheduler::Elements;
 use std::alloc::{AllocError, Global};
-use std::sync::{Condvar, Mutex, Wait};
+use std::sync::{Mutex, Wait};
 
 /// An operator's book behind a lock, with its frames that wait to be collected and a mark that its turns have stopped.
 /// Threads share it by reference.
@@ -25,7 +26,7 @@ use std::sync::{Condvar, Mutex, Wait};
 pub struct OperatorCell {
     op: Op,
     held: Mutex<Held>,
-    changed: Condvar,
+    signal: Signal,
 }
 
 impl OperatorCell {
@@ -51,10 +52,11 @@ impl OperatorCell {
     fn holding(op: Op, held: Held) -> OperatorCell
         ensures { result.op ≡ op }
     {
+        let count = held.count();
         OperatorCell {
             op,
             held: Mutex::new(held),
-            changed: Condvar::new(),
+            signal: Signal::new(count),
         }
     }
 
@@ -66,7 +68,7 @@ impl OperatorCell {
         let OperatorCell {
             op: _,
             held,
-            changed: _,
+            signal: _,
         } = self;
         held.into_inner().into_parts()
     }
@@ -78,7 +80,7 @@ impl OperatorCell {
         Turn {
             op: self.op,
             held: &self.held,
-            changed: &self.changed,
+            signal: &self.signal,
         }
     }
 

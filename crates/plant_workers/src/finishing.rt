@@ -4,7 +4,7 @@ ghost use Rattle.std.specs.Prelude.{◌≡◌, ◌<◌, ◌^◌, All, map, vec_l
 ghost use Rattle.operator_book.specs.ViewOf.{view_of};
 ghost use Rattle.run_audit.specs.Outcome.{AreTicked, IsOutcome};
 ghost use Rattle.run_receipts.specs.Callers.{AreByCallers};
-ghost use Rattle.plant_workers.specs.Faulting.{IsOfRun};
+ghost use Rattle.plant_workers.specs.Faulting.{IsRunFault};
 
 use crate::receipt_lists::callers_of;
 use crate::run_state::RunState;
@@ -56,7 +56,7 @@ fn settle_all(
     requires ticked { AreTicked plant.now steps.now }
     ensures ok { IfOk result (λ s.
         IsOutcome plant.now steps.now (map view_of s.books.items) s.receipts.items s.maps.items) }
-    ensures err { IfErr result (IsOfRun plant.now steps.now) }
+    ensures err { IfErr result (IsRunFault plant.now steps.now) }
 {
     if books.len() != plant.rows().len() || callers.len() != books.len() {
         return Err(RunFault::NoMemory);
@@ -76,7 +76,7 @@ pub(crate) fn finish(
     requires ticked { AreTicked plant.now steps.now }
     ensures ok { IfOk result (λ s.
         IsOutcome plant.now steps.now (map view_of s.books.items) s.receipts.items s.maps.items) }
-    ensures err { IfErr result (IsOfRun plant.now steps.now) }
+    ensures err { IfErr result (IsRunFault plant.now steps.now) }
 {
     let RunState {
         helds,

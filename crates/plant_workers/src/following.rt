@@ -2,9 +2,9 @@
 
 ghost use Rattle.std.specs.Prelude.{◌≡◌, length, map, take, MatchOption};
 ghost use Rattle.run_audit.specs.Straying.{AreOwnRuns, IsStrayHistory};
-ghost use Rattle.cell_state.specs.HeldView.{book_of};
+ghost use Rattle.cell_state.specs.HeldView.{cell_book};
 ghost use Rattle.plant_core.specs.declared.core_fault.ResliceFault.{ResliceFault};
-ghost use Rattle.plant_workers.specs.Faulting.{IsToldAt, IsOfReslice, IsOfRun};
+ghost use Rattle.plant_workers.specs.Faulting.{IsToldAt, IsOfReslice, IsRunFault};
 
 use cell_state::Held;
 use plant::{Op, Plant};
@@ -16,8 +16,8 @@ use run_receipts::RunFault;
 /// Finds the least operator whose history strays from its own steps, and where it does. Takes no memory.
 fn first_stray(plant: &Plant, helds: &[Held], steps: &[Step]) -> Option<(Op, usize)>
     requires { length helds.now ≡ length plant.now.rows }
-    ensures { MatchOption result (AreOwnRuns plant.now steps.now (map book_of helds.now))
-        (λ stray. IsStrayHistory plant.now steps.now (map book_of helds.now) stray.0 stray.1) }
+    ensures { MatchOption result (AreOwnRuns plant.now steps.now (map cell_book helds.now))
+        (λ stray. IsStrayHistory plant.now steps.now (map cell_book helds.now) stray.0 stray.1) }
 {
     for (op, held) in helds.iter().enumerate() {
         if let Some(index) = stray_at(plant, op, &held.desk.book, steps) {
@@ -36,11 +36,11 @@ pub(crate) fn fault_of_reslice(
     at: usize,
     fault: CoreFault,
 ) -> RunFault
-    requires { IsToldAt steps.now at (map book_of helds.now) fault }
-    ensures of_run { IsOfRun plant.now steps.now result }
+    requires { IsToldAt steps.now at (map cell_book helds.now) fault }
+    ensures of_run { IsRunFault plant.now steps.now result }
     ensures refused { (refusal : ResliceFault) → fault ≡ CoreFault.Reslice refusal
-        → length (map book_of helds.now) ≡ length plant.now.rows
-        → IsOfReslice plant.now steps.now at (map book_of helds.now) refusal result }
+        → length (map cell_book helds.now) ≡ length plant.now.rows
+        → IsOfReslice plant.now steps.now at (map cell_book helds.now) refusal result }
 {
     match fault {
         CoreFault::Reslice(fault) => {

@@ -5,6 +5,7 @@ ghost use Rattle.plant_workers.specs.Parts.{action_in};
 
 use operator_model::Action;
 use plant::{Op, Plant};
+use run_audit::waiting_operator;
 use run_model::Step;
 use run_plan::turns_of;
 use std::alloc::{AllocError, Global};
@@ -17,15 +18,6 @@ pub(crate) struct Job<'a> {
     pub turn: usize,
 }
 
-/// Returns the operator of a step; none of a `Reslice`, nor of a modem that no operator has.
-fn operator_of(plant: &Plant, step: &Step) -> Option<Op> {
-    match step {
-        Step::Arrive { modem, heard: _ } => plant.operator_of(*modem),
-        Step::Work { op } | Step::Tick { op } | Step::Collect { op } => Some(*op),
-        Step::Reslice { from: _, rows: _ } => None,
-    }
-}
-
 /// Returns the job of each step, in order. A `Reslice` is not an operator's job: it is done while
 /// no thread is there.
 pub(crate) fn jobs_of<'a>(
@@ -36,7 +28,7 @@ pub(crate) fn jobs_of<'a>(
     let turns = turns_of(alloc, plant, steps)?;
     let mut jobs = Vec::with_capacity(alloc, steps.len())?;
     for (step, turn) in steps.iter().zip(turns) {
-        let op = operator_of(plant, step).unwrap_or(0);
+        let op = waiting_operator(plant, step).unwrap_or(0);
         jobs.push(Job { step, op, turn })?;
     }
     Ok(jobs)

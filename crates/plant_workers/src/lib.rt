@@ -13,6 +13,7 @@ mod receipt_lists;
 mod run_state;
 mod running;
 mod shared;
+mod signal;
 mod thread_report;
 mod threads;
 mod turn;

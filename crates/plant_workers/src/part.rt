@@ -45,14 +45,58 @@ impl Part {
     }
 }
 
-/// Returns the parts of a run of so many operators: the dispatcher, the ticker, and one worker for
-/// each.
-pub(crate) fn parts_of(alloc: Global, operators: usize) -> Result<Vec<Part>, AllocError> {
+/// Keeps a part of a run with its jobs, in the order of the steps.
+#[derive(Drop)]
+pub(crate) struct PartJobs<'a> {
+    pub part: Part,
+    pub jobs: Vec<Job<'a>>,
+}
+
+impl<'a> PartJobs<'a> {
+    /// Makes a part with no jobs. Takes no memory.
+    fn new(alloc: Global, part: Part) -> PartJobs<'a> {
+        let jobs = Vec::new(alloc);
+        PartJobs { part, jobs }
+    }
+}
+
+/// Returns the parts of a run of so many operators, with no jobs: the dispatcher, the ticker, and one worker for each.
+fn parts_without_jobs<'a>(
+    alloc: Global,
+    operators: usize,
+) -> Result<Vec<PartJobs<'a>>, AllocError> {
     let mut parts = Vec::new(alloc);
-    parts.push(Part::Arrivals)?;
-    parts.push(Part::Ticks)?;
+    parts.push(PartJobs::new(alloc, Part::Arrivals))?;
+    parts.push(PartJobs::new(alloc, Part::Ticks))?;
     for op in 0..operators {
-        parts.push(Part::Worker(op))?;
+        parts.push(PartJobs::new(alloc, Part::Worker(op)))?;
+    }
+    Ok(parts)
+}
+
+/// Returns the place of the part that a step belongs to among the parts of a run; none of a `Reslice`.
+fn part_place(step: &Step) -> Option<usize> {
+    match step {
+        Step::Arrive { modem: _, heard: _ } => Some(0),
+        Step::Tick { op: _ } => Some(1),
+        Step::Work { op } | Step::Collect { op } => op.checked_add(2),
+        Step::Reslice { from: _, rows: _ } => None,
+    }
+}
+
+/// Divides jobs among the parts of a run of so many operators, in one walk. Each part has its jobs in the order of the steps.
+pub(crate) fn parts_of<'a>(
+    alloc: Global,
+    operators: usize,
+    jobs: &[Job<'a>],
+) -> Result<Vec<PartJobs<'a>>, AllocError> {
+    let mut parts = parts_without_jobs(alloc, operators)?;
+    for job in jobs {
+        if let Some(place) = part_place(job.step) {
+            if let Some(part) = parts.get_mut(place) {
+                part.jobs.push(*job)?;
+            }
+        }
     }
     Ok(parts)
 }

@@ -6,8 +6,8 @@ ghost use Rattle.run_model.specs.declared.step.Step.{Step};
 ghost use Rattle.run_model.specs.declared.step.Step.TheVariants as steps_of;
 ghost use Rattle.plant_core.specs.declared.core_fault.ResliceFault.{ResliceFault};
 ghost use Rattle.plant_core.specs.Reslicing.{reslice_fault};
-ghost use Rattle.cell_state.specs.HeldView.{book_of};
-ghost use Rattle.plant_workers.specs.Faulting.{IsOfReslice, IsOfRun};
+ghost use Rattle.cell_state.specs.HeldView.{cell_book};
+ghost use Rattle.plant_workers.specs.Faulting.{IsOfReslice, IsRunFault};
 
 use crate::following::fault_of_reslice;
 use crate::gate::Gate;
@@ -15,6 +15,7 @@ use crate::job::Job;
 use crate::part::parts_of;
 use crate::receipt_lists::{Lists, add_tales, add_told, no_lists};
 use crate::shared::run_shared;
+use crate::signal::Signal;
 use crate::thread_report::{ThreadReport, first_fault};
 use cell_state::{Held, Told, reslice};
 use operator_model::SliceRow;
@@ -23,7 +24,7 @@ use run_audit::Assembly;
 use run_model::Step;
 use run_receipts::RunFault;
 use std::alloc::{AllocError, Global};
-use std::sync::{Condvar, Mutex, Wait};
+use std::sync::{Mutex, Wait};
 use std::thread::Threads;
 
 /// A run between its pieces: what is after each operator's lock, the assembly, and the receipts so
@@ -53,11 +54,16 @@ fn without_locks(alloc: Global, locks: Vec<Mutex<Held>>) -> Result<Vec<Held>, Al
     Ok(helds)
 }
 
-/// Returns what signals that an operator's book has changed, for each operator.
-fn signals(alloc: Global, operators: usize) -> Result<Vec<Condvar>, AllocError> {
-    let mut signals = Vec::with_capacity(alloc, operators)?;
-    for _ in 0..operators {
-        signals.push(Condvar::new())?;
+/// Makes the signal of each operator's history.
+fn signals_of<R: Wait>(
+    rt: &R,
+    alloc: Global,
+    locks: &[Mutex<Held>],
+) -> Result<Vec<Signal>, AllocError> {
+    let mut signals = Vec::with_capacity(alloc, locks.len())?;
+    for lock in locks {
+        let count = lock.lock(rt).count();
+        signals.push(Signal::new(count))?;
     }
     Ok(signals)
 }
@@ -73,15 +79,13 @@ fn thread_reports_of<R: Threads + Wait + Sync, G: Gate<R> + Sync>(
     gate: &G,
     stacks: &[usize],
 ) -> Result<Vec<ThreadReport>, RunFault>
-    ensures { IfErr result (λ fault. (plant : PlantFields) (steps : List Step) → IsOfRun plant steps fault) }
+    ensures { IfErr result (λ fault. (plant : PlantFields) (steps : List Step) → IsRunFault plant steps fault) }
 {
-    let parts = parts_of(alloc, locks.len())?;
-    let changed = signals(alloc, locks.len())?;
-    let changed = changed.as_slice();
+    let parts = parts_of(alloc, locks.len(), jobs)?;
+    let signals = signals_of(rt, alloc, locks)?;
+    let signals = signals.as_slice();
     let of_all = parts.as_slice();
-    let thread_reports = run_shared(
-        rt, alloc, locks, changed, assembly, jobs, gate, of_all, stacks,
-    )?;
+    let thread_reports = run_shared(rt, alloc, locks, signals, assembly, gate, of_all, stacks)?;
     if let Some(fault) = first_fault(thread_reports.as_slice()) {
         return Err(fault);
     }
@@ -117,7 +121,7 @@ impl RunState {
         gate: &G,
         stacks: &[usize],
     ) -> Result<RunState, RunFault>
-        ensures { IfErr result (λ fault. (plant : PlantFields) (steps : List Step) → IsOfRun plant steps fault) }
+        ensures { IfErr result (λ fault. (plant : PlantFields) (steps : List Step) → IsRunFault plant steps fault) }
     {
         if jobs.is_empty() {
             return Ok(self);
@@ -154,7 +158,7 @@ impl RunState {
         steps: &[Step],
         at: usize,
     ) -> Result<(), RunFault>
-        ensures { IfErr result (IsOfRun plant.now steps.now) }
+        ensures { IfErr result (IsRunFault plant.now steps.now) }
     {
         match steps.get(at) {
             Some(Step::Reslice { from, rows }) => {
@@ -175,11 +179,11 @@ impl RunState {
         rows: &[SliceRow],
     ) -> Result<(), RunFault>
         requires { slice_get steps.now at ≡ Some (steps_of.Reslice from rows.now) }
-        ensures of_run { IfErr result (IsOfRun plant.now steps.now) }
+        ensures of_run { IfErr result (IsRunFault plant.now steps.now) }
         ensures refused { (refusal : ResliceFault)
-            → reslice_fault from (map book_of self.old.helds.items) rows.now ≡ Some refusal
-            → length (map book_of self.old.helds.items) ≡ length plant.now.rows
-            → IsErrAnd result (IsOfReslice plant.now steps.now at (map book_of self.old.helds.items) refusal) }
+            → reslice_fault from (map cell_book self.old.helds.items) rows.now ≡ Some refusal
+            → length (map cell_book self.old.helds.items) ≡ length plant.now.rows
+            → IsErrAnd result (IsOfReslice plant.now steps.now at (map cell_book self.old.helds.items) refusal) }
     {
         match reslice(alloc, &mut self.helds, from, rows) {
             Ok(told) => self.note_reslice(alloc, from, rows, told),
@@ -198,7 +202,7 @@ impl RunState {
         rows: &[SliceRow],
         told: Vec<Told>,
     ) -> Result<(), RunFault>
-        ensures { IfErr result (λ fault. (plant : PlantFields) (steps : List Step) → IsOfRun plant steps fault) }
+        ensures { IfErr result (λ fault. (plant : PlantFields) (steps : List Step) → IsRunFault plant steps fault) }
     {
         add_told(&mut self.lists, told)?;
         if self.assembly.reslice(alloc, from, rows)? {

@@ -9,7 +9,7 @@ ghost use Rattle.run_receipts.specs.declared.run_fault.RunFault.TheVariants.{Cor
 ghost use Rattle.run_audit.specs.Outcome.{AreTicked, IsOutcome};
 ghost use Rattle.run_plan.specs.Serving.{IsServable, IsFirstUnserved};
 ghost use Rattle.run_plan.specs.Spending.{IsFirstSpent, before_reslice};
-ghost use Rattle.plant_workers.specs.Faulting.{IsOfRun, IsFault};
+ghost use Rattle.plant_workers.specs.Faulting.{IsRunFault, IsFault};
 
 use crate::finishing::finish;
 use crate::gate::Gate;
@@ -46,7 +46,7 @@ fn run_steps<R: Threads + Wait + Sync, G: Gate<R> + Sync>(
     gate: &G,
     stacks: &[usize],
 ) -> Result<RunState, RunFault>
-    ensures { IfErr result (IsOfRun plant.now steps.now) }
+    ensures { IfErr result (IsRunFault plant.now steps.now) }
 {
     let mut run_state = run_state;
     let mut begin = 0;
@@ -82,7 +82,7 @@ fn run_served<R: Threads + Wait + Sync, G: Gate<R> + Sync>(
     requires ticked { AreTicked plant.now steps.now }
     ensures ok { IfOk result (λ s.
         IsOutcome plant.now steps.now (map view_of s.books.items) s.receipts.items s.maps.items) }
-    ensures err { IfErr result (IsOfRun plant.now steps.now) }
+    ensures err { IfErr result (IsRunFault plant.now steps.now) }
 {
     let helds = open_books(alloc, plant, rankings)?;
     let run_state = RunState::new(alloc, plant, helds)?;

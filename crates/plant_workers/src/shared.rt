@@ -9,7 +9,8 @@ ghost use Rattle.plant_workers.specs.Refusing.{IsOfAct, IsOfPut};
 
 use crate::gate::Gate;
 use crate::job::Job;
-use crate::part::Part;
+use crate::part::{Part, PartJobs};
+use crate::signal::Signal;
 use crate::thread_report::{EarlyEnd, ThreadReport};
 use crate::threads::run_threads;
 use crate::turn::Turn;
@@ -19,17 +20,15 @@ use operator_model::Action;
 use plant::Op;
 use run_audit::Assembly;
 use std::alloc::{AllocError, Global};
-use std::sync::{Condvar, Mutex, Wait};
+use std::sync::{Mutex, Wait};
 use std::thread::Threads;
 
-/// What the threads of a run share: each operator's lock with what signals that it changed, and the
-/// assembly's lock.
+/// What the threads of a run share: each operator's lock with its signal, and the assembly's lock.
 #[derive(Clone, Copy)]
 pub(crate) struct Shared<'a> {
     pub helds: &'a [Mutex<Held>],
-    pub changed: &'a [Condvar],
+    pub signals: &'a [Signal],
     pub assembly: &'a Mutex<Assembly>,
-    pub jobs: &'a [Job<'a>],
 }
 
 /// Returns the refusal of an operator's turn that found no memory.
@@ -50,7 +49,7 @@ impl<'a> Shared<'a> {
         Some(Turn {
             op,
             held: self.helds.get(op)?,
-            changed: self.changed.get(op)?,
+            signal: self.signals.get(op)?,
         })
     }
 
@@ -140,10 +139,11 @@ impl<'a> Shared<'a> {
         rt: &R,
         alloc: Global,
         gate: &G,
-        part: Part,
+        share: &PartJobs,
         told: &mut Vec<Told>,
     ) -> Result<(), EarlyEnd> {
-        for job in self.jobs {
+        let part = share.part;
+        for job in &share.jobs {
             if part.has(job) {
                 self.do_job(rt, alloc, part, job, gate, told)?;
             }
@@ -157,16 +157,16 @@ impl<'a> Shared<'a> {
 pub(crate) trait Chores<R: Wait, G: Gate<R>> {
     /// Returns what one thread does: its part of the jobs. Where one is refused all operators are
     /// stopped, so that no other thread waits for it.
-    fn run_part(&self, rt: &R, alloc: Global, gate: &G, part: Part) -> ThreadReport;
+    fn run_part(&self, rt: &R, alloc: Global, gate: &G, share: &PartJobs<'_>) -> ThreadReport;
 
     /// Stops the turns of all operators.
     fn stop_all(&self, rt: &R);
 }
 
 impl<R: Wait, G: Gate<R>> Chores<R, G> for Shared<'_> {
-    fn run_part(&self, rt: &R, alloc: Global, gate: &G, part: Part) -> ThreadReport {
+    fn run_part(&self, rt: &R, alloc: Global, gate: &G, share: &PartJobs<'_>) -> ThreadReport {
         let mut told = Vec::new(alloc);
-        let refused = match self.do_jobs(rt, alloc, gate, part, &mut told) {
+        let refused = match self.do_jobs(rt, alloc, gate, share, &mut told) {
             Ok(()) => None,
             Err(refusal) => {
                 Chores::<R, G>::stop_all(self, rt);
@@ -191,18 +191,16 @@ pub(crate) fn run_shared<R: Threads + Wait + Sync, G: Gate<R> + Sync>(
     rt: &R,
     alloc: Global,
     helds: &[Mutex<Held>],
-    changed: &[Condvar],
+    signals: &[Signal],
     assembly: &Mutex<Assembly>,
-    jobs: &[Job],
     gate: &G,
-    parts: &[Part],
+    parts: &[PartJobs],
     stacks: &[usize],
 ) -> Result<Vec<ThreadReport>, AllocError> {
     let shared = Shared {
         helds,
-        changed,
+        signals,
         assembly,
-        jobs,
     };
     run_threads(rt, alloc, &shared, gate, parts, stacks)
 }

@@ -4,10 +4,10 @@ ghost use Rattle.std.specs.Prelude.{◌≡◌, List, is_some, map, IfSome};
 ghost use Rattle.std.specs.List.{list_any};
 ghost use Rattle.plant.specs.declared.plant.PlantFields.{PlantFields};
 ghost use Rattle.run_model.specs.declared.step.Step.{Step};
-ghost use Rattle.plant_workers.specs.Faulting.{IsOfRun};
+ghost use Rattle.plant_workers.specs.Faulting.{IsRunFault};
 ghost use Rattle.plant_workers.specs.Refusing.{own_turn, lesser_turn, IsLeastTurn};
 ghost use Rattle.plant_workers.specs.Refusing.{fault_of_turn, fault_of_assembly, of_assembly, IsFirstOfAssembly};
-ghost use Rattle.plant_workers.specs.Refusing.{IsEndWithoutTurn, IsEnd};
+ghost use Rattle.plant_workers.specs.Refusing.{IsEndWithoutTurn, IsEndOfRun};
 
 use cell_state::{CellFault, Told};
 use map_assembly::GatherFault;
@@ -35,7 +35,7 @@ pub(crate) struct ThreadReport {
 /// Returns the fault of a run of which an operator refused a turn.
 fn fault_of_turn(op: Op, fault: CellFault) -> RunFault
     ensures value { result ≡ fault_of_turn op fault }
-    ensures of_run { (plant : PlantFields) (steps : List Step) → IsOfRun plant steps result }
+    ensures of_run { (plant : PlantFields) (steps : List Step) → IsRunFault plant steps result }
 {
     match fault {
         CellFault::Book(BookFault::NoMemory) => RunFault::NoMemory,
@@ -48,7 +48,7 @@ fn fault_of_turn(op: Op, fault: CellFault) -> RunFault
 /// Returns the fault of a run of which the assembly refused a frame.
 fn fault_of_assembly(fault: GatherFault) -> RunFault
     ensures value { result ≡ fault_of_assembly fault }
-    ensures of_run { (plant : PlantFields) (steps : List Step) → IsOfRun plant steps result }
+    ensures of_run { (plant : PlantFields) (steps : List Step) → IsRunFault plant steps result }
 {
     match fault {
         GatherFault::NoMemory => RunFault::NoMemory,
@@ -137,7 +137,7 @@ fn is_any_refused(thread_reports: &[ThreadReport]) -> bool
 /// of memory where a thread was stopped for one that could not be made.
 fn end_without_turn(thread_reports: &[ThreadReport]) -> Option<RunFault>
     ensures value { IsEndWithoutTurn (map (λ thread_report. thread_report.refused) thread_reports.now) result }
-    ensures of_run { IfSome result (λ fault. (plant : PlantFields) (steps : List Step) → IsOfRun plant steps fault) }
+    ensures of_run { IfSome result (λ fault. (plant : PlantFields) (steps : List Step) → IsRunFault plant steps fault) }
 {
     if let Some(fault) = first_of_assembly(thread_reports) {
         return Some(fault_of_assembly(fault));
@@ -151,8 +151,8 @@ fn end_without_turn(thread_reports: &[ThreadReport]) -> Option<RunFault>
 /// Returns why the threads ended before their last jobs: the fault of the least operator that refused a turn for itself, else
 /// that of the assembly.
 pub(crate) fn first_fault(thread_reports: &[ThreadReport]) -> Option<RunFault>
-    ensures value { IsEnd (map (λ thread_report. thread_report.refused) thread_reports.now) result }
-    ensures of_run { IfSome result (λ fault. (plant : PlantFields) (steps : List Step) → IsOfRun plant steps fault) }
+    ensures value { IsEndOfRun (map (λ thread_report. thread_report.refused) thread_reports.now) result }
+    ensures of_run { IfSome result (λ fault. (plant : PlantFields) (steps : List Step) → IsRunFault plant steps fault) }
 {
     match least_turn(thread_reports) {
         Some((op, fault)) => Some(fault_of_turn(op, fault)),

@@ -1,7 +1,7 @@
 //! The threads of a run.
 
 use crate::gate::Gate;
-use crate::part::Part;
+use crate::part::PartJobs;
 use crate::shared::Chores;
 use crate::thread_report::ThreadReport;
 use std::alloc::{AllocError, Global};
@@ -27,7 +27,7 @@ pub(crate) fn run_threads<R: Threads + Wait + Sync, G: Gate<R> + Sync, C: Chores
     alloc: Global,
     chores: &C,
     gate: &G,
-    parts: &[Part],
+    parts: &[PartJobs],
     stacks: &[usize],
 ) -> Result<Vec<ThreadReport>, AllocError> {
     thread::scope(
@@ -37,7 +37,6 @@ pub(crate) fn run_threads<R: Threads + Wait + Sync, G: Gate<R> + Sync, C: Chores
             let mut handles = Vec::with_capacity(alloc, parts.len())?;
             let mut thread_reports = Vec::with_capacity(alloc, parts.len())?;
             for (place, part) in parts.iter().enumerate() {
-                let part = *part;
                 let made = Builder::new()
                     .stack_size(stack_at(stacks, place))
                     .spawn_scoped(scope, move || { chores.run_part(rt, alloc, gate, part) });

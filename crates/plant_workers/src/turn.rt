@@ -6,13 +6,14 @@ ghost use Rattle.cell_state.specs.Taking.{IsFrameOfSomeBook};
 ghost use Rattle.cell_state.specs.Telling.{IsOfBook, IsOfTurn, IsOfTaking};
 
 use crate::gate::Gate;
+use crate::signal::Signal;
 use cell_state::{CellFault, Held};
 use operator_model::Action;
 use plant::Op;
 use run_receipts::Receipt;
 use slice_scheduler::Elements;
 use std::alloc::{AllocError, Global};
-use std::sync::{Condvar, Mutex, MutexGuard, Wait};
+use std::sync::{Mutex, MutexGuard, Wait};
 
 /// An operator's lock, and what signals those who wait for a turn that the history has grown or the
 /// turns have stopped.
@@ -20,15 +21,13 @@ use std::sync::{Condvar, Mutex, MutexGuard, Wait};
 pub(crate) struct Turn<'a> {
     pub op: Op,
     pub held: &'a Mutex<Held>,
-    pub changed: &'a Condvar,
+    pub signal: &'a Signal,
 }
 
 impl<'a> Turn<'a> {
     /// Waits until the history has `index` entries or the turns have stopped, and returns the lock.
     fn wait_for<R: Wait>(self, rt: &R, index: usize) -> MutexGuard<'a, Held> {
-        self.changed.wait_while(rt, self.held.lock(rt), |held| {
-            held.count() < index && !held.stopped
-        })
+        self.signal.wait_for(rt, self.held, index)
     }
 
     /// Does an action at once.
@@ -45,7 +44,9 @@ impl<'a> Turn<'a> {
         let mut held = self.held.lock(rt);
         match held.act(alloc, action) {
             Ok(receipt) => {
-                self.changed.notify_all();
+                let count = held.count();
+                drop(held);
+                self.signal.grow(count);
                 Ok(receipt)
             }
             Err(fault) => Err(CellFault::Book(fault)),
@@ -75,10 +76,14 @@ impl<'a> Turn<'a> {
         if told.is_ok() {
             gate.inside(rt, self.op, index);
         }
-        self.changed.notify_all();
+        let count = held.count();
+        let stopped = held.stopped;
         drop(held);
         if told.is_ok() {
+            self.signal.grow(count);
             gate.outside(rt, self.op, index);
+        } else if stopped {
+            self.signal.stop();
         }
         told
     }
@@ -113,6 +118,7 @@ impl<'a> Turn<'a> {
     pub(crate) fn stop<R: Wait>(self, rt: &R) {
         let mut held = self.held.lock(rt);
         held.stop();
-        self.changed.notify_all();
+        drop(held);
+        self.signal.stop();
     }
 }

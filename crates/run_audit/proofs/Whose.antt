@@ -1,8 +1,8 @@
 -- Whose modem a modem is, and whose step a step.
 use Rattle.std.proofs.Common.{◌≡◌, ℕ, true, false, Bool, Option, Some, None, is_some, if◌then◌else◌, ◌⊎◌, inl, inr, refl, sym, ap, ◌∙◌, subst, arith}
 use Rattle.std.specs.Prelude.{◌==◌, slice_get}
-use Rattle.std.proofs.lemmas.Bool.{cases_eq, eq-eqb, ne_eqb, false_from_ne_true, false≢true}
-use Rattle.std.proofs.lemmas.Option.{none-some}
+use Rattle.std.proofs.lemmas.Bool.{cases_eq, cond-false, eq-eqb, ne_eqb, false_from_ne_true, false≢true}
+use Rattle.std.proofs.lemmas.Option.{none-some, same_Some}
 use Rattle.dsx_messages.specs.declared.modem.Modem.{Modem}
 use Rattle.plant.specs.declared.operator_row.RowFields.{RowFields}
 use Rattle.plant.specs.declared.plant.PlantFields.{PlantFields}
@@ -10,13 +10,15 @@ use Rattle.plant.specs.Row.{is_listed}
 use Rattle.plant.specs.Plant.{IsPlant}
 use Rattle.plant.specs.Roster.{holder, ListsFirst}
 use Rattle.plant.proofs.Holders.{holder_holds, holder_is, one_lists}
+use Rattle.operator_model.specs.declared.heard.Heard.{Heard}
 use Rattle.operator_model.specs.declared.action.Action.{Action}
 use Rattle.operator_model.specs.declared.action.Action.TheVariants as actions
 use Rattle.run_model.specs.declared.step.Step.{Step}
 use Rattle.run_model.specs.declared.step.Step.TheVariants as steps
-use Rattle.run_model.specs.OwnSteps.{action_of}
+use Rattle.run_model.specs.OwnSteps.{action_of, is_collect}
 use Rattle.run_model.proofs.Entries.{same_at}
-use Rattle.run_audit.specs.Taken.{taken_by}
+use Rattle.run_model.proofs.OwnActions.{arrive_at, work_at, tick_at}
+use Rattle.run_audit.specs.Taken.{taken_by, waiting_operator}
 
 module _ (plant : PlantFields) (modem : Modem) (op : ℕ) (row : RowFields) (is : IsPlant plant) (here : slice_get plant.rows op ≡ Some row) where
   pub held_by : (k : ℕ) → holder plant.rows modem ≡ Some k → (k == op) ≡ is_listed modem row.modems
@@ -78,3 +80,37 @@ own_action row i step own =
 
 pub no_action : (row : RowFields) (i : ℕ) (step : Step) → is_some (action_of row i step) ≡ false → action_of row i step ≡ None
 no_action row i step other = none_is (action_of row i step) other
+
+-- what is heard of another operator's modem is no action of this one
+pub arrive_none : (plant : PlantFields) (modem : Modem) (heard : Heard) (op : ℕ) (row : RowFields) → IsPlant plant → slice_get plant.rows op ≡ Some row → (holder plant.rows modem ≡ Some op → ⊥)
+    → action_of row op (steps.Arrive modem heard) ≡ None
+arrive_none plant modem heard op row is here other = by (holder plant.rows modem) refl
+  where
+    by : (o : Option ℕ) → holder plant.rows modem ≡ o → action_of row op (steps.Arrive modem heard) ≡ None
+    by None e = cond-false (is_listed modem row.modems) (Some (actions.Arrive modem heard)) None (sym (held_by_none plant modem op row is here e))
+    by (Some k) e = (arrive_at plant modem heard k is e).else op row here (λ same. other (e ∙ ap (λ (n : ℕ). Some n) (sym same)))
+
+-- a step that waits in one operator's history is no action and no collection of another
+pub record IsNoStepOf (row : RowFields) (i : ℕ) (step : Step) : Type 0 where
+  pub action : action_of row i step ≡ None
+  pub collection : is_collect i step ≡ false
+
+pub others_none : (plant : PlantFields) (step : Step) (op i : ℕ) (row : RowFields) → IsPlant plant → waiting_operator plant step ≡ Some op → (i ≡ op → ⊥) → slice_get plant.rows i ≡ Some row
+    → IsNoStepOf row i step
+others_none plant (steps.Arrive modem heard) op i row is waits ne here = record {
+  action = arrive_none plant modem heard i row is here (λ held. ne (same_Some i op (sym held ∙ waits)));
+  collection = refl;
+}
+others_none plant (steps.Work other) op i row is waits ne here = record {
+  action = (work_at plant other).else i row here (λ same. ne (same ∙ same_Some other op waits));
+  collection = refl;
+}
+others_none plant (steps.Tick other) op i row is waits ne here = record {
+  action = (tick_at plant other).else i row here (λ same. ne (same ∙ same_Some other op waits));
+  collection = refl;
+}
+others_none plant (steps.Collect other) op i row is waits ne here = record {
+  action = refl;
+  collection = ne_eqb other i (λ same. ne (sym same ∙ same_Some other op waits));
+}
+others_none plant (steps.Reslice from rows) op i row is waits ne here = absurd (none-some op waits)

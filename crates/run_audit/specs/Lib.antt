@@ -2,7 +2,6 @@ pub mod Placings
 pub mod Outs
 pub mod Straying
 pub mod Taken
-pub mod Same
 pub mod Numbering
 pub mod Outcome
 pub mod Due

@@ -9,9 +9,9 @@ ghost use Rattle.run_audit.specs.Outcome.{AreMerged, AreTicked, ticks_of, is_tic
 use crate::assembly::Assembly;
 use crate::following::first_stray;
 use crate::putting::{count_collects, first_put_stray};
-use crate::same::is_same_plant;
 use operator_book::Book;
 use plant::{Op, Plant};
+use plant_comparison::is_same_plant;
 use run_model::Step;
 use run_receipts::{RunFault, Settled};
 

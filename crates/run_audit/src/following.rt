@@ -9,13 +9,13 @@ ghost use Rattle.operator_book.specs.ViewOf.{view_of};
 ghost use Rattle.run_model.specs.OwnSteps.{action_of, own_steps};
 ghost use Rattle.run_model.specs.IsStateAfter.{IsBookAfter};
 ghost use Rattle.run_audit.specs.Straying.{DifferFirst, AreOwnRuns, HistoryStraysAt, IsStrayHistory};
-ghost use Rattle.run_audit.specs.Taken.{taken_by};
+ghost use Rattle.run_audit.specs.Taken.{taken_by, waiting_operator};
 
-use crate::same::{are_same_consts, is_same_row};
 use dsx_messages::Modem;
 use operator_book::Book;
 use operator_model::{Action, Entry};
 use plant::{Op, Plant};
+use plant_comparison::{are_same_consts, is_same_row};
 use run_model::Step;
 use run_receipts::is_same_heard;
 
@@ -118,6 +118,17 @@ pub fn stray_at(plant: &Plant, op: Op, book: &Book, steps: &[Step]) -> Option<us
         return Some(0);
     }
     first_difference(plant, op, book.history(), steps)
+}
+
+/// Returns the operator in whose history a step waits for a place, if it waits for one.
+pub fn waiting_operator(plant: &Plant, step: &Step) -> Option<Op>
+    ensures { result ≡ waiting_operator plant.now step.now }
+{
+    match step {
+        Step::Arrive { modem, heard: _ } => plant.operator_of(*modem),
+        Step::Work { op } | Step::Tick { op } | Step::Collect { op } => Some(*op),
+        Step::Reslice { from: _, rows: _ } => None,
+    }
 }
 
 /// Returns the least operator whose history strays, and where it does.

@@ -8,10 +8,9 @@ mod following;
 mod laws;
 mod placing;
 mod putting;
-mod same;
 
 pub use assembly::Assembly;
 pub use comparing::{are_ticked, compare};
-pub use following::stray_at;
+pub use following::{stray_at, waiting_operator};
 pub use laws::placings_make_the_maps;
 pub use placing::Placing;

@@ -20,12 +20,12 @@ use Rattle.run_plan.proofs.Counts.{one_more, no_more}
 
 -- ---- lists
 module _ {X : Type 0} where
-  get_front : (xs ys : List X) (i : ℕ) → i < length xs → slice_get (xs ++ ys) i ≡ slice_get xs i
+  pub get_front : (xs ys : List X) (i : ℕ) → i < length xs → slice_get (xs ++ ys) i ≡ slice_get xs i
   get_front [] ys i lt = absurd (omega arith)
   get_front (x ∷ xs) ys zero lt = refl
   get_front (x ∷ xs) ys (suc i) lt = get_front xs ys i (omega arith)
 
-  get_last : (xs : List X) (x : X) (i : ℕ) → i ≡ length xs → slice_get (xs ++ x ∷ []) i ≡ Some x
+  pub get_last : (xs : List X) (x : X) (i : ℕ) → i ≡ length xs → slice_get (xs ++ x ∷ []) i ≡ Some x
   get_last [] x zero e = refl
   get_last [] x (suc i) e = absurd (omega arith)
   get_last (y ∷ xs) x zero e = absurd (omega arith)
@@ -37,7 +37,7 @@ module _ {X : Type 0} where
   take_end (x ∷ xs) ys zero e = absurd (omega arith)
   take_end (x ∷ xs) ys (suc i) e = ap (λ (zs : List X). x ∷ zs) (take_end xs ys i (omega arith))
 
-  length_end : (xs : List X) (x : X) → length (xs ++ x ∷ []) ≡ length xs + 1
+  pub length_end : (xs : List X) (x : X) → length (xs ++ x ∷ []) ≡ length xs + 1
   length_end xs x = length-append xs (x ∷ [])
 
 -- ---- a Tick, in one action more

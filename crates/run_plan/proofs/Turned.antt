@@ -1,110 +1,183 @@
--- Turns, operator by operator and step by step.
-use Rattle.std.proofs.Common.{◌≡◌, ℕ, ◌+◌, ◌<◌, ◌≤◌, List, length, take, Option, Some, None, ◌⊎◌, inl, inr, refl, sym, ap, ◌∙◌, subst, arith}
-use Rattle.std.specs.Prelude.{slice_get, slice_set, slice_index}
-use Rattle.std.proofs.lemmas.Bool.{cases_eq, cond-false}
-use Rattle.std.proofs.lemmas.Grind.{get_or-set_at}
-use Rattle.std.proofs.lemmas.List.{length-set, get_or-set_other}
-use Rattle.std.proofs.lemmas.Option.{none-some, same_Some, slice_get_within, get_or_from_slice_get}
-use Rattle.dsx_messages.specs.declared.modem.Modem.{Modem}
+-- Turns and courses, step by step.
+use Rattle.std.proofs.Common.{◌≡◌, ℕ, ◌+◌, ◌<◌, ◌≤◌, List, [], ◌∷◌, ◌++◌, length, take, Option, Some, None, ◌⊎◌, inl, inr, refl, sym, ap, ◌∙◌, subst, arith}
+use Rattle.std.specs.Prelude.{slice_get, slice_set}
+use Rattle.std.proofs.lemmas.Bool.{cases_eq}
+use Rattle.std.proofs.lemmas.List.{length-set}
+use Rattle.std.proofs.lemmas.Option.{none-some, same_Some, slice_get_within}
 use Rattle.plant.specs.declared.operator_row.RowFields.{RowFields}
 use Rattle.plant.specs.declared.plant.PlantFields.{PlantFields}
 use Rattle.plant.specs.Plant.{IsPlant}
-use Rattle.plant.specs.Row.{is_listed}
-use Rattle.plant.specs.Roster.{holder}
-use Rattle.operator_model.specs.declared.heard.Heard.{Heard}
-use Rattle.operator_model.specs.declared.action.Action.TheVariants as actions
+use Rattle.operator_model.specs.declared.action.Action.TheVariants.{Tick}
 use Rattle.run_model.specs.declared.step.Step.{Step}
-use Rattle.run_model.specs.declared.step.Step.TheVariants as steps
-use Rattle.run_model.specs.OwnSteps.{action_of, own_steps, collects_of}
-use Rattle.run_model.proofs.Entries.{same_at}
-use Rattle.run_model.proofs.OwnActions.{arrive_at}
-use Rattle.run_audit.proofs.Whose.{held_by_none}
-use Rattle.run_plan.specs.Turns.{waiting_operator, IsDueAt, AreTurns}
-use Rattle.run_plan.specs.Courses.{IsOwnTurn, AreWritten}
+use Rattle.run_model.specs.OwnSteps.{own_steps, collects_of}
+use Rattle.run_model.proofs.Entries.{get_same, get_other, same_at}
+use Rattle.run_audit.proofs.Whose.{others_none}
+use Rattle.run_plan.specs.declared.turns.Course.{Course}
+use Rattle.run_audit.specs.Taken.{waiting_operator}
+use Rattle.run_plan.specs.Turns.{IsDueAt, IsTurn, AreTurns}
+use Rattle.run_plan.specs.Courses.{IsCourse, IsOwnTurn, IsNewCourse, AreNewCourses, AreCourses}
+use Rattle.run_plan.proofs.Courses.{get_front, get_last, length_end, course_none}
 
--- what is heard of another operator's modem is no action of this one
-pub arrive_none : (plant : PlantFields) (modem : Modem) (heard : Heard) (op : ℕ) (row : RowFields) → IsPlant plant → slice_get plant.rows op ≡ Some row → (holder plant.rows modem ≡ Some op → ⊥)
-    → action_of row op (steps.Arrive modem heard) ≡ None
-arrive_none plant modem heard op row is here other = by (holder plant.rows modem) refl
-  where
-    by : (o : Option ℕ) → holder plant.rows modem ≡ o → action_of row op (steps.Arrive modem heard) ≡ None
-    by None e = cond-false (is_listed modem row.modems) (Some (actions.Arrive modem heard)) None (sym (held_by_none plant modem op row is here e))
-    by (Some k) e = (arrive_at plant modem heard k is e).else op row here (λ same. other (e ∙ ap (λ (n : ℕ). Some n) (sym same)))
+-- ---- one step more, operator by operator
+-- the first operators have gone on by the step at this place, and the others have not
+pub record HavePassed (plant : PlantFields) (all : List Step) (at count : ℕ) (courses : List Course) : Type 0 where
+  pub one_each : length courses ≡ length plant.rows
+  pub passed : (op : ℕ) (row : RowFields) (course : Course) → op < count → slice_get plant.rows op ≡ Some row → slice_get courses op ≡ Some course → IsCourse row op (take (at + 1) all) course
+  pub left : (op : ℕ) (row : RowFields) (course : Course) → count ≤ op → slice_get plant.rows op ≡ Some row → slice_get courses op ≡ Some course → IsCourse row op (take at all) course
 
--- ---- an operator's walk
-module _ (plant : PlantFields) (row : RowFields) (op : ℕ) (all : List Step) where
-  pub written_none : (old : List ℕ) → AreWritten plant row op all 0 old old
-  written_none old = record { one_each = refl; own = λ at step lt. absurd (omega (arith, lt)); others = λ at step here ne. refl }
+module _ (plant : PlantFields) (all : List Step) (at : ℕ) where
+  pub none_passed : (courses : List Course) → AreCourses plant (take at all) courses → HavePassed plant all at 0 courses
+  none_passed courses are = record {
+    one_each = are.one_each;
+    passed = λ op row course lt here there. absurd (omega (arith, lt));
+    left = λ op row course le here there. are.each op row course here there;
+  }
 
-  module _ (count : ℕ) (old new : List ℕ) (are : AreWritten plant row op all count old new) where
-    -- the step at the place is another's
-    pub written_other : ((s : Step) → slice_get all count ≡ Some s → IsOwnTurn plant row op (take count all) s None) → AreWritten plant row op all (count + 1) old new
-    written_other none = record { one_each = are.one_each; own = λ at step lt here waits. by at step lt here waits (cases_eq at count); others = are.others }
-      where
-        by : (at : ℕ) (step : Step) → at < count + 1 → slice_get all at ≡ Some step → waiting_operator plant step ≡ Some op → (at ≡ count) ⊎ (at ≡ count → ⊥)
-            → IsDueAt (own_steps row op (take at all)) (collects_of op (take at all)) step (slice_index new at)
-        by at step lt here waits (inl same) = absurd (none step (ap (slice_get all) (sym same) ∙ here) waits)
-        by at step lt here waits (inr ne) = are.own at step (omega (arith, lt, ne)) here waits
+  pub all_passed : (count : ℕ) (courses : List Course) → length courses ≤ count → HavePassed plant all at count courses → AreCourses plant (take (at + 1) all) courses
+  all_passed count courses le are = record {
+    one_each = are.one_each;
+    each = λ op row course here there. are.passed op row course (let within = slice_get_within courses op course there in omega (arith, le, within)) here there;
+  }
 
-    -- the step at the place is the operator's own, and its turn is written
-    pub written_own : (turn : ℕ) → count < length old → count < length all → ((s : Step) → slice_get all count ≡ Some s → IsOwnTurn plant row op (take count all) s (Some turn))
-        → (v : Step) → slice_get all count ≡ Some v → AreWritten plant row op all (count + 1) old (slice_set new count turn)
-    written_own turn within inside own v there = record {
-      one_each = length-set new count turn ∙ are.one_each;
-      own = λ at step lt here waits. by at step lt here waits (cases_eq at count);
-      others = λ at step here ne.
-          let far : at ≡ count → ⊥ = λ same. ne ((own step (ap (slice_get all) (sym same) ∙ here)).0) in
-          get_or-set_other new count at turn 0 far ∙ are.others at step here ne;
+  module _ (count : ℕ) (courses : List Course) (within : count < length courses) (d : Course) where
+    -- what stands at the operator's own place is its course
+    own_course : (P : ℕ → Course → Type 0) → P count d → (op : ℕ) (course : Course) → op ≡ count → slice_get (slice_set courses count d) op ≡ Some course → P op course
+    own_course P holds op course same there =
+        let course_is : d ≡ course =
+        same_at (slice_set courses count d) count d course (get_same courses count d within) (ap (λ (n : ℕ). slice_get (slice_set courses count d) n) (sym same) ∙ there) in
+        subst (λ (n : ℕ). P n course) (sym same) (subst (λ (c : Course). P count c) course_is holds)
+
+    pub one_passed : HavePassed plant all at count courses → ((row : RowFields) → slice_get plant.rows count ≡ Some row → IsCourse row count (take (at + 1) all) d)
+        → HavePassed plant all at (count + 1) (slice_set courses count d)
+    one_passed are new = record {
+      one_each = length-set courses count d ∙ are.one_each;
+      passed = λ op row course lt here there. by op row course lt here there (cases_eq op count);
+      left = λ op row course le here there.
+          are.left op row course (omega (arith, le)) here (sym (get_other courses count op d (λ same. absurd (omega (arith, le, same)))) ∙ there);
     }
       where
-        by : (at : ℕ) (step : Step) → at < count + 1 → slice_get all at ≡ Some step → waiting_operator plant step ≡ Some op → (at ≡ count) ⊎ (at ≡ count → ⊥)
-            → IsDueAt (own_steps row op (take at all)) (collects_of op (take at all)) step (slice_index (slice_set new count turn) at)
-        by at step lt here waits (inl same) =
-            let written : slice_index (slice_set new count turn) at ≡ turn = get_or-set_at new count at turn 0 same (omega (arith, within, are.one_each)) in
-            subst (λ (n : ℕ). IsDueAt (own_steps row op (take at all)) (collects_of op (take at all)) step n) (sym written)
-            (subst (λ (n : ℕ). IsDueAt (own_steps row op (take n all)) (collects_of op (take n all)) step turn) (sym same)
-            (own step (ap (slice_get all) (sym same) ∙ here)).1)
-        by at step lt here waits (inr ne) =
-            subst (λ (n : ℕ). IsDueAt (own_steps row op (take at all)) (collects_of op (take at all)) step n) (sym (get_or-set_other new count at turn 0 ne))
-            (are.own at step (omega (arith, lt, ne)) here waits)
+        by : (op : ℕ) (row : RowFields) (course : Course) → op < count + 1 → slice_get plant.rows op ≡ Some row → slice_get (slice_set courses count d) op ≡ Some course → (op ≡ count) ⊎ (op ≡ count → ⊥)
+            → IsCourse row op (take (at + 1) all) course
+        by op row course lt here there (inl same) =
+            own_course (λ n c. slice_get plant.rows n ≡ Some row → IsCourse row n (take (at + 1) all) c) (λ e. new row e) op course same there here
+        by op row course lt here there (inr ne) = are.passed op row course (omega (arith, lt, ne)) here (sym (get_other courses count op d ne) ∙ there)
 
--- ---- operator by operator
--- of the first operators, the turns are written; and 0 where a step waits for none
-pub record AreTurnsOf (plant : PlantFields) (all : List Step) (count : ℕ) (turns : List ℕ) : Type 0 where
-  pub one_each : length turns ≡ length all
-  pub due : (at : ℕ) (step : Step) (op : ℕ) (row : RowFields) → op < count → slice_get all at ≡ Some step → waiting_operator plant step ≡ Some op → slice_get plant.rows op ≡ Some row
-      → IsDueAt (own_steps row op (take at all)) (collects_of op (take at all)) step (slice_index turns at)
-  pub none : (at : ℕ) (step : Step) → slice_get all at ≡ Some step → waiting_operator plant step ≡ None → slice_index turns at ≡ 0
+    -- the step is this operator's, and it alone goes on
+    pub own_passed : IsPlant plant → (step : Step) → slice_get all at ≡ Some step → waiting_operator plant step ≡ Some count → AreCourses plant (take at all) courses
+        → ((row : RowFields) → slice_get plant.rows count ≡ Some row → IsCourse row count (take (at + 1) all) d) → AreCourses plant (take (at + 1) all) (slice_set courses count d)
+    own_passed is step stands waits are new = record {
+      one_each = length-set courses count d ∙ are.one_each;
+      each = λ op row course here there. by op row course here there (cases_eq op count);
+    }
+      where
+        by : (op : ℕ) (row : RowFields) (course : Course) → slice_get plant.rows op ≡ Some row → slice_get (slice_set courses count d) op ≡ Some course → (op ≡ count) ⊎ (op ≡ count → ⊥)
+            → IsCourse row op (take (at + 1) all) course
+        by op row course here there (inl same) =
+            own_course (λ n c. slice_get plant.rows n ≡ Some row → IsCourse row n (take (at + 1) all) c) (λ e. new row e) op course same there here
+        by op row course here there (inr ne) =
+            let none = others_none plant step count op row is waits ne here in
+            course_none row op all at step stands course (are.each op row course here (sym (get_other courses count op d ne) ∙ there)) none.action none.collection
+
+  module _ (step : Step) (stands : slice_get all at ≡ Some step) where
+    -- the step is of an operator that is not there
+    pub stranger_passed : IsPlant plant → (op : ℕ) → waiting_operator plant step ≡ Some op → (courses : List Course) → length courses ≤ op → AreCourses plant (take at all) courses
+        → AreCourses plant (take (at + 1) all) courses
+    stranger_passed is op waits courses past are = record {
+      one_each = are.one_each;
+      each = λ i row course here there.
+          let within = slice_get_within courses i course there in
+          let none = others_none plant step op i row is waits (λ same. absurd (omega (arith, past, within, same))) here in
+          course_none row i all at step stands course (are.each i row course here there) none.action none.collection;
+    }
+
+-- ---- the turn of a step
+module _ (plant : PlantFields) (before : List Step) (step : Step) where
+  pub own_is_turn : (op : ℕ) → waiting_operator plant step ≡ Some op → (turn : ℕ) → ((row : RowFields) → slice_get plant.rows op ≡ Some row → IsOwnTurn plant row op before step (Some turn))
+      → IsTurn plant before step turn
+  own_is_turn op waits turn is = record {
+    due = λ i row also here.
+        let same : op ≡ i = same_Some op i (sym waits ∙ also) in
+        subst (λ (n : ℕ). IsDueAt (own_steps row n before) (collects_of n before) step turn) same (is row (ap (λ (n : ℕ). slice_get plant.rows n) same ∙ here)).1;
+    none = λ never. absurd (none-some op (sym never ∙ waits));
+  }
+
+  pub stranger_is_turn : (op : ℕ) → waiting_operator plant step ≡ Some op → length plant.rows ≤ op → (turn : ℕ) → IsTurn plant before step turn
+  stranger_is_turn op waits past turn = record {
+    due = λ i row also here.
+        let same : op ≡ i = same_Some op i (sym waits ∙ also) in
+        let within = slice_get_within plant.rows i row here in
+        absurd (omega (arith, past, within, same));
+    none = λ never. absurd (none-some op (sym never ∙ waits));
+  }
+
+  pub none_is_turn : waiting_operator plant step ≡ None → IsTurn plant before step 0
+  none_is_turn never = record {
+    due = λ i row also here. absurd (none-some i (sym never ∙ also));
+    none = λ _. refl;
+  }
+
+-- ---- all steps
+-- the first steps have their turns, and the operators have come as far as they lead
+pub record HaveTurns (plant : PlantFields) (all : List Step) (at : ℕ) (courses : List Course) (turns : List ℕ) : Type 0 where
+  pub courses_are : AreCourses plant (take at all) courses
+  pub within : at ≤ length all
+  pub one_each : length turns ≡ at
+  pub each : (k : ℕ) (step : Step) (turn : ℕ) → slice_get all k ≡ Some step → slice_get turns k ≡ Some turn → IsTurn plant (take k all) step turn
+
+pub no_courses : AreNewCourses 0 []
+no_courses = record { one_each = refl; each = λ op course there. absurd (none-some course there) }
+
+pub new_more : (count : ℕ) (courses : List Course) (course : Course) → AreNewCourses count courses → IsNewCourse course → AreNewCourses (count + 1) (courses ++ course ∷ [])
+new_more count courses course are new = record {
+  one_each = length_end courses course ∙ ap (λ (n : ℕ). n + 1) are.one_each;
+  each = λ op other there. by op other there (cases_eq op count);
+}
+  where
+    by : (op : ℕ) (other : Course) → slice_get (courses ++ course ∷ []) op ≡ Some other → (op ≡ count) ⊎ (op ≡ count → ⊥) → IsNewCourse other
+    by op other there (inl same) = subst IsNewCourse (same_Some course other (sym (get_last courses course op (same ∙ sym are.one_each)) ∙ there)) new
+    by op other there (inr ne) =
+        let long = length_end courses course in
+        let within = slice_get_within (courses ++ course ∷ []) op other there in
+        are.each op other (sym (get_front courses (course ∷ []) op (omega (arith, within, long, ne, are.one_each))) ∙ there)
+
+none_done : (row : RowFields) (op : ℕ) (course : Course) → IsNewCourse course → IsCourse row op [] course
+none_done row op course is = record {
+  actions = is.actions;
+  collects = is.collects;
+  many = ap (λ (ns : List ℕ). length ns) is.behind;
+  ticks = λ count place t. absurd (none-some Tick t.tick);
+}
 
 module _ (plant : PlantFields) (all : List Step) where
-  pub turns_more : (count : ℕ) (row : RowFields) (old new : List ℕ) → slice_get plant.rows count ≡ Some row → AreTurnsOf plant all count old → AreWritten plant row count all (length all) old new → AreTurnsOf plant all (count + 1) new
-  turns_more count row old new there are written = record {
-    one_each = written.one_each ∙ are.one_each;
-    due = λ at step op other lt here waits e. by at step op other lt here waits e (cases_eq op count);
-    none = λ at step here waits. written.others at step here (λ own. none-some count (sym waits ∙ own)) ∙ are.none at step here waits;
+  pub no_turns : (courses : List Course) → AreNewCourses (length plant.rows) courses → HaveTurns plant all 0 courses []
+  no_turns courses new = record {
+    courses_are = record { one_each = new.one_each; each = λ op row course here there. none_done row op course (new.each op course there) };
+    within = omega arith;
+    one_each = refl;
+    each = λ k step turn here there. absurd (none-some turn there);
+  }
+
+  pub turn_more : (at : ℕ) (courses new : List Course) (turns : List ℕ) (turn : ℕ) → at < length all → HaveTurns plant all at courses turns → AreCourses plant (take (at + 1) all) new
+      → ((step : Step) → slice_get all at ≡ Some step → IsTurn plant (take at all) step turn) → HaveTurns plant all (at + 1) new (turns ++ turn ∷ [])
+  turn_more at courses new turns turn lt have are is = record {
+    courses_are = are;
+    within = omega (arith, lt);
+    one_each = length_end turns turn ∙ ap (λ (n : ℕ). n + 1) have.one_each;
+    each = λ k step other here there. by k step other here there (cases_eq k at);
   }
     where
-      by : (at : ℕ) (step : Step) (op : ℕ) (other : RowFields) → op < count + 1 → slice_get all at ≡ Some step → waiting_operator plant step ≡ Some op → slice_get plant.rows op ≡ Some other → (op ≡ count) ⊎ (op ≡ count → ⊥)
-          → IsDueAt (own_steps other op (take at all)) (collects_of op (take at all)) step (slice_index new at)
-      by at step op other lt here waits e (inl same) =
-          let row_is : row ≡ other = same_at plant.rows count row other there (ap (slice_get plant.rows) (sym same) ∙ e) in
-          subst (λ (n : ℕ). IsDueAt (own_steps other n (take at all)) (collects_of n (take at all)) step (slice_index new at)) (sym same)
-          (subst (λ (r : RowFields). IsDueAt (own_steps r count (take at all)) (collects_of count (take at all)) step (slice_index new at)) row_is
-          (written.own at step (slice_get_within all at step here) here (waits ∙ ap (λ (n : ℕ). Some n) same)))
-      by at step op other lt here waits e (inr ne) =
-          subst (λ (n : ℕ). IsDueAt (own_steps other op (take at all)) (collects_of op (take at all)) step n)
-          (sym (written.others at step here (λ own. ne (same_Some op count (sym waits ∙ own)))))
-          (are.due at step op other (omega (arith, lt, ne)) here waits e)
+      by : (k : ℕ) (step : Step) (other : ℕ) → slice_get all k ≡ Some step → slice_get (turns ++ turn ∷ []) k ≡ Some other → (k ≡ at) ⊎ (k ≡ at → ⊥) → IsTurn plant (take k all) step other
+      by k step other here there (inl same) =
+          let turn_is : turn ≡ other = same_Some turn other (sym (get_last turns turn k (same ∙ sym have.one_each)) ∙ there) in
+          subst (λ (n : ℕ). IsTurn plant (take k all) step n) turn_is
+          (subst (λ (n : ℕ). IsTurn plant (take n all) step turn) (sym same) (is step (ap (λ (n : ℕ). slice_get all n) (sym same) ∙ here)))
+      by k step other here there (inr ne) =
+          let long = length_end turns turn in
+          let within = slice_get_within (turns ++ turn ∷ []) k other there in
+          have.each k step other here (sym (get_front turns (turn ∷ []) k (omega (arith, within, long, ne, have.one_each))) ∙ there)
 
-  pub all_turns : (count : ℕ) (turns : List ℕ) → length plant.rows ≤ count → AreTurnsOf plant all count turns → AreTurns plant all turns
-  all_turns count turns le are = record {
-    one_each = are.one_each;
-    each = λ at step turn here there.
-        let is : slice_index turns at ≡ turn = get_or_from_slice_get turns at turn 0 there in
-        record {
-          due = λ op row waits e.
-              subst (λ (n : ℕ). IsDueAt (own_steps row op (take at all)) (collects_of op (take at all)) step n) is
-              (are.due at step op row (omega (arith, le, slice_get_within plant.rows op row e)) here waits e);
-          none = λ waits. sym is ∙ are.none at step here waits;
-        };
+  pub all_turns : (at : ℕ) (courses : List Course) (turns : List ℕ) → length all ≤ at → HaveTurns plant all at courses turns → AreTurns plant all turns
+  all_turns at courses turns le have = record {
+    one_each = omega (arith, le, have.within, have.one_each);
+    each = have.each;
   }

@@ -1,12 +1,13 @@
 -- How far an operator has come in the steps of a run, as a walk over them keeps it (implementation-specific).
-use Rattle.std.specs.Prelude.{◌≡◌, ℕ, ◌+◌, ◌<◌, List, length, take, slice_get, slice_index, count_by, Option, Some, None}
+use Rattle.std.specs.Prelude.{◌≡◌, ℕ, ◌+◌, List, [], length, slice_get, count_by, Option, Some, None}
 use Rattle.plant.specs.declared.operator_row.RowFields.{RowFields}
 use Rattle.plant.specs.declared.plant.PlantFields.{PlantFields}
 use Rattle.operator_model.specs.Frames.{is_tick}
 use Rattle.run_model.specs.declared.step.Step.{Step}
 use Rattle.run_model.specs.OwnSteps.{own_steps, collects_of}
 use Rattle.run_plan.specs.declared.turns.Course.{Course}
-use Rattle.run_plan.specs.Turns.{waiting_operator, IsTickAt, IsDueAt}
+use Rattle.run_audit.specs.Taken.{waiting_operator}
+use Rattle.run_plan.specs.Turns.{IsTickAt, IsDueAt}
 
 -- the course counts the operator's own actions and collections among these steps, and how many actions there were right
 -- after each Tick
@@ -23,10 +24,19 @@ IsOwnTurn plant row op before step None = waiting_operator plant step ≡ Some o
 IsOwnTurn plant row op before step (Some turn) =
     (waiting_operator plant step ≡ Some op) × IsDueAt (own_steps row op before) (collects_of op before) step turn
 
--- of the first steps, those of this operator have their turns; those of others have what they had
-pub record AreWritten (plant : PlantFields) (row : RowFields) (op : ℕ) (all : List Step) (count : ℕ) (old new : List ℕ) : Type 0 where
-  pub one_each : length new ≡ length old
-  pub own : (at : ℕ) (step : Step) → at < count → slice_get all at ≡ Some step → waiting_operator plant step ≡ Some op
-      → IsDueAt (own_steps row op (take at all)) (collects_of op (take at all)) step (slice_index new at)
-  pub others : (at : ℕ) (step : Step) → slice_get all at ≡ Some step → (waiting_operator plant step ≡ Some op → ⊥)
-      → slice_index new at ≡ slice_index old at
+-- the operator has not begun
+pub record IsNewCourse (course : Course) : Type 0 where
+  pub actions : course.actions ≡ 0
+  pub collects : course.collects ≡ 0
+  pub behind : course.behind.items ≡ []
+
+-- so many operators have not begun
+pub record AreNewCourses (operators : ℕ) (courses : List Course) : Type 0 where
+  pub one_each : length courses ≡ operators
+  pub each : (op : ℕ) (course : Course) → slice_get courses op ≡ Some course → IsNewCourse course
+
+-- each operator has come as far as these steps lead it
+pub record AreCourses (plant : PlantFields) (before : List Step) (courses : List Course) : Type 0 where
+  pub one_each : length courses ≡ length plant.rows
+  pub each : (op : ℕ) (row : RowFields) (course : Course) → slice_get plant.rows op ≡ Some row
+      → slice_get courses op ≡ Some course → IsCourse row op before course

@@ -2,21 +2,13 @@
 use Rattle.std.specs.Prelude.{◌≡◌, ℕ, ◌+◌, List, length, take, slice_get, count_by, Option, Some, None}
 use Rattle.plant.specs.declared.operator_row.RowFields.{RowFields}
 use Rattle.plant.specs.declared.plant.PlantFields.{PlantFields}
-use Rattle.plant.specs.Roster.{holder}
 use Rattle.operator_model.specs.declared.action.Action.{Action}
 use Rattle.operator_model.specs.declared.action.Action.TheVariants.{Tick}
 use Rattle.operator_model.specs.Frames.{is_tick}
 use Rattle.run_model.specs.declared.step.Step.{Step}
 use Rattle.run_model.specs.declared.step.Step.TheVariants as steps
 use Rattle.run_model.specs.OwnSteps.{own_steps, collects_of}
-
--- the operator in whose history a step waits for a place. A `Reslice` is of all operators and waits for none
-abbrev pub waiting_operator : PlantFields → Step → Option ℕ
-waiting_operator plant (steps.Arrive modem heard) = holder plant.rows modem
-waiting_operator plant (steps.Work op) = Some op
-waiting_operator plant (steps.Tick op) = Some op
-waiting_operator plant (steps.Collect op) = Some op
-waiting_operator plant (steps.Reslice from rows) = None
+use Rattle.run_audit.specs.Taken.{waiting_operator}
 
 -- the Tick at this place of the actions is the one with so many Ticks before it
 pub record IsTickAt (actions : List Action) (count place : ℕ) : Type 0 where

@@ -4,11 +4,13 @@ ghost use Rattle.std.specs.Prelude.{◌≡◌, ◌+◌, ◌<◌, ◌++◌, [], �
 ghost use Rattle.plant.specs.Roster.{holder};
 ghost use Rattle.plant.specs.declared.operator_row.RowFields.{RowFields};
 ghost use Rattle.run_model.specs.declared.step.Step.{Step};
-ghost use Rattle.run_plan.specs.Turns.{AreTurns};
-ghost use Rattle.run_plan.specs.Courses.{IsCourse, IsOwnTurn, AreWritten};
+ghost use Rattle.run_audit.specs.Taken.{waiting_operator};
+ghost use Rattle.run_plan.specs.Turns.{IsTurn, AreTurns};
+ghost use Rattle.run_plan.specs.Courses.{IsCourse, IsOwnTurn, AreNewCourses, AreCourses};
 
 use dsx_messages::Modem;
 use plant::{Op, Plant};
+use run_audit::waiting_operator;
 use run_model::Step;
 use std::alloc::{AllocError, Global};
 
@@ -127,42 +129,101 @@ fn turn_of(
     }
 }
 
-/// Writes the turns of an operator's own steps.
-fn write_own(
-    alloc: Global,
-    plant: &Plant,
-    op: Op,
-    steps: &[Step],
-    turns: &mut [usize],
-) -> Result<(), AllocError>
-    requires known { op < length plant.now.rows }
-    requires one_each { length turns.old ≡ length steps.now }
-    ensures { OnOk result ((row : RowFields) → slice_get plant.now.rows op ≡ Some row
-        → AreWritten plant.now row op steps.now (length steps.now) turns.old turns.new) }
+/// Makes the courses of so many operators that have not begun.
+fn new_courses(alloc: Global, operators: usize) -> Result<Vec<Course>, AllocError>
+    ensures { IfOk result (λ courses. AreNewCourses operators courses.items) }
 {
-    let mut course = Course {
-        actions: 0,
-        behind: Vec::new(alloc),
-        collects: 0,
-    };
-    for at in 0..steps.len() {
-        if let Some(turn) = turn_of(plant, op, &mut course, steps, at)? {
-            turns[at] = turn;
-        }
+    let mut courses = Vec::with_capacity(alloc, operators)?;
+    for op in 0..operators {
+        courses.push(Course {
+            actions: 0,
+            behind: Vec::new(alloc),
+            collects: 0,
+        })?;
+    }
+    Ok(courses)
+}
+
+/// Has each operator go on by the step at a place, which waits for no place of a history.
+fn pass_all(
+    plant: &Plant,
+    courses: &mut [Course],
+    steps: &[Step],
+    at: usize,
+) -> Result<(), AllocError>
+    requires within { at < length steps.now }
+    requires room { at < usize.MAX }
+    requires courses { AreCourses plant.now (take at steps.now) courses.old }
+    ensures { OnOk result (AreCourses plant.now (take (at + 1) steps.now) courses.new) }
+{
+    for op in 0..courses.len() {
+        turn_of(plant, op, &mut courses[op], steps, at)?;
     }
     Ok(())
+}
+
+/// Returns the turn of the step at a place, which is this operator's; the operator alone goes on by it.
+fn own_turn(
+    plant: &Plant,
+    op: Op,
+    courses: &mut [Course],
+    steps: &[Step],
+    at: usize,
+) -> Result<usize, AllocError>
+    requires within { at < length steps.now }
+    requires room { at < usize.MAX }
+    requires own { (step : Step) → slice_get steps.now at ≡ Some step → waiting_operator plant.now step ≡ Some op }
+    requires courses { AreCourses plant.now (take at steps.now) courses.old }
+    ensures turn { IfOk result (λ turn. (step : Step) → slice_get steps.now at ≡ Some step
+        → IsTurn plant.now (take at steps.now) step turn) }
+    ensures courses { OnOk result (AreCourses plant.now (take (at + 1) steps.now) courses.new) }
+{
+    // For the proof: a plant is valid, so a modem is listed by one operator only.
+    let _rows = plant.rows();
+    if op >= courses.len() {
+        return Ok(0);
+    }
+    match turn_of(plant, op, &mut courses[op], steps, at)? {
+        Some(turn) => Ok(turn),
+        None => Ok(0),
+    }
+}
+
+/// Returns the turn of the step at a place; the operators go on by it. Its operator is looked up once.
+fn next_turn(
+    plant: &Plant,
+    courses: &mut [Course],
+    steps: &[Step],
+    at: usize,
+) -> Result<usize, AllocError>
+    requires within { at < length steps.now }
+    requires room { at < usize.MAX }
+    requires courses { AreCourses plant.now (take at steps.now) courses.old }
+    ensures turn { IfOk result (λ turn. (step : Step) → slice_get steps.now at ≡ Some step
+        → IsTurn plant.now (take at steps.now) step turn) }
+    ensures courses { OnOk result (AreCourses plant.now (take (at + 1) steps.now) courses.new) }
+{
+    match waiting_operator(plant, &steps[at]) {
+        Some(op) => own_turn(plant, op, courses, steps, at),
+        None => {
+            pass_all(plant, courses, steps, at)?;
+            Ok(0)
+        }
+    }
 }
 
 /// Returns at which place of its operator's history each step is due: an Arrive, a Work or a Tick
 /// after all of the operator's own actions before it, slice changes among them, and a Collect after
 /// the Tick whose frame it takes. 0 for a `Reslice`, which is of all operators. Takes time in
-/// proportion to the steps and the operators, of which there are at most 32.
+/// proportion to the steps, and for each `Reslice` in proportion to the operators.
 pub fn turns_of(alloc: Global, plant: &Plant, steps: &[Step]) -> Result<Vec<usize>, AllocError>
     ensures { IfOk result (λ turns. AreTurns plant.now steps.now turns.items) }
 {
-    let mut turns = vec![in alloc; 0; steps.len()]?;
-    for op in 0..plant.rows().len() {
-        write_own(alloc, plant, op, steps, turns.as_mut_slice())?;
+    let mut courses = new_courses(alloc, plant.rows().len())?;
+    let mut turns = Vec::with_capacity(alloc, steps.len())?;
+    for at in 0..steps.len() {
+        let turn = next_turn(plant, courses.as_mut_slice(), steps, at)?;
+        turns.push(turn)?;
     }
     Ok(turns)
 }

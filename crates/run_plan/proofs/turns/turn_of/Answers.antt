@@ -11,7 +11,7 @@ use Rattle.run_model.proofs.OwnActions.{work_at, tick_at, arrive_at}
 use Rattle.run_plan.specs.Courses.{IsCourse, IsOwnTurn}
 use Rattle.run_plan.proofs.Courses.{course_none, course_collects, course_acts, course_ticks, few_actions, few_collects}
 use Rattle.run_plan.proofs.Counts.{stands_at, at_place}
-use Rattle.run_plan.proofs.Turned.{arrive_none}
+use Rattle.run_audit.proofs.Whose.{arrive_none}
 use Rattle.run_plan.proofs.turns.turn_of.Goals as goal
 
 pub act-requires : goal.act-requires

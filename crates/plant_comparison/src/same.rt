@@ -1,7 +1,7 @@
 //! Whether two values are the same.
 
 ghost use Rattle.std.specs.Prelude.{◌≡◌, ◌↔◌, IsTrue};
-ghost use Rattle.run_audit.specs.Same.{HaveSameLimits, HaveSameRanges, AreOfSameFlow, HaveSameRates, HaveSameIntervals};
+ghost use Rattle.plant_comparison.specs.Same.{HaveSameLimits, HaveSameRanges, AreOfSameFlow, HaveSameRates, HaveSameIntervals};
 
 use admission::IdRange;
 use dsx_messages::Modem;
@@ -57,8 +57,8 @@ fn is_same_modem(a: Modem, b: Modem) -> bool
     a == b
 }
 
-/// Returns whether two names are the same.
-fn is_same_name(a: OperatorName, b: OperatorName) -> bool
+/// Returns whether two operators' names are the same.
+pub fn is_same_name(a: OperatorName, b: OperatorName) -> bool
     ensures { IsTrue result ↔ (a ≡ b) }
 {
     a == b
@@ -97,7 +97,7 @@ fn have_same_ranges(a: &RowFields, b: &RowFields) -> bool
 }
 
 /// Returns whether two rows are the same.
-pub(crate) fn is_same_row(a: &OperatorRow, b: &OperatorRow) -> bool
+pub fn is_same_row(a: &OperatorRow, b: &OperatorRow) -> bool
     ensures { IsTrue result ↔ (a.now ≡ b.now) }
 {
     let (a, b) = (a.get_fields(), b.get_fields());
@@ -217,7 +217,7 @@ fn are_same_classes(a: &[Class], b: &[Class]) -> bool
 }
 
 /// Returns whether two plants' operators share the same.
-pub(crate) fn are_same_consts(a: &Consts, b: &Consts) -> bool
+pub fn are_same_consts(a: &Consts, b: &Consts) -> bool
     ensures { IsTrue result ↔ (a.now ≡ b.now) }
 {
     let (a, b) = (a.get_fields(), b.get_fields());
@@ -229,7 +229,7 @@ pub(crate) fn are_same_consts(a: &Consts, b: &Consts) -> bool
 }
 
 /// Returns whether two plants are the same.
-pub(crate) fn is_same_plant(a: &Plant, b: &Plant) -> bool
+pub fn is_same_plant(a: &Plant, b: &Plant) -> bool
     ensures { IsTrue result ↔ (a.now ≡ b.now) }
 {
     are_same_consts(a.consts(), b.consts()) && are_same_rows(a.rows(), b.rows())
