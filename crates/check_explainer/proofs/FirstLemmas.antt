@@ -10,7 +10,7 @@ use Rattle.operator_model.specs.Sound.{IsSound}
 use Rattle.operator_model.specs.Verdict.{verdict}
 use Rattle.lists.specs.First.{IsFirst}
 use Rattle.check_table.specs.Said.{Said, said_by}
-use Rattle.check_table.specs.Holding.{Holds}
+use Rattle.check_table.specs.Holding.{CheckApplies}
 use Rattle.check_table.specs.Table.{table, IsDecidedBy}
 use Rattle.check_table.specs.declared.check.Check.{Check}
 use Rattle.check_table.specs.declared.check.Check.TheVariants as checks
@@ -40,7 +40,7 @@ module _ (op : Operator) (modem : Modem) (said : Said) where
   found_at_last o is = last_found (test_of op modem said) but_last checks.Accepted refl o is
 
   abbrev pub holds_so : Check → Type 0
-  holds_so check = Holds check op modem said
+  holds_so check = CheckApplies check op modem said
 
   abbrev pub test : Check → Bool
   test check = test_of op modem said check

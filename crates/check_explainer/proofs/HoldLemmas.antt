@@ -28,7 +28,7 @@ use Rattle.operator_model.specs.declared.share.NextShare.{NextShare}
 use Rattle.operator_model.specs.State.{Operator}
 use Rattle.operator_model.specs.Asked.{is_same, has_set_type, is_unclassed, stand_together}
 use Rattle.check_table.specs.Said.{Said, identifier, NamesFlow, IsOfFlow, IsAbout, EncodingAsksFor, set_asked, Admits, Activates, IsSetWhere, IsToBeAdmitted, IsToBeActive, IsSetType}
-use Rattle.check_table.specs.Holding.{NamesUnknownClass, AreAdmittedAndActive, IsTaken, GivesNoSet, IsUsedUp, would_commit, WouldCommit, IsOverBudget, Holds}
+use Rattle.check_table.specs.Holding.{NamesUnknownClass, AreAdmittedAndActive, AcceptsSetType, GivesNoSet, IsUsedUp, would_commit, WouldCommit, IsOverBudget, CheckApplies}
 use Rattle.check_table.specs.declared.check.Check.{Check}
 use Rattle.check_table.specs.declared.check.Check.TheVariants as checks
 use Rattle.check_table.proofs.ListLemmas.{contains-here, contains-later, contains_cases, any_from}
@@ -37,7 +37,7 @@ use Rattle.check_table.proofs.FlowLemmas.{same_modems, modem_itself}
 use Rattle.check_table.proofs.RoomLemmas.{used_up, least_one, not_used_up}
 use Rattle.check_explainer.specs.declared.asking.Use.{Use}
 use Rattle.check_explainer.specs.declared.asking.Use.TheVariants.{Admit, Activate}
-use Rattle.check_explainer.specs.Asking.{is_addition, is_deletion, names, subject_of, is_named_in, subjects_of, is_for, ok_of, set_given, gives_for, sets_of}
+use Rattle.check_explainer.specs.Asking.{is_addition, is_deletion, names, subject_of, is_named_in, subjects_of, is_for, ok_of, set_given, gives_for, encoding_sets}
 use Rattle.check_explainer.specs.Deciding.{is_empty, differs_from, is_alone, do_differ, has_no_identifier, is_taken, is_wrong_alone, is_err_of, gives_none, is_unknown, names_unknown, is_of_another, flow_waits, is_outside, provisioned_of, is_outside_one, one_exceeds, has_no_sid, is_over_next, is_over_budget, does_hold}
 use Rattle.check_explainer.proofs.ListLemmas.{any_decides, left_from, left_to, all_of}
 
@@ -108,7 +108,7 @@ apart_decides (first ∷ others) = (
 type_decides : (set_type : SetType) (e : FlowFields) → Decides (has_set_type set_type e) (IsSetType set_type e.set_type)
 type_decides set_type e = same_decides e.set_type (Some (set_type_number set_type))
 
-taken_decides : (kind : Kind) (e : FlowFields) → Decides (is_taken kind e) (IsTaken kind e.set_type)
+taken_decides : (kind : Kind) (e : FlowFields) → Decides (is_taken kind e) (AcceptsSetType kind e.set_type)
 taken_decides Dsa e =
     Decides-or (has_set_type Admitted e) (has_set_type AdmittedAndActive e) (type_decides Admitted e)
     (Decides-like (has_set_type AdmittedAndActive e) inl only (type_decides AdmittedAndActive e))
@@ -129,13 +129,13 @@ taken_decides Dsc e =
     (Decides-like (has_set_type Null e) (λ is. (refl, is)) (λ is. is.1) (type_decides Null e)))
 
 wrong_decides : (kind : Kind) (es : List FlowFields)
-    → Decides (is_wrong_alone kind es) ((encoding : FlowFields) × (es ≡ encoding ∷ []) × (¬ IsTaken kind encoding.set_type))
+    → Decides (is_wrong_alone kind es) ((encoding : FlowFields) × (es ≡ encoding ∷ []) × (¬ AcceptsSetType kind encoding.set_type))
 wrong_decides kind [] = ((λ is. absurd (false≢true is)), (λ h. let other = h.1 in cc))
 wrong_decides kind (a ∷ []) =
     Decides-like (not (is_taken kind a)) (λ out. (a, refl, out)) one (Decides-not (is_taken kind a) (taken_decides kind a))
   where
-    one : (encoding : FlowFields) × (a ∷ [] ≡ encoding ∷ []) × (¬ IsTaken kind encoding.set_type) → ¬ IsTaken kind a.set_type
-    one h = let same : h.0 ≡ a = let is = h.1 in cc in subst (λ (e : FlowFields). ¬ IsTaken kind e.set_type) same h.2
+    one : (encoding : FlowFields) × (a ∷ [] ≡ encoding ∷ []) × (¬ AcceptsSetType kind encoding.set_type) → ¬ AcceptsSetType kind a.set_type
+    one h = let same : h.0 ≡ a = let is = h.1 in cc in subst (λ (e : FlowFields). ¬ AcceptsSetType kind e.set_type) same h.2
 wrong_decides kind (a ∷ b ∷ more) = ((λ is. absurd (false≢true is)), (λ h. let other = h.1 in cc))
 
 module _ (consts : ConstsFields) (e : FlowFields) where
@@ -244,7 +244,7 @@ module _ (u : Use) (op : Operator) (said : Said) where
   abbrev one_for_decides : Decides (list_any (is_for u) said.encodings) (Any (IsFor u) said.encodings)
   one_for_decides = any_decides (is_for u) (IsFor u) (for_decides u) said.encodings
 
-  pub set_is : (o : Option ParamFields) → Contains (sets_of u op said) o → IsSet o
+  pub set_is : (o : Option ParamFields) → Contains (encoding_sets u op said) o → IsSet o
   set_is o has = by (list_any (is_for u) said.encodings) refl has
     where
       by : (b : Bool) → list_any (is_for u) said.encodings ≡ b → Contains ((if b then [] else None ∷ []) ++ given_sets) o → IsSet o
@@ -258,7 +258,7 @@ module _ (u : Use) (op : Operator) (said : Said) where
           go (inl same) = subst IsSet same (all_of (λ (e : FlowFields). ¬ IsFor u e) said.encodings fails)
           go (inr later) = given_set o later
 
-  pub is_set : (o : Option ParamFields) → IsSet o → Contains (sets_of u op said) o
+  pub is_set : (o : Option ParamFields) → IsSet o → Contains (encoding_sets u op said) o
   is_set None is = by (list_any (is_for u) said.encodings) refl
     where
       by : (b : Bool) → list_any (is_for u) said.encodings ≡ b → Contains ((if b then [] else None ∷ []) ++ given_sets) None
@@ -322,7 +322,7 @@ over_decides op n = Decides-or (nat_lt op.state.share.budget n) (is_over_next op
 
 module _ (op : Operator) (modem : Modem) (said : Said) where
   abbrev Right : Check → Type 0
-  Right check = Decides (does_hold check op modem said) (Holds check op modem said)
+  Right check = Decides (does_hold check op modem said) (CheckApplies check op modem said)
 
   -- what holds of one that a request is about holds of a flow that it names
   of_flow : (P : Option Flow → Type 0) → (P None → ⊥) → Any P (subjects_of op said) → (sfid : ℕ) × (flow : Flow) × IsOfFlow op said sfid flow × P (Some flow)
@@ -335,8 +335,8 @@ module _ (op : Operator) (modem : Modem) (said : Said) where
   to_subject : (P : Option Flow → Type 0) (o : Option Flow) → IsAbout op said o → P o → Any P (subjects_of op said)
   to_subject P o about holds = any_from P (subjects_of op said) o (is_subject op said o about) holds
 
-  to_set : (u : Use) (P : Option ParamFields → Type 0) (o : Option ParamFields) → IsSetWhere (IsFor u) op.consts said.encodings o → P o → Any P (sets_of u op said)
-  to_set u P o is holds = any_from P (sets_of u op said) o (is_set u op said o is) holds
+  to_set : (u : Use) (P : Option ParamFields → Type 0) (o : Option ParamFields) → IsSetWhere (IsFor u) op.consts said.encodings o → P o → Any P (encoding_sets u op said)
+  to_set u P o is holds = any_from P (encoding_sets u op said) o (is_set u op said o is) holds
 
   differ_right : Right checks.IdentifiersDiffer
   differ_right =
@@ -389,10 +389,10 @@ module _ (op : Operator) (modem : Modem) (said : Said) where
 
   -- the sets that are to be admitted, and those that are to be active
   abbrev admitted : List (Option ParamFields)
-  admitted = sets_of Admit op said
+  admitted = encoding_sets Admit op said
 
   abbrev active : List (Option ParamFields)
-  active = sets_of Activate op said
+  active = encoding_sets Activate op said
 
   active_right : Right checks.ActiveNotWithin
   active_right =
@@ -401,7 +401,7 @@ module _ (op : Operator) (modem : Modem) (said : Said) where
       (λ h. to_set Activate (λ (a : Option ParamFields). Any (IsOutside a) admitted) (Some h.0) h.2 (to_set Admit (IsOutside (Some h.0)) (Some h.1) h.3 h.4))
       (any_decides (is_outside_one admitted) (λ (a : Option ParamFields). Any (IsOutside a) admitted) (λ a. any_decides (is_outside a) (IsOutside a) (outside_decides a) admitted) active)
     where
-      go : (a b : Option ParamFields) → IsToBeActive op said a → IsToBeAdmitted op said b → IsOutside a b → Holds checks.ActiveNotWithin op modem said
+      go : (a b : Option ParamFields) → IsToBeActive op said a → IsToBeAdmitted op said b → IsOutside a b → CheckApplies checks.ActiveNotWithin op modem said
       go None b is_active is_admitted out = absurd out
       go (Some a) None is_active is_admitted out = absurd out
       go (Some a) (Some b) is_active is_admitted out = (a, b, is_active, is_admitted, out)
@@ -419,12 +419,12 @@ module _ (op : Operator) (modem : Modem) (said : Said) where
       (λ flow. any_decides (λ (set : Option ParamFields). is_outside set (provisioned_of flow)) (λ (set : Option ParamFields). IsOutside set (provisioned_of flow))
       (λ set. outside_decides set (provisioned_of flow)) admitted) (subjects_of op said))
     where
-      of_set : (flow : Flow) (set p : Option ParamFields) → flow.sets.provisioned ≡ p → IsAbout op said (Some flow) → IsToBeAdmitted op said set → IsOutside set p → Holds checks.AdmittedNotWithin op modem said
+      of_set : (flow : Flow) (set p : Option ParamFields) → flow.sets.provisioned ≡ p → IsAbout op said (Some flow) → IsToBeAdmitted op said set → IsOutside set p → CheckApplies checks.AdmittedNotWithin op modem said
       of_set flow None p is about to_admit out = absurd out
       of_set flow (Some a) None is about to_admit out = absurd out
       of_set flow (Some a) (Some b) is about to_admit out = (flow, a, b, about, to_admit, is, out)
 
-      go : (flow : Option Flow) (set : Option ParamFields) → IsAbout op said flow → IsToBeAdmitted op said set → IsOutside set (provisioned_of flow) → Holds checks.AdmittedNotWithin op modem said
+      go : (flow : Option Flow) (set : Option ParamFields) → IsAbout op said flow → IsToBeAdmitted op said set → IsOutside set (provisioned_of flow) → CheckApplies checks.AdmittedNotWithin op modem said
       go None None about to_admit out = absurd out
       go None (Some a) about to_admit out = absurd out
       go (Some flow) set about to_admit out = of_set flow set flow.sets.provisioned refl about to_admit out
@@ -441,7 +441,7 @@ module _ (op : Operator) (modem : Modem) (said : Said) where
       (any_decides is_some (λ (set : Option ParamFields). IsSome set) (λ set. some_decides set) admitted)))
     where
       go : (set : Option ParamFields) → IsToBeAdmitted op said set → IsSome set → (flow : Option Flow) → IsAbout op said flow → sid_if flow ≡ None
-          → IsUsedUp op.row.sids (sids_of op.state.flows) → Holds checks.NoSidFree op modem said
+          → IsUsedUp op.row.sids (sids_of op.state.flows) → CheckApplies checks.NoSidFree op modem said
       go None to_admit some flow about bare up = absurd (false≢true some)
       go (Some set) to_admit some flow about bare up = (flow, set, about, to_admit, bare, up)
 

@@ -65,7 +65,7 @@ abbrev pub gives_for : Use → ConstsFields → FlowFields → Bool
 gives_for for_use consts encoding = is_for for_use encoding && is_some (set_given consts encoding)
 
 -- the sets that a request asks to be put to this use: the null set where no encoding is for it
-abbrev pub sets_of : Use → Operator → Said → List (Option ParamFields)
-sets_of for_use op said =
+abbrev pub encoding_sets : Use → Operator → Said → List (Option ParamFields)
+encoding_sets for_use op said =
     (if list_any (is_for for_use) said.encodings then [] else None ∷ [])
     ++ map (set_given op.consts) (filter (gives_for for_use op.consts) said.encodings)

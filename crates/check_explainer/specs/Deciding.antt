@@ -21,7 +21,7 @@ use Rattle.check_table.specs.Said.{Said, set_asked}
 use Rattle.check_table.specs.Holding.{would_commit}
 use Rattle.check_table.specs.declared.check.Check.{Check}
 use Rattle.check_table.specs.declared.check.Check.TheVariants as checks
-use Rattle.check_explainer.specs.Asking.{is_addition, is_deletion, subjects_of, sets_of}
+use Rattle.check_explainer.specs.Asking.{is_addition, is_deletion, subjects_of, encoding_sets}
 use Rattle.check_explainer.specs.declared.asking.Use.TheVariants.{Admit, Activate}
 
 -- ---- the encodings
@@ -130,14 +130,14 @@ does_hold checks.NotOwner op modem said = list_any (is_of_another modem) (subjec
 does_hold checks.FlowWaits op modem said = list_any flow_waits (subjects_of op said)
 does_hold checks.WrongSetType op modem said = is_wrong_alone said.kind said.encodings
 does_hold checks.NoParameterSet op modem said = list_any (gives_none op.consts) said.encodings
-does_hold checks.ActiveNotWithin op modem said = list_any (is_outside_one (sets_of Admit op said)) (sets_of Activate op said)
-does_hold checks.AdmittedNotWithin op modem said = list_any (one_exceeds (sets_of Admit op said)) (subjects_of op said)
+does_hold checks.ActiveNotWithin op modem said = list_any (is_outside_one (encoding_sets Admit op said)) (encoding_sets Activate op said)
+does_hold checks.AdmittedNotWithin op modem said = list_any (one_exceeds (encoding_sets Admit op said)) (subjects_of op said)
 does_hold checks.FlowsFull op modem said = is_addition said.kind && nat_le op.row.flows (length op.state.flows)
 does_hold checks.NoSfidFree op modem said = is_addition said.kind && is_none (least_free_of op.row.sfids (sfids_of op.state.flows))
 does_hold checks.NoSidFree op modem said =
-    is_none (least_free_of op.row.sids (sids_of op.state.flows)) && (list_any has_no_sid (subjects_of op said) && list_any is_some (sets_of Admit op said))
-does_hold checks.ElementsOver op modem said = not (is_deletion said.kind) && list_any (elements_over op (sets_of Admit op said)) (subjects_of op said)
-does_hold checks.MinislotsOver op modem said = not (is_deletion said.kind) && list_any (minislots_over op (sets_of Admit op said)) (subjects_of op said)
+    is_none (least_free_of op.row.sids (sids_of op.state.flows)) && (list_any has_no_sid (subjects_of op said) && list_any is_some (encoding_sets Admit op said))
+does_hold checks.ElementsOver op modem said = not (is_deletion said.kind) && list_any (elements_over op (encoding_sets Admit op said)) (subjects_of op said)
+does_hold checks.MinislotsOver op modem said = not (is_deletion said.kind) && list_any (minislots_over op (encoding_sets Admit op said)) (subjects_of op said)
 does_hold checks.Accepted op modem said = true
 
 abbrev pub test_of : Operator → Modem → Said → Check → Bool

@@ -6,7 +6,7 @@ use Rattle.flow_table.specs.Table.{sfids_of, sids_of}
 use Rattle.operator_model.specs.State.{Operator}
 use Rattle.operator_model.specs.Sound.{IsSound}
 use Rattle.check_table.specs.Said.{Said}
-use Rattle.check_explainer.specs.Asking.{subjects_of, sets_of}
+use Rattle.check_explainer.specs.Asking.{subjects_of, encoding_sets}
 use Rattle.check_explainer.specs.declared.asking.Use.TheVariants.{Admit, Activate}
 
 -- the identifiers that are used, and a state that is sound
@@ -18,5 +18,5 @@ pub record IsStanding (op : Operator) (used_sfids used_sids : List ℕ) : Type 0
 -- what a request is about and asks for
 pub record AreAsked (op : Operator) (said : Said) (about : List (Option Flow)) (to_admit to_activate : List (Option ParamFields)) : Type 0 where
   pub subjects : about ≡ subjects_of op said
-  pub admitted : to_admit ≡ sets_of Admit op said
-  pub active : to_activate ≡ sets_of Activate op said
+  pub admitted : to_admit ≡ encoding_sets Admit op said
+  pub active : to_activate ≡ encoding_sets Activate op said

@@ -4,7 +4,7 @@ ghost use Rattle.std.specs.Prelude.{◌≡◌, ◌++◌, filter, map, Some, IfOk
 ghost use Rattle.std.specs.List.{list_any};
 ghost use Rattle.operator_model.specs.Asked.{is_same};
 ghost use Rattle.check_table.specs.Said.{said_by, set_asked};
-ghost use Rattle.check_explainer.specs.Asking.{is_addition, is_deletion, names, subject_of, is_named_in, subjects_of, is_for, set_given, gives_for, sets_of};
+ghost use Rattle.check_explainer.specs.Asking.{is_addition, is_deletion, names, subject_of, is_named_in, subjects_of, is_for, set_given, gives_for, encoding_sets};
 
 use crate::operator_snapshot::OperatorSnapshot;
 use dsx_messages::{Kind, Request};
@@ -190,7 +190,7 @@ impl OperatorSnapshot {
         for_use: Use,
         request: &Request,
     ) -> Result<Vec<Option<ParamSet>>, AllocError>
-        ensures { IfOk result (λ sets. sets.items ≡ sets_of for_use self.now (said_by request.now)) }
+        ensures { IfOk result (λ sets. sets.items ≡ encoding_sets for_use self.now (said_by request.now)) }
     {
         let mut sets = Vec::new(alloc);
         let encodings = encodings_of(request);

@@ -5,7 +5,7 @@ ghost use Rattle.std.specs.Option.{option_copied};
 ghost use Rattle.operator_model.specs.Verdict.{verdict};
 ghost use Rattle.lists.specs.First.{IsFirst};
 ghost use Rattle.check_table.specs.Said.{said_by};
-ghost use Rattle.check_table.specs.Holding.{Holds};
+ghost use Rattle.check_table.specs.Holding.{CheckApplies};
 ghost use Rattle.check_table.specs.Table.{table, IsDecidedBy};
 ghost use Rattle.check_explainer.specs.Deciding.{test_of};
 ghost use Rattle.check_explainer.specs.OperatorSnapshot.{AreAsked};
@@ -74,7 +74,7 @@ impl OperatorSnapshot {
         modem: Modem,
         request: &Request,
     ) -> Result<Check, AllocError>
-        ensures first { IfOk result (IsFirst (λ check. Holds check self.now modem (said_by request.now)) table) }
+        ensures first { IfOk result (IsFirst (λ check. CheckApplies check self.now modem (said_by request.now)) table) }
         ensures decides { IfOk result (λ check. IsDecidedBy self.now modem (said_by request.now) check
             (verdict self.now modem request.now)) }
     {

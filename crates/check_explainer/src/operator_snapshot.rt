@@ -6,7 +6,7 @@ ghost use Rattle.operator_model.specs.State.{operator};
 ghost use Rattle.operator_model.specs.Sound.{IsSound};
 
 use flow_table::Flow;
-use operator_book::{Book, StateView};
+use operator_book::{Book, Machine, StateView};
 use plant::{Consts, OperatorRow};
 use std::alloc::{AllocError, Global};
 use std::marker::Model;
@@ -84,23 +84,26 @@ fn used_in(alloc: Global, flows: &[(u32, Flow)]) -> Result<UsedIds, AllocError>
     Ok(UsedIds { sfids, sids })
 }
 
-/// What a book says of its operator.
-#[derive(Drop)]
-struct Copied {
-    consts: Consts,
-    row: OperatorRow,
+/// Returns a snapshot of an operator of these parts. What all operators share and the row are copied.
+fn snapshot_of(
+    alloc: Global,
+    consts: &Consts,
+    row: &OperatorRow,
     state: StateView,
-}
-
-/// Returns a copy of what a book says of its operator.
-fn copied_from(alloc: Global, book: &Book) -> Result<Copied, AllocError>
-    ensures { IfOk result (λ copied. operator copied.consts copied.row copied.state
-        ≡ operator book.now.kept.book.consts book.now.kept.book.row book.now.kept.book.state) }
+) -> Result<OperatorSnapshot, AllocError>
+    requires { IsSound (operator consts.now row.now state) }
+    ensures { IfOk result (λ operator_snapshot. operator_snapshot ≡ operator consts.now row.now state) }
 {
-    let consts = book.consts().copy(alloc)?;
-    let row = book.row().copy(alloc)?;
-    let state = book.state_view(alloc)?;
-    Ok(Copied { consts, row, state })
+    let consts = consts.copy(alloc)?;
+    let row = row.copy(alloc)?;
+    let used = used_in(alloc, state.flows())?;
+    Ok(OperatorSnapshot {
+        consts,
+        row,
+        state,
+        sfids: used.sfids,
+        sids: used.sids,
+    })
 }
 
 impl OperatorSnapshot {
@@ -111,15 +114,18 @@ impl OperatorSnapshot {
     {
         // For the proof: what always holds of `book`.
         book.always_sound();
-        let copied = copied_from(alloc, book)?;
-        let used = used_in(alloc, copied.state.flows())?;
-        Ok(OperatorSnapshot {
-            consts: copied.consts,
-            row: copied.row,
-            state: copied.state,
-            sfids: used.sfids,
-            sids: used.sids,
-        })
+        let state = book.state_view(alloc)?;
+        snapshot_of(alloc, book.consts(), book.row(), state)
+    }
+
+    /// Returns the operator of a machine, as it exists.
+    pub fn of_machine(alloc: Global, machine: &Machine) -> Result<OperatorSnapshot, AllocError>
+        ensures { IfOk result (λ operator_snapshot. operator_snapshot ≡ machine.now.sound) }
+    {
+        // For the proof: what always holds of `machine`.
+        machine.always();
+        let state = machine.state_view(alloc)?;
+        snapshot_of(alloc, machine.consts(), machine.row(), state)
     }
 
     /// Returns what all operators share.

@@ -2,9 +2,9 @@
 use Rattle.std.proofs.Common.{◌≡◌, ℕ, ◌+◌, List, [], ◌∷◌, drop, Bool, true, false, inl, inr, refl, sym, ap, ◌∙◌, subst}
 use Rattle.run_model.specs.IsStateAfter.{CoreView}
 use Rattle.run_model.specs.IsTraceOf.{IsTraceFrom}
-use Rattle.run_model.specs.Changing.{RunSoFar, IsChanged, AreChanges}
+use Rattle.run_model.specs.Changing.{RunSoFar, IsPlantChange, AreChanges}
 use Rattle.live_core.proofs.LawLemmas.{live_shown}
-use Rattle.line_service.specs.Items.{ItemAnswer, Meaning, IsRunOf, IsLineAnswer, IsItemAnswer, AreItemAnswers, first_period, later_periods, ServiceIsOfChanges}
+use Rattle.line_service.specs.Items.{ItemAnswer, Meaning, IsRunSoFarOf, IsLineAnswer, IsItemAnswer, AreItemAnswers, first_period, later_periods, ServiceIsOfChanges}
 
 -- with nothing done yet
 abbrev begun : RunSoFar → RunSoFar
@@ -33,23 +33,23 @@ module _ (meaning : Meaning) where
       by false e rest = rw e (rest ∙ one_item old number line lines answer are.0 e)
 
   -- what stands behind an item
-  stands_on : (old : RunSoFar) (number : ℕ) (line : List ℕ) (lines : List (List ℕ)) (answer : ItemAnswer) (live : CoreView) → IsRunOf old live → IsItemAnswer meaning old number line lines answer → (now : CoreView) × IsRunOf answer.run now
-  stands_on old number line lines answer live stands (inl is) = (is.live, subst (λ (s : RunSoFar). IsRunOf s is.live) (sym is.run_is) is.is.after)
+  stands_on : (old : RunSoFar) (number : ℕ) (line : List ℕ) (lines : List (List ℕ)) (answer : ItemAnswer) (live : CoreView) → IsRunSoFarOf old live → IsItemAnswer meaning old number line lines answer → (now : CoreView) × IsRunSoFarOf answer.run now
+  stands_on old number line lines answer live stands (inl is) = (is.live, subst (λ (s : RunSoFar). IsRunSoFarOf s is.live) (sym is.run_is) is.is.after)
   stands_on old number line lines answer live stands (inr (inl is)) = (is.live, is.stands)
-  stands_on old number line lines answer live stands (inr (inr is)) = (live, subst (λ (s : RunSoFar). IsRunOf s live) (sym is.run_is) stands)
+  stands_on old number line lines answer live stands (inr (inr is)) = (live, subst (λ (s : RunSoFar). IsRunSoFarOf s live) (sym is.run_is) stands)
 
-  is_changed : (old : RunSoFar) (number : ℕ) (line : List ℕ) (lines : List (List ℕ)) (answer : ItemAnswer) → IsItemAnswer meaning old number line lines answer → answer.changes ≡ true → IsChanged old answer.run
+  is_changed : (old : RunSoFar) (number : ℕ) (line : List ℕ) (lines : List (List ℕ)) (answer : ItemAnswer) → IsItemAnswer meaning old number line lines answer → answer.changes ≡ true → IsPlantChange old answer.run
   is_changed old number line lines answer (inl is) so = absurd (let wrong : true ≡ false = sym so ∙ is.on in cc)
   is_changed old number line lines answer (inr (inl is)) so = is.changed
   is_changed old number line lines answer (inr (inr is)) so = absurd (let wrong : true ≡ false = sym so ∙ is.on in cc)
 
-  begun_is : (old new : RunSoFar) → IsChanged old new → begun new ≡ new
+  begun_is : (old new : RunSoFar) → IsPlantChange old new → begun new ≡ new
   begun_is old new is = λ k. record { plant = new.plant; start = new.start; steps = sym is.nothing_done.0 k; outs = sym is.nothing_done.1 k }
 
-  shown : (run : RunSoFar) (live : CoreView) → IsRunOf run live → IsTraceFrom run.plant run.start run.steps run.outs
+  shown : (run : RunSoFar) (live : CoreView) → IsRunSoFarOf run live → IsTraceFrom run.plant run.start run.steps run.outs
   shown run live stands = live_shown run.plant run.start run.steps run.outs live stands
 
-  of_changes : (old : RunSoFar) (number : ℕ) (lines : List (List ℕ)) (answers : List ItemAnswer) (live : CoreView) → IsRunOf old live → AreItemAnswers meaning old number lines answers → AreChanges (first_period old answers) (later_periods old answers)
+  of_changes : (old : RunSoFar) (number : ℕ) (lines : List (List ℕ)) (answers : List ItemAnswer) (live : CoreView) → IsRunSoFarOf old live → AreItemAnswers meaning old number lines answers → AreChanges (first_period old answers) (later_periods old answers)
   of_changes old number [] [] live stands are = shown old live stands
   of_changes old number [] (answer ∷ more) live stands are = absurd are
   of_changes old number (line ∷ lines) [] live stands are = absurd are
@@ -62,7 +62,7 @@ module _ (meaning : Meaning) where
           let is = is_changed old number line lines answer are.0 e in
           rw e (
             shown old live stands,
-            subst (λ (s : RunSoFar). IsChanged old s)
+            subst (λ (s : RunSoFar). IsPlantChange old s)
                 (sym (begun_is old answer.run is) ∙ sym (begins_alike answer.run (number + answer.lines) (drop answer.lines (line ∷ lines)) more are.1)) is,
             rest,
           )

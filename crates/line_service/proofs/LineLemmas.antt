@@ -13,7 +13,7 @@ use Rattle.live_core.specs.After.{IsAfterFrom}
 use Rattle.script_format.specs.declared.fields.FieldFault.{FieldFault}
 use Rattle.script_format.specs.declared.script.LineStep.{LineStep}
 use Rattle.script_format.specs.declared.fields.FieldFault.TheVariants.{Shape}
-use Rattle.script_format.specs.Fields.{Read}
+use Rattle.script_format.specs.Fields.{FieldResult}
 use Rattle.script_format.specs.Script.{steps_without_numbers}
 use Rattle.script_format.specs.Text.{outs_text}
 use Rattle.line_service.specs.declared.line_outcome.LineOutcome.{LineOutcome}
@@ -39,7 +39,7 @@ short_enough : (plant : PlantFields) (number : ℕ) (line : List ℕ) (steps : L
 short_enough plant number line steps said long =
     let over : nat_le (length line) 4096 ≡ false = grind (arith, nat_tests, long) in
     let none : steps_said plant number line ≡ Err Shape = rw over refl in
-    let wrong : ◌≡◌ {A = Read (List LineStep)} (Err Shape) (Ok steps) = sym none ∙ said in cc
+    let wrong : ◌≡◌ {A = FieldResult (List LineStep)} (Err Shape) (Ok steps) = sym none ∙ said in cc
 
 -- a line that says steps
 pub steps_answered : (plant : PlantFields) (start : Start) (before : List Step) (shown : List Out) (number : ℕ) (line : List ℕ) (steps : List LineStep) (live : CoreView) (end : StepsEnd) (w0 w1 : Option (List ℕ))
@@ -48,7 +48,7 @@ steps_answered plant start before shown number line steps live end w0 w1 said ha
   answered = record { done = steps_without_numbers (take has.at steps); told = has.told; end = line_outcome end };
   is = record {
     after = has.after;
-    ends = subst (λ (r : Read (List LineStep)). EndsAs r live (record { done = steps_without_numbers (take has.at steps); told = has.told; end = line_outcome end })) (sym said)
+    ends = subst (λ (r : FieldResult (List LineStep)). EndsAs r live (record { done = steps_without_numbers (take has.at steps); told = has.told; end = line_outcome end })) (sym said)
         (inr (record { at = has.at; done_are = refl; ends = ends_so live (slice_get steps has.at) end has.ends }));
     too_long = λ long. absurd (short_enough plant number line steps said long);
   };
@@ -73,14 +73,14 @@ none_answered plant start before shown number line fault live known after said =
   answered = nothing AtFault;
   is = record {
     after = unchanged plant start before shown live after;
-    ends = subst (λ (r : Read (List LineStep)). EndsAs r live (nothing AtFault)) (sym said) (inr (not_done AtFault));
+    ends = subst (λ (r : FieldResult (List LineStep)). EndsAs r live (nothing AtFault)) (sym said) (inr (not_done AtFault));
     too_long = λ long. not_done AtFault;
   };
   end_is = refl;
   written = Appends-nil known;
 }
 
-not_parsed : (said : Read (List LineStep)) (live : CoreView) → EndsAs said live (nothing NoMemory)
+not_parsed : (said : FieldResult (List LineStep)) (live : CoreView) → EndsAs said live (nothing NoMemory)
 not_parsed (Ok steps) live = inl (not_done NoMemory)
 not_parsed (Err fault) live = inl (not_done NoMemory)
 

@@ -12,7 +12,7 @@ use Rattle.run_model.specs.IsStateAfter.{CoreView}
 use Rattle.plant_core.specs.declared.core_fault.CoreFault.{CoreFault}
 use Rattle.plant_core.specs.declared.core_fault.CoreFault.TheVariants.{UnknownModem, UnknownOperator, Book, Gather, NothingToCollect, NoMemory, Reslice}
 use Rattle.plant_core.specs.Faults.{step_fault, IsReported}
-use Rattle.live_core.specs.After.{IsAfterFrom, IsReachable}
+use Rattle.live_core.specs.After.{IsAfterFrom, IsReachableFromStart}
 use Rattle.script_format.specs.declared.script.LineStep.{LineStep}
 use Rattle.script_format.specs.Script.{steps_without_numbers}
 use Rattle.script_format.specs.Text.{out_line, outs_text}
@@ -132,8 +132,8 @@ on_ok (Ok x) P p = p
 on_ok (Err e) P p = tt
 
 -- whatever a call leads to from a run is reachable, where the old core was
-pub reachable_on : (old new : CoreView) → IsReachable old
-    → ((plant : PlantFields) (start : Start) (before : List Step) (shown : List Out) → IsAfterFrom plant start before shown old → (steps : List Step) × (outs : List Out) × IsAfterFrom plant start steps outs new) → IsReachable new
+pub reachable_on : (old new : CoreView) → IsReachableFromStart old
+    → ((plant : PlantFields) (start : Start) (before : List Step) (shown : List Out) → IsAfterFrom plant start before shown old → (steps : List Step) × (outs : List Out) × IsAfterFrom plant start steps outs new) → IsReachableFromStart new
 reachable_on old new was on =
     let then_new = on old.plant was.0 was.1 was.2 was.3 in
     let same : new.plant ≡ old.plant = after_plant old.plant was.0 then_new.0 then_new.1 new then_new.2 in

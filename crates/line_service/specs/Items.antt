@@ -5,7 +5,7 @@ use Rattle.std.specs.Io.KnownBytes.{Appends}
 use Rattle.std.specs.List.{flat_map}
 use Rattle.plant.specs.declared.plant.PlantFields.{PlantFields}
 use Rattle.run_model.specs.IsStateAfter.{CoreView}
-use Rattle.run_model.specs.Changing.{RunSoFar, IsChanged, AreChanges}
+use Rattle.run_model.specs.Changing.{RunSoFar, IsPlantChange, AreChanges}
 use Rattle.live_core.specs.After.{IsAfterFrom}
 use Rattle.script_format.specs.Lines.{lines_of}
 use Rattle.line_service.specs.declared.line_outcome.LineOutcome.TheVariants.{AtFault, NoMemory}
@@ -28,8 +28,8 @@ pub record Meaning : Type 0 where
   pub snapshot_of : RunSoFar → List ℕ
 
 -- the run led to this live core
-abbrev pub IsRunOf : RunSoFar → CoreView → Type 0
-IsRunOf run live = IsAfterFrom run.plant run.start run.steps run.outs live
+abbrev pub IsRunSoFarOf : RunSoFar → CoreView → Type 0
+IsRunSoFarOf run live = IsAfterFrom run.plant run.start run.steps run.outs live
 
 -- a line of a script is answered, and the run goes on
 pub record IsLineAnswer (meaning : Meaning) (old : RunSoFar) (number : ℕ) (line : List ℕ) (answer : ItemAnswer) : Type 0 where
@@ -49,8 +49,8 @@ pub record IsChangeAnswer (meaning : Meaning) (old : RunSoFar) (line : List ℕ)
   pub begins : meaning.begins_plant line ≡ true
   pub says : meaning.plant_of (line ∷ lines) ≡ Some (answer.lines, answer.run.plant)
   pub new : answer.changes ≡ true
-  pub changed : IsChanged old answer.run
-  pub stands : IsRunOf answer.run live
+  pub changed : IsPlantChange old answer.run
+  pub stands : IsRunSoFarOf answer.run live
   pub text_is : answer.text ≡ []
 
 -- a snapshot is written, unless an allocation fails
@@ -63,7 +63,7 @@ abbrev pub ItemIsRefused : Meaning → RunSoFar → ℕ → List ℕ → List (L
 ItemIsRefused meaning old number line lines answer =
     (meaning.begins_plant line ≡ true)
     × ((answer.text ≡ end_text number NoMemory)
-    ⊎ ((answer.text ≡ end_text number AtFault) × ((next : RunSoFar) → meaning.plant_of (line ∷ lines) ≡ Some (answer.lines, next.plant) → IsChanged old next → ⊥)))
+    ⊎ ((answer.text ≡ end_text number AtFault) × ((next : RunSoFar) → meaning.plant_of (line ∷ lines) ≡ Some (answer.lines, next.plant) → IsPlantChange old next → ⊥)))
 
 -- the plant stays as it is
 pub record IsNoChange (meaning : Meaning) (old : RunSoFar) (number : ℕ) (line : List ℕ) (lines : List (List ℕ)) (answer : ItemAnswer) : Type 0 where
@@ -101,5 +101,5 @@ pub record IsServedFrom (meaning : Meaning) (first : RunSoFar) (input : List ℕ
 
 -- the runs of a service are changes of plant as `kept_rows_go_through` takes them, so `changes_are_not_noticed` holds of a service
 abbrev pub ServiceIsOfChanges : Type 0
-ServiceIsOfChanges = (meaning : Meaning) (first : RunSoFar) (live : CoreView) (input : List ℕ) (old new : Option (List ℕ)) → IsRunOf first live → (served : IsServedFrom meaning first input old new)
+ServiceIsOfChanges = (meaning : Meaning) (first : RunSoFar) (live : CoreView) (input : List ℕ) (old new : Option (List ℕ)) → IsRunSoFarOf first live → (served : IsServedFrom meaning first input old new)
     → AreChanges (first_period first served.answers) (later_periods first served.answers)

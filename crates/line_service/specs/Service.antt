@@ -14,7 +14,7 @@ use Rattle.plant_core.specs.Faults.{step_fault}
 use Rattle.live_core.specs.After.{IsAfterFrom}
 use Rattle.script_format.specs.declared.fields.FieldFault.TheVariants.{Shape}
 use Rattle.script_format.specs.declared.script.LineStep.{LineStep}
-use Rattle.script_format.specs.Fields.{Read}
+use Rattle.script_format.specs.Fields.{FieldResult}
 use Rattle.script_format.specs.Lines.{lines_of}
 use Rattle.script_format.specs.Script.{line_steps, steps_without_numbers}
 use Rattle.script_format.specs.Text.{outs_text}
@@ -24,7 +24,7 @@ use Rattle.line_service.specs.declared.line_outcome.LineOutcome.TheVariants.{Don
 -- ---- what a line says
 
 -- a line of more than 4,096 bytes says nothing
-abbrev pub steps_said : PlantFields → ℕ → List ℕ → Read (List LineStep)
+abbrev pub steps_said : PlantFields → ℕ → List ℕ → FieldResult (List LineStep)
 steps_said plant number line = if nat_le (length line) 4096 then line_steps plant number line else Err Shape
 
 -- ---- what is answered to a line
@@ -74,7 +74,7 @@ pub record StepsAreDone (steps : List LineStep) (live : CoreView) (answered : Li
   pub ends : IsEndAt live (slice_get steps at) answered.end
 
 -- a line that says steps has run, one that says none is invalid, and of either the parsing may have failed for lack of memory
-abbrev pub EndsAs : Read (List LineStep) → CoreView → LineRun → Type 0
+abbrev pub EndsAs : FieldResult (List LineStep) → CoreView → LineRun → Type 0
 EndsAs (Ok steps) live answered = IsNotParsed answered ⊎ StepsAreDone steps live answered
 EndsAs (Err fault) live answered = IsNotParsed answered ⊎ IsInvalid answered
 

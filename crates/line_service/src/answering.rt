@@ -2,9 +2,10 @@
 
 ghost use Rattle.std.specs.Prelude.{◌≡◌, ◌≤◌, length, IfOk, OnOk};
 ghost use Rattle.std.specs.Io.KnownBytes.{Appends};
-ghost use Rattle.live_core.specs.After.{BehindEachRun, IsReachable};
+ghost use Rattle.live_core.specs.After.{BehindEachRun, IsReachableFromStart};
 ghost use Rattle.live_core.specs.LiveView.{live_view};
-ghost use Rattle.script_format.specs.Fields.{Gives};
+ghost use Rattle.lists.specs.Results.{Gives};
+ghost use Rattle.script_format.specs.Fields.{field_cause};
 ghost use Rattle.script_format.specs.declared.fields.FieldFault.TheVariants.{NoMemory};
 ghost use Rattle.line_service.specs.Service.{steps_said, end_text};
 ghost use Rattle.line_service.specs.Ends.{line_outcome};
@@ -28,7 +29,7 @@ fn steps_said(
     number: u64,
     line: &[u8],
 ) -> Result<Vec<LineStep>, FieldFault>
-    ensures said { Gives (λ steps. steps.items) result (steps_said plant.now number line.now) }
+    ensures said { Gives field_cause (λ steps. steps.items) result (steps_said plant.now number line.now) }
     ensures memory { result ≡ Err NoMemory → length line.now ≤ 4096 }
 {
     if line.len() > MOST_BYTES {
@@ -51,7 +52,7 @@ pub fn run_steps<W: Write>(
     steps: Vec<LineStep>,
     writer: &mut W,
 ) -> io::Result<StepsEnd>
-    requires reached { IsReachable (live_view core.old) }
+    requires reached { IsReachableFromStart (live_view core.old) }
     // After whatever run led to the core, so many steps are done, and what they output is written.
     ensures { IfOk result (λ end. BehindEachRun (live_view core.old) (λ plant start before shown. HasDone plant start before shown
         steps.items (live_view core.new) end (W.contents writer.old) (W.contents writer.new))) }
@@ -86,7 +87,7 @@ fn do_line<W: Write>(
     line: &[u8],
     writer: &mut W,
 ) -> io::Result<LineOutcome>
-    requires reached { IsReachable (live_view core.old) }
+    requires reached { IsReachableFromStart (live_view core.old) }
     ensures { IfOk result (λ end. BehindEachRun (live_view core.old) (λ plant start before shown. HasAnswered plant start before shown
         number line.now (live_view core.new) end (W.contents writer.old) (W.contents writer.new))) }
 {
@@ -123,7 +124,7 @@ pub fn answer_line<W: Write>(
     line: &[u8],
     writer: &mut W,
 ) -> io::Result<()>
-    requires reached { IsReachable (live_view core.old) }
+    requires reached { IsReachableFromStart (live_view core.old) }
     // After whatever run led to the core, the line has such an answer, and it is written.
     ensures { OnOk result (BehindEachRun (live_view core.old) (λ plant start before shown. LineIsAnswered plant start before shown number
         line.now (live_view core.new) (W.contents writer.old) (W.contents writer.new))) }

@@ -12,6 +12,7 @@ mod serving;
 mod steps_end;
 
 pub use answering::{answer_line, run_steps};
+pub use bytes::next_byte;
 pub use front::read_plant_text;
 pub use laws::{service_is_of_changes, service_is_shown};
 pub use line_buffer::LineBuffer;

@@ -5,7 +5,7 @@ ghost use Rattle.std.specs.Prelude.{◌≡◌, ◌+◌, [], ◌∷◌, List, ℕ
 ghost use Rattle.plant.specs.declared.plant.PlantFields.{PlantFields};
 ghost use Rattle.run_model.specs.declared.step.Out.{Out};
 ghost use Rattle.run_model.specs.declared.step.Step.{Step};
-ghost use Rattle.live_core.specs.After.{BehindEachRun, IsReachable};
+ghost use Rattle.live_core.specs.After.{BehindEachRun, IsReachableFromStart};
 ghost use Rattle.live_core.specs.LiveView.{live_view};
 ghost use Rattle.line_service.specs.Service.{IsServiceOf};
 ghost use Rattle.line_service.specs.SoFar.{IsHeld, LineIsAnswered, IsServedSoFar};
@@ -37,8 +37,8 @@ fn answer_held<W: Write>(
     held: &LineBuffer,
     writer: &mut W,
 ) -> io::Result<()>
-    requires reached { IsReachable (live_view core.old) }
-    ensures reached { OnOk result (IsReachable (live_view core.new)) }
+    requires reached { IsReachableFromStart (live_view core.old) }
+    ensures reached { OnOk result (IsReachableFromStart (live_view core.new)) }
     ensures answered { OnOk result (BehindEachRun (live_view core.old) (λ plant start before shown. (line : List ℕ)
         → IsHeld held.now.bytes.items held.now.is_long line
         → LineIsAnswered plant start before shown number line (live_view core.new)
@@ -60,8 +60,8 @@ fn take_byte<W: Write>(
     byte: u8,
     writer: &mut W,
 ) -> io::Result<()>
-    requires reached { IsReachable (live_view core.old) }
-    ensures reached { OnOk result (IsReachable (live_view core.new)) }
+    requires reached { IsReachableFromStart (live_view core.old) }
+    ensures reached { OnOk result (IsReachableFromStart (live_view core.new)) }
     ensures on { OnOk result ((plant : PlantFields) (start : Start) (before : List Step) (shown : List Out) (input rest : List ℕ)
         (written : Option (List ℕ)) → IsServedSoFar plant start before shown input (byte ∷ rest) held.old.bytes.items
         held.old.is_long number.old (live_view core.old) written (W.contents writer.old)
@@ -90,7 +90,7 @@ pub fn serve<R: Read, W: Write>(
     reader: &mut R,
     writer: &mut W,
 ) -> io::Result<()>
-    requires reached { IsReachable (live_view core.old) }
+    requires reached { IsReachableFromStart (live_view core.old) }
     requires empty { IsHeld held.bytes.items held.is_long [] }
     // After whatever run led to the core, all lines of the input are answered, and their answers written.
     ensures { OnOk result (IfSome (R.remaining reader.old) (λ input. BehindEachRun (live_view core.old)

@@ -6,7 +6,8 @@ use Rattle.dsx_messages.specs.declared.message.Message.{Message}
 use Rattle.dsx_messages.specs.declared.message.Message.TheVariants as messages
 use Rattle.dsx_messages.specs.declared.fault.MessageFault.{MessageFault}
 use Rattle.dsx_messages.specs.declared.fault.MessageFault.TheVariants as faults
-use Rattle.dsx_messages.specs.Reading.{Fails}
+use Rattle.lists.specs.Results.{Fails}
+use Rattle.dsx_messages.specs.Reading.{message_cause}
 use Rattle.check_table.specs.Messages.{Reading}
 use Rattle.check_explainer.specs.Messages.{HasNoCheck}
 use Rattle.operator_model.specs.Replay.{BookView}
@@ -15,10 +16,11 @@ use Rattle.run_model.specs.declared.step.Step.{Step}
 use Rattle.run_model.specs.declared.step.Step.TheVariants as steps
 use Rattle.run_model.specs.IsStateAfter.{CoreView}
 use Rattle.trace_report.specs.declared.decision.Decision.{Decision}
+use Rattle.trace_report.specs.declared.seen.StepReport.{StepReport}
 use Rattle.trace_report.specs.Decision.{AtHand, IsAck, IsDecision, IsDecisionOf, first_message, message_of_step, message_at_hand}
 
 -- a fault that is read, other than want of memory
-pub fault_is_read : (fault : MessageFault) (said : Reading) → Fails fault said → fault ≢ faults.NoMemory → said ≡ Err fault
+pub fault_is_read : (fault : MessageFault) (said : Reading) → Fails (message_cause fault) said → fault ≢ faults.NoMemory → said ≡ Err fault
 fault_is_read faults.Empty said fails other = fails
 fault_is_read (faults.NotOurs mtype) said fails other = fails
 fault_is_read faults.Short said fails other = fails
@@ -54,9 +56,9 @@ module _ (core : CoreView) (op : ℕ) (step : Step) (is : step ≡ steps.Work op
   pub nobody_works : slice_get core.books op ≡ None → IsDecision core step None
   nobody_works past = subst (λ (at : Option AtHand). IsDecisionOf at None) (sym (handled None past)) refl
 
-  pub one_works : (book : BookView) (o : Operator) (r : Result (Option Decision) AllocError) → slice_get core.books op ≡ Some book → o ≡ operator book.consts book.row book.state
-      → IfOk r (IsDecisionOf (first_message o o.state.inbox)) → IfOk r (IsDecision core step)
+  pub one_works : (book : BookView) (o : Operator) (r : Result StepReport AllocError) → slice_get core.books op ≡ Some book → o ≡ operator book.consts book.row book.state
+      → IfOk r (λ seen. IsDecisionOf (first_message o o.state.inbox) seen.decision) → IfOk r (λ seen. IsDecision core step seen.decision)
   one_works book o r there same decided =
-      subst (λ (at : Option AtHand). IfOk r (IsDecisionOf at))
+      subst (λ (at : Option AtHand). IfOk r (λ seen. IsDecisionOf at seen.decision))
       (ap (λ (x : Operator). first_message x x.state.inbox) same ∙ sym (handled (Some book) there))
       decided

@@ -19,21 +19,11 @@ use Rattle.trace_report.specs.Names.{message_check_name, check_name}
 use Rattle.trace_report.specs.Reading.{AreDecisionLines, TraceIsRead}
 use Rattle.trace_report.specs.Remarks.{is_check_line, IsOtherLine, with_ends, HasNoCheckLine, check_lines}
 use Rattle.trace_report.specs.Trace.{check_line, IsDecisionText, IsTraceText}
+use Rattle.trace_report.proofs.LineLemmas.{line_first}
 use Rattle.trace_report.proofs.RemarkLemmas.{no_break_both, no_break_decimal, no_break_of}
 use Rattle.trace_report.proofs.TextLemmas.{text_remark}
 
 -- ---- the lines of a text
-
-from_byte : (part : List ℕ) (b : ℕ) (bytes : List ℕ) (t : Bool) → (b == 10) ≡ t
-    → parts_from 10 part (b ∷ bytes) ≡ elim t [ true ↦ part ∷ parts_from 10 [] bytes | false ↦ parts_from 10 (part ++ b ∷ []) bytes ]
-from_byte part b bytes t e = ap (λ (v : Bool). elim v [ true ↦ part ∷ parts_from 10 [] bytes | false ↦ parts_from 10 (part ++ b ∷ []) bytes ]) e
-
-line_first : (part line rest : List ℕ) → HasNoBreak line → parts_from 10 part (line ++ 10 ∷ rest) ≡ (part ++ line) ∷ parts_from 10 [] rest
-line_first part [] rest none = ap (λ (x : List ℕ). x ∷ parts_from 10 [] rest) (sym (append-nil part))
-line_first part (b ∷ line) rest none =
-    from_byte part b (line ++ 10 ∷ rest) false (false_from_ne_true (b == 10) (λ hit. none.0 (eqb-true b 10 hit)))
-    ∙ line_first (part ++ b ∷ []) line rest none.1
-    ∙ ap (λ (x : List ℕ). x ∷ parts_from 10 [] rest) (append_assoc part (b ∷ []) line)
 
 taken : (line : List ℕ) (lines : List (List ℕ)) (t : Bool) → is_check_line line ≡ t → filter is_check_line (line ∷ lines) ≡ elim t [ true ↦ line ∷ filter is_check_line lines | false ↦ filter is_check_line lines ]
 taken line lines true e = rw e refl

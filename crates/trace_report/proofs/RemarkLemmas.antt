@@ -1,15 +1,18 @@
 -- Lines with no line feed, and remarks one after the other.
-use Rattle.std.proofs.Common.{Option, ◌≡◌, ◌≢◌, ◌==◌, ℕ, zero, suc, ◌+◌, ◌-◌, ◌*◌, ◌/◌, ◌%◌, ◌^◌, ◌<◌, ◌≤◌, Bool, true, false, not, List, [], ◌∷◌, ◌++◌, length, take, drop, arith, refl, sym, ap, ◌∙◌, append_assoc, append-nil, codes, eq-eqb, true≢false}
+use Rattle.std.proofs.Common.{Option, ◌≡◌, ◌≢◌, ◌==◌, ℕ, zero, suc, ◌+◌, ◌-◌, ◌*◌, ◌/◌, ◌%◌, ◌^◌, ◌<◌, ◌≤◌, Bool, true, false, not, List, [], ◌∷◌, ◌++◌, length, take, drop, arith, refl, sym, ap, subst, ◌∙◌, append_assoc, append-nil, codes, eq-eqb, true≢false}
 use Rattle.std.specs.Fmt.{decimal}
 use Rattle.std.specs.List.{list_all, flat_map, AllByRecursion}
 use Rattle.std.proofs.lemmas.Bool.Decides.{nat_tests}
 use Rattle.std.proofs.lemmas.Fmt.{decimal_by_steps}
 use Rattle.std.proofs.lemmas.Grind.{flat_map-append}
+use Rattle.std.proofs.lemmas.List.{map-append}
 use Rattle.line_service.specs.Front.{HasNoBreak}
 use Rattle.std.specs.Io.KnownBytes.{Appends}
 use Rattle.std.proofs.KnownBytes.{Appends-nil, Appends-trans}
-use Rattle.trace_report.specs.Told.{HasRemarked}
-use Rattle.trace_report.specs.Remarks.{is_check_line, IsOtherLine, with_ends, HasNoCheckLine, no_words_line}
+use Rattle.std.specs.Prelude.{map}
+use Rattle.trace_report.specs.Quotes.{quote}
+use Rattle.trace_report.specs.Told.{HasWorded}
+use Rattle.trace_report.specs.Remarks.{is_check_line, IsOtherLine, with_ends, HasNoCheckLine, indented_line, AreWords, no_words_line}
 
 -- ---- no line feed
 
@@ -61,19 +64,31 @@ one_line : (line text : List ℕ) → text ≡ line ++ 10 ∷ [] → IsOtherLine
 one_line line text is other = record { lines = line ∷ []; remark_is = is ∙ sym (append-nil (line ++ 10 ∷ [])); others = (other, tt) }
 
 -- a line that is indented further than that of a check
-pub indented : (line : List ℕ) → HasNoBreak line → HasNoCheckLine (codes "    " ++ (line ++ 10 ∷ []))
-indented line none =
+indented_remark : (line : List ℕ) → HasNoBreak line → HasNoCheckLine (codes "    " ++ (line ++ 10 ∷ []))
+indented_remark line none =
     one_line (codes "    " ++ line) (codes "    " ++ (line ++ 10 ∷ [])) refl
     (record { one = no_break_both (codes "    ") line (no_break_of (codes "    ") refl) none; no_check = refl })
 
-pub no_words_remark : HasNoCheckLine no_words_line
-no_words_remark =
-    indented (codes "out of memory: what this step did is not described")
+-- words are no lines of checks
+pub words_remark : (words : List ℕ) → AreWords words → HasNoCheckLine words
+words_remark words are = subst HasNoCheckLine (sym are.words_are) (all are.lines are.each_one) where
+  all : (lines : List (List ℕ)) → AllByRecursion HasNoBreak lines → HasNoCheckLine (with_ends (map indented_line lines))
+  all [] none = no_remark
+  all (line ∷ lines) none = subst HasNoCheckLine (ap (λ (l : List ℕ). l ++ with_ends (map indented_line lines)) (sym (append_assoc (codes "    ") line (10 ∷ [])))) (remark_both (codes "    " ++ (line ++ 10 ∷ [])) (with_ends (map indented_line lines)) (indented_remark line none.0) (all lines none.1))
+
+pub no_words : AreWords []
+no_words = record { lines = []; words_are = refl; each_one = tt }
+
+pub one_words : (line : List ℕ) → HasNoBreak line → AreWords (codes "    " ++ (line ++ 10 ∷ []))
+one_words line none = record { lines = line ∷ []; words_are = sym (append-nil ((codes "    " ++ line) ++ 10 ∷ []) ∙ append_assoc (codes "    ") line (10 ∷ [])); each_one = (none, tt) }
+
+pub no_words_are : AreWords no_words_line
+no_words_are =
+    one_words (codes "out of memory: what this step did is not described")
     (no_break_of (codes "out of memory: what this step did is not described") refl)
 
 -- a line that says a line's number and what that line says
-pub said_remark : (number : ℕ) (said : List ℕ) → number < 2 ^ 64 → HasNoBreak said
-    → HasNoCheckLine (codes "line " ++ (decimal number ++ (codes ": " ++ (said ++ 10 ∷ []))))
+pub said_remark : (number : ℕ) (said : List ℕ) → number < 2 ^ 64 → HasNoBreak said → HasNoCheckLine (quote number said)
 said_remark number said small none =
     one_line (codes "line " ++ (decimal number ++ (codes ": " ++ said))) (codes "line " ++ (decimal number ++ (codes ": " ++ (said ++ 10 ∷ []))))
     (ap (λ (t : List ℕ). codes "line " ++ t) (sym (append_assoc (decimal number) (codes ": " ++ said) (10 ∷ []))))
@@ -87,18 +102,24 @@ said_remark number said small none =
 
 -- ---- what is written
 
-pub none_remarked : (known : Option (List ℕ)) → HasRemarked known known
-none_remarked known = ([], no_remark, Appends-nil known)
+pub none_worded : (known : Option (List ℕ)) → HasWorded known known
+none_worded known = ([], no_words, Appends-nil known)
 
--- a remark more
-pub remarked_more : (a b c : Option (List ℕ)) (remark : List ℕ) → HasRemarked a b → HasNoCheckLine remark → Appends b c remark → HasRemarked a c
-remarked_more a b c remark before none wrote =
-    (before.0 ++ remark, remark_both before.0 remark before.1 none, Appends-trans a b c before.0 remark before.2 wrote)
+both_each : (a b : List (List ℕ)) → AllByRecursion HasNoBreak a → AllByRecursion HasNoBreak b → AllByRecursion HasNoBreak (a ++ b)
+both_each [] b p q = q
+both_each (x ∷ a) b p q = (p.0, both_each a b p.1 q)
 
-pub line_remarked : (a b c : Option (List ℕ)) (line : List ℕ) → HasRemarked a b → HasNoBreak line → Appends b c (codes "    " ++ (line ++ 10 ∷ [])) → HasRemarked a c
-line_remarked a b c line before none wrote = remarked_more a b c (codes "    " ++ (line ++ 10 ∷ [])) before (indented line none) wrote
+pub words_both : (a b : List ℕ) → AreWords a → AreWords b → AreWords (a ++ b)
+words_both a b p q = record {
+  lines = p.lines ++ q.lines;
+  words_are =
+      ap (λ (x : List ℕ). x ++ b) p.words_are ∙ ap (λ (y : List ℕ). with_ends (map indented_line p.lines) ++ y) q.words_are
+      ∙ sym (flat_map-append (λ (line : List ℕ). line ++ 10 ∷ []) (map indented_line p.lines) (map indented_line q.lines))
+      ∙ ap with_ends (sym (map-append indented_line p.lines q.lines));
+  each_one = both_each p.lines q.lines p.each_one q.each_one;
+}
 
-pub said_remarked : (a b : Option (List ℕ)) (number : ℕ) (said : List ℕ) → number < 2 ^ 64 → HasNoBreak said
-    → Appends a b (codes "line " ++ (decimal number ++ (codes ": " ++ (said ++ 10 ∷ [])))) → HasRemarked a b
-said_remarked a b number said small none wrote =
-    (codes "line " ++ (decimal number ++ (codes ": " ++ (said ++ 10 ∷ []))), said_remark number said small none, wrote)
+pub line_worded : (a b c : Option (List ℕ)) (line : List ℕ) → HasWorded a b → HasNoBreak line → Appends b c (codes "    " ++ (line ++ 10 ∷ [])) → HasWorded a c
+line_worded a b c line before none wrote =
+    let more = codes "    " ++ (line ++ 10 ∷ []) in
+    (before.0 ++ more, words_both before.0 more before.1 (one_words line none), Appends-trans a b c before.0 more before.2 wrote)

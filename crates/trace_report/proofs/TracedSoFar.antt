@@ -7,10 +7,10 @@ use Rattle.run_model.specs.IsStateAfter.{CoreView, IsStateAfter}
 use Rattle.script_format.specs.declared.script.LineStep.{LineStep}
 use Rattle.script_format.specs.Script.{steps_without_numbers}
 use Rattle.trace_report.specs.declared.decision.Decision.{Decision}
-use Rattle.trace_report.specs.Trace.{AreDecided, IsTraceText}
+use Rattle.trace_report.specs.Trace.{AreDecided, IsTraceText, last_quoted, IsReportText}
 
--- some of the steps are done and told, and these are left
-pub record IsTracedSoFar (plant : PlantFields) (steps : List LineStep) (core : CoreView) (old new : Option (List ℕ)) (left : List LineStep) : Type 0 where
+-- some of the steps are done and told, and these are left; the line of `next` is quoted, and `last` is the greatest number before
+pub record IsTracedSoFar (plant : PlantFields) (script : List ℕ) (steps : List LineStep) (last : ℕ) (next : Option LineStep) (core : CoreView) (old new : Option (List ℕ)) (left : List LineStep) : Type 0 where
   pub at : ℕ
   pub told : List Out
   pub decisions : List (Option Decision)
@@ -18,5 +18,7 @@ pub record IsTracedSoFar (plant : PlantFields) (steps : List LineStep) (core : C
   pub reached : IsStateAfter plant (steps_without_numbers (take at steps)) told core
   pub decided : AreDecided plant [] (steps_without_numbers (take at steps)) decisions
   pub is_text : IsTraceText decisions text
+  pub last_is : last ≡ last_quoted 0 (take at steps)
+  pub reported : IsReportText script 0 (take at steps) decisions next text
   pub written : Appends old new text
   pub left_are : drop at steps ≡ left

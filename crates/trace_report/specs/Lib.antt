@@ -1,5 +1,6 @@
 pub mod Decision
 pub mod Names
+pub mod Quotes
 pub mod Reading
 pub mod Remarks
 pub mod Trace

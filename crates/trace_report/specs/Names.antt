@@ -4,6 +4,8 @@ use Rattle.check_table.specs.declared.check.Check.{Check}
 use Rattle.check_table.specs.declared.check.Check.TheVariants as checks
 use Rattle.check_table.specs.declared.check.MessageCheck.{MessageCheck}
 use Rattle.check_table.specs.declared.check.MessageCheck.TheVariants as message_checks
+use Rattle.trace_report.specs.declared.decision.Decision.{Decision}
+use Rattle.trace_report.specs.declared.decision.Decision.TheVariants as decisions
 
 abbrev pub message_check_name : MessageCheck → List ℕ
 message_check_name message_checks.Unread = codes "unread"
@@ -32,3 +34,7 @@ check_name checks.NoSidFree = codes "no SID free"
 check_name checks.ElementsOver = codes "elements over"
 check_name checks.MinislotsOver = codes "minislots over"
 check_name checks.Accepted = codes "accepted"
+
+abbrev pub decision_name : Decision → List ℕ
+decision_name (decisions.Message check) = message_check_name check
+decision_name (decisions.Request check) = check_name check

@@ -1,5 +1,5 @@
 -- What is in a trace besides the lines of checks, and how a reader finds those (implementation-specific).
-use Rattle.std.specs.Prelude.{◌≡◌, ◌==◌, ◌≢◌, ℕ, Bool, false, List, [], ◌∷◌, ◌++◌, codes, filter}
+use Rattle.std.specs.Prelude.{◌≡◌, ◌==◌, ◌≢◌, ℕ, Bool, false, List, [], ◌∷◌, ◌++◌, codes, filter, map}
 use Rattle.std.specs.List.{flat_map, starts_with, AllByRecursion}
 use Rattle.script_format.specs.Lines.{lines_of}
 use Rattle.line_service.specs.Front.{HasNoBreak}
@@ -22,6 +22,15 @@ pub record HasNoCheckLine (remark : List ℕ) : Type 0 where
   pub lines : List (List ℕ)
   pub remark_is : remark ≡ with_ends lines
   pub others : AllByRecursion IsOtherLine lines
+
+-- words are lines, each indented by four spaces; maybe none at all
+abbrev pub indented_line : List ℕ → List ℕ
+indented_line line = codes "    " ++ line
+
+pub record AreWords (words : List ℕ) : Type 0 where
+  pub lines : List (List ℕ)
+  pub words_are : words ≡ with_ends (map indented_line lines)
+  pub each_one : AllByRecursion HasNoBreak lines
 
 -- what a reader takes out of a trace who looks at no other line
 abbrev pub check_lines : List ℕ → List (List ℕ)

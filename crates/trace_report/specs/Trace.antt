@@ -1,6 +1,6 @@
 -- What a trace of a script says: for each step that is done, the check that decided what it answered, among remarks
 -- (implementation-specific).
-use Rattle.std.specs.Prelude.{◌≡◌, ◌⊎◌, ℕ, ◌-◌, ◌≤◌, List, [], ◌∷◌, ◌++◌, take, slice_get, Option, Some, None, ⊤, codes}
+use Rattle.std.specs.Prelude.{◌≡◌, ◌⊎◌, ℕ, ◌-◌, ◌≤◌, List, [], ◌∷◌, ◌++◌, take, max, slice_get, Option, Some, None, ⊤, codes}
 use Rattle.std.specs.Fmt.{decimal}
 use Rattle.std.specs.Io.KnownBytes.{Appends}
 use Rattle.plant.specs.declared.plant.PlantFields.{PlantFields}
@@ -18,7 +18,8 @@ use Rattle.trace_report.specs.declared.decision.Decision.{Decision}
 use Rattle.trace_report.specs.declared.decision.Decision.TheVariants as decisions
 use Rattle.trace_report.specs.Decision.{IsDecision}
 use Rattle.trace_report.specs.Names.{message_check_name, check_name}
-use Rattle.trace_report.specs.Remarks.{HasNoCheckLine, no_words_line}
+use Rattle.trace_report.specs.Quotes.{quote_after}
+use Rattle.trace_report.specs.Remarks.{HasNoCheckLine, AreWords, no_words_line}
 
 -- ---- what is decided
 
@@ -41,6 +42,11 @@ abbrev pub check_line : ℕ → List ℕ → List ℕ
 check_line number name = codes "  check " ++ (decimal number ++ (codes ", " ++ (name ++ 10 ∷ [])))
 
 -- the number of a check of a message is its place in their table; those of a request are numbered after them
+abbrev pub IsCheckNumber : Decision → ℕ → Type 0
+IsCheckNumber (decisions.Message check) number = slice_get message_table number ≡ Some check
+IsCheckNumber (decisions.Request check) number = (5 ≤ number) × (slice_get table (number - 5) ≡ Some check)
+
+-- no text where no check decides, else the line of the check
 abbrev pub IsDecisionText : Option Decision → List ℕ → Type 0
 IsDecisionText None text = text ≡ []
 IsDecisionText (Some (decisions.Message check)) text =
@@ -53,6 +59,28 @@ abbrev pub IsTraceText : List (Option Decision) → List ℕ → Type 0
 IsTraceText [] text = HasNoCheckLine text
 IsTraceText (decision ∷ more) text =
     (remark line rest : List ℕ) × (text ≡ remark ++ (line ++ rest)) × HasNoCheckLine remark × IsDecisionText decision line × IsTraceText more rest
+
+-- ---- what is quoted
+
+-- the greatest number of the lines that are quoted: `last`, or that of one of these steps
+abbrev pub last_quoted : ℕ → List LineStep → ℕ
+last_quoted last [] = last
+last_quoted last (line ∷ lines) = last_quoted (max last line.number) lines
+
+-- the quote before the next step, if there is one
+abbrev pub next_quote : List ℕ → ℕ → Option LineStep → List ℕ
+next_quote script last None = []
+next_quote script last (Some line) = quote_after script last line.number
+
+-- What is written of steps, one after the other: before the first step of each line the line's quote, then the step's decision,
+-- then words. After them is the quote before the next step.
+abbrev pub IsReportText : List ℕ → ℕ → List LineStep → List (Option Decision) → Option LineStep → List ℕ → Type 0
+IsReportText script last [] [] next text = text ≡ next_quote script last next
+IsReportText script last [] (decision ∷ more) next text = ⊥
+IsReportText script last (line ∷ lines) [] next text = ⊥
+IsReportText script last (line ∷ lines) (decision ∷ more) next text =
+    (told words rest : List ℕ) × (text ≡ quote_after script last line.number ++ (told ++ (words ++ rest)))
+    × IsDecisionText decision told × AreWords words × IsReportText script (max last line.number) lines more next rest
 
 -- ---- the whole trace
 
@@ -71,8 +99,9 @@ pub record HasNoWords (decisions : List (Option Decision)) (text : List ℕ) (en
 abbrev pub IsTraceEndAt : CoreView → Option LineStep → List (Option Decision) → List ℕ → StepsEnd → Type 0
 IsTraceEndAt core next decisions text end = IsStepsEndAt core next end ⊎ HasNoWords decisions text end
 
--- so many of these steps are done on the plant as it is opened, and it ended so; what decided each is written, in order
-pub record HasTraced (plant : PlantFields) (steps : List LineStep) (core : CoreView) (end : StepsEnd) (old new : Option (List ℕ)) : Type 0 where
+-- So many of these steps are done on the plant as it is opened, and it ended so. Their lines are quoted from the script, and what
+-- decided each is written, in order. The line of a step that is not done is quoted too.
+pub record HasTraced (plant : PlantFields) (script : List ℕ) (steps : List LineStep) (core : CoreView) (end : StepsEnd) (old new : Option (List ℕ)) : Type 0 where
   pub at : ℕ
   pub told : List Out
   pub decisions : List (Option Decision)
@@ -81,4 +110,7 @@ pub record HasTraced (plant : PlantFields) (steps : List LineStep) (core : CoreV
   pub ends : IsTraceEndAt core (slice_get steps at) decisions text end
   pub decided : AreDecided plant [] (steps_without_numbers (take at steps)) decisions
   pub is_text : IsTraceText decisions text
+  pub next : Option LineStep
+  pub next_is : (next ≡ slice_get steps at) ⊎ (next ≡ None)
+  pub reported : IsReportText script 0 (take at steps) decisions next text
   pub written : Appends old new text

@@ -1,21 +1,20 @@
-//! What decides what a step will answer.
+//! What decides what a message is answered.
 
-ghost use Rattle.std.specs.Prelude.{◌≡◌, ◌≢◌, None, Err, IfOk, OnErr};
+ghost use Rattle.std.specs.Prelude.{◌≡◌, ◌≢◌, Err, IfOk};
 ghost use Rattle.dsx_messages.specs.declared.fault.MessageFault.TheVariants.{NoMemory};
 ghost use Rattle.dsx_messages.specs.Reading.{message_of};
 ghost use Rattle.check_table.specs.declared.check.MessageCheck.TheVariants.{Judged};
 ghost use Rattle.lists.specs.First.{IsFirst};
 ghost use Rattle.check_table.specs.Messages.{HoldsOf, message_table};
-ghost use Rattle.plant_core.specs.CoreView.{core_view};
-ghost use Rattle.plant_core.specs.Faults.{step_fault};
-ghost use Rattle.trace_report.specs.Decision.{first_message, DecidesReading, IsDecisionOf, IsDecision};
+ghost use Rattle.trace_report.specs.Decision.{first_message, DecidesReading, IsDecisionOf};
+ghost use Rattle.trace_report.specs.Names.{decision_name};
+ghost use Rattle.trace_report.specs.Trace.{IsCheckNumber};
 
+use crate::names::{check_name, message_check_name};
 use check_explainer::OperatorSnapshot;
 use check_table::{Check, MessageCheck};
 use dsx_messages::{Message, MessageFault, Modem, read};
 use operator_model::{Arrival, Heard};
-use plant_core::PlantCore;
-use run_model::Step;
 use std::alloc::{AllocError, Global};
 
 /// The check that decides what a message is answered (docs/RULES.md).
@@ -25,6 +24,28 @@ pub enum Decision {
     Message(MessageCheck),
     /// A check of a request.
     Request(Check),
+}
+
+impl Decision {
+    /// Returns the number of the check in the table of docs/RULES.md.
+    pub fn number(self) -> u8
+        ensures { IsCheckNumber self result }
+    {
+        match self {
+            Decision::Message(check) => check.number(),
+            Decision::Request(check) => check.number(),
+        }
+    }
+
+    /// Returns the name of the check, as a trace has it.
+    pub fn name(self) -> &'static str
+        ensures { result.now ≡ decision_name self }
+    {
+        match self {
+            Decision::Message(check) => message_check_name(check),
+            Decision::Request(check) => check_name(check),
+        }
+    }
 }
 
 /// Returns what a message says, or its first fault, where memory was not wanting.
@@ -88,7 +109,7 @@ fn decision_in(
 }
 
 /// Returns what decides the first of the inbox.
-fn decision_at(
+pub(crate) fn decision_at(
     alloc: Global,
     operator_snapshot: &OperatorSnapshot,
 ) -> Result<Option<Decision>, AllocError>
@@ -111,28 +132,5 @@ fn decision_at(
                 heard: Heard::Message(bytes),
             },
         ) => decision_in(alloc, operator_snapshot, *modem, bytes.as_slice()),
-    }
-}
-
-/// Returns the check that decides what a step of the core will answer: that of the message which it handles. None where it handles
-/// none or an acknowledgement. A step that handles a message needs memory for a copy of the operator's state; no other does.
-pub fn decision_of(
-    alloc: Global,
-    core: &PlantCore,
-    step: &Step,
-) -> Result<Option<Decision>, AllocError>
-    ensures decision { IfOk result (λ decision. IsDecision (core_view core.now) step.now decision) }
-    // Only a step that the core does not refuse needs memory.
-    ensures memory { OnErr result (step_fault (core_view core.now) step.now ≡ None) }
-{
-    let Step::Work { op } = step else {
-        return Ok(None);
-    };
-    match core.book(*op) {
-        None => Ok(None),
-        Some(book) => {
-            let operator_snapshot = OperatorSnapshot::of_book(alloc, book)?;
-            decision_at(alloc, &operator_snapshot)
-        }
     }
 }

@@ -2,16 +2,18 @@
 //! of the tables that held.
 #![tactic(auto)]
 
+mod comparison;
 mod decision;
 mod laws;
 mod lines;
 mod names;
-mod numbers;
 mod remarks;
 mod seen;
 mod trace;
 mod words;
 
-pub use decision::{Decision, decision_of};
+pub use comparison::CheckComparison;
+pub use decision::Decision;
 pub use laws::check_lines_are_decisions;
+pub use seen::{StepReport, decision_of, live_decision_of};
 pub use trace::write_trace;

@@ -1,11 +1,10 @@
 //! Remarks of a trace: lines that are not those of checks.
 
-ghost use Rattle.std.specs.Prelude.{◌≡◌, ◌∷◌, ◌++◌, [], codes, OnOk, IfOk};
-ghost use Rattle.std.specs.Fmt.{decimal};
+ghost use Rattle.std.specs.Prelude.{◌≡◌, ◌∷◌, ◌++◌, [], List, ℕ, codes, max, OnOk, IfOk};
 ghost use Rattle.std.specs.Io.KnownBytes.{Appends};
-ghost use Rattle.line_service.specs.Front.{HasNoBreak};
+ghost use Rattle.trace_report.specs.Quotes.{IsRestAfter, quote};
 ghost use Rattle.trace_report.specs.Remarks.{no_words_line};
-ghost use Rattle.trace_report.specs.Told.{HasRemarked};
+ghost use Rattle.trace_report.specs.Told.{HasQuoted, HasWorded};
 
 use crate::lines::{line_after, split_line};
 use std::io;
@@ -22,9 +21,9 @@ fn write_remark<W: Write>(writer: &mut W, line: &[u8]) -> io::Result<()>
 }
 
 /// Writes words as remarks, line by line. So no line of a remark begins as that of a check does, whatever the words are.
-#[tactic(auto, using(crate::proofs::RemarkLemmas::none_remarked))]
+#[tactic(auto, using(crate::proofs::RemarkLemmas::none_worded))]
 pub(crate) fn write_words<W: Write>(writer: &mut W, words: &[u8]) -> io::Result<()>
-    ensures { OnOk result (HasRemarked (W.contents writer.old) (W.contents writer.new)) }
+    ensures { OnOk result (HasWorded (W.contents writer.old) (W.contents writer.new)) }
 {
     let mut rest = words;
     while !rest.is_empty() {
@@ -47,24 +46,26 @@ pub(crate) fn write_no_words<W: Write>(writer: &mut W) -> io::Result<()>
 
 /// Writes the number of a line and what it says.
 fn write_said<W: Write>(writer: &mut W, number: u64, said: &[u8]) -> io::Result<()>
-    ensures { OnOk result (Appends (W.contents writer.old) (W.contents writer.new)
-        (codes "line " ++ (decimal number ++ (codes ": " ++ (said.now ++ 10 ∷ []))))) }
+    ensures { OnOk result (Appends (W.contents writer.old) (W.contents writer.new) (quote number said.now)) }
 {
     write!(writer, "line {number}: ")?;
     writer.write_all(said)?;
     writer.write_all(b"\n")
 }
 
-/// Writes the line of this number before its first step. `rest` is the script after the line `last`, whose steps were the last
-/// ones. Returns the script after the line.
-#[tactic(auto, using(crate::proofs::RemarkLemmas::none_remarked, crate::proofs::RemarkLemmas::said_remarked))]
+/// Writes the line of this number before its first step. `rest` is the script after the line `last`, the last one that was
+/// written. Returns the script after both lines.
+#[tactic(auto, using(crate::proofs::QuoteLemmas::line_quoted, crate::proofs::QuoteLemmas::quoted_before, crate::proofs::QuoteLemmas::rest_of_line, crate::proofs::QuoteLemmas::rest_stays))]
 pub(crate) fn write_line<'a, W: Write>(
     writer: &mut W,
     rest: &'a [u8],
     last: u64,
     number: u64,
 ) -> io::Result<&'a [u8]>
-    ensures { OnOk result (HasRemarked (W.contents writer.old) (W.contents writer.new)) }
+    ensures quoted { OnOk result ((script : List ℕ) → IsRestAfter script last rest.now
+        → HasQuoted script last number (W.contents writer.old) (W.contents writer.new)) }
+    ensures rest { IfOk result (λ after. (script : List ℕ) → IsRestAfter script last rest.now
+        → IsRestAfter script (max last number) after.now) }
 {
     if number <= last {
         return Ok(rest);

@@ -3,11 +3,13 @@
 ghost use Rattle.std.specs.Prelude.{◌≡◌, None, IfOk, OnErr};
 ghost use Rattle.plant_core.specs.CoreView.{core_view};
 ghost use Rattle.plant_core.specs.Faults.{step_fault};
-ghost use Rattle.trace_report.specs.Decision.{IsDecision};
+ghost use Rattle.live_core.specs.LiveView.{live_view};
+ghost use Rattle.trace_report.specs.Decision.{first_message, IsDecisionOf, IsDecision};
 
-use crate::decision::{Decision, decision_of};
-use crate::numbers::reason_of;
+use crate::comparison::{CheckComparison, comparison_of};
+use crate::decision::{Decision, decision_at};
 use check_explainer::OperatorSnapshot;
+use live_core::LiveCore;
 use operator_model::{Arrival, Heard};
 use plant_core::PlantCore;
 use run_model::Step;
@@ -25,14 +27,27 @@ pub(crate) enum About {
 }
 
 /// What is seen of a step before it is done.
-#[derive(Drop)]
-pub(crate) struct StepReport {
+#[derive(Clone, Copy, Debug, PartialEq, Eq)]
+pub struct StepReport {
     /// The check that decides what it will answer.
     pub decision: Option<Decision>,
-    /// The numbers that the check compares, in words; empty where it compares none.
-    pub reason: String,
+    /// The numbers that the check compares; none where it compares none.
+    pub comparison: Option<CheckComparison>,
     /// What it is about.
-    pub about: About,
+    pub(crate) about: About,
+}
+
+impl StepReport {
+    /// Returns a report of a step that no check decides.
+    fn without_decision(about: About) -> StepReport
+        ensures { result.decision ≡ None }
+    {
+        StepReport {
+            decision: None,
+            comparison: None,
+            about,
+        }
+    }
 }
 
 /// Returns what a step is about that handles this.
@@ -51,56 +66,81 @@ fn about_heard(heard: &Heard) -> About {
     }
 }
 
+/// Returns what a step is about that is not done by an operator's machine at work.
+fn about_other(step: &Step) -> About {
+    match step {
+        Step::Arrive { modem: _, heard } => about_heard(heard),
+        _ => About::Nothing,
+    }
+}
+
 /// Returns the numbers that a check compares, of the first of an operator's inbox; and what that is
 /// about.
-fn reason_at(
+fn numbers_at(
     alloc: Global,
     operator_snapshot: &OperatorSnapshot,
     decision: Option<Decision>,
-) -> Result<(String, About), AllocError> {
+) -> Result<(Option<CheckComparison>, About), AllocError> {
     match operator_snapshot.state().inbox().first() {
-        None => Ok((String::new(alloc), About::Nothing)),
+        None => Ok((None, About::Nothing)),
         Some(Arrival { modem: _, heard }) => {
-            let reason = reason_of(alloc, operator_snapshot, heard, decision)?;
-            Ok((reason, about_heard(heard)))
+            let comparison = comparison_of(alloc, operator_snapshot, heard, decision)?;
+            Ok((comparison, about_heard(heard)))
         }
     }
 }
 
-/// Returns the numbers that a step's check compares, and what the step is about. Only a step that the core does not refuse needs
-/// memory.
-fn reason_for(
-    alloc: Global,
-    core: &PlantCore,
-    step: &Step,
-    decision: Option<Decision>,
-) -> Result<(String, About), AllocError>
-    ensures { OnErr result (step_fault (core_view core.now) step.now ≡ None) }
+/// Returns what is seen of the first of an operator's inbox.
+fn report_at(alloc: Global, operator_snapshot: &OperatorSnapshot) -> Result<StepReport, AllocError>
+    ensures { IfOk result (λ seen. IsDecisionOf (first_message operator_snapshot.now operator_snapshot.now.state.inbox) seen.decision) }
 {
-    match step {
-        Step::Arrive { modem: _, heard } => Ok((String::new(alloc), about_heard(heard))),
-        Step::Work { op } => match core.book(*op) {
-            None => Ok((String::new(alloc), About::Nothing)),
-            Some(book) => reason_at(alloc, &OperatorSnapshot::of_book(alloc, book)?, decision),
-        },
-        _ => Ok((String::new(alloc), About::Nothing)),
+    let decision = decision_at(alloc, operator_snapshot)?;
+    let (comparison, about) = numbers_at(alloc, operator_snapshot, decision)?;
+    Ok(StepReport {
+        decision,
+        comparison,
+        about,
+    })
+}
+
+/// Returns what is seen of a step of the core before it is done: the check that decides what it will answer, which is that of the
+/// message that it handles, and the numbers that the check compares. No check decides a step that handles no message or an
+/// acknowledgement. A step that handles a message needs memory for a copy of the operator's state; no other does.
+pub fn decision_of(alloc: Global, core: &PlantCore, step: &Step) -> Result<StepReport, AllocError>
+    ensures decision { IfOk result (λ seen. IsDecision (core_view core.now) step.now seen.decision) }
+    // Only a step that the core does not refuse needs memory.
+    ensures memory { OnErr result (step_fault (core_view core.now) step.now ≡ None) }
+{
+    let Step::Work { op } = step else {
+        return Ok(StepReport::without_decision(about_other(step)));
+    };
+    match core.book(*op) {
+        None => Ok(StepReport::without_decision(About::Nothing)),
+        Some(book) => {
+            let operator_snapshot = OperatorSnapshot::of_book(alloc, book)?;
+            report_at(alloc, &operator_snapshot)
+        }
     }
 }
 
-/// Returns what is seen of a step before it is done. Only a step that the core does not refuse needs memory.
-pub(crate) fn seen_of(
+/// Returns the same of a step of a core without histories, as `decision_of` does of a core with them.
+pub fn live_decision_of(
     alloc: Global,
-    core: &PlantCore,
+    core: &LiveCore,
     step: &Step,
 ) -> Result<StepReport, AllocError>
-    ensures decision { IfOk result (λ seen. IsDecision (core_view core.now) step.now seen.decision) }
-    ensures memory { OnErr result (step_fault (core_view core.now) step.now ≡ None) }
+    ensures decision { IfOk result (λ seen. IsDecision (live_view core.now) step.now seen.decision) }
+    // Only a step that the core does not refuse needs memory.
+    ensures memory { OnErr result (step_fault (live_view core.now) step.now ≡ None) }
 {
-    let decision = decision_of(alloc, core, step)?;
-    let (reason, about) = reason_for(alloc, core, step, decision)?;
-    Ok(StepReport {
-        decision,
-        reason,
-        about,
-    })
+    let Step::Work { op } = step else {
+        return Ok(StepReport::without_decision(about_other(step)));
+    };
+    match core.machine(*op) {
+        None => Ok(StepReport::without_decision(About::Nothing)),
+        Some(machine) => {
+            let operator_snapshot = OperatorSnapshot::of_machine(alloc, machine)?;
+            report_at(alloc, &operator_snapshot)
+        }
+    }
 }

@@ -9,7 +9,7 @@ ghost use Rattle.trace_report.specs.Told.{HasToldDecision, HasToldStep};
 use crate::decision::Decision;
 use crate::names::{check_name, message_check_name};
 use crate::remarks::{write_line, write_no_words, write_words};
-use crate::seen::{StepReport, seen_of};
+use crate::seen::{StepReport, decision_of};
 use crate::words::words_of;
 use line_service::{StepsEnd, end_of};
 use plant_core::PlantCore;
@@ -62,10 +62,10 @@ fn write_done<W: Write>(
 }
 
 /// Does the steps of a script on a plant as it is opened, up to the first that is not done, and writes a trace: for each line with
-/// a step its number and its text, for each step that is done the check that decided what it answered (`decision_of`), the numbers
-/// that the check compares, and what the step output, in words. Returns how that ended: no step is left, the next one is refused,
-/// or it is not refused and an allocation for it failed. An allocation that fails for the words of a step that is done ends the
-/// trace too, and a line in their place says so. An error is one of the writer's; then no clause says how much was done.
+/// a step its number and its text in `script`, for each step that is done the check that decided what it answered (`decision_of`),
+/// the numbers that the check compares, and what the step output, in words. Returns how that ended: no step is left, the next one
+/// is refused, or it is not refused and an allocation for it failed. An allocation that fails for the words of a step that is done
+/// ends the trace too, and a line in their place says so. An error is one of the writer's; then no clause says how much was done.
 pub fn write_trace<W: Write>(
     alloc: Global,
     core: &mut PlantCore,
@@ -74,15 +74,15 @@ pub fn write_trace<W: Write>(
     writer: &mut W,
 ) -> io::Result<StepsEnd>
     requires opened { IsStateAfter (core_view core.old).plant [] [] (core_view core.old) }
-    ensures { IfOk result (λ end. HasTraced (core_view core.old).plant steps.items (core_view core.new) end
+    ensures { IfOk result (λ end. HasTraced (core_view core.old).plant script.now steps.items (core_view core.new) end
         (W.contents writer.old) (W.contents writer.new)) }
 {
     let mut outs = Vec::new(alloc);
     let (mut rest, mut last) = (script, 0u64);
     for LineStep { number, step } in steps {
         rest = write_line(writer, rest, last, number)?;
-        last = number;
-        let Ok(seen) = seen_of(alloc, core, &step) else {
+        last = last.max(number);
+        let Ok(seen) = decision_of(alloc, core, &step) else {
             return Ok(StepsEnd::NoMemory);
         };
         match core.step_over(alloc, step, &mut outs) {

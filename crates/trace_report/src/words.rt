@@ -1,6 +1,6 @@
 //! What a step output, in words.
 
-use crate::numbers::committed_by;
+use crate::comparison::{CheckComparison, committed_by};
 use crate::seen::{About, StepReport};
 use dsx_messages::{Code, Detail, FlowId, Kind, Modem, Reply, read_reply};
 use flow_table::Flow;
@@ -265,6 +265,47 @@ fn put_out(
     }
 }
 
+/// Adds the budget that a check compared with what flows hold and need.
+fn put_budget(
+    text: &mut String,
+    held: u64,
+    limit: u16,
+    needed: u64,
+    from_frame: Option<u32>,
+) -> Result<(), AllocError> {
+    write!(text, "the budget of {limit} minislots")?;
+    if let Some(frame) = from_frame {
+        write!(text, " from frame {frame}")?;
+    }
+    write!(text, " holds {held}, this flow needs {needed}\n")
+}
+
+/// Adds the numbers that a check compared.
+fn put_comparison(text: &mut String, comparison: CheckComparison) -> Result<(), AllocError> {
+    match comparison {
+        CheckComparison::Budget {
+            held,
+            limit,
+            needed,
+            from_frame,
+        } => put_budget(text, held, limit, needed, from_frame),
+        CheckComparison::Quota {
+            held,
+            limit,
+            needed,
+        } => {
+            write!(
+                text,
+                "the quota of {limit} elements holds {held}, this flow needs {needed}\n"
+            )
+        }
+        CheckComparison::Flows { held, limit } => write!(text, "{held} of {limit} flows stand\n"),
+        CheckComparison::Transactions { held, limit } => {
+            write!(text, "{held} of {limit} transactions are kept\n")
+        }
+    }
+}
+
 /// Returns the numbers of the check that decided a step, and what the step output, in words.
 pub(crate) fn words_of(
     alloc: Global,
@@ -273,7 +314,9 @@ pub(crate) fn words_of(
     outs: &[Out],
 ) -> Result<String, AllocError> {
     let mut text = String::new(alloc);
-    text.push_str(&seen.reason)?;
+    if let Some(comparison) = seen.comparison {
+        put_comparison(&mut text, comparison)?;
+    }
     for out in outs {
         put_out(alloc, &mut text, core, seen.about, out)?;
     }

@@ -1,10 +1,14 @@
-use Rattle.std.proofs.Common.{◌≡◌, Bool, true, false, [], ◌∷◌, length, ap, sym, subst, ◌∙◌}
+use Rattle.std.proofs.Common.{◌≡◌, max, Bool, true, false, ℕ, Option, Some, None, List, [], ◌∷◌, length, ap, sym, subst, ◌∙◌}
 use Rattle.std.specs.Vec.Iter.{into_iter_items, into_iter_len}
 use Rattle.std.proofs.lemmas.List.{nil_from_length}
 use Rattle.plant_core.specs.CoreView.{core_view}
+use Rattle.script_format.specs.declared.script.LineStep.{LineStep}
 use Rattle.line_service.proofs.LeftLemmas.{count_next}
+use Rattle.trace_report.specs.Quotes.{IsRestAfter}
 use Rattle.trace_report.specs.Told.{HasToldStep}
-use Rattle.trace_report.proofs.TraceLemmas.{none_traced, remark_traced, step_traced, words_fail, all_traced, memory_wants, step_not_done, on_err_of}
+use Rattle.trace_report.proofs.LineLemmas.{all_left}
+use Rattle.trace_report.proofs.TracedSoFar.{IsTracedSoFar}
+use Rattle.trace_report.proofs.TraceLemmas.{none_traced, line_traced, step_traced, words_fail, all_traced, memory_wants, step_not_done, on_err_of}
 use Rattle.trace_report.proofs.trace.write_trace.Goals as goal
 
 pub loop-number-init : goal.loop-number-init
@@ -14,7 +18,8 @@ loop-number-init g c =
       next = tt;
       finite = tt;
       count = gives.1 ∙ c.args.steps.ok.0 ∙ ap length (sym gives.0);
-      traced = rw gives.0 (none_traced (core_view c.args.core.now).plant c.args.steps.items (core_view c.args.core.now) (g.W.Write.contents c.args.writer.now) c.requires.opened);
+      rest = all_left c.args.script.now;
+      traced = rw gives.0 (none_traced (core_view c.args.core.now).plant c.args.script.now c.args.steps.items (core_view c.args.core.now) (g.W.Write.contents c.args.writer.now) c.requires.opened);
     }
 
 pub loop-number-preserved : goal.loop-number-preserved
@@ -22,15 +27,18 @@ loop-number-preserved g c =
     let at = c.loop-number in
     let line = c.in-Some.field-0 in
     let left : into_iter_items at.number-iterator ≡ line ∷ into_iter_items c.next.new.self = c.in-Some.ensures.steps.0 in
+    let last_is : max at.last line.number ≡ c.max-last.result = sym c.max-last.ensures in
     record {
       next = tt;
       finite = tt;
       count = count_next (into_iter_items at.number-iterator) line (into_iter_items c.next.new.self) (into_iter_len at.number-iterator) (into_iter_len c.next.new.self) left c.in-Some.ensures.steps.1 at.invariant.count;
+      rest = subst (λ (n : ℕ). IsRestAfter c.args.script.now n c.in_ok-rest.rest.now) last_is (c.in_ok-rest.ensures.rest c.args.script.now at.invariant.rest);
       traced =
-          step_traced (core_view c.args.core.now).plant c.args.steps.items (core_view at.core) (core_view c.step_over.new.self) (g.W.Write.contents c.args.writer.now) (g.W.Write.contents c.write_line.new.writer) (g.W.Write.contents c.write_done.new.writer) line (into_iter_items c.next.new.self) c.step_over.new.outs.items c.in-Ok.seen.decision
-          (remark_traced (core_view c.args.core.now).plant c.args.steps.items (core_view at.core) (g.W.Write.contents c.args.writer.now) (g.W.Write.contents at.writer) (g.W.Write.contents c.write_line.new.writer) (line ∷ into_iter_items c.next.new.self) (rw left at at.invariant.traced) c.in_ok-rest.ensures)
+          subst (λ (n : ℕ). IsTracedSoFar (core_view c.args.core.now).plant c.args.script.now c.args.steps.items n None (core_view c.step_over.new.self) (g.W.Write.contents c.args.writer.now) (g.W.Write.contents c.write_done.new.writer) (into_iter_items c.next.new.self)) last_is
+          (step_traced (core_view c.args.core.now).plant c.args.script.now c.args.steps.items at.last (core_view at.core) (core_view c.step_over.new.self) (g.W.Write.contents c.args.writer.now) (g.W.Write.contents c.write_line.new.writer) (g.W.Write.contents c.write_done.new.writer) line (into_iter_items c.next.new.self) c.step_over.new.outs.items c.in-Ok.seen.decision
+          (line_traced (core_view c.args.core.now).plant c.args.script.now c.args.steps.items at.last line (core_view at.core) (g.W.Write.contents c.args.writer.now) (g.W.Write.contents at.writer) (g.W.Write.contents c.write_line.new.writer) (line ∷ into_iter_items c.next.new.self) (rw left at at.invariant.traced) (c.in_ok-rest.ensures.quoted c.args.script.now at.invariant.rest))
           c.in-Ok.ensures.decision c.in-Ok-step_over.ensures.reached
-          (subst (λ (has_words : Bool). HasToldStep c.in-Ok.seen.decision has_words (g.W.Write.contents c.write_line.new.writer) (g.W.Write.contents c.write_done.new.writer)) c.if-not-branch.false c.in_ok-write_done-in-Ok-step_over.ensures);
+          (subst (λ (has_words : Bool). HasToldStep c.in-Ok.seen.decision has_words (g.W.Write.contents c.write_line.new.writer) (g.W.Write.contents c.write_done.new.writer)) c.if-not-branch.false c.in_ok-write_done-in-Ok-step_over.ensures));
     }
 
 -- an allocation failed for what is seen of a step
@@ -39,9 +47,9 @@ returns-in_default g c =
     let at = c.loop-number in
     let line = c.in-Some.field-0 in
     let left : into_iter_items at.number-iterator ≡ line ∷ into_iter_items c.next.new.self = c.in-Some.ensures.steps.0 in
-    memory_wants (core_view c.args.core.now).plant c.args.steps.items (core_view at.core) (g.W.Write.contents c.args.writer.now) (g.W.Write.contents c.write_line.new.writer) line (into_iter_items c.next.new.self)
-    (remark_traced (core_view c.args.core.now).plant c.args.steps.items (core_view at.core) (g.W.Write.contents c.args.writer.now) (g.W.Write.contents at.writer) (g.W.Write.contents c.write_line.new.writer) (line ∷ into_iter_items c.next.new.self) (rw left at at.invariant.traced) c.in_ok-rest.ensures)
-    (on_err_of c.seen_of.result _ c.in_default.not-Ok c.seen_of.ensures.memory)
+    memory_wants (core_view c.args.core.now).plant c.args.script.now c.args.steps.items at.last (core_view at.core) (g.W.Write.contents c.args.writer.now) (g.W.Write.contents c.write_line.new.writer) line (into_iter_items c.next.new.self)
+    (line_traced (core_view c.args.core.now).plant c.args.script.now c.args.steps.items at.last line (core_view at.core) (g.W.Write.contents c.args.writer.now) (g.W.Write.contents at.writer) (g.W.Write.contents c.write_line.new.writer) (line ∷ into_iter_items c.next.new.self) (rw left at at.invariant.traced) (c.in_ok-rest.ensures.quoted c.args.script.now at.invariant.rest))
+    (on_err_of c.decision_of.result _ c.in_default.not-Ok c.decision_of.ensures.memory)
 
 -- or for the words of a step that is done
 pub returns-then-not-branch : goal.returns-then-not-branch
@@ -49,8 +57,8 @@ returns-then-not-branch g c =
     let at = c.loop-number in
     let line = c.in-Some.field-0 in
     let left : into_iter_items at.number-iterator ≡ line ∷ into_iter_items c.next.new.self = c.in-Some.ensures.steps.0 in
-    words_fail (core_view c.args.core.now).plant c.args.steps.items (core_view at.core) (core_view c.step_over.new.self) (g.W.Write.contents c.args.writer.now) (g.W.Write.contents c.write_line.new.writer) (g.W.Write.contents c.write_done.new.writer) line (into_iter_items c.next.new.self) c.step_over.new.outs.items c.in-Ok.seen.decision
-    (remark_traced (core_view c.args.core.now).plant c.args.steps.items (core_view at.core) (g.W.Write.contents c.args.writer.now) (g.W.Write.contents at.writer) (g.W.Write.contents c.write_line.new.writer) (line ∷ into_iter_items c.next.new.self) (rw left at at.invariant.traced) c.in_ok-rest.ensures)
+    words_fail (core_view c.args.core.now).plant c.args.script.now c.args.steps.items at.last (core_view at.core) (core_view c.step_over.new.self) (g.W.Write.contents c.args.writer.now) (g.W.Write.contents c.write_line.new.writer) (g.W.Write.contents c.write_done.new.writer) line (into_iter_items c.next.new.self) c.step_over.new.outs.items c.in-Ok.seen.decision
+    (line_traced (core_view c.args.core.now).plant c.args.script.now c.args.steps.items at.last line (core_view at.core) (g.W.Write.contents c.args.writer.now) (g.W.Write.contents at.writer) (g.W.Write.contents c.write_line.new.writer) (line ∷ into_iter_items c.next.new.self) (rw left at at.invariant.traced) (c.in_ok-rest.ensures.quoted c.args.script.now at.invariant.rest))
     c.in-Ok.ensures.decision c.in-Ok-step_over.ensures.reached
     (subst (λ (has_words : Bool). HasToldStep c.in-Ok.seen.decision has_words (g.W.Write.contents c.write_line.new.writer) (g.W.Write.contents c.write_done.new.writer)) c.if-not-branch.true c.in_ok-write_done-in-Ok-step_over.ensures)
 
@@ -60,12 +68,12 @@ returns-in-Err g c =
     let at = c.loop-number in
     let line = c.in-Some.field-0 in
     let left : into_iter_items at.number-iterator ≡ line ∷ into_iter_items c.next.new.self = c.in-Some.ensures.steps.0 in
-    step_not_done (core_view c.args.core.now).plant c.args.steps.items (core_view at.core) (core_view c.step_over.new.self) (g.W.Write.contents c.args.writer.now) (g.W.Write.contents c.write_line.new.writer) line (into_iter_items c.next.new.self) (Unit {0}) c.in-Err.fault c.end_of.result
-    (remark_traced (core_view c.args.core.now).plant c.args.steps.items (core_view at.core) (g.W.Write.contents c.args.writer.now) (g.W.Write.contents at.writer) (g.W.Write.contents c.write_line.new.writer) (line ∷ into_iter_items c.next.new.self) (rw left at at.invariant.traced) c.in_ok-rest.ensures)
+    step_not_done (core_view c.args.core.now).plant c.args.script.now c.args.steps.items at.last (core_view at.core) (core_view c.step_over.new.self) (g.W.Write.contents c.args.writer.now) (g.W.Write.contents c.write_line.new.writer) line (into_iter_items c.next.new.self) (Unit {0}) c.in-Err.fault c.end_of.result
+    (line_traced (core_view c.args.core.now).plant c.args.script.now c.args.steps.items at.last line (core_view at.core) (g.W.Write.contents c.args.writer.now) (g.W.Write.contents at.writer) (g.W.Write.contents c.write_line.new.writer) (line ∷ into_iter_items c.next.new.self) (rw left at at.invariant.traced) (c.in_ok-rest.ensures.quoted c.args.script.now at.invariant.rest))
     c.in-Err.ensures.err c.in-Err.ensures.fault c.end_of.ensures
 
 pub returns : goal.returns
 returns g c =
     let at = c.loop-number in
     let none : into_iter_items at.number-iterator ≡ [] = nil_from_length (into_iter_items at.number-iterator) (sym at.invariant.count ∙ c.in-None.ensures.steps.0) in
-    all_traced (core_view c.args.core.now).plant c.args.steps.items (core_view at.core) (g.W.Write.contents c.args.writer.now) (g.W.Write.contents at.writer) (into_iter_items at.number-iterator) at.invariant.traced none
+    all_traced (core_view c.args.core.now).plant c.args.script.now c.args.steps.items at.last (core_view at.core) (g.W.Write.contents c.args.writer.now) (g.W.Write.contents at.writer) (into_iter_items at.number-iterator) at.invariant.traced none

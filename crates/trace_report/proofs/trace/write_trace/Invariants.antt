@@ -1,6 +1,7 @@
-use Rattle.std.proofs.Common.{◌≡◌, length}
+use Rattle.std.proofs.Common.{◌≡◌, None, length}
 use Rattle.std.specs.Vec.Iter.{into_iter_items, into_iter_len}
 use Rattle.plant_core.specs.CoreView.{core_view}
+use Rattle.trace_report.specs.Quotes.{IsRestAfter}
 use Rattle.trace_report.proofs.TracedSoFar.{IsTracedSoFar}
 use Rattle.trace_report.proofs.trace.write_trace.Given as goal
 
@@ -9,5 +10,6 @@ invariant-loop-number g l = record {
   next : (goal.iterator-loop-number g).can_next l.number-iterator;
   finite : (goal.iterator-loop-number g).is_finite l.number-iterator;
   count : into_iter_len l.number-iterator ≡ length (into_iter_items l.number-iterator);
-  traced : IsTracedSoFar (core_view l.fn.core).plant l.fn.steps.items (core_view l.core) (g.W.Write.contents l.fn.writer) (g.W.Write.contents l.writer) (into_iter_items l.number-iterator);
+  rest : IsRestAfter l.fn.script l.last l.rest;
+  traced : IsTracedSoFar (core_view l.fn.core).plant l.fn.script l.fn.steps.items l.last None (core_view l.core) (g.W.Write.contents l.fn.writer) (g.W.Write.contents l.writer) (into_iter_items l.number-iterator);
 }

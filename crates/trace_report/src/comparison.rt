@@ -1,4 +1,4 @@
-//! The numbers that a check compares, in words.
+//! The numbers that a check compares.
 
 use crate::decision::Decision;
 use admission::Budget;
@@ -11,6 +11,35 @@ use param_sets::{ParamSet, Units, from_tlv, need};
 use plant::Consts;
 use std::alloc::{AllocError, Global};
 use tlv24::{FlowTlv, SetType};
+
+/// The numbers that a check compares: what is held or present, and the most that may be.
+#[derive(Clone, Copy, Debug, PartialEq, Eq)]
+pub enum CheckComparison {
+    /// Minislots of a budget: those that other flows hold, and those that a flow needs.
+    Budget {
+        held: u64,
+        limit: u16,
+        needed: u64,
+        /// The frame from which the budget counts, if it is not in force yet.
+        from_frame: Option<u32>,
+    },
+    /// Elements of a quota: those that other flows hold, and those that a flow needs.
+    Quota {
+        held: u64,
+        limit: u16,
+        needed: u64,
+    },
+    /// The flows that are present.
+    Flows {
+        held: u64,
+        limit: u16,
+    },
+    /// The transactions that are kept.
+    Transactions {
+        held: u64,
+        limit: u16,
+    },
+}
 
 /// What all flows have committed.
 #[derive(Clone, Copy)]
@@ -111,88 +140,87 @@ fn room_of(operator_snapshot: &OperatorSnapshot, request: &Request) -> RequestRo
     RequestRoom { held, needed }
 }
 
-/// Returns the budget that a request passes: the one in force, or the one that waits for its frame.
-fn minislots_over(
-    alloc: Global,
-    operator_snapshot: &OperatorSnapshot,
-    request: &Request,
-) -> Result<String, AllocError> {
+/// Compares what a request needs with the budget that it passes: the one in force, or the one that waits for its frame.
+fn compare_minislots(operator_snapshot: &OperatorSnapshot, request: &Request) -> CheckComparison {
     let room = room_of(operator_snapshot, request);
     let (held, needed) = (room.held.minislots, room.needed.minislots);
     let budget = operator_snapshot.state().share().budget;
     match operator_snapshot.state().next() {
-        Some(next) if held.saturating_add(needed) <= u64::from(budget) => {
-            let (waiting, from) = (next.share.budget, next.from);
-            format!(in alloc;
-                "the budget of {waiting} minislots from frame {from} holds {held}, this flow needs {needed}\n"
-            )
-        }
-        _ => {
-            format!(in alloc;
-                "the budget of {budget} minislots holds {held}, this flow needs {needed}\n"
-            )
-        }
+        Some(next) if held.saturating_add(needed) <= u64::from(budget) => CheckComparison::Budget {
+            held,
+            limit: next.share.budget,
+            needed,
+            from_frame: Some(next.from),
+        },
+        _ => CheckComparison::Budget {
+            held,
+            limit: budget,
+            needed,
+            from_frame: None,
+        },
     }
 }
 
-/// Returns the quota that a request passes.
-fn elements_over(
-    alloc: Global,
-    operator_snapshot: &OperatorSnapshot,
-    request: &Request,
-) -> Result<String, AllocError> {
+/// Compares what a request needs with the quota that it passes.
+fn compare_elements(operator_snapshot: &OperatorSnapshot, request: &Request) -> CheckComparison {
     let room = room_of(operator_snapshot, request);
-    let (held, needed) = (room.held.elements, room.needed.elements);
-    let quota = operator_snapshot.row().get_fields().elements;
-    format!(in alloc; "the quota of {quota} elements holds {held}, this flow needs {needed}\n")
+    CheckComparison::Quota {
+        held: room.held.elements,
+        limit: operator_snapshot.row().get_fields().elements,
+        needed: room.needed.elements,
+    }
 }
 
-/// Returns the flows that are present, and how many may.
-fn flows_full(alloc: Global, operator_snapshot: &OperatorSnapshot) -> Result<String, AllocError> {
-    let count = operator_snapshot.state().flows().len();
-    let most = operator_snapshot.row().get_fields().flows;
-    format!(in alloc; "{count} of {most} flows stand\n")
+/// Returns how many flows are present, and how many may be.
+fn count_flows(operator_snapshot: &OperatorSnapshot) -> CheckComparison {
+    CheckComparison::Flows {
+        held: operator_snapshot.state().flows().len() as u64,
+        limit: operator_snapshot.row().get_fields().flows,
+    }
 }
 
-/// Returns the transactions that are kept, and how many may be.
-fn kept_full(alloc: Global, operator_snapshot: &OperatorSnapshot) -> Result<String, AllocError> {
-    let count = operator_snapshot.state().cached_responses().len();
-    let most = operator_snapshot.row().get_fields().transactions;
-    format!(in alloc; "{count} of {most} transactions are kept\n")
+/// Returns how many transactions are kept, and how many may be.
+fn count_transactions(operator_snapshot: &OperatorSnapshot) -> CheckComparison {
+    CheckComparison::Transactions {
+        held: operator_snapshot.state().cached_responses().len() as u64,
+        limit: operator_snapshot.row().get_fields().transactions,
+    }
 }
 
-/// Returns the request that was received, if it was one.
-fn request_in(alloc: Global, heard: &Heard) -> Option<Request> {
+/// Returns the request that was received, of which a check of the request holds.
+fn request_in(alloc: Global, heard: &Heard) -> Result<Request, AllocError> {
     match heard {
         Heard::Message(bytes) => match read(alloc, bytes.as_slice()) {
-            Ok(Message::Request(request)) => Some(request),
-            _ => None,
+            Ok(Message::Request(request)) => Ok(request),
+            // Reading it was out of memory, since it is a request.
+            _ => Err(AllocError),
         },
         Heard::Request {
             sid: _,
             minislots: _,
-        } => None,
+        } => Err(AllocError),
     }
 }
 
-/// Returns the numbers that a check compares, of what was received; empty where it compares none.
-pub(crate) fn reason_of(
+/// Returns the numbers that a check compares, of what was received; none where it compares none.
+pub(crate) fn comparison_of(
     alloc: Global,
     operator_snapshot: &OperatorSnapshot,
     heard: &Heard,
     decision: Option<Decision>,
-) -> Result<String, AllocError> {
-    match decision {
-        Some(Decision::Message(MessageCheck::KeptFull)) => kept_full(alloc, operator_snapshot),
-        Some(Decision::Request(Check::FlowsFull)) => flows_full(alloc, operator_snapshot),
-        Some(Decision::Request(Check::MinislotsOver)) => match request_in(alloc, heard) {
-            None => Err(AllocError),
-            Some(request) => minislots_over(alloc, operator_snapshot, &request),
-        },
-        Some(Decision::Request(Check::ElementsOver)) => match request_in(alloc, heard) {
-            None => Err(AllocError),
-            Some(request) => elements_over(alloc, operator_snapshot, &request),
-        },
-        _ => Ok(String::new(alloc)),
-    }
+) -> Result<Option<CheckComparison>, AllocError> {
+    let comparison = match decision {
+        Some(Decision::Message(MessageCheck::KeptFull)) => count_transactions(operator_snapshot),
+        Some(Decision::Request(Check::FlowsFull)) => count_flows(operator_snapshot),
+        Some(Decision::Request(Check::MinislotsOver)) => {
+            let request = request_in(alloc, heard)?;
+            compare_minislots(operator_snapshot, &request)
+        }
+        Some(Decision::Request(Check::ElementsOver)) => {
+            let request = request_in(alloc, heard)?;
+            compare_elements(operator_snapshot, &request)
+        }
+        _ => return Ok(None),
+    };
+    Ok(Some(comparison))
 }

@@ -2,18 +2,19 @@ use Rattle.std.proofs.Common.{◌∙◌, ap, sym, option_map}
 use Rattle.operator_book.specs.ViewOf.{view_of}
 use Rattle.plant_core.specs.CoreView.{core_view}
 use Rattle.trace_report.proofs.DecisionLemmas.{no_work, nobody_works, one_works}
-use Rattle.trace_report.proofs.decision.decision_of.Goals as goal
+use Rattle.trace_report.proofs.seen.decision_of.Goals as goal
 
 pub returns-in_default-clause-decision : goal.returns-in_default-clause-decision
-returns-in_default-clause-decision g c = no_work (core_view c.args.core.now) c.args.step.now c.in_default.not-Work
+returns-in_default-clause-decision g c = rw c.without_decision.ensures (no_work (core_view c.args.core.now) c.args.step.now c.in_default.not-Work)
 
 pub returns-in-None-clause-decision : goal.returns-in-None-clause-decision
 returns-in-None-clause-decision g c =
-    nobody_works (core_view c.args.core.now) c.in-Work.op c.args.step.now c.in-Work.is
-    (sym c.book.ensures ∙ ap (option_map (λ book. view_of book.now)) c.in-None.is)
+    rw c.without_decision-in-None.ensures
+    (nobody_works (core_view c.args.core.now) c.in-Work.op c.args.step.now c.in-Work.is
+    (sym c.book.ensures ∙ ap (option_map (λ book. view_of book.now)) c.in-None.is))
 
 pub returns-in_ok-operator_snapshot-in-Some-clause-decision : goal.returns-in_ok-operator_snapshot-in-Some-clause-decision
 returns-in_ok-operator_snapshot-in-Some-clause-decision g c =
     one_works (core_view c.args.core.now) c.in-Work.op c.args.step.now c.in-Work.is
-    _ _ c.decision_at.result (sym c.book.ensures ∙ ap (option_map (λ book. view_of book.now)) c.in-Some.is)
-    c.in_ok-operator_snapshot-in-Some.ensures c.decision_at.ensures
+    _ _ c.report_at.result (sym c.book.ensures ∙ ap (option_map (λ book. view_of book.now)) c.in-Some.is)
+    c.in_ok-operator_snapshot-in-Some.ensures c.report_at.ensures
