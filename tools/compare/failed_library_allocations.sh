@@ -1,5 +1,5 @@
 #!/bin/bash
-# Fails each allocation of tests of library calls in turn: those of the modules `want_of_memory` of test_library and test_program, as
+# Fails each allocation of tests of library calls in turn: those of the modules `want_of_memory` of test_library and test_threads, as
 # `rt test` built them. A run is right if the test passes: the call whose allocation failed returned that, left its value as it was, and
 # succeeded when it was made again. It is also right if it ends early with status 101, since an allocation of the test itself failed. A
 # failed assertion ends a test by a signal, and is wrong. Prints a table: test, allocations, how many failed in the calls under test, how
@@ -9,7 +9,7 @@ set -euo pipefail
 
 here=$(dirname "$(readlink -f "$0")")
 crates=("$@")
-[ $# -gt 0 ] || crates=(test_library test_program)
+[ $# -gt 0 ] || crates=(test_library test_threads)
 work=$(mktemp -d)
 trap 'rm -rf "$work"' EXIT
 gcc -shared -fPIC -O1 -o "$work/fail_allocation.so" "$here/fail_allocation.c"

@@ -1,12 +1,5 @@
-//! Tests of what no run of the program shows: books, cores, threads, cells of passes, and readers and writers that fail. They
-//! are in one crate, since each test program is linked with all that it reaches.
+//! Tests of the program over readers and writers that fail, and of its reasons then. A plant in service flushes its answers.
 #![tactic(auto)]
 
 #[cfg(test)]
-mod cores;
-#[cfg(test)]
-mod passes;
-#[cfg(test)]
 mod scripts;
-#[cfg(test)]
-mod threads;

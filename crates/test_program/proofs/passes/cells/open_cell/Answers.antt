@@ -1,4 +1,0 @@
-use Rattle.test_program.proofs.passes.cells.open_cell.Goals as goal
-
-pub returns : goal.returns
-returns g c = c.in-Ok.ensures.of
