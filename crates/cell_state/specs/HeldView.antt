@@ -6,8 +6,8 @@ use Rattle.plant_core.specs.DeskView.{book_at, waiting_at}
 use Rattle.cell_state.specs.declared.held.Held.{Held}
 
 -- the book
-abbrev pub book_of : {D : Type 0} {F : D → Type 0} {m : _} → Held D F m → BookView
-book_of held = book_at held.desk
+abbrev pub cell_book : {D : Type 0} {F : D → Type 0} {m : _} → Held D F m → BookView
+cell_book held = book_at held.desk
 
 -- the frames that wait
 abbrev pub waiting_of : {D : Type 0} {F : D → Type 0} {m : _} → Held D F m → List (ℕ × ElementsFields)

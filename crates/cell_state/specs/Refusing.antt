@@ -16,9 +16,9 @@ refusal_of book (Reslice from row) = option_map (λ unfit. Unfit unfit) (unfit_f
 
 -- The faults for which a book can refuse an action, whatever the book: the stranger is the modem of the arrival, only a tick
 -- finds the frame numbers spent, only a slice change is unfit, and work is refused only where memory runs out.
-abbrev pub IsFaultOf : Action → BookFault → Type 0
-IsFaultOf action NoMemory = Unit {0}
-IsFaultOf (Arrive modem heard) (NotMine stranger) = stranger ≡ modem
-IsFaultOf Tick FramesSpent = Unit {0}
-IsFaultOf (Reslice from row) (Unfit why) = Unit {0}
-IsFaultOf action fault = ⊥
+abbrev pub IsActionFault : Action → BookFault → Type 0
+IsActionFault action NoMemory = Unit {0}
+IsActionFault (Arrive modem heard) (NotMine stranger) = stranger ≡ modem
+IsActionFault Tick FramesSpent = Unit {0}
+IsActionFault (Reslice from row) (Unfit why) = Unit {0}
+IsActionFault action fault = ⊥

@@ -12,9 +12,9 @@ abbrev pub frames_at : BookView → List (ℕ × ElementsFields)
 frames_at book = frames_in book.history
 
 -- the oldest frame that waited is taken, and the others wait still; none where none waited
-abbrev pub IsTaken : List (ℕ × ElementsFields) → List (ℕ × ElementsFields) → Option (ℕ × ElementsFields) → Type 0
-IsTaken before after None = (before ≡ []) × (after ≡ [])
-IsTaken before after (Some frame) = before ≡ frame ∷ after
+abbrev pub IsFrontTaken : List (ℕ × ElementsFields) → List (ℕ × ElementsFields) → Option (ℕ × ElementsFields) → Type 0
+IsFrontTaken before after None = (before ≡ []) × (after ≡ [])
+IsFrontTaken before after (Some frame) = before ≡ frame ∷ after
 
 -- The frame is the oldest that waited at some book, whose state is the replay of its history: those before it were taken. So a
 -- frame is not made up, whichever book is under the lock.

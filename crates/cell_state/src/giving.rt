@@ -9,7 +9,7 @@ ghost use Rattle.plant_core.specs.declared.core_fault.CoreFault.TheVariants as c
 ghost use Rattle.plant_core.specs.Faults.{IsReported};
 ghost use Rattle.plant_core.specs.Giving.{HaveTaken};
 ghost use Rattle.plant_core.specs.Reslicing.{reslice_fault};
-ghost use Rattle.cell_state.specs.HeldView.{book_of, waiting_of, history_room};
+ghost use Rattle.cell_state.specs.HeldView.{cell_book, waiting_of, history_room};
 ghost use Rattle.cell_state.specs.Receiving.{IsReceiptOf};
 
 use crate::held::Held;
@@ -23,9 +23,9 @@ use std::alloc::{AllocError, Global};
 impl Held {
     /// Makes room for one more entry in the history.
     fn make_room(&mut self) -> Result<(), AllocError>
-        requires within { self.old.desk.collected ≤ length (book_of self.old).history }
+        requires within { self.old.desk.collected ≤ length (cell_book self.old).history }
         ensures room { OnOk result (0 < history_room self.new) }
-        ensures book { book_of self.new ≡ book_of self.old }
+        ensures book { cell_book self.new ≡ cell_book self.old }
         ensures waiting { waiting_of self.new ≡ waiting_of self.old }
     {
         self.desk.book.make_room()
@@ -33,11 +33,11 @@ impl Held {
 
     /// Takes a row from a later frame on, and returns the owner's receipt. Takes no memory.
     fn reslice(&mut self, alloc: Global, from: u32, row: SliceRow) -> Receipt
-        requires within { self.old.desk.collected ≤ length (book_of self.old).history }
-        requires fit { unfit_from (operator_of_book (book_of self.old)) from row ≡ None }
+        requires within { self.old.desk.collected ≤ length (cell_book self.old).history }
+        requires fit { unfit_from (operator_of_book (cell_book self.old)) from row ≡ None }
         requires room { 0 < history_room self.old }
-        ensures receipt { IsReceiptOf (book_of self.old) (actions.Reslice from row) result }
-        ensures book { book_of self.new ≡ book_after_action (book_of self.old) (actions.Reslice from row) }
+        ensures receipt { IsReceiptOf (cell_book self.old) (actions.Reslice from row) result }
+        ensures book { cell_book self.new ≡ book_after_action (cell_book self.old) (actions.Reslice from row) }
         ensures waiting { waiting_of self.new ≡ waiting_of self.old }
     {
         let index = self.count();
@@ -54,7 +54,7 @@ impl Held {
 fn make_room(helds: &mut Vec<Held>) -> Result<(), AllocError>
     requires { vec_len helds.old < 2 ^ 64 }
     ensures room { OnOk result (All (λ held. 0 < history_room held) helds.new.items) }
-    ensures books { map book_of helds.new.items ≡ map book_of helds.old.items }
+    ensures books { map cell_book helds.new.items ≡ map cell_book helds.old.items }
     ensures waiting { map waiting_of helds.new.items ≡ map waiting_of helds.old.items }
 {
     for op in 0..helds.len() {
@@ -66,11 +66,11 @@ fn make_room(helds: &mut Vec<Held>) -> Result<(), AllocError>
 /// Gives each operator its row, and adds the owner's receipts. Takes no memory.
 fn give(alloc: Global, helds: &mut Vec<Held>, told: &mut Vec<Told>, from: u32, rows: &[SliceRow])
     requires one_each { length rows.now ≡ vec_len helds.old }
-    requires fit { NoneRefuses from (map book_of helds.old.items) rows.now }
+    requires fit { NoneRefuses from (map cell_book helds.old.items) rows.now }
     requires room { All (λ held. 0 < history_room held) helds.old.items }
     requires empty { vec_len told.old ≡ 0 }
     requires capacity { length rows.now ≤ vec_capacity told.old }
-    ensures books { HaveTaken from rows.now (map book_of helds.old.items) (map book_of helds.new.items) }
+    ensures books { HaveTaken from rows.now (map cell_book helds.old.items) (map cell_book helds.new.items) }
     ensures waiting { map waiting_of helds.new.items ≡ map waiting_of helds.old.items }
 {
     for (op, row) in rows.iter().enumerate() {
@@ -91,10 +91,10 @@ fn give_all(
     rows: &[SliceRow],
 ) -> Result<Vec<Told>, AllocError>
     requires few { vec_len helds.old < 2 ^ 64 }
-    requires fit { reslice_fault from (map book_of helds.old.items) rows.now ≡ None }
-    ensures books { OnOk result (HaveTaken from rows.now (map book_of helds.old.items) (map book_of helds.new.items)) }
+    requires fit { reslice_fault from (map cell_book helds.old.items) rows.now ≡ None }
+    ensures books { OnOk result (HaveTaken from rows.now (map cell_book helds.old.items) (map cell_book helds.new.items)) }
     ensures waiting { map waiting_of helds.new.items ≡ map waiting_of helds.old.items }
-    ensures same { OnErr result (map book_of helds.new.items ≡ map book_of helds.old.items) }
+    ensures same { OnErr result (map cell_book helds.new.items ≡ map cell_book helds.old.items) }
 {
     let mut told = Vec::with_capacity(alloc, rows.len())?;
     make_room(helds)?;
@@ -111,11 +111,11 @@ pub fn reslice(
     rows: &[SliceRow],
 ) -> Result<Vec<Told>, CoreFault>
     requires { vec_len helds.old < 2 ^ 64 }
-    ensures books { OnOk result (HaveTaken from rows.now (map book_of helds.old.items) (map book_of helds.new.items)) }
+    ensures books { OnOk result (HaveTaken from rows.now (map cell_book helds.old.items) (map cell_book helds.new.items)) }
     ensures waiting { map waiting_of helds.new.items ≡ map waiting_of helds.old.items }
-    ensures same { OnErr result (map book_of helds.new.items ≡ map book_of helds.old.items) }
+    ensures same { OnErr result (map cell_book helds.new.items ≡ map cell_book helds.old.items) }
     ensures fault { IsReported result
-        (option_map (λ fault. core_faults.Reslice fault) (reslice_fault from (map book_of helds.old.items) rows.now)) }
+        (option_map (λ fault. core_faults.Reslice fault) (reslice_fault from (map cell_book helds.old.items) rows.now)) }
 {
     if let Some(fault) = reslice_fault(helds, from, rows) {
         return Err(CoreFault::Reslice(fault));

@@ -5,10 +5,10 @@ ghost use Rattle.operator_model.specs.Machine.{own_step};
 ghost use Rattle.operator_model.specs.Replay.{operator_of_book, book_after_action};
 ghost use Rattle.operator_book.specs.declared.book.BookFault.{BookFault};
 ghost use Rattle.run_model.specs.IsStateAfter.{frames_of};
-ghost use Rattle.cell_state.specs.HeldView.{book_of, waiting_of};
+ghost use Rattle.cell_state.specs.HeldView.{cell_book, waiting_of};
 ghost use Rattle.cell_state.specs.Receiving.{IsReceiptOf, IsOfSomeBook};
-ghost use Rattle.cell_state.specs.Refusing.{refusal_of, IsFaultOf};
-ghost use Rattle.cell_state.specs.Taking.{IsTaken, IsFrameOfSomeBook};
+ghost use Rattle.cell_state.specs.Refusing.{refusal_of, IsActionFault};
+ghost use Rattle.cell_state.specs.Taking.{IsFrontTaken, IsFrameOfSomeBook};
 
 use crate::refusing::refusal_of;
 use operator_book::BookFault;
@@ -30,23 +30,23 @@ pub struct Held {
 impl Held {
     /// Returns how many entries the history has.
     pub fn count(&self) -> usize
-        ensures { result ≡ length (book_of self.now).history }
+        ensures { result ≡ length (cell_book self.now).history }
     {
         self.desk.book.history().len()
     }
 
     /// Does an action, and returns its receipt. All memory is taken first.
     pub fn act(&mut self, alloc: Global, action: Action) -> Result<Receipt, BookFault>
-        requires within { self.old.desk.collected ≤ length (book_of self.old).history }
-        ensures receipt { IfOk result (IsReceiptOf (book_of self.old) action) }
+        requires within { self.old.desk.collected ≤ length (cell_book self.old).history }
+        ensures receipt { IfOk result (IsReceiptOf (cell_book self.old) action) }
         ensures some_book { IfOk result (IsOfSomeBook action) }
-        ensures book { OnOk result (book_of self.new ≡ book_after_action (book_of self.old) action) }
+        ensures book { OnOk result (cell_book self.new ≡ book_after_action (cell_book self.old) action) }
         ensures waiting { OnOk result (waiting_of self.new
-            ≡ waiting_of self.old ++ frames_of (own_step (operator_of_book (book_of self.old)) action).outputs) }
+            ≡ waiting_of self.old ++ frames_of (own_step (operator_of_book (cell_book self.old)) action).outputs) }
         ensures refused { (fault : BookFault) → fault ≢ BookFault.NoMemory
-            → (result ≡ Err fault) ↔ (refusal_of (book_of self.old) action ≡ Some fault) }
-        ensures of_action { IfErr result (IsFaultOf action) }
-        ensures same_book { OnErr result (book_of self.new ≡ book_of self.old) }
+            → (result ≡ Err fault) ↔ (refusal_of (cell_book self.old) action ≡ Some fault) }
+        ensures of_action { IfErr result (IsActionFault action) }
+        ensures same_book { OnErr result (cell_book self.new ≡ cell_book self.old) }
         ensures same_waiting { OnErr result (waiting_of self.new ≡ waiting_of self.old) }
         ensures stopped { self.new.stopped ≡ self.old.stopped }
     {
@@ -71,10 +71,10 @@ impl Held {
 
     /// Takes the oldest frame that waits, as a copy of what the history has; none if none waits.
     pub fn collect(&mut self, alloc: Global) -> Result<Option<(u32, Elements)>, AllocError>
-        requires within { self.old.desk.collected ≤ length (book_of self.old).history }
-        ensures taken { IfOk result (IsTaken (waiting_of self.old) (waiting_of self.new)) }
+        requires within { self.old.desk.collected ≤ length (cell_book self.old).history }
+        ensures taken { IfOk result (IsFrontTaken (waiting_of self.old) (waiting_of self.new)) }
         ensures some_book { IfOk result (λ taken. IfSome taken IsFrameOfSomeBook) }
-        ensures book { book_of self.new ≡ book_of self.old }
+        ensures book { cell_book self.new ≡ cell_book self.old }
         ensures stopped { self.new.stopped ≡ self.old.stopped }
         ensures err { OnErr result (waiting_of self.new ≡ waiting_of self.old) }
     {

@@ -1,7 +1,7 @@
 //! Judging new slices for all operators.
 
 ghost use Rattle.std.specs.Prelude.{◌≡◌, length, map};
-ghost use Rattle.cell_state.specs.HeldView.{book_of};
+ghost use Rattle.cell_state.specs.HeldView.{cell_book};
 ghost use Rattle.plant_core.specs.Reslicing.{least_unfit, row_fault, reslice_fault};
 
 use crate::held::Held;
@@ -12,7 +12,7 @@ use plant_core::{ResliceFault, Unfits, first_fault, is_refused};
 /// Returns the least operator whose book refuses its row with this fault.
 fn least_unfit(helds: &[Held], from: u32, rows: &[SliceRow], unfit: Unfit) -> Option<Op>
     requires { length rows.now ≡ length helds.now }
-    ensures { result ≡ least_unfit unfit from 0 (map book_of helds.now) rows.now }
+    ensures { result ≡ least_unfit unfit from 0 (map cell_book helds.now) rows.now }
 {
     for (op, row) in rows.iter().enumerate() {
         if is_refused(&helds[op].desk.book, from, *row, unfit) {
@@ -25,7 +25,7 @@ fn least_unfit(helds: &[Held], from: u32, rows: &[SliceRow], unfit: Unfit) -> Op
 /// Returns the first fault of new slices, where there is one row for each operator.
 fn row_fault(helds: &[Held], from: u32, rows: &[SliceRow]) -> Option<ResliceFault>
     requires { length rows.now ≡ length helds.now }
-    ensures { result ≡ row_fault from (map book_of helds.now) rows.now }
+    ensures { result ≡ row_fault from (map cell_book helds.now) rows.now }
 {
     let least = Unfits {
         not_past: least_unfit(helds, from, rows, Unfit::NotPast),
@@ -40,7 +40,7 @@ fn row_fault(helds: &[Held], from: u32, rows: &[SliceRow]) -> Option<ResliceFaul
 /// Returns the first fault of new slices from a frame on: there has to be one row for each
 /// operator.
 fn counted_fault(helds: &[Held], from: u32, rows: &[SliceRow]) -> Option<ResliceFault>
-    ensures { result ≡ reslice_fault from (map book_of helds.now) rows.now }
+    ensures { result ≡ reslice_fault from (map cell_book helds.now) rows.now }
 {
     if rows.len() != helds.len() {
         return Some(ResliceFault::Count);
@@ -51,7 +51,7 @@ fn counted_fault(helds: &[Held], from: u32, rows: &[SliceRow]) -> Option<Reslice
 /// Returns the first fault of new slices from a frame on, if they have one: fault by fault over all
 /// operators, and of one fault the least operator or pair. Takes no memory.
 pub(crate) fn reslice_fault(helds: &Vec<Held>, from: u32, rows: &[SliceRow]) -> Option<ResliceFault>
-    ensures { result ≡ reslice_fault from (map book_of helds.now.items) rows.now }
+    ensures { result ≡ reslice_fault from (map cell_book helds.now.items) rows.now }
 {
     counted_fault(helds.as_slice(), from, rows)
 }

@@ -2,7 +2,7 @@
 
 ghost use Rattle.std.specs.Prelude.{◌≡◌, IfSome};
 ghost use Rattle.operator_book.specs.ViewOf.{view_of};
-ghost use Rattle.cell_state.specs.Refusing.{refusal_of, IsFaultOf};
+ghost use Rattle.cell_state.specs.Refusing.{refusal_of, IsActionFault};
 
 use operator_book::{Book, BookFault};
 use operator_model::Action;
@@ -11,7 +11,7 @@ use plant::is_listed;
 /// Returns why a book refuses an action, apart from running out of memory. Takes no memory.
 pub(crate) fn refusal_of(book: &Book, action: &Action) -> Option<BookFault>
     ensures value { result ≡ refusal_of (view_of book.now) action.now }
-    ensures of_action { IfSome result (IsFaultOf action.now) }
+    ensures of_action { IfSome result (IsActionFault action.now) }
 {
     match action {
         Action::Arrive { modem, heard: _ } => {

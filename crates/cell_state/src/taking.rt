@@ -2,7 +2,7 @@
 
 ghost use Rattle.std.specs.Prelude.{◌≡◌, ◌≤◌, [], false, All, drop, length, count_by};
 ghost use Rattle.operator_book.specs.ViewOf.{view_of};
-ghost use Rattle.cell_state.specs.HeldView.{book_of, waiting_of};
+ghost use Rattle.cell_state.specs.HeldView.{cell_book, waiting_of};
 ghost use Rattle.plant_core.specs.Waiting.{frames_in, waiting_in, IsOneFrame};
 ghost use Rattle.cell_state.specs.Taking.{frames_at, is_frame, has_frame};
 
@@ -66,7 +66,7 @@ impl Held {
     /// Returns a book of which all frames count as collected. Takes no memory.
     pub fn of(book: Book) -> Held
         requires { book.ranking.policy ≡ book.kept.book.row.policy }
-        ensures book { book_of result ≡ view_of book }
+        ensures book { cell_book result ≡ view_of book }
         ensures waiting { waiting_of result ≡ [] }
         ensures stopped { result.stopped ≡ false }
     {
@@ -81,7 +81,7 @@ impl Held {
     /// again. Takes no memory.
     pub fn again(book: Book, taken: usize) -> Held
         requires { taken ≤ length (frames_at (view_of book)) }
-        ensures book { book_of result ≡ view_of book }
+        ensures book { cell_book result ≡ view_of book }
         ensures waiting { waiting_of result ≡ drop taken (frames_at (view_of book)) }
         ensures stopped { result.stopped ≡ false }
     {
@@ -96,8 +96,8 @@ impl Held {
 
     /// Returns the book, and how many of its frames were collected. Takes no memory.
     pub fn into_parts(self) -> (Book, usize)
-        requires { self.desk.collected ≤ length (book_of self).history }
-        ensures book { view_of result.0 ≡ book_of self }
+        requires { self.desk.collected ≤ length (cell_book self).history }
+        ensures book { view_of result.0 ≡ cell_book self }
         ensures within { result.1 ≤ length (frames_at (view_of result.0)) }
         ensures taken { waiting_of self ≡ drop result.1 (frames_at (view_of result.0)) }
     {

@@ -5,10 +5,10 @@ ghost use Rattle.operator_model.specs.Machine.{own_step};
 ghost use Rattle.operator_model.specs.Replay.{operator_of_book, book_after_action};
 ghost use Rattle.operator_book.specs.declared.book.BookFault.{BookFault};
 ghost use Rattle.run_model.specs.IsStateAfter.{frames_of};
-ghost use Rattle.cell_state.specs.HeldView.{book_of, waiting_of};
+ghost use Rattle.cell_state.specs.HeldView.{cell_book, waiting_of};
 ghost use Rattle.cell_state.specs.Receiving.{IsReceiptOf, IsOfSomeBook};
 ghost use Rattle.cell_state.specs.Refusing.{refusal_of};
-ghost use Rattle.cell_state.specs.Taking.{IsTaken, IsFrameOfSomeBook};
+ghost use Rattle.cell_state.specs.Taking.{IsFrontTaken, IsFrameOfSomeBook};
 ghost use Rattle.cell_state.specs.Telling.{IsOfTurn, IsOfTaking};
 
 use crate::cell_fault::CellFault;
@@ -32,26 +32,26 @@ impl Held {
         index: usize,
         action: Action,
     ) -> Result<Receipt, CellFault>
-        requires within { self.old.desk.collected ≤ length (book_of self.old).history }
+        requires within { self.old.desk.collected ≤ length (cell_book self.old).history }
         ensures index { IfOk result (λ receipt. receipt.index ≡ index) }
-        ensures receipt { IfOk result (IsReceiptOf (book_of self.old) action) }
+        ensures receipt { IfOk result (IsReceiptOf (cell_book self.old) action) }
         ensures some_book { IfOk result (IsOfSomeBook action) }
-        ensures book { OnOk result (book_of self.new ≡ book_after_action (book_of self.old) action) }
+        ensures book { OnOk result (cell_book self.new ≡ book_after_action (cell_book self.old) action) }
         ensures waiting { OnOk result (waiting_of self.new
-            ≡ waiting_of self.old ++ frames_of (own_step (operator_of_book (book_of self.old)) action).outputs) }
+            ≡ waiting_of self.old ++ frames_of (own_step (operator_of_book (cell_book self.old)) action).outputs) }
         ensures goes_on { OnOk result (self.new.stopped ≡ false) }
         ensures stopped { (result ≡ Err (CellFault.Stopped op)) ↔ (self.old.stopped ≡ true) }
         ensures passed { (result ≡ Err (CellFault.Passed op index))
-            ↔ ((self.old.stopped ≡ false) × (length (book_of self.old).history ≢ index)) }
+            ↔ ((self.old.stopped ≡ false) × (length (cell_book self.old).history ≢ index)) }
         ensures refused { (fault : BookFault) → fault ≢ BookFault.NoMemory
             → (result ≡ Err (CellFault.Book fault)) ↔ ((self.old.stopped ≡ false)
-            × (length (book_of self.old).history ≡ index)
-            × (refusal_of (book_of self.old) action ≡ Some fault)) }
+            × (length (cell_book self.old).history ≡ index)
+            × (refusal_of (cell_book self.old) action ≡ Some fault)) }
         ensures fault { IfErr result (IsOfTurn op index action) }
         ensures stops { (fault : BookFault) → result ≡ Err (CellFault.Book fault) → self.new.stopped ≡ true }
         ensures stays { self.old.stopped ≡ true → self.new.stopped ≡ true }
         ensures waits { result ≡ Err (CellFault.Passed op index) → self.new.stopped ≡ false }
-        ensures same_book { OnErr result (book_of self.new ≡ book_of self.old) }
+        ensures same_book { OnErr result (cell_book self.new ≡ cell_book self.old) }
         ensures same_waiting { OnErr result (waiting_of self.new ≡ waiting_of self.old) }
     {
         if self.stopped {
@@ -73,12 +73,12 @@ impl Held {
     ///
     /// Faults, in this order: `Stopped`; `Book` of `NoMemory`.
     pub fn take(&mut self, alloc: Global, op: Op) -> Result<Option<(u32, Elements)>, CellFault>
-        requires within { self.old.desk.collected ≤ length (book_of self.old).history }
-        ensures taken { IfOk result (IsTaken (waiting_of self.old) (waiting_of self.new)) }
+        requires within { self.old.desk.collected ≤ length (cell_book self.old).history }
+        ensures taken { IfOk result (IsFrontTaken (waiting_of self.old) (waiting_of self.new)) }
         ensures some_book { IfOk result (λ taken. IfSome taken IsFrameOfSomeBook) }
         ensures stopped { (result ≡ Err (CellFault.Stopped op)) ↔ (self.old.stopped ≡ true) }
         ensures fault { IfErr result (IsOfTaking op) }
-        ensures book { book_of self.new ≡ book_of self.old }
+        ensures book { cell_book self.new ≡ cell_book self.old }
         ensures same { self.new.stopped ≡ self.old.stopped }
         ensures err { OnErr result (waiting_of self.new ≡ waiting_of self.old) }
     {
@@ -93,7 +93,7 @@ impl Held {
 
     /// Stops the turns: each that waits, and each later one, is refused.
     pub fn stop(&mut self)
-        requires within { self.old.desk.collected ≤ length (book_of self.old).history }
+        requires within { self.old.desk.collected ≤ length (cell_book self.old).history }
         ensures stopped { self.new.stopped ≡ true }
         ensures desk { self.new.desk ≡ self.old.desk }
     {

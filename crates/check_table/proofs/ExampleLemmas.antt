@@ -26,7 +26,7 @@ use Rattle.operator_model.specs.Worked.{first_modem, second_modem}
 use Rattle.plant.specs.Row.{same_modem}
 use Rattle.std.proofs.lemmas.Bool.{true≢false}
 use Rattle.check_table.specs.Said.{Said, said_by, identifier, NamesFlow, IsAbout, EncodingAsksFor, EncodingIsRefused, Admits, Activates, IsSetWhere, IsSetType}
-use Rattle.check_table.specs.Holding.{would_commit, NamesUnknownClass, AreAdmittedAndActive, IsTaken, GivesNoSet}
+use Rattle.check_table.specs.Holding.{would_commit, NamesUnknownClass, AreAdmittedAndActive, AcceptsSetType, GivesNoSet}
 use Rattle.check_table.specs.Answering.{refusal_verdict, naming, set_type_code}
 use Rattle.check_table.specs.Table.{IsDecidedBy}
 use Rattle.check_table.specs.declared.check.Check.TheVariants.{UnknownClass, NoEncoding, IdentifiersDiffer, NotTogether, NoIdentifier, UnknownFlow, NotOwner, FlowWaits, WrongSetType, NoParameterSet, ActiveNotWithin, AdmittedNotWithin, FlowsFull, NoSfidFree, NoSidFree, ElementsOver, MinislotsOver, Accepted}
@@ -153,7 +153,7 @@ module _ (op : Operator) (modem : Modem) (tid : ℕ) where
           (all_more (Fails op modem (adds one)) of_shape NoIdentifier one_shape (none_any (λ (x : FlowFields). x.reference ≡ None) one ((λ h. cc), tt)))
           ((λ h. h.1), ((λ h. h.2.0), ((λ h. h.2.0), tt)))
 
-      pub one_mistyped : ¬ IsTaken Dsa e.set_type → IsDecidedBy op modem (adds one) WrongSetType (refusal_verdict (adds one) (set_type_code e.set_type) (naming (adds one) e 6))
+      pub one_mistyped : ¬ AcceptsSetType Dsa e.set_type → IsDecidedBy op modem (adds one) WrongSetType (refusal_verdict (adds one) (set_type_code e.set_type) (naming (adds one) e 6))
       one_mistyped untaken =
           decided_by op modem (adds one) up_to_flow WrongSetType
           (NoParameterSet ∷ ActiveNotWithin ∷ AdmittedNotWithin ∷ FlowsFull ∷ NoSfidFree ∷ NoSidFree ∷ ElementsOver ∷ MinislotsOver ∷ Accepted ∷ [])
@@ -441,7 +441,7 @@ pub not_one_for_each : ¬ AreAdmittedAndActive (Some 6 ∷ Some 6 ∷ [])
 not_one_for_each (inl h) = let e : ◌≡◌ {A = ℕ} 6 2 = cc in absurd (omega arith)
 not_one_for_each (inr h) = let e : ◌≡◌ {A = ℕ} 6 4 = cc in absurd (omega arith)
 
-pub null_untaken : ¬ IsTaken Dsa (Some 0)
+pub null_untaken : ¬ AcceptsSetType Dsa (Some 0)
 null_untaken (inl h) = let e : ◌≡◌ {A = ℕ} 0 2 = cc in absurd (omega arith)
 null_untaken (inr (inl h)) = let e : ◌≡◌ {A = ℕ} 0 6 = cc in absurd (omega arith)
 null_untaken (inr (inr h)) = cc (h.0)

@@ -19,8 +19,8 @@ use Rattle.operator_model.specs.Asked.{is_same, stand_together}
 use Rattle.operator_model.proofs.MapLemmas.{Ascends}
 use Rattle.lists.specs.First.{IsFirst}
 use Rattle.check_table.specs.Said.{Said, identifier, told_identifier, NamesFlow, IsOfFlow, EncodingIsRefused, Admits, Activates, IsSetWhere}
-use Rattle.check_table.specs.Holding.{Holds, AreAdmittedAndActive, NamesUnknownClass, GivesNoSet}
-use Rattle.check_table.specs.Answering.{IsAdded, GetsSid, IsChanged, IsDeleted, IsAccepted, Answers}
+use Rattle.check_table.specs.Holding.{CheckApplies, AreAdmittedAndActive, NamesUnknownClass, GivesNoSet}
+use Rattle.check_table.specs.Answering.{IsAdded, GetsSid, IsAnswerToChange, IsDeleted, IsAccepted, AnswersCheck}
 use Rattle.check_table.specs.Table.{table, IsDecidedBy}
 use Rattle.check_table.specs.declared.check.Check.{Check}
 use Rattle.check_table.specs.declared.check.Check.TheVariants.{UnknownClass, NoEncoding, IdentifiersDiffer, NotTogether, NoIdentifier, UnknownFlow, NotOwner, FlowWaits, WrongSetType, NoParameterSet, ActiveNotWithin, AdmittedNotWithin, FlowsFull, NoSfidFree, NoSidFree, ElementsOver, MinislotsOver, Accepted}
@@ -131,7 +131,7 @@ module _ (op : Operator) (s : Ascends op.state.flows) (modem : Modem) (said : Sa
         let right_is = b.is in
         cc
 
-    changed_once : IsChanged op said v → IsChanged op said w → v ≡ w
+    changed_once : IsAnswerToChange op said v → IsAnswerToChange op said w → v ≡ w
     changed_once a b =
         let one = flow_once same a.sfid b.sfid a.flow b.flow a.is_flow b.is_flow in
         let sfid : a.sfid ≡ b.sfid = one.0 in
@@ -162,11 +162,11 @@ module _ (op : Operator) (s : Ascends op.state.flows) (modem : Modem) (said : Sa
 
   -- ---- which of the checks before it do not hold
 
-  module _ (check : Check) (first : IsFirst (λ c. Holds c op modem said) table check) where
+  module _ (check : Check) (first : IsFirst (λ c. CheckApplies c op modem said) table check) where
     of_table : (before : List Check) (earlier : Check) (after : List Check) → table ≡ before ++ earlier ∷ after → AllByRecursion (λ c. c ≢ check) (before ++ earlier ∷ [])
         → Fails op modem said earlier
     of_table before earlier after is apart =
-        ahead_fails (λ (c : Check). Holds c op modem said) before earlier after first.before check first.after (sym is ∙ first.split) apart
+        ahead_fails (λ (c : Check). CheckApplies c op modem said) before earlier after first.before check first.after (sym is ∙ first.split) apart
         (recursion_from_All (Fails op modem said) first.before first.none)
 
     one_flow : AllByRecursion (λ c. c ≢ check) (UnknownClass ∷ NoEncoding ∷ IdentifiersDiffer ∷ []) → AreSame said.kind said.encodings
@@ -183,14 +183,14 @@ module _ (op : Operator) (s : Ascends op.state.flows) (modem : Modem) (said : Sa
         refl apart
 
   module _ (v w : Verdict) where
-    unclassed_once : Answers UnknownClass op modem said v → Answers UnknownClass op modem said w → v ≡ w
+    unclassed_once : AnswersCheck UnknownClass op modem said v → AnswersCheck UnknownClass op modem said w → v ≡ w
     unclassed_once h k =
         let same = first_one (NamesUnknownClass op.consts.classes) said.encodings h.0 k.0 h.1 k.1 in
         let left = h.2 in
         let right = k.2 in
         cc
 
-    type_once : Answers WrongSetType op modem said v → Answers WrongSetType op modem said w → v ≡ w
+    type_once : AnswersCheck WrongSetType op modem said v → AnswersCheck WrongSetType op modem said w → v ≡ w
     type_once h k =
         let here = h.1 in
         let there = k.1 in
@@ -199,7 +199,7 @@ module _ (op : Operator) (s : Ascends op.state.flows) (modem : Modem) (said : Sa
         let right = k.2 in
         cc
 
-    set_once : Answers NoParameterSet op modem said v → Answers NoParameterSet op modem said w → v ≡ w
+    set_once : AnswersCheck NoParameterSet op modem said v → AnswersCheck NoParameterSet op modem said w → v ≡ w
     set_once h k =
         let same : h.0 ≡ k.0 = first_one (GivesNoSet op.consts) said.encodings h.0 k.0 h.2 k.2 in
         let here : EncodingIsRefused op.consts k.0 h.1 = subst (λ (e : FlowFields). EncodingIsRefused op.consts e h.1) same h.3 in
@@ -210,7 +210,7 @@ module _ (op : Operator) (s : Ascends op.state.flows) (modem : Modem) (said : Sa
         cc
 
     module _ (same : AreSame said.kind said.encodings) (together : StandTogether said.encodings) where
-      active_set_once : Answers ActiveNotWithin op modem said v → Answers ActiveNotWithin op modem said w → v ≡ w
+      active_set_once : AnswersCheck ActiveNotWithin op modem said v → AnswersCheck ActiveNotWithin op modem said w → v ≡ w
       active_set_once h k =
           let active = active_once op said.encodings together (Some h.1) (Some k.1) h.5 k.5 in
           let admitted = admitted_once op said.encodings together (Some h.2) (Some k.2) h.6 k.6 in
@@ -222,7 +222,7 @@ module _ (op : Operator) (s : Ascends op.state.flows) (modem : Modem) (said : Sa
           let right = k.8 in
           cc
 
-      admitted_set_once : Answers AdmittedNotWithin op modem said v → Answers AdmittedNotWithin op modem said w → v ≡ w
+      admitted_set_once : AnswersCheck AdmittedNotWithin op modem said v → AnswersCheck AdmittedNotWithin op modem said w → v ≡ w
       admitted_set_once h k =
           let flow : h.1 ≡ k.1 = (flow_once same h.6.0 k.6.0 h.1 k.1 h.6.1 k.6.1).1 in
           let admitted = admitted_once op said.encodings together (Some h.2) (Some k.2) h.7 k.7 in
@@ -237,7 +237,7 @@ module _ (op : Operator) (s : Ascends op.state.flows) (modem : Modem) (said : Sa
           let right = k.10 in
           cc
 
-    once : (check : Check) → IsFirst (λ c. Holds c op modem said) table check → Answers check op modem said v → Answers check op modem said w → v ≡ w
+    once : (check : Check) → IsFirst (λ c. CheckApplies c op modem said) table check → AnswersCheck check op modem said v → AnswersCheck check op modem said w → v ≡ w
     once UnknownClass first h k = unclassed_once h k
     once NoEncoding first h k = h ∙ sym k
     once IdentifiersDiffer first h k = h ∙ sym k
@@ -267,5 +267,5 @@ module _ (op : Operator) (s : Ascends op.state.flows) (modem : Modem) (said : Sa
 pub decided_once : (op : Operator) → Ascends op.state.flows → (modem : Modem) (said : Said) (a b : Check) (v w : Verdict)
     → IsDecidedBy op modem said a v → IsDecidedBy op modem said b w → (a ≡ b) × (v ≡ w)
 decided_once op s modem said a b v w h k =
-    let check : a ≡ b = first_one (λ (c : Check). Holds c op modem said) table a b h.first k.first in
-    (check, once op s modem said v w b k.first (subst (λ (c : Check). Answers c op modem said v) check h.answers) k.answers)
+    let check : a ≡ b = first_one (λ (c : Check). CheckApplies c op modem said) table a b h.first k.first in
+    (check, once op s modem said v w b k.first (subst (λ (c : Check). AnswersCheck c op modem said v) check h.answers) k.answers)

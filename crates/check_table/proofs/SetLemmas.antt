@@ -26,9 +26,9 @@ use Rattle.flow_table.specs.declared.flow.Flow.{Flow}
 use Rattle.operator_model.specs.declared.verdict.AskedSets.{AskedSets}
 use Rattle.operator_model.specs.declared.verdict.Verdict.TheVariants.{Refused}
 use Rattle.operator_model.specs.State.{Operator}
-use Rattle.operator_model.specs.Asked.{refusal_naming, is_same, has_set_type, set_or_refusal, set_over_class, set_of, is_change, asked_by_type, asked_by_one, in_order, asked_by_two, asked_sets, failing_active, failing_admitted, nested_unless, nested_sets}
+use Rattle.operator_model.specs.Asked.{refusal_naming, is_same, has_set_type, set_or_refusal, set_over_class, set_of, is_change, asked_by_type, asked_by_one, asked_in_order, asked_by_two, asked_sets, failing_active, failing_admitted, nested_unless, nested_sets}
 use Rattle.check_table.specs.Said.{IsAbout, EncodingAsksFor, EncodingIsRefused, Admits, Activates, IsSetWhere, IsSetType}
-use Rattle.check_table.specs.Holding.{NamesUnknownClass, IsTaken, GivesNoSet}
+use Rattle.check_table.specs.Holding.{NamesUnknownClass, AcceptsSetType, GivesNoSet}
 use Rattle.check_table.specs.Answering.{set_type_code}
 use Rattle.check_table.specs.declared.check.Check.{Check}
 use Rattle.check_table.specs.declared.check.Check.TheVariants.{WrongSetType, NoParameterSet, ActiveNotWithin, AdmittedNotWithin, FlowsFull, NoSfidFree, NoSidFree, ElementsOver, MinislotsOver, Accepted}
@@ -165,18 +165,18 @@ module _ (op : Operator) (modem : Modem) (kind : Kind) (tid : ℕ) (not_dsd : ki
   -- ---- one encoding
 
   module _ (e : FlowFields) (known : ¬ NamesUnknownClass op.consts.classes e) (none : AllByRecursion (Failing (e ∷ [])) up_to_flow) where
-    wrong_type : ¬ IsTaken kind e.set_type → (code : Code) → code ≡ set_type_code e.set_type → Decided (e ∷ []) (naming_refusal code e 6)
+    wrong_type : ¬ AcceptsSetType kind e.set_type → (code : Code) → code ≡ set_type_code e.set_type → Decided (e ∷ []) (naming_refusal code e 6)
     wrong_type untaken code is =
         decided op modem (said_of op modem kind tid not_dsd (e ∷ [])) up_to_flow WrongSetType
         (NoParameterSet ∷ ActiveNotWithin ∷ AdmittedNotWithin ∷ FlowsFull ∷ NoSfidFree ∷ NoSidFree ∷ ElementsOver ∷ MinislotsOver ∷ Accepted ∷ [])
         _ refl none (e, refl, untaken)
         (e, refl, ap (λ (c : Code). Refused (naming_refusal c e 6)) is ∙ named_refusal op modem kind tid not_dsd (e ∷ []) (set_type_code e.set_type) e 6)
 
-    right_type : IsTaken kind e.set_type → AllByRecursion (Failing (e ∷ [])) (up_to_flow ++ WrongSetType ∷ [])
+    right_type : AcceptsSetType kind e.set_type → AllByRecursion (Failing (e ∷ [])) (up_to_flow ++ WrongSetType ∷ [])
     right_type taken = all_more (Failing (e ∷ [])) up_to_flow WrongSetType none
-        (λ h. let same : e ≡ h.0 = cc in h.2 (subst (λ (x : FlowFields). IsTaken kind x.set_type) same taken))
+        (λ h. let same : e ≡ h.0 = cc in h.2 (subst (λ (x : FlowFields). AcceptsSetType kind x.set_type) same taken))
 
-    no_set : IsTaken kind e.set_type → ¬ IsSetType Null e.set_type → (reply : ReplyFields) → IsNoSet e reply → Decided (e ∷ []) reply
+    no_set : AcceptsSetType kind e.set_type → ¬ IsSetType Null e.set_type → (reply : ReplyFields) → IsNoSet e reply → Decided (e ∷ []) reply
     no_set taken not_null reply is =
         decided op modem (said_of op modem kind tid not_dsd (e ∷ [])) (up_to_flow ++ WrongSetType ∷ []) NoParameterSet
         (ActiveNotWithin ∷ AdmittedNotWithin ∷ FlowsFull ∷ NoSfidFree ∷ NoSidFree ∷ ElementsOver ∷ MinislotsOver ∷ Accepted ∷ [])
@@ -188,7 +188,7 @@ module _ (op : Operator) (modem : Modem) (kind : Kind) (tid : ℕ) (not_dsd : ki
           ap (λ (r : ReplyFields). Refused r) is.2 ∙ named_refusal op modem kind tid not_dsd (e ∷ []) is.0.code e is.0.subtype,
         )
 
-    some_set : IsTaken kind e.set_type → (set : ParamFields) → EncodingAsksFor op.consts e set → AllByRecursion (Failing (e ∷ [])) (up_to_flow ++ WrongSetType ∷ NoParameterSet ∷ [])
+    some_set : AcceptsSetType kind e.set_type → (set : ParamFields) → EncodingAsksFor op.consts e set → AllByRecursion (Failing (e ∷ [])) (up_to_flow ++ WrongSetType ∷ NoParameterSet ∷ [])
     some_set taken set asks = all_more (Failing (e ∷ [])) (up_to_flow ++ WrongSetType ∷ []) NoParameterSet (right_type taken)
         (none_any (GivesNoSet op.consts) (e ∷ []) ((λ h. let refused : EncodingIsRefused op.consts e h.1 = h.2 in cc), tt))
 
@@ -256,12 +256,12 @@ module _ (op : Operator) (modem : Modem) (kind : Kind) (tid : ℕ) (not_dsd : ki
     one-view = go e.set_type refl
       where
         untaken : (n : ℕ) (set_type : Option SetType) → e.set_type ≡ Some n → set_type_of n ≡ set_type → set_type ≢ Some Admitted → set_type ≢ Some AdmittedAndActive → (kind ≡ Dsc → set_type ≢ Some Null)
-            → ¬ IsTaken kind e.set_type
+            → ¬ AcceptsSetType kind e.set_type
         untaken n set_type is found a b c (inl admitted) = let same : n ≡ set_type_number Admitted = cc in a (sym found ∙ ap set_type_of same)
         untaken n set_type is found a b c (inr (inl both)) = let same : n ≡ set_type_number AdmittedAndActive = cc in b (sym found ∙ ap set_type_of same)
         untaken n set_type is found a b c (inr (inr null)) = let same : n ≡ set_type_number Null = cc (null.1) in c null.0 (sym found ∙ ap set_type_of same)
 
-        wrong : (n : ℕ) → e.set_type ≡ Some n → ¬ IsTaken kind e.set_type → Decided (e ∷ []) (refusal_naming (trans op modem kind tid not_dsd) RejectInvalidForContext e set_type_subtype)
+        wrong : (n : ℕ) → e.set_type ≡ Some n → ¬ AcceptsSetType kind e.set_type → Decided (e ∷ []) (refusal_naming (trans op modem kind tid not_dsd) RejectInvalidForContext e set_type_subtype)
         wrong n is not_taken = wrong_type not_taken RejectInvalidForContext (ap set_type_code (sym is))
 
         changes : (k : Kind) → is_change k ≡ true → k ≡ Dsc
@@ -269,7 +269,7 @@ module _ (op : Operator) (modem : Modem) (kind : Kind) (tid : ℕ) (not_dsd : ki
         changes Dsc is = refl
         changes Dsd is = absurd (false≢true is)
 
-        absent : e.set_type ≡ None → ¬ IsTaken kind e.set_type
+        absent : e.set_type ≡ None → ¬ AcceptsSetType kind e.set_type
         absent is (inl admitted) = cc
         absent is (inr (inl both)) = cc
         absent is (inr (inr null)) = cc (null.1)
@@ -356,7 +356,7 @@ module _ (op : Operator) (modem : Modem) (kind : Kind) (tid : ℕ) (not_dsd : ki
           none = rest;
         }
 
-    ordered : (x y : ParamFields) → EncodingAsksFor op.consts a x → EncodingAsksFor op.consts b y → IsShape both → AreAsked both (in_order a x y)
+    ordered : (x y : ParamFields) → EncodingAsksFor op.consts a x → EncodingAsksFor op.consts b y → IsShape both → AreAsked both (asked_in_order a x y)
     ordered x y asks_x asks_y (inl is) =
         subst (AreAsked both) (sym (cond-true (has_set_type Admitted a) _ _ (is_same_from a.set_type (Some (set_type_number Admitted)) is.0)))
         (two_asked x y a b has_a has_b (inl is.0) (inl is.1) asks_x asks_y (two_sets x y asks_x asks_y))
@@ -381,12 +381,12 @@ module _ (op : Operator) (modem : Modem) (kind : Kind) (tid : ℕ) (not_dsd : ki
     two-view : View both (asked_by_two (trans op modem kind tid not_dsd) op.consts a b)
     two-view = by (set_of (trans op modem kind tid not_dsd) op.consts a) (set-view a known_a)
       where
-        then : (x : ParamFields) → EncodingAsksFor op.consts a x → (r : Result ParamFields ReplyFields) → MatchResult r (EncodingAsksFor op.consts b) (IsNoSet b) → View both (r >>= λ y. Ok (in_order a x y))
+        then : (x : ParamFields) → EncodingAsksFor op.consts a x → (r : Result ParamFields ReplyFields) → MatchResult r (EncodingAsksFor op.consts b) (IsNoSet b) → View both (r >>= λ y. Ok (asked_in_order a x y))
         then x asks_x (Err reply) h = second_no_set not_null_b x asks_x reply h
         then x asks_x (Ok y) asks_y = ordered x y asks_x asks_y shape
 
         by : (r : Result ParamFields ReplyFields) → MatchResult r (EncodingAsksFor op.consts a) (IsNoSet a)
-            → View both (r >>= λ x. set_of (trans op modem kind tid not_dsd) op.consts b >>= λ y. Ok (in_order a x y))
+            → View both (r >>= λ x. set_of (trans op modem kind tid not_dsd) op.consts b >>= λ y. Ok (asked_in_order a x y))
         by (Err reply) h = first_no_set not_null_a reply h
         by (Ok x) asks_x = then x asks_x (set_of (trans op modem kind tid not_dsd) op.consts b) (set-view b known_b)
 

@@ -6,8 +6,8 @@ use Rattle.dsx_messages.specs.declared.modem.Modem.{Modem}
 use Rattle.operator_model.specs.declared.verdict.Verdict.{Verdict}
 use Rattle.operator_model.specs.State.{Operator}
 use Rattle.check_table.specs.Said.{Said}
-use Rattle.check_table.specs.Holding.{Holds}
-use Rattle.check_table.specs.Answering.{Answers}
+use Rattle.check_table.specs.Holding.{CheckApplies}
+use Rattle.check_table.specs.Answering.{AnswersCheck}
 use Rattle.check_table.specs.Table.{table, IsDecidedBy}
 use Rattle.check_table.specs.declared.check.Check.{Check}
 use Rattle.check_table.specs.declared.check.Check.TheVariants.{UnknownClass, NoEncoding, IdentifiersDiffer, NotTogether, NoIdentifier, UnknownFlow, NotOwner, FlowWaits, WrongSetType, NoParameterSet, ActiveNotWithin, AdmittedNotWithin, FlowsFull, NoSfidFree, NoSidFree, ElementsOver, MinislotsOver}
@@ -37,18 +37,18 @@ up_to_room = up_to_flow ++ asking
 
 module _ (op : Operator) (modem : Modem) (said : Said) where
   abbrev pub Fails : Check → Type 0
-  Fails check = ¬ Holds check op modem said
+  Fails check = ¬ CheckApplies check op modem said
 
   abbrev pub IsDecided : Verdict → Type 0
   IsDecided answer = (check : Check) × IsDecidedBy op modem said check answer
 
   pub decided_by : (before : List Check) (check : Check) (after : List Check) (answer : Verdict)
-      → table ≡ before ++ check ∷ after → AllByRecursion Fails before → Holds check op modem said → Answers check op modem said answer → IsDecidedBy op modem said check answer
+      → table ≡ before ++ check ∷ after → AllByRecursion Fails before → CheckApplies check op modem said → AnswersCheck check op modem said answer → IsDecidedBy op modem said check answer
   decided_by before check after answer split none holds answers = record {
     first = record { before = before; after = after; split = split; none = All-from_recursion Fails before none; holds = holds };
     answers = answers;
   }
 
   pub decided : (before : List Check) (check : Check) (after : List Check) (answer : Verdict)
-      → table ≡ before ++ check ∷ after → AllByRecursion Fails before → Holds check op modem said → Answers check op modem said answer → IsDecided answer
+      → table ≡ before ++ check ∷ after → AllByRecursion Fails before → CheckApplies check op modem said → AnswersCheck check op modem said answer → IsDecided answer
   decided before check after answer split none holds answers = (check, decided_by before check after answer split none holds answers)

@@ -15,7 +15,7 @@ use Rattle.transactions.specs.declared.tick.GivenUp.{GivenUp}
 use Rattle.transactions.specs.Waits.{Waits}
 use Rattle.transactions.specs.Entry.{is_waiting, is_of, same_kind, waits_for}
 use Rattle.transactions.specs.Keeping.{held_entry, entry_after_ack}
-use Rattle.transactions.specs.Timers.{is_due, is_resent, is_given_up, is_forgotten, given_up_of, given_up_in, kept_after}
+use Rattle.transactions.specs.Timers.{is_response_due, is_resent, is_given_up, is_forgotten, given_up_of, given_up_in, kept_after}
 use Rattle.transactions.specs.Timers as timers
 use Rattle.operator_model.proofs.KeptLemmas.{pairs-head, pairs-tail, pairs-map}
 use Rattle.check_table.specs.Awaited.{IsAwaited, AreOfTwo}
@@ -110,7 +110,7 @@ module _ (times : Waits) where
 
   -- what waits and is not given up is not forgotten
   not_forgotten : (e : KeptEntry) → is_waiting e ≡ true → is_given_up e ≡ false → not (is_forgotten e) ≡ true
-  not_forgotten e waits stays = rw (stays, waits) (by (is_due e))
+  not_forgotten e waits stays = rw (stays, waits) (by (is_response_due e))
     where
       by : (b : Bool) → not (false || b && not true) ≡ true
       by true = refl

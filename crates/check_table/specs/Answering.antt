@@ -81,7 +81,7 @@ told_sid None sid = None
 told_sid (Some set) sid = sid
 
 -- the flow waits with the sets that are asked for, and keeps its provisioned one
-pub record IsChanged (op : Operator) (said : Said) (answer : Verdict) : Type 0 where
+pub record IsAnswerToChange (op : Operator) (said : Said) (answer : Verdict) : Type 0 where
   pub sfid : ℕ
   pub flow : Flow
   pub sid : Option ℕ
@@ -110,46 +110,46 @@ pub record IsDeleted (said : Said) (answer : Verdict) : Type 0 where
 
 abbrev pub IsAccepted : Kind → Operator → Modem → Said → Verdict → Type 0
 IsAccepted Dsa op modem said answer = IsAdded op modem said answer
-IsAccepted Dsc op modem said answer = IsChanged op said answer
+IsAccepted Dsc op modem said answer = IsAnswerToChange op said answer
 IsAccepted Dsd op modem said answer = IsDeleted said answer
 
 -- ---- the answers
 
-abbrev pub Answers : Check → Operator → Modem → Said → Verdict → Type 0
-Answers UnknownClass op modem said answer =
+abbrev pub AnswersCheck : Check → Operator → Modem → Said → Verdict → Type 0
+AnswersCheck UnknownClass op modem said answer =
     (encoding : FlowFields) × IsFirst (NamesUnknownClass op.consts.classes) said.encodings encoding
     × (answer ≡ refusal_verdict said RejectPermanent (naming said encoding class_name_subtype))
-Answers NoEncoding op modem said answer = answer ≡ refusal_verdict said RejectRequiredParameterNotPresent Nothing
-Answers IdentifiersDiffer op modem said answer = answer ≡ refusal_verdict said RejectMultipleUpstreamFlows Nothing
-Answers NotTogether op modem said answer = answer ≡ refusal_verdict said RejectDuplicateReference Nothing
-Answers NoIdentifier op modem said answer =
+AnswersCheck NoEncoding op modem said answer = answer ≡ refusal_verdict said RejectRequiredParameterNotPresent Nothing
+AnswersCheck IdentifiersDiffer op modem said answer = answer ≡ refusal_verdict said RejectMultipleUpstreamFlows Nothing
+AnswersCheck NotTogether op modem said answer = answer ≡ refusal_verdict said RejectDuplicateReference Nothing
+AnswersCheck NoIdentifier op modem said answer =
     answer ≡ refusal_verdict said RejectRequiredParameterNotPresent (Errored None (identifier_subtype said.kind))
-Answers UnknownFlow op modem said answer = answer ≡ refusal_verdict said RejectFlowNotFound Nothing
-Answers NotOwner op modem said answer = answer ≡ refusal_verdict said RejectNotOwner Nothing
-Answers FlowWaits op modem said answer = answer ≡ refusal_verdict said RejectTemporary Nothing
-Answers WrongSetType op modem said answer =
+AnswersCheck UnknownFlow op modem said answer = answer ≡ refusal_verdict said RejectFlowNotFound Nothing
+AnswersCheck NotOwner op modem said answer = answer ≡ refusal_verdict said RejectNotOwner Nothing
+AnswersCheck FlowWaits op modem said answer = answer ≡ refusal_verdict said RejectTemporary Nothing
+AnswersCheck WrongSetType op modem said answer =
     (encoding : FlowFields) × (said.encodings ≡ encoding ∷ [])
     × (answer ≡ refusal_verdict said (set_type_code encoding.set_type) (naming said encoding set_type_subtype))
-Answers NoParameterSet op modem said answer =
+AnswersCheck NoParameterSet op modem said answer =
     (encoding : FlowFields) × (refusal : Refusal) × IsFirst (GivesNoSet op.consts) said.encodings encoding
     × EncodingIsRefused op.consts encoding refusal
     × (answer ≡ refusal_verdict said refusal.code (naming said encoding refusal.subtype))
-Answers ActiveNotWithin op modem said answer =
+AnswersCheck ActiveNotWithin op modem said answer =
     (encoding : FlowFields) × (active : ParamFields) × (admitted : ParamFields) × (subtype : ℕ)
     × Contains said.encodings encoding
     × IsToBeActive op said (Some active) × IsToBeAdmitted op said (Some admitted)
     × (first_failing active admitted ≡ Some subtype)
     × (answer ≡ refusal_verdict said RejectInvalidForContext (naming said encoding subtype))
-Answers AdmittedNotWithin op modem said answer =
+AnswersCheck AdmittedNotWithin op modem said answer =
     (encoding : FlowFields) × (flow : Flow) × (admitted : ParamFields) × (provisioned : ParamFields) × (subtype : ℕ)
     × Contains said.encodings encoding
     × IsAbout op said (Some flow) × IsToBeAdmitted op said (Some admitted)
     × (flow.sets.provisioned ≡ Some provisioned)
     × (first_failing admitted provisioned ≡ Some subtype)
     × (answer ≡ refusal_verdict said RejectAuthorizationFailure (naming said encoding subtype))
-Answers FlowsFull op modem said answer = answer ≡ refusal_verdict said RejectTemporary Nothing
-Answers NoSfidFree op modem said answer = answer ≡ refusal_verdict said RejectTemporary Nothing
-Answers NoSidFree op modem said answer = answer ≡ refusal_verdict said RejectTemporary Nothing
-Answers ElementsOver op modem said answer = answer ≡ refusal_verdict said RejectTemporary Nothing
-Answers MinislotsOver op modem said answer = answer ≡ refusal_verdict said RejectTemporary Nothing
-Answers Accepted op modem said answer = IsAccepted said.kind op modem said answer
+AnswersCheck FlowsFull op modem said answer = answer ≡ refusal_verdict said RejectTemporary Nothing
+AnswersCheck NoSfidFree op modem said answer = answer ≡ refusal_verdict said RejectTemporary Nothing
+AnswersCheck NoSidFree op modem said answer = answer ≡ refusal_verdict said RejectTemporary Nothing
+AnswersCheck ElementsOver op modem said answer = answer ≡ refusal_verdict said RejectTemporary Nothing
+AnswersCheck MinislotsOver op modem said answer = answer ≡ refusal_verdict said RejectTemporary Nothing
+AnswersCheck Accepted op modem said answer = IsAccepted said.kind op modem said answer

@@ -35,8 +35,8 @@ AreAdmittedAndActive set_types =
     ⊎ (set_types ≡ Some (set_type_number Active) ∷ Some (set_type_number Admitted) ∷ [])
 
 -- a set type that one encoding may have: for the admitted set, for both sets, and in a change null
-abbrev pub IsTaken : Kind → Option ℕ → Type 0
-IsTaken kind set_type =
+abbrev pub AcceptsSetType : Kind → Option ℕ → Type 0
+AcceptsSetType kind set_type =
     IsSetType Admitted set_type ⊎ (IsSetType AdmittedAndActive set_type ⊎ ((kind ≡ Dsc) × IsSetType Null set_type))
 
 -- an encoding that is to give a set, and is refused
@@ -68,38 +68,38 @@ abbrev pub IsOverBudget : Operator → ℕ → Type 0
 IsOverBudget op n =
     (op.state.share.budget < n) ⊎ ((next : NextShare) × (op.state.next ≡ Some next) × (next.share.budget < n))
 
-abbrev pub Holds : Check → Operator → Modem → Said → Type 0
-Holds UnknownClass op modem said = Any (NamesUnknownClass op.consts.classes) said.encodings
-Holds NoEncoding op modem said = (said.kind ≢ Dsd) × (said.encodings ≡ [])
-Holds IdentifiersDiffer op modem said =
+abbrev pub CheckApplies : Check → Operator → Modem → Said → Type 0
+CheckApplies UnknownClass op modem said = Any (NamesUnknownClass op.consts.classes) said.encodings
+CheckApplies NoEncoding op modem said = (said.kind ≢ Dsd) × (said.encodings ≡ [])
+CheckApplies IdentifiersDiffer op modem said =
     (a : FlowFields) × (b : FlowFields) × Contains said.encodings a × Contains said.encodings b
     × (identifier said.kind a ≢ identifier said.kind b)
-Holds NotTogether op modem said =
+CheckApplies NotTogether op modem said =
     (1 < length said.encodings) × (¬ AreAdmittedAndActive (map (λ encoding. encoding.set_type) said.encodings))
-Holds NoIdentifier op modem said = Any (λ encoding. identifier said.kind encoding ≡ None) said.encodings
-Holds UnknownFlow op modem said =
+CheckApplies NoIdentifier op modem said = Any (λ encoding. identifier said.kind encoding ≡ None) said.encodings
+CheckApplies UnknownFlow op modem said =
     (sfid : ℕ) × NamesFlow said.kind said.encodings said.sfid sfid × (¬ Contains (sfids_of op.state.flows) sfid)
-Holds NotOwner op modem said = (sfid : ℕ) × (flow : Flow) × IsOfFlow op said sfid flow × (flow.modem ≢ modem)
-Holds FlowWaits op modem said = (sfid : ℕ) × (flow : Flow) × IsOfFlow op said sfid flow × IsSome flow.pending
-Holds WrongSetType op modem said =
-    (encoding : FlowFields) × (said.encodings ≡ encoding ∷ []) × (¬ IsTaken said.kind encoding.set_type)
-Holds NoParameterSet op modem said = Any (GivesNoSet op.consts) said.encodings
-Holds ActiveNotWithin op modem said =
+CheckApplies NotOwner op modem said = (sfid : ℕ) × (flow : Flow) × IsOfFlow op said sfid flow × (flow.modem ≢ modem)
+CheckApplies FlowWaits op modem said = (sfid : ℕ) × (flow : Flow) × IsOfFlow op said sfid flow × IsSome flow.pending
+CheckApplies WrongSetType op modem said =
+    (encoding : FlowFields) × (said.encodings ≡ encoding ∷ []) × (¬ AcceptsSetType said.kind encoding.set_type)
+CheckApplies NoParameterSet op modem said = Any (GivesNoSet op.consts) said.encodings
+CheckApplies ActiveNotWithin op modem said =
     (active : ParamFields) × (admitted : ParamFields) × IsToBeActive op said (Some active)
     × IsToBeAdmitted op said (Some admitted)
     × (¬ IsWithin active admitted)
-Holds AdmittedNotWithin op modem said =
+CheckApplies AdmittedNotWithin op modem said =
     (flow : Flow) × (admitted : ParamFields) × (provisioned : ParamFields) × IsAbout op said (Some flow)
     × IsToBeAdmitted op said (Some admitted)
     × (flow.sets.provisioned ≡ Some provisioned) × (¬ IsWithin admitted provisioned)
-Holds FlowsFull op modem said = (said.kind ≡ Dsa) × (op.row.flows ≤ length op.state.flows)
-Holds NoSfidFree op modem said = (said.kind ≡ Dsa) × IsUsedUp op.row.sfids (sfids_of op.state.flows)
-Holds NoSidFree op modem said =
+CheckApplies FlowsFull op modem said = (said.kind ≡ Dsa) × (op.row.flows ≤ length op.state.flows)
+CheckApplies NoSfidFree op modem said = (said.kind ≡ Dsa) × IsUsedUp op.row.sfids (sfids_of op.state.flows)
+CheckApplies NoSidFree op modem said =
     (flow : Option Flow) × (set : ParamFields) × IsAbout op said flow × IsToBeAdmitted op said (Some set)
     × (sid_if flow ≡ None)
     × IsUsedUp op.row.sids (sids_of op.state.flows)
-Holds ElementsOver op modem said =
+CheckApplies ElementsOver op modem said =
     (n : ℕ) × (said.kind ≢ Dsd) × WouldCommit (λ need. need.elements) op said n × (op.row.elements < n)
-Holds MinislotsOver op modem said =
+CheckApplies MinislotsOver op modem said =
     (n : ℕ) × (said.kind ≢ Dsd) × WouldCommit (λ need. need.minislots) op said n × IsOverBudget op n
-Holds Accepted op modem said = Unit {0}
+CheckApplies Accepted op modem said = Unit {0}

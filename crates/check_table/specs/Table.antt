@@ -5,8 +5,8 @@ use Rattle.operator_model.specs.declared.verdict.Verdict.{Verdict}
 use Rattle.operator_model.specs.State.{Operator}
 use Rattle.lists.specs.First.{IsFirst}
 use Rattle.check_table.specs.Said.{Said}
-use Rattle.check_table.specs.Holding.{Holds}
-use Rattle.check_table.specs.Answering.{Answers}
+use Rattle.check_table.specs.Holding.{CheckApplies}
+use Rattle.check_table.specs.Answering.{AnswersCheck}
 use Rattle.check_table.specs.declared.check.Check.{Check}
 use Rattle.check_table.specs.declared.check.Check.TheVariants.{UnknownClass, NoEncoding, IdentifiersDiffer, NotTogether, NoIdentifier, UnknownFlow, NotOwner, FlowWaits, WrongSetType, NoParameterSet, ActiveNotWithin, AdmittedNotWithin, FlowsFull, NoSfidFree, NoSidFree, ElementsOver, MinislotsOver, Accepted}
 
@@ -20,5 +20,5 @@ table =
 
 -- this check decides a request of a modem, and so it is answered
 pub record IsDecidedBy (op : Operator) (modem : Modem) (said : Said) (check : Check) (answer : Verdict) : Type 0 where
-  pub first : IsFirst (λ c. Holds c op modem said) table check
-  pub answers : Answers check op modem said answer
+  pub first : IsFirst (λ c. CheckApplies c op modem said) table check
+  pub answers : AnswersCheck check op modem said answer

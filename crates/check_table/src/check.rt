@@ -8,7 +8,7 @@ ghost use Rattle.operator_model.specs.Handle.{reply_of};
 ghost use Rattle.operator_model.specs.State.{Operator};
 ghost use Rattle.check_table.specs.declared.check.Check.TheVariants.{WrongSetType, NoParameterSet};
 ghost use Rattle.check_table.specs.Said.{Said};
-ghost use Rattle.check_table.specs.Answering.{Answers};
+ghost use Rattle.check_table.specs.Answering.{AnswersCheck};
 ghost use Rattle.check_table.specs.Table.{table};
 ghost use Rattle.check_table.specs.Messages.{message_table};
 
@@ -119,7 +119,7 @@ impl Check {
 
     /// Returns the code of each of its answers; none where that depends on the invalid encoding.
     pub fn code(self) -> Option<Code>
-        ensures answered { (op : Operator) (modem : Modem) (said : Said) (answer : Verdict) → Answers self op modem said answer
+        ensures answered { (op : Operator) (modem : Modem) (said : Said) (answer : Verdict) → AnswersCheck self op modem said answer
             → IfSome result (λ code. (reply_of answer).code ≡ code) }
         ensures none { (result ≡ None) ↔ ((self ≡ WrongSetType) ⊎ (self ≡ NoParameterSet)) }
     {

@@ -7,7 +7,7 @@ use Rattle.clap.specs.Walk.{Text}
 use Rattle.clap.specs.declared.error.kind.ErrorKind.TheVariants as kind
 use Rattle.command_line.specs.Order.{Order, one, check, run, threads, capture, serve, trace, history}
 use Rattle.command_line.specs.ClapLine.{faults}
-use Rattle.command_line.specs.CommandLine.{AsksHelp, IsHelpFlag, IsHelpWord, IsOperand, MayLead, Names, StandsAlone, hyphens}
+use Rattle.command_line.specs.CommandLine.{AsksHelp, IsHelpFlag, IsHelpWord, IsOperand, MayLead, NamesOrder, StandsAlone, hyphens}
 use Rattle.command_line.proofs.FlagSteps as step
 use Rattle.command_line.proofs.FlagSteps.{IsNoName}
 use Rattle.command_line.proofs.WalkSteps.{plain_shape, history_shape, sub_fault, one_below, check_below, run_below, threads_below, capture_below, serve_below, trace_below, history_below}
@@ -171,12 +171,12 @@ top_fails w rest strange = elim (flag_fails w _ (top_meets w rest strange)) [
 -- ---- every list of words
 
 pub data Outcome (words : List Text) : Type 0 where
-  named : (o : Order) → Names words o → Outcome words
+  named : (o : Order) → NamesOrder words o → Outcome words
   helped : IsHelpWord words → Outcome words
   failing : Fails (AsksHelp words) (faults words) → Outcome words
 
 -- what stands behind an order's word, as all the words
-at_plain : (n : Text) (o : Order) → MayLead (n ∷ []) → ((words : List Text) → StandsAlone n words → Names words o) → (rest : List Text)
+at_plain : (n : Text) (o : Order) → MayLead (n ∷ []) → ((words : List Text) → StandsAlone n words → NamesOrder words o) → (rest : List Text)
     → faults (n ∷ rest) ≡ sub_fault (plain_shape n) rest → Outcome (n ∷ rest)
 at_plain n o leads names rest below = elim (plain_rest n rest) [
   | inl e ↦ named o (names _ (inl (ap (λ (r : List Text). n ∷ r) e)))

@@ -9,8 +9,8 @@ use Rattle.clap.specs.Walk.{Row, Text}
 use Rattle.clap.specs.declared.error.kind.ErrorKind.{ErrorKind}
 use Rattle.clap.specs.declared.error.kind.ErrorKind.TheVariants as kind
 use Rattle.clap.proofs.OnLiterals.{clap_on_literals}
-use Rattle.command_line.specs.ClapLine.{IsFaultOf, StandsFor, entered_subcommand, faults}
-use Rattle.command_line.specs.CommandLine.{Allows, AreWrong, AsksHelp, GivesHelp, GivesOrder, GivesWrong, IsHelpFlag, IsHelpWord, MayLead, Names, first_flag, hyphens}
+use Rattle.command_line.specs.ClapLine.{IsWordsFault, StandsFor, entered_subcommand, faults}
+use Rattle.command_line.specs.CommandLine.{Allows, AreWrong, AsksHelp, GivesHelp, GivesOrder, GivesWrong, IsHelpFlag, IsHelpWord, MayLead, NamesOrder, first_flag, hyphens}
 use Rattle.command_line.specs.Order.{Order, one, check, run, threads, capture, serve, trace, history, order_of}
 use Rattle.command_line.specs.declared.asked.Word.{Word}
 use Rattle.command_line.specs.declared.asked.WordsFault.{WordsFault}
@@ -110,7 +110,7 @@ operand_behind w = (refl, (refl, refl))
 at_words : (words these : List Text) (o : Order) → words ≡ these → Takes these o → Takes words o
 at_words words these o same taken = subst (λ (ws : List Text). Takes ws o) (sym same) taken
 
-pub names_taken : (words : List Text) (o : Order) → Names words o → Takes words o
+pub names_taken : (words : List Text) (o : Order) → NamesOrder words o → Takes words o
 names_taken words one (inl e) = at_words words _ one e one_taken
 names_taken words one (inr e) = at_words words _ one e one_ended
 names_taken words check (inl e) = at_words words _ check e check_taken
@@ -232,9 +232,9 @@ help_word_faults words help = ap faults help.are ∙ help_first help.topics
 none_among : (words : List Text) (k : ErrorKind) → faults words ≡ [] → IsAmong k (faults words) → ⊥
 none_among words k none among = subst (IsAmong k) none among
 
-pub taken_names : (words : List Text) (o : Order) → Takes words o → Names words o
+pub taken_names : (words : List Text) (o : Order) → Takes words o → NamesOrder words o
 taken_names words o taken = elim (outcome words) [
-  | named p names ↦ subst (λ (q : Order). Names words q) (stands_once p o (entered_subcommand words) (names_taken words p names).1 taken.1) names
+  | named p names ↦ subst (λ (q : Order). NamesOrder words q) (stands_once p o (entered_subcommand words) (names_taken words p names).1 taken.1) names
   | helped help ↦ (let no = sym taken.0 ∙ help_word_faults words help in cc)
   | failing (inl (asks, is)) ↦ (let no = sym taken.0 ∙ is in cc)
   | failing (inr refused) ↦ absurd (refused.some taken.0)
@@ -284,7 +284,7 @@ IsOfClap words (Err (fault.Help text)) = IsAmong kind.DisplayHelp (faults words)
 IsOfClap words (Err fault.Wrong) = (k : ErrorKind) × (k ≢ kind.DisplayHelp) × IsAmong k (faults words)
 IsOfClap words (Err fault.NoMemory) = ⊤
 
-pub of_error : (words : List Text) (k : ErrorKind) (f : WordsFault) → IsFaultOf k f
+pub of_error : (words : List Text) (k : ErrorKind) (f : WordsFault) → IsWordsFault k f
     → (k ≡ kind.OutOfMemory) ⊎ IsAmong k (faults words) → IsOfClap words (Err f)
 of_error words k fault.NoMemory is from = tt
 of_error words k (fault.Help text) is (inl memory) = cc
@@ -292,7 +292,7 @@ of_error words k (fault.Help text) is (inr among) = subst (λ (j : ErrorKind). I
 of_error words k fault.Wrong is (inl memory) = absurd (is.1 memory)
 of_error words k fault.Wrong is (inr among) = (k, is.0, among)
 
-pub clause_ok : (words : List Text) (r : Result Word WordsFault) → IsOfClap words r → IfOk r (λ word. Names words (order_of word))
+pub clause_ok : (words : List Text) (r : Result Word WordsFault) → IsOfClap words r → IfOk r (λ word. NamesOrder words (order_of word))
 clause_ok words (Ok word) is = taken_names words (order_of word) is
 clause_ok words (Err f) is = tt
 
@@ -302,7 +302,7 @@ clause_fault words (Err (fault.Help text)) is = shown_asks words is
 clause_fault words (Err fault.Wrong) is = other_wrong words is.0 is.1 is.2
 clause_fault words (Err fault.NoMemory) is = tt
 
-pub clause_named : (words : List Text) (r : Result Word WordsFault) → IsOfClap words r → (o : Order) → Names words o → GivesOrder o r
+pub clause_named : (words : List Text) (r : Result Word WordsFault) → IsOfClap words r → (o : Order) → NamesOrder words o → GivesOrder o r
 clause_named words (Ok word) is o names = stands_once (order_of word) o (entered_subcommand words) is.1 (names_taken words o names).1
 clause_named words (Err (fault.Help text)) is o names = none_among words kind.DisplayHelp (names_taken words o names).0 is
 clause_named words (Err fault.Wrong) is o names = none_among words is.0 (names_taken words o names).0 is.2

@@ -5,7 +5,7 @@ use Rattle.clap.specs.Walk.{Text}
 use Rattle.clap.proofs.OnLiterals.{clap_on_literals}
 use Rattle.command_line.specs.ClapLine.{entered_subcommand, faults}
 use Rattle.command_line.specs.Order.{Order, history}
-use Rattle.command_line.specs.CommandLine.{AreWrong, AsksHelp, IsHelpFlag, IsHelpWord, IsOperand, Names}
+use Rattle.command_line.specs.CommandLine.{AreWrong, AsksHelp, IsHelpFlag, IsHelpWord, IsOperand, NamesOrder}
 use Rattle.command_line.proofs.Outcomes.{named, helped, failing, outcome}
 use Rattle.command_line.proofs.ReadLemmas.{help_faults, help_word_faults, names_taken, refused_wrong, stands_once}
 
@@ -19,7 +19,7 @@ no_hyphen_operand (b ∷ rest) other =
     no_short : (b : ℕ) (rest : Text) → (b == 45) ≡ false → short_of (b ∷ rest) ≡ None
     no_short b rest differs = rw differs refl
 
-pub operand_named : (name : Text) → ((rest : Text) → name ≢ 45 ∷ rest) → Names (codes "history" ∷ name ∷ []) (history name)
+pub operand_named : (name : Text) → ((rest : Text) → name ≢ 45 ∷ rest) → NamesOrder (codes "history" ∷ name ∷ []) (history name)
 operand_named name other = inl (no_hyphen_operand name other, inl refl)
 
 -- ---- wrong words
@@ -49,7 +49,7 @@ second_operand_wrong = refused_wrong _ (record { some = λ e. cc; no_help = λ h
 
 -- ---- every list of words
 
-pub comes_to_one : (words : List Text) → ((o : Order) × Names words o) ⊎ (AsksHelp words ⊎ (IsHelpWord words ⊎ AreWrong words))
+pub comes_to_one : (words : List Text) → ((o : Order) × NamesOrder words o) ⊎ (AsksHelp words ⊎ (IsHelpWord words ⊎ AreWrong words))
 comes_to_one words = elim (outcome words) [
   | named o names ↦ inl (o, names)
   | helped help ↦ inr (inr (inl help))
@@ -57,13 +57,13 @@ comes_to_one words = elim (outcome words) [
   | failing (inr refused) ↦ inr (inr (inr (refused_wrong words refused)))
 ]
 
-pub named_once : (words : List Text) (o p : Order) → Names words o → Names words p → o ≡ p
+pub named_once : (words : List Text) (o p : Order) → NamesOrder words o → NamesOrder words p → o ≡ p
 named_once words o p a b = stands_once o p (entered_subcommand words) (names_taken words o a).1 (names_taken words p b).1
 
-pub named_not_asked : (words : List Text) (o : Order) → Names words o → AsksHelp words → ⊥
+pub named_not_asked : (words : List Text) (o : Order) → NamesOrder words o → AsksHelp words → ⊥
 named_not_asked words o a b = let no = sym (names_taken words o a).0 ∙ help_faults words b in cc
 
-pub named_not_help : (words : List Text) (o : Order) → Names words o → IsHelpWord words → ⊥
+pub named_not_help : (words : List Text) (o : Order) → NamesOrder words o → IsHelpWord words → ⊥
 named_not_help words o a b = let no = sym (names_taken words o a).0 ∙ help_word_faults words b in cc
 
 pub asked_not_help : (words : List Text) → AsksHelp words → IsHelpWord words → ⊥
@@ -74,7 +74,7 @@ asked_not_help words a b = let no = sym (help_faults words a) ∙ help_word_faul
 a_operand : IsOperand (codes "A")
 a_operand = no_hyphen_operand (codes "A") (λ rest e. let no : 65 ≡ 45 = ap (λ (t : Text). slice_index t 0) e in omega arith)
 
-pub history_named : Names (codes "history" ∷ codes "A" ∷ []) (history (codes "A"))
+pub history_named : NamesOrder (codes "history" ∷ codes "A" ∷ []) (history (codes "A"))
 history_named = inl (a_operand, inl refl)
 
 pub long_asks : AsksHelp (codes "--help" ∷ [])

@@ -15,11 +15,11 @@ top = let a = new_app (codes "plant_script") in
     record a { top = record a.top { no_binary_name = true; subcommand_required = true } }
 
 -- the one operand of `history`
-abbrev pub operator : Rule
-operator = record (new_rule (codes "operator")) { required = true; value_names = 1 }
+abbrev pub name_argument : Rule
+name_argument = record (new_rule (codes "operator")) { required = true; value_names = 1 }
 
 abbrev pub history_app : App
-history_app = with_rule (new_app (codes "history")) operator
+history_app = with_rule (new_app (codes "history")) name_argument
 
 -- with `one`, `check`, `run` and `threads`
 abbrev pub with_first_words : App → App
@@ -55,7 +55,7 @@ StandsFor trace s = s.0 ≡ codes "trace"
 StandsFor (history name) s = (s.0 ≡ codes "history") × (first_of (codes "operator") s.1 ≡ Some name)
 
 -- the fault that an error of clap of this kind results in, or out of memory
-abbrev pub IsFaultOf : ErrorKind → WordsFault → Type 0
-IsFaultOf k (fault.Help text) = k ≡ kind.DisplayHelp
-IsFaultOf k fault.Wrong = (k ≢ kind.DisplayHelp) × (k ≢ kind.OutOfMemory)
-IsFaultOf k fault.NoMemory = ⊤
+abbrev pub IsWordsFault : ErrorKind → WordsFault → Type 0
+IsWordsFault k (fault.Help text) = k ≡ kind.DisplayHelp
+IsWordsFault k fault.Wrong = (k ≢ kind.DisplayHelp) × (k ≢ kind.OutOfMemory)
+IsWordsFault k fault.NoMemory = ⊤

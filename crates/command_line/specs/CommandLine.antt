@@ -35,15 +35,15 @@ abbrev pub StandsAlone : List ℕ → List (List ℕ) → Type 0
 StandsAlone name words = (words ≡ name ∷ []) ⊎ (words ≡ name ∷ hyphens ∷ [])
 
 -- the words are those of the order; after the two hyphens any word is the operator's name
-abbrev pub Names : List (List ℕ) → Order → Type 0
-Names words one = StandsAlone (codes "one") words
-Names words check = StandsAlone (codes "check") words
-Names words run = StandsAlone (codes "run") words
-Names words threads = StandsAlone (codes "threads") words
-Names words capture = StandsAlone (codes "capture") words
-Names words serve = StandsAlone (codes "serve") words
-Names words trace = StandsAlone (codes "trace") words
-Names words (history name) =
+abbrev pub NamesOrder : List (List ℕ) → Order → Type 0
+NamesOrder words one = StandsAlone (codes "one") words
+NamesOrder words check = StandsAlone (codes "check") words
+NamesOrder words run = StandsAlone (codes "run") words
+NamesOrder words threads = StandsAlone (codes "threads") words
+NamesOrder words capture = StandsAlone (codes "capture") words
+NamesOrder words serve = StandsAlone (codes "serve") words
+NamesOrder words trace = StandsAlone (codes "trace") words
+NamesOrder words (history name) =
     (IsOperand name × ((words ≡ codes "history" ∷ name ∷ [])
     ⊎ (words ≡ codes "history" ∷ name ∷ hyphens ∷ [])))
     ⊎ (words ≡ codes "history" ∷ hyphens ∷ name ∷ [])
@@ -73,7 +73,7 @@ pub record IsHelpWord (words : List (List ℕ)) : Type 0 where
 
 -- the words are nothing of these
 pub record AreWrong (words : List (List ℕ)) : Type 0 where
-  pub unnamed : (o : Order) → Names words o → ⊥
+  pub unnamed : (o : Order) → NamesOrder words o → ⊥
   pub unasked : AsksHelp words → ⊥
   pub unhelped : IsHelpWord words → ⊥
 

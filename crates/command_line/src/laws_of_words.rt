@@ -1,33 +1,33 @@
 //! Laws of what words result in. They need no value, and run nothing.
 ghost use Rattle.std.specs.Prelude.{◌≡◌, ◌≢◌, ◌⊎◌, List, ℕ, [], ◌∷◌, codes};
 ghost use Rattle.command_line.specs.Order.{Order, one, check, run, threads, capture, serve, trace, history};
-ghost use Rattle.command_line.specs.CommandLine.{AreWrong, AsksHelp, IsHelpWord, Names};
+ghost use Rattle.command_line.specs.CommandLine.{AreWrong, AsksHelp, IsHelpWord, NamesOrder};
 
 /// States that all words are an order's, ask for help, begin with clap's own `help`, or are wrong;
 /// of these they are one alone, and of one order.
 pub fn words_come_to_one()
-    ensures some { (words : List (List ℕ)) → ((o : Order) × Names words o)
+    ensures some { (words : List (List ℕ)) → ((o : Order) × NamesOrder words o)
         ⊎ (AsksHelp words ⊎ (IsHelpWord words ⊎ AreWrong words)) }
     ensures once { (words : List (List ℕ)) → (o : Order) → (p : Order)
-        → Names words o → Names words p → o ≡ p }
-    ensures named_not_asked { (words : List (List ℕ)) → (o : Order) → Names words o → AsksHelp words → ⊥ }
-    ensures named_not_help { (words : List (List ℕ)) → (o : Order) → Names words o → IsHelpWord words → ⊥ }
+        → NamesOrder words o → NamesOrder words p → o ≡ p }
+    ensures named_not_asked { (words : List (List ℕ)) → (o : Order) → NamesOrder words o → AsksHelp words → ⊥ }
+    ensures named_not_help { (words : List (List ℕ)) → (o : Order) → NamesOrder words o → IsHelpWord words → ⊥ }
     ensures asked_not_help { (words : List (List ℕ)) → AsksHelp words → IsHelpWord words → ⊥ }
 {}
 
 /// States that a word that is present alone names its order; so does `history` before a name that
 /// begins with no hyphen (45).
 pub fn orders_are_named()
-    ensures one { Names (codes "one" ∷ []) one }
-    ensures check { Names (codes "check" ∷ []) check }
-    ensures run { Names (codes "run" ∷ []) run }
-    ensures threads { Names (codes "threads" ∷ []) threads }
-    ensures capture { Names (codes "capture" ∷ []) capture }
-    ensures serve { Names (codes "serve" ∷ []) serve }
-    ensures trace { Names (codes "trace" ∷ []) trace }
-    ensures history { Names (codes "history" ∷ codes "A" ∷ []) (history (codes "A")) }
+    ensures one { NamesOrder (codes "one" ∷ []) one }
+    ensures check { NamesOrder (codes "check" ∷ []) check }
+    ensures run { NamesOrder (codes "run" ∷ []) run }
+    ensures threads { NamesOrder (codes "threads" ∷ []) threads }
+    ensures capture { NamesOrder (codes "capture" ∷ []) capture }
+    ensures serve { NamesOrder (codes "serve" ∷ []) serve }
+    ensures trace { NamesOrder (codes "trace" ∷ []) trace }
+    ensures history { NamesOrder (codes "history" ∷ codes "A" ∷ []) (history (codes "A")) }
     ensures operand { (name : List ℕ) → ((rest : List ℕ) → name ≢ 45 ∷ rest)
-        → Names (codes "history" ∷ name ∷ []) (history name) }
+        → NamesOrder (codes "history" ∷ name ∷ []) (history name) }
 {}
 
 /// States that the flags ask for help, alone, after a command and after its operand.

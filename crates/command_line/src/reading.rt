@@ -3,8 +3,8 @@ ghost use Rattle.std.specs.Prelude.{◌≡◌, ◌≢◌, IfOk, IfErr, IfSome, I
 ghost use Rattle.clap.specs.Walk.{texts};
 ghost use Rattle.clap.specs.Words.{found_of, kind_of, rows_of, subcommand_rows_of};
 ghost use Rattle.command_line.specs.Order.{Order, order_of};
-ghost use Rattle.command_line.specs.ClapLine.{IsFaultOf, StandsFor};
-ghost use Rattle.command_line.specs.CommandLine.{Allows, AreWrong, AsksHelp, GivesHelp, GivesOrder, GivesWrong, Names};
+ghost use Rattle.command_line.specs.ClapLine.{IsWordsFault, StandsFor};
+ghost use Rattle.command_line.specs.CommandLine.{Allows, AreWrong, AsksHelp, GivesHelp, GivesOrder, GivesWrong, NamesOrder};
 
 use crate::asked::{BatchWord, RunReport, Word, WordsFault};
 use crate::command::matches_of;
@@ -17,9 +17,9 @@ use std::alloc::{AllocError, Global};
 /// An `Err` is help that was asked for, an invalid command line, or a failed allocation, which any command line may meet. No
 /// clause says more of the text of help than that it is there: clap promises nothing of it.
 pub fn read_words<'a>(alloc: Global, words: &'a [&'a str]) -> Result<Word<'a>, WordsFault>
-    ensures ok { IfOk result (λ word. Names (texts words.entry.now) (order_of word)) }
+    ensures ok { IfOk result (λ word. NamesOrder (texts words.entry.now) (order_of word)) }
     ensures fault { IfErr result (Allows (texts words.entry.now)) }
-    ensures named { (o : Order) → Names (texts words.entry.now) o → GivesOrder o result }
+    ensures named { (o : Order) → NamesOrder (texts words.entry.now) o → GivesOrder o result }
     ensures help { AsksHelp (texts words.entry.now) → GivesHelp result }
     ensures wrong { AreWrong (texts words.entry.now) → GivesWrong result }
 {
@@ -63,7 +63,7 @@ fn word_named<'a>(name: &str, inner: &ArgMatches<'a>) -> Option<Word<'a>>
 
 /// Returns what a failed parse says of the command line. The text of help is clap's own, of which clap promises nothing.
 fn fault_of_error(alloc: Global, error: &Error) -> WordsFault
-    ensures { IsFaultOf (kind_of error.now) result }
+    ensures { IsWordsFault (kind_of error.now) result }
 {
     match error.kind() {
         ErrorKind::OutOfMemory => WordsFault::NoMemory,

@@ -5,7 +5,7 @@ use Rattle.std.specs.Option.{option_map}
 use Rattle.std.specs.List.{find, AllByRecursion}
 use Rattle.std.proofs.lemmas.List.{take_at, drop_at}
 use Rattle.std.proofs.lemmas.Bool.{eqb-true, eqb-false}
-use Rattle.lists.specs.Results.{◌>>=◌}
+use Rattle.lists.specs.Results.{◌>>=◌, Gives}
 use Rattle.tlv24.specs.declared.tlv.Tlv.{Tlv}
 use Rattle.tlv24.specs.declared.tlv.TlvFault.TheVariants.{Cut}
 use Rattle.tlv24.specs.declared.fields.FlowFields.{FlowFields}
@@ -24,7 +24,7 @@ use Rattle.dsx_messages.specs.declared.fault.MessageFault.{MessageFault}
 use Rattle.dsx_messages.specs.declared.fault.MessageFault.TheVariants as faults
 use Rattle.dsx_messages.specs.MessageType.{dsa_req, dsa_ack, dsc_req, dsc_ack, dsd_req}
 use Rattle.dsx_messages.specs.TlvType.{upstream_service_flow}
-use Rattle.dsx_messages.specs.Reading.{Gives, is_left_out, left_out_in, flow_told, flow_in, flows_read_after, flows_unless, flows_in_front, flows_in, request_with_flows, flows_request_of, deletion_of, ack_of, message_of}
+use Rattle.dsx_messages.specs.Reading.{message_cause, is_left_out, left_out_in, flow_told, flow_in, flows_read_after, flows_unless, flows_in_front, flows_in, request_with_flows, flows_request_of, deletion_of, ack_of, message_of}
 use Rattle.dsx_messages.specs.Message.{IsHeaded, AreSaid, SaysFlows, SaysSfid, Says, HasType, IsShortBody, IsForeign, IsRequest, IsFirstMessageFault}
 use Rattle.dsx_messages.proofs.Passes.{values-flow, values-other}
 
@@ -374,14 +374,14 @@ says_message bytes (messages.Ack Dsd tid code) are says = absurd says
 
 -- ---- what a function returned
 
-pub given_found : (bytes : List ℕ) (r : Result Message MessageFault) → AreBytes bytes → Gives (λ message. message) r (message_of bytes) → IfOk r (Says bytes)
+pub given_found : (bytes : List ℕ) (r : Result Message MessageFault) → AreBytes bytes → Gives message_cause (λ message. message) r (message_of bytes) → IfOk r (Says bytes)
 given_found bytes (Ok m) are gives = message_says bytes m are gives
 given_found bytes (Err fault) are gives = tt
 
-pub given_only : (bytes : List ℕ) (r : Result Message MessageFault) (m : Message) → AreBytes bytes → Gives (λ message. message) r (message_of bytes) → Says bytes m → Gives (λ message. message) r (Ok m)
-given_only bytes r m are gives says = subst (Gives (λ message. message) r) (says_message bytes m are says) gives
+pub given_only : (bytes : List ℕ) (r : Result Message MessageFault) (m : Message) → AreBytes bytes → Gives message_cause (λ message. message) r (message_of bytes) → Says bytes m → Gives message_cause (λ message. message) r (Ok m)
+given_only bytes r m are gives says = subst (Gives message_cause (λ message. message) r) (says_message bytes m are says) gives
 
-pub given_fault : (bytes : List ℕ) (r : Result Message MessageFault) → AreBytes bytes → Gives (λ message. message) r (message_of bytes) → IfErr r (IsFirstMessageFault bytes)
+pub given_fault : (bytes : List ℕ) (r : Result Message MessageFault) → AreBytes bytes → Gives message_cause (λ message. message) r (message_of bytes) → IfErr r (IsFirstMessageFault bytes)
 given_fault bytes (Ok m) are gives = tt
 given_fault bytes (Err faults.Empty) are gives = message_fault bytes faults.Empty are gives
 given_fault bytes (Err (faults.NotOurs mtype)) are gives = message_fault bytes (faults.NotOurs mtype) are gives

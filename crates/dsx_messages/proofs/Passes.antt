@@ -1,6 +1,6 @@
 -- The two passes over the TLVs of a request.
 use Rattle.std.proofs.Common.{◌≡◌, ◌≢◌, ℕ, ◌+◌, ◌-◌, ◌<◌, ◌≤◌, Bool, true, false, cond, eqb, List, [], ◌∷◌, ◌++◌, length, Option, Some, None, Result, Ok, Err, refl, sym, ap, ◌∙◌, arith}
-use Rattle.lists.specs.Results.{◌>>=◌}
+use Rattle.lists.specs.Results.{◌>>=◌, Fails}
 use Rattle.tlv24.specs.declared.tlv.Tlv.{Tlv}
 use Rattle.tlv24.specs.declared.fields.FlowFields.{FlowFields}
 use Rattle.tlv24.specs.Tlv.{tlv, Front, first_tlv, front_of}
@@ -10,7 +10,7 @@ use Rattle.dsx_messages.specs.TlvType.{upstream_service_flow}
 use Rattle.dsx_messages.specs.declared.kind.Kind.{Kind}
 use Rattle.dsx_messages.specs.declared.fault.MessageFault.{MessageFault}
 use Rattle.dsx_messages.specs.declared.fault.MessageFault.TheVariants as faults
-use Rattle.dsx_messages.specs.Reading.{Fails, is_left_out, left_out_in, flow_in, flows_read_after}
+use Rattle.dsx_messages.specs.Reading.{message_cause, is_left_out, left_out_in, flow_in, flows_read_after}
 use Rattle.dsx_messages.specs.Survey.{first_some, left_out_kind, flow_count, IsSurveyed, IsCutSurvey, IsSurveyedUpTo}
 
 -- ---- values of flow encodings
@@ -94,7 +94,7 @@ survey_start list = record { room = omega arith; same_rest = refl; left_out_is =
 
 -- ---- the flows
 
-pub fails : {Y : Type 0} (fault : MessageFault) (read : Result Y MessageFault) → read ≡ Err fault → Fails fault read
+pub fails : {Y : Type 0} (fault : MessageFault) (read : Result Y MessageFault) → read ≡ Err fault → Fails (message_cause fault) read
 fails faults.Empty read e = e
 fails (faults.NotOurs mtype) read e = e
 fails faults.Short read e = e

@@ -22,14 +22,10 @@ use Rattle.dsx_messages.specs.declared.message.Message.TheVariants as messages
 use Rattle.dsx_messages.specs.declared.fault.MessageFault.{MessageFault}
 use Rattle.dsx_messages.specs.declared.fault.MessageFault.TheVariants as faults
 
--- What a function returned, seen by view, is what reading gives, unless memory ran out.
-abbrev pub Fails : {Y : Type 0} → MessageFault → Result Y MessageFault → Type 0
-Fails faults.NoMemory read = Unit {0}
-Fails fault read = read ≡ Err fault
-
-abbrev pub Gives : {X Y : Type 0} → (X → Y) → Result X MessageFault → Result Y MessageFault → Type 0
-Gives view (Ok x) read = read ≡ Ok (view x)
-Gives view (Err fault) read = Fails fault read
+-- the fault of reading that a fault stands for: none where memory ran out
+abbrev pub message_cause : MessageFault → Option MessageFault
+message_cause faults.NoMemory = None
+message_cause fault = Some fault
 
 -- classifiers, downstream flows and payload header suppression are left out of this product
 abbrev pub is_left_out : Tlv → Bool

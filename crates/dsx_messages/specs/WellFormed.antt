@@ -11,10 +11,10 @@ use Rattle.dsx_messages.specs.declared.reply.Detail.TheVariants.{Nothing, Given,
 use Rattle.dsx_messages.specs.declared.reply.ReplyFields.{ReplyFields}
 
 -- an addition names a flow by its reference, a change by its SFID, a deletion names none
-abbrev pub Names : Kind → FlowId → Type 0
-Names Dsa (Reference reference) = Unit {0}
-Names Dsc (Sfid sfid) = Unit {0}
-Names kind id = ⊥
+abbrev pub IsFlowIdOf : Kind → FlowId → Type 0
+IsFlowIdOf Dsa (Reference reference) = Unit {0}
+IsFlowIdOf Dsc (Sfid sfid) = Unit {0}
+IsFlowIdOf kind id = ⊥
 
 -- An accepted addition gives reference, SFID and SID, an accepted change SFID and perhaps a SID; a refusal of either may
 -- name an encoding and a subtype; a deletion says nothing more.
@@ -22,7 +22,7 @@ abbrev pub GoesWith : Kind → Code → Detail → Type 0
 GoesWith Dsd code Nothing = Unit {0}
 GoesWith Dsd code detail = ⊥
 GoesWith kind code Nothing = code ≢ Okay
-GoesWith kind code (Errored id subtype) = (code ≢ Okay) × IfSome id (Names kind)
+GoesWith kind code (Errored id subtype) = (code ≢ Okay) × IfSome id (IsFlowIdOf kind)
 GoesWith Dsa code (Given (Some reference) sfid (Some sid)) = (code ≡ Okay) × (sid < 16384)
 GoesWith Dsc code (Given None sfid sid) = (code ≡ Okay) × IfSome sid (λ n. n < 16384)
 GoesWith kind code (Given reference sfid sid) = ⊥

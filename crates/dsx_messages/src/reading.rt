@@ -4,7 +4,8 @@ ghost use Rattle.std.specs.Prelude.{◌≡◌, ◌≢◌, ◌==◌, ◌||◌, �
 ghost use Rattle.tlv24.specs.Tlv.{front_of};
 ghost use Rattle.tlv24.specs.Flow.{word, long, values_of};
 ghost use Rattle.dsx_messages.specs.TlvType.{upstream_service_flow};
-ghost use Rattle.dsx_messages.specs.Reading.{id_of_fault, Gives, Fails, flow_in, flows_read_after, flows_in, request_with_flows, flows_request_of, deletion_of, ack_of, message_of, HoldsFlows, HoldsFlowsBehindTid, BringsFlows};
+ghost use Rattle.lists.specs.Results.{Gives, Fails};
+ghost use Rattle.dsx_messages.specs.Reading.{id_of_fault, message_cause, flow_in, flows_read_after, flows_in, request_with_flows, flows_request_of, deletion_of, ack_of, message_of, HoldsFlows, HoldsFlowsBehindTid, BringsFlows};
 ghost use Rattle.dsx_messages.specs.Survey.{left_out_kind, first_some, flow_count, IsSurveyed, IsCutSurvey};
 ghost use Rattle.dsx_messages.specs.Message.{Says, IsFirstMessageFault};
 ghost use Rattle.dsx_messages.specs.declared.kind.Kind.TheVariants.{Dsd};
@@ -118,7 +119,7 @@ fn flows_of(
     list: &[u8],
     count: usize,
 ) -> Result<Vec<FlowTlv>, MessageFault>
-    ensures { Gives (λ flows. flows.items) result (flows_read_after tid kind []
+    ensures { Gives message_cause (λ flows. flows.items) result (flows_read_after tid kind []
         (values_of upstream_service_flow (front_of list.now).tlvs)) }
 {
     let mut flows = Vec::with_capacity(alloc, count)?;
@@ -136,7 +137,7 @@ fn flows_of(
 /// Returns what the TLVs of a request say.
 #[tactic(auto, unfolding(crate::specs::Reading::flows_in))]
 fn flows_in(alloc: Global, tid: u16, kind: Kind, list: &[u8]) -> Result<FlowEncodings, MessageFault>
-    ensures exact { Gives (λ flows. flows) result (flows_in tid kind list.now) }
+    ensures exact { Gives message_cause (λ flows. flows) result (flows_in tid kind list.now) }
     ensures memory { result ≡ Err NoMemory → HoldsFlows list.now }
 {
     match survey_of(list) {
@@ -183,7 +184,7 @@ fn request_with_flows(kind: Kind, tid: u16, flows: FlowEncodings) -> Request
 #[inline(always)]
 fn flows_request_of(alloc: Global, kind: Kind, body: &[u8]) -> Result<Message, MessageFault>
     requires { kind ≢ Dsd }
-    ensures exact { Gives (λ message. message) result (flows_request_of kind body.now) }
+    ensures exact { Gives message_cause (λ message. message) result (flows_request_of kind body.now) }
     ensures memory { result ≡ Err NoMemory → HoldsFlowsBehindTid body.now }
 {
     let [high, low, list @ ..] = body else {
@@ -223,7 +224,7 @@ fn ack_of(kind: Kind, body: &[u8]) -> Result<Message, MessageFault>
 
 #[tactic(auto, unfolding(crate::specs::Reading::message_of))]
 fn message_of(alloc: Global, bytes: &[u8]) -> Result<Message, MessageFault>
-    ensures exact { Gives (λ message. message) result (message_of bytes.now) }
+    ensures exact { Gives message_cause (λ message. message) result (message_of bytes.now) }
     ensures memory { result ≡ Err NoMemory → BringsFlows bytes.now }
 {
     let [mtype, body @ ..] = bytes else {
@@ -247,10 +248,10 @@ fn message_of(alloc: Global, bytes: &[u8]) -> Result<Message, MessageFault>
 pub fn read(alloc: Global, bytes: &[u8]) -> Result<Message, MessageFault>
     // What is read is what the bytes say, and what they say is read, unless memory runs out.
     ensures found { IfOk result (Says bytes.now) }
-    ensures only { (m : Message) → Says bytes.now m → Gives (λ message. message) result (Ok m) }
+    ensures only { (m : Message) → Says bytes.now m → Gives message_cause (λ message. message) result (Ok m) }
     // Else the first fault.
     ensures fault { IfErr result (IsFirstMessageFault bytes.now) }
-    ensures exact { Gives (λ message. message) result (message_of bytes.now) }
+    ensures exact { Gives message_cause (λ message. message) result (message_of bytes.now) }
     // Memory runs out only where the flow encodings of a request are kept.
     ensures memory { result ≡ Err NoMemory → BringsFlows bytes.now }
 {

@@ -14,7 +14,7 @@ use Rattle.param_sets.specs.Units.{UnitSizes}
 use Rattle.flow_table.specs.declared.flow.Flow.{Flow}
 use Rattle.flow_table.specs.Flow.{committed_of}
 use Rattle.flow_table.specs.Table.{HaveOwnSids, flow_at, flow_with, sid_if, is_sid, sids_of, with_flow, committed_minislots, committed_elements}
-use Rattle.flow_table.specs.Index.{IsIndex, IsFlowTable, sfid_at, with_sid_of, without_sid_of, rows_of}
+use Rattle.flow_table.specs.Index.{IsIndex, IsFlowTable, sfid_at, with_sid_of, without_sid_of, budgets_of}
 use Rattle.flow_table.proofs.EntryLemmas.{looked_first, looked_past, none_later, put_here, put_elsewhere, taken_here, taken_elsewhere, ascending_put, ascending_taken, ascending_none, length_put_there, length_taken}
 use Rattle.flow_table.proofs.RowLemmas.{rows_put, rows_taken, length_rows, minislots_rows, elements_rows}
 
@@ -211,7 +211,7 @@ module _ {flows : List (ℕ × Flow)} {index : List (ℕ × ℕ)} (kept : IsInde
 -- ---- the table after an edit
 
 module _ {capacity : ℕ} {units : UnitSizes} {flows : List (ℕ × Flow)} {index : List (ℕ × ℕ)} {ledger : LedgerView} (kept : IsFlowTable capacity units flows index ledger) (sfid : ℕ) where
-  rows_after : (flow : Flow) → insert_entry nat_cmp ledger.rows sfid (committed_of units flow) ≡ rows_of units (with_flow sfid flow flows)
+  rows_after : (flow : Flow) → insert_entry nat_cmp ledger.rows sfid (committed_of units flow) ≡ budgets_of units (with_flow sfid flow flows)
   rows_after flow = ap (λ (l : List _). insert_entry nat_cmp l sfid (committed_of units flow)) kept.rows ∙ rows_put units flows sfid flow
 
   -- there is room for the row

@@ -12,7 +12,7 @@ use Rattle.flow_table.specs.declared.flow.Flow.{Flow}
 use Rattle.flow_table.specs.declared.flows.Moved.{Moved}
 use Rattle.flow_table.specs.Flow.{committed_of}
 use Rattle.flow_table.specs.Table.{flow_at, sid_if, is_sid, with_flow}
-use Rattle.flow_table.specs.Index.{IsIndex, IsFlowTable, without_sid_of, rows_of}
+use Rattle.flow_table.specs.Index.{IsIndex, IsFlowTable, without_sid_of, budgets_of}
 use Rattle.flow_table.specs.Moved.{change_if, change_at, told_of}
 use Rattle.flow_table.proofs.EntryLemmas.{written, put_same, length_put_there}
 use Rattle.flow_table.proofs.RowLemmas.{rows_put}
@@ -42,9 +42,9 @@ module _ {capacity : ℕ} {units : UnitSizes} {flows : List (ℕ × Flow)} {inde
   some_moved old at sid committed =
       let had : sid_if (flow_at sfid flows) ≡ (change old).sid = ap sid_if at ∙ sym sid in
       let there : IsSome (flow_at sfid flows) = subst IsSome (sym at) refl in
-      let rows : rows_of units (with_flow sfid (change old) flows) ≡ rows_of units flows =
-      sym (rows_put units flows sfid (change old)) ∙ (ap (λ b. insert_entry nat_cmp (rows_of units flows) sfid b) committed
-      ∙ (rows_put units flows sfid old ∙ ap (rows_of units) (put_same flows sfid old kept.indexed.ascending at))) in
+      let rows : budgets_of units (with_flow sfid (change old) flows) ≡ budgets_of units flows =
+      sym (rows_put units flows sfid (change old)) ∙ (ap (λ b. insert_entry nat_cmp (budgets_of units flows) sfid b) committed
+      ∙ (rows_put units flows sfid old ∙ ap (budgets_of units) (put_same flows sfid old kept.indexed.ascending at))) in
       record {
         within = omega (arith, kept.within, length_put_there flows sfid (change old) kept.indexed.ascending there);
         indexed = subst (λ (l : List (ℕ × ℕ)). IsIndex (with_flow sfid (change old) flows) l)

@@ -12,7 +12,7 @@ use Rattle.param_sets.specs.Units.{UnitSizes}
 use Rattle.flow_table.specs.declared.flow.Flow.{Flow}
 use Rattle.flow_table.specs.Flow.{committed_of}
 use Rattle.flow_table.specs.Table.{with_flow, committed_minislots, committed_elements}
-use Rattle.flow_table.specs.Index.{rows_of}
+use Rattle.flow_table.specs.Index.{budgets_of}
 
 -- ---- each value by a function
 
@@ -48,17 +48,17 @@ module _ {X Y : Type 0} (f : X → Y) where
 -- ---- the rows
 
 module _ (units : UnitSizes) where
-  pub rows_put : (flows : List (ℕ × Flow)) (sfid : ℕ) (flow : Flow) → insert_entry nat_cmp (rows_of units flows) sfid (committed_of units flow) ≡ rows_of units (with_flow sfid flow flows)
+  pub rows_put : (flows : List (ℕ × Flow)) (sfid : ℕ) (flow : Flow) → insert_entry nat_cmp (budgets_of units flows) sfid (committed_of units flow) ≡ budgets_of units (with_flow sfid flow flows)
   rows_put flows sfid flow = put_by (committed_of units) flows sfid flow
 
-  pub rows_taken : (flows : List (ℕ × Flow)) (sfid : ℕ) → remove_entry (is_at (nat_cmp sfid)) (rows_of units flows) ≡ rows_of units (remove_entry (is_at (nat_cmp sfid)) flows)
+  pub rows_taken : (flows : List (ℕ × Flow)) (sfid : ℕ) → remove_entry (is_at (nat_cmp sfid)) (budgets_of units flows) ≡ budgets_of units (remove_entry (is_at (nat_cmp sfid)) flows)
   rows_taken flows sfid = taken_by (committed_of units) flows sfid
 
-  pub length_rows : (flows : List (ℕ × Flow)) → length (rows_of units flows) ≡ length flows
+  pub length_rows : (flows : List (ℕ × Flow)) → length (budgets_of units flows) ≡ length flows
   length_rows flows = length-map flows (λ (e : ℕ × Flow). (e.0, committed_of units e.1))
 
-  pub minislots_rows : (flows : List (ℕ × Flow)) → total_minislots (rows_of units flows) ≡ committed_minislots units flows
+  pub minislots_rows : (flows : List (ℕ × Flow)) → total_minislots (budgets_of units flows) ≡ committed_minislots units flows
   minislots_rows flows = sum_by_each (committed_of units) (λ b. b.minislots) flows
 
-  pub elements_rows : (flows : List (ℕ × Flow)) → total_elements (rows_of units flows) ≡ committed_elements units flows
+  pub elements_rows : (flows : List (ℕ × Flow)) → total_elements (budgets_of units flows) ≡ committed_elements units flows
   elements_rows flows = sum_by_each (committed_of units) (λ b. b.elements) flows

@@ -11,7 +11,7 @@ use Rattle.admission.proofs.FreeLemmas.{least_free_iff}
 use Rattle.flow_table.specs.declared.flow.Flow.{Flow}
 use Rattle.flow_table.specs.declared.flow.Pending.{Pending}
 use Rattle.flow_table.specs.Flow.{flow_after_ack, taken_back, flow_after_request, flow_after_grant, with_pending, without_pending}
-use Rattle.flow_table.specs.Table.{FlowTable, MayStand, HaveOwnSids, flow_at, flow_with, sid_if, sids_of, with_flow}
+use Rattle.flow_table.specs.Table.{FlowTable, HasRoomFor, HaveOwnSids, flow_at, flow_with, sid_if, sids_of, with_flow}
 use Rattle.flow_table.proofs.EntryLemmas.{looked_first, looked_past, none_later, put_here, put_elsewhere, length_put, length_put_there}
 use Rattle.flow_table.proofs.IndexLemmas.{cases_sid, is_sid_yes, is_sid_no, found}
 
@@ -26,7 +26,7 @@ unused_sid sids flows sfid flow free = IfSome_then flow.sid free (λ sid e. inl 
 
 -- where there is room for one more, with an unused SID or none
 pub new_may_stand : (table : FlowTable) (sids : Numbers) (sfid : ℕ) (flow : Flow) → length table.flows < table.capacity → IfSome flow.sid (λ sid. least_free_of sids (sids_of table.flows) ≡ Some sid)
-    → MayStand table sfid flow
+    → HasRoomFor table sfid flow
 new_may_stand table sids sfid flow room free = record {
   sid = unused_sid sids table.flows sfid flow free;
   room = omega (arith, length_put table.flows sfid flow);
@@ -34,7 +34,7 @@ new_may_stand table sids sfid flow room free = record {
 
 -- in place of the flow of this SFID, with its SID or none
 pub known_may_stand : (table : FlowTable) (sfid : ℕ) (flow : Flow) → IsStrictlySortedBy nat_cmp (keys_of table.flows) → length table.flows ≤ table.capacity → IsSome (flow_at sfid table.flows)
-    → IfSome flow.sid (λ sid. sid_if (flow_at sfid table.flows) ≡ Some sid) → MayStand table sfid flow
+    → IfSome flow.sid (λ sid. sid_if (flow_at sfid table.flows) ≡ Some sid) → HasRoomFor table sfid flow
 known_may_stand table sfid flow ascending within there own = record {
   sid = IfSome_then flow.sid own (λ sid e. inr e);
   room = omega (arith, length_put_there table.flows sfid flow ascending there);
@@ -42,7 +42,7 @@ known_may_stand table sfid flow ascending within there own = record {
 
 -- in place of the flow of this SFID, with an unused SID or none
 pub known_may_stand_anew : (table : FlowTable) (sids : Numbers) (sfid : ℕ) (flow : Flow) → IsStrictlySortedBy nat_cmp (keys_of table.flows) → length table.flows ≤ table.capacity → IsSome (flow_at sfid table.flows)
-    → IfSome flow.sid (λ sid. least_free_of sids (sids_of table.flows) ≡ Some sid) → MayStand table sfid flow
+    → IfSome flow.sid (λ sid. least_free_of sids (sids_of table.flows) ≡ Some sid) → HasRoomFor table sfid flow
 known_may_stand_anew table sids sfid flow ascending within there free = record {
   sid = unused_sid sids table.flows sfid flow free;
   room = omega (arith, length_put_there table.flows sfid flow ascending there);
@@ -57,21 +57,21 @@ same_or : (o : Option ℕ) (flows : List (ℕ × Flow)) (sfid : ℕ) → sid_if 
 same_or None flows sfid e = tt
 same_or (Some sid) flows sfid e = inr e
 
-pub new_with_unused_sid : (table : FlowTable) (sfid : ℕ) (flow : Flow) → IfSome flow.sid (λ n. ¬ Contains (sids_of table.flows) n) → length table.flows < table.capacity → MayStand table sfid flow
+pub new_with_unused_sid : (table : FlowTable) (sfid : ℕ) (flow : Flow) → IfSome flow.sid (λ n. ¬ Contains (sids_of table.flows) n) → length table.flows < table.capacity → HasRoomFor table sfid flow
 new_with_unused_sid table sfid flow unused room = record {
   sid = unused_or flow.sid table.flows sfid unused;
   room = omega (arith, length_put table.flows sfid flow);
 }
 
 pub known_with_unused_sid : (table : FlowTable) (sfid : ℕ) (flow : Flow) → IfSome flow.sid (λ n. ¬ Contains (sids_of table.flows) n) → IsSome (flow_at sfid table.flows)
-    → IsStrictlySortedBy nat_cmp (keys_of table.flows) → length table.flows ≤ table.capacity → MayStand table sfid flow
+    → IsStrictlySortedBy nat_cmp (keys_of table.flows) → length table.flows ≤ table.capacity → HasRoomFor table sfid flow
 known_with_unused_sid table sfid flow unused there ascending within = record {
   sid = unused_or flow.sid table.flows sfid unused;
   room = omega (arith, length_put_there table.flows sfid flow ascending there);
 }
 
 pub known_with_its_sid : (table : FlowTable) (sfid : ℕ) (flow : Flow) → sid_if (flow_at sfid table.flows) ≡ flow.sid → IsSome (flow_at sfid table.flows)
-    → IsStrictlySortedBy nat_cmp (keys_of table.flows) → length table.flows ≤ table.capacity → MayStand table sfid flow
+    → IsStrictlySortedBy nat_cmp (keys_of table.flows) → length table.flows ≤ table.capacity → HasRoomFor table sfid flow
 known_with_its_sid table sfid flow same there ascending within = record {
   sid = same_or flow.sid table.flows sfid same;
   room = omega (arith, length_put_there table.flows sfid flow ascending there);

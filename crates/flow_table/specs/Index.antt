@@ -12,8 +12,8 @@ use Rattle.flow_table.specs.Flow.{committed_of}
 use Rattle.flow_table.specs.Table.{flow_at, sid_if, is_sid}
 
 -- the row of each flow: its SFID, and what it has committed
-abbrev pub rows_of : UnitSizes → List (ℕ × Flow) → List (ℕ × Budget)
-rows_of units flows = map (λ entry. (entry.0, committed_of units entry.1)) flows
+abbrev pub budgets_of : UnitSizes → List (ℕ × Flow) → List (ℕ × Budget)
+budgets_of units flows = map (λ entry. (entry.0, committed_of units entry.1)) flows
 
 -- the SFID that the index gives for a SID
 abbrev pub sfid_at : ℕ → List (ℕ × ℕ) → Option ℕ
@@ -30,7 +30,7 @@ pub record IsFlowTable (capacity : ℕ) (units : UnitSizes) (flows : List (ℕ �
   pub within : length flows ≤ capacity
   pub indexed : IsIndex flows index
   pub room : ledger.room ≡ capacity
-  pub rows : ledger.rows ≡ rows_of units flows
+  pub rows : ledger.rows ≡ budgets_of units flows
 
 -- the index with this SFID for this SID, where there is one
 abbrev pub with_sid_of : Option ℕ → ℕ → List (ℕ × ℕ) → List (ℕ × ℕ)

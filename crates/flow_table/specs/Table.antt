@@ -53,7 +53,7 @@ abbrev pub with_flow : ℕ → Flow → List (ℕ × Flow) → List (ℕ × Flow
 with_flow sfid flow flows = insert_entry nat_cmp flows sfid flow
 
 -- a flow may be under an SFID: its SID is nobody's or is that flow's already, and there is room for it
-pub record MayStand (table : FlowTable) (sfid : ℕ) (flow : Flow) : Type 0 where
+pub record HasRoomFor (table : FlowTable) (sfid : ℕ) (flow : Flow) : Type 0 where
   pub sid : IfSome flow.sid (λ sid. (¬ Contains (sids_of table.flows) sid) ⊎ (sid_if (flow_at sfid table.flows) ≡ Some sid))
   pub room : length (with_flow sfid flow table.flows) ≤ table.capacity
 

@@ -7,7 +7,7 @@ ghost use Rattle.std.specs.Ordering.{nat_cmp};
 ghost use Rattle.std.specs.Map.{keys_of, lookup, remove_entry};
 ghost use Rattle.std.specs.BTreeMap.{insert_entry, is_at};
 ghost use Rattle.admission.specs.Free.{IsLeastFree, least_free_of};
-ghost use Rattle.flow_table.specs.Table.{flow_at, flow_with, sid_if, sfids_of, sids_of, with_flow, committed_minislots, committed_elements, MayStand, HaveOwnSids, flowing_in, flowing_of_set};
+ghost use Rattle.flow_table.specs.Table.{flow_at, flow_with, sid_if, sfids_of, sids_of, with_flow, committed_minislots, committed_elements, HasRoomFor, HaveOwnSids, flowing_in, flowing_of_set};
 ghost use Rattle.flow_table.specs.Flow.{flow_after_ack, taken_back, flow_after_request, flow_after_grant};
 ghost use Rattle.flow_table.specs.Gap.{gap_from};
 ghost use Rattle.flow_table.specs.Index.{with_sid_of, without_sid_of};
@@ -139,7 +139,7 @@ impl Flows {
     /// Puts a flow under an SFID, in place of the one that is there. At `AllocError` nothing has changed.
     #[inline(always)]
     pub fn put_flow(&mut self, sfid: u32, flow: &Flow) -> Result<(), AllocError>
-        requires { MayStand self.old sfid flow.now }
+        requires { HasRoomFor self.old sfid flow.now }
         ensures ok { OnOk result (self.new ≡ record self.old { flows = with_flow sfid flow.now self.old.flows }) }
         ensures err { OnErr result (self.new ≡ self.old) }
     {

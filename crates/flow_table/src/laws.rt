@@ -6,7 +6,7 @@ ghost use Rattle.std.specs.Ordering.{nat_cmp};
 ghost use Rattle.std.specs.Map.{keys_of};
 ghost use Rattle.admission.specs.Free.{Numbers, least_free_of};
 ghost use Rattle.flow_table.specs.declared.flow.Flow.{Flow};
-ghost use Rattle.flow_table.specs.Table.{FlowTable, MayStand, HaveOwnSids, flow_at, flow_with, sid_if, sids_of, with_flow};
+ghost use Rattle.flow_table.specs.Table.{FlowTable, HasRoomFor, HaveOwnSids, flow_at, flow_with, sid_if, sids_of, with_flow};
 
 /// States that where there is room for one more flow, it may be under any SFID with the least free
 /// SID, or with none.
@@ -14,7 +14,7 @@ pub fn new_flow_may_stand()
     ensures { (table : FlowTable) (sids : Numbers) (sfid : ℕ) (flow : Flow)
         → length table.flows < table.capacity
         → IfSome flow.sid (λ sid. least_free_of sids (sids_of table.flows) ≡ Some sid)
-        → MayStand table sfid flow }
+        → HasRoomFor table sfid flow }
 {}
 
 /// States that a flow may be in place of another with the SID of that one, or with none.
@@ -25,7 +25,7 @@ pub fn known_flow_may_stand()
         → length table.flows ≤ table.capacity
         → IsSome (flow_at sfid table.flows)
         → IfSome flow.sid (λ sid. sid_if (flow_at sfid table.flows) ≡ Some sid)
-        → MayStand table sfid flow }
+        → HasRoomFor table sfid flow }
 {}
 
 /// States that a flow may be in place of another with the least free SID, or with none.
@@ -35,7 +35,7 @@ pub fn known_flow_may_stand_anew()
         → length table.flows ≤ table.capacity
         → IsSome (flow_at sfid table.flows)
         → IfSome flow.sid (λ sid. least_free_of sids (sids_of table.flows) ≡ Some sid)
-        → MayStand table sfid flow }
+        → HasRoomFor table sfid flow }
 {}
 
 /// States that a flow that is put under an SFID is the flow there, and the flows of the other SFIDs

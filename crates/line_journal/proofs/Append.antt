@@ -1,9 +1,9 @@
 -- What a crash leaves in each step of adding a batch.
 use Rattle.std.proofs.Common.{◌≡◌, inl, inr, ⊎_elim, ℕ, ◌+◌, ◌≤◌, List, [], ◌∷◌, ◌++◌, length, get_or, take, drop, ◌∙◌, ap, subst, arith, length-append}
 use Rattle.std.specs.Prelude.{Some}
-use Rattle.line_journal.specs.Device.{Holds, Torn, Follows, Only}
+use Rattle.line_journal.specs.Device.{IsOverwritten, Torn, Follows, Only}
 use Rattle.line_journal.specs.Lines.{marked_lines, records}
-use Rattle.line_journal.specs.Journal.{JournalContent, shut_text, text_of, journal_content, IsBeforeOrAfter}
+use Rattle.line_journal.specs.Journal.{JournalContent, shut_text, journal_text, journal_content, IsBeforeOrAfter}
 use Rattle.line_journal.proofs.Files.{torn_behind, written_behind, torn_gate, written_gate}
 use Rattle.line_journal.proofs.StoredLaws.{AreLines, shut_gate, front, front_and_gate, after_front, longer, text_longer, gate_byte, gate_first, gate_and_behind, any_gate}
 
@@ -15,7 +15,7 @@ Left stored new c = IsBeforeOrAfter (Some stored) (Some (longer stored new)) c
 abbrev pub staged : JournalContent → List (List ℕ) → List ℕ
 staged stored new = front stored ++ 45 ∷ drop 1 (shut_text new)
 
-module _ (stored : JournalContent) (new : List (List ℕ)) (gate : ℕ) (each : AreLines stored.snapshot) (each_line : AreLines stored.lines) (each_new : AreLines new) (size : gate + 1 ≡ length (text_of stored)) where
+module _ (stored : JournalContent) (new : List (List ℕ)) (gate : ℕ) (each : AreLines stored.snapshot) (each_line : AreLines stored.lines) (each_new : AreLines new) (size : gate + 1 ≡ length (journal_text stored)) where
   front_size : gate ≡ length (front stored)
   front_size = omega (arith, size, ap length (front_and_gate stored), length-append (front stored) (45 ∷ []))
 
@@ -26,16 +26,16 @@ module _ (stored : JournalContent) (new : List (List ℕ)) (gate : ℕ) (each : 
   with_these lines rest c is are =
       ap journal_content is ∙ after_front stored rest each ∙ ap (λ (ls : List (List ℕ)). Some (record { snapshot = stored.snapshot; lines = ls })) are
 
-  pub behind_crash : (n : ℕ) (file : List ℕ) (old later : List ℕ → Type 0) → file ≡ text_of stored → Only file old → Follows (Torn (gate + 1) n) old later
+  pub behind_crash : (n : ℕ) (file : List ℕ) (old later : List ℕ → Type 0) → file ≡ journal_text stored → Only file old → Follows (Torn (gate + 1) n) old later
       → (c : List ℕ) → later c → Left stored new c
   behind_crash n file old later is only follows c left =
       let from = follows c left in
       let torn = subst (λ (f : List ℕ). Torn (gate + 1) n f c) (only from.0 from.1 ∙ is ∙ front_and_gate stored) from.2 in
       inl (with_these stored.lines (45 ∷ drop (gate + 1) c) c (torn_behind (front stored) gate front_size n c torn) (shut_gate stored.lines (drop (gate + 1) c) each_line))
 
-  pub is_staged : (file c bytes : List ℕ) → file ≡ text_of stored → bytes ≡ drop 1 (shut_text new) → Holds file (gate + 1) bytes c → c ≡ staged stored new
+  pub is_staged : (file c bytes : List ℕ) → file ≡ journal_text stored → bytes ≡ drop 1 (shut_text new) → IsOverwritten file (gate + 1) bytes c → c ≡ staged stored new
   is_staged file c bytes is are holds =
-      written_behind (front stored) gate front_size bytes c (subst (λ (f : List ℕ). Holds f (gate + 1) bytes c) (is ∙ front_and_gate stored) holds)
+      written_behind (front stored) gate front_size bytes c (subst (λ (f : List ℕ). IsOverwritten f (gate + 1) bytes c) (is ∙ front_and_gate stored) holds)
       ∙ ap (λ (t : List ℕ). front stored ++ 45 ∷ t) are
 
   pub gate_crash : (n : ℕ) (file : List ℕ) (old later : List ℕ → Type 0) → n ≡ 1 → file ≡ staged stored new → Only file old → Follows (Torn gate n) old later
@@ -48,14 +48,14 @@ module _ (stored : JournalContent) (new : List (List ℕ)) (gate : ℕ) (each : 
       let rest = get_or c gate 0 ∷ drop 1 (shut_text new) in
       ⊎_elim (λ none. inl (with_these stored.lines rest c file_is none)) (λ all. inr (with_these (stored.lines ++ new) rest c file_is all)) (any_gate stored.lines new (get_or c gate 0) each_line each_new)
 
-  pub is_opened : (file c bytes : List ℕ) → file ≡ staged stored new → bytes ≡ take 1 (shut_text new) → Holds file gate bytes c → c ≡ text_of (longer stored new)
+  pub is_opened : (file c bytes : List ℕ) → file ≡ staged stored new → bytes ≡ take 1 (shut_text new) → IsOverwritten file gate bytes c → c ≡ journal_text (longer stored new)
   is_opened file c bytes is are holds =
-      let here = subst (λ (f : List ℕ). Holds f gate bytes c) is holds in
-      let byte = subst (λ (bs : List ℕ). Holds (staged stored new) gate bs c) (are ∙ gate_first new) here in
+      let here = subst (λ (f : List ℕ). IsOverwritten f gate bytes c) is holds in
+      let byte = subst (λ (bs : List ℕ). IsOverwritten (staged stored new) gate bs c) (are ∙ gate_first new) here in
       written_gate (front stored) gate front_size (gate_byte new) (drop 1 (shut_text new)) c byte
       ∙ ap (λ (t : List ℕ). front stored ++ t) (gate_and_behind new)
       ∙ text_longer stored new
 
-  pub longer_size : (n : ℕ) → n ≡ length (drop 1 (shut_text new)) → gate + n + 1 ≡ length (text_of (longer stored new))
+  pub longer_size : (n : ℕ) → n ≡ length (drop 1 (shut_text new)) → gate + n + 1 ≡ length (journal_text (longer stored new))
   longer_size n is =
       omega (arith, is, front_size, ap length (text_longer stored new), length-append (front stored) (shut_text new), ap length (gate_and_behind new))

@@ -1,7 +1,7 @@
 -- What a write and a cut at the end of a file may leave, whatever stands in front.
 use Rattle.std.proofs.Common.{◌≡◌, ℕ, zero, suc, ◌+◌, ◌-◌, ◌≤◌, List, [], ◌∷◌, ◌++◌, length, get_or, take, drop, sym, ◌∙◌, ap, arith, append_assoc, length-append, length-drop, take-append-drop}
 use Rattle.std.proofs.lemmas.List.{take_at, drop_at, drop_more, take_all, drop_all, append-nil}
-use Rattle.line_journal.specs.Device.{Holds, Torn, Cut}
+use Rattle.line_journal.specs.Device.{IsOverwritten, Torn, Cut}
 
 take_past : (xs ys : List ℕ) (m n : ℕ) → m ≡ length xs + n → take m (xs ++ ys) ≡ xs ++ take n ys
 take_past [] ys m n is = let same : m ≡ n = omega arith in ap (λ (k : ℕ). take k ys) same
@@ -18,7 +18,7 @@ module _ (front : List ℕ) (gate : ℕ) (size : gate ≡ length front) where
       let same : take (gate + 1) c ≡ front ++ 45 ∷ [] = torn.before ∙ take_all _ _ (omega (arith, shut_size)) in
       sym (take-append-drop (gate + 1) c) ∙ ap (λ (l : List ℕ). l ++ drop (gate + 1) c) same ∙ append_assoc front (45 ∷ []) (drop (gate + 1) c)
 
-  pub written_behind : (bytes c : List ℕ) → Holds (front ++ 45 ∷ []) (gate + 1) bytes c → c ≡ front ++ 45 ∷ bytes
+  pub written_behind : (bytes c : List ℕ) → IsOverwritten (front ++ 45 ∷ []) (gate + 1) bytes c → c ≡ front ++ 45 ∷ bytes
   written_behind bytes c holds =
       holds
       ∙ ap (λ (l : List ℕ). l ++ bytes ++ drop (gate + 1 + length bytes) (front ++ 45 ∷ [])) (take_all _ _ (omega (arith, shut_size)))
@@ -37,7 +37,7 @@ module _ (front : List ℕ) (gate : ℕ) (size : gate ≡ length front) where
       drop_more c gate 0 (omega (arith, size, long, torn.no_shorter)) ∙ ap (λ (l : List ℕ). get_or c gate 0 ∷ l) (torn.after ∙ back bytes) in
       sym (take-append-drop gate c) ∙ ap (λ (l : List ℕ). l ++ drop gate c) (torn.before ∙ take_at front (45 ∷ bytes) gate (sym size)) ∙ ap (λ (l : List ℕ). front ++ l) rest
 
-  pub written_gate : (byte : ℕ) (bytes c : List ℕ) → Holds (front ++ 45 ∷ bytes) gate (byte ∷ []) c → c ≡ front ++ byte ∷ bytes
+  pub written_gate : (byte : ℕ) (bytes c : List ℕ) → IsOverwritten (front ++ 45 ∷ bytes) gate (byte ∷ []) c → c ≡ front ++ byte ∷ bytes
   written_gate byte bytes c holds =
       holds
       ∙ ap (λ (l : List ℕ). l ++ (byte ∷ []) ++ drop (gate + 1) (front ++ 45 ∷ bytes)) (take_at front (45 ∷ bytes) gate (sym size))
@@ -59,7 +59,7 @@ module _ (front : List ℕ) (gate : ℕ) (size : gate ≡ length front) where
         omega (arith, length-drop gate c, size, torn.no_longer),
       )
 
-  pub written_end : (c : List ℕ) → Holds front gate (45 ∷ []) c → c ≡ front ++ 45 ∷ []
+  pub written_end : (c : List ℕ) → IsOverwritten front gate (45 ∷ []) c → c ≡ front ++ 45 ∷ []
   written_end c holds =
       holds
       ∙ ap (λ (l : List ℕ). l ++ (45 ∷ []) ++ drop (gate + 1) front) (take_all gate front (omega (arith, size)))

@@ -1,9 +1,9 @@
 -- What a crash leaves so far, from one device call of `recover` to the next.
 use Rattle.std.proofs.Common.{◌≡◌, ℕ, List, [], ◌∷◌, ◌++◌, length, take, sym, ◌∙◌, ap, subst, arith, length-append}
 use Rattle.std.specs.Prelude.{Option, Some, IfSome}
-use Rattle.line_journal.specs.Device.{Holds, Torn, Cut, Follows, Only, Elapses}
+use Rattle.line_journal.specs.Device.{IsOverwritten, Torn, Cut, Follows, Only, Elapses}
 use Rattle.line_journal.specs.Lines.{records}
-use Rattle.line_journal.specs.Journal.{JournalContent, snapshot_text, text_of, journal_content, IsSettled}
+use Rattle.line_journal.specs.Journal.{JournalContent, snapshot_lines, journal_text, journal_content, IsJournalSettled}
 use Rattle.line_journal.specs.Found.{texts, found_of}
 use Rattle.line_journal.specs.declared.recovery.Recovered.{Recovered}
 use Rattle.line_journal.proofs.Moments.{SoFar, at_start, step}
@@ -18,8 +18,8 @@ stored_of found = record { snapshot = texts found.snapshot.items; lines = texts 
 pub is_found : (file : List ℕ) (option : Option Recovered) (found : Recovered) → option ≡ Some found → found_of option ≡ journal_content file → journal_content file ≡ Some (stored_of found)
 is_found file option found is found_is = sym found_is ∙ ap found_of is
 
-pub gate_is : (option : Option Recovered) (found : Recovered) → option ≡ Some found → IfSome option (λ f. f.gate ≡ length (snapshot_text (texts f.snapshot.items) ++ records 43 (texts f.lines.items))) → found.gate ≡ length (front (stored_of found))
-gate_is option found is gate = subst (λ (o : Option Recovered). IfSome o (λ f. f.gate ≡ length (snapshot_text (texts f.snapshot.items) ++ records 43 (texts f.lines.items)))) is gate
+pub gate_is : (option : Option Recovered) (found : Recovered) → option ≡ Some found → IfSome option (λ f. f.gate ≡ length (snapshot_lines (texts f.snapshot.items) ++ records 43 (texts f.lines.items))) → found.gate ≡ length (front (stored_of found))
+gate_is option found is gate = subst (λ (o : Option Recovered). IfSome o (λ f. f.gate ≡ length (snapshot_lines (texts f.snapshot.items) ++ records 43 (texts f.lines.items)))) is gate
 
 module _ {D : Type 0} (seen : D → List ℕ) (may_leave : D → List ℕ → Type 0) (moment : D → ℕ) (left_since : D → ℕ → List ℕ → Type 0)
     (old : D) (only : Only (seen old) (may_leave old)) where
@@ -45,13 +45,13 @@ module _ {D : Type 0} (seen : D → List ℕ) (may_leave : D → List ℕ → Ty
         step moment left_since may_leave old Same mid d so_far time (λ c now.
         gate_crash (seen old) stored is gate size file (may_leave mid) (may_leave d) at durable follows c now ∙ sym is)
 
-    pub text_is : (file c : List ℕ) → file ≡ front stored → Holds file gate (45 ∷ []) c → c ≡ text_of stored
+    pub text_is : (file c : List ℕ) → file ≡ front stored → IsOverwritten file gate (45 ∷ []) c → c ≡ journal_text stored
     text_is file c at holds = is_shut (seen old) stored is gate size file c at holds
 
-    pub same_again : (c : List ℕ) → c ≡ text_of stored → journal_content c ≡ journal_content (seen old)
+    pub same_again : (c : List ℕ) → c ≡ journal_text stored → journal_content c ≡ journal_content (seen old)
     same_again c at = ap journal_content at ∙ of_text stored (parts_of (seen old) stored is).each (lines_of (seen old) stored is) ∙ sym is
 
-    pub settled_again : (d : D) → seen d ≡ text_of stored → Only (seen d) (may_leave d) → IsSettled seen may_leave d gate
+    pub settled_again : (d : D) → seen d ≡ journal_text stored → Only (seen d) (may_leave d) → IsJournalSettled seen may_leave d gate
     settled_again d at durable =
         settled_as seen may_leave d gate stored (parts_of (seen old) stored is).each (lines_of (seen old) stored is) at
         (omega (arith, size, ap length (front_and_gate stored), length-append (front stored) (45 ∷ []))) durable

@@ -3,9 +3,9 @@ use Rattle.std.proofs.Common.{◌≡◌, inl, inr, ℕ, ◌-◌, ◌≤◌, List
 use Rattle.std.specs.Prelude.{Some}
 use Rattle.std.proofs.lemmas.List.{append-nil}
 use Rattle.std.proofs.lemmas.Bool.{cases_eq}
-use Rattle.line_journal.specs.Device.{Holds, Torn, Cut, Follows, Only}
+use Rattle.line_journal.specs.Device.{IsOverwritten, Torn, Cut, Follows, Only}
 use Rattle.line_journal.specs.Lines.{marked_lines, records}
-use Rattle.line_journal.specs.Journal.{JournalContent, snapshot_text, text_of, journal_content}
+use Rattle.line_journal.specs.Journal.{JournalContent, snapshot_lines, journal_text, journal_content}
 use Rattle.line_journal.proofs.LineLaws.{parts, front_nothing, closed, open_end}
 use Rattle.line_journal.proofs.Files.{any_cut, cut_done, torn_end, written_end}
 use Rattle.line_journal.proofs.StoredLaws.{plus, parts_of, lines_of, after_records, front, front_and_gate, after_front}
@@ -31,8 +31,8 @@ module _ (file : List ℕ) (stored : JournalContent) (is : journal_content file 
       record {
         end = p.end;
         split = journal.split
-            ∙ ap (λ (t : List ℕ). snapshot_text stored.snapshot ++ t) (p.split ∙ ap (λ (ls : List (List ℕ)). records 43 ls ++ p.end) (sym journal.lines))
-            ∙ sym (append_assoc (snapshot_text stored.snapshot) (records 43 stored.lines) p.end);
+            ∙ ap (λ (t : List ℕ). snapshot_lines stored.snapshot ++ t) (p.split ∙ ap (λ (ls : List (List ℕ)). records 43 ls ++ p.end) (sym journal.lines))
+            ∙ sym (append_assoc (snapshot_lines stored.snapshot) (records 43 stored.lines) p.end);
         nothing = p.nothing;
       }
 
@@ -62,6 +62,6 @@ module _ (file : List ℕ) (stored : JournalContent) (is : journal_content file 
       let end = torn_end (front stored) gate size c torn in
       ap journal_content end.0 ∙ nothing_after (drop gate c) (short_nothing (drop gate c) end.1)
 
-  pub is_shut : (now c : List ℕ) → now ≡ front stored → Holds now gate (45 ∷ []) c → c ≡ text_of stored
+  pub is_shut : (now c : List ℕ) → now ≡ front stored → IsOverwritten now gate (45 ∷ []) c → c ≡ journal_text stored
   is_shut now c at holds =
-      written_end (front stored) gate size c (subst (λ (f : List ℕ). Holds f gate (45 ∷ []) c) at holds) ∙ sym (front_and_gate stored)
+      written_end (front stored) gate size c (subst (λ (f : List ℕ). IsOverwritten f gate (45 ∷ []) c) at holds) ∙ sym (front_and_gate stored)

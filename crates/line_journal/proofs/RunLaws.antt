@@ -5,27 +5,27 @@ use Rattle.std.proofs.lemmas.List.{take_more}
 use Rattle.line_journal.specs.Device.{LeavesOnly}
 use Rattle.line_journal.specs.Journal.{JournalContent, IsBeforeOrAfter}
 use Rattle.line_journal.specs.declared.run.JournalChange.{JournalChange}
-use Rattle.line_journal.specs.Run.{after, after_all, IsAfterSome}
+use Rattle.line_journal.specs.Run.{content_after, after_all, IsAfterSome}
 
-after_push : (changes : List JournalChange) (change : JournalChange) (stored : Option JournalContent) → after_all (changes ++ change ∷ []) stored ≡ after change (after_all changes stored)
+after_push : (changes : List JournalChange) (change : JournalChange) (stored : Option JournalContent) → after_all (changes ++ change ∷ []) stored ≡ content_after change (after_all changes stored)
 after_push [] change stored = refl
-after_push (first ∷ changes) change stored = after_push changes change (after first stored)
+after_push (first ∷ changes) change stored = after_push changes change (content_after first stored)
 
 -- one change more
 pub one_more : (changes : List JournalChange) (i : ℕ) (change : JournalChange) (stored : Option JournalContent) → i < length changes → slice_index_or changes i change ≡ change
-    → after_all (take (i + 1) changes) stored ≡ after change (after_all (take i changes) stored)
+    → after_all (take (i + 1) changes) stored ≡ content_after change (after_all (take i changes) stored)
 one_more changes i change stored inside is =
     ap (λ (cs : List JournalChange). after_all cs stored) (take_more changes i change inside ∙ ap (λ (x : JournalChange). take i changes ++ x ∷ []) is)
     ∙ after_push (take i changes) change stored
 
 -- a crash in one change leaves what the changes before it made, or it too
 pub some_made : (changes : List JournalChange) (i : ℕ) (change : JournalChange) (first now : Option JournalContent) → i < length changes → slice_index_or changes i change ≡ change
-    → now ≡ after_all (take i changes) first → (c : List ℕ) → IsBeforeOrAfter now (after change now) c → IsAfterSome changes first c
+    → now ≡ after_all (take i changes) first → (c : List ℕ) → IsBeforeOrAfter now (content_after change now) c → IsAfterSome changes first c
 some_made changes i change first now inside is made c left = ⊎_elim (λ before. record { made = i; no_more = omega (arith, inside); stands_for = before ∙ made })
     (λ later. record {
       made = i + 1;
       no_more = omega (arith, inside);
-      stands_for = later ∙ ap (λ (o : Option JournalContent). after change o) made ∙ sym (one_more changes i change first inside is);
+      stands_for = later ∙ ap (λ (o : Option JournalContent). content_after change o) made ∙ sym (one_more changes i change first inside is);
     })
     left
 

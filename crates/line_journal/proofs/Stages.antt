@@ -1,9 +1,9 @@
 -- What a crash leaves so far, from one device call of `append` to the next.
 use Rattle.std.proofs.Common.{◌≡◌, inl, ℕ, ◌+◌, ◌-◌, ◌≤◌, List, [], ◌∷◌, ◌++◌, length, take, drop, sym, ◌∙◌, ap, subst, arith, length-append}
 use Rattle.std.specs.Prelude.{Option}
-use Rattle.line_journal.specs.Device.{Holds, Torn, Follows, Only, Elapses}
+use Rattle.line_journal.specs.Device.{IsOverwritten, Torn, Follows, Only, Elapses}
 use Rattle.line_journal.specs.Lines.{marked_lines}
-use Rattle.line_journal.specs.Journal.{JournalContent, snapshot_text, shut_text, text_of, journal_content, with_lines, fresh, IsSettled, IsBeforeOrAfter}
+use Rattle.line_journal.specs.Journal.{JournalContent, snapshot_lines, shut_text, journal_text, journal_content, with_lines, fresh, IsJournalSettled, IsBeforeOrAfter}
 use Rattle.line_journal.proofs.LineLaws.{parts}
 use Rattle.line_journal.proofs.Moments.{SoFar, at_start, step}
 use Rattle.line_journal.proofs.StoredLaws.{AreLines, plus, equals, parts_of, lines_of, longer, of_text}
@@ -15,8 +15,8 @@ batch_lines text new is = subst AreLines is (parts 43 plus text).each
 
 -- a file at rest, all of it on the disk
 pub settled_as : {D : Type 0} (seen : D → List ℕ) (may_leave : D → List ℕ → Type 0) (device : D) (gate : ℕ) (stored : JournalContent)
-    → AreLines stored.snapshot → AreLines stored.lines → seen device ≡ text_of stored → gate + 1 ≡ length (text_of stored) → Only (seen device) (may_leave device)
-    → IsSettled seen may_leave device gate
+    → AreLines stored.snapshot → AreLines stored.lines → seen device ≡ journal_text stored → gate + 1 ≡ length (journal_text stored) → Only (seen device) (may_leave device)
+    → IsJournalSettled seen may_leave device gate
 settled_as seen may_leave device gate stored each each_line is size only = record {
   stored = stored;
   stands_for = ap journal_content is ∙ of_text stored each each_line;
@@ -26,7 +26,7 @@ settled_as seen may_leave device gate stored each each_line is size only = recor
 }
 
 module _ {D : Type 0} (seen : D → List ℕ) (may_leave : D → List ℕ → Type 0) (moment : D → ℕ) (left_since : D → ℕ → List ℕ → Type 0)
-    (old : D) (gate : ℕ) (new : List (List ℕ)) (settled : IsSettled seen may_leave old gate) (each_new : AreLines new) where
+    (old : D) (gate : ℕ) (new : List (List ℕ)) (settled : IsJournalSettled seen may_leave old gate) (each_new : AreLines new) where
   stored : JournalContent
   stored = settled.stored
 
@@ -36,7 +36,7 @@ module _ {D : Type 0} (seen : D → List ℕ) (may_leave : D → List ℕ → Ty
   each_line : AreLines settled.stored.lines
   each_line = lines_of (seen old) settled.stored settled.stands_for
 
-  size : gate + 1 ≡ length (text_of settled.stored)
+  size : gate + 1 ≡ length (journal_text settled.stored)
   size = settled.gate_is_last ∙ ap length settled.file
 
   abbrev pub Outcome : List ℕ → Type 0
@@ -54,7 +54,7 @@ module _ {D : Type 0} (seen : D → List ℕ) (may_leave : D → List ℕ → Ty
       step moment left_since may_leave old Outcome old d so_far time (λ c now.
       outcome c (behind_crash settled.stored new gate each each_line each_new size n (seen old) (may_leave old) (may_leave d) settled.file settled.durable follows c now))
 
-  pub behind_gate : (d : D) (bytes : List ℕ) → bytes ≡ drop 1 (shut_text new) → Holds (seen old) (gate + 1) bytes (seen d) → seen d ≡ staged settled.stored new
+  pub behind_gate : (d : D) (bytes : List ℕ) → bytes ≡ drop 1 (shut_text new) → IsOverwritten (seen old) (gate + 1) bytes (seen d) → seen d ≡ staged settled.stored new
   behind_gate d bytes are holds = is_staged settled.stored new gate each each_line each_new size (seen old) (seen d) bytes settled.file are holds
 
   pub gate_inside : (d : D) → seen d ≡ staged settled.stored new → gate ≤ length (seen d)
@@ -68,10 +68,10 @@ module _ {D : Type 0} (seen : D → List ℕ) (may_leave : D → List ℕ → Ty
       outcome c (gate_crash settled.stored new gate each each_line each_new size n file (may_leave mid) (may_leave d) one is only follows c now))
 
   pub acknowledged : (n : ℕ) (file bytes : List ℕ) (d : D) → file ≡ staged settled.stored new → bytes ≡ take 1 (shut_text new) → n ≡ length (drop 1 (shut_text new))
-      → (file' : List ℕ) → Holds file gate bytes file' → seen d ≡ file' → Only file' (may_leave d)
-      → IsSettled seen may_leave d (gate + n) × (journal_content (seen d) ≡ with_lines new (journal_content (seen old)))
+      → (file' : List ℕ) → IsOverwritten file gate bytes file' → seen d ≡ file' → Only file' (may_leave d)
+      → IsJournalSettled seen may_leave d (gate + n) × (journal_content (seen d) ≡ with_lines new (journal_content (seen old)))
   acknowledged n file bytes d is are long file' holds same only =
-      let now : seen d ≡ text_of (longer settled.stored new) = same ∙ is_opened settled.stored new gate each each_line each_new size file file' bytes is are holds in
+      let now : seen d ≡ journal_text (longer settled.stored new) = same ∙ is_opened settled.stored new gate each each_line each_new size file file' bytes is are holds in
       let result = settled_as seen may_leave d (gate + n) (longer settled.stored new) each (both settled.stored.lines new each_line each_new) now
       (longer_size settled.stored new gate each each_line each_new size n long) (subst (λ (f : List ℕ). Only f (may_leave d)) (sym same) only) in
       (result, ap journal_content now ∙ of_text (longer settled.stored new) each (both settled.stored.lines new each_line each_new) ∙ ap (λ (o : Option JournalContent). with_lines new o) (sym settled.stands_for))
@@ -82,12 +82,12 @@ module _ {D : Type 0} (seen : D → List ℕ) (may_leave : D → List ℕ → Ty
 
 -- a snapshot with no line, all of it on the disk
 pub settled_fresh : {D : Type 0} (seen : D → List ℕ) (may_leave : D → List ℕ → Type 0) (device : D) (len : ℕ) (text : List ℕ) (snapshot : List (List ℕ))
-    → text ≡ text_of (record { snapshot = snapshot; lines = [] }) → marked_lines 61 text ≡ snapshot → seen device ≡ text → len ≡ length text → Only (seen device) (may_leave device)
-    → IsSettled seen may_leave device (len - 1) × (journal_content (seen device) ≡ fresh snapshot)
+    → text ≡ journal_text (record { snapshot = snapshot; lines = [] }) → marked_lines 61 text ≡ snapshot → seen device ≡ text → len ≡ length text → Only (seen device) (may_leave device)
+    → IsJournalSettled seen may_leave device (len - 1) × (journal_content (seen device) ≡ fresh snapshot)
 settled_fresh seen may_leave device len text snapshot is are same long only =
     let stored : JournalContent = record { snapshot = snapshot; lines = [] } in
     let each : AreLines snapshot = subst AreLines are (parts 61 equals text).each in
-    let size : len - 1 + 1 ≡ length (text_of stored) = omega (arith, long, ap length is, length-append (snapshot_text snapshot) (45 ∷ [])) in (
+    let size : len - 1 + 1 ≡ length (journal_text stored) = omega (arith, long, ap length is, length-append (snapshot_lines snapshot) (45 ∷ [])) in (
       settled_as seen may_leave device (len - 1) stored each tt (same ∙ is) size only,
       ap journal_content (same ∙ is) ∙ of_text stored each tt,
     )

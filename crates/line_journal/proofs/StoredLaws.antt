@@ -5,7 +5,7 @@ use Rattle.std.specs.List.{AllByRecursion}
 use Rattle.std.proofs.lemmas.Bool.{cases_eq, ne_eqb, cond-true, cond-false, eq-eqb}
 use Rattle.std.proofs.lemmas.List.{append-nil, drop_at}
 use Rattle.line_journal.specs.Lines.{IsLine, marked_lines, records}
-use Rattle.line_journal.specs.Journal.{JournalContent, snapshot_text, shut_text, text_of, stored_behind, journal_content}
+use Rattle.line_journal.specs.Journal.{JournalContent, snapshot_lines, shut_text, journal_text, stored_behind, journal_content}
 use Rattle.line_journal.proofs.LineLaws.{marked_records, closed, open_end, parts, records_append}
 
 abbrev pub AreLines : List (List ℕ) → Type 0
@@ -62,7 +62,7 @@ any_gate lines (line ∷ new) byte each each_new = elim (cases_eq byte 43) [
 ]
 
 -- a snapshot, and whatever stands behind it
-pub after_snapshot : (snapshot : List (List ℕ)) (rest : List ℕ) → AreLines snapshot → journal_content (snapshot_text snapshot ++ rest) ≡ Some (record { snapshot = snapshot; lines = marked_lines 43 rest })
+pub after_snapshot : (snapshot : List (List ℕ)) (rest : List ℕ) → AreLines snapshot → journal_content (snapshot_lines snapshot ++ rest) ≡ Some (record { snapshot = snapshot; lines = marked_lines 43 rest })
 after_snapshot snapshot rest each =
     let file = records 61 snapshot ++ 10 ∷ rest in
     let lines : marked_lines 61 file ≡ snapshot =
@@ -76,7 +76,7 @@ after_snapshot snapshot rest each =
 -- a file that has a snapshot
 pub record JournalParts (file : List ℕ) (stored : JournalContent) : Type 0 where
   pub rest : List ℕ
-  pub split : file ≡ snapshot_text stored.snapshot ++ rest
+  pub split : file ≡ snapshot_lines stored.snapshot ++ rest
   pub lines : stored.lines ≡ marked_lines 43 rest
   pub each : AreLines stored.snapshot
 
@@ -111,29 +111,29 @@ lines_of file stored is = let p = parts_of file stored is in subst AreLines (sym
 
 -- all that stands in front of the gate
 abbrev pub front : JournalContent → List ℕ
-front stored = snapshot_text stored.snapshot ++ records 43 stored.lines
+front stored = snapshot_lines stored.snapshot ++ records 43 stored.lines
 
-pub front_and_gate : (stored : JournalContent) → text_of stored ≡ front stored ++ 45 ∷ []
-front_and_gate stored = sym (append_assoc (snapshot_text stored.snapshot) (records 43 stored.lines) (45 ∷ []))
+pub front_and_gate : (stored : JournalContent) → journal_text stored ≡ front stored ++ 45 ∷ []
+front_and_gate stored = sym (append_assoc (snapshot_lines stored.snapshot) (records 43 stored.lines) (45 ∷ []))
 
 pub after_front : (stored : JournalContent) (rest : List ℕ) → AreLines stored.snapshot → journal_content (front stored ++ rest) ≡ Some (record { snapshot = stored.snapshot; lines = marked_lines 43 (records 43 stored.lines ++ rest) })
 after_front stored rest each =
-    ap journal_content (append_assoc (snapshot_text stored.snapshot) (records 43 stored.lines) rest)
+    ap journal_content (append_assoc (snapshot_lines stored.snapshot) (records 43 stored.lines) rest)
     ∙ after_snapshot stored.snapshot (records 43 stored.lines ++ rest) each
 
 -- such a file with lines at its end
 abbrev pub longer : JournalContent → List (List ℕ) → JournalContent
 longer stored new = record { snapshot = stored.snapshot; lines = stored.lines ++ new }
 
-pub of_text : (stored : JournalContent) → AreLines stored.snapshot → AreLines stored.lines → journal_content (text_of stored) ≡ Some stored
+pub of_text : (stored : JournalContent) → AreLines stored.snapshot → AreLines stored.lines → journal_content (journal_text stored) ≡ Some stored
 of_text stored each each_line =
     ap journal_content (front_and_gate stored) ∙ after_front stored (45 ∷ []) each
     ∙ ap (λ (ls : List (List ℕ)). Some (record { snapshot = stored.snapshot; lines = ls })) (shut_gate stored.lines [] each_line)
 
-pub text_longer : (stored : JournalContent) (new : List (List ℕ)) → front stored ++ shut_text new ≡ text_of (longer stored new)
+pub text_longer : (stored : JournalContent) (new : List (List ℕ)) → front stored ++ shut_text new ≡ journal_text (longer stored new)
 text_longer stored new =
-    append_assoc (snapshot_text stored.snapshot) (records 43 stored.lines) (shut_text new)
-    ∙ ap (λ (t : List ℕ). snapshot_text stored.snapshot ++ t) (
+    append_assoc (snapshot_lines stored.snapshot) (records 43 stored.lines) (shut_text new)
+    ∙ ap (λ (t : List ℕ). snapshot_lines stored.snapshot ++ t) (
     sym (append_assoc (records 43 stored.lines) (records 43 new) (45 ∷ []))
     ∙ ap (λ (t : List ℕ). t ++ 45 ∷ []) (sym (records_append 43 plus stored.lines new)))
 

@@ -4,8 +4,8 @@ use Rattle.line_journal.specs.declared.device.DeviceError.{DeviceError}
 use Rattle.line_journal.specs.declared.device.DeviceError.TheVariants.{Failed, Full}
 
 -- new is old with these bytes at this offset
-abbrev pub Holds : List ℕ → ℕ → List ℕ → List ℕ → Type 0
-Holds old at bytes new = new ≡ take at old ++ bytes ++ drop (at + length bytes) old
+abbrev pub IsOverwritten : List ℕ → ℕ → List ℕ → List ℕ → Type 0
+IsOverwritten old at bytes new = new ≡ take at old ++ bytes ++ drop (at + length bytes) old
 
 -- after a write of n bytes that a crash cuts short: any bytes in the range and past the old end, the same elsewhere
 pub record Torn (at n : ℕ) (old new : List ℕ) : Type 0 where
@@ -40,7 +40,7 @@ pub record LeavesOnly {D : Type 0} (moment : D → ℕ) (left_since : D → ℕ 
   -- for a run that began earlier
   pub before : (t : ℕ) (c : List ℕ) → t ≤ moment old → left_since new t c → left_since old t c ⊎ P c
 
--- `Failed` is told only where the disk has failed since, and `Full` isn't told
+-- `Failed` is returned only where the disk has failed since, and `Full` is not returned
 pub record HasCause {T : Type 0} (before now : ℕ) (result : Result T DeviceError) : Type 0 where
   pub later : before ≤ now
   pub failed : IsErrOf result Failed → before < now

@@ -9,16 +9,16 @@ pub record JournalContent : Type 0 where
   pub lines : List (List ℕ)
 
 -- the text of a snapshot: its lines begin with '=', and an empty line follows them
-abbrev pub snapshot_text : List (List ℕ) → List ℕ
-snapshot_text snapshot = records 61 snapshot ++ 10 ∷ []
+abbrev pub snapshot_lines : List (List ℕ) → List ℕ
+snapshot_lines snapshot = records 61 snapshot ++ 10 ∷ []
 
 -- lines that count, which begin with '+', and then a closed gate, '-'
 abbrev pub shut_text : List (List ℕ) → List ℕ
 shut_text lines = records 43 lines ++ 45 ∷ []
 
 -- the file at rest
-abbrev pub text_of : JournalContent → List ℕ
-text_of stored = snapshot_text stored.snapshot ++ shut_text stored.lines
+abbrev pub journal_text : JournalContent → List ℕ
+journal_text stored = snapshot_lines stored.snapshot ++ shut_text stored.lines
 
 -- behind the snapshot stand an empty line and the lines that count; without the empty line there is no snapshot
 abbrev pub stored_behind : List (List ℕ) → List ℕ → Option JournalContent
@@ -39,10 +39,10 @@ abbrev pub fresh : List (List ℕ) → Option JournalContent
 fresh snapshot = Some (record { snapshot = snapshot; lines = [] })
 
 -- the file is at rest with its gate at this offset, and all of it is on the disk
-pub record IsSettled {D : Type 0} (seen : D → List ℕ) (may_leave : D → List ℕ → Type 0) (device : D) (gate : ℕ) : Type 0 where
+pub record IsJournalSettled {D : Type 0} (seen : D → List ℕ) (may_leave : D → List ℕ → Type 0) (device : D) (gate : ℕ) : Type 0 where
   pub stored : JournalContent
   pub stands_for : journal_content (seen device) ≡ Some stored
-  pub file : seen device ≡ text_of stored
+  pub file : seen device ≡ journal_text stored
   pub gate_is_last : gate + 1 ≡ length (seen device)
   pub durable : Only (seen device) (may_leave device)
 

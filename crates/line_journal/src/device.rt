@@ -1,7 +1,7 @@
 //! A file as the journal sees it: what a read returns, and what a crash may leave.
 ghost use Rattle.std.specs.Prelude.{◌≡◌, ◌⊎◌, ◌≤◌, List, ℕ, length, take, IfOk, OnOk};
 ghost use Rattle.line_journal.specs.declared.device.DeviceError.TheVariants.{Memory};
-ghost use Rattle.line_journal.specs.Device.{Only, Follows, Torn, Cut, Holds, Elapses, HasCause};
+ghost use Rattle.line_journal.specs.Device.{Only, Follows, Torn, Cut, IsOverwritten, Elapses, HasCause};
 
 use std::alloc::{AllocError, AllocFailed, Global};
 
@@ -57,7 +57,7 @@ pub trait Device {
     /// Writes over the bytes from an offset on, and past the end. Until a sync, a crash may leave any bytes in the range.
     fn write_at(&mut self, at: usize, bytes: &[u8]) -> Result<(), DeviceError>
         requires { at ≤ length (seen self.old) }
-        ensures written { OnOk result (Holds (seen self.old) at bytes.now (seen self.new)) }
+        ensures written { OnOk result (IsOverwritten (seen self.old) at bytes.now (seen self.new)) }
         ensures crash { Follows (Torn at (length bytes.now)) (may_leave self.old) (may_leave self.new) }
         ensures time { Elapses (moment self.old) (moment self.new) (left_since self.old) (left_since self.new) (may_leave self.new) }
         ensures cause { HasCause (faults self.old) (faults self.new) result };

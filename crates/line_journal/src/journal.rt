@@ -1,7 +1,7 @@
 //! A snapshot and the lines since. Lines are added at the end of the file, a batch at a time.
 ghost use Rattle.std.specs.Prelude.{◌≡◌, ◌⊎◌, ◌<◌, ◌≤◌, ◌^◌, ◌++◌, List, ℕ, length, OnOk, IfOk, IsErrOf};
 ghost use Rattle.line_journal.specs.Device.{LeavesOnly, Only};
-ghost use Rattle.line_journal.specs.Journal.{journal_content, with_lines, fresh, IsSettled, IsBeforeOrAfter};
+ghost use Rattle.line_journal.specs.Journal.{journal_content, with_lines, fresh, IsJournalSettled, IsBeforeOrAfter};
 
 use crate::{Batch, Device, DeviceError, SnapshotLines};
 use std::alloc::Global;
@@ -22,7 +22,7 @@ pub fn begin<D: Device>(
     device: &mut D,
     snapshot: &SnapshotLines,
 ) -> Result<usize, DeviceError>
-    ensures begun { IfOk result (λ gate. IsSettled D.seen D.may_leave device.new gate
+    ensures begun { IfOk result (λ gate. IsJournalSettled D.seen D.may_leave device.new gate
         × (journal_content (D.seen device.new) ≡ fresh snapshot.now)) }
 
     // A crash at any moment of the call leaves what it might have left before, or this snapshot with no line.
@@ -42,9 +42,9 @@ impl<D: Device> Journal<D> {
     /// Adds the lines of a batch. At `Ok` they are acknowledged: from then on each crash leaves a file that has them.
     /// At `Err`, recover the file again.
     pub fn append(&mut self, alloc: Global, batch: &Batch) -> Result<(), DeviceError>
-        requires { IsSettled D.seen D.may_leave self.old.device self.old.gate }
+        requires { IsJournalSettled D.seen D.may_leave self.old.device self.old.gate }
 
-        ensures acknowledged { OnOk result (IsSettled D.seen D.may_leave self.new.device self.new.gate
+        ensures acknowledged { OnOk result (IsJournalSettled D.seen D.may_leave self.new.device self.new.gate
             × (journal_content (D.seen self.new.device) ≡ with_lines batch.now (journal_content (D.seen self.old.device)))) }
 
         // A crash at any moment of the call leaves the lines from before it, with all the new ones or with none.
@@ -75,9 +75,9 @@ impl<D: Device> Journal<D> {
         alloc: Global,
         snapshot: &SnapshotLines,
     ) -> Result<(), DeviceError>
-        requires { IsSettled D.seen D.may_leave self.old.device self.old.gate }
+        requires { IsJournalSettled D.seen D.may_leave self.old.device self.old.gate }
 
-        ensures acknowledged { OnOk result (IsSettled D.seen D.may_leave self.new.device self.new.gate
+        ensures acknowledged { OnOk result (IsJournalSettled D.seen D.may_leave self.new.device self.new.gate
             × (journal_content (D.seen self.new.device) ≡ fresh snapshot.now)) }
 
         // A crash at any moment of the call leaves the old snapshot with all its lines, or the new one with none.

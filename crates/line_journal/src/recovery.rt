@@ -2,7 +2,7 @@
 ghost use Rattle.std.specs.Prelude.{◌≡◌, ◌≢◌, ◌+◌, ◌<◌, ◌≤◌, List, ℕ, [], ◌∷◌, ◌++◌, length, drop, IfOk, OnOk, IfSome, IfNone, IsErrOf};
 ghost use Rattle.line_journal.specs.Device.{Only, LeavesOnly};
 ghost use Rattle.line_journal.specs.Lines.{IsLine, marked_lines, records};
-ghost use Rattle.line_journal.specs.Journal.{journal_content, snapshot_text, IsSettled};
+ghost use Rattle.line_journal.specs.Journal.{journal_content, snapshot_lines, IsJournalSettled};
 ghost use Rattle.line_journal.specs.Found.{texts, found_of};
 
 use crate::marks::{CLOSED, OPEN, SNAPSHOT};
@@ -79,7 +79,7 @@ fn read_lines(alloc: Global, mark: u8, text: &[u8]) -> Result<MarkedLines, Alloc
 fn read_file(alloc: Global, file: &[u8]) -> Result<Option<Recovered>, AllocError>
     ensures found { IfOk result (λ found. found_of found ≡ journal_content file.now) }
     ensures gate { IfOk result (λ found. IfSome found (λ f. f.gate
-        ≡ length (snapshot_text (texts f.snapshot.items) ++ records 43 (texts f.lines.items)))) }
+        ≡ length (snapshot_lines (texts f.snapshot.items) ++ records 43 (texts f.lines.items)))) }
     ensures inside { IfOk result (λ found. IfSome found (λ f. f.gate ≤ length file.now)) }
 {
     let snapshot = read_lines(alloc, SNAPSHOT, file)?;
@@ -102,7 +102,7 @@ pub fn recover<D: Device>(alloc: Global, device: &mut D) -> Result<Option<Recove
 
     ensures found { IfOk result (λ found. found_of found ≡ journal_content (D.seen device.old)) }
     ensures same { OnOk result (journal_content (D.seen device.new) ≡ journal_content (D.seen device.old)) }
-    ensures settled { IfOk result (λ found. IfSome found (λ f. IsSettled D.seen D.may_leave device.new f.gate)) }
+    ensures settled { IfOk result (λ found. IfSome found (λ f. IsJournalSettled D.seen D.may_leave device.new f.gate)) }
     ensures none { IfOk result (λ found. IfNone found (D.seen device.new ≡ D.seen device.old)) }
 
     // A crash at any moment leaves the same snapshot and the same lines.

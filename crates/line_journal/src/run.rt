@@ -1,8 +1,8 @@
 //! The changes of a journal, one after the other.
 ghost use Rattle.std.specs.Prelude.{◌≡◌, ◌<◌, ◌≤◌, ◌^◌, ℕ, List, length, take, OnOk, IsErrOf};
 ghost use Rattle.line_journal.specs.Device.{LeavesOnly};
-ghost use Rattle.line_journal.specs.Journal.{journal_content, IsSettled, IsBeforeOrAfter};
-ghost use Rattle.line_journal.specs.Run.{after, after_all, IsAfterSome};
+ghost use Rattle.line_journal.specs.Journal.{journal_content, IsJournalSettled, IsBeforeOrAfter};
+ghost use Rattle.line_journal.specs.Run.{content_after, after_all, IsAfterSome};
 
 use crate::{Batch, Device, DeviceError, Journal, SnapshotLines};
 use std::alloc::Global;
@@ -17,14 +17,14 @@ pub enum JournalChange {
 impl<D: Device> Journal<D> {
     /// Makes a change. At `Ok` it is acknowledged. At `Err`, recover the file again.
     pub fn apply(&mut self, alloc: Global, change: &JournalChange) -> Result<(), DeviceError>
-        requires { IsSettled D.seen D.may_leave self.old.device self.old.gate }
+        requires { IsJournalSettled D.seen D.may_leave self.old.device self.old.gate }
 
-        ensures acknowledged { OnOk result (IsSettled D.seen D.may_leave self.new.device self.new.gate
-            × (journal_content (D.seen self.new.device) ≡ after change.now (journal_content (D.seen self.old.device)))) }
+        ensures acknowledged { OnOk result (IsJournalSettled D.seen D.may_leave self.new.device self.new.gate
+            × (journal_content (D.seen self.new.device) ≡ content_after change.now (journal_content (D.seen self.old.device)))) }
 
         // A crash at any moment leaves what was there before, or what the change makes of it.
         ensures any_moment { LeavesOnly D.moment D.left_since self.old.device self.new.device
-            (IsBeforeOrAfter (journal_content (D.seen self.old.device)) (after change.now (journal_content (D.seen self.old.device)))) }
+            (IsBeforeOrAfter (journal_content (D.seen self.old.device)) (content_after change.now (journal_content (D.seen self.old.device)))) }
 
         // It does not give up by itself.
         ensures failed { IsErrOf result DeviceError.Failed → D.faults self.old.device < D.faults self.new.device }
@@ -38,9 +38,9 @@ impl<D: Device> Journal<D> {
 
     /// Makes changes in order. At `Ok` all of them are acknowledged. At `Err`, recover the file again.
     pub fn apply_all(&mut self, alloc: Global, changes: &[JournalChange]) -> Result<(), DeviceError>
-        requires { IsSettled D.seen D.may_leave self.old.device self.old.gate }
+        requires { IsJournalSettled D.seen D.may_leave self.old.device self.old.gate }
 
-        ensures acknowledged { OnOk result (IsSettled D.seen D.may_leave self.new.device self.new.gate
+        ensures acknowledged { OnOk result (IsJournalSettled D.seen D.may_leave self.new.device self.new.gate
             × (journal_content (D.seen self.new.device) ≡ after_all changes.now (journal_content (D.seen self.old.device)))) }
 
         // A crash at any moment leaves what the first changes made, none of them skipped and none in part.

@@ -1,7 +1,7 @@
 //! The lines that a journal begins with.
 ghost use Rattle.std.specs.Prelude.{◌≡◌, ◌↔◌, [], ◌∷◌, ◌++◌, List, ℕ, IfOk, OnOk, OnErr, IsErrOf};
 ghost use Rattle.line_journal.specs.Lines.{IsLine, marked_lines, records};
-ghost use Rattle.line_journal.specs.Journal.{text_of};
+ghost use Rattle.line_journal.specs.Journal.{journal_text};
 
 use crate::LineError;
 use crate::marks::{CLOSED, SNAPSHOT, is_line, marked_line};
@@ -48,7 +48,7 @@ impl SnapshotLines {
 
     /// Returns the text of a journal that has this snapshot and no line.
     pub(crate) fn file(&self, alloc: Global) -> Result<Vec<u8>, AllocError>
-        ensures text { IfOk result (λ text. text.items ≡ text_of (record { snapshot = self.now; lines = [] })) }
+        ensures text { IfOk result (λ text. text.items ≡ journal_text (record { snapshot = self.now; lines = [] })) }
         ensures lines { IfOk result (λ text. marked_lines 61 text.items ≡ self.now) }
     {
         let mut text = self.text.to_vec(alloc)?;

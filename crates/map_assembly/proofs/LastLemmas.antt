@@ -6,8 +6,8 @@ use Rattle.std.proofs.lemmas.List.Folds.{list_all-append}
 use Rattle.std.proofs.lemmas.Bool.{lt-ltb, and_parts, and_from, both_ways, eq-eqb, ne_eqb, cases_eq, cases_Bool}
 use Rattle.slice_scheduler.specs.Minislots.{Minislots}
 use Rattle.slice_scheduler.specs.declared.elements.ElementsFields.{ElementsFields}
-use Rattle.map_assembly.specs.Sorted.{insert_by_key, sorted_by, numbers_from, order_of}
-use Rattle.map_assembly.specs.Map.{in_order}
+use Rattle.map_assembly.specs.Sorted.{insert_by_key, sorted_by, numbers_from, sorted_order}
+use Rattle.map_assembly.specs.Map.{in_slice_order}
 use Rattle.map_assembly.specs.Gathering.{queue_of, with_part, is_whole, fronts, front_or, part_at}
 use Rattle.map_assembly.proofs.OrderLemmas.{sorted-map, sorted-all}
 
@@ -141,15 +141,15 @@ starts-slices (p ∷ parts) = ap (λ (xs : List ℕ). p.slice.start ∷ xs) (sta
 
 -- the parts in the order of the operators' slices
 pub ordered_parts : (parts : List ElementsFields) (slices : List Minislots) (f : ℕ → ElementsFields) (d : ElementsFields) → map (λ p. p.slice) parts ≡ slices → ((k : ℕ) → f k ≡ get_or parts k d)
-    → map f (order_of (map (λ slice. slice.start) slices)) ≡ in_order parts
+    → map f (sorted_order (map (λ slice. slice.start) slices)) ≡ in_slice_order parts
 ordered_parts parts slices f d are at =
     let starts : List ℕ = map (λ (p : ElementsFields). p.slice.start) parts in
     let key : ℕ → ℕ = λ (k : ℕ). (get_or parts k d).slice.start in
-    ap (λ (ms : List Minislots). map f (order_of (map (λ (m : Minislots). m.start) ms))) (sym are)
-    ∙ (ap (λ (ns : List ℕ). map f (order_of ns)) (starts-slices parts)
+    ap (λ (ms : List Minislots). map f (sorted_order (map (λ (m : Minislots). m.start) ms))) (sym are)
+    ∙ (ap (λ (ns : List ℕ). map f (sorted_order ns)) (starts-slices parts)
     ∙ (ap (λ (n : ℕ). map f (sorted_by (λ (k : ℕ). slice_index starts k) (numbers_from 0 n))) (length-starts parts)
     ∙ (ap (λ (ks : List ℕ). map f ks) (sorted-agree (λ (k : ℕ). slice_index starts k) key (numbers_from 0 (length parts))
     (agree_below (λ (k : ℕ). slice_index starts k) key 0 (length parts) (length parts) (omega arith) (λ k lt. start_at parts d k lt)))
     ∙ (ap (λ (g : ℕ → ElementsFields). map g (sorted_by key (numbers_from 0 (length parts)))) (λ i k. at k i)
     ∙ (sorted-map (λ (p : ElementsFields). p.slice.start) (λ (k : ℕ). get_or parts k d) (numbers_from 0 (length parts))
-    ∙ ap (λ (ps : List ElementsFields). in_order ps) (all_places parts d))))))
+    ∙ ap (λ (ps : List ElementsFields). in_slice_order ps) (all_places parts d))))))

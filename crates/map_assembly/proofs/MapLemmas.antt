@@ -20,7 +20,7 @@ use Rattle.map_assembly.specs.declared.view.MapHeader.{MapHeader}
 use Rattle.map_assembly.specs.declared.view.MapSpan.{MapSpan}
 use Rattle.map_assembly.specs.Element.{is_null, FitsElement, spelled_elements, elements_in}
 use Rattle.map_assembly.specs.Reading.{element_of_span, null_at, is_pending, ElementsSay, MapReads}
-use Rattle.map_assembly.specs.Map.{idle_span, head_span, map_span, spans_with_idle, map_spans, map_pending, map_header, frame_start, in_order, map_of, pending_at, elements_of_map, frame_elements}
+use Rattle.map_assembly.specs.Map.{idle_span, head_span, map_span, spans_with_idle, map_spans, map_pending, map_header, frame_start, in_slice_order, map_of, pending_element, elements_of_map, map_elements_of}
 use Rattle.map_assembly.specs.Writing.{spelled_map}
 use Rattle.map_assembly.specs.Part.{is_within, is_mine, ArePartsOf}
 use Rattle.map_assembly.specs.Tiled.{touches, IsOwn, GivesNoMinislotTwice, part_of, own_part}
@@ -43,18 +43,18 @@ no_null_of : (spans : List MapSpan) → AllByRecursion IsSpelled spans → AllBy
 no_null_of [] h = tt
 no_null_of (s ∷ spans) h = (and_right (eqb s.sid 0) (eqb s.iuc 7) (ne_eqb s.iuc 7 (λ e. omega (arith, h.0.iuc, e))), no_null_of spans h.1)
 
-pending_of : (end : ℕ) (sids : List ℕ) → AllByRecursion (λ e. is_pending end e ≡ true) (map (pending_at end) sids)
+pending_of : (end : ℕ) (sids : List ℕ) → AllByRecursion (λ e. is_pending end e ≡ true) (map (pending_element end) sids)
 pending_of end [] = tt
 pending_of end (s ∷ sids) = (eq-eqb end end refl, pending_of end sids)
 
-sids_of : (end : ℕ) (sids : List ℕ) → sids ≡ map (λ (e : MapElement). e.sid) (map (pending_at end) sids)
+sids_of : (end : ℕ) (sids : List ℕ) → sids ≡ map (λ (e : MapElement). e.sid) (map (pending_element end) sids)
 sids_of end [] = refl
 sids_of end (s ∷ sids) = ap (λ (xs : List ℕ). s ∷ xs) (sids_of end sids)
 
 elements_say : (a end : ℕ) (spans : List MapSpan) (sids : List ℕ) → MapTiles a end spans → AllByRecursion IsSpelled spans → ElementsSay (elements_of_map end spans sids) spans sids
 elements_say a end spans sids tiles spelled = record {
   end = end;
-  behind = map (pending_at end) sids;
+  behind = map (pending_element end) sids;
   split = refl;
   joined = tiles-joined a end spans tiles;
   no_null = no_null_of spans spelled;
@@ -71,7 +71,7 @@ spans_fit a end (s ∷ spans) le tiles h = (
   spans_fit (a + s.len) end spans le tiles.2 h.1,
 )
 
-sids_fit : (end : ℕ) (sids : List ℕ) → end ≤ 4096 → AllByRecursion (λ n. n < 2 ^ 14) sids → AllByRecursion FitsElement (map (pending_at end) sids)
+sids_fit : (end : ℕ) (sids : List ℕ) → end ≤ 4096 → AllByRecursion (λ n. n < 2 ^ 14) sids → AllByRecursion FitsElement (map (pending_element end) sids)
 sids_fit end [] le h = tt
 sids_fit end (s ∷ sids) le h = (record { sid = h.0; iuc = omega arith; offset = omega arith }, sids_fit end sids le h.1)
 
@@ -81,7 +81,7 @@ all-append P (x ∷ xs) ys p q = (p.0, all-append P xs ys p.1 q)
 
 elements_fit : (a end : ℕ) (spans : List MapSpan) (sids : List ℕ) → end ≤ 4096 → MapTiles a end spans → AllByRecursion IsSpelled spans → AllByRecursion (λ n. n < 2 ^ 14) sids → AllByRecursion FitsElement (elements_of_map end spans sids)
 elements_fit a end spans sids le tiles spelled small =
-    all-append FitsElement (map element_of_span spans) (null_at end ∷ map (pending_at end) sids) (spans_fit a end spans le tiles spelled)
+    all-append FitsElement (map element_of_span spans) (null_at end ∷ map (pending_element end) sids) (spans_fit a end spans le tiles spelled)
     (record { sid = omega arith; iuc = omega arith; offset = omega arith }, sids_fit end sids le small)
 
 -- ---- what the parts give
@@ -175,13 +175,13 @@ sizes (s ∷ quotas) (m ∷ slices) (p ∷ parts) h =
     omega (arith, sum_by-cons size_of p parts, sum_by-cons (λ (x : Quota). x.elements) s quotas, (fits_in s m p h.0.fits).few, sizes quotas slices parts h.1)
 
 few_elements : (channel : Channel) (quotas : List Quota) (slices : List Minislots) (parts : List ElementsFields) → AreQuotas quotas → ArePartsOf quotas slices parts
-    → length (map_spans channel (in_order parts)) + 1 + length (map_pending (in_order parts)) ≤ 240
+    → length (map_spans channel (in_slice_order parts)) + 1 + length (map_pending (in_slice_order parts)) ≤ 240
 few_elements channel quotas slices parts are h =
     omega (
       arith,
-      length-append (head_span channel.head) (spans_with_idle channel.head channel.frame_minislots (in_order parts)),
+      length-append (head_span channel.head) (spans_with_idle channel.head channel.frame_minislots (in_slice_order parts)),
       length-head channel.head,
-      length-filled channel.head channel.frame_minislots (in_order parts),
+      length-filled channel.head channel.frame_minislots (in_slice_order parts),
       sum_by-sorted size_of (λ (p : ElementsFields). p.slice.start) parts,
       sizes quotas slices parts h,
       are.few,
@@ -189,7 +189,7 @@ few_elements channel quotas slices parts are h =
 
 length-elements : (end : ℕ) (spans : List MapSpan) (sids : List ℕ) → length (elements_of_map end spans sids) ≡ length spans + 1 + length sids
 length-elements end spans sids =
-    omega (arith, length-append (map element_of_span spans) (null_at end ∷ map (pending_at end) sids), length-map spans element_of_span, length-map sids (pending_at end))
+    omega (arith, length-append (map element_of_span spans) (null_at end ∷ map (pending_element end) sids), length-map spans element_of_span, length-map sids (pending_element end))
 
 -- ---- the whole
 
@@ -200,41 +200,41 @@ pub record AreFrame (channel : Channel) (quotas : List Quota) (slices : List Min
   pub slices_are : AreSlices channel (length quotas) slices
   pub parts_are : ArePartsOf quotas slices parts
 
-frame_in_order : (channel : Channel) (quotas : List Quota) (slices : List Minislots) (parts : List ElementsFields) → AreFrame channel quotas slices parts → InOrder channel.head channel.frame_minislots (in_order parts)
+frame_in_order : (channel : Channel) (quotas : List Quota) (slices : List Minislots) (parts : List ElementsFields) → AreFrame channel quotas slices parts → InOrder channel.head channel.frame_minislots (in_slice_order parts)
 frame_in_order channel quotas slices parts h = parts_in_order channel (length quotas) quotas slices parts h.channel_is h.slices_are h.parts_are
 
-frame_small : (channel : Channel) (quotas : List Quota) (slices : List Minislots) (parts : List ElementsFields) → AreFrame channel quotas slices parts → AllByRecursion IsSmall (in_order parts)
+frame_small : (channel : Channel) (quotas : List Quota) (slices : List Minislots) (parts : List ElementsFields) → AreFrame channel quotas slices parts → AllByRecursion IsSmall (in_slice_order parts)
 frame_small channel quotas slices parts h =
     sorted-all IsSmall (λ (p : ElementsFields). p.slice.start) parts (small_parts quotas slices parts (recursion_from_All IsQuota quotas h.quotas_are.each) h.parts_are)
 
-frame_tiles : (channel : Channel) (quotas : List Quota) (slices : List Minislots) (parts : List ElementsFields) → AreFrame channel quotas slices parts → MapTiles 0 channel.frame_minislots (map_spans channel (in_order parts))
-frame_tiles channel quotas slices parts h = tiles-map channel.head channel.frame_minislots (in_order parts) (frame_in_order channel quotas slices parts h)
+frame_tiles : (channel : Channel) (quotas : List Quota) (slices : List Minislots) (parts : List ElementsFields) → AreFrame channel quotas slices parts → MapTiles 0 channel.frame_minislots (map_spans channel (in_slice_order parts))
+frame_tiles channel quotas slices parts h = tiles-map channel.head channel.frame_minislots (in_slice_order parts) (frame_in_order channel quotas slices parts h)
 
-pub frame_count : (channel : Channel) (quotas : List Quota) (slices : List Minislots) (parts : List ElementsFields) → AreFrame channel quotas slices parts → length (frame_elements channel parts) ≤ 240
+pub frame_count : (channel : Channel) (quotas : List Quota) (slices : List Minislots) (parts : List ElementsFields) → AreFrame channel quotas slices parts → length (map_elements_of channel parts) ≤ 240
 frame_count channel quotas slices parts h =
-    omega (arith, length-elements channel.frame_minislots (map_spans channel (in_order parts)) (map_pending (in_order parts)), few_elements channel quotas slices parts h.quotas_are h.parts_are)
+    omega (arith, length-elements channel.frame_minislots (map_spans channel (in_slice_order parts)) (map_pending (in_slice_order parts)), few_elements channel quotas slices parts h.quotas_are h.parts_are)
 
-pub frame_fits : (channel : Channel) (quotas : List Quota) (slices : List Minislots) (parts : List ElementsFields) → AreFrame channel quotas slices parts → AllByRecursion FitsElement (frame_elements channel parts)
+pub frame_fits : (channel : Channel) (quotas : List Quota) (slices : List Minislots) (parts : List ElementsFields) → AreFrame channel quotas slices parts → AllByRecursion FitsElement (map_elements_of channel parts)
 frame_fits channel quotas slices parts h =
-    elements_fit 0 channel.frame_minislots (map_spans channel (in_order parts)) (map_pending (in_order parts)) h.channel_is.frame (frame_tiles channel quotas slices parts h)
-    (spelled_map_spans channel (in_order parts) (frame_small channel quotas slices parts h)) (small-pending (in_order parts) (frame_small channel quotas slices parts h))
+    elements_fit 0 channel.frame_minislots (map_spans channel (in_slice_order parts)) (map_pending (in_slice_order parts)) h.channel_is.frame (frame_tiles channel quotas slices parts h)
+    (spelled_map_spans channel (in_slice_order parts) (frame_small channel quotas slices parts h)) (small-pending (in_slice_order parts) (frame_small channel quotas slices parts h))
 
 pub frame_reads : (channel : Channel) (frame : ℕ) (quotas : List Quota) (slices : List Minislots) (parts : List ElementsFields) → AreFrame channel quotas slices parts
-    → MapReads (spelled_map (map_header channel frame (length (frame_elements channel parts))) (frame_elements channel parts)) (map_of channel frame parts)
+    → MapReads (spelled_map (map_header channel frame (length (map_elements_of channel parts))) (map_elements_of channel parts)) (map_of channel frame parts)
 frame_reads channel frame quotas slices parts h =
-    let es : List MapElement = frame_elements channel parts in
+    let es : List MapElement = map_elements_of channel parts in
     let header : MapHeader = map_header channel frame (length es) in
     let start : frame_start channel frame < 2 ^ 32 = mod_below (frame * channel.frame_minislots) (2 ^ 32) (omega arith) in
     record {
       counted = counted-back header es refl;
       header =
-          ap (map_header channel frame) (sym (length-elements channel.frame_minislots (map_spans channel (in_order parts)) (map_pending (in_order parts))))
+          ap (map_header channel frame) (sym (length-elements channel.frame_minislots (map_spans channel (in_slice_order parts)) (map_pending (in_slice_order parts))))
           ∙ sym (header-back header (spelled_elements es) start start);
       elements =
-          subst (λ (xs : List MapElement). ElementsSay xs (map_spans channel (in_order parts)) (map_pending (in_order parts)))
+          subst (λ (xs : List MapElement). ElementsSay xs (map_spans channel (in_slice_order parts)) (map_pending (in_slice_order parts)))
           (sym (ap elements_in (body-back header es) ∙ elements-back es (frame_fits channel quotas slices parts h)))
-          (elements_say 0 channel.frame_minislots (map_spans channel (in_order parts)) (map_pending (in_order parts)) (frame_tiles channel quotas slices parts h)
-          (spelled_map_spans channel (in_order parts) (frame_small channel quotas slices parts h)));
+          (elements_say 0 channel.frame_minislots (map_spans channel (in_slice_order parts)) (map_pending (in_slice_order parts)) (frame_tiles channel quotas slices parts h)
+          (spelled_map_spans channel (in_slice_order parts) (frame_small channel quotas slices parts h)));
     }
 
 -- ---- no minislot twice
@@ -244,14 +244,14 @@ sum_by-map f g [] = refl
 sum_by-map {X} f g (x ∷ xs) = omega (arith, sum_by-cons f (g x) (map g xs), sum_by-cons (λ (z : X). f (g z)) x xs, sum_by-map f g xs)
 
 touches-slices : (quotas : List Quota) (slices : List Minislots) (parts : List ElementsFields) (s : MapSpan) → ArePartsOf quotas slices parts
-    → count_by (λ slice. touches slice s) slices ≡ sum_by (λ p. cond (touches p.slice s) 1 0) (in_order parts)
+    → count_by (λ slice. touches slice s) slices ≡ sum_by (λ p. cond (touches p.slice s) 1 0) (in_slice_order parts)
 touches-slices quotas slices parts s h =
     ap (λ (ms : List Minislots). count_by (λ (slice : Minislots). touches slice s) ms) (sym (slices_of_parts quotas slices parts h))
     ∙ (sum_by-map (λ (slice : Minislots). cond (touches slice s) 1 0) (λ (p : ElementsFields). p.slice) parts
     ∙ sym (sum_by-sorted (λ (p : ElementsFields). cond (touches p.slice s) 1 0) (λ (p : ElementsFields). p.slice.start) parts))
 
 few_slices : (quotas : List Quota) (slices : List Minislots) (parts : List ElementsFields) (spans : List MapSpan) → ArePartsOf quotas slices parts
-    → AllByRecursion (λ s. sum_by (λ p. cond (touches p.slice s) 1 0) (in_order parts) ≤ 1) spans → AllByRecursion (λ s. count_by (λ slice. touches slice s) slices ≤ 1) spans
+    → AllByRecursion (λ s. sum_by (λ p. cond (touches p.slice s) 1 0) (in_slice_order parts) ≤ 1) spans → AllByRecursion (λ s. count_by (λ slice. touches slice s) slices ≤ 1) spans
 few_slices quotas slices parts [] h few = tt
 few_slices quotas slices parts (s ∷ spans) h few = (subst (λ (n : ℕ). n ≤ 1) (sym (touches-slices quotas slices parts s h)) few.0, few_slices quotas slices parts spans h few.1)
 
@@ -271,15 +271,15 @@ frame_alone channel quotas slices parts k quota slice part h e f g =
     (pairs_from_AllPairs (λ (a b : Quota). ranges_overlap a.sids b.sids ≡ false) quotas h.quotas_are.apart) h.parts_are e f g
 
 pub frame_tiled : (channel : Channel) (quotas : List Quota) (slices : List Minislots) (parts : List ElementsFields) → AreFrame channel quotas slices parts
-    → GivesNoMinislotTwice channel.frame_minislots quotas slices (map_spans channel (in_order parts))
+    → GivesNoMinislotTwice channel.frame_minislots quotas slices (map_spans channel (in_slice_order parts))
 frame_tiled channel quotas slices parts h = record {
-  once = λ m lt. tiles-once m 0 channel.frame_minislots (map_spans channel (in_order parts)) (frame_tiles channel quotas slices parts h) (omega arith) lt;
+  once = λ m lt. tiles-once m 0 channel.frame_minislots (map_spans channel (in_slice_order parts)) (frame_tiles channel quotas slices parts h) (omega arith) lt;
   own = λ k quota slice e f.
       let there : (p : ElementsFields) × (slice_get parts k ≡ Some p) = part_there quotas slices parts k quota h.parts_are e in
-      All-from_recursion (IsOwn quota.sids slice) (map_spans channel (in_order parts))
+      All-from_recursion (IsOwn quota.sids slice) (map_spans channel (in_slice_order parts))
       (own_alone channel quota slice k there.0 parts (all_at IsQuota quotas k quota (recursion_from_All IsQuota quotas h.quotas_are.each) e) (frame_alone channel quotas slices parts k quota slice there.0 h e f there.1));
-  apart = All-from_recursion (λ (s : MapSpan). count_by (λ (slice : Minislots). touches slice s) slices ≤ 1) (map_spans channel (in_order parts))
-      (few_slices quotas slices parts (map_spans channel (in_order parts)) h.parts_are (touches_one_slice channel (in_order parts) (frame_in_order channel quotas slices parts h)));
+  apart = All-from_recursion (λ (s : MapSpan). count_by (λ (slice : Minislots). touches slice s) slices ≤ 1) (map_spans channel (in_slice_order parts))
+      (few_slices quotas slices parts (map_spans channel (in_slice_order parts)) h.parts_are (touches_one_slice channel (in_slice_order parts) (frame_in_order channel quotas slices parts h)));
 }
 
 slice_there : (quotas : List Quota) (slices : List Minislots) (parts : List ElementsFields) (k : ℕ) (quota : Quota) → ArePartsOf quotas slices parts → slice_get quotas k ≡ Some quota → (m : Minislots) × (slice_get slices k ≡ Some m)

@@ -12,7 +12,7 @@ use Rattle.slice_scheduler.specs.Tiles.{Tiles}
 use Rattle.plant.specs.declared.consts.Channel.{Channel}
 use Rattle.map_assembly.specs.declared.quota.Quota.{Quota}
 use Rattle.map_assembly.specs.declared.view.MapSpan.{MapSpan}
-use Rattle.map_assembly.specs.Map.{idle_span, head_span, map_span, spans_with_idle, map_spans, map_pending, in_order, map_of}
+use Rattle.map_assembly.specs.Map.{idle_span, head_span, map_span, spans_with_idle, map_spans, map_pending, in_slice_order, map_of}
 use Rattle.map_assembly.specs.Part.{is_within, is_mine, IsPartOf}
 use Rattle.map_assembly.specs.Tiled.{LiesIn, IsOwn, touches, MapPart, part_of, own_part}
 use Rattle.map_assembly.specs.Plan.{IsQuota}
@@ -115,12 +115,12 @@ part_alone channel frame quota slice k part parts is h =
     let key : ElementsFields → ℕ = λ (p : ElementsFields). p.slice.start in
     let fits : FitsIn quota slice part = fits_in quota slice part (is_part quota.sids quota slice k part parts h).fits in
     same_part (part_of quota.sids (map_of channel frame parts)) (own_part part)
-    (filter-append (λ (s : MapSpan). is_within quota.sids s.sid) (head_span channel.head) (spans_with_idle channel.head channel.frame_minislots (in_order parts))
-    ∙ (ap (λ (xs : List MapSpan). xs ++ filter (λ (s : MapSpan). is_within quota.sids s.sid) (spans_with_idle channel.head channel.frame_minislots (in_order parts))) (filter-head quota.sids channel.head is.high)
-    ∙ (filter-filled quota.sids channel.head channel.frame_minislots (in_order parts) is.low
+    (filter-append (λ (s : MapSpan). is_within quota.sids s.sid) (head_span channel.head) (spans_with_idle channel.head channel.frame_minislots (in_slice_order parts))
+    ∙ (ap (λ (xs : List MapSpan). xs ++ filter (λ (s : MapSpan). is_within quota.sids s.sid) (spans_with_idle channel.head channel.frame_minislots (in_slice_order parts))) (filter-head quota.sids channel.head is.high)
+    ∙ (filter-filled quota.sids channel.head channel.frame_minislots (in_slice_order parts) is.low
     ∙ (flat_map_alone (own_spans quota.sids) key k part parts (alone_spans quota.sids quota slice k part parts h)
     ∙ kept_spans quota.sids part.spans is.low fits.spans))))
-    (filter-pending quota.sids (in_order parts)
+    (filter-pending quota.sids (in_slice_order parts)
     ∙ (flat_map_alone (own_pending quota.sids) key k part parts (alone_pending quota.sids quota slice k part parts h)
     ∙ kept_sids quota.sids part.pending is.low fits.pending))
 
@@ -188,9 +188,9 @@ own_in_parts range quota slice zero part (p ∷ parts) h =
 own_in_parts range quota slice (suc k) part (p ∷ parts) h = (own_if_stranger range slice p.spans h.0.spans, own_in_parts range quota slice k part parts h.1)
 
 pub own_alone : (channel : Channel) (quota : Quota) (slice : Minislots) (k : ℕ) (part : ElementsFields) (parts : List ElementsFields) → IsQuota quota → StandsAlone quota.sids quota slice k part parts
-    → AllByRecursion (IsOwn quota.sids slice) (map_spans channel (in_order parts))
+    → AllByRecursion (IsOwn quota.sids slice) (map_spans channel (in_slice_order parts))
 own_alone channel quota slice k part parts is h =
-    all-spans (IsOwn quota.sids slice) channel (in_order parts)
+    all-spans (IsOwn quota.sids slice) channel (in_slice_order parts)
     (λ head _. λ e. absurd (both_ways (is_within quota.sids 16383) (head_is_nobodys quota.sids is.high) e))
     (λ from to _. λ e. absurd (both_ways (is_within quota.sids 0) (idle_is_nobodys quota.sids is.low) e))
     (sorted-all (λ (p : ElementsFields). AllByRecursion (IsOwn quota.sids slice) (map map_span p.spans)) (λ (p : ElementsFields). p.slice.start) parts (own_in_parts quota.sids quota slice k part parts h))

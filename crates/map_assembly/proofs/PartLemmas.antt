@@ -13,7 +13,7 @@ use Rattle.plant.specs.Plant.{ranges_overlap}
 use Rattle.plant.specs.declared.consts.Channel.{Channel}
 use Rattle.map_assembly.specs.declared.quota.Quota.{Quota}
 use Rattle.map_assembly.specs.declared.view.MapSpan.{MapSpan}
-use Rattle.map_assembly.specs.Map.{map_span, in_order}
+use Rattle.map_assembly.specs.Map.{map_span, in_slice_order}
 use Rattle.map_assembly.specs.Part.{is_within, is_mine, is_slice, is_fitting, IsPartOf, ArePartsOf}
 use Rattle.map_assembly.specs.Plan.{IsQuota, IsInFrame, AreSlices}
 use Rattle.plant.specs.Consts.{IsChannel}
@@ -77,7 +77,7 @@ placed_parts channel [] t h = tt
 placed_parts channel (p ∷ parts) t h = (record { tiled = t.0; some = h.0.some; behind = h.0.behind_head; before = h.0.within_frame }, placed_parts channel parts t.1 h.1)
 
 pub parts_in_order : (channel : Channel) (count : ℕ) (quotas : List Quota) (slices : List Minislots) (parts : List ElementsFields) → IsChannel channel → AreSlices channel count slices → ArePartsOf quotas slices parts
-    → InOrder channel.head channel.frame_minislots (in_order parts)
+    → InOrder channel.head channel.frame_minislots (in_slice_order parts)
 parts_in_order channel count quotas slices parts is valid h =
     let e : map (λ (p : ElementsFields). p.slice) parts ≡ slices = slices_of_parts quotas slices parts h in
     let each : AllByRecursion (IsInFrame channel) (map (λ (p : ElementsFields). p.slice) parts) =

@@ -5,7 +5,7 @@ use Rattle.map_assembly.specs.declared.view.MapSpan.{MapSpan}
 use Rattle.map_assembly.specs.Element.{elements_in}
 use Rattle.map_assembly.specs.declared.view.MapFault.{MapFault}
 use Rattle.map_assembly.specs.declared.view.MapFault.TheVariants.{Short, Count, Backward, NoNull, AfterNull, NoMemory}
-use Rattle.map_assembly.specs.Reading.{header_in, elements_behind, IsCounted, MapReads, ElementsSay, IsFirstMapFault, IsOkUnlessMemory}
+use Rattle.map_assembly.specs.Reading.{header_in, elements_behind, IsCounted, MapReads, ElementsSay, IsFirstMapFault, MapIsRead}
 use Rattle.map_assembly.specs.Judging.{count_before_null, spans_in, pending_in}
 use Rattle.map_assembly.proofs.SayLemmas.{judged_says, say_judged, say_spans, say_pending}
 use Rattle.map_assembly.proofs.FaultLemmas.{judged_fault, fault_judged}
@@ -27,7 +27,7 @@ reads_made bytes n view counted well header spans pending = record {
       (subst (λ (ss : List MapSpan). ElementsSay (elements_behind bytes) ss (pending_in (elements_behind bytes))) (sym spans) (judged_says 0 0 (elements_behind bytes) n well));
 }
 
-wants : (r : Result MapView MapFault) (view : MapView) (fault : MapFault) → IsOkUnlessMemory r view → r ≡ Err fault → fault ≢ NoMemory → ⊥
+wants : (r : Result MapView MapFault) (view : MapView) (fault : MapFault) → MapIsRead r view → r ≡ Err fault → fault ≢ NoMemory → ⊥
 wants (Ok v) view fault is e ne = cc
 wants (Err f) view fault is e ne = ne cc
 
@@ -78,7 +78,7 @@ reads_no_fault : (bytes : List ℕ) (view : MapView) (f : MapFault) → MapReads
 reads_no_fault bytes view f reads p =
     never f (length view.spans) (count_before_null 0 0 (elements_behind bytes)) (fault_judges bytes f reads.counted p) (say_judged (elements_behind bytes) view.spans view.pending reads.elements)
 
-pub fault_reads_nothing : (bytes : List ℕ) (f : MapFault) (r : Result MapView MapFault) → IsFault bytes f → (view : MapView) → MapReads bytes view → IsOkUnlessMemory r view
+pub fault_reads_nothing : (bytes : List ℕ) (f : MapFault) (r : Result MapView MapFault) → IsFault bytes f → (view : MapView) → MapReads bytes view → MapIsRead r view
 fault_reads_nothing bytes f r is view reads = absurd (reads_no_fault bytes view f reads ((is f).0 refl))
 
 pub fault_is_no_want : (bytes : List ℕ) (f : MapFault) (r : Result MapView MapFault) → r ≡ Err f → IsFault bytes f → r ≡ Err NoMemory → (view : MapView) × MapReads bytes view
@@ -90,7 +90,7 @@ well_says bytes n counted h =
     (view, reads_made bytes n view counted h refl refl refl)
 
 -- where the bytes say something, the answer is no other fault than want of memory
-pub well_has_no_fault : (bytes : List ℕ) (n : ℕ) (r : Result MapView MapFault) (view : MapView) → IsCounted bytes → count_before_null 0 0 (elements_behind bytes) ≡ Ok n → IsOkUnlessMemory r view
+pub well_has_no_fault : (bytes : List ℕ) (n : ℕ) (r : Result MapView MapFault) (view : MapView) → IsCounted bytes → count_before_null 0 0 (elements_behind bytes) ≡ Ok n → MapIsRead r view
     → (fault : MapFault) → fault ≢ NoMemory → (r ≡ Err fault) ↔ IsFirstMapFault bytes fault
 well_has_no_fault bytes n r view counted h is fault ne = (
   λ e. absurd (wants r view fault is e ne),

@@ -21,8 +21,8 @@ use Rattle.map_assembly.proofs.LastLemmas.{empty_before_last}
 use Rattle.map_assembly.specs.declared.element.MapElement.{MapElement}
 use Rattle.map_assembly.specs.Element.{FitsElement}
 use Rattle.map_assembly.specs.Reading.{MapReads}
-use Rattle.map_assembly.specs.Sorted.{order_of}
-use Rattle.map_assembly.specs.Map.{in_order, map_of, map_spans, map_pending, map_header, elements_of_map, frame_elements}
+use Rattle.map_assembly.specs.Sorted.{sorted_order}
+use Rattle.map_assembly.specs.Map.{in_slice_order, map_of, map_spans, map_pending, map_header, elements_of_map, map_elements_of}
 use Rattle.map_assembly.specs.Writing.{spelled_map}
 use Rattle.map_assembly.specs.Gathering.{part_at}
 use Rattle.map_assembly.specs.Assembled.{IsMapOf, ordered_elements, bytes_of_map}
@@ -319,32 +319,32 @@ frame_of g now op frame part e is put tiled whole =
     subst (λ (n : ℕ). AreFrame now.channel now.quotas (frame_slices now n) (frame_parts now op part)) (sym (last_frame now op frame part is' put whole)) (frame_is_whole now op frame part is' put tiled whole)
 
 pub ordered_is : (g now : Gathering) (op frame : ℕ) (part : ElementsFields) (order : List ℕ) (queues : List (List ElementsFields)) (slices : List Minislots) → g ≡ now → IsGathering g → put_fault now op frame part ≡ None → IsTiled part → is_last now op part ≡ true
-    → order ≡ order_of (map (λ slice. slice.start) slices) → slices ≡ slices_at g.slices g.reslicings frame → queues ≡ g.queues → ordered_elements g.channel order queues op part ≡ frame_elements now.channel (frame_parts now op part)
+    → order ≡ sorted_order (map (λ slice. slice.start) slices) → slices ≡ slices_at g.slices g.reslicings frame → queues ≡ g.queues → ordered_elements g.channel order queues op part ≡ map_elements_of now.channel (frame_parts now op part)
 ordered_is g now op frame part order queues slices e is put tiled whole order_is slices_is queues_are =
     let is' : IsGathering now = subst IsGathering e is in
     let at : op < length now.quotas = (is_put now op frame part put).op_is in
     let none : queue_of now.queues op ≡ [] = last_is_first now op part is' at whole in
     let frame' : AreFrame now.channel now.quotas (frame_slices now frame) (frame_parts now op part) = frame_of g now op frame part e is put tiled whole in
-    let parts : map (part_at now.queues op part) (order_of (map (λ (slice : Minislots). slice.start) (frame_slices now frame))) ≡ in_order (frame_parts now op part) =
+    let parts : map (part_at now.queues op part) (sorted_order (map (λ (slice : Minislots). slice.start) (frame_slices now frame))) ≡ in_slice_order (frame_parts now op part) =
     ordered_parts (frame_parts now op part) (frame_slices now frame) (part_at now.queues op part) part (slices_of_parts now.quotas (frame_slices now frame) (frame_parts now op part) frame'.parts_are)
     (part_at_is now.queues op part (omega (arith, is'.one_each)) none whole) in
-    ap (λ (ks : List ℕ). ordered_elements g.channel ks queues op part) (order_is ∙ ap (λ (ms : List Minislots). order_of (map (λ (slice : Minislots). slice.start) ms)) slices_is)
-    ∙ (ap (λ (qs : List (List ElementsFields)). ordered_elements g.channel (order_of (map (λ (slice : Minislots). slice.start) (slices_at g.slices g.reslicings frame))) qs op part) queues_are
-    ∙ (ap (λ (h : Gathering). ordered_elements h.channel (order_of (map (λ (slice : Minislots). slice.start) (frame_slices h frame))) h.queues op part) e
+    ap (λ (ks : List ℕ). ordered_elements g.channel ks queues op part) (order_is ∙ ap (λ (ms : List Minislots). sorted_order (map (λ (slice : Minislots). slice.start) ms)) slices_is)
+    ∙ (ap (λ (qs : List (List ElementsFields)). ordered_elements g.channel (sorted_order (map (λ (slice : Minislots). slice.start) (slices_at g.slices g.reslicings frame))) qs op part) queues_are
+    ∙ (ap (λ (h : Gathering). ordered_elements h.channel (sorted_order (map (λ (slice : Minislots). slice.start) (frame_slices h frame))) h.queues op part) e
     ∙ ap (λ (ps : List ElementsFields). elements_of_map now.channel.frame_minislots (map_spans now.channel ps) (map_pending ps)) parts))
 
-pub few_ordered : (channel : Channel) (quotas : List Quota) (slices : List Minislots) (parts : List ElementsFields) (es : List MapElement) → AreFrame channel quotas slices parts → es ≡ frame_elements channel parts → length es ≤ 240
+pub few_ordered : (channel : Channel) (quotas : List Quota) (slices : List Minislots) (parts : List ElementsFields) (es : List MapElement) → AreFrame channel quotas slices parts → es ≡ map_elements_of channel parts → length es ≤ 240
 few_ordered channel quotas slices parts es h e = subst (λ (xs : List MapElement). length xs ≤ 240) (sym e) (frame_count channel quotas slices parts h)
 
-pub fit_ordered : (channel : Channel) (quotas : List Quota) (slices : List Minislots) (parts : List ElementsFields) (es : List MapElement) → AreFrame channel quotas slices parts → es ≡ frame_elements channel parts → All FitsElement es
+pub fit_ordered : (channel : Channel) (quotas : List Quota) (slices : List Minislots) (parts : List ElementsFields) (es : List MapElement) → AreFrame channel quotas slices parts → es ≡ map_elements_of channel parts → All FitsElement es
 fit_ordered channel quotas slices parts es h e = All-from_recursion FitsElement es (subst (λ (xs : List MapElement). AllByRecursion FitsElement xs) (sym e) (frame_fits channel quotas slices parts h))
 
-pub is_map_of : (channel seen : Channel) (frame : ℕ) (quotas : List Quota) (slices : List Minislots) (parts : List ElementsFields) (es : List MapElement) (bytes : List ℕ) → AreFrame channel quotas slices parts → seen ≡ channel → es ≡ frame_elements channel parts
+pub is_map_of : (channel seen : Channel) (frame : ℕ) (quotas : List Quota) (slices : List Minislots) (parts : List ElementsFields) (es : List MapElement) (bytes : List ℕ) → AreFrame channel quotas slices parts → seen ≡ channel → es ≡ map_elements_of channel parts
     → bytes ≡ spelled_map (map_header seen frame (length es)) es → IsMapOf channel frame quotas slices parts bytes
 is_map_of channel seen frame quotas slices parts es bytes h same e b =
     let spelled : bytes ≡ bytes_of_map channel frame parts =
     b ∙ (ap (λ (xs : List MapElement). spelled_map (map_header seen frame (length xs)) xs) e
-    ∙ ap (λ (l : Channel). spelled_map (map_header l frame (length (frame_elements channel parts))) (frame_elements channel parts)) same) in
+    ∙ ap (λ (l : Channel). spelled_map (map_header l frame (length (map_elements_of channel parts))) (map_elements_of channel parts)) same) in
     record {
       bytes_are = spelled;
       reads = subst (λ (bs : List ℕ). MapReads bs (map_of channel frame parts)) (sym spelled) (frame_reads channel frame quotas slices parts h);

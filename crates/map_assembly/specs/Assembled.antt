@@ -8,14 +8,14 @@ use Rattle.map_assembly.specs.declared.map_bytes.MapBytes.{MapBytes}
 use Rattle.map_assembly.specs.declared.quota.Quota.{Quota}
 use Rattle.map_assembly.specs.Reading.{MapReads}
 use Rattle.map_assembly.specs.Writing.{spelled_map}
-use Rattle.map_assembly.specs.Map.{map_of, map_header, map_spans, map_pending, elements_of_map, frame_elements}
+use Rattle.map_assembly.specs.Map.{map_of, map_header, map_spans, map_pending, elements_of_map, map_elements_of}
 use Rattle.map_assembly.specs.Tiled.{GivesNoMinislotTwice, part_of, own_part}
 use Rattle.map_assembly.specs.Gathering.{Gathering, frame_slices, is_last, frame_parts, part_at}
 
 -- the bytes of a frame's MAP: they follow from what MAPs have in common, the frame and the parts alone, to the last bit
 abbrev pub bytes_of_map : Channel → ℕ → List ElementsFields → List ℕ
 bytes_of_map channel frame parts =
-    spelled_map (map_header channel frame (length (frame_elements channel parts))) (frame_elements channel parts)
+    spelled_map (map_header channel frame (length (map_elements_of channel parts))) (map_elements_of channel parts)
 
 -- the bytes are the MAP of a frame with these parts: they are spelled so, they say what that MAP says, it gives no minislot
 -- twice, and each operator's part of it is what that operator put

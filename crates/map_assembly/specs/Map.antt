@@ -63,8 +63,8 @@ abbrev pub map_pending : List ElementsFields → List ℕ
 map_pending parts = flat_map (λ part. part.pending) parts
 
 -- the parts of a frame in the order of their slices
-abbrev pub in_order : List ElementsFields → List ElementsFields
-in_order parts = sorted_by (λ part. part.slice.start) parts
+abbrev pub in_slice_order : List ElementsFields → List ElementsFields
+in_slice_order parts = sorted_by (λ part. part.slice.start) parts
 
 -- the view of a frame's MAP with these parts in the order of their slices; its elements are the spans, the Null and the
 -- grants pending
@@ -77,19 +77,19 @@ ordered_map channel frame parts = record {
 
 -- what the MAP of a frame says, given the part of each operator
 abbrev pub map_of : Channel → ℕ → List ElementsFields → MapView
-map_of channel frame parts = ordered_map channel frame (in_order parts)
+map_of channel frame parts = ordered_map channel frame (in_slice_order parts)
 
 -- ---- its elements
 
 -- a grant pending: the IUC of a short grant, at the Null's offset
-abbrev pub pending_at : ℕ → ℕ → MapElement
-pending_at end sid = record { sid = sid; iuc = short_iuc; offset = end }
+abbrev pub pending_element : ℕ → ℕ → MapElement
+pending_element end sid = record { sid = sid; iuc = short_iuc; offset = end }
 
 -- the elements that say these spans and grants pending
 abbrev pub elements_of_map : ℕ → List MapSpan → List ℕ → List MapElement
-elements_of_map end spans sids = map element_of_span spans ++ null_at end ∷ map (pending_at end) sids
+elements_of_map end spans sids = map element_of_span spans ++ null_at end ∷ map (pending_element end) sids
 
 -- the elements of a frame's MAP, given the part of each operator
-abbrev pub frame_elements : Channel → List ElementsFields → List MapElement
-frame_elements channel parts =
-    elements_of_map channel.frame_minislots (map_spans channel (in_order parts)) (map_pending (in_order parts))
+abbrev pub map_elements_of : Channel → List ElementsFields → List MapElement
+map_elements_of channel parts =
+    elements_of_map channel.frame_minislots (map_spans channel (in_slice_order parts)) (map_pending (in_slice_order parts))

@@ -142,6 +142,6 @@ IsFirstMapFault bytes NoMemory = ⊥
 IsFirstMapFault bytes fault = IsCounted bytes × ElementsFault (elements_behind bytes) fault
 
 -- this view, unless memory ran out
-abbrev pub IsOkUnlessMemory : Result MapView MapFault → MapView → Type 0
-IsOkUnlessMemory (Ok read) view = read ≡ view
-IsOkUnlessMemory (Err fault) view = fault ≡ NoMemory
+abbrev pub MapIsRead : Result MapView MapFault → MapView → Type 0
+MapIsRead (Ok read) view = read ≡ view
+MapIsRead (Err fault) view = fault ≡ NoMemory

@@ -5,7 +5,7 @@ ghost use Rattle.slice_scheduler.specs.declared.elements.ElementsFields.{Element
 ghost use Rattle.map_assembly.specs.Wire.{element_limit};
 ghost use Rattle.map_assembly.specs.Element.{FitsElement};
 ghost use Rattle.map_assembly.specs.Reading.{element_of_span, null_at};
-ghost use Rattle.map_assembly.specs.Map.{spans_with_idle, map_pending, pending_at, map_header};
+ghost use Rattle.map_assembly.specs.Map.{spans_with_idle, map_pending, pending_element, map_header};
 ghost use Rattle.map_assembly.specs.Writing.{spelled_map};
 ghost use Rattle.map_assembly.specs.Gathering.{part_at};
 ghost use Rattle.map_assembly.specs.Assembled.{ordered_elements};
@@ -54,7 +54,7 @@ fn push_all_pending(
     part: &Elements,
 ) -> Result<(), AllocError>
     ensures { OnOk result (list.new.items ≡ list.old.items
-        ++ map (pending_at end) (map_pending (map (part_at queues.now op part.now) order.now))) }
+        ++ map (pending_element end) (map_pending (map (part_at queues.now op part.now) order.now))) }
 {
     for k in order {
         push_pending(list, part_at(queues, op, part, *k), end)?;

@@ -5,7 +5,7 @@ ghost use Rattle.std.specs.Int.{w32, from_be_bytes};
 ghost use Rattle.map_assembly.specs.Wire.{header_bytes, element_bytes};
 ghost use Rattle.map_assembly.specs.Element.{is_null, elements_in};
 ghost use Rattle.map_assembly.specs.Judging.{count_before_null, judged_behind, next_offset, spans_in, behind_null, pending_in};
-ghost use Rattle.map_assembly.specs.Reading.{is_pending, header_in, elements_behind, IsCounted, MapReads, IsOkUnlessMemory, IsFirstMapFault};
+ghost use Rattle.map_assembly.specs.Reading.{is_pending, header_in, elements_behind, IsCounted, MapReads, MapIsRead, IsFirstMapFault};
 ghost use Rattle.map_assembly.specs.declared.view.MapView.{MapView};
 ghost use Rattle.map_assembly.specs.declared.view.MapFault.{MapFault};
 ghost use Rattle.map_assembly.specs.declared.view.MapFault.TheVariants.{NoMemory};
@@ -207,7 +207,7 @@ fn view_in(alloc: Global, bytes: &[u8], count: usize) -> Result<MapView, AllocEr
 /// or `NoNull` where all are valid and none is the Null. `NoMemory` comes last.
 pub fn read_map(alloc: Global, bytes: &[u8]) -> Result<MapView, MapFault>
     ensures found { IfOk result (MapReads bytes.now) }
-    ensures only { (view : MapView) → MapReads bytes.now view → IsOkUnlessMemory result view }
+    ensures only { (view : MapView) → MapReads bytes.now view → MapIsRead result view }
 
     ensures fault { (fault : MapFault) → fault ≢ NoMemory → ((result ≡ Err fault) ↔ IsFirstMapFault bytes.now fault) }
     ensures memory { result ≡ Err NoMemory → (view : MapView) × MapReads bytes.now view }

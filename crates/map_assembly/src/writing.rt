@@ -5,7 +5,7 @@ ghost use Rattle.std.specs.Int.{w32, to_be_bytes};
 ghost use Rattle.slice_scheduler.specs.declared.elements.ElementsFields.{ElementsFields};
 ghost use Rattle.map_assembly.specs.Element.{FitsElement, spelled_element, spelled_elements};
 ghost use Rattle.map_assembly.specs.Reading.{element_of_span, null_at};
-ghost use Rattle.map_assembly.specs.Map.{idle_span, head_span, map_span, pending_at};
+ghost use Rattle.map_assembly.specs.Map.{idle_span, head_span, map_span, pending_element};
 ghost use Rattle.map_assembly.specs.Writing.{spelled_header, spelled_map};
 
 use crate::element::MapElement;
@@ -79,7 +79,7 @@ pub(crate) fn push_pending(
     part: &Elements,
     end: u16,
 ) -> Result<(), AllocError>
-    ensures { OnOk result (elements.new.items ≡ elements.old.items ++ map (pending_at end) part.now.pending) }
+    ensures { OnOk result (elements.new.items ≡ elements.old.items ++ map (pending_element end) part.now.pending) }
 {
     for sid in part.get_pending() {
         elements.push(MapElement {

@@ -10,7 +10,7 @@ use Rattle.dsx_messages.specs.declared.kind.Kind.TheVariants.{Dsa, Dsc, Dsd}
 use Rattle.transactions.specs.declared.entry.KeptEntry.{KeptEntry}
 use Rattle.transactions.specs.declared.tick.GivenUp.{GivenUp}
 use Rattle.transactions.specs.Entry.{is_waiting}
-use Rattle.transactions.specs.Timers.{is_due, is_given_up, given_up_of, given_up_in}
+use Rattle.transactions.specs.Timers.{is_response_due, is_given_up, given_up_of, given_up_in}
 use Rattle.flow_table.specs.declared.flow.Flow.{Flow}
 use Rattle.flow_table.specs.Table.{flow_at}
 use Rattle.operator_model.specs.Sound.{IsWaitingOf, HasItsFlow, HaveOwnFlows}
@@ -39,7 +39,7 @@ HaveFlows flows [] = Unit {0}
 HaveFlows flows (g ∷ given_up) = HasFlow flows g × AllByRecursion (λ (h : GivenUp). g.sfid ≢ h.sfid) given_up × HaveFlows flows given_up
 
 pub given_up_waits : (e : KeptEntry) → is_given_up e ≡ true → is_waiting e ≡ true
-given_up_waits e given_up = (and_parts (is_due e) (is_waiting e) (and_parts (is_due e && is_waiting e) (e.resends_left == 0) given_up).0).1
+given_up_waits e given_up = (and_parts (is_response_due e) (is_waiting e) (and_parts (is_response_due e && is_waiting e) (e.resends_left == 0) given_up).0).1
 
 -- an SFID that no waiting entry has is none of what is given up
 pub none_given_up : (n : ℕ) (kept : List KeptEntry) → All (λ e. is_waiting e ≡ true → n ≢ e.sfid) kept → AllByRecursion (λ (h : GivenUp). n ≢ h.sfid) (given_up_in kept)

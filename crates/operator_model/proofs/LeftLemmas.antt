@@ -12,7 +12,7 @@ use Rattle.transactions.specs.declared.entry.KeptEntry.{KeptEntry}
 use Rattle.transactions.specs.declared.tick.GivenUp.{GivenUp}
 use Rattle.transactions.specs.Waits.{Waits}
 use Rattle.transactions.specs.Entry.{is_waiting}
-use Rattle.transactions.specs.Timers.{is_due, is_resent, is_given_up, is_forgotten, given_up_of, given_up_in, kept_after}
+use Rattle.transactions.specs.Timers.{is_response_due, is_resent, is_given_up, is_forgotten, given_up_of, given_up_in, kept_after}
 use Rattle.transactions.specs.Timers as timers
 use Rattle.param_sets.specs.Units.{UnitSizes}
 use Rattle.plant.specs.declared.operator_row.RowFields.{RowFields}
@@ -93,7 +93,7 @@ kept-all_granted kind q frame (grant ∷ grants) flows has =
 
 -- an entry that stays is not given up
 pub not_given_up : (e : KeptEntry) → not (is_forgotten e) ≡ true → is_given_up e ≡ false
-not_given_up e stays = (or_parts (is_given_up e) (is_due e && not (is_waiting e)) (not-true (is_forgotten e) stays)).0
+not_given_up e stays = (or_parts (is_given_up e) (is_response_due e && not (is_waiting e)) (not-true (is_forgotten e) stays)).0
 
 module _ (waits : Waits) where
   -- a tick changes neither whose flow an entry has nor that it waits

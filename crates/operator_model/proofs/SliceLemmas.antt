@@ -28,7 +28,7 @@ use Rattle.operator_model.specs.Frames.{frame_numbers}
 use Rattle.operator_model.specs.Machine.{arrival_result, work_result, reslice_result, unfit_from, own_step, own_run, IsAllowed}
 use Rattle.operator_model.specs.Replay.{actions_of, AreTold, IsReplay}
 use Rattle.operator_model.specs.Sound.{IsNextShare, IsSound}
-use Rattle.operator_model.specs.Slices.{SliceFrom, slice_from, reslicings_in, slice_or, slice_at, waiting_slice, slice_of_run, IsOfItsSlice, MayRun, FramesFollowTheirState, NextSliceFollowsItsState}
+use Rattle.operator_model.specs.Slices.{SliceFrom, slice_from, reslicings_in, slice_or, slice_in_frame, waiting_slice, slice_of_run, IsOfItsSlice, MayRun, FramesFollowTheirState, NextSliceFollowsItsState}
 use Rattle.operator_model.proofs.FrameLemmas.{StaysAt, worked_none, arrived_none, resent_none}
 use Rattle.operator_model.proofs.StepLemmas.{passed}
 
@@ -46,7 +46,7 @@ newest : (first : Minislots) (r : SliceFrom) (n : ℕ) (o : Option SliceFrom) �
 newest first r n (Some other) = refl
 newest first r n None = elim (nat_le r.from n) as (λ b. slice_or first (cond b (Some r) None) ≡ cond b r.slice first) [ true ↦ refl | false ↦ refl ]
 
-slice_at-is : (first : Minislots) (rs : List SliceFrom) (n : ℕ) → slice_at first rs n ≡ then_all first rs n
+slice_at-is : (first : Minislots) (rs : List SliceFrom) (n : ℕ) → slice_in_frame first rs n ≡ then_all first rs n
 slice_at-is first [] n = refl
 slice_at-is first (r ∷ rs) n =
     ap (λ (xs : List SliceFrom). slice_or first (find (λ x. nat_le x.from n) xs)) (reverse-append (r ∷ []) rs)
@@ -225,7 +225,7 @@ module _ (consts : ConstsFields) (row : RowFields) where
       (run_frames (after state action) actions step.to_come may.1))
 
   -- the slice that waits is the first of the re-slicings
-  waited : (share : Share) (next : Option NextShare) (rs : List SliceFrom) (n : ℕ) → then_all (slice_then share next n) rs n ≡ slice_at share.slice (waiting_slice next ++ rs) n
+  waited : (share : Share) (next : Option NextShare) (rs : List SliceFrom) (n : ℕ) → then_all (slice_then share next n) rs n ≡ slice_in_frame share.slice (waiting_slice next ++ rs) n
   waited share None rs n = sym (slice_at-is share.slice rs n)
   waited share (Some next) rs n = sym (slice_at-is share.slice (waiting_slice (Some next) ++ rs) n)
 
@@ -246,11 +246,11 @@ module _ (consts : ConstsFields) (row : RowFields) where
       let all = run_slices state actions to_come may in
       sym (now end.frame end.share end.next all.to_come) ∙ (all.same end.frame (omega arith) ∙ waited state.share state.next (reslicings_in actions) end.frame)
 
-  pub run-frames : (actions : List Action) → MayRun (operator consts row (opened_state consts row)) actions → All (IsOfItsSlice (slice_at row.slice (reslicings_in actions))) (own_run (operator consts row (opened_state consts row)) actions).outputs
+  pub run-frames : (actions : List Action) → MayRun (operator consts row (opened_state consts row)) actions → All (IsOfItsSlice (slice_in_frame row.slice (reslicings_in actions))) (own_run (operator consts row (opened_state consts row)) actions).outputs
   run-frames actions may = frames-from (opened_state consts row) actions tt may
 
   pub run-in_force : (actions : List Action) → MayRun (operator consts row (opened_state consts row)) actions
-      → (own_run (operator consts row (opened_state consts row)) actions).state.share.slice ≡ slice_at row.slice (reslicings_in actions) (own_run (operator consts row (opened_state consts row)) actions).state.frame
+      → (own_run (operator consts row (opened_state consts row)) actions).state.share.slice ≡ slice_in_frame row.slice (reslicings_in actions) (own_run (operator consts row (opened_state consts row)) actions).state.frame
   run-in_force actions may = in_force-from (opened_state consts row) actions tt may
 
   -- ---- a replay
@@ -259,8 +259,8 @@ module _ (consts : ConstsFields) (row : RowFields) where
   told-may state [] told = tt
   told-may state (entry ∷ history) told = (told.0, told-may (after state entry.action) history told.2)
 
-  pub replay-in_force : (history : List Entry) (state : OperatorState) → IsReplay consts row history state → state.share.slice ≡ slice_at row.slice (reslicings_in (actions_of history)) state.frame
-  replay-in_force history state replay = subst (λ (s : OperatorState). s.share.slice ≡ slice_at row.slice (reslicings_in (actions_of history)) s.frame) (sym replay.state_is)
+  pub replay-in_force : (history : List Entry) (state : OperatorState) → IsReplay consts row history state → state.share.slice ≡ slice_in_frame row.slice (reslicings_in (actions_of history)) state.frame
+  replay-in_force history state replay = subst (λ (s : OperatorState). s.share.slice ≡ slice_in_frame row.slice (reslicings_in (actions_of history)) s.frame) (sym replay.state_is)
       (run-in_force (actions_of history) (told-may (opened_state consts row) history replay.told))
 
 -- ---- from a sound state

@@ -149,14 +149,14 @@ asked_by_one t consts flow None = Err (refusal_naming t codes.RejectRequiredPara
 asked_by_one t consts flow (Some n) = asked_by_type t consts flow (set_type_of n)
 
 -- two encodings in order of bytes, of which one admits and the other activates
-abbrev pub in_order : FlowFields → ParamFields → ParamFields → AskedSets
-in_order first a b =
+abbrev pub asked_in_order : FlowFields → ParamFields → ParamFields → AskedSets
+asked_in_order first a b =
     if has_set_type Admitted first then record { admitted = Some a; active = Some b } else
     record { admitted = Some b; active = Some a }
 
 abbrev pub asked_by_two : Transaction → ConstsFields → FlowFields → FlowFields → Result AskedSets ReplyFields
 asked_by_two t consts first second =
-    set_of t consts first >>= λ a. set_of t consts second >>= λ b. Ok (in_order first a b)
+    set_of t consts first >>= λ a. set_of t consts second >>= λ b. Ok (asked_in_order first a b)
 
 unfoldable pub asked_sets : Transaction → ConstsFields → List FlowFields → Result AskedSets ReplyFields
 asked_sets t consts (flow ∷ []) = asked_by_one t consts flow flow.set_type

@@ -35,8 +35,8 @@ slice_or first None = first
 slice_or first (Some reslicing) = reslicing.slice
 
 -- the slice of a frame: that of the newest slice change that is not from a later frame on, at first the row's
-abbrev pub slice_at : Minislots → List SliceFrom → ℕ → Minislots
-slice_at first reslicings frame = slice_or first (find (λ r. nat_le r.from frame) (reverse reslicings))
+abbrev pub slice_in_frame : Minislots → List SliceFrom → ℕ → Minislots
+slice_in_frame first reslicings frame = slice_or first (find (λ r. nat_le r.from frame) (reverse reslicings))
 
 -- the slice of a share that waits for its frame, as a slice change
 abbrev pub waiting_slice : Option NextShare → List SliceFrom
@@ -45,7 +45,7 @@ waiting_slice (Some next) = record { from = next.from; slice = next.share.slice 
 
 -- the slice of a frame of a run from a state: at first that in force, then the one that waits, then those of the run
 abbrev pub slice_of_run : OperatorState → List Action → ℕ → Minislots
-slice_of_run state actions frame = slice_at state.share.slice (waiting_slice state.next ++ reslicings_in actions) frame
+slice_of_run state actions frame = slice_in_frame state.share.slice (waiting_slice state.next ++ reslicings_in actions) frame
 
 -- a frame that is output is of the slice of its number
 abbrev pub IsOfItsSlice : (ℕ → Minislots) → Output → Type 0
@@ -75,15 +75,15 @@ NextSliceFollowsItsState = (op : Operator) (actions : List Action) → IsSound o
 -- each frame that a run outputs is of the slice of its number
 abbrev pub FramesHaveTheirSlices : Type 0
 FramesHaveTheirSlices = (consts : ConstsFields) (row : RowFields) (actions : List Action) → MayRun (opened_operator consts row) actions
-    → All (IsOfItsSlice (slice_at row.slice (reslicings_in actions))) (own_run (opened_operator consts row) actions).outputs
+    → All (IsOfItsSlice (slice_in_frame row.slice (reslicings_in actions))) (own_run (opened_operator consts row) actions).outputs
 
 -- after a run the slice of the frame that comes next is in force
 abbrev pub NextSliceIsInForce : Type 0
 NextSliceIsInForce = (consts : ConstsFields) (row : RowFields) (actions : List Action) → MayRun (opened_operator consts row) actions
     → (own_run (opened_operator consts row) actions).state.share.slice
-    ≡ slice_at row.slice (reslicings_in actions) (own_run (opened_operator consts row) actions).state.frame
+    ≡ slice_in_frame row.slice (reslicings_in actions) (own_run (opened_operator consts row) actions).state.frame
 
 -- so it is in the replay of a history
 abbrev pub ReplayedSliceIsInForce : Type 0
 ReplayedSliceIsInForce = (consts : ConstsFields) (row : RowFields) (history : List Entry) (state : OperatorState)
-    → IsReplay consts row history state → state.share.slice ≡ slice_at row.slice (reslicings_in (actions_of history)) state.frame
+    → IsReplay consts row history state → state.share.slice ≡ slice_in_frame row.slice (reslicings_in (actions_of history)) state.frame

@@ -5,7 +5,7 @@ use Rattle.std.proofs.Math.Seq.{take-append_seam}
 use Rattle.pcap_capture.specs.declared.packet.Packet.{Packet}
 use Rattle.pcap_capture.specs.declared.packet.Packet.TheVariants.{Sent, Reply, Map}
 use Rattle.pcap_capture.specs.Management.{ManagementMessage, mac_frame}
-use Rattle.pcap_capture.specs.Packets.{managed_of, message_of, if_fits}
+use Rattle.pcap_capture.specs.Packets.{managed_of, packet_message, if_fits}
 use Rattle.pcap_capture.specs.Frames.{frame_of, frame_of_managed}
 use Rattle.pcap_capture.specs.Laws.{FrameHolds, HoldsPacket, IsAddressed}
 
@@ -58,7 +58,7 @@ picked true n m e = cc
 picked false n m e = cc
 
 -- the message of an address to another: both have six bytes
-between : (to from bytes : List ℕ) (m : ManagementMessage) → length to ≡ 6 → length from ≡ 6 → message_of to from bytes ≡ Some m
+between : (to from bytes : List ℕ) (m : ManagementMessage) → length to ≡ 6 → length from ≡ 6 → packet_message to from bytes ≡ Some m
     → (length m.to ≡ 6) × (length m.from ≡ 6)
 between to from [] m t f is = cc
 between to from (kind ∷ payload) m t f is =
@@ -91,7 +91,7 @@ bounded false n m le e = cc
 if_fits_short : (n m : ManagementMessage) → if_fits n ≡ Some m → length m.payload ≤ 65511
 if_fits_short n m e = bounded (nat_le (length n.payload) 65511) n m refl e
 
-message_short : (to from bytes : List ℕ) (m : ManagementMessage) → message_of to from bytes ≡ Some m → length m.payload ≤ 65511
+message_short : (to from bytes : List ℕ) (m : ManagementMessage) → packet_message to from bytes ≡ Some m → length m.payload ≤ 65511
 message_short to from [] m e = cc
 message_short to from (kind ∷ payload) m e = if_fits_short _ m e
 

@@ -15,9 +15,9 @@ use Rattle.run_model.specs.Ordered.{target, IsTold}
 use Rattle.pcap_capture.specs.declared.clock.Clock.{Clock}
 use Rattle.pcap_capture.specs.declared.packet.Packet.{Packet}
 use Rattle.pcap_capture.specs.File.{file_of}
-use Rattle.pcap_capture.specs.Capture.{CaptureView, Turn, opened_capture, with_packets, sent_in, told_in, packets_of, HaveOwnOutputs, IsOfRun, IsCaptureOf, HoldsRun, is_sent}
+use Rattle.pcap_capture.specs.Capture.{CaptureView, Turn, opened_capture, with_packets, sent_in, told_in, packets_of, HaveOwnOutputs, CapturesRun, IsCaptureOf, HoldsRun, is_sent}
 
-pub opened_run : (plant : PlantFields) → IsOfRun plant [] [] (opened_capture plant.consts)
+pub opened_run : (plant : PlantFields) → CapturesRun plant [] [] (opened_capture plant.consts)
 opened_run plant = record { turns = []; steps_are = refl; outs_are = refl; own = tt; clock_is = refl; packets_are = refl }
 
 -- a list of one more at the end
@@ -38,8 +38,8 @@ own_more plant before (first ∷ turns) turn own told = (
 )
 
 pub step_run : (plant : PlantFields) (steps : List Step) (outs : List Out) (step : Step) (now : List Out) (old mid new : CaptureView)
-    → IsOfRun plant steps outs old → IsTold plant steps step (target plant step) now → mid ≡ with_packets old (sent_in step)
-    → new ≡ with_packets mid (flat_map told_in now) → IsOfRun plant (steps ++ step ∷ []) (outs ++ now) new
+    → CapturesRun plant steps outs old → IsTold plant steps step (target plant step) now → mid ≡ with_packets old (sent_in step)
+    → new ≡ with_packets mid (flat_map told_in now) → CapturesRun plant (steps ++ step ∷ []) (outs ++ now) new
 step_run plant steps outs step now old mid new run told mid_is new_is =
     let turn : Turn = record { step = step; outs = now } in
     record {

@@ -19,7 +19,7 @@ use Rattle.pcap_capture.specs.declared.packet.Packet.{Packet}
 use Rattle.pcap_capture.specs.declared.packet.Packet.TheVariants.{Sent, Reply, Map}
 use Rattle.pcap_capture.specs.Frames.{frame_of}
 use Rattle.pcap_capture.specs.File.{record_of, records_from, file_of, file_header}
-use Rattle.pcap_capture.specs.Capture.{CaptureView, Turn, sent_in, told_in, packets_of, IsOfRun}
+use Rattle.pcap_capture.specs.Capture.{CaptureView, Turn, sent_in, told_in, packets_of, CapturesRun}
 use Rattle.pcap_capture.specs.Times.{counted_from}
 
 -- the frame of a MAP
@@ -83,7 +83,7 @@ frames_of_turns (turn ∷ turns) =
     simp (flat_map-append, filter_map-append, map-append, none_sent turn.step, frames_of_outs turn.outs, frames_of_turns turns)
 
 pub times_counted : (plant : PlantFields) (steps : List Step) (outs : List Out) (captured : CaptureView) → IsTraceOf plant steps outs
-    → IsOfRun plant steps outs captured
+    → CapturesRun plant steps outs captured
     → file_of captured.clock captured.packets
     ≡ file_header ++ counted_from plant.consts.units.frame_us plant.consts.channel.first_frame 0 captured.packets
 times_counted plant steps outs captured shown run =

@@ -66,7 +66,7 @@ HaveOwnOutputs plant before (turn ∷ turns) =
     IsTold plant before turn.step (target plant turn.step) turn.outs × HaveOwnOutputs plant (before ++ turn.step ∷ []) turns
 
 -- the capture of these steps and outputs has the packets of each step and then of its own outputs, step by step
-pub record IsOfRun (plant : PlantFields) (steps : List Step) (outs : List Out) (captured : CaptureView) : Type 0 where
+pub record CapturesRun (plant : PlantFields) (steps : List Step) (outs : List Out) (captured : CaptureView) : Type 0 where
   pub turns : List Turn
   pub steps_are : map (λ turn. turn.step) turns ≡ steps
   pub outs_are : flat_map (λ turn. turn.outs) turns ≡ outs
@@ -77,7 +77,7 @@ pub record IsOfRun (plant : PlantFields) (steps : List Step) (outs : List Out) (
 -- the bytes are the file of such a capture
 pub record IsCaptureOf (plant : PlantFields) (steps : List Step) (outs : List Out) (bytes : List ℕ) : Type 0 where
   pub captured : CaptureView
-  pub of_run : IsOfRun plant steps outs captured
+  pub of_run : CapturesRun plant steps outs captured
   pub bytes_are : bytes ≡ file_of captured.clock captured.packets
 
 -- ---- what is in it

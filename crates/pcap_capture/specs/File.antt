@@ -9,9 +9,9 @@ use Rattle.pcap_capture.specs.Frames.{frame_of}
 -- ---- times
 
 -- the frame at whose begin a packet exists: a MAP's own, else that whose MAP comes next
-abbrev pub frame_at : ℕ → Packet → ℕ
-frame_at next (Map frame bytes) = frame
-frame_at next packet = next
+abbrev pub packet_frame : ℕ → Packet → ℕ
+packet_frame next (Map frame bytes) = frame
+packet_frame next packet = next
 
 -- the frame whose MAP comes next after a packet
 abbrev pub next_after : ℕ → Packet → ℕ
@@ -21,20 +21,20 @@ next_after next packet = next
 -- ---- records
 
 -- 32 bits, the low byte first
-unfoldable pub word : ℕ → List ℕ
-word n = to_le_bytes w32 n
+unfoldable pub word_bytes : ℕ → List ℕ
+word_bytes n = to_le_bytes w32 n
 
 -- a record: seconds (their low 32 bits), microseconds, how many bytes are kept and how many there were, and the frame
 abbrev pub record_of : ℕ → Option (List ℕ) → List ℕ
 record_of microseconds None = []
 record_of microseconds (Some frame) =
-    word (microseconds / 1000000 % 4294967296) ++ (word (microseconds % 1000000) ++ (word (length frame) ++ (word (length frame) ++ frame)))
+    word_bytes (microseconds / 1000000 % 4294967296) ++ (word_bytes (microseconds % 1000000) ++ (word_bytes (length frame) ++ (word_bytes (length frame) ++ frame)))
 
 -- the records of packets, the first of which is before the MAP of the frame `next`, in frames of so many microseconds
 abbrev pub records_from : ℕ → ℕ → List Packet → List ℕ
 records_from frame_us next [] = []
 records_from frame_us next (packet ∷ packets) =
-    record_of (frame_at next packet * frame_us) (frame_of packet) ++ records_from frame_us (next_after next packet) packets
+    record_of (packet_frame next packet * frame_us) (frame_of packet) ++ records_from frame_us (next_after next packet) packets
 
 -- ---- the file
 

@@ -22,9 +22,9 @@ abbrev pub if_fits : ManagementMessage → Option ManagementMessage
 if_fits m = if nat_le (length m.payload) 65511 then Some m else None
 
 -- one byte of message type and the payload; nothing where there is no such byte
-abbrev pub message_of : List ℕ → List ℕ → List ℕ → Option ManagementMessage
-message_of to from [] = None
-message_of to from (kind ∷ payload) =
+abbrev pub packet_message : List ℕ → List ℕ → List ℕ → Option ManagementMessage
+packet_message to from [] = None
+packet_message to from (kind ∷ payload) =
     if_fits (record { to = to; from = from; version = version_of kind; kind = kind; payload = payload })
 
 -- the message type of a MAP
@@ -37,6 +37,6 @@ map_message body = if_fits (record { to = all_modems_address; from = cmts; versi
 
 -- the management message of a packet, if it has one: a modem's goes to the CMTS, a reply to the modem
 abbrev pub managed_of : Packet → Option ManagementMessage
-managed_of (Sent modem bytes) = message_of cmts modem.0 bytes
-managed_of (Reply modem bytes) = message_of modem.0 cmts bytes
+managed_of (Sent modem bytes) = packet_message cmts modem.0 bytes
+managed_of (Reply modem bytes) = packet_message modem.0 cmts bytes
 managed_of (Map frame bytes) = map_message bytes

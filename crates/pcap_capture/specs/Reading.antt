@@ -7,14 +7,14 @@ abbrev pub kept_in : List ℕ → ℕ
 kept_in bytes = from_le_bytes w32 (slice_range bytes 8 12)
 
 -- the frames of at most so many records, one after the other: each after 16 bytes, up to the end
-abbrev pub frames_in : ℕ → List ℕ → List (List ℕ)
-frames_in zero bytes = []
-frames_in (suc more) bytes =
+abbrev pub records_in : ℕ → List ℕ → List (List ℕ)
+records_in zero bytes = []
+records_in (suc more) bytes =
     elim (nat_lt 15 (length bytes)) [
-      | true ↦ take (kept_in bytes) (drop 16 bytes) ∷ frames_in more (drop (16 + kept_in bytes) bytes)
+      | true ↦ take (kept_in bytes) (drop 16 bytes) ∷ records_in more (drop (16 + kept_in bytes) bytes)
       | false ↦ []
     ]
 
 -- the frames of a file: its header takes 24 bytes
 abbrev pub frames_of_file : ℕ → List ℕ → List (List ℕ)
-frames_of_file most bytes = frames_in most (drop 24 bytes)
+frames_of_file most bytes = records_in most (drop 24 bytes)

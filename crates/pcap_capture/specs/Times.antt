@@ -7,12 +7,12 @@ use Rattle.pcap_capture.specs.Frames.{frame_of}
 use Rattle.pcap_capture.specs.File.{record_of}
 
 -- how many MAPs have come after a packet, of which so many came before it
-abbrev pub count_after : ℕ → Packet → ℕ
-count_after count (Map frame bytes) = count + 1
-count_after count packet = count
+abbrev pub frame_time_after : ℕ → Packet → ℕ
+frame_time_after count (Map frame bytes) = count + 1
+frame_time_after count packet = count
 
 -- the records of packets, so many MAPs having come before them
 abbrev pub counted_from : ℕ → ℕ → ℕ → List Packet → List ℕ
 counted_from frame_us first_frame count [] = []
 counted_from frame_us first_frame count (packet ∷ packets) =
-    record_of ((first_frame + count) * frame_us) (frame_of packet) ++ counted_from frame_us first_frame (count_after count packet) packets
+    record_of ((first_frame + count) * frame_us) (frame_of packet) ++ counted_from frame_us first_frame (frame_time_after count packet) packets

@@ -6,7 +6,7 @@ ghost use Rattle.plant.specs.declared.plant.PlantFields.{PlantFields};
 ghost use Rattle.run_model.specs.declared.step.Step.{Step};
 ghost use Rattle.run_model.specs.declared.step.Out.{Out};
 ghost use Rattle.pcap_capture.specs.File.{file_of};
-ghost use Rattle.pcap_capture.specs.Capture.{opened_capture, with_packets, sent_in, told_in, IsOfRun, IsCaptureOf};
+ghost use Rattle.pcap_capture.specs.Capture.{opened_capture, with_packets, sent_in, told_in, CapturesRun, IsCaptureOf};
 ghost use Rattle.pcap_capture.specs.Laws.{IsAddressed, AreRead};
 
 use crate::clock::Clock;
@@ -140,7 +140,7 @@ impl Capture {
     pub fn to_bytes(&self, alloc: Global) -> Result<Vec<u8>, AllocError>
         ensures value { IfOk result (λ bytes. bytes.items ≡ file_of self.now.clock self.now.packets) }
         ensures of_run { IfOk result (λ bytes. (plant : PlantFields) (steps : List Step) (outs : List Out)
-            → IsOfRun plant steps outs self.now → IsCaptureOf plant steps outs bytes.items) }
+            → CapturesRun plant steps outs self.now → IsCaptureOf plant steps outs bytes.items) }
         ensures read { IfOk result (λ bytes. AreRead self.now.packets bytes.items) }
     {
         file_of(alloc, self.clock, self.packets.as_slice())

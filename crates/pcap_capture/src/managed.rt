@@ -2,7 +2,7 @@
 
 ghost use Rattle.std.specs.Prelude.{◌≡◌, ◌+◌, ◌≤◌, length, IfOk};
 ghost use Rattle.pcap_capture.specs.Management.{body_of};
-ghost use Rattle.pcap_capture.specs.Packets.{version_of, message_of, map_message, managed_of};
+ghost use Rattle.pcap_capture.specs.Packets.{version_of, packet_message, map_message, managed_of};
 
 use crate::packet::Packet;
 use dsx_messages::message_type;
@@ -55,8 +55,8 @@ fn version_of(kind: u8) -> u8
 
 /// Returns the management message of one byte of message type and the payload, if it can have a
 /// frame.
-fn message_of(to: [u8; 6], from: [u8; 6], bytes: &[u8]) -> Option<Management<'_>>
-    ensures { result ≡ message_of to from bytes.now }
+fn packet_message(to: [u8; 6], from: [u8; 6], bytes: &[u8]) -> Option<Management<'_>>
+    ensures { result ≡ packet_message to from bytes.now }
 {
     let [kind, payload @ ..] = bytes else {
         return None;
@@ -95,8 +95,8 @@ pub(crate) fn managed_of(packet: &Packet) -> Option<Management<'_>>
     ensures { result ≡ managed_of packet.now }
 {
     match packet {
-        Packet::Sent { modem, bytes } => message_of(CMTS, modem.0, bytes.as_slice()),
-        Packet::Reply { modem, bytes } => message_of(modem.0, CMTS, bytes.as_slice()),
+        Packet::Sent { modem, bytes } => packet_message(CMTS, modem.0, bytes.as_slice()),
+        Packet::Reply { modem, bytes } => packet_message(modem.0, CMTS, bytes.as_slice()),
         Packet::Map { frame: _, bytes } => map_message(bytes.as_slice()),
     }
 }

@@ -2,7 +2,7 @@
 
 ghost use Rattle.std.specs.Prelude.{◌≡◌, ◌≤◌, ◌++◌, Some, length, IfOk, OnOk};
 ghost use Rattle.pcap_capture.specs.Frames.{frame_of};
-ghost use Rattle.pcap_capture.specs.File.{frame_at, next_after, word, record_of, records_from, file_header, file_of};
+ghost use Rattle.pcap_capture.specs.File.{packet_frame, next_after, word_bytes, record_of, records_from, file_header, file_of};
 
 use crate::clock::Clock;
 use crate::framing::frame_of;
@@ -24,9 +24,9 @@ fn put_file_header(file: &mut Vec<u8>) -> Result<(), AllocError>
 }
 
 /// Adds 32 bits, the low byte first.
-#[tactic(auto, unfolding(crate::specs::File::word))]
+#[tactic(auto, unfolding(crate::specs::File::word_bytes))]
 fn put_word(file: &mut Vec<u8>, number: u32) -> Result<(), AllocError>
-    ensures { OnOk result (file.new.items ≡ file.old.items ++ word number) }
+    ensures { OnOk result (file.new.items ≡ file.old.items ++ word_bytes number) }
 {
     file.extend_from_slice(&number.to_le_bytes())?;
     Ok(())
@@ -62,9 +62,9 @@ fn put_packet(
 }
 
 /// Returns the frame at whose begin a packet exists: a MAP's own, else that whose MAP comes next.
-fn frame_at(next: u64, packet: &Packet) -> u64
+fn packet_frame(next: u64, packet: &Packet) -> u64
     requires { next ≤ 4294967296 }
-    ensures value { result ≡ frame_at next packet.now }
+    ensures value { result ≡ packet_frame next packet.now }
     ensures bound { result ≤ 4294967296 }
 {
     match packet {
@@ -97,7 +97,7 @@ fn put_records(
 {
     let mut next = clock.first_frame as u64;
     for packet in packets {
-        let microseconds = frame_at(next, packet) * clock.frame_us as u64;
+        let microseconds = packet_frame(next, packet) * clock.frame_us as u64;
         put_packet(alloc, file, microseconds, packet)?;
         next = next_after(next, packet);
     }

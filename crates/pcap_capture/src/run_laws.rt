@@ -9,19 +9,19 @@ ghost use Rattle.run_model.specs.Ordered.{target, IsTold, Ordered};
 ghost use Rattle.run_model.specs.IsTraceOf.{IsTraceOf};
 ghost use Rattle.pcap_capture.specs.File.{file_header, file_of};
 ghost use Rattle.pcap_capture.specs.Times.{counted_from};
-ghost use Rattle.pcap_capture.specs.Capture.{CaptureView, opened_capture, with_packets, sent_in, told_in, IsOfRun, IsCaptureOf, HoldsRun};
+ghost use Rattle.pcap_capture.specs.Capture.{CaptureView, opened_capture, with_packets, sent_in, told_in, CapturesRun, IsCaptureOf, HoldsRun};
 
 /// States that a capture without a packet is that of no step.
 pub fn opened_is_of_run()
-    ensures { (plant : PlantFields) → IsOfRun plant [] [] (opened_capture plant.consts) }
+    ensures { (plant : PlantFields) → CapturesRun plant [] [] (opened_capture plant.consts) }
 {}
 
 /// States that a capture stays that of the run when the packets of one step more and then of its own outputs are added.
 pub fn step_is_captured()
     ensures { (plant : PlantFields) (steps : List Step) (outs : List Out) (step : Step) (now : List Out)
-        (old mid new : CaptureView) → IsOfRun plant steps outs old → IsTold plant steps step (target plant step) now
+        (old mid new : CaptureView) → CapturesRun plant steps outs old → IsTold plant steps step (target plant step) now
         → mid ≡ with_packets old (sent_in step) → new ≡ with_packets mid (flat_map told_in now)
-        → IsOfRun plant (steps ++ step ∷ []) (outs ++ now) new }
+        → CapturesRun plant (steps ++ step ∷ []) (outs ++ now) new }
 {}
 
 /// States that the outputs by which a run grows with one step more are that step's own, as `step_is_captured` asks.
@@ -49,7 +49,7 @@ pub fn capture_holds_run()
 /// the frame that is so many after the first one.
 pub fn times_are_counted()
     ensures { (plant : PlantFields) (steps : List Step) (outs : List Out) (captured : CaptureView)
-        → IsTraceOf plant steps outs → IsOfRun plant steps outs captured
+        → IsTraceOf plant steps outs → CapturesRun plant steps outs captured
         → file_of captured.clock captured.packets
         ≡ file_header ++ counted_from plant.consts.units.frame_us plant.consts.channel.first_frame 0 captured.packets }
 {}

@@ -1,5 +1,4 @@
 pub mod Name
-pub mod Padding
 pub mod Classes
 pub mod Consts
 pub mod Provisioned

@@ -1,5 +1,5 @@
 -- Names of operators (implementation-specific).
-use Rattle.std.specs.Prelude.{◌≡◌, ℕ, ◌-◌, ◌≤◌, IsTrue, List, ◌++◌, length, take, replicate}
+use Rattle.std.specs.Prelude.{ℕ, ◌≤◌, ◌&&◌, nat_le, Bool, IsTrue, List, length}
 use Rattle.std.specs.Char.{is_ascii_alphanumeric}
 use Rattle.std.specs.List.{list_all}
 
@@ -9,9 +9,6 @@ pub record IsOperatorName (name : List ℕ) : Type 0 where
   pub few : length name ≤ 16
   pub letters : IsTrue (list_all is_ascii_alphanumeric name)
 
--- how it is kept in memory: in the first `len` of 16 bytes, and 0 after it
-pub record IsPaddedName (bytes : List ℕ) (len : ℕ) : Type 0 where
-  pub valid : IsOperatorName (take len bytes)
-  pub fits : len ≤ 16
-  pub whole : length bytes ≡ 16
-  pub padded : bytes ≡ take len bytes ++ replicate (16 - len) 0
+-- the same as a test of bytes
+unfoldable pub is_operator_name : List ℕ → Bool
+is_operator_name text = (nat_le 1 (length text) && nat_le (length text) 16) && list_all is_ascii_alphanumeric text

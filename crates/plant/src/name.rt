@@ -20,14 +20,14 @@ pub struct OperatorName {
 
 impl Model for OperatorName {
     ghost use Rattle.std.specs.Prelude.{ℕ, List, ◌++◌, ◌-◌, length, take, replicate};
-    ghost use Rattle.plant.specs.Name.{IsPaddedName};
-    ghost use Rattle.plant.specs.Padding.{padded_name_splits};
+    ghost use Rattle.plant.specs.Name.{IsOperatorName};
+    ghost use Rattle.lists.specs.Padding.{IsPaddedName, padded_name_splits};
 
     ghost Value = { List ℕ };
 
     ghost view = { λ n. take n.len n.bytes };
 
-    ghost invariant = { λ n. IsPaddedName n.bytes n.len };
+    ghost invariant = { λ n. IsPaddedName IsOperatorName 16 n.bytes n.len };
 
     ghost inverse = { λ name. record { bytes = name ++ replicate (16 - length name) 0; len = length name } };
 

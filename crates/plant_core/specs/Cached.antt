@@ -5,5 +5,5 @@ use Rattle.plant.specs.declared.operator_row.RowFields.{RowFields}
 use Rattle.plant.specs.Roster.{holder}
 
 -- each modem is next to the operator that lists it
-abbrev pub AreRight : List RowFields → List (Modem × ℕ) → Type 0
-AreRight rows pairs = (modem : Modem) (op : ℕ) → Contains pairs (modem, op) → holder rows modem ≡ Some op
+abbrev pub AreHolders : List RowFields → List (Modem × ℕ) → Type 0
+AreHolders rows pairs = (modem : Modem) (op : ℕ) → Contains pairs (modem, op) → holder rows modem ≡ Some op

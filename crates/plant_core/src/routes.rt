@@ -28,13 +28,13 @@ pub struct Routes {
 
 impl Model for Routes {
     ghost use Rattle.plant.specs.declared.plant.PlantFields.{PlantFields};
-    ghost use Rattle.plant_core.specs.Cached.{AreRight};
+    ghost use Rattle.plant_core.specs.Cached.{AreHolders};
 
     ghost Value = { PlantFields };
 
     ghost view = { λ r. r.plant };
 
-    ghost invariant = { λ r. AreRight r.plant.rows r.cache.entries };
+    ghost invariant = { λ r. AreHolders r.plant.rows r.cache.entries };
 }
 
 impl Routes {

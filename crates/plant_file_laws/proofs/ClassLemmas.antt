@@ -25,7 +25,7 @@ use Rattle.slice_table.proofs.SaidKeys.{le_true, array_is, text_said, bytes_is, 
 use Rattle.slice_table.proofs.SaidConsts.{class_name_is, encoding_is}
 use Rattle.plant_file_laws.specs.Held.{item_in, items_or_none, items_in, standing_at, value_of_key}
 use Rattle.plant_file_laws.specs.Keys.{in_turn, class_keys}
-use Rattle.plant_file_laws.specs.Stands.{MayStand}
+use Rattle.plant_file_laws.specs.Stands.{IsValueOfKey}
 use Rattle.plant_file_laws.proofs.ListLemmas.{some_same, one_of}
 use Rattle.plant_file_laws.proofs.FoundLemmas.{blame, Blames, blames_bind, blames_checked, Found, found_behind, found_bind, found_before, found_key, found_each, judged_required, refused}
 use Rattle.plant_file_laws.proofs.KeyLemmas.{held_in, found_table, blames_text, blames_bytes}
@@ -62,7 +62,7 @@ module _ (document : Members) where
           (λ text is. blames_checked key (at_field field.Name ms) (string text) (is_class_name text && not (list_any (is_class_named text) classes)) text
           (text_said whose field.Name ms text is))
 
-      said : (name : List ℕ) → class_name_at classes whose ms ≡ Ok name → (d : Data) × (at_field field.Name ms ≡ Some d) × MayStand document key d
+      said : (name : List ℕ) → class_name_at classes whose ms ≡ Ok name → (d : Data) × (at_field field.Name ms ≡ Some d) × IsValueOfKey document key d
       said name is =
           let says = (class_name_is classes whose ms name).0 is in (
             string name,
@@ -81,7 +81,7 @@ module _ (document : Members) where
             ),
           )
 
-      again : (d : Data) → at_field field.Name ms ≡ Some d → MayStand document key d → (name : List ℕ) × (class_name_at classes whose ms ≡ Ok name)
+      again : (d : Data) → at_field field.Name ms ≡ Some d → IsValueOfKey document key d → (name : List ℕ) × (class_name_at classes whose ms ≡ Ok name)
       again d holds may = (
         may.0,
         (class_name_is classes whose ms may.0).1 (record {
@@ -111,12 +111,12 @@ module _ (document : Members) where
           blames_bind key (at_field field.Encoding ms) (bytes_at whose field.Encoding ms) _ (blames_bytes whose field.Encoding ms)
           (λ bytes is. let s = (bytes_is whose field.Encoding ms bytes).0 is in blames_parameters key (at_field field.Encoding ms) (string s.0) (flow_of bytes) s.1)
 
-      said : (flow : FlowFields) → class_encoding_at whose ms ≡ Ok flow → (d : Data) × (at_field field.Encoding ms ≡ Some d) × MayStand document key d
+      said : (flow : FlowFields) → class_encoding_at whose ms ≡ Ok flow → (d : Data) × (at_field field.Encoding ms ≡ Some d) × IsValueOfKey document key d
       said flow is =
           let says = (encoding_is whose ms flow).0 is in
           (string says.held.0, says.held.1, (says.bytes, flow, (says.held.0, refl, says.held.2), says.stated, says.parameters))
 
-      again : (d : Data) → at_field field.Encoding ms ≡ Some d → MayStand document key d → (flow : FlowFields) × (class_encoding_at whose ms ≡ Ok flow)
+      again : (d : Data) → at_field field.Encoding ms ≡ Some d → IsValueOfKey document key d → (flow : FlowFields) × (class_encoding_at whose ms ≡ Ok flow)
       again d holds may = (
         may.1,
         (encoding_is whose ms may.1).1 (record {

@@ -11,7 +11,7 @@ use Rattle.slice_table.specs.declared.plant_fault.PlantFault.{PlantFault}
 use Rattle.slice_table.specs.declared.plant_key.Key.{Key}
 use Rattle.slice_table.specs.declared.plant_key.Key.TheVariants.{Classes, Operators}
 use Rattle.slice_table.specs.declared.plant_key.Place.TheVariants as place
-use Rattle.slice_table.specs.Tree.{Read}
+use Rattle.slice_table.specs.Tree.{PlantResult}
 use Rattle.slice_table.specs.Checks.{rows_fault, unless}
 use Rattle.slice_table.specs.ReadConsts.{plant_keys_of, classes_if, with_classes, consts_of}
 use Rattle.slice_table.specs.ReadRows.{rows_of}
@@ -24,7 +24,7 @@ use Rattle.slice_table.proofs.SaidRows.{rows_are}
 use Rattle.lists.specs.First.{IsFirst}
 use Rattle.plant_file_laws.specs.Held.{items_in, value_of_key}
 use Rattle.plant_file_laws.specs.Keys.{keys_of, keys_at, plant_fields, in_turn, class_keys, operator_keys}
-use Rattle.plant_file_laws.specs.Faults.{IsMissing, IsWrong, IsAtFault, IsToldAs, IsOfTheFirstKey, IsOfAllKeys, AreRight}
+use Rattle.plant_file_laws.specs.Faults.{IsMissing, IsWrong, IsAtFault, IsToldAs, IsOfTheFirstKey, IsOfAllKeys, HasNoFault}
 use Rattle.plant_file_laws.proofs.ListLemmas.{first_one, none-first}
 use Rattle.plant_file_laws.proofs.FoundLemmas.{Found, found_bind, found_last}
 use Rattle.plant_file_laws.proofs.PlantLemmas.{found_plant}
@@ -36,28 +36,28 @@ record Said : Type 0 where
   consts : ConstsFields
   rows : List RowFields
 
-said_of : Members → Read Said
+said_of : Members → PlantResult Said
 said_of document = do
   consts ← consts_of document
   rows ← rows_of consts document
   Ok (record { consts = consts; rows = rows })
 
 -- what is asked of all of them together
-judged : Said → Read PlantFields
+judged : Said → PlantResult PlantFields
 judged said = unless (rows_fault said.consts said.rows) (record { consts = said.consts; rows = said.rows })
 
 unless_err : {A : Type 0} (o : Option PlantFault) (x : A) (fault : PlantFault) → unless o x ≡ Err fault → o ≡ Some fault
 unless_err None x fault h = cc
 unless_err (Some other) x fault h = let same : other ≡ fault = cc in ap (λ (f : PlantFault). Some f) same
 
-both_after : (r : Read ConstsFields) (g : ConstsFields → Read (List RowFields))
+both_after : (r : PlantResult ConstsFields) (g : ConstsFields → PlantResult (List RowFields))
     → (r >>= λ consts. g consts >>= λ rows. unless (rows_fault consts rows) (record { consts = consts; rows = rows }))
     ≡ ((r >>= λ consts. g consts >>= λ rows. Ok (record { consts = consts; rows = rows })) >>= judged)
 unfolding judged
 both_after (Err fault) g = refl
 both_after (Ok consts) g = by (g consts)
   where
-    by : (s : Read (List RowFields)) → (s >>= λ rows. unless (rows_fault consts rows) (record { consts = consts; rows = rows }))
+    by : (s : PlantResult (List RowFields)) → (s >>= λ rows. unless (rows_fault consts rows) (record { consts = consts; rows = rows }))
         ≡ ((s >>= λ rows. Ok (record { consts = consts; rows = rows })) >>= judged)
     by (Err fault) = refl
     by (Ok rows) = refl
@@ -109,14 +109,14 @@ module _ (document : Members) where
   told_one key a b (inl one) (inr two) = absurd (not_both key one.0 two.0)
   told_one key a b (inr one) (inl two) = absurd (not_both key two.0 one.0)
 
-  right : AllByRecursion (λ key. ¬ IsAtFault document key) (keys_of document) → AreRight document
+  right : AllByRecursion (λ key. ¬ IsAtFault document key) (keys_of document) → HasNoFault document
   right none = All-from_recursion (λ (key : Key). ¬ IsAtFault document key) (keys_of document) none
 
-  not_first : (key : Key) → AreRight document → IsFirst (IsAtFault document) (keys_of document) key → ⊥
+  not_first : (key : Key) → HasNoFault document → IsFirst (IsAtFault document) (keys_of document) key → ⊥
   not_first key all first =
       none-first (IsAtFault document) (keys_of document) key (recursion_from_All (λ (other : Key). ¬ IsAtFault document other) (keys_of document) all) first
 
-  fault_by : (r : Read Said) → said_of document ≡ r → Found document (keys_of document) r → (fault : PlantFault)
+  fault_by : (r : PlantResult Said) → said_of document ≡ r → Found document (keys_of document) r → (fault : PlantFault)
       → ((r >>= judged) ≡ Err fault) ↔ (IsOfTheFirstKey document fault ⊎ IsOfAllKeys document fault)
   unfolding judged
   fault_by (Err other) is found fault = (
@@ -157,19 +157,19 @@ module _ (document : Members) where
       let both = fault_by (said_of document) refl found_said fault in
       ((λ h. both.0 (sym plant_is_judged ∙ h)), (λ told. plant_is_judged ∙ both.1 told))
 
-  right_by : (r : Read Said) → Found document (keys_of document) r → (plant : PlantFields) → (r >>= judged) ≡ Ok plant → AreRight document
+  right_by : (r : PlantResult Said) → Found document (keys_of document) r → (plant : PlantFields) → (r >>= judged) ≡ Ok plant → HasNoFault document
   right_by (Err fault) found plant h = cc
   right_by (Ok said) none plant h = right none
 
-  pub read_is_right : (plant : PlantFields) → plant_of document ≡ Ok plant → AreRight document
+  pub read_is_right : (plant : PlantFields) → plant_of document ≡ Ok plant → HasNoFault document
   read_is_right plant h = right_by (said_of document) found_said plant (sym plant_is_judged ∙ h)
 
-  said_by : (r : Read Said) → said_of document ≡ r → Found document (keys_of document) r → AreRight document
+  said_by : (r : PlantResult Said) → said_of document ≡ r → Found document (keys_of document) r → HasNoFault document
       → (consts : ConstsFields) × (rows : List RowFields) × SaysConsts document consts × SaysRows consts document rows
   said_by (Err fault) is found all = absurd (not_first found.0 all found.1)
   said_by (Ok said) is found all = let parts = says said is in (said.consts, said.rows, parts.0, parts.1)
 
-  pub right_is_said : AreRight document
+  pub right_is_said : HasNoFault document
       ↔ ((consts : ConstsFields) × (rows : List RowFields) × SaysConsts document consts × SaysRows consts document rows)
   right_is_said = (
     (λ all. said_by (said_of document) refl found_said all),

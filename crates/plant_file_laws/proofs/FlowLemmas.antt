@@ -15,7 +15,7 @@ use Rattle.slice_table.specs.declared.plant_key.Place.{Place}
 use Rattle.slice_table.specs.declared.plant_key.Place.TheVariants as place
 use Rattle.plant.specs.Provisioned.{sets_of_encoding}
 use Rattle.plant.specs.Row.{is_listed}
-use Rattle.slice_table.specs.Tree.{Read, each, required_value, expected_value, checked_value, at_field, bytes_at, modem_in, modem_of, modem_at, table_of}
+use Rattle.slice_table.specs.Tree.{PlantResult, each, required_value, expected_value, checked_value, at_field, bytes_at, modem_in, modem_of, modem_at, table_of}
 use Rattle.slice_table.specs.ReadRows.{own_modem_at, has_sets, provision_at, provision_read, provisions_in, provisions_if}
 use Rattle.slice_table.specs.Says.{SaysConsts, SaysModems}
 use Rattle.slice_table.proofs.Parsed.{ok_same, bind_ok, required_ok, checked_ok}
@@ -23,7 +23,7 @@ use Rattle.slice_table.proofs.SaidKeys.{bind_both, required_said, checked_said, 
 use Rattle.slice_table.proofs.SaidRows.{modems_are, sets_there}
 use Rattle.plant_file_laws.specs.Held.{item_in, table_in, items_or_none, items_in, standing_at, value_of_key}
 use Rattle.plant_file_laws.specs.Keys.{in_turn, flow_keys}
-use Rattle.plant_file_laws.specs.Stands.{MayStand}
+use Rattle.plant_file_laws.specs.Stands.{IsValueOfKey}
 use Rattle.plant_file_laws.proofs.ListLemmas.{some_same}
 use Rattle.plant_file_laws.proofs.FoundLemmas.{Blames, blames_required, blames_bind, blames_expected, blames_checked, Found, found_behind, found_bind, found_key, found_each, judged_required}
 use Rattle.plant_file_laws.proofs.KeyLemmas.{held_in, found_table, blames_bytes, consts_one}
@@ -65,14 +65,14 @@ module _ (document : Members) (consts : ConstsFields) (says_consts : SaysConsts 
             (λ d is. blames_address key (at_field field.Modem ms) d (required_ok key (at_field field.Modem ms) d is)))
             (λ modem is. let d = there modem is in blames_checked key (at_field field.Modem ms) d.0 (is_listed modem modems) modem d.1)
 
-        said : (modem : Modem) → own_modem_at modems whose ms ≡ Ok modem → (d : Data) × (at_field field.Modem ms ≡ Some d) × MayStand document key d
+        said : (modem : Modem) → own_modem_at modems whose ms ≡ Ok modem → (d : Data) × (at_field field.Modem ms ≡ Some d) × IsValueOfKey document key d
         said modem is =
             let found = bind_ok (modem_at whose field.Modem ms) _ modem is in
             let own = checked_ok key (is_listed found.0 modems) found.0 modem found.2 in
             let d = there found.0 found.1 in
             (d.0, d.1, (whole, modems, found.0, ap table_in at_operator, says_modems, (address_is key d.0 found.0).0 d.2, own.0))
 
-        again : (d : Data) → at_field field.Modem ms ≡ Some d → MayStand document key d → (modem : Modem) × (own_modem_at modems whose ms ≡ Ok modem)
+        again : (d : Data) → at_field field.Modem ms ≡ Some d → IsValueOfKey document key d → (modem : Modem) × (own_modem_at modems whose ms ≡ Ok modem)
         again d holds may =
             let same : may.0 ≡ whole = some_same may.0 whole (sym may.3 ∙ ap table_in at_operator) in
             let ones : may.1 ≡ modems = modems_one whose whole may.1 modems (subst (λ (m : Members). SaysModems m may.1) same may.4) says_modems in
@@ -99,7 +99,7 @@ module _ (document : Members) (consts : ConstsFields) (says_consts : SaysConsts 
         key : Key
         key = Entry whose field.Encoding
 
-        reading : Read Provision
+        reading : PlantResult Provision
         reading = bytes_at whose field.Encoding ms >>= λ encoding. checked_value key (has_sets consts (with modem encoding)) (with modem encoding)
 
         blames : Blames key (at_field field.Encoding ms) reading
@@ -108,14 +108,14 @@ module _ (document : Members) (consts : ConstsFields) (says_consts : SaysConsts 
             (λ encoding is. let s = (bytes_is whose field.Encoding ms encoding).0 is in
             blames_checked key (at_field field.Encoding ms) (string s.0) (has_sets consts (with modem encoding)) (with modem encoding) s.1)
 
-        said : (p : Provision) → reading ≡ Ok p → (d : Data) × (at_field field.Encoding ms ≡ Some d) × MayStand document key d
+        said : (p : Provision) → reading ≡ Ok p → (d : Data) × (at_field field.Encoding ms ≡ Some d) × IsValueOfKey document key d
         said p is =
             let encoding = bind_ok (bytes_at whose field.Encoding ms) _ p is in
             let s = (bytes_is whose field.Encoding ms encoding.0).0 encoding.1 in
             let test = checked_ok key (has_sets consts (with modem encoding.0)) (with modem encoding.0) p encoding.2 in
             (string s.0, s.1, (consts, encoding.0, says_consts, (s.0, refl, s.2), (sets_there consts (with modem encoding.0)).0 test.0))
 
-        again : (d : Data) → at_field field.Encoding ms ≡ Some d → MayStand document key d → (p : Provision) × (reading ≡ Ok p)
+        again : (d : Data) → at_field field.Encoding ms ≡ Some d → IsValueOfKey document key d → (p : Provision) × (reading ≡ Ok p)
         again d holds may =
             let same : may.0 ≡ consts = consts_one document may.0 consts may.2 says_consts in
             let sets : IsSome (sets_of_encoding consts may.1) = subst (λ (c : ConstsFields). IsSome (sets_of_encoding c may.1)) same may.4 in

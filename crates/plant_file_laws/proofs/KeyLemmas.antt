@@ -16,15 +16,15 @@ use Rattle.slice_table.specs.declared.plant_key.Key.{Key}
 use Rattle.slice_table.specs.declared.plant_key.Key.TheVariants.{Table, Entry}
 use Rattle.slice_table.specs.declared.ranges.Bounds.{Bounds}
 use Rattle.slice_table.specs.Ranges.{range_of, default_of}
-use Rattle.slice_table.specs.Tree.{Read, required_value, expected_value, checked_value, at_field, natural, number_of, number_if, number_at, number_in, pair_in, array_at, pair_at, text_at, bytes_if_decoded, bytes_at, table_of}
-use Rattle.slice_table.specs.ReadRows.{is_range, range_at, is_within, slice_at}
+use Rattle.slice_table.specs.Tree.{PlantResult, required_value, expected_value, checked_value, at_field, natural, number_of, number_if, number_at, number_of_key, pair_in, array_at, pair_at, text_at, bytes_if_decoded, bytes_at, table_of}
+use Rattle.slice_table.specs.ReadRows.{is_range, range_at, fits_frame, slice_at}
 use Rattle.slice_table.specs.Says.{SaysConsts, SaysSlice, two}
 use Rattle.slice_table.proofs.Parsed.{ok_same, bind_ok, required_ok}
 use Rattle.slice_table.proofs.Values.{at_most}
 use Rattle.slice_table.proofs.SaidKeys.{both_true, le_true, natural_is, table_is, array_said, range_is, slice_is, text_said}
 use Rattle.slice_table.proofs.SaidConsts.{consts_are}
 use Rattle.plant_file_laws.specs.Held.{table_in, field_in, standing_at, value_of_key}
-use Rattle.plant_file_laws.specs.Stands.{MayStand, MustStand, IsNumber, IsNumberIn, IsRange}
+use Rattle.plant_file_laws.specs.Stands.{IsValueOfKey, MustStand, IsNumber, IsNumberIn, IsRange}
 use Rattle.plant_file_laws.proofs.ListLemmas.{some_same}
 use Rattle.plant_file_laws.proofs.FoundLemmas.{Blames, blames_required, blames_bind, blames_expected, blames_checked, Found, Judged, found_key, judged_required}
 
@@ -77,7 +77,7 @@ module _ (document : Members) where
 
   -- ---- numbers
 
-  abbrev IsJudgedNumber : Key → ℕ → ℕ → Data → Read ℕ → Type 0
+  abbrev IsJudgedNumber : Key → ℕ → ℕ → Data → PlantResult ℕ → Type 0
   IsJudgedNumber key low high d (Ok n) = IsNumber low high d
   IsJudgedNumber key low high d (Err fault) = (¬ IsNumber low high d) × (fault ≡ BadValue key)
 
@@ -105,9 +105,9 @@ module _ (document : Members) where
 
   -- the key may have such a number and nothing else
   abbrev pub HasNumber : Key → ℕ → ℕ → Type 0
-  HasNumber key low high = (d : Data) → MayStand document key d ↔ IsNumber low high d
+  HasNumber key low high = (d : Data) → IsValueOfKey document key d ↔ IsNumber low high d
 
-  by_number : (key : Key) (low high : ℕ) (d : Data) (r : Read ℕ) → HasNumber key low high → IsJudgedNumber key low high d r → Judged document key (Some d) r
+  by_number : (key : Key) (low high : ℕ) (d : Data) (r : PlantResult ℕ) → HasNumber key low high → IsJudgedNumber key low high d r → Judged document key (Some d) r
   by_number key low high d (Ok n) has judged = (has d).1 judged
   by_number key low high d (Err fault) has judged = ((λ may. judged.0 ((has d).0 may)), judged.1)
 
@@ -131,9 +131,9 @@ module _ (document : Members) where
       found_key document (Entry place f) (at_field f ms) _ (held_in place f ms at) (judged_number_at (Entry place f) low high (at_field f ms) must has)
 
   pub found_number_in : (place : Place) (f : Field) (ms : Members) → standing_at document place ≡ Some (table ms)
-      → (MustStand document (Entry place f) ↔ IsNone (default_of f)) → ((d : Data) → MayStand document (Entry place f) d ↔ IsNumberIn f d)
-      → Found document (Entry place f ∷ []) (number_in place f ms)
-  unfolding number_in
+      → (MustStand document (Entry place f) ↔ IsNone (default_of f)) → ((d : Data) → IsValueOfKey document (Entry place f) d ↔ IsNumberIn f d)
+      → Found document (Entry place f ∷ []) (number_of_key place f ms)
+  unfolding number_of_key
   found_number_in place f ms at must has =
       found_key document (Entry place f) (at_field f ms) _ (held_in place f ms at)
       (judged_number_if (Entry place f) (range_of f) (default_of f) (at_field f ms) must has)
@@ -141,7 +141,7 @@ module _ (document : Members) where
   -- ---- ranges and slices
 
   pub found_range : (place : Place) (f : Field) (ms : Members) → standing_at document place ≡ Some (table ms)
-      → MustStand document (Entry place f) → ((d : Data) → MayStand document (Entry place f) d ↔ IsRange f d)
+      → MustStand document (Entry place f) → ((d : Data) → IsValueOfKey document (Entry place f) d ↔ IsRange f d)
       → Found document (Entry place f ∷ []) (range_at place f ms)
   unfolding range_at
   found_range place f ms at must has =
@@ -153,12 +153,12 @@ module _ (document : Members) where
           blames_bind (Entry place f) (at_field f ms) (pair_at place f ms) _ (blames_pair place f ms)
           (λ pair is. let d = pair_held place f ms pair is in blames_checked (Entry place f) (at_field f ms) d.0 (is_range (range_of f) pair.0 pair.1) _ d.1)
 
-      said : (range : Numbers) → range_at place f ms ≡ Ok range → (d : Data) × (at_field f ms ≡ Some d) × MayStand document (Entry place f) d
+      said : (range : Numbers) → range_at place f ms ≡ Ok range → (d : Data) × (at_field f ms ≡ Some d) × IsValueOfKey document (Entry place f) d
       said range is =
           let says = (range_is place f ms range).0 is in
           (two range.first range.last, says.held, (has (two range.first range.last)).1 (range.first, range.last, refl, says.low, says.ordered, says.most))
 
-      again : (d : Data) → at_field f ms ≡ Some d → MayStand document (Entry place f) d → (range : Numbers) × (range_at place f ms ≡ Ok range)
+      again : (d : Data) → at_field f ms ≡ Some d → IsValueOfKey document (Entry place f) d → (range : Numbers) × (range_at place f ms ≡ Ok range)
       again d holds may =
           let is = (has d).0 may in
           let range : Numbers = record { first = is.0; last = is.1 } in
@@ -184,14 +184,14 @@ module _ (document : Members) where
       blames : Blames key (at_field field.Slice ms) (slice_at consts whose ms)
       blames =
           blames_bind key (at_field field.Slice ms) (pair_at whose field.Slice ms) _ (blames_pair whose field.Slice ms)
-          (λ pair is. let d = pair_held whose field.Slice ms pair is in blames_checked key (at_field field.Slice ms) d.0 (is_within consts pair.0 pair.1) _ d.1)
+          (λ pair is. let d = pair_held whose field.Slice ms pair is in blames_checked key (at_field field.Slice ms) d.0 (fits_frame consts pair.0 pair.1) _ d.1)
 
-      said : (slice : Minislots) → slice_at consts whose ms ≡ Ok slice → (d : Data) × (at_field field.Slice ms ≡ Some d) × MayStand document key d
+      said : (slice : Minislots) → slice_at consts whose ms ≡ Ok slice → (d : Data) × (at_field field.Slice ms ≡ Some d) × IsValueOfKey document key d
       said slice is =
           let says = (slice_is consts whose ms slice).0 is in
           (two slice.start slice.length, says.held, (consts, slice.start, slice.length, says_consts, refl, says.behind_head, says.some, says.within_frame))
 
-      again : (d : Data) → at_field field.Slice ms ≡ Some d → MayStand document key d → (slice : Minislots) × (slice_at consts whose ms ≡ Ok slice)
+      again : (d : Data) → at_field field.Slice ms ≡ Some d → IsValueOfKey document key d → (slice : Minislots) × (slice_at consts whose ms ≡ Ok slice)
       again d holds may =
           let slice : Minislots = record { start = may.1; length = may.2 } in
           let same : may.0 ≡ consts = consts_one may.0 consts may.3 says_consts in

@@ -21,15 +21,16 @@ use Rattle.slice_table.specs.declared.plant_key.Field.{Field}
 use Rattle.slice_table.specs.declared.plant_key.Field.TheVariants as field
 use Rattle.slice_table.specs.declared.plant_key.Place.{Place}
 use Rattle.slice_table.specs.declared.plant_key.Place.TheVariants as place
-use Rattle.slice_table.specs.Tree.{Read, each, items_len, required_value, expected_value, checked_value, at_field, number_in, text_at, array_at, modem_of, table_of}
-use Rattle.slice_table.specs.ReadRows.{is_operator_name, is_called, name_at, slice_at, range_at, aged_at, policy_named, policy_at, modem_read, modems_at, provisions_if, row_at, row_read, rows_of}
+use Rattle.slice_table.specs.Tree.{PlantResult, each, items_len, required_value, expected_value, checked_value, at_field, number_of_key, text_at, array_at, modem_of, table_of}
+use Rattle.plant.specs.Name.{is_operator_name}
+use Rattle.slice_table.specs.ReadRows.{is_called, name_at, slice_at, range_at, aged_at, policy_named, policy_at, modem_read, modems_at, provisions_if, row_at, row_read, rows_of}
 use Rattle.slice_table.specs.Says.{IsAddress, SayInTurn, SaysConsts}
 use Rattle.slice_table.proofs.Values.{at_most}
 use Rattle.slice_table.proofs.SaidKeys.{le_true, string_is, array_is, array_said, text_said, table_said, under}
 use Rattle.slice_table.proofs.SaidRows.{name_is, modems_are, row_is}
 use Rattle.plant_file_laws.specs.Held.{item_in, items_or_none, items_in, standing_at, value_of_key}
 use Rattle.plant_file_laws.specs.Keys.{in_turn, operator_keys, operator_fields, flow_keys}
-use Rattle.plant_file_laws.specs.Stands.{MayStand, AllItems}
+use Rattle.plant_file_laws.specs.Stands.{IsValueOfKey, AllItems}
 use Rattle.plant_file_laws.specs.Faults.{IsAtFault}
 use Rattle.plant_file_laws.proofs.ListLemmas.{some_same, one_of}
 use Rattle.plant_file_laws.proofs.FoundLemmas.{blame, Blames, blames_bind, blames_checked, refused, Found, found_behind, found_bind, found_last, found_before, found_key, found_each, judged_required}
@@ -82,7 +83,7 @@ module _ (document : Members) where
           (λ text is. blames_checked key (at_field field.Name ms) (string text) (is_operator_name text && not (list_any (is_called text) rows)) text
           (text_said whose field.Name ms text is))
 
-      said : (name : List ℕ) → name_at rows whose ms ≡ Ok name → (d : Data) × (at_field field.Name ms ≡ Some d) × MayStand document key d
+      said : (name : List ℕ) → name_at rows whose ms ≡ Ok name → (d : Data) × (at_field field.Name ms ≡ Some d) × IsValueOfKey document key d
       said name is =
           let says = (name_is rows whose ms name).0 is in (
             string name,
@@ -99,7 +100,7 @@ module _ (document : Members) where
             ),
           )
 
-      again : (d : Data) → at_field field.Name ms ≡ Some d → MayStand document key d → (name : List ℕ) × (name_at rows whose ms ≡ Ok name)
+      again : (d : Data) → at_field field.Name ms ≡ Some d → IsValueOfKey document key d → (name : List ℕ) × (name_at rows whose ms ≡ Ok name)
       again d holds may = (
         may.0,
         (name_is rows whose ms may.0).1 (record {
@@ -131,7 +132,7 @@ module _ (document : Members) where
 
     -- a policy that has no step
     found_stepless : (text : List ℕ) (policy : Policy) → value_of_key document (Entry (place.Operator operator) field.Policy) ≡ Some (string text)
-        → MayStand document (Entry (place.Operator operator) field.Policy) (string text) → string text ≢ string (codes "aged")
+        → IsValueOfKey document (Entry (place.Operator operator) field.Policy) (string text) → string text ≢ string (codes "aged")
         → Found document (Entry (place.Operator operator) field.Policy ∷ Entry (place.Operator operator) field.Step ∷ []) (Ok policy)
     found_stepless text policy holds may other =
         let right = found_key document {A = Policy} (Entry (place.Operator operator) field.Policy) (Some (string text)) (Ok policy) holds may in
@@ -152,7 +153,7 @@ module _ (document : Members) where
         let aged : value_of_key document (Entry (place.Operator operator) field.Policy) ≡ Some (string (codes "aged")) = under (value_of_key document (Entry (place.Operator operator) field.Policy)) (string text) (string (codes "aged")) stands (ap string is) in
         found_behind document (Entry (place.Operator operator) field.Policy ∷ []) (Entry (place.Operator operator) field.Step ∷ []) (aged_at (place.Operator operator) ms)
         (found_key document {A = Policy} (Entry (place.Operator operator) field.Policy) (Some (string text)) (Ok Strict) stands (inr (inl (ap string is))))
-        (found_bind document (Entry (place.Operator operator) field.Step ∷ []) [] (number_in (place.Operator operator) field.Step ms) _
+        (found_bind document (Entry (place.Operator operator) field.Step ∷ []) [] (number_of_key (place.Operator operator) field.Step ms) _
         (found_number_in document (place.Operator operator) field.Step ms at ((λ h. refl), (λ h. aged)) (λ d. ((λ may. may aged), (λ number other. number)))) (λ step is_step. tt))
     by_name text false false true holds is_strict is_aged is_short =
         found_stepless text Short (held_in document (place.Operator operator) field.Policy ms at ∙ holds) (inr (inr (ap string (same_text text (codes "short") is_short))))
@@ -226,12 +227,12 @@ module _ (document : Members) where
             (blames_checked key (at_field field.Modems ms) (array ds) (nat_le 1 (items_len ds) && nat_le (items_len ds) 1024) ds holds)
             (λ few is_few. blames_each (place.Operator operator) (at_field field.Modems ms) (array ds) [] few holds))
 
-        said : (modems : List Modem) → modems_at (place.Operator operator) ms ≡ Ok modems → (d : Data) × (at_field field.Modems ms ≡ Some d) × MayStand document key d
+        said : (modems : List Modem) → modems_at (place.Operator operator) ms ≡ Ok modems → (d : Data) × (at_field field.Modems ms ≡ Some d) × IsValueOfKey document key d
         said modems is =
             let says = (modems_are (place.Operator operator) ms modems).0 is in
             (array says.ds, says.held, (says.ds, refl, says.count, all_said [] says.ds modems says.addresses))
 
-        again : (d : Data) → at_field field.Modems ms ≡ Some d → MayStand document key d → (modems : List Modem) × (modems_at (place.Operator operator) ms ≡ Ok modems)
+        again : (d : Data) → at_field field.Modems ms ≡ Some d → IsValueOfKey document key d → (modems : List Modem) × (modems_at (place.Operator operator) ms ≡ Ok modems)
         again d holds may =
             let all = all_again [] may.0 may.3 in (
               all.0,
@@ -255,11 +256,11 @@ module _ (document : Members) where
       (λ name is_name. among (field.Slice ∷ []) (field.Sfids ∷ field.Sids ∷ field.Flows ∷ field.Transactions ∷ field.Inbox ∷ field.Budget ∷ field.Elements ∷ field.Policy ∷ field.Step ∷ field.Modems ∷ field.Flow ∷ []) (slice_at consts (place.Operator (length rows)) ms) _ (found_slice document consts (length rows) ms at says_consts)
       (λ slice is_slice. among (field.Sfids ∷ []) (field.Sids ∷ field.Flows ∷ field.Transactions ∷ field.Inbox ∷ field.Budget ∷ field.Elements ∷ field.Policy ∷ field.Step ∷ field.Modems ∷ field.Flow ∷ []) (range_at (place.Operator (length rows)) field.Sfids ms) _ (found_range document (place.Operator (length rows)) field.Sfids ms at tt (λ d. ((λ h. h), (λ h. h))))
       (λ sfids is_sfids. among (field.Sids ∷ []) (field.Flows ∷ field.Transactions ∷ field.Inbox ∷ field.Budget ∷ field.Elements ∷ field.Policy ∷ field.Step ∷ field.Modems ∷ field.Flow ∷ []) (range_at (place.Operator (length rows)) field.Sids ms) _ (found_range document (place.Operator (length rows)) field.Sids ms at tt (λ d. ((λ h. h), (λ h. h))))
-      (λ sids is_sids. among (field.Flows ∷ []) (field.Transactions ∷ field.Inbox ∷ field.Budget ∷ field.Elements ∷ field.Policy ∷ field.Step ∷ field.Modems ∷ field.Flow ∷ []) (number_in (place.Operator (length rows)) field.Flows ms) _ (found_number_in document (place.Operator (length rows)) field.Flows ms at ((λ h. refl), (λ h. tt)) (λ d. ((λ h. h), (λ h. h))))
-      (λ flows is_flows. among (field.Transactions ∷ []) (field.Inbox ∷ field.Budget ∷ field.Elements ∷ field.Policy ∷ field.Step ∷ field.Modems ∷ field.Flow ∷ []) (number_in (place.Operator (length rows)) field.Transactions ms) _ (found_number_in document (place.Operator (length rows)) field.Transactions ms at ((λ h. refl), (λ h. tt)) (λ d. ((λ h. h), (λ h. h))))
-      (λ transactions is_transactions. among (field.Inbox ∷ []) (field.Budget ∷ field.Elements ∷ field.Policy ∷ field.Step ∷ field.Modems ∷ field.Flow ∷ []) (number_in (place.Operator (length rows)) field.Inbox ms) _ (found_number_in document (place.Operator (length rows)) field.Inbox ms at ((λ h. refl), (λ h. tt)) (λ d. ((λ h. h), (λ h. h))))
-      (λ inbox is_inbox. among (field.Budget ∷ []) (field.Elements ∷ field.Policy ∷ field.Step ∷ field.Modems ∷ field.Flow ∷ []) (number_in (place.Operator (length rows)) field.Budget ms) _ (found_number_in document (place.Operator (length rows)) field.Budget ms at ((λ h. refl), (λ h. tt)) (λ d. ((λ h. h), (λ h. h))))
-      (λ budget is_budget. among (field.Elements ∷ []) (field.Policy ∷ field.Step ∷ field.Modems ∷ field.Flow ∷ []) (number_in (place.Operator (length rows)) field.Elements ms) _ (found_number_in document (place.Operator (length rows)) field.Elements ms at ((λ h. refl), (λ h. tt)) (λ d. ((λ h. h), (λ h. h))))
+      (λ sids is_sids. among (field.Flows ∷ []) (field.Transactions ∷ field.Inbox ∷ field.Budget ∷ field.Elements ∷ field.Policy ∷ field.Step ∷ field.Modems ∷ field.Flow ∷ []) (number_of_key (place.Operator (length rows)) field.Flows ms) _ (found_number_in document (place.Operator (length rows)) field.Flows ms at ((λ h. refl), (λ h. tt)) (λ d. ((λ h. h), (λ h. h))))
+      (λ flows is_flows. among (field.Transactions ∷ []) (field.Inbox ∷ field.Budget ∷ field.Elements ∷ field.Policy ∷ field.Step ∷ field.Modems ∷ field.Flow ∷ []) (number_of_key (place.Operator (length rows)) field.Transactions ms) _ (found_number_in document (place.Operator (length rows)) field.Transactions ms at ((λ h. refl), (λ h. tt)) (λ d. ((λ h. h), (λ h. h))))
+      (λ transactions is_transactions. among (field.Inbox ∷ []) (field.Budget ∷ field.Elements ∷ field.Policy ∷ field.Step ∷ field.Modems ∷ field.Flow ∷ []) (number_of_key (place.Operator (length rows)) field.Inbox ms) _ (found_number_in document (place.Operator (length rows)) field.Inbox ms at ((λ h. refl), (λ h. tt)) (λ d. ((λ h. h), (λ h. h))))
+      (λ inbox is_inbox. among (field.Budget ∷ []) (field.Elements ∷ field.Policy ∷ field.Step ∷ field.Modems ∷ field.Flow ∷ []) (number_of_key (place.Operator (length rows)) field.Budget ms) _ (found_number_in document (place.Operator (length rows)) field.Budget ms at ((λ h. refl), (λ h. tt)) (λ d. ((λ h. h), (λ h. h))))
+      (λ budget is_budget. among (field.Elements ∷ []) (field.Policy ∷ field.Step ∷ field.Modems ∷ field.Flow ∷ []) (number_of_key (place.Operator (length rows)) field.Elements ms) _ (found_number_in document (place.Operator (length rows)) field.Elements ms at ((λ h. refl), (λ h. tt)) (λ d. ((λ h. h), (λ h. h))))
       (λ elements is_elements. among (field.Policy ∷ field.Step ∷ []) (field.Modems ∷ field.Flow ∷ []) (policy_at (place.Operator (length rows)) ms) _ (found_policy (length rows) ms at)
       (λ policy is_policy. among (field.Modems ∷ []) (field.Flow ∷ []) (modems_at (place.Operator (length rows)) ms) _ (found_modems (length rows) ms at)
       (λ modems is_modems. found_last document (own (field.Flow ∷ []) ++ flows_behind) (provisions_if consts (length rows) modems (at_field field.Flow ms)) _
@@ -271,7 +272,7 @@ module _ (document : Members) where
       flows_behind : List Key
       flows_behind = in_turn (flow_keys (length rows)) 0 (items_in (value_of_key document (Entry (place.Operator (length rows)) field.Flow)))
 
-      among : {A B : Type 0} (fields more : List Field) (r : Read A) (f : A → Read B) → Found document (own fields) r
+      among : {A B : Type 0} (fields more : List Field) (r : PlantResult A) (f : A → PlantResult B) → Found document (own fields) r
           → ((x : A) → r ≡ Ok x → Found document (own more ++ flows_behind) (f x)) → Found document (own fields ++ (own more ++ flows_behind)) (r >>= f)
       among fields more r f found rest = found_bind document (own fields) (own more ++ flows_behind) r f found rest
 

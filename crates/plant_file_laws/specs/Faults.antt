@@ -11,7 +11,7 @@ use Rattle.slice_table.specs.Says.{SaysConsts, SaysRows}
 use Rattle.lists.specs.First.{IsFirst}
 use Rattle.plant_file_laws.specs.Held.{value_of_key}
 use Rattle.plant_file_laws.specs.Keys.{keys_of}
-use Rattle.plant_file_laws.specs.Stands.{MayStand, MustStand}
+use Rattle.plant_file_laws.specs.Stands.{IsValueOfKey, MustStand}
 
 -- the key has to be there, and is not
 abbrev pub IsMissing : Members → Key → Type 0
@@ -19,7 +19,7 @@ IsMissing document key = (value_of_key document key ≡ None) × MustStand docum
 
 -- what is under the key may not be there: it is of another type, or out of its range
 abbrev pub IsWrong : Members → Key → Type 0
-IsWrong document key = (d : Data) × (value_of_key document key ≡ Some d) × (¬ MayStand document key d)
+IsWrong document key = (d : Data) × (value_of_key document key ≡ Some d) × (¬ IsValueOfKey document key d)
 
 abbrev pub IsAtFault : Members → Key → Type 0
 IsAtFault document key = IsMissing document key ⊎ IsWrong document key
@@ -35,14 +35,14 @@ pub record IsOfTheFirstKey (document : Members) (fault : PlantFault) : Type 0 wh
   pub told : IsToldAs document key fault
 
 -- no key is invalid
-abbrev pub AreRight : Members → Type 0
-AreRight document = All (λ key. ¬ IsAtFault document key) (keys_of document)
+abbrev pub HasNoFault : Members → Type 0
+HasNoFault document = All (λ key. ¬ IsAtFault document key) (keys_of document)
 
 -- no key is invalid, and this is the first fault of all of them together
 pub record IsOfAllKeys (document : Members) (fault : PlantFault) : Type 0 where
   pub consts : ConstsFields
   pub rows : List RowFields
-  pub right : AreRight document
+  pub right : HasNoFault document
   pub says_consts : SaysConsts document consts
   pub says_rows : SaysRows consts document rows
   pub told : rows_fault consts rows ≡ Some fault

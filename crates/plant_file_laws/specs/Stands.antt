@@ -167,14 +167,14 @@ OfFlow document operator other d = ⊥
 
 -- ---- of any key
 
-abbrev pub MayStand : Members → Key → Data → Type 0
-MayStand document Classes d = IsArray 0 64 d
-MayStand document Operators d = IsArray 1 32 d
-MayStand document (Table place) d = IsTable d
-MayStand document (Entry place.Plant f) d = OfPlant document f d
-MayStand document (Entry (place.Class class) f) d = OfClass document class f d
-MayStand document (Entry (place.Operator operator) f) d = OfOperator document operator f d
-MayStand document (Entry (place.Flow operator flow) f) d = OfFlow document operator f d
+abbrev pub IsValueOfKey : Members → Key → Data → Type 0
+IsValueOfKey document Classes d = IsArray 0 64 d
+IsValueOfKey document Operators d = IsArray 1 32 d
+IsValueOfKey document (Table place) d = IsTable d
+IsValueOfKey document (Entry place.Plant f) d = OfPlant document f d
+IsValueOfKey document (Entry (place.Class class) f) d = OfClass document class f d
+IsValueOfKey document (Entry (place.Operator operator) f) d = OfOperator document operator f d
+IsValueOfKey document (Entry (place.Flow operator flow) f) d = OfFlow document operator f d
 
 -- a key of the table `plant` has to be there where it has no default; a table of an array is there by its number, and where
 -- there is no table `plant` its first key is missing

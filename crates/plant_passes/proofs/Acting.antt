@@ -17,7 +17,7 @@ use Rattle.plant_passes.specs.declared.view.Origin.{Origin}
 use Rattle.plant_passes.specs.declared.view.Knowledge.{Knowledge}
 use Rattle.plant_passes.specs.declared.view.BookParts.{BookParts}
 use Rattle.plant_passes.specs.Runs.{origin_of, IsOwnRun, state_after}
-use Rattle.plant_passes.specs.Histories.{entry_of, mark_entry, entries, places}
+use Rattle.plant_passes.specs.Histories.{history_entry, mark_entry, entries, places}
 use Rattle.plant_passes.specs.Seats.{SeatNow}
 use Rattle.plant_passes.specs.Steps.{with_ticket, SeesHistory, HasBookInHand, with_entry, history_in_hand, after_closing}
 use Rattle.plant_passes.specs.Passes.{seat_view, ActsInTurn, EndsCell}
@@ -73,15 +73,15 @@ no_misfit origin b action why does h = let z : None ≡ Some why = sym (does.fit
 
 -- the book has one entry more, of the outputs that it told
 acted_history : (book b : BookView) (action : Action) (outputs : List Output) (seen : List MarkedEntry) → b ≡ book_after_action book action
-    → outputs ≡ (own_step (operator_of_book book) action).outputs → book.history ≡ entries seen → b.history ≡ entries seen ++ entry_of action outputs ∷ []
+    → outputs ≡ (own_step (operator_of_book book) action).outputs → book.history ≡ entries seen → b.history ≡ entries seen ++ history_entry action outputs ∷ []
 acted_history book b action outputs seen is said line =
-    ap (λ (x : BookView). x.history) is ∙ (λ i. line i ++ entry_of action (sym said i) ∷ [])
+    ap (λ (x : BookView). x.history) is ∙ (λ i. line i ++ history_entry action (sym said i) ∷ [])
 
 -- the book that was put back, after it acted
 pub acted_in_hand : {X : Type 0} (v : Knowledge X) (book b : BookParts X) (m : SeatNow X) (action : Action) (outputs : List Output) → IsOurs v book
     → m ≡ (v, (0, Some b) ∷ []) → b.kept.book ≡ book_after_action book.kept.book action → b.ranking ≡ book.ranking
     → outputs ≡ (own_step (operator_of_book book.kept.book) action).outputs → IsOwnRun (origin_of b.kept.book) b.kept.book.history
-    → HasBookWith (entries v.seen ++ entry_of action outputs ∷ []) m
+    → HasBookWith (entries v.seen ++ history_entry action outputs ∷ []) m
 acted_in_hand {X} v book b m action outputs ours put is same said run = record {
   book = b;
   hand_is = ap (λ (x : SeatNow X). x.1) put;
@@ -113,29 +113,29 @@ state_is_seen v book action ours is spent =
 
 pub acts_now : {X : Type 0} (cell : TableId) (u : Knowledge X) (t index : ℕ) (action : Action) (outputs : List Output) (m1 m3 : SeatNow X) (w : Knowledge X)
     → SeesHistory (with_ticket u t) m1.0 → IsInTurn t m1 → m3.0 ≡ m1.0 → 0 < u.number
-    → HasBookWith (entries m1.0.seen ++ entry_of action outputs ∷ []) m3
+    → HasBookWith (entries m1.0.seen ++ history_entry action outputs ∷ []) m3
     → (e : Entry) → history_in_hand m3.1 ≡ entries m3.0.seen ++ e ∷ [] → w ≡ with_entry m3.0 e
     → (cell' : TableId) → cell' ≡ cell → index ≡ t
     → ActsInTurn (seat_view cell u) action record { index = index; action = action; outputs = outputs } (seat_view cell' w)
 acts_now {X} cell u t index action outputs m1 m3 w looks mine same here held e wrote end cell' same_cell index_eq =
     let v : Knowledge X = m1.0 in
-    let line : history_in_hand m3.1 ≡ entries v.seen ++ entry_of action outputs ∷ [] = ap history_in_hand held.hand_is ∙ held.history_is in
-    let entry_is : e ≡ entry_of action outputs =
-    let x : e ∷ [] ≡ entry_of action outputs ∷ [] = append_cancel_left (entries v.seen) _ _ (ap (λ (x : Knowledge X). entries x.seen ++ e ∷ []) (sym same) ∙ (sym wrote ∙ line)) in cc x in
-    let w_is : w ≡ with_entry m1.0 (entry_of action outputs) = end ∙ (λ i. with_entry (same i) (entry_is i)) in
+    let line : history_in_hand m3.1 ≡ entries v.seen ++ history_entry action outputs ∷ [] = ap history_in_hand held.hand_is ∙ held.history_is in
+    let entry_is : e ≡ history_entry action outputs =
+    let x : e ∷ [] ≡ history_entry action outputs ∷ [] = append_cancel_left (entries v.seen) _ _ (ap (λ (x : Knowledge X). entries x.seen ++ e ∷ []) (sym same) ∙ (sym wrote ∙ line)) in cc x in
+    let w_is : w ≡ with_entry m1.0 (history_entry action outputs) = end ∙ (λ i. with_entry (same i) (entry_is i)) in
     let own : v.made ≡ places v.number v.seen = looks.own here in
     let b_origin : origin_of held.book.kept.book ≡ v.origin = held.origin ∙ ap (λ (x : Knowledge X). x.origin) same in
-    let b_line : held.book.kept.book.history ≡ entries (v.seen ++ mark_entry v.number (entry_of action outputs) ∷ []) =
-    held.history_is ∙ sym (entries_push v.seen v.number (entry_of action outputs)) in
+    let b_line : held.book.kept.book.history ≡ entries (v.seen ++ mark_entry v.number (history_entry action outputs) ∷ []) =
+    held.history_is ∙ sym (entries_push v.seen v.number (history_entry action outputs)) in
     let place : index ≡ length v.seen = index_eq ∙ mine.place in
-    let good : ActsInTurn (seat_view cell u) action record { index = index; action = action; outputs = outputs } (seat_view cell' (with_entry v (entry_of action outputs))) = record {
+    let good : ActsInTurn (seat_view cell u) action record { index = index; action = action; outputs = outputs } (seat_view cell' (with_entry v (history_entry action outputs))) = record {
       same = record { cell = same_cell; number = looks.number; origin = looks.origin };
       action_is = refl;
       between = looks.seen.0;
-      seen = λ i. looks.seen.1 i ++ mark_entry (looks.number i) (entry_of action outputs) ∷ [];
+      seen = λ i. looks.seen.1 i ++ mark_entry (looks.number i) (history_entry action outputs) ∷ [];
       index_is = place ∙ ap length looks.seen.1;
       made = λ i. looks.made i ++ sym place i ∷ [];
-      own = ap (λ l. l ++ length v.seen ∷ []) own ∙ sym (places_own v.number v.seen (entry_of action outputs));
+      own = ap (λ l. l ++ length v.seen ∷ []) own ∙ sym (places_own v.number v.seen (history_entry action outputs));
       run = subst (λ (p : Origin × List Entry). IsOwnRun p.0 p.1) (λ i. (b_origin i, b_line i)) held.run;
       going = mine.closed;
       ended_cell = looks.ended_cell;

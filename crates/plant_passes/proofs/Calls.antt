@@ -12,7 +12,7 @@ use Rattle.operator_book.specs.declared.book.BookFault.TheVariants.{NotMine, Fra
 use Rattle.run_receipts.specs.declared.receipt.Receipt.{Receipt}
 use Rattle.cell_state.specs.declared.cell_fault.CellFault.{CellFault}
 use Rattle.cell_state.specs.declared.cell_fault.CellFault.TheVariants.{Book, Passed, Stopped, Closed}
-use Rattle.plant_passes.specs.Histories.{entry_of, mark_entry}
+use Rattle.plant_passes.specs.Histories.{history_entry, mark_entry}
 use Rattle.plant_passes.specs.Passes.{PassView, ActsInTurn, LooksOn, EndsCell, RefusesBeforeTurn, RefusesTurn, RefusesArrival, state_seen}
 use Rattle.plant_passes.proofs.Again.{begins_again}
 
@@ -29,7 +29,7 @@ acts_later p q s action told r look same is acts =
       };
       action_is = is;
       between = look.seen.0 ++ acts.between;
-      seen = acts.seen ∙ (λ i. all i ++ mark_entry (look.same.number i) (entry_of action r.outputs) ∷ []);
+      seen = acts.seen ∙ (λ i. all i ++ mark_entry (look.same.number i) (history_entry action r.outputs) ∷ []);
       index_is = acts.index_is ∙ ap length all;
       made = acts.made ∙ ap (λ l. l ++ r.index ∷ []) look.made;
       own = acts.own;

@@ -6,8 +6,8 @@ use Rattle.operator_model.specs.declared.output.Output.{Output}
 use Rattle.plant_passes.specs.declared.view.MarkedEntry.{MarkedEntry}
 
 -- an action, and what it output
-abbrev pub entry_of : Action → List Output → Entry
-entry_of action outputs = record { action = action; outputs = outputs }
+abbrev pub history_entry : Action → List Output → Entry
+history_entry action outputs = record { action = action; outputs = outputs }
 
 -- an entry of the pass of this number
 abbrev pub mark_entry : ℕ → Entry → MarkedEntry

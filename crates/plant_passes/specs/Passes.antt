@@ -13,7 +13,7 @@ use Rattle.run_receipts.specs.declared.receipt.Receipt.{Receipt}
 use Rattle.cell_state.specs.declared.cell_fault.CellFault.{CellFault}
 use Rattle.cell_state.specs.declared.cell_fault.CellFault.TheVariants.{Book, Closed}
 use Rattle.plant_passes.specs.Runs.{IsOwnRun, state_after}
-use Rattle.plant_passes.specs.Histories.{entry_of, mark_entry, entries, places, StartsWith}
+use Rattle.plant_passes.specs.Histories.{history_entry, mark_entry, entries, places, StartsWith}
 
 -- ---- what contracts see
 
@@ -88,7 +88,7 @@ pub record ActsInTurn (before : PassView) (action : Action) (receipt : Receipt) 
   pub same : IsSamePass before after
   pub action_is : receipt.action ≡ action
   pub between : List MarkedEntry
-  pub seen : after.seen ≡ (before.seen ++ between) ++ mark_entry before.number (entry_of action receipt.outputs) ∷ []
+  pub seen : after.seen ≡ (before.seen ++ between) ++ mark_entry before.number (history_entry action receipt.outputs) ∷ []
   pub index_is : receipt.index ≡ length (before.seen ++ between)
   pub made : after.made ≡ before.made ++ receipt.index ∷ []
   pub own : after.made ≡ places after.number after.seen

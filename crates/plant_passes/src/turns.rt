@@ -9,7 +9,7 @@ ghost use Rattle.operator_book.specs.ViewOf.{policy_of};
 ghost use Rattle.operator_book.specs.declared.book.BookFault.TheVariants as faults;
 ghost use Rattle.cell_state.specs.declared.cell_fault.CellFault.TheVariants as refusals;
 ghost use Rattle.plant_passes.specs.Runs.{state_after};
-ghost use Rattle.plant_passes.specs.Histories.{entries, entry_of};
+ghost use Rattle.plant_passes.specs.Histories.{entries, history_entry};
 ghost use Rattle.plant_passes.specs.Steps.{with_ticket, SeesHistory, HasBookInHand};
 ghost use Rattle.plant_passes.specs.Passes.{pass_view, state_seen, ActsInTurn, LooksOn, RefusesTurn};
 ghost use Rattle.plant_passes.specs.Turns.{IsIdle, IsSameSeat, IsCellAction, WaitsForTurn};
@@ -116,7 +116,7 @@ fn act_in_turn(
     ensures same { IsSameSeat seat.old seat.new }
     ensures knowledge { seat.new.me.0 ≡ seat.old.me.0 }
     ensures ok { IfOk result (λ outputs.
-        HasBookWith (entries seat.old.me.0.seen ++ entry_of action outputs.items ∷ []) seat.new.me) }
+        HasBookWith (entries seat.old.me.0.seen ++ history_entry action outputs.items ∷ []) seat.new.me) }
     ensures err { OnErr result (HasBookWith (entries seat.old.me.0.seen) seat.new.me) }
     ensures mine { (modem : Modem) → result ≢ Err (faults.NotMine modem) }
     ensures fits { (why : Unfit) → result ≢ Err (faults.Unfit why) }

@@ -72,16 +72,22 @@ fn main(rt: HostRuntime) -> ExitCode {
     exit_code(run(&rt, note, &mut reasons))
 }
 
+/// Returns the words of the command line, the program's name first.
+fn words_of(rt: &(impl Env + AllocGlobal)) -> io::Result<Vec<String>> {
+    let mut words = Vec::new(rt.alloc());
+    for word in env::args(rt)? {
+        words.push(word)?;
+    }
+    Ok(words)
+}
+
 /// Returns the status that the program answers to its words.
 fn run<N: Write>(
     rt: &(impl Env + Files + Input + Print + AllocGlobal + Threads + Wait + Sync),
     note: Option<&mut N>,
     reasons: &mut impl Write,
 ) -> io::Result<u8> {
-    let mut words = Vec::new(rt.alloc());
-    for word in env::args(rt)? {
-        words.push(word)?;
-    }
+    let words = words_of(rt)?;
     let mut texts = Vec::with_capacity(rt.alloc(), words.len())?;
     for word in &words {
         texts.push(word.as_str())?;

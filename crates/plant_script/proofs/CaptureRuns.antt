@@ -12,11 +12,11 @@ use Rattle.plant_core.specs.declared.core_fault.CoreFault.{CoreFault}
 use Rattle.plant_core.specs.Faults.{step_fault}
 use Rattle.script_format.specs.declared.script.LineStep.{LineStep}
 use Rattle.script_format.specs.Script.{steps_without_numbers}
-use Rattle.pcap_capture.specs.Capture.{CaptureView, opened_capture, IsOfRun, IsCaptureOf}
+use Rattle.pcap_capture.specs.Capture.{CaptureView, opened_capture, CapturesRun, IsCaptureOf}
 use Rattle.pcap_capture.proofs.OneCapture.{last_told}
 use Rattle.pcap_capture.proofs.RunLemmas.{opened_run}
 use Rattle.plant_script.specs.declared.answer.Answer.{Answer}
-use Rattle.plant_script.specs.Run.{IsEnd, IsCapturedRunOf}
+use Rattle.plant_script.specs.Run.{IsEndStatus, IsCapturedRunOf}
 use Rattle.plant_script.specs.Done.{IsRefused, AreCaptured, HasCaptured, IsStatusOf}
 use Rattle.plant_script.specs.Statuses.{status_code}
 
@@ -26,7 +26,7 @@ pub none_captured : (plant : PlantFields) (core : CoreView) (captured : CaptureV
 none_captured plant core captured reached is = record {
   outs = [];
   reached = reached;
-  of_run = subst (λ (c : CaptureView). IsOfRun plant [] [] c) (sym is) (opened_run plant);
+  of_run = subst (λ (c : CaptureView). CapturesRun plant [] [] c) (sym is) (opened_run plant);
 }
 
 -- one line more
@@ -40,7 +40,7 @@ lines_more lines i line lt is =
 pub captured_more : (plant : PlantFields) (lines : List LineStep) (i : ℕ) (line : LineStep) (step : Step) (old new : CoreView) (before after : CaptureView) (now said : List Out)
     → i < length lines → line ≡ get_or lines i line → step ≡ line.step → said ≡ now → AreCaptured plant (take i lines) old before
     → ((steps : List Step) (told : List Out) → IsStateAfter old.plant steps told old → IsStateAfter old.plant (steps ++ step ∷ []) (told ++ now) new)
-    → ((p : PlantFields) (steps : List Step) (told : List Out) → IsOfRun p steps told before → IsTold p steps line.step (target p line.step) said → IsOfRun p (steps ++ line.step ∷ []) (told ++ said) after)
+    → ((p : PlantFields) (steps : List Step) (told : List Out) → CapturesRun p steps told before → IsTold p steps line.step (target p line.step) said → CapturesRun p (steps ++ line.step ∷ []) (told ++ said) after)
     → AreCaptured plant (take (i + 1) lines) new after
 captured_more plant lines i line step old new before after now said lt is copy same done reached captured =
     let front = steps_without_numbers (take i lines) in
@@ -53,8 +53,8 @@ captured_more plant lines i line step old new before after now said lt is copy s
     record {
       outs = done.outs ++ now;
       reached = subst (λ (s : List Step). IsStateAfter plant s (done.outs ++ now) new) more of_line;
-      of_run = subst (λ (s : List Step). IsOfRun plant s (done.outs ++ now) after) more
-          (subst (λ (o : List Out). IsOfRun plant (front ++ line.step ∷ []) (done.outs ++ o) after) same
+      of_run = subst (λ (s : List Step). CapturesRun plant s (done.outs ++ now) after) more
+          (subst (λ (o : List Out). CapturesRun plant (front ++ line.step ∷ []) (done.outs ++ o) after) same
           (captured plant front done.outs done.of_run (subst (λ (o : List Out). IsTold plant front line.step (target plant line.step) o) (sym same) own)));
     }
 
@@ -81,13 +81,13 @@ captured_refused plant lines i line step old core captured fault lt is copy done
 -- ---- the file
 
 -- the status where a run ends
-end_status : (core : CoreView) (line : Option LineStep) (refused : Option ℕ) (status : ℕ) → IsRefused core line refused → IsStatusOf refused status → IsEnd core line status
+end_status : (core : CoreView) (line : Option LineStep) (refused : Option ℕ) (status : ℕ) → IsRefused core line refused → IsStatusOf refused status → IsEndStatus core line status
 end_status core None refused status none is = subst (λ (r : Option ℕ). IsStatusOf r status) none is
 end_status core (Some line) refused status told is = (subst (λ (r : Option ℕ). IsStatusOf r status) told.0 is, told.1)
 
 pub filed_run : (plant : PlantFields) (lines these : List LineStep) (refused : Option ℕ) (core : CoreView) (captured : CaptureView) (file : List ℕ) (answer : Answer)
     → these ≡ lines → HasCaptured plant these refused core captured
-    → ((p : PlantFields) (steps : List Step) (outs : List Out) → IsOfRun p steps outs captured → IsCaptureOf p steps outs file)
+    → ((p : PlantFields) (steps : List Step) (outs : List Out) → CapturesRun p steps outs captured → IsCaptureOf p steps outs file)
     → answer.text.items ≡ file → IsStatusOf refused (status_code answer.status) → IsCapturedRunOf plant lines (status_code answer.status) answer.text.items
 filed_run plant lines these refused core captured file answer same run of_run text status =
     subst (λ (l : List LineStep). IsCapturedRunOf plant l (status_code answer.status) answer.text.items) same (record {

@@ -16,7 +16,7 @@ use Rattle.line_service.specs.declared.steps_end.StepsEnd.{StepsEnd}
 use Rattle.line_service.specs.declared.steps_end.StepsEnd.TheVariants as ends
 use Rattle.line_service.specs.Steps.{IsStepsEndAt, HasDone}
 use Rattle.command_line.specs.declared.asked.RunReport.TheVariants.{Outputs}
-use Rattle.plant_script.specs.Run.{memory_line, IsEnd, EndsBy, IsRunOf}
+use Rattle.plant_script.specs.Run.{memory_line, IsEndStatus, EndsBy, IsScriptRun}
 use Rattle.plant_script.specs.Ends.{status_of, line_of}
 use Rattle.plant_script.specs.Task.{RunsTo, IsWritten, EndsRun}
 
@@ -49,12 +49,12 @@ run_ends plant lines live end status w0 w1 w2 has is wrote = (
 )
 
 -- a run that ends has not status 5
-pub no_five : (core : CoreView) (next : Option LineStep) (status : ℕ) → IsEnd core next status → status ≢ 5
+pub no_five : (core : CoreView) (next : Option LineStep) (status : ℕ) → IsEndStatus core next status → status ≢ 5
 no_five core None status is = λ five. absurd (let wrong : ◌≡◌ {A = ℕ} 0 5 = sym is ∙ five in cc)
 no_five core (Some line) status is = λ five. absurd (let wrong : ◌≡◌ {A = ℕ} 4 5 = sym is.0 ∙ five in cc)
 
 -- nor 6
-pub no_six : (core : CoreView) (next : Option LineStep) (status : ℕ) → IsEnd core next status → status ≢ 6
+pub no_six : (core : CoreView) (next : Option LineStep) (status : ℕ) → IsEndStatus core next status → status ≢ 6
 no_six core None status is = λ six. absurd (let wrong : ◌≡◌ {A = ℕ} 0 6 = sym is ∙ six in cc)
 no_six core (Some line) status is = λ six. absurd (let wrong : ◌≡◌ {A = ℕ} 4 6 = sym is.0 ∙ six in cc)
 
@@ -63,7 +63,7 @@ pub run_written : (plant : PlantFields) (lines : List LineStep) (status : ℕ) (
     → IsWritten (RunsTo plant Outputs lines) status (λ text. Appends w0 w1 text)
 run_written plant lines status w0 w1 ran = by ran.1.ends
   where
-    run : IsRunOf plant lines (λ done told. outs_text plant told) status ran.0
+    run : IsScriptRun plant lines (λ done told. outs_text plant told) status ran.0
     run = ran.1
 
     by : (ends : EndsBy run.core (slice_get lines run.at) status run.last) → IsWritten (RunsTo plant Outputs lines) status (λ text. Appends w0 w1 text)
@@ -74,5 +74,5 @@ run_written plant lines status w0 w1 ran = by ran.1.ends
           outs_text plant run.outs,
           want.1,
           subst (λ (t : List ℕ). Appends w0 w1 t) text_is ran.2,
-          inr (subst (λ (t : List ℕ). IsRunOf plant lines (λ done told. outs_text plant told) 5 t) text_is (subst (λ (n : ℕ). IsRunOf plant lines (λ done told. outs_text plant told) n ran.0) want.1 run)),
+          inr (subst (λ (t : List ℕ). IsScriptRun plant lines (λ done told. outs_text plant told) 5 t) text_is (subst (λ (n : ℕ). IsScriptRun plant lines (λ done told. outs_text plant told) n ran.0) want.1 run)),
         )

@@ -1,17 +1,15 @@
 -- How far the program comes, and what it has written then.
-use Rattle.std.proofs.Common.{◌≡◌, ◌≢◌, ◌⊎◌, inl, inr, ℕ, Bool, List, [], ◌++◌, Option, Some, None, IfSome, Result, Ok, Err, IfOk, refl, sym, ap, subst, ◌∙◌}
+use Rattle.std.proofs.Common.{◌≡◌, ◌≢◌, ◌⊎◌, inl, inr, ℕ, Bool, List, [], ◌++◌, Option, Some, None, IfSome, Result, Ok, Err, IfOk, refl, sym, subst, ◌∙◌}
 use Rattle.std.specs.Prelude.{MatchResult}
 use Rattle.std.specs.Io.KnownBytes.{Appends}
 use Rattle.std.specs.String.{string_bytes}
-use Rattle.plant.specs.declared.plant.PlantFields.{PlantFields}
-use Rattle.script_format.specs.declared.script.LineStep.{LineStep}
 use Rattle.command_line.specs.Order.{Order, threads, batch_order, order_of}
 use Rattle.command_line.specs.declared.asked.BatchWord.{BatchWord}
 use Rattle.command_line.specs.declared.asked.BatchWord.TheVariants as batch
 use Rattle.command_line.specs.declared.asked.Word.{Word}
 use Rattle.command_line.specs.declared.asked.WordsFault.{WordsFault}
 use Rattle.command_line.specs.declared.asked.WordsFault.TheVariants as faults
-use Rattle.command_line.specs.CommandLine.{Names, AsksHelp, AreWrong, GivesOrder, GivesHelp, GivesWrong}
+use Rattle.command_line.specs.CommandLine.{NamesOrder, AsksHelp, AreWrong, GivesOrder, GivesHelp, GivesWrong}
 use Rattle.plant_script.specs.declared.answer.Answer.{Answer}
 use Rattle.plant_script.specs.declared.progress.Progress.{Progress}
 use Rattle.plant_script.specs.declared.progress.Progress.TheVariants.{Ended, Threads}
@@ -22,7 +20,7 @@ use Rattle.plant_script.specs.Run.{memory_line}
 use Rattle.plant_script.specs.Statuses.{status_code}
 use Rattle.plant_script.specs.OnThreads.{IsThreadedRunOf}
 use Rattle.plant_script.specs.Task.{RunsTo, IsWritten, WritesOutcome, Comes}
-use Rattle.plant_script.specs.Words.{Answers}
+use Rattle.plant_script.specs.Words.{AnswersWith}
 use Rattle.plant_script.specs.Reaching.{RunsOut, AnswersRead, AnswersOrder, EndsOrder, ReachesOrder, Completes, AnswersFault, AnswersWords, ReachesWords}
 use Rattle.plant_script.proofs.Tasks.{same_order}
 
@@ -53,23 +51,23 @@ outcome_written results (Err error) status wrote runs (five, told) = memory_writ
 
 -- what is written of a run is what is answered
 pub written_answers : (order : Order) (read : Option (List ℕ)) (results : ℕ → List ℕ → Type 0) (status : ℕ) (wrote : List ℕ → Type 0)
-    → IfSome read (λ input. (status : ℕ) (text : List ℕ) → results status text → Answers order input status text)
+    → IfSome read (λ input. (status : ℕ) (text : List ℕ) → results status text → AnswersWith order input status text)
     → IsWritten results status wrote → AnswersOrder order read status wrote
 written_answers order read results status wrote comes (inl (text, no_memory, no_io, runs, told)) = inr (no_memory, no_io, at read comes)
   where
-    at : (r : Option (List ℕ)) → IfSome r (λ input. (status : ℕ) (text : List ℕ) → results status text → Answers order input status text) → AnswersRead order r status wrote
+    at : (r : Option (List ℕ)) → IfSome r (λ input. (status : ℕ) (text : List ℕ) → results status text → AnswersWith order input status text) → AnswersRead order r status wrote
     at None known = tt
     at (Some input) known = (text, known status text runs, told)
 written_answers order read results status wrote comes (inr (before, five, told, inl none)) = inl (five, (before, told, inl none))
 written_answers order read results status wrote comes (inr (before, five, told, inr runs)) = inl (five, (before, told, inr (at read comes)))
   where
-    at : (r : Option (List ℕ)) → IfSome r (λ input. (status : ℕ) (text : List ℕ) → results status text → Answers order input status text)
-        → IfSome r (λ input. Answers order input 5 (before ++ memory_line))
+    at : (r : Option (List ℕ)) → IfSome r (λ input. (status : ℕ) (text : List ℕ) → results status text → AnswersWith order input status text)
+        → IfSome r (λ input. AnswersWith order input 5 (before ++ memory_line))
     at None known = tt
     at (Some input) known = known 5 (before ++ memory_line) runs
 
 -- the run of a task is the answer
-pub task_ends : (order : Order) (read : Option (List ℕ)) (failed : Bool) (task : Task) (status : ℕ) (wrote : List ℕ → Type 0) → IfSome read (λ input. Comes (outcomes.Task task) (Answers order input))
+pub task_ends : (order : Order) (read : Option (List ℕ)) (failed : Bool) (task : Task) (status : ℕ) (wrote : List ℕ → Type 0) → IfSome read (λ input. Comes (outcomes.Task task) (AnswersWith order input))
     → IsWritten (RunsTo task.plant task.report task.lines.items) status wrote → EndsOrder order read failed status wrote
 task_ends order read failed task status wrote comes told = inr (written_answers order read (RunsTo task.plant task.report task.lines.items) status wrote comes told)
 
@@ -83,15 +81,15 @@ threads_alone (batch.Run report) other = absurd (other (λ same. absurd cc))
 -- ---- words
 
 -- words that give an order are answered as the order is
-module _ (words : List (List ℕ)) (read : Option (List ℕ)) (word : Word) (result : Result Word WordsFault) (is : result ≡ Ok word) (names : Names words (order_of word))
-    (named : (order : Order) → Names words order → GivesOrder order result) (help : AsksHelp words → GivesHelp result) (wrong : AreWrong words → GivesWrong result) where
+module _ (words : List (List ℕ)) (read : Option (List ℕ)) (word : Word) (result : Result Word WordsFault) (is : result ≡ Ok word) (names : NamesOrder words (order_of word))
+    (named : (order : Order) → NamesOrder words order → GivesOrder order result) (help : AsksHelp words → GivesHelp result) (wrong : AreWrong words → GivesWrong result) where
   no_help : {P : Type 0} → AsksHelp words → P
   no_help asks = let given : GivesHelp (Ok word) = subst GivesHelp is (help asks) in absurd given
 
   not_wrong : {P : Type 0} → AreWrong words → P
   not_wrong are = let given : GivesWrong (Ok word) = subst GivesWrong is (wrong are) in absurd given
 
-  is_order : (order : Order) → Names words order → order_of word ≡ order
+  is_order : (order : Order) → NamesOrder words order → order_of word ≡ order
   is_order order so = same_order order result word (named order so) is
 
   out_of_memory : (status : ℕ) (wrote : List ℕ → Type 0) → status ≡ 5 → RunsOut (order_of word) read wrote → AnswersWords words read status wrote
@@ -102,8 +100,8 @@ module _ (words : List (List ℕ)) (read : Option (List ℕ)) (word : Word) (res
     memory = λ same. (before, told, by how);
   }
     where
-      by : (before ≡ []) ⊎ IfSome read (λ input. Answers (order_of word) input 5 (before ++ memory_line))
-          → (before ≡ []) ⊎ ((order : Order) × Names words order × IfSome read (λ input. Answers order input 5 (before ++ memory_line)))
+      by : (before ≡ []) ⊎ IfSome read (λ input. AnswersWith (order_of word) input 5 (before ++ memory_line))
+          → (before ≡ []) ⊎ ((order : Order) × NamesOrder words order × IfSome read (λ input. AnswersWith order input 5 (before ++ memory_line)))
       by (inl none) = inl none
       by (inr runs) = inr (order_of word, names, runs)
 
@@ -124,14 +122,14 @@ module _ (words : List (List ℕ)) (read : Option (List ℕ)) (word : Word) (res
   word_reaches (Ended status failed) old new (inr ends) = inr (answered (status_code status) (λ text. Appends old new text) ends)
   word_reaches (Threads plant lines) old new (same, threaded, comes) = (
     same,
-    subst (Names words) threaded names,
+    subst (NamesOrder words) threaded names,
     λ status later told. answered status (λ text. Appends old later text)
         (written_answers (order_of word) read (IsThreadedRunOf plant lines.items) status (λ text. Appends old later text) comes told),
   )
 
 -- words that give no order
 pub fault_reaches : (words : List (List ℕ)) (read : Option (List ℕ)) (fault : WordsFault) (result : Result Word WordsFault) (status : Status) (failed : Bool) (old new : Option (List ℕ)) → result ≡ Err fault
-    → ((order : Order) → Names words order → GivesOrder order result) → (AsksHelp words → GivesHelp result) → (AreWrong words → GivesWrong result)
+    → ((order : Order) → NamesOrder words order → GivesOrder order result) → (AsksHelp words → GivesHelp result) → (AreWrong words → GivesWrong result)
     → AnswersFault fault (status_code status) (λ text. Appends old new text) → ReachesWords words read (Ended status failed) old new
 fault_reaches words read (faults.Help text) result status failed old new is named help wrong (zero_is, told) = inr (
   (λ six. absurd (let bad : ◌≡◌ {A = ℕ} 0 6 = sym zero_is ∙ six in cc)),

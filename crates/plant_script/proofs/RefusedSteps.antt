@@ -1,5 +1,5 @@
 -- Where a step of a run on threads is refused.
-use Rattle.std.proofs.Common.{◌≡◌, ◌⊎◌, inl, inr, ℕ, zero, suc, ◌<◌, ◌≤◌, List, [], ◌∷◌, ◌++◌, length, take, drop, get_or, map, Option, Some, None, refl, sym, ap, subst, ◌∙◌, arith}
+use Rattle.std.proofs.Common.{◌≡◌, ◌⊎◌, inl, inr, ℕ, zero, suc, ◌<◌, List, [], ◌∷◌, ◌++◌, length, take, drop, get_or, Some, refl, sym, ap, subst, ◌∙◌, arith}
 use Rattle.std.specs.Prelude.{slice_get, not}
 use Rattle.std.specs.List.{prefix_len}
 use Rattle.std.proofs.lemmas.Bool.{cases_order}
@@ -11,7 +11,7 @@ use Rattle.run_model.specs.declared.step.Step.TheVariants as steps
 use Rattle.plant_core.specs.declared.core_fault.ResliceFault.{ResliceFault}
 use Rattle.run_receipts.specs.declared.run_fault.RunFault.TheVariants as faults
 use Rattle.run_audit.specs.Outcome.{ticks_of}
-use Rattle.run_plan.specs.Spending.{IsSpentAt, NoneSpentBefore, IsFirstSpent, is_reslice, before_reslice}
+use Rattle.run_plan.specs.Spending.{IsSpentAt, IsFirstSpent, is_reslice, before_reslice}
 use Rattle.plant_workers.specs.Faulting.{IsResliceFault, IsFault}
 use Rattle.script_format.specs.declared.script.LineStep.{LineStep}
 use Rattle.script_format.specs.Script.{steps_without_numbers}

@@ -4,10 +4,10 @@ use Rattle.operator_model.specs.State.{operator}
 use Rattle.operator_model.specs.Machine.{own_run}
 use Rattle.operator_model.specs.Replay.{BookView}
 use Rattle.plant_script.specs.OperatorA.{row_a, consts_a}
-use Rattle.plant_script.specs.One.{actions_of, outputs_of, text_of}
+use Rattle.plant_script.specs.One.{sent_actions, outputs_of, text_of_outputs}
 use Rattle.plant_script.specs.View.{IsOfA}
 
 -- the book is operator A's, and its run of the messages from the place on ends the text
 pub record IsRunSoFar (messages : List (List ℕ)) (book : BookView) (text : List ℕ) (place : ℕ) : Type 0 where
   pub of_a : IsOfA book
-  pub goes_on : text ++ text_of (own_run (operator consts_a row_a book.state) (actions_of (drop place messages))).outputs ≡ text_of (outputs_of messages)
+  pub goes_on : text ++ text_of_outputs (own_run (operator consts_a row_a book.state) (sent_actions (drop place messages))).outputs ≡ text_of_outputs (outputs_of messages)

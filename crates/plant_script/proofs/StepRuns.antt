@@ -15,7 +15,7 @@ use Rattle.script_format.specs.Script.{steps_without_numbers}
 use Rattle.script_format.specs.Text.{actions_text}
 use Rattle.line_service.proofs.LeftLemmas.{first_left, none_left, take_next, drop_next}
 use Rattle.plant_script.specs.declared.answer.Answer.{Answer}
-use Rattle.plant_script.specs.Run.{last_line, IsEnd, IsRunOf}
+use Rattle.plant_script.specs.Run.{last_line, IsEndStatus, IsScriptRun}
 use Rattle.plant_script.specs.Task.{history_at, IsEnded}
 use Rattle.plant_script.specs.Done.{IsRefused, HasRun, book_text}
 use Rattle.plant_script.specs.Statuses.{status_code}
@@ -91,7 +91,7 @@ line_refused plant lines say old core text line rest fault half same refused =
 
 -- where a run ends, and the line that is written there
 pub end_of : (core : CoreView) (line : Option LineStep) (refused : Option ℕ) (text : List ℕ) (answer : Answer) → IsRefused core line refused → IsEnded text refused answer
-    → IsEnd core line (status_code answer.status) × (answer.text.items ≡ text ++ last_line line)
+    → IsEndStatus core line (status_code answer.status) × (answer.text.items ≡ text ++ last_line line)
 end_of core None refused text answer none ended =
     let said : IsEnded text None answer = subst (λ (r : Option ℕ). IsEnded text r answer) none ended in
     (said.0, said.1 ∙ sym (append-nil text))
@@ -114,7 +114,7 @@ history_is plant steps outs core op (Some row) reached here =
 
 pub history_written : (plant : PlantFields) (lines : List LineStep) (op : ℕ) (refused : Option ℕ) (core : CoreView) (answer : Answer)
     → HasRun plant lines (λ told. []) refused core [] → IsEnded (book_text (slice_get core.books op)) refused answer
-    → IsRunOf plant lines (λ done told. history_at (slice_get plant.rows op) op done) (status_code answer.status) answer.text.items
+    → IsScriptRun plant lines (λ done told. history_at (slice_get plant.rows op) op done) (status_code answer.status) answer.text.items
 history_written plant lines op refused core answer run ended =
     let end = end_of core (slice_get lines run.at) refused (book_text (slice_get core.books op)) answer run.ends ended in
     record {

@@ -10,7 +10,7 @@ use Rattle.script_format.specs.Text.{history_text}
 use Rattle.command_line.specs.declared.asked.RunReport.TheVariants.{History}
 use Rattle.plant_script.specs.declared.task.InputOutcome.{InputOutcome}
 use Rattle.plant_script.specs.declared.task.InputOutcome.TheVariants as outcomes
-use Rattle.plant_script.specs.Run.{IsRunOf}
+use Rattle.plant_script.specs.Run.{IsScriptRun}
 use Rattle.plant_script.specs.Task.{history_at, RunsTo, Comes}
 use Rattle.command_line.specs.Order.{Order, order_of}
 use Rattle.command_line.specs.declared.asked.Word.{Word}
@@ -42,13 +42,13 @@ found_at test xs i h =
 
 -- what is answered of an operator, whose row may be known or not
 abbrev TellsOf : PlantFields → ℕ → Result (List LineStep) ℕ → ℕ → List ℕ → Option RowFields → Type 0
-TellsOf plant op lines status text row = AnswersSteps (λ ran. IsRunOf plant ran (λ done told. history_at row op done)) lines status text
+TellsOf plant op lines status text row = AnswersSteps (λ ran. IsScriptRun plant ran (λ done told. history_at row op done)) lines status text
 
 -- a run that is told of an operator tells its own steps
 pub comes_of_operator : (plant : PlantFields) (op : ℕ) (row : RowFields) (lines : Result (List LineStep) ℕ) (what : InputOutcome) → slice_get plant.rows op ≡ Some row
     → Comes what (AnswersSteps (RunsTo plant (History op)) lines)
     → Comes what (λ status text. (row : RowFields) × (slice_get plant.rows op ≡ Some row)
-    × AnswersSteps (λ ran. IsRunOf plant ran (λ done told. history_text row op done)) lines status text)
+    × AnswersSteps (λ ran. IsScriptRun plant ran (λ done told. history_text row op done)) lines status text)
 comes_of_operator plant op row lines (outcomes.Answer answer) here h = (row, here, subst (TellsOf plant op lines (status_code answer.status) answer.text.items) here h)
 comes_of_operator plant op row lines (outcomes.Task task) here h = λ status text run. (row, here, subst (TellsOf plant op lines status text) here (h status text run))
 comes_of_operator plant op row lines (outcomes.Threads threaded steps) here h = λ status text run. (row, here, subst (TellsOf plant op lines status text) here (h status text run))

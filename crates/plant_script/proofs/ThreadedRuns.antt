@@ -19,7 +19,7 @@ use Rattle.script_format.specs.declared.script.LineStep.{LineStep}
 use Rattle.script_format.specs.Script.{steps_without_numbers}
 use Rattle.script_format.specs.Text.{outs_text}
 use Rattle.plant_script.specs.declared.answer.Answer.{Answer}
-use Rattle.plant_script.specs.OnThreads.{HasSettled, ReportsCore, ReportsFault, HasFault, IsThreadedRunOf}
+use Rattle.plant_script.specs.OnThreads.{ReportsCore, ReportsFault, IsThreadedRunOf}
 use Rattle.plant_script.specs.Statuses.{status_code}
 use Rattle.plant_script.proofs.RefusedSteps.{first_of_all, core_spent}
 

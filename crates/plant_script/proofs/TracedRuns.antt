@@ -35,9 +35,9 @@ trace_ends_by core next decisions text end (inr words) =
     inr (subst (λ (e : StepsEnd). HasNoWords decisions text e) words.end_is words, ap status_of words.end_is, ap line_of words.end_is)
 
 -- what was told of the steps, and the last line behind it
-pub trace_ends : (plant : PlantFields) (lines : List LineStep) (core : CoreView) (end : StepsEnd) (status : ℕ) (w0 w1 w2 : Option (List ℕ)) → HasTraced plant lines core end w0 w1
+pub trace_ends : (plant : PlantFields) (script : List ℕ) (lines : List LineStep) (core : CoreView) (end : StepsEnd) (status : ℕ) (w0 w1 w2 : Option (List ℕ)) → HasTraced plant script lines core end w0 w1
     → status ≡ status_of end → Appends w1 w2 (line_of end) → EndsTraced plant lines status (λ text. Appends w0 w2 text)
-trace_ends plant lines core end status w0 w1 w2 has is wrote = (
+trace_ends plant script lines core end status w0 w1 w2 has is wrote = (
   has.text ++ line_of end,
   record {
     at = has.at;

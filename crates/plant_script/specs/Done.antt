@@ -8,7 +8,7 @@ use Rattle.plant_core.specs.Faults.{step_fault}
 use Rattle.script_format.specs.declared.script.LineStep.{LineStep}
 use Rattle.script_format.specs.Script.{steps_without_numbers}
 use Rattle.script_format.specs.Text.{actions_text}
-use Rattle.pcap_capture.specs.Capture.{CaptureView, IsOfRun}
+use Rattle.pcap_capture.specs.Capture.{CaptureView, CapturesRun}
 
 -- the steps of these lines are done, and what is said of their outputs is written
 pub record AreDone (plant : PlantFields) (lines : List LineStep) (say : List Out → List ℕ) (core : CoreView) (text : List ℕ) : Type 0 where
@@ -38,7 +38,7 @@ book_text (Some book) = actions_text (actions_of book.history)
 pub record AreCaptured (plant : PlantFields) (lines : List LineStep) (core : CoreView) (captured : CaptureView) : Type 0 where
   pub outs : List Out
   pub reached : IsStateAfter plant (steps_without_numbers lines) outs core
-  pub of_run : IsOfRun plant (steps_without_numbers lines) outs captured
+  pub of_run : CapturesRun plant (steps_without_numbers lines) outs captured
 
 -- so many of the lines' steps are done, and no more
 pub record HasCaptured (plant : PlantFields) (lines : List LineStep) (refused : Option ℕ) (core : CoreView) (captured : CaptureView) : Type 0 where

@@ -50,9 +50,9 @@ abbrev pub stray_line : List ℕ → List ℕ → List ℕ
 stray_line who place = codes "fault: strayed " ++ (who ++ (codes " " ++ (place ++ 10 ∷ [])))
 
 -- a place in an operator's history; `-` for none
-abbrev pub place_text : Option ℕ → List ℕ
-place_text None = codes "-"
-place_text (Some place) = decimal place
+abbrev pub refused_place_text : Option ℕ → List ℕ
+refused_place_text None = codes "-"
+refused_place_text (Some place) = decimal place
 
 -- that what the threads did is not what the steps say
 abbrev pub ReportsStray : List ℕ → List ℕ → ℕ → List ℕ → Type 0
@@ -81,8 +81,8 @@ pub record ReportsReslice (plant : PlantFields) (lines : List LineStep) (at : �
 -- its history, or `-` and the frame of a MAP; 4 where a step is refused, a tick too many or new slices.
 abbrev pub ReportsFault : PlantFields → List LineStep → RunFault → ℕ → List ℕ → Type 0
 ReportsFault plant lines (faults.Strayed op index) status text =
-    ReportsStray (operator_name (slice_get plant.rows op)) (place_text (Some index)) status text
-ReportsFault plant lines (faults.Short op) status text = ReportsStray (operator_name (slice_get plant.rows op)) (place_text None) status text
+    ReportsStray (operator_name (slice_get plant.rows op)) (refused_place_text (Some index)) status text
+ReportsFault plant lines (faults.Short op) status text = ReportsStray (operator_name (slice_get plant.rows op)) (refused_place_text None) status text
 ReportsFault plant lines (faults.MapStrayed frame) status text = ReportsStray (codes "-") (decimal frame) status text
 ReportsFault plant lines (faults.Core fault) status text = ReportsCore plant lines status text
 ReportsFault plant lines (faults.ResliceRefused at fault) status text = ReportsReslice plant lines at fault status text

@@ -20,11 +20,11 @@ use Rattle.plant_script.specs.OperatorA.{row_a, consts_a}
 -- ---- messages to outputs
 
 -- each message arrives of the first modem and is handled
-abbrev pub actions_of : List (List ℕ) → List Action
-actions_of messages = flat_map (λ message. Arrive first_modem (heards.Message message) ∷ Work ∷ []) messages
+abbrev pub sent_actions : List (List ℕ) → List Action
+sent_actions messages = flat_map (λ message. Arrive first_modem (heards.Message message) ∷ Work ∷ []) messages
 
 abbrev pub outputs_of : List (List ℕ) → List Output
-outputs_of messages = (own_run (operator consts_a row_a (opened_state consts_a row_a)) (actions_of messages)).outputs
+outputs_of messages = (own_run (operator consts_a row_a (opened_state consts_a row_a)) (sent_actions messages)).outputs
 
 -- ---- outputs to text
 
@@ -34,8 +34,8 @@ line_of (Reply modem bytes) = encode_upper bytes ++ 10 ∷ []
 line_of (Silent modem cause) = codes "S " ++ (cause_name cause ++ 10 ∷ [])
 line_of (Frame number elements) = []
 
-abbrev pub text_of : List Output → List ℕ
-text_of outputs = flat_map line_of outputs
+abbrev pub text_of_outputs : List Output → List ℕ
+text_of_outputs outputs = flat_map line_of outputs
 
 -- ---- the whole
 
@@ -49,7 +49,7 @@ abbrev pub is_readable : List ℕ → Bool
 is_readable input = nat_le (length input) 1048576 && is_utf8 input
 
 abbrev pub answer_to : Result (List (List ℕ)) ℕ → Answer
-answer_to (Ok messages) = record { status = 0; text = text_of (outputs_of messages) }
+answer_to (Ok messages) = record { status = 0; text = text_of_outputs (outputs_of messages) }
 answer_to (Err number) = record { status = 4; text = codes "fault: line " ++ (decimal number ++ 10 ∷ []) }
 
 unfoldable pub answer_of : List ℕ → Answer

@@ -5,7 +5,7 @@ use Rattle.std.specs.String.{string_bytes}
 use Rattle.command_line.specs.declared.asked.WordsFault.{WordsFault}
 use Rattle.command_line.specs.declared.asked.WordsFault.TheVariants as faults
 use Rattle.command_line.specs.Order.{Order, serve, threads}
-use Rattle.command_line.specs.CommandLine.{Names, AsksHelp, AreWrong}
+use Rattle.command_line.specs.CommandLine.{NamesOrder, AsksHelp, AreWrong}
 use Rattle.plant_script.specs.declared.progress.Progress.{Progress}
 use Rattle.plant_script.specs.declared.progress.Progress.TheVariants.{Ended, Threads}
 use Rattle.plant_script.specs.One.{is_readable}
@@ -13,18 +13,18 @@ use Rattle.plant_script.specs.Run.{memory_line, io_line}
 use Rattle.plant_script.specs.OnThreads.{IsThreadedRunOf}
 use Rattle.plant_script.specs.Statuses.{status_code}
 use Rattle.plant_script.specs.Task.{IsWritten}
-use Rattle.plant_script.specs.Words.{Answers}
+use Rattle.plant_script.specs.Words.{AnswersWith}
 
 -- ---- an order
 
 -- memory ran out: its line is written alone, or after what a run, which writes as it goes, had output until then
 abbrev pub RunsOut : Order → Option (List ℕ) → (List ℕ → Type 0) → Type 0
 RunsOut order read wrote = (before : List ℕ) × wrote (before ++ memory_line)
-    × ((before ≡ []) ⊎ IfSome read (λ input. Answers order input 5 (before ++ memory_line)))
+    × ((before ≡ []) ⊎ IfSome read (λ input. AnswersWith order input 5 (before ++ memory_line)))
 
 -- an answer to what is read
 abbrev pub AnswersRead : Order → Option (List ℕ) → ℕ → (List ℕ → Type 0) → Type 0
-AnswersRead order read status wrote = IfSome read (λ input. (text : List ℕ) × Answers order input status text × wrote text)
+AnswersRead order read status wrote = IfSome read (λ input. (text : List ℕ) × AnswersWith order input status text × wrote text)
 
 -- with 5 memory ran out, and with any other status what is written answers what is read
 abbrev pub AnswersOrder : Order → Option (List ℕ) → ℕ → (List ℕ → Type 0) → Type 0
@@ -45,7 +45,7 @@ EndsOrder order read failed status wrote =
 abbrev pub ReachesOrder : Order → Option (List ℕ) → Progress → Option (List ℕ) → Option (List ℕ) → Type 0
 ReachesOrder order read (Ended status failed) old new = EndsOrder order read failed (status_code status) (λ text. Appends old new text)
 ReachesOrder order read (Threads plant lines) old new = (new ≡ old) × (order ≡ threads)
-    × IfSome read (λ input. (status : ℕ) (text : List ℕ) → IsThreadedRunOf plant lines.items status text → Answers order input status text)
+    × IfSome read (λ input. (status : ℕ) (text : List ℕ) → IsThreadedRunOf plant lines.items status text → AnswersWith order input status text)
 
 -- ---- what is left to do
 
@@ -66,7 +66,7 @@ AnswersFault faults.NoMemory status wrote = (status ≡ 5) × wrote memory_line
 
 -- under words that name an order, an answer to what is read
 abbrev pub AnswersWhatIsRead : List (List ℕ) → Option (List ℕ) → ℕ → (List ℕ → Type 0) → Type 0
-AnswersWhatIsRead words read status wrote = (order : Order) → Names words order → status ≢ 5 → AnswersRead order read status wrote
+AnswersWhatIsRead words read status wrote = (order : Order) → NamesOrder words order → status ≢ 5 → AnswersRead order read status wrote
 
 -- under wrong words, with status 2, that they are a fault
 abbrev pub TellsWrong : List (List ℕ) → ℕ → (List ℕ → Type 0) → Type 0
@@ -79,7 +79,7 @@ TellsHelp words status wrote = AsksHelp words → status ≢ 5 → (text : List 
 -- out of memory: its line is written alone; or after what the run of an order had output until then
 abbrev pub TellsMemory : List (List ℕ) → Option (List ℕ) → (List ℕ → Type 0) → Type 0
 TellsMemory words read wrote = (before : List ℕ) × wrote (before ++ memory_line) × ((before ≡ [])
-    ⊎ ((order : Order) × Names words order × IfSome read (λ input. Answers order input 5 (before ++ memory_line))))
+    ⊎ ((order : Order) × NamesOrder words order × IfSome read (λ input. AnswersWith order input 5 (before ++ memory_line))))
 
 -- what is written answers the words and what is read; out of memory is reported as such, and nothing else is
 pub record AnswersWords (words : List (List ℕ)) (read : Option (List ℕ)) (status : ℕ) (wrote : List ℕ → Type 0) : Type 0 where
@@ -91,7 +91,7 @@ pub record AnswersWords (words : List (List ℕ)) (read : Option (List ℕ)) (st
 -- the input of an order is lacking, and its line is written
 abbrev pub TellsUnread : List (List ℕ) → Option (List ℕ) → Bool → ℕ → (List ℕ → Type 0) → Type 0
 TellsUnread words read failed status wrote =
-    (status ≡ 6) × wrote io_line × ((order : Order) × Names words order × LacksInput order read failed)
+    (status ≡ 6) × wrote io_line × ((order : Order) × NamesOrder words order × LacksInput order read failed)
 
 -- The program has ended: status 6 is for an input that is lacking, and for nothing else. Or the words are `threads`, nothing is
 -- written, and the words are answered once it is written what the run of these lines results in.
@@ -99,6 +99,6 @@ abbrev pub ReachesWords : List (List ℕ) → Option (List ℕ) → Progress →
 ReachesWords words read (Ended status failed) old new =
     TellsUnread words read failed (status_code status) (λ text. Appends old new text)
     ⊎ ((status_code status ≢ 6) × AnswersWords words read (status_code status) (λ text. Appends old new text))
-ReachesWords words read (Threads plant lines) old new = (new ≡ old) × Names words threads
+ReachesWords words read (Threads plant lines) old new = (new ≡ old) × NamesOrder words threads
     × ((status : ℕ) (later : Option (List ℕ)) → IsWritten (IsThreadedRunOf plant lines.items) status (λ text. Appends old later text)
     → (status ≢ 6) × AnswersWords words read status (λ text. Appends old later text))

@@ -11,9 +11,9 @@ use Rattle.script_format.specs.Script.{steps_without_numbers}
 use Rattle.pcap_capture.specs.Capture.{IsCaptureOf}
 
 -- the run ends after the last step; or before the first one that is refused
-abbrev pub IsEnd : CoreView → Option LineStep → ℕ → Type 0
-IsEnd core None status = status ≡ 0
-IsEnd core (Some line) status = (status ≡ 4) × IsSome (step_fault core line.step)
+abbrev pub IsEndStatus : CoreView → Option LineStep → ℕ → Type 0
+IsEndStatus core None status = status ≡ 0
+IsEndStatus core (Some line) status = (status ≡ 4) × IsSome (step_fault core line.step)
 
 -- the line of the step that is refused, by its number
 abbrev pub last_line : Option LineStep → List ℕ
@@ -38,11 +38,11 @@ IsOutOfMemory core (Some line) = step_fault core line.step ≡ None
 -- step is out of memory, with status 5.
 abbrev pub EndsBy : CoreView → Option LineStep → ℕ → List ℕ → Type 0
 EndsBy core next status last =
-    (IsEnd core next status × (last ≡ last_line next)) ⊎ (IsOutOfMemory core next × (status ≡ 5) × (last ≡ memory_line))
+    (IsEndStatus core next status × (last ≡ last_line next)) ⊎ (IsOutOfMemory core next × (status ≡ 5) × (last ≡ memory_line))
 
 -- so many steps are done, one after the other, on a core of the plant as it is opened: the run shows to each operator its own
 -- machine run alone, with all outputs in order (`IsStateAfter`). What is said of them is written, and after it the last line.
-pub record IsRunOf (plant : PlantFields) (lines : List LineStep) (say : List Step → List Out → List ℕ) (status : ℕ) (text : List ℕ) : Type 0 where
+pub record IsScriptRun (plant : PlantFields) (lines : List LineStep) (say : List Step → List Out → List ℕ) (status : ℕ) (text : List ℕ) : Type 0 where
   pub at : ℕ
   pub outs : List Out
   pub core : CoreView
@@ -58,5 +58,5 @@ pub record IsCapturedRunOf (plant : PlantFields) (lines : List LineStep) (status
   pub outs : List Out
   pub core : CoreView
   pub reached : IsStateAfter plant (steps_without_numbers (take at lines)) outs core
-  pub ends : IsEnd core (slice_get lines at) status
+  pub ends : IsEndStatus core (slice_get lines at) status
   pub captured : IsCaptureOf plant (steps_without_numbers (take at lines)) outs text

@@ -12,11 +12,11 @@ use Rattle.command_line.specs.declared.asked.RunReport.{RunReport}
 use Rattle.command_line.specs.declared.asked.RunReport.TheVariants.{Outputs, Capture, Trace, History}
 use Rattle.plant_script.specs.declared.task.InputOutcome.{InputOutcome}
 use Rattle.plant_script.specs.declared.task.InputOutcome.TheVariants as outcomes
-use Rattle.plant_script.specs.Run.{memory_line, IsRunOf, IsCapturedRunOf}
+use Rattle.plant_script.specs.Run.{memory_line, IsScriptRun, IsCapturedRunOf}
 use Rattle.plant_script.specs.OnThreads.{IsThreadedRunOf}
 use Rattle.plant_script.specs.Statuses.{status_code}
 use Rattle.plant_script.specs.Traced.{IsTracedRunOf}
-use Rattle.plant_script.specs.Words.{AnswersRun, AnswersThreads, AnswersCapture, AnswersTrace, AnswersHistory}
+use Rattle.plant_script.specs.Words.{AnswersRun, AnswersCapture, AnswersTrace, AnswersHistory}
 
 -- nothing of an operator that the plant does not have
 abbrev pub history_at : Option RowFields → ℕ → List Step → List ℕ
@@ -25,11 +25,11 @@ history_at (Some row) op done = history_text row op done
 
 -- what the run of a script's steps results in, where this is printed of it
 abbrev pub RunsTo : PlantFields → RunReport ℕ → List LineStep → ℕ → List ℕ → Type 0
-RunsTo plant Outputs lines status text = IsRunOf plant lines (λ done told. outs_text plant told) status text
+RunsTo plant Outputs lines status text = IsScriptRun plant lines (λ done told. outs_text plant told) status text
 RunsTo plant Capture lines status text = IsCapturedRunOf plant lines status text
 RunsTo plant Trace lines status text = IsTracedRunOf plant lines status text
 RunsTo plant (History op) lines status text =
-    IsRunOf plant lines (λ done told. history_at (slice_get plant.rows op) op done) status text
+    IsScriptRun plant lines (λ done told. history_at (slice_get plant.rows op) op done) status text
 
 -- what a run results in is written; or memory ran out, and its line is written alone, or after what the run had output until then
 abbrev pub IsWritten : (ℕ → List ℕ → Type 0) → ℕ → (List ℕ → Type 0) → Type 0
@@ -71,4 +71,4 @@ IsEnded text (Some number) answer = (status_code answer.status ≡ 4) × (answer
 
 -- what `run` results in is written
 abbrev pub EndsRun : PlantFields → List LineStep → ℕ → (List ℕ → Type 0) → Type 0
-EndsRun plant lines status wrote = (text : List ℕ) × IsRunOf plant lines (λ done told. outs_text plant told) status text × wrote text
+EndsRun plant lines status wrote = (text : List ℕ) × IsScriptRun plant lines (λ done told. outs_text plant told) status text × wrote text

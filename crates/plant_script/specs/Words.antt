@@ -13,7 +13,7 @@ use Rattle.script_format.specs.Script.{is_named, steps_of}
 use Rattle.script_format.specs.Text.{outs_text, history_text}
 use Rattle.plant_script.specs.One.{Answer, is_readable, answer_of}
 use Rattle.plant_script.specs.Check.{answer_to_steps, answer_to_plant, check_of}
-use Rattle.plant_script.specs.Run.{io_line, IsRunOf, IsCapturedRunOf}
+use Rattle.plant_script.specs.Run.{io_line, IsScriptRun, IsCapturedRunOf}
 use Rattle.plant_script.specs.OnThreads.{IsThreadedRunOf}
 use Rattle.plant_script.specs.Traced.{IsTracedRunOf}
 use Rattle.plant_script.specs.Serving.{IsServed}
@@ -32,7 +32,7 @@ AnswersSteps runs_to (Err number) status text = Is (answer_to_steps (Err number)
 -- all outputs of the run
 abbrev pub AnswersRun : PlantFields → List ℕ → ℕ → List ℕ → Type 0
 AnswersRun plant script status text =
-    AnswersSteps (λ lines. IsRunOf plant lines (λ done told. outs_text plant told)) (steps_of plant script) status text
+    AnswersSteps (λ lines. IsScriptRun plant lines (λ done told. outs_text plant told)) (steps_of plant script) status text
 
 -- all outputs of the run on threads
 abbrev pub AnswersThreads : PlantFields → List ℕ → ℕ → List ℕ → Type 0
@@ -52,7 +52,7 @@ AnswersOperator plant script None status text =
     Is (record { status = 2; text = codes "fault: words" ++ 10 ∷ [] }) status text
 AnswersOperator plant script (Some op) status text =
     (row : RowFields) × (slice_get plant.rows op ≡ Some row) × AnswersSteps
-    (λ lines. IsRunOf plant lines (λ done told. history_text row op done)) (steps_of plant script) status text
+    (λ lines. IsScriptRun plant lines (λ done told. history_text row op done)) (steps_of plant script) status text
 
 -- of the first operator of this name
 abbrev pub AnswersHistory : List ℕ → PlantFields → List ℕ → ℕ → List ℕ → Type 0
@@ -81,12 +81,12 @@ AnswersFront (Err fault) script status text = Is (answer_to_plant (Err fault) sc
 abbrev pub AnswersServe : List ℕ → ℕ → List ℕ → Type 0
 AnswersServe input status text = AnswersFront (text_plant (parse_document (plant_text input))) (script_text input) status text
 
-abbrev pub Answers : Order → List ℕ → ℕ → List ℕ → Type 0
-Answers one input status text = Is (answer_of input) status text
-Answers check input status text = Is (check_of input) status text
-Answers run input status text = AnswersInput AnswersRun input status text
-Answers threads input status text = AnswersInput AnswersThreads input status text
-Answers capture input status text = AnswersInput AnswersCapture input status text
-Answers serve input status text = AnswersServe input status text
-Answers trace input status text = AnswersInput AnswersTrace input status text
-Answers (history operator) input status text = AnswersInput (AnswersHistory operator) input status text
+abbrev pub AnswersWith : Order → List ℕ → ℕ → List ℕ → Type 0
+AnswersWith one input status text = Is (answer_of input) status text
+AnswersWith check input status text = Is (check_of input) status text
+AnswersWith run input status text = AnswersInput AnswersRun input status text
+AnswersWith threads input status text = AnswersInput AnswersThreads input status text
+AnswersWith capture input status text = AnswersInput AnswersCapture input status text
+AnswersWith serve input status text = AnswersServe input status text
+AnswersWith trace input status text = AnswersInput AnswersTrace input status text
+AnswersWith (history operator) input status text = AnswersInput (AnswersHistory operator) input status text

@@ -7,7 +7,7 @@ ghost use Rattle.run_model.specs.declared.step.Out.{Out};
 ghost use Rattle.run_model.specs.Ordered.{target, IsTold};
 ghost use Rattle.run_model.specs.IsStateAfter.{IsStateAfter};
 ghost use Rattle.plant_core.specs.CoreView.{core_view};
-ghost use Rattle.pcap_capture.specs.Capture.{opened_capture, IsOfRun};
+ghost use Rattle.pcap_capture.specs.Capture.{opened_capture, CapturesRun};
 ghost use Rattle.plant_script.specs.Done.{HasCaptured, IsStatusOf};
 ghost use Rattle.plant_script.specs.Run.{IsCapturedRunOf};
 ghost use Rattle.plant_script.specs.Statuses.{status_code};
@@ -29,8 +29,8 @@ fn put_turn(
     outs: &[Out],
 ) -> Result<(), AllocError>
     ensures { OnOk result ((plant : PlantFields) (steps : List Step) (told : List Out)
-        → IsOfRun plant steps told capture.old → IsTold plant steps step.now (target plant step.now) outs.now
-        → IsOfRun plant (steps ++ step.now ∷ []) (told ++ outs.now) capture.new) }
+        → CapturesRun plant steps told capture.old → IsTold plant steps step.now (target plant step.now) outs.now
+        → CapturesRun plant (steps ++ step.now ∷ []) (told ++ outs.now) capture.new) }
 {
     capture.add_sent_message(alloc, step)?;
     capture.add_outputs(alloc, outs)?;

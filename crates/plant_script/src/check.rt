@@ -5,7 +5,8 @@ ghost use Rattle.std.specs.Fmt.{decimal};
 ghost use Rattle.std.specs.Str.{is_utf8};
 ghost use Rattle.std.specs.String.{string_bytes};
 ghost use Rattle.toml.specs.Parse.{parse_document};
-ghost use Rattle.slice_table.specs.Tree.{Gives};
+ghost use Rattle.lists.specs.Results.{Gives};
+ghost use Rattle.slice_table.specs.Tree.{plant_cause};
 ghost use Rattle.slice_table.specs.ReadPlant.{text_plant};
 ghost use Rattle.script_format.specs.Input.{before_bar, plant_text};
 ghost use Rattle.script_format.specs.Script.{steps_of};
@@ -93,7 +94,7 @@ pub(crate) fn plant_of_input(alloc: Global, input: &[u8], place: usize) -> Resul
     requires utf8 { is_utf8 input.now ≡ true }
     requires place { place ≡ before_bar true input.now }
     requires inside { place ≤ length input.now }
-    ensures { Gives (λ plant. plant) result (text_plant (parse_document (plant_text input.now))) }
+    ensures { Gives plant_cause (λ plant. plant) result (text_plant (parse_document (plant_text input.now))) }
 {
     read_plant(alloc, plant_text(input, place))
 }

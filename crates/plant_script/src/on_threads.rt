@@ -11,7 +11,7 @@ ghost use Rattle.script_format.specs.Script.{steps_without_numbers};
 ghost use Rattle.script_format.specs.Text.{operator_name, map_line, output_line, outs_text};
 ghost use Rattle.plant_workers.specs.Faulting.{IsFault};
 ghost use Rattle.plant_script.specs.Task.{IsWritten};
-ghost use Rattle.plant_script.specs.OnThreads.{IsThreadedRunOf, ReportsCore, ReportsFault, ReportsPlace, ReportsStray, place_text};
+ghost use Rattle.plant_script.specs.OnThreads.{IsThreadedRunOf, ReportsCore, ReportsFault, ReportsPlace, ReportsStray, refused_place_text};
 ghost use Rattle.plant_script.specs.Statuses.{status_code};
 
 use crate::answer::Answer;
@@ -152,7 +152,7 @@ fn answer_to_stray(
     index: Option<usize>,
 ) -> Result<Answer, AllocError>
     ensures { IfOk result (λ answer.
-        ReportsStray (operator_name (slice_get plant.now.rows op)) (place_text index) (status_code answer.status) answer.text.items) }
+        ReportsStray (operator_name (slice_get plant.now.rows op)) (refused_place_text index) (status_code answer.status) answer.text.items) }
 {
     let mut text = String::from_str(alloc, "fault: strayed ")?;
     put_name(&mut text, plant, op)?;

@@ -5,7 +5,7 @@ ghost use Rattle.operator_model.specs.State.{operator};
 ghost use Rattle.operator_model.specs.Machine.{own_step, own_run, IsAllowed};
 ghost use Rattle.operator_model.specs.Replay.{opened_book};
 ghost use Rattle.plant_script.specs.OperatorA.{row_a, consts_a};
-ghost use Rattle.plant_script.specs.One.{actions_of, outputs_of, line_of, text_of};
+ghost use Rattle.plant_script.specs.One.{sent_actions, outputs_of, line_of, text_of_outputs};
 ghost use Rattle.grant_policy.specs.declared.policy.Policy.TheVariants.{Strict};
 ghost use Rattle.operator_book.specs.ViewOf.{view_of};
 ghost use Rattle.plant_script.specs.View.{IsOfA};
@@ -42,7 +42,7 @@ fn put_line(alloc: Global, text: &mut Vec<u8>, output: &Output) -> Result<(), Al
 
 /// Returns the lines of outputs.
 fn put_lines(alloc: Global, text: &mut Vec<u8>, outputs: &[Output]) -> Result<(), AllocError>
-    ensures { OnOk result (text.new.items ≡ text.old.items ++ text_of outputs.now) }
+    ensures { OnOk result (text.new.items ≡ text.old.items ++ text_of_outputs outputs.now) }
 {
     for output in outputs {
         put_line(alloc, text, output)?;
@@ -63,7 +63,7 @@ fn put_action(
     ensures state { OnOk result ((view_of book.new).state
         ≡ (own_step (operator consts_a row_a (view_of book.old).state) action).state) }
     ensures text { OnOk result (text.new.items ≡ text.old.items
-        ++ text_of (own_step (operator consts_a row_a (view_of book.old).state) action).outputs) }
+        ++ text_of_outputs (own_step (operator consts_a row_a (view_of book.old).state) action).outputs) }
 {
     match book.act(alloc, action) {
         Ok(outputs) => put_lines(alloc, text, outputs.as_slice()),
@@ -84,9 +84,9 @@ fn put_message(
     requires { IsOfA (view_of book.old) }
     ensures of_a { OnOk result (IsOfA (view_of book.new)) }
     ensures state { OnOk result ((view_of book.new).state
-        ≡ (own_run (operator consts_a row_a (view_of book.old).state) (actions_of (message.now ∷ []))).state) }
+        ≡ (own_run (operator consts_a row_a (view_of book.old).state) (sent_actions (message.now ∷ []))).state) }
     ensures text { OnOk result (text.new.items ≡ text.old.items
-        ++ text_of (own_run (operator consts_a row_a (view_of book.old).state) (actions_of (message.now ∷ []))).outputs) }
+        ++ text_of_outputs (own_run (operator consts_a row_a (view_of book.old).state) (sent_actions (message.now ∷ []))).outputs) }
 {
     let heard = Heard::Message(message.copy(alloc)?);
     let modem = first_modem();
@@ -108,8 +108,8 @@ fn book_of(alloc: Global, ranking: Ranking) -> Result<Book, AllocError>
 }
 
 /// Returns the text of all outputs that messages of the first modem get of operator A's book.
-pub fn text_of(alloc: Global, messages: &[Bytes]) -> Result<Vec<u8>, AllocError>
-    ensures { IfOk result (λ text. text.items ≡ text_of (outputs_of messages.now)) }
+pub fn text_of_outputs(alloc: Global, messages: &[Bytes]) -> Result<Vec<u8>, AllocError>
+    ensures { IfOk result (λ text. text.items ≡ text_of_outputs (outputs_of messages.now)) }
 {
     let ranking = Ranking::new(
         Policy::Strict,

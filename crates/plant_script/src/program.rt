@@ -8,7 +8,7 @@ ghost use Rattle.plant_script.specs.Reaching.{AnswersFault, AnswersWords, Comple
 ghost use Rattle.command_line.specs.declared.asked.BatchWord.TheVariants as batch;
 ghost use Rattle.command_line.specs.Order.{batch_order, order_of};
 ghost use Rattle.command_line.specs.CommandLine.{AsksHelp, AreWrong};
-ghost use Rattle.plant_script.specs.Words.{Answers};
+ghost use Rattle.plant_script.specs.Words.{AnswersWith};
 ghost use Rattle.plant_script.specs.One.{answer_of, is_readable};
 ghost use Rattle.plant_script.specs.Statuses.{status_code};
 
@@ -17,7 +17,7 @@ use crate::check::check_of;
 use crate::ending::{Ending, write_answer, write_fault};
 use crate::input::{AnswerFault, read_input};
 use crate::on_threads::write_threads;
-use crate::one::text_of;
+use crate::one::text_of_outputs;
 use crate::progress::Progress;
 use crate::running::write_ranked;
 use crate::serving::serve_words;
@@ -121,7 +121,7 @@ fn answer_of(alloc: Global, input: &[u8]) -> Result<Answer, AnswerFault>
     let lines = parts_of(alloc, b'\n', input)?;
     match messages_of(alloc, lines.as_slice()) {
         Ok(messages) => {
-            let text = text_of(alloc, messages.as_slice())?;
+            let text = text_of_outputs(alloc, messages.as_slice())?;
             Ok(Answer {
                 status: Status::Success,
                 text,
@@ -146,7 +146,7 @@ fn serve_input(
     input: &[u8],
 ) -> Result<InputOutcome, AnswerFault>
     requires { is_readable input.now ≡ true }
-    ensures served { IfOk result (λ outcome. Comes outcome (Answers (batch_order word.entry) input.now)) }
+    ensures served { IfOk result (λ outcome. Comes outcome (AnswersWith (batch_order word.entry) input.now)) }
     ensures threads { word.entry ≢ batch.Threads → IfOk result IsNotThreaded }
     ensures memory { IfErr result (λ fault. fault ≡ AnswerFault.Memory) }
 {
@@ -167,7 +167,7 @@ fn serve<R: Read>(
 ) -> Result<InputOutcome, AnswerFault>
     requires { seen.old.failed ≡ false }
     ensures served { IfOk result (λ outcome.
-        IfSome (R.remaining reader.old) (λ input. Comes outcome (Answers (batch_order word.entry) input))) }
+        IfSome (R.remaining reader.old) (λ input. Comes outcome (AnswersWith (batch_order word.entry) input))) }
     ensures threads { word.entry ≢ batch.Threads → IfOk result IsNotThreaded }
     ensures io { (result ≡ Err AnswerFault.Io)
         → (seen.new.failed ≡ true) ⊎ IfSome (R.remaining reader.old) (λ input. is_readable input ≡ false) }

@@ -6,11 +6,11 @@ ghost use Rattle.std.specs.String.{string_bytes};
 ghost use Rattle.plant.specs.declared.plant.PlantFields.{PlantFields};
 ghost use Rattle.run_model.specs.IsStateAfter.{IsStateAfter};
 ghost use Rattle.plant_core.specs.CoreView.{core_view};
-ghost use Rattle.live_core.specs.After.{IsAfter, IsReachable};
+ghost use Rattle.live_core.specs.After.{IsAfter, IsReachableFromStart};
 ghost use Rattle.live_core.specs.LiveView.{live_view};
 ghost use Rattle.plant_script.specs.Done.{HasRun, book_text};
 ghost use Rattle.command_line.specs.declared.asked.RunReport.TheVariants.{Outputs, Capture, History};
-ghost use Rattle.plant_script.specs.Run.{IsRunOf};
+ghost use Rattle.plant_script.specs.Run.{IsScriptRun};
 ghost use Rattle.plant_script.specs.Statuses.{status_code};
 ghost use Rattle.plant_script.specs.Task.{history_at, RunsTo, IsWritten, EndsRun, IsEnded};
 
@@ -84,7 +84,7 @@ fn answer_of_history(
     lines: Vec<LineStep>,
 ) -> Result<Answer, AllocError>
     requires { IsStateAfter (core_view core.old).plant [] [] (core_view core.old) }
-    ensures { IfOk result (λ answer. IsRunOf (core_view core.old).plant lines.items
+    ensures { IfOk result (λ answer. IsScriptRun (core_view core.old).plant lines.items
         (λ done told. history_at (slice_get (core_view core.old).plant.rows op) op done) (status_code answer.status) answer.text.items) }
 {
     let refused = run_unheard(alloc, core, lines)?;
@@ -170,7 +170,7 @@ fn write_run<W: Write>(
     lines: Vec<LineStep>,
     writer: &mut W,
 ) -> io::Result<Status>
-    requires reached { IsReachable (live_view core.old) }
+    requires reached { IsReachableFromStart (live_view core.old) }
     ensures { IfOk result (λ status. (plant : PlantFields) → IsAfter plant [] [] (live_view core.old)
         → EndsRun plant lines.items (status_code status) (λ text. Appends (W.contents writer.old) (W.contents writer.new) text)) }
 {

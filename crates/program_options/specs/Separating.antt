@@ -44,7 +44,7 @@ HasOptionsFault all fault.NoFile = (before : List (List ℕ)) × (last : List �
 HasOptionsFault all (fault.NotOf option) = IsNotOf all option
 HasOptionsFault all fault.NoMemory = ⊤
 
--- so many of these words were taken, the first with its value; or it is at fault
+-- so many of these words were taken, the first with its value; or one of them is invalid
 abbrev pub TakesWords : List (List ℕ) → SeparatedWords → SeparatedWords → Result ℕ OptionsFault → Type 0
 TakesWords words old new result = MatchResult result
     (λ taken. (1 ≤ taken) × (taken ≤ length words) × ((all : List (List ℕ)) → IsSoFar all words old → IsSoFar all (drop taken words) new))

@@ -14,7 +14,7 @@ use Rattle.plant.specs.Row.{IsRowOf}
 use Rattle.plant.specs.Plant.{IsPlant}
 use Rattle.operator_model.specs.declared.action.Action.{Action}
 use Rattle.operator_model.specs.State.{OperatorState, operator}
-use Rattle.operator_model.specs.Slices.{SliceFrom, reslicings_in, slice_at, waiting_slice, slice_of_run, MayRun}
+use Rattle.operator_model.specs.Slices.{SliceFrom, reslicings_in, slice_in_frame, waiting_slice, slice_of_run, MayRun}
 use Rattle.operator_model.specs.Sound.{IsSound}
 use Rattle.operator_model.proofs.OpenedLemmas.{opened_sound}
 use Rattle.operator_model.proofs.SliceLemmas.{state-frames}
@@ -134,7 +134,7 @@ module _ (plant : PlantFields) (start : Start) (done : List Step) (outs : List O
       ∙ (ap (λ (rs : List Reslicing). slice_get (slices_at (map (λ (r : RowFields). (start.state r).share.slice) plant.rows) rs frame) i) reached.gathered.reslicings_are
       ∙ (own_slice i frame (map (λ (r : RowFields). (start.state r).share.slice) plant.rows) first.share.slice
       (slice_get-map (λ (r : RowFields). (start.state r).share.slice) plant.rows i ∙ ap (option_map (λ (r : RowFields). (start.state r).share.slice)) here) (start.waiting ++ reslicings_of done) all_one
-      ∙ ap (λ (rs : List SliceFrom). let o : Option Minislots = Some (slice_at first.share.slice rs frame) in o) own_all))
+      ∙ ap (λ (rs : List SliceFrom). let o : Option Minislots = Some (slice_in_frame first.share.slice rs frame) in o) own_all))
 
   pub part_fits : (n : ℕ) (frame : Numbered) → slice_get frames n ≡ Some frame → is_part core.gathering i frame.0 frame.1 ≡ true
   part_fits n frame e =

@@ -8,7 +8,7 @@ use Rattle.slice_scheduler.specs.Minislots.{Minislots}
 use Rattle.slice_scheduler.proofs.SumLemmas.{recursion-append}
 use Rattle.plant.specs.declared.operator_row.RowFields.{RowFields}
 use Rattle.plant.specs.Row.{is_listed}
-use Rattle.operator_model.specs.Slices.{SliceFrom, reslicings_in, slice_or, slice_at}
+use Rattle.operator_model.specs.Slices.{SliceFrom, reslicings_in, slice_or, slice_in_frame}
 use Rattle.map_assembly.specs.declared.slicing.Reslicing.{Reslicing}
 use Rattle.map_assembly.specs.Gathering.{slices_or, slices_at}
 use Rattle.run_model.specs.declared.step.Step.{Step}
@@ -78,7 +78,7 @@ module _ (i frame : ℕ) (first : List Minislots) (own : Minislots) (is : slice_
       by false e rest = rw e rest
 
   -- the operator's slice of a frame, of all operators' slices of it
-  pub own_slice : (rs : List Reslicing) → HaveOne i rs → slice_get (slices_at first rs frame) i ≡ Some (slice_at own (map (own_of i) rs) frame)
+  pub own_slice : (rs : List Reslicing) → HaveOne i rs → slice_get (slices_at first rs frame) i ≡ Some (slice_in_frame own (map (own_of i) rs) frame)
   own_slice rs h =
       newest (reverse rs) (one-reverse i rs h)
       ∙ ap (λ (xs : List SliceFrom). let o : Option Minislots = Some (slice_or own (find (λ (r : SliceFrom). nat_le r.from frame) xs)) in o) (sym (map-reverse (own_of i) rs))

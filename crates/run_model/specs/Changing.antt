@@ -37,7 +37,7 @@ IsNewRow plant row = AtEachOperator plant (λ i was. was.name ≢ row.name)
 
 -- the plant is changed to another one: at rest, with the same constants, to a valid start with valid slices. An operator with the
 -- name of one of the old plant goes on in its state. An operator with a new name is opened at the frame.
-pub record IsChanged (old new : RunSoFar) : Type 0 where
+pub record IsPlantChange (old new : RunSoFar) : Type 0 where
   pub rests : IsAtRest old new.start.frame
   pub shared : new.plant.consts ≡ old.plant.consts
   pub starts : IsStart new.plant new.start
@@ -52,7 +52,7 @@ abbrev pub AreChanges : RunSoFar → List RunSoFar → Type 0
 AreChanges first [] = IsTraceFrom first.plant first.start first.steps first.outs
 AreChanges first (next ∷ more) =
     IsTraceFrom first.plant first.start first.steps first.outs
-    × IsChanged first (record next { steps = []; outs = [] }) × AreChanges next more
+    × IsPlantChange first (record next { steps = []; outs = [] }) × AreChanges next more
 
 -- an operator keeps its row through all of them, at these places
 abbrev pub KeepsRow : RowFields → List RunSoFar → List ℕ → Type 0

@@ -14,7 +14,7 @@ use Rattle.operator_model.specs.declared.heard.Heard.TheVariants.{Message, Reque
 use Rattle.script_format.specs.declared.fields.FieldFault.{FieldFault}
 use Rattle.script_format.specs.declared.fields.FieldFault.TheVariants.{Shape}
 use Rattle.script_format.specs.declared.script.Sender.{Sender}
-use Rattle.script_format.specs.Fields.{Read, short_in, bytes_in}
+use Rattle.script_format.specs.Fields.{FieldResult, short_in, bytes_in}
 use Rattle.script_format.specs.Lines.{parts_of}
 use Rattle.script_format.specs.Script.{sender_at, sender_of, sender_in, heard_steps, message_steps, request_steps}
 use Rattle.script_format.specs.Senders.{sender_first}
@@ -50,7 +50,7 @@ sender_fault plant field fault h = cases (decode_sized field 6) h where
 
 -- ---- the first field of a line
 
-abbrev before_fields : List (List ℕ) → Sender → Read (Sender × List (List ℕ))
+abbrev before_fields : List (List ℕ) → Sender → FieldResult (Sender × List (List ℕ))
 before_fields fields sender = Ok (sender, fields)
 
 some_behind : (plant : PlantFields) (first a : List ℕ) (fields more : List (List ℕ)) → fields ≡ a ∷ more
@@ -66,7 +66,7 @@ first_at plant line place is =
 refused_at : (plant : PlantFields) (line : List ℕ) (place : ℕ) → IsFirstSpace line place → sender_in plant (take place line) ≡ Err Shape
     → sender_first plant (parts_of 32 line) ≡ Err Shape
 refused_at plant line place is none =
-    first_at plant line place is ∙ ap (λ (r : Read Sender). r >>= λ sender. Ok (sender, parts_of 32 (drop (suc place) line))) none
+    first_at plant line place is ∙ ap (λ (r : FieldResult Sender). r >>= λ sender. Ok (sender, parts_of 32 (drop (suc place) line))) none
 
 other_place : (plant : PlantFields) (line : List ℕ) (place : ℕ) → IsFirstSpace line place → (place ≡ 12 → ⊥) → sender_first plant (parts_of 32 line) ≡ Err Shape
 other_place plant line place is other =
@@ -105,7 +105,7 @@ module _ (plant : PlantFields) (line : List ℕ) (long : 12 < length line) (spac
   pub sender_known : (sender : Sender) → sender_in plant (take 12 line) ≡ Ok sender → sender_first plant (parts_of 32 line) ≡ Ok (sender, parts_of 32 (drop 13 line))
   sender_known sender known =
       first_at plant line 12 (record { low = omega arith; high = long; before = before }, space)
-      ∙ ap (λ (r : Read Sender). r >>= λ sender. Ok (sender, parts_of 32 (drop 13 line))) known where
+      ∙ ap (λ (r : FieldResult Sender). r >>= λ sender. Ok (sender, parts_of 32 (drop 13 line))) known where
         before : (k : ℕ) → 0 ≤ k → k < 12 → (slice_index line k == 32) ≡ true → ⊥
         before k low high hit =
             sender_spaceless plant (take 12 line) sender known k low (omega (arith, length-take 12 line)) (ap (λ (b : ℕ). b == 32) (get_or-take 12 line k 0 high) ∙ hit)
@@ -131,11 +131,11 @@ first_parts : (plant : PlantFields) (fields : List (List ℕ)) (sender : Sender)
 first_parts plant [] sender others h = absurd cc
 first_parts plant (field ∷ []) sender others h = absurd cc
 first_parts plant (field ∷ other ∷ fields) sender others h = cases (sender_in plant field) refl h where
-  cases : (r : Read Sender) → sender_in plant field ≡ r → (r >>= before_fields (other ∷ fields)) ≡ Ok (sender, others)
+  cases : (r : FieldResult Sender) → sender_in plant field ≡ r → (r >>= before_fields (other ∷ fields)) ≡ Ok (sender, others)
       → (first : List ℕ) × (field ∷ other ∷ fields ≡ first ∷ others) × (sender_in plant first ≡ Ok sender)
   cases (Ok known) e is =
-      let who : known ≡ sender = ap (λ (r : Read (Sender × List (List ℕ))). elim r [ Ok p ↦ p.0 | Err fault ↦ known ]) is in
-      let rest : other ∷ fields ≡ others = ap (λ (r : Read (Sender × List (List ℕ))). elim r [ Ok p ↦ p.1 | Err fault ↦ others ]) is in
+      let who : known ≡ sender = ap (λ (r : FieldResult (Sender × List (List ℕ))). elim r [ Ok p ↦ p.0 | Err fault ↦ known ]) is in
+      let rest : other ∷ fields ≡ others = ap (λ (r : FieldResult (Sender × List (List ℕ))). elim r [ Ok p ↦ p.1 | Err fault ↦ others ]) is in
       (field, ap (λ (x : List (List ℕ)). field ∷ x) rest, e ∙ ap Ok who)
   cases (Err fault) e is = absurd cc
 
@@ -151,7 +151,7 @@ module _ (plant : PlantFields) (number : ℕ) (line rest : List ℕ) (sender : S
   message_alone : (field : List ℕ)
       → message_steps plant number (start.0 ∷ field ∷ []) ≡ (bytes_in field >>= λ bytes. Ok (heard_steps number sender (Message bytes)))
   unfolding message_steps
-  message_alone field = ap (λ (r : Read Sender). r >>= λ sender. bytes_in field >>= λ bytes. Ok (heard_steps number sender (Message bytes))) start.2
+  message_alone field = ap (λ (r : FieldResult Sender). r >>= λ sender. bytes_in field >>= λ bytes. Ok (heard_steps number sender (Message bytes))) start.2
 
   message_more : (a b : List ℕ) (more : List (List ℕ)) → message_steps plant number (start.0 ∷ a ∷ b ∷ more) ≡ Err Shape
   unfolding message_steps
@@ -160,13 +160,13 @@ module _ (plant : PlantFields) (number : ℕ) (line rest : List ℕ) (sender : S
   pub message_read : (bytes : List ℕ) → bytes_in rest ≡ Ok bytes → message_steps plant number (parts_of 32 line) ≡ Ok (heard_steps number sender (Message bytes))
   message_read bytes e =
       message_by (rest ∷ []) (whole_of rest (bytes_spaceless rest bytes e)) ∙ message_alone rest
-      ∙ ap (λ (r : Read (List ℕ)). r >>= λ bytes. Ok (heard_steps number sender (Message bytes))) e
+      ∙ ap (λ (r : FieldResult (List ℕ)). r >>= λ bytes. Ok (heard_steps number sender (Message bytes))) e
 
   pub message_unread : bytes_in rest ≡ Err Shape → message_steps plant number (parts_of 32 line) ≡ Err Shape
   message_unread e =
       elim (first_space rest) [
         | inl none ↦ message_by (rest ∷ []) (whole_of rest none) ∙ message_alone rest
-            ∙ ap (λ (r : Read (List ℕ)). r >>= λ bytes. Ok (heard_steps number sender (Message bytes))) e
+            ∙ ap (λ (r : FieldResult (List ℕ)). r >>= λ bytes. Ok (heard_steps number sender (Message bytes))) e
         | inr some ↦
             let more = field_first (drop (suc some.0) rest) in
             message_by (take some.0 rest ∷ more.0 ∷ more.1) (fields_at rest some.0 some.1 ∙ ap (λ (x : List (List ℕ)). take some.0 rest ∷ x) more.2)
@@ -180,7 +180,7 @@ module _ (plant : PlantFields) (number : ℕ) (line rest : List ℕ) (sender : S
       ≡ (short_in sid >>= λ sid. short_in minislots >>= λ minislots. Ok (heard_steps number sender (Request sid minislots)))
   unfolding request_steps
   request_two sid minislots =
-      ap (λ (r : Read Sender). r >>= λ sender. short_in sid >>= λ sid. short_in minislots >>= λ minislots. Ok (heard_steps number sender (Request sid minislots))) start.2
+      ap (λ (r : FieldResult Sender). r >>= λ sender. short_in sid >>= λ sid. short_in minislots >>= λ minislots. Ok (heard_steps number sender (Request sid minislots))) start.2
 
   request_one : (a : List ℕ) → request_steps plant number (start.0 ∷ a ∷ []) ≡ Err Shape
   unfolding request_steps
@@ -195,12 +195,12 @@ module _ (plant : PlantFields) (number : ℕ) (line rest : List ℕ) (sender : S
 
   -- two numbers behind it
   module _ (sid minislots : List ℕ) (two : parts_of 32 rest ≡ sid ∷ parts_of 32 minislots) where
-    request_whole : NoSpace minislots → (a b : Read ℕ) → short_in sid ≡ a → short_in minislots ≡ b
+    request_whole : NoSpace minislots → (a b : FieldResult ℕ) → short_in sid ≡ a → short_in minislots ≡ b
         → request_steps plant number (parts_of 32 line) ≡ (a >>= λ sid. b >>= λ minislots. Ok (heard_steps number sender (Request sid minislots)))
     request_whole none a b ea eb =
         request_by (sid ∷ minislots ∷ []) (two ∙ ap (λ (x : List (List ℕ)). sid ∷ x) (whole_of minislots none)) ∙ request_two sid minislots
-        ∙ ap (λ (r : Read ℕ). r >>= λ sid. short_in minislots >>= λ minislots. Ok (heard_steps number sender (Request sid minislots))) ea
-        ∙ ap (λ (r : Read ℕ). a >>= λ sid. r >>= λ minislots. Ok (heard_steps number sender (Request sid minislots))) eb
+        ∙ ap (λ (r : FieldResult ℕ). r >>= λ sid. short_in minislots >>= λ minislots. Ok (heard_steps number sender (Request sid minislots))) ea
+        ∙ ap (λ (r : FieldResult ℕ). a >>= λ sid. r >>= λ minislots. Ok (heard_steps number sender (Request sid minislots))) eb
 
     request_parted : SomeSpace minislots → request_steps plant number (parts_of 32 line) ≡ Err Shape
     request_parted some =
@@ -230,7 +230,7 @@ module _ (plant : PlantFields) (number : ℕ) (line rest : List ℕ) (sender : S
 
 no_sender : (plant : PlantFields) (first a : List ℕ) (more : List (List ℕ)) (fault : FieldFault) → sender_first plant (first ∷ a ∷ more) ≡ Err fault → sender_in plant first ≡ Err Shape
 no_sender plant first a more fault h = cases (sender_in plant first) refl h where
-  cases : (r : Read Sender) → sender_in plant first ≡ r → (r >>= before_fields (a ∷ more)) ≡ Err fault → sender_in plant first ≡ Err Shape
+  cases : (r : FieldResult Sender) → sender_in plant first ≡ r → (r >>= before_fields (a ∷ more)) ≡ Err fault → sender_in plant first ≡ Err Shape
   cases (Ok sender) e is = absurd cc
   cases (Err other) e is = e ∙ ap Err (sender_fault plant first other e)
 
@@ -240,7 +240,7 @@ message_stop plant number [] fault h = refl
 message_stop plant number (a ∷ []) fault h = refl
 message_stop plant number (a ∷ b ∷ c ∷ more) fault h = refl
 message_stop plant number (a ∷ b ∷ []) fault h =
-    ap (λ (r : Read Sender). r >>= λ sender. bytes_in b >>= λ bytes. Ok (heard_steps number sender (Message bytes))) (no_sender plant a b [] fault h)
+    ap (λ (r : FieldResult Sender). r >>= λ sender. bytes_in b >>= λ bytes. Ok (heard_steps number sender (Message bytes))) (no_sender plant a b [] fault h)
 
 pub request_stop : (plant : PlantFields) (number : ℕ) (fields : List (List ℕ)) (fault : FieldFault) → sender_first plant fields ≡ Err fault → request_steps plant number fields ≡ Err Shape
 unfolding request_steps
@@ -249,4 +249,4 @@ request_stop plant number (a ∷ []) fault h = refl
 request_stop plant number (a ∷ b ∷ []) fault h = refl
 request_stop plant number (a ∷ b ∷ c ∷ d ∷ more) fault h = refl
 request_stop plant number (a ∷ b ∷ c ∷ []) fault h =
-    ap (λ (r : Read Sender). r >>= λ sender. short_in b >>= λ sid. short_in c >>= λ minislots. Ok (heard_steps number sender (Request sid minislots))) (no_sender plant a b (c ∷ []) fault h)
+    ap (λ (r : FieldResult Sender). r >>= λ sender. short_in b >>= λ sid. short_in c >>= λ minislots. Ok (heard_steps number sender (Request sid minislots))) (no_sender plant a b (c ∷ []) fault h)

@@ -2,7 +2,7 @@
 use Rattle.std.proofs.Common.{◌≡◌, ℕ, zero, suc, ◌+◌, ◌<◌, List, [], ◌∷◌, ◌++◌, length, drop, Bool, true, false, if◌then◌else◌, codes, Ok, Err, refl, sym, ap, ◌∙◌, add-one, arith}
 use Rattle.std.specs.Str.{bytes_eq}
 use Rattle.std.proofs.lemmas.Slice.Eq.{bytes_eq-Decides}
-use Rattle.lists.specs.Results.{◌>>=◌}
+use Rattle.lists.specs.Results.{◌>>=◌, Fails}
 use Rattle.script_format.specs.Lines.{parts_of}
 use Rattle.script_format.proofs.Splits.{field_first}
 use Rattle.plant.specs.declared.operator_row.RowFields.{RowFields}
@@ -11,7 +11,7 @@ use Rattle.operator_model.specs.declared.action.SliceRow.{SliceRow}
 use Rattle.script_format.specs.declared.fields.FieldFault.{FieldFault}
 use Rattle.script_format.specs.declared.fields.FieldFault.TheVariants.{Shape, NoMemory}
 use Rattle.script_format.specs.declared.script.LineStep.{LineStep}
-use Rattle.script_format.specs.Fields.{Read, Fails, behind}
+use Rattle.script_format.specs.Fields.{FieldResult, field_cause, behind}
 use Rattle.script_format.specs.Script.{tick_steps, all_ticks, message_steps, request_steps, ticked_steps, resliced_steps, steps_in, share_in, shares_after, line_steps, steps_after}
 
 -- an element stands at each place
@@ -30,33 +30,33 @@ ticks_at number rows op lt =
 -- one share more
 pub shares_more : (rows : List SliceRow) (field : List ℕ) (fields : List (List ℕ)) (row : SliceRow) → share_in field ≡ Ok row
     → shares_after rows (field ∷ fields) ≡ shares_after (rows ++ row ∷ []) fields
-shares_more rows field fields row e = ap (λ (r : Read SliceRow). r >>= λ row. shares_after (rows ++ row ∷ []) fields) e
+shares_more rows field fields row e = ap (λ (r : FieldResult SliceRow). r >>= λ row. shares_after (rows ++ row ∷ []) fields) e
 
 pub shares_fail : (rows : List SliceRow) (field : List ℕ) (fields : List (List ℕ)) (fault : FieldFault) → share_in field ≡ Err fault
     → shares_after rows (field ∷ fields) ≡ Err fault
-shares_fail rows field fields fault e = ap (λ (r : Read SliceRow). r >>= λ row. shares_after (rows ++ row ∷ []) fields) e
+shares_fail rows field fields fault e = ap (λ (r : FieldResult SliceRow). r >>= λ row. shares_after (rows ++ row ∷ []) fields) e
 
 pub shares_stop : (fault : FieldFault) (rows : List SliceRow) (field : List ℕ) (fields all : List (List ℕ)) → shares_after rows (field ∷ fields) ≡ shares_after [] all
-    → Fails fault (share_in field) → Fails fault (shares_after [] all)
+    → Fails (field_cause fault) (share_in field) → Fails (field_cause fault) (shares_after [] all)
 shares_stop NoMemory rows field fields all e f = tt
 shares_stop Shape rows field fields all e f = sym e ∙ shares_fail rows field fields Shape f
 
 -- one line more
-steps_by : (plant : PlantFields) (number : ℕ) (steps : List LineStep) (line : List ℕ) (lines : List (List ℕ)) (said : Read (List LineStep)) → line_steps plant number line ≡ said
+steps_by : (plant : PlantFields) (number : ℕ) (steps : List LineStep) (line : List ℕ) (lines : List (List ℕ)) (said : FieldResult (List LineStep)) → line_steps plant number line ≡ said
     → steps_after plant number steps (line ∷ lines) ≡ elim said [ Ok more ↦ steps_after plant (number + 1) (steps ++ more) lines | Err fault ↦ Err number ]
 steps_by plant number steps line lines said e =
-    ap (λ (r : Read (List LineStep)). elim r [ Ok more ↦ steps_after plant (number + 1) (steps ++ more) lines | Err fault ↦ Err number ]) e
+    ap (λ (r : FieldResult (List LineStep)). elim r [ Ok more ↦ steps_after plant (number + 1) (steps ++ more) lines | Err fault ↦ Err number ]) e
 
-pub same_steps : (a b : List LineStep) → ◌≡◌ {A = Read (List LineStep)} (Ok a) (Ok b) → a ≡ b
+pub same_steps : (a b : List LineStep) → ◌≡◌ {A = FieldResult (List LineStep)} (Ok a) (Ok b) → a ≡ b
 same_steps a b e = cc
 
-pub steps_more : (plant : PlantFields) (number : ℕ) (steps new : List LineStep) (line : List ℕ) (lines : List (List ℕ)) (said : Read (List LineStep)) → line_steps plant number line ≡ said
+pub steps_more : (plant : PlantFields) (number : ℕ) (steps new : List LineStep) (line : List ℕ) (lines : List (List ℕ)) (said : FieldResult (List LineStep)) → line_steps plant number line ≡ said
     → behind steps said ≡ Ok new → steps_after plant number steps (line ∷ lines) ≡ steps_after plant (number + 1) new lines
 steps_more plant number steps new line lines (Ok more) e h =
     steps_by plant number steps line lines (Ok more) e ∙ ap (λ (x : List LineStep). steps_after plant (number + 1) x lines) (same_steps (steps ++ more) new h)
 steps_more plant number steps new line lines (Err fault) e h = absurd cc
 
-pub steps_fail : (plant : PlantFields) (number : ℕ) (steps : List LineStep) (line : List ℕ) (lines : List (List ℕ)) (fault : FieldFault) (said : Read (List LineStep)) → line_steps plant number line ≡ said
+pub steps_fail : (plant : PlantFields) (number : ℕ) (steps : List LineStep) (line : List ℕ) (lines : List (List ℕ)) (fault : FieldFault) (said : FieldResult (List LineStep)) → line_steps plant number line ≡ said
     → behind steps said ≡ Err fault → steps_after plant number steps (line ∷ lines) ≡ Err number
 steps_fail plant number steps line lines fault (Ok more) e h = absurd cc
 steps_fail plant number steps line lines fault (Err other) e h = steps_by plant number steps line lines (Err other) e
@@ -67,7 +67,7 @@ steps_fail plant number steps line lines fault (Err other) e h = steps_by plant 
 pub alone : (plant : PlantFields) (number : ℕ) (word : List ℕ) → bytes_eq word (codes "T") ≡ false → steps_in plant number (word ∷ []) ≡ Err Shape
 unfolding steps_in message_steps request_steps resliced_steps
 alone plant number word e = rw e (cases (bytes_eq word (codes "M")) (bytes_eq word (codes "Q")) (bytes_eq word (codes "Z"))) where
-  cases : (m q z : Bool) → ◌≡◌ {A = Read (List LineStep)} (if m then Err Shape else (if q then Err Shape else (if z then Err Shape else Err Shape))) (Err Shape)
+  cases : (m q z : Bool) → ◌≡◌ {A = FieldResult (List LineStep)} (if m then Err Shape else (if q then Err Shape else (if z then Err Shape else Err Shape))) (Err Shape)
   cases true q z = refl
   cases false true z = refl
   cases false false true = refl

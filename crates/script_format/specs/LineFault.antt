@@ -1,14 +1,9 @@
--- What the reader of lines answered, against what the lines say.
-use Rattle.std.specs.Prelude.{◌≡◌, ℕ, List, Result, Ok, Err}
-use Rattle.std.specs.Global.{Vec}
+-- The number of the line at which the reader of lines stops (implementation-specific).
+use Rattle.std.specs.Prelude.{ℕ, Option, Some, None}
 use Rattle.script_format.specs.declared.lines.LineFault.{LineFault}
 use Rattle.script_format.specs.declared.lines.LineFault.TheVariants.{Shape, NoMemory}
 
-abbrev pub Fails : LineFault → Result (List (List ℕ)) ℕ → Type 0
-Fails (Shape number) said = said ≡ Err number
-Fails NoMemory said = Unit {0}
-
--- the messages or the invalid line, unless memory ran out
-abbrev pub Gives : Result (Vec (List ℕ)) LineFault → Result (List (List ℕ)) ℕ → Type 0
-Gives (Ok messages) said = said ≡ Ok messages.items
-Gives (Err fault) said = Fails fault said
+-- the invalid line that a fault stands for: none where memory ran out
+abbrev pub line_cause : LineFault → Option ℕ
+line_cause (Shape number) = Some number
+line_cause NoMemory = None

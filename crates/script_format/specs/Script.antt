@@ -18,27 +18,27 @@ use Rattle.script_format.specs.declared.fields.FieldFault.TheVariants.{Shape}
 use Rattle.script_format.specs.declared.script.LineStep.{LineStep}
 use Rattle.script_format.specs.declared.script.Sender.{Sender}
 use Rattle.script_format.specs.Lines.{parts_of, lines_of, line_fields}
-use Rattle.script_format.specs.Fields.{Read, required_field, two_of, three_of, number_in, short_in, bytes_in}
+use Rattle.script_format.specs.Fields.{FieldResult, required_field, two_of, three_of, number_in, short_in, bytes_in}
 
 -- ---- names
 
-abbrev pub sender_of : Modem → Option ℕ → Read Sender
+abbrev pub sender_of : Modem → Option ℕ → FieldResult Sender
 sender_of modem None = Err Shape
 sender_of modem (Some op) = Ok (record { modem = modem; op = op })
 
-abbrev pub sender_at : List RowFields → Result (List ℕ) FromHexError → Read Sender
+abbrev pub sender_at : List RowFields → Result (List ℕ) FromHexError → FieldResult Sender
 sender_at rows (Ok address) = sender_of (record { 0 = address }) (holder rows (record { 0 = address }))
 sender_at rows (Err fault) = Err Shape
 
 -- a modem of the plant by its address, of 12 hexadecimal digits, and whose it is
-unfoldable pub sender_in : PlantFields → List ℕ → Read Sender
+unfoldable pub sender_in : PlantFields → List ℕ → FieldResult Sender
 sender_in plant field = sender_at plant.rows (decode_sized field 6)
 
 abbrev pub is_named : List ℕ → RowFields → Bool
 is_named name row = bytes_eq row.name name
 
 -- an operator by its name
-abbrev pub operator_in : PlantFields → List ℕ → Read ℕ
+abbrev pub operator_in : PlantFields → List ℕ → FieldResult ℕ
 operator_in plant field = required_field (position_from (is_named field) 0 plant.rows)
 
 -- ---- the steps of a line, each with the line's number
@@ -48,7 +48,7 @@ abbrev pub heard_steps : ℕ → Sender → Heard → List LineStep
 heard_steps number sender heard = record { number = number; step = Arrive sender.modem heard } ∷ record { number = number; step = Work sender.op } ∷ []
 
 -- `M address message`
-unfoldable pub message_steps : PlantFields → ℕ → List (List ℕ) → Read (List LineStep)
+unfoldable pub message_steps : PlantFields → ℕ → List (List ℕ) → FieldResult (List LineStep)
 message_steps plant number fields = do
   two ← two_of fields
   sender ← sender_in plant two.0
@@ -56,7 +56,7 @@ message_steps plant number fields = do
   Ok (heard_steps number sender (Message bytes))
 
 -- `Q address sid minislots`
-unfoldable pub request_steps : PlantFields → ℕ → List (List ℕ) → Read (List LineStep)
+unfoldable pub request_steps : PlantFields → ℕ → List (List ℕ) → FieldResult (List LineStep)
 request_steps plant number fields = do
   three ← three_of fields
   sender ← sender_in plant three.0
@@ -74,7 +74,7 @@ all_ticks number [] op = []
 all_ticks number (row ∷ rows) op = tick_steps number op ++ all_ticks number rows (op + 1)
 
 -- `T` or `T operator`
-unfoldable pub ticked_steps : PlantFields → ℕ → List (List ℕ) → Read (List LineStep)
+unfoldable pub ticked_steps : PlantFields → ℕ → List (List ℕ) → FieldResult (List LineStep)
 ticked_steps plant number [] = Ok (all_ticks number plant.rows 0)
 ticked_steps plant number (name ∷ []) = do
   op ← operator_in plant name
@@ -82,7 +82,7 @@ ticked_steps plant number (name ∷ []) = do
 ticked_steps plant number (name ∷ other ∷ fields) = Err Shape
 
 -- `start/length/budget`
-unfoldable pub share_in : List ℕ → Read SliceRow
+unfoldable pub share_in : List ℕ → FieldResult SliceRow
 share_in field = do
   three ← three_of (parts_of 47 field)
   start ← short_in three.0
@@ -90,16 +90,16 @@ share_in field = do
   budget ← short_in three.2
   Ok (record { start = start; length = length; budget = budget })
 
-abbrev pub shares_after : List SliceRow → List (List ℕ) → Read (List SliceRow)
+abbrev pub shares_after : List SliceRow → List (List ℕ) → FieldResult (List SliceRow)
 shares_after rows [] = Ok rows
 shares_after rows (field ∷ fields) = share_in field >>= λ row. shares_after (rows ++ row ∷ []) fields
 
 -- one for each operator
-abbrev pub shares_in : PlantFields → List (List ℕ) → Read (List SliceRow)
+abbrev pub shares_in : PlantFields → List (List ℕ) → FieldResult (List SliceRow)
 shares_in plant fields = if length fields == length plant.rows then shares_after [] fields else Err Shape
 
 -- `Z from share share ..`
-unfoldable pub resliced_steps : PlantFields → ℕ → List (List ℕ) → Read (List LineStep)
+unfoldable pub resliced_steps : PlantFields → ℕ → List (List ℕ) → FieldResult (List LineStep)
 resliced_steps plant number [] = Err Shape
 resliced_steps plant number (first ∷ fields) = do
   from ← number_in 10 4294967295 first
@@ -107,7 +107,7 @@ resliced_steps plant number (first ∷ fields) = do
   Ok (record { number = number; step = Reslice from rows } ∷ [])
 
 -- by the first field
-unfoldable pub steps_in : PlantFields → ℕ → List (List ℕ) → Read (List LineStep)
+unfoldable pub steps_in : PlantFields → ℕ → List (List ℕ) → FieldResult (List LineStep)
 steps_in plant number [] = Err Shape
 steps_in plant number (word ∷ fields) =
     if bytes_eq word (codes "M") then message_steps plant number fields else
@@ -117,7 +117,7 @@ steps_in plant number (word ∷ fields) =
     Err Shape
 
 -- an empty line says nothing
-unfoldable pub line_steps : PlantFields → ℕ → List ℕ → Read (List LineStep)
+unfoldable pub line_steps : PlantFields → ℕ → List ℕ → FieldResult (List LineStep)
 line_steps plant number line = if length line == 0 then Ok [] else steps_in plant number (line_fields line)
 
 -- ---- the steps of a script

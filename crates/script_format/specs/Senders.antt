@@ -4,11 +4,11 @@ use Rattle.lists.specs.Results.{◌>>=◌}
 use Rattle.plant.specs.declared.plant.PlantFields.{PlantFields}
 use Rattle.script_format.specs.declared.fields.FieldFault.TheVariants.{Shape}
 use Rattle.script_format.specs.declared.script.Sender.{Sender}
-use Rattle.script_format.specs.Fields.{Read}
+use Rattle.script_format.specs.Fields.{FieldResult}
 use Rattle.script_format.specs.Script.{sender_in}
 
 -- a modem of the plant in the first field, and the fields after it, of which there is one at least
-abbrev pub sender_first : PlantFields → List (List ℕ) → Read (Sender × List (List ℕ))
+abbrev pub sender_first : PlantFields → List (List ℕ) → FieldResult (Sender × List (List ℕ))
 sender_first plant [] = Err Shape
 sender_first plant (field ∷ []) = Err Shape
 sender_first plant (field ∷ other ∷ fields) = sender_in plant field >>= λ sender. Ok (sender, other ∷ fields)

@@ -1,8 +1,8 @@
 //! What is in a field of a script's line.
 
 ghost use Rattle.std.specs.Prelude.{◌≡◌, ◌≤◌, [], ◌∷◌, map, MatchOption, IfOk};
-ghost use Rattle.lists.specs.Results.{result_map};
-ghost use Rattle.script_format.specs.Fields.{Gives, three_of, number_in, short_in, bytes_in};
+ghost use Rattle.lists.specs.Results.{result_map, Gives};
+ghost use Rattle.script_format.specs.Fields.{field_cause, three_of, number_in, short_in, bytes_in};
 ghost use Rattle.script_format.specs.Lines.{line_fields};
 ghost use Rattle.script_format.specs.declared.fields.FieldFault.TheVariants.{NoMemory};
 
@@ -105,7 +105,7 @@ pub fn short_in(field: &[u8]) -> Result<u16, FieldFault>
 
 /// Returns the bytes of a message: `-` for none, else hexadecimal.
 pub fn bytes_in(alloc: Global, field: &[u8]) -> Result<Bytes, FieldFault>
-    ensures { Gives (λ bytes. bytes) result (bytes_in field.now) }
+    ensures { Gives field_cause (λ bytes. bytes) result (bytes_in field.now) }
 {
     if field.is_empty() {
         return Err(FieldFault::Shape);

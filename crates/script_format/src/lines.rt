@@ -3,7 +3,8 @@
 ghost use Rattle.std.specs.Prelude.{◌≡◌, ◌≤◌, length, take, drop, map, IfOk, OnOk};
 ghost use Rattle.script_format.specs.Lines.{parts_of};
 ghost use Rattle.script_format.specs.Messages.{message_in, messages_of};
-ghost use Rattle.script_format.specs.LineFault.{Gives};
+ghost use Rattle.lists.specs.Results.{Gives};
+ghost use Rattle.script_format.specs.LineFault.{line_cause};
 ghost use Rattle.script_format.specs.declared.lines.LineFault.TheVariants.{NoMemory};
 
 use crate::unhex::decode_into;
@@ -91,7 +92,7 @@ pub fn message_in(alloc: Global, line: &[u8]) -> Result<Option<Bytes>, AllocErro
 
 /// Returns the messages in lines; empty lines are counted and say nothing.
 pub fn messages_of(alloc: Global, lines: &[&[u8]]) -> Result<Vec<Bytes>, LineFault>
-    ensures { Gives result (messages_of (map (λ line. line.now) lines.now)) }
+    ensures { Gives line_cause (λ messages. messages.items) result (messages_of (map (λ line. line.now) lines.now)) }
 {
     let mut messages = Vec::new(alloc);
     let mut number = 1u64;

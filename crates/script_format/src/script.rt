@@ -2,9 +2,9 @@
 
 ghost use Rattle.std.specs.Prelude.{◌≡◌, [], ◌∷◌, map, Err, IfErr};
 ghost use Rattle.std.specs.List.{position_from};
-ghost use Rattle.lists.specs.Results.{result_map};
+ghost use Rattle.lists.specs.Results.{result_map, Gives};
 ghost use Rattle.script_format.specs.declared.fields.FieldFault.TheVariants.{Shape, NoMemory};
-ghost use Rattle.script_format.specs.Fields.{Gives, behind};
+ghost use Rattle.script_format.specs.Fields.{field_cause, behind};
 ghost use Rattle.script_format.specs.Lines.{line_fields};
 ghost use Rattle.script_format.specs.Script.{sender_in, is_named, operator_in, heard_steps, message_steps, request_steps, tick_steps, all_ticks, ticked_steps, share_in, shares_after, shares_in, resliced_steps, steps_in, line_steps, steps_after, steps_of};
 ghost use Rattle.script_format.specs.Senders.{sender_first};
@@ -98,7 +98,7 @@ fn put_heard(
     heard: Heard,
     steps: &mut Vec<LineStep>,
 ) -> Result<(), FieldFault>
-    ensures said { Gives (λ _. steps.new.items) result (behind steps.old.items (Ok (heard_steps number sender heard))) }
+    ensures said { Gives field_cause (λ _. steps.new.items) result (behind steps.old.items (Ok (heard_steps number sender heard))) }
     ensures memory { IfErr result (λ fault. fault ≡ NoMemory) }
 {
     steps.reserve(2)?;
@@ -120,7 +120,7 @@ fn put_message(
     line: &[u8],
     steps: &mut Vec<LineStep>,
 ) -> Result<(), FieldFault>
-    ensures said { Gives (λ _. steps.new.items) result
+    ensures said { Gives field_cause (λ _. steps.new.items) result
         (behind steps.old.items (message_steps plant.now number (line_fields line.now))) }
     ensures unsaid { result ≡ Err Shape → steps.new.items ≡ steps.old.items }
 {
@@ -138,7 +138,7 @@ fn put_request(
     line: &[u8],
     steps: &mut Vec<LineStep>,
 ) -> Result<(), FieldFault>
-    ensures said { Gives (λ _. steps.new.items) result
+    ensures said { Gives field_cause (λ _. steps.new.items) result
         (behind steps.old.items (request_steps plant.now number (line_fields line.now))) }
     ensures unsaid { result ≡ Err Shape → steps.new.items ≡ steps.old.items }
 {
@@ -153,7 +153,7 @@ fn put_request(
 
 /// Returns the steps of one operator's tick.
 fn put_tick(number: u64, op: Op, steps: &mut Vec<LineStep>) -> Result<(), FieldFault>
-    ensures said { Gives (λ _. steps.new.items) result (behind steps.old.items (Ok (tick_steps number op))) }
+    ensures said { Gives field_cause (λ _. steps.new.items) result (behind steps.old.items (Ok (tick_steps number op))) }
     ensures memory { IfErr result (λ fault. fault ≡ NoMemory) }
 {
     let step = Step::Tick { op };
@@ -169,7 +169,7 @@ fn put_all_ticks(
     rows: &[OperatorRow],
     steps: &mut Vec<LineStep>,
 ) -> Result<(), FieldFault>
-    ensures said { Gives (λ _. steps.new.items) result (behind steps.old.items (Ok (all_ticks number rows.now 0))) }
+    ensures said { Gives field_cause (λ _. steps.new.items) result (behind steps.old.items (Ok (all_ticks number rows.now 0))) }
     ensures memory { IfErr result (λ fault. fault ≡ NoMemory) }
 {
     for op in 0..rows.len() {
@@ -186,7 +186,7 @@ fn put_ticked(
     line: &[u8],
     steps: &mut Vec<LineStep>,
 ) -> Result<(), FieldFault>
-    ensures said { Gives (λ _. steps.new.items) result
+    ensures said { Gives field_cause (λ _. steps.new.items) result
         (behind steps.old.items (ticked_steps plant.now number (line_fields line.now))) }
     ensures unsaid { result ≡ Err Shape → steps.new.items ≡ steps.old.items }
 {
@@ -202,7 +202,7 @@ fn put_ticked(
 /// Returns a slice and a budget.
 #[tactic(auto, unfolding(crate::specs::Script::share_in))]
 fn share_in(alloc: Global, field: &[u8]) -> Result<SliceRow, FieldFault>
-    ensures { Gives (λ row. row) result (share_in field.now) }
+    ensures { Gives field_cause (λ row. row) result (share_in field.now) }
 {
     let parts = parts_of(alloc, b'/', field)?;
     let (start, length, budget) = three_of(parts.as_slice())?;
@@ -215,7 +215,7 @@ fn share_in(alloc: Global, field: &[u8]) -> Result<SliceRow, FieldFault>
 
 /// Returns the slices and budgets of fields.
 fn shares_of(alloc: Global, fields: &[&[u8]]) -> Result<SliceRows, FieldFault>
-    ensures { Gives (λ rows. rows) result (shares_after [] (map (λ field. field.now) fields.now)) }
+    ensures { Gives field_cause (λ rows. rows) result (shares_after [] (map (λ field. field.now) fields.now)) }
 {
     let mut rows = Vec::new(alloc);
     for field in fields {
@@ -229,7 +229,7 @@ fn shares_of(alloc: Global, fields: &[&[u8]]) -> Result<SliceRows, FieldFault>
 
 /// Returns a slice and a budget for each operator.
 fn shares_in(alloc: Global, plant: &Plant, fields: &[&[u8]]) -> Result<SliceRows, FieldFault>
-    ensures { Gives (λ rows. rows) result (shares_in plant.now (map (λ field. field.now) fields.now)) }
+    ensures { Gives field_cause (λ rows. rows) result (shares_in plant.now (map (λ field. field.now) fields.now)) }
 {
     if fields.len() == plant.rows().len() {
         shares_of(alloc, fields)
@@ -247,7 +247,7 @@ fn put_resliced(
     fields: &[&[u8]],
     steps: &mut Vec<LineStep>,
 ) -> Result<(), FieldFault>
-    ensures said { Gives (λ _. steps.new.items) result
+    ensures said { Gives field_cause (λ _. steps.new.items) result
         (behind steps.old.items (resliced_steps plant.now number (map (λ field. field.now) fields.now))) }
     ensures unsaid { result ≡ Err Shape → steps.new.items ≡ steps.old.items }
 {
@@ -268,7 +268,7 @@ fn put_alone(
     word: &[u8],
     steps: &mut Vec<LineStep>,
 ) -> Result<(), FieldFault>
-    ensures said { Gives (λ _. steps.new.items) result
+    ensures said { Gives field_cause (λ _. steps.new.items) result
         (behind steps.old.items (steps_in plant.now number (word.now ∷ []))) }
     ensures unsaid { result ≡ Err Shape → steps.new.items ≡ steps.old.items }
 {
@@ -291,7 +291,7 @@ fn put_word<'a>(
     fields: &mut Vec<&'a [u8]>,
     steps: &mut Vec<LineStep>,
 ) -> Result<(), FieldFault>
-    ensures said { Gives (λ _. steps.new.items) result
+    ensures said { Gives field_cause (λ _. steps.new.items) result
         (behind steps.old.items (steps_in plant.now number (word.now ∷ line_fields line.now))) }
     ensures unsaid { result ≡ Err Shape → steps.new.items ≡ steps.old.items }
 {
@@ -320,7 +320,7 @@ pub fn put_line<'a>(
     fields: &mut Vec<&'a [u8]>,
     steps: &mut Vec<LineStep>,
 ) -> Result<(), FieldFault>
-    ensures said { Gives (λ _. steps.new.items) result (behind steps.old.items (line_steps plant.now number line.now)) }
+    ensures said { Gives field_cause (λ _. steps.new.items) result (behind steps.old.items (line_steps plant.now number line.now)) }
     ensures unsaid { result ≡ Err Shape → steps.new.items ≡ steps.old.items }
 {
     if line.is_empty() {

@@ -7,7 +7,7 @@ use Rattle.std.proofs.lemmas.Bool.Decides.{nat_tests}
 use Rattle.std.proofs.lemmas.List.Sums.{sum_by-cons, sum_by-append}
 use Rattle.std.proofs.lemmas.List.Elements.{All-from_recursion}
 use Rattle.slice_scheduler.specs.declared.claim.Claim.{Claim}
-use Rattle.slice_scheduler.specs.Awards.{goes_before, wanted_before, share_of}
+use Rattle.slice_scheduler.specs.Awards.{goes_before, wanted_before, granted_share}
 use Rattle.slice_scheduler.specs.Schedule.{ranked_below}
 use Rattle.slice_scheduler.specs.Servable.{Ascends}
 use Rattle.slice_scheduler.specs.Wanted.{wanted_at, wanted_from}
@@ -100,22 +100,22 @@ shares-fit room others (c ∷ claims) ascend =
 
 -- ---- the shares of all
 
-share-in_rank : (room : ℕ) (claims : List Claim) (r : ℕ) (c : Claim) → (c.rank == r) ≡ true → share_of room claims c ≡ share_in room (wanted_from claims (r + 1)) (of_rank claims r) c
+share-in_rank : (room : ℕ) (claims : List Claim) (r : ℕ) (c : Claim) → (c.rank == r) ≡ true → granted_share room claims c ≡ share_in room (wanted_from claims (r + 1)) (of_rank claims r) c
 share-in_rank room claims r c e = ap (λ (n : ℕ). min c.left (room - n))
     (wanted_before-split claims c ∙ ap (λ (k : ℕ). wanted_from claims (k + 1) + wanted_earlier (of_rank claims k) c) (eqb-true c.rank r e))
 
-rank_shares : (room : ℕ) (claims : List Claim) (r : ℕ) → sum_by (share_of room claims) (of_rank claims r) ≡ sum_by (share_in room (wanted_from claims (r + 1)) (of_rank claims r)) (of_rank claims r)
-rank_shares room claims r = sum_by-same (share_of room claims) (share_in room (wanted_from claims (r + 1)) (of_rank claims r)) (of_rank claims r)
-    (kept-pass (λ (c : Claim). share_of room claims c ≡ share_in room (wanted_from claims (r + 1)) (of_rank claims r) c) (λ c. c.rank == r) (share-in_rank room claims r) claims)
+rank_shares : (room : ℕ) (claims : List Claim) (r : ℕ) → sum_by (granted_share room claims) (of_rank claims r) ≡ sum_by (share_in room (wanted_from claims (r + 1)) (of_rank claims r)) (of_rank claims r)
+rank_shares room claims r = sum_by-same (granted_share room claims) (share_in room (wanted_from claims (r + 1)) (of_rank claims r)) (of_rank claims r)
+    (kept-pass (λ (c : Claim). granted_share room claims c ≡ share_in room (wanted_from claims (r + 1)) (of_rank claims r) c) (λ c. c.rank == r) (share-in_rank room claims r) claims)
 
 one_rank : (room : ℕ) (claims : List Claim) (n : ℕ) → ClaimsAscend claims
-    → sum_by (share_of room claims) (of_rank claims n) + (room - (wanted_from claims (n + 1) + wanted_at claims n)) ≡ room - wanted_from claims (n + 1)
+    → sum_by (granted_share room claims) (of_rank claims n) + (room - (wanted_from claims (n + 1) + wanted_at claims n)) ≡ room - wanted_from claims (n + 1)
 one_rank room claims n ascend =
     ap (λ (s : ℕ). s + (room - (wanted_from claims (n + 1) + wanted_at claims n))) (rank_shares room claims n)
     ∙ shares-fit room (wanted_from claims (n + 1)) (of_rank claims n) (Ascends-filter (λ (c : Claim). c.sfid) (λ c. c.rank == n) claims ascend)
 
 pub shares_below-fit : (room : ℕ) (claims : List Claim) (n : ℕ) → ClaimsAscend claims
-    → sum_by (share_of room claims) (ranked_below (λ c. c.rank) n claims) + (room - wanted_from claims 0) ≡ room - wanted_from claims n
+    → sum_by (granted_share room claims) (ranked_below (λ c. c.rank) n claims) + (room - wanted_from claims 0) ≡ room - wanted_from claims n
 unfolding ranked_below
 shares_below-fit room claims zero ascend = omega arith
 shares_below-fit room claims (suc n) ascend =
@@ -124,7 +124,7 @@ shares_below-fit room claims (suc n) ascend =
     let to : room - wanted_from claims (suc n) ≡ room - wanted_from claims (n + 1) = ap (λ (k : ℕ). room - k) above in
     omega (
       arith,
-      sum_by-append (share_of room claims) (of_rank claims n) (ranked_below (λ (c : Claim). c.rank) n claims),
+      sum_by-append (granted_share room claims) (of_rank claims n) (ranked_below (λ (c : Claim). c.rank) n claims),
       one_rank room claims n ascend,
       shares_below-fit room claims n ascend,
     )

@@ -15,7 +15,7 @@ use Rattle.slice_scheduler.specs.declared.flowing.AtFields.{AtFields}
 use Rattle.slice_scheduler.specs.declared.flowing.Flowing.{Flowing}
 use Rattle.slice_scheduler.specs.Due.{is_due, due_minislots, minislots_when_due, due_pieces, pieces_when_due, iuc_of}
 use Rattle.slice_scheduler.specs.Claims.{claim_of, claims_of, base_of, taken_of, room_of}
-use Rattle.slice_scheduler.specs.Awards.{goes_before, wanted_before, award_of, awards_of, share_of}
+use Rattle.slice_scheduler.specs.Awards.{goes_before, wanted_before, award_of, awards_of, granted_share}
 use Rattle.slice_scheduler.specs.Schedule.{ranked_below, by_rank, award_pieces, pieces_of, minislots_in}
 use Rattle.slice_scheduler.specs.Servable.{SfidsAscend}
 use Rattle.slice_scheduler.specs.Wanted.{IsClaim, wanted_from}
@@ -70,9 +70,9 @@ awards-all room claims ascend = omega (
   arith,
   sum_by-ranked_below (λ (a : Award). a.grant) (λ (a : Award). a.rank) 64 (map (award_of room claims) claims),
   filtered-map (λ (a : Award). a.grant) (λ a. nat_lt a.rank 64) (award_of room claims) claims,
-  sum_by-add (λ (c : Claim). c.base + share_of room claims c) (λ (c : Claim). c.base) (share_of room claims) (λ c. refl) (filter (λ (c : Claim). nat_lt c.rank 64) claims),
+  sum_by-add (λ (c : Claim). c.base + granted_share room claims c) (λ (c : Claim). c.base) (granted_share room claims) (λ c. refl) (filter (λ (c : Claim). nat_lt c.rank 64) claims),
   filtered-le (λ (c : Claim). c.base) (λ c. nat_lt c.rank 64) claims,
-  sum_by-ranked_below (share_of room claims) (λ (c : Claim). c.rank) 64 claims,
+  sum_by-ranked_below (granted_share room claims) (λ (c : Claim). c.rank) 64 claims,
   shares_below-fit room claims 64 ascend,
 )
 
@@ -88,16 +88,16 @@ wanted-from_zero claims = filtered-all (λ (c : Claim). c.left) (λ c. nat_le 0 
     every (c ∷ cs) = (le-leb 0 c.rank (omega arith), every cs)
 
 shares-full : (room : ℕ) (claims : List Claim) (i : ℕ) (e : Claim) → AllByRecursion IsClaim claims → ClaimsAscend claims → i < length claims
-    → share_of room claims (get_or claims i e) < (get_or claims i e).left → sum_by (share_of room claims) claims ≡ room
+    → granted_share room claims (get_or claims i e) < (get_or claims i e).left → sum_by (granted_share room claims) claims ≡ room
 shares-full room claims i e sound ascend lt less =
-    let same : sum_by (share_of room claims) (ranked_below (λ c. c.rank) 64 claims) ≡ sum_by (share_of room claims) claims =
-    sum_by-ranked (share_of room claims) (λ (c : Claim). c.rank) 64 claims (recursion-weaker IsClaim (λ c. c.rank < 64) (λ c h. omega (arith, h.rank)) claims sound) in
+    let same : sum_by (granted_share room claims) (ranked_below (λ c. c.rank) 64 claims) ≡ sum_by (granted_share room claims) claims =
+    sum_by-ranked (granted_share room claims) (λ (c : Claim). c.rank) 64 claims (recursion-weaker IsClaim (λ c. c.rank < 64) (λ c h. omega (arith, h.rank)) claims sound) in
     let before : wanted_before claims (get_or claims i e) + (get_or claims i e).left ≤ sum_by (λ (c : Claim). c.left) claims =
     filtered-without (λ (c : Claim). c.left) (λ d. goes_before d (get_or claims i e)) claims i e lt (itself (get_or claims i e)) in
     omega (arith, shares_below-fit room claims 64 ascend, wanted_from-none claims sound, wanted-from_zero claims)
 
 awards-full : (room : ℕ) (claims : List Claim) (i : ℕ) (e : Claim) → AllByRecursion IsClaim claims → ClaimsAscend claims → i < length claims
-    → share_of room claims (get_or claims i e) < (get_or claims i e).left
+    → granted_share room claims (get_or claims i e) < (get_or claims i e).left
     → sum_by (λ (a : Award). a.grant) (by_rank (map (award_of room claims) claims)) ≡ sum_by (λ (c : Claim). c.base) claims + room
 awards-full room claims i e sound ascend lt less =
     let ranked : AllByRecursion (λ (a : Award). a.rank < 64) (map (award_of room claims) claims) =
@@ -106,7 +106,7 @@ awards-full room claims i e sound ascend lt less =
       arith,
       sum_by-ranked (λ (a : Award). a.grant) (λ (a : Award). a.rank) 64 (map (award_of room claims) claims) ranked,
       sum_by-map (λ (a : Award). a.grant) (award_of room claims) claims,
-      sum_by-add (λ (c : Claim). c.base + share_of room claims c) (λ (c : Claim). c.base) (share_of room claims) (λ c. refl) claims,
+      sum_by-add (λ (c : Claim). c.base + granted_share room claims c) (λ (c : Claim). c.base) (granted_share room claims) (λ c. refl) claims,
       shares-full room claims i e sound ascend lt less,
     )
 
@@ -147,9 +147,9 @@ nothing-idle policy at flows sound ascend fits i e lt less =
     let f : Flowing = get_or flows i e in
     let claims : List Claim = claims_of policy at flows in
     let here : get_or claims i (claim_of policy at e) ≡ claim_of policy at f = get_or-map (claim_of policy at) flows i e (claim_of policy at e) lt in
-    let wants : share_of (room_of at flows) claims (claim_of policy at f) < (claim_of policy at f).left = omega arith in
-    let wants_here : share_of (room_of at flows) claims (get_or claims i (claim_of policy at e)) < (get_or claims i (claim_of policy at e)).left =
-    subst (λ (c : Claim). share_of (room_of at flows) claims c < c.left) (sym here) wants in
+    let wants : granted_share (room_of at flows) claims (claim_of policy at f) < (claim_of policy at f).left = omega arith in
+    let wants_here : granted_share (room_of at flows) claims (get_or claims i (claim_of policy at e)) < (get_or claims i (claim_of policy at e)).left =
+    subst (λ (c : Claim). granted_share (room_of at flows) claims c < c.left) (sym here) wants in
     let inside : i < length claims = omega (arith, length-map flows (claim_of policy at)) in
     let full : sum_by (λ (a : Award). a.grant) (by_rank (awards_of policy at flows)) ≡ sum_by (λ (c : Claim). c.base) claims + room_of at flows =
     awards-full (room_of at flows) claims i (claim_of policy at e) (recursion_from_All IsClaim claims sound) (claims-ascend policy at flows ascend) inside wants_here in

@@ -16,8 +16,8 @@ abbrev pub wanted_before : List Claim → Claim → ℕ
 wanted_before claims c = sum_by (λ d. d.left) (filter (λ d. goes_before d c) claims)
 
 -- what c is granted beyond its base: as much as it wants, of what those before it leave
-abbrev pub share_of : ℕ → List Claim → Claim → ℕ
-share_of room claims c = min c.left (room - wanted_before claims c)
+abbrev pub granted_share : ℕ → List Claim → Claim → ℕ
+granted_share room claims c = min c.left (room - wanted_before claims c)
 
 abbrev pub award_of : ℕ → List Claim → Claim → Award
 award_of room claims c = record {
@@ -25,7 +25,7 @@ award_of room claims c = record {
   sid = c.sid;
   rank = c.rank;
   backlog = c.base + c.left;
-  grant = c.base + share_of room claims c;
+  grant = c.base + granted_share room claims c;
 }
 
 -- the award of each flow, in the flows' order

@@ -3,13 +3,13 @@ use Rattle.std.proofs.Common.{◌≡◌, ◌+◌, Bool, true, false, List, [], �
 use Rattle.toml.specs.Data.{Data, Items, no_items, item}
 use Rattle.lists.specs.Results.{◌>>=◌}
 use Rattle.slice_table.specs.declared.plant_key.Key.{Key}
-use Rattle.slice_table.specs.Tree.{Read, each, items_len, required_value, expected_value, checked_value}
+use Rattle.slice_table.specs.Tree.{PlantResult, each, items_len, required_value, expected_value, checked_value}
 
-pub ok_same : {A : Type 0} (x y : A) → ◌≡◌ {A = Read A} (Ok x) (Ok y) → x ≡ y
+pub ok_same : {A : Type 0} (x y : A) → ◌≡◌ {A = PlantResult A} (Ok x) (Ok y) → x ≡ y
 ok_same x y h = cc
 
 -- one reading after another is Ok where both are
-pub bind_ok : {A B : Type 0} (r : Read A) (f : A → Read B) (y : B) → (r >>= f) ≡ Ok y → (x : A) × (r ≡ Ok x) × (f x ≡ Ok y)
+pub bind_ok : {A B : Type 0} (r : PlantResult A) (f : A → PlantResult B) (y : B) → (r >>= f) ≡ Ok y → (x : A) × (r ≡ Ok x) × (f x ≡ Ok y)
 bind_ok (Ok x) f y h = (x, refl, h)
 bind_ok (Err e) f y h = cc
 
@@ -26,7 +26,7 @@ checked_ok key true x y h = (refl, cc)
 checked_ok key false x y h = cc
 
 -- what each item keeps holds in the end
-pub each_keeps : {A : Type 0} (P : List A → Type 0) (read : List A → Data → Read A)
+pub each_keeps : {A : Type 0} (P : List A → Type 0) (read : List A → Data → PlantResult A)
     → ((done : List A) (d : Data) (x : A) → P done → read done d ≡ Ok x → P (done ++ x ∷ []))
     → (done : List A) (ds : Items) (all : List A) → P done → each read done ds ≡ Ok all → P all
 each_keeps P read keeps done no_items all held h = subst P (let e : done ≡ all = cc in e) held
@@ -34,7 +34,7 @@ each_keeps P read keeps done (item d ds) all held h =
     let found = bind_ok (read done d) (λ x. each read (done ++ x ∷ []) ds) all h in
     each_keeps P read keeps (done ++ found.0 ∷ []) ds all (keeps done d found.0 held found.1) found.2
 
-pub each_len : {A : Type 0} (read : List A → Data → Read A) (done : List A) (ds : Items) (all : List A)
+pub each_len : {A : Type 0} (read : List A → Data → PlantResult A) (done : List A) (ds : Items) (all : List A)
     → each read done ds ≡ Ok all → length all ≡ length done + items_len ds
 each_len read done no_items all h = let e : done ≡ all = cc in omega (arith, ap length e)
 each_len read done (item d ds) all h =

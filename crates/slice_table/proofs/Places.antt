@@ -13,7 +13,8 @@ use Rattle.plant.specs.Roster.{Places, place_of, holder, Finds, Lists, Adds}
 use Rattle.slice_table.specs.declared.plant_fault.PlantFault.{PlantFault}
 use Rattle.slice_table.specs.declared.plant_fault.PlantFault.TheVariants.{NoMemory, ModemTwice}
 use Rattle.plant.proofs.Addresses.{same_is_equal, or_false, listed_append, some_holder}
-use Rattle.slice_table.specs.Tree.{Read, Fails}
+use Rattle.lists.specs.Results.{Fails}
+use Rattle.slice_table.specs.Tree.{PlantResult, plant_cause}
 use Rattle.slice_table.specs.Checks.{first_again, modem_twice_fault, unless}
 
 pub copied_none : (o : Option (Bor ℕ)) → is_some o ≡ false → option_copied o ≡ None
@@ -108,15 +109,15 @@ pub none_again : (o : Option Modem) → unless (modem_twice_fault o) (tt {0}) �
 none_again None h = refl
 none_again (Some m) h = cc
 
-no_fault : {A B : Type 0} (fault : PlantFault) (x : A) (read : Read B) → Fails {B = A} fault (Ok x) → Fails fault read
+no_fault : {A B : Type 0} (fault : PlantFault) (x : A) (read : PlantResult B) → Fails {B = A} (plant_cause fault) (Ok x) → Fails (plant_cause fault) read
 no_fault NoMemory x read h = tt
 no_fault fault x read h = cc
 
-fault_same : {A B : Type 0} (fault other : PlantFault) (y : B) (x : A) → Fails {B = B} fault (unless (Some other) y) → Fails {B = A} fault (unless (Some other) x)
+fault_same : {A B : Type 0} (fault other : PlantFault) (y : B) (x : A) → Fails {B = B} (plant_cause fault) (unless (Some other) y) → Fails {B = A} (plant_cause fault) (unless (Some other) x)
 fault_same NoMemory other y x h = tt
 fault_same fault other y x h = cc
 
-pub fault_kept : {A : Type 0} (fault : PlantFault) (o rest whole : Option Modem) (x : A) → Fails {B = Unit {0}} fault (unless (modem_twice_fault o) (tt {0})) → whole ≡ option_or o rest
-    → Fails fault (unless (modem_twice_fault whole) x)
+pub fault_kept : {A : Type 0} (fault : PlantFault) (o rest whole : Option Modem) (x : A) → Fails {B = Unit {0}} (plant_cause fault) (unless (modem_twice_fault o) (tt {0})) → whole ≡ option_or o rest
+    → Fails (plant_cause fault) (unless (modem_twice_fault whole) x)
 fault_kept fault None rest whole x h e = no_fault fault (tt {0}) (unless (modem_twice_fault whole) x) h
 fault_kept fault (Some m) rest whole x h e = rw e (fault_same fault (ModemTwice m) (tt {0}) x h)

@@ -14,7 +14,7 @@ use Rattle.slice_table.specs.declared.plant_fault.PlantFault.TheVariants.{Slices
 use Rattle.plant.specs.Consts.{AreConsts}
 use Rattle.plant.specs.Row.{is_listed, same_modem, DoesFit, count_of}
 use Rattle.plant.specs.Plant.{IsPlant, all_modems, most_elements}
-use Rattle.slice_table.specs.Checks.{meets, first_pair, first_meeting, first_again, is_over_slice, is_overfull, sids_needed, minislots_needed, elements_needed, counts_fit, needs_fit, do_fit, first_named, meeting_fault, twice_fault, elements_fault, budget_fault, provisioned_fault, late_fault, rows_fault, unless}
+use Rattle.slice_table.specs.Checks.{meets, first_pair, first_meeting, first_again, is_over_slice, is_overfull, sids_needed, minislots_needed, provision_elements, counts_fit, needs_fit, do_fit, first_named, meeting_fault, twice_fault, elements_fault, budget_fault, provisioned_fault, late_fault, rows_fault, unless}
 use Rattle.slice_table.proofs.Values.{at_most, none_passes}
 use Rattle.plant.proofs.Addresses.{modem_itself}
 use Rattle.slice_table.proofs.RowReading.{AreRows}
@@ -107,18 +107,18 @@ not_false true h = refl
 not_false false h = absurd (false≢true (sym h))
 
 pub fits : (consts : ConstsFields) (row : RowFields) → do_fit consts row ≡ true → DoesFit consts row
-unfolding do_fit counts_fit needs_fit sids_needed minislots_needed elements_needed
+unfolding do_fit counts_fit needs_fit sids_needed minislots_needed provision_elements
 fits consts row h =
     let parts = and_parts (counts_fit row) (needs_fit consts row) h in
     let counts = and_parts (nat_le (length row.provisions) row.flows) (nat_le (length row.provisions) (count_of row.sfids)) parts.0 in
-    let needs = and_parts (nat_le (sids_needed consts row.provisions) (count_of row.sids) && nat_le (minislots_needed consts row.provisions) row.budget) (nat_le (elements_needed consts row.provisions) row.elements) parts.1 in
+    let needs = and_parts (nat_le (sids_needed consts row.provisions) (count_of row.sids) && nat_le (minislots_needed consts row.provisions) row.budget) (nat_le (provision_elements consts row.provisions) row.elements) parts.1 in
     let two = and_parts (nat_le (sids_needed consts row.provisions) (count_of row.sids)) (nat_le (minislots_needed consts row.provisions) row.budget) needs.0 in
     record {
       flows = at_most (length row.provisions) row.flows counts.0;
       sfids = at_most (length row.provisions) (count_of row.sfids) counts.1;
       sids = at_most (sids_needed consts row.provisions) (count_of row.sids) two.0;
       minislots = at_most (minislots_needed consts row.provisions) row.budget two.1;
-      elements = at_most (elements_needed consts row.provisions) row.elements needs.1;
+      elements = at_most (provision_elements consts row.provisions) row.elements needs.1;
     }
 
 pub provisioned_none : (consts : ConstsFields) (rows : List RowFields) → provisioned_fault consts rows ≡ None → All (DoesFit consts) rows

@@ -19,8 +19,9 @@ use Rattle.slice_table.specs.declared.plant_key.Place.TheVariants as place
 use Rattle.plant.specs.Provisioned.{sets_of_encoding}
 use Rattle.plant.specs.Row.{is_listed, IsFrom, IsRow, IsProvision}
 use Rattle.slice_table.specs.Ranges.{range_of}
-use Rattle.slice_table.specs.Tree.{items_len, required_value, expected_value, checked_value, at_field, modem_at, number_in, pair_at, text_at, bytes_at, array_at, table_of}
-use Rattle.slice_table.specs.ReadRows.{is_operator_name, is_called, name_at, is_within, slice_at, range_at, modem_read, modems_at, own_modem_at, has_sets, provision_at, provision_read, provisions_in, provisions_if, row_at, row_read, rows_of}
+use Rattle.slice_table.specs.Tree.{items_len, required_value, expected_value, checked_value, at_field, modem_at, number_of_key, pair_at, text_at, bytes_at, array_at, table_of}
+use Rattle.plant.specs.Name.{is_operator_name}
+use Rattle.slice_table.specs.ReadRows.{is_called, name_at, fits_frame, slice_at, range_at, modem_read, modems_at, own_modem_at, has_sets, provision_at, provision_read, provisions_in, provisions_if, row_at, row_read, rows_of}
 use Rattle.slice_table.proofs.Parsed.{bind_ok, checked_ok, each_keeps, each_len}
 use Rattle.slice_table.proofs.SaidKeys.{number_in_is, said_in_range, range_is}
 use Rattle.slice_table.proofs.RowParts.{row_parts}
@@ -28,7 +29,7 @@ use Rattle.slice_table.proofs.Values.{none_passes, told_apart, at_most}
 
 -- ---- one key
 
-number_read : (place : Place) (f : Field) (ms : Members) (n : ℕ) → number_in place f ms ≡ Ok n → ((range_of f).low ≤ n) × (n ≤ (range_of f).high)
+number_read : (place : Place) (f : Field) (ms : Members) (n : ℕ) → number_of_key place f ms ≡ Ok n → ((range_of f).low ≤ n) × (n ≤ (range_of f).high)
 number_read place f ms n h = said_in_range ms f n ((number_in_is place f ms n).0 h)
 
 name_read : (rows : List RowFields) (place : Place) (ms : Members) (name : List ℕ) → name_at rows place ms ≡ Ok name
@@ -46,11 +47,11 @@ record IsSliceOf (consts : ConstsFields) (slice : Minislots) : Type 0 where
   pub within_frame : slice.start + slice.length ≤ consts.channel.frame_minislots
 
 slice_read : (consts : ConstsFields) (place : Place) (ms : Members) (slice : Minislots) → slice_at consts place ms ≡ Ok slice → IsSliceOf consts slice
-unfolding slice_at is_within
+unfolding slice_at fits_frame
 slice_read consts place ms slice h =
     let pair = bind_ok (pair_at place field.Slice ms) _ slice h in
     let made : Minislots = record { start = pair.0.0; length = pair.0.1 } in
-    let test = checked_ok (Entry place field.Slice) (is_within consts pair.0.0 pair.0.1) made slice pair.2 in
+    let test = checked_ok (Entry place field.Slice) (fits_frame consts pair.0.0 pair.0.1) made slice pair.2 in
     let parts = and_parts (nat_le consts.channel.head pair.0.0 && nat_le 1 pair.0.1) (nat_le (pair.0.0 + pair.0.1) consts.channel.frame_minislots) test.0 in
     let low = and_parts (nat_le consts.channel.head pair.0.0) (nat_le 1 pair.0.1) parts.0 in
     subst (IsSliceOf consts) test.1 (record {

@@ -20,7 +20,7 @@ use Rattle.slice_table.specs.declared.plant_key.Field.TheVariants as field
 use Rattle.slice_table.specs.declared.plant_key.Place.{Place}
 use Rattle.slice_table.specs.declared.plant_key.Place.TheVariants as place
 use Rattle.plant.specs.Classes.{is_class_named, StatesParameters}
-use Rattle.slice_table.specs.Tree.{items_len, required_value, expected_value, checked_value, number_at, number_in, text_at, bytes_at, table_of}
+use Rattle.slice_table.specs.Tree.{items_len, required_value, expected_value, checked_value, number_at, number_of_key, text_at, bytes_at, table_of}
 use Rattle.slice_table.specs.ReadConsts.{units_at, backoffs_at, timers_at, plant_keys_at, plant_keys_of, is_class_name, class_name_at, states_parameters, parameters_in, class_encoding_at, class_read, classes_in, classes_if, with_classes, consts_of}
 use Rattle.slice_table.specs.Says.{SayInTurn, SaysUnits, SaysBackoffs, SaysTimers, SaysKeys, SaysClassName, SaysParameters, SaysClass, SaysClasses, SaysConsts}
 use Rattle.slice_table.proofs.Parsed.{ok_same, bind_ok, required_ok, expected_ok, checked_ok}
@@ -35,26 +35,26 @@ units_are : (ms : Members) (units : UnitSizes) → (units_at ms ≡ Ok units) �
 unfolding units_at
 units_are ms units = (
   λ h.
-      let frame_us = bind_ok (number_in place.Plant field.FrameUs ms) _ units h in
-      let bytes = bind_ok (number_in place.Plant field.BytesPerMinislot ms) _ units frame_us.2 in
+      let frame_us = bind_ok (number_of_key place.Plant field.FrameUs ms) _ units h in
+      let bytes = bind_ok (number_of_key place.Plant field.BytesPerMinislot ms) _ units frame_us.2 in
       let made : UnitSizes = record { frame_us = frame_us.0; bytes_per_minislot = bytes.0 } in
       subst (SaysUnits ms) (ok_same made units bytes.2) (record {
         frame_us = (number_in_is place.Plant field.FrameUs ms frame_us.0).0 frame_us.1;
         bytes_per_minislot = (number_in_is place.Plant field.BytesPerMinislot ms bytes.0).0 bytes.1;
       }),
   λ s.
-      bind_both (number_in place.Plant field.FrameUs ms) _ units.frame_us units ((number_in_is place.Plant field.FrameUs ms units.frame_us).1 s.frame_us)
-      (bind_both (number_in place.Plant field.BytesPerMinislot ms) _ units.bytes_per_minislot units ((number_in_is place.Plant field.BytesPerMinislot ms units.bytes_per_minislot).1 s.bytes_per_minislot) refl),
+      bind_both (number_of_key place.Plant field.FrameUs ms) _ units.frame_us units ((number_in_is place.Plant field.FrameUs ms units.frame_us).1 s.frame_us)
+      (bind_both (number_of_key place.Plant field.BytesPerMinislot ms) _ units.bytes_per_minislot units ((number_in_is place.Plant field.BytesPerMinislot ms units.bytes_per_minislot).1 s.bytes_per_minislot) refl),
 )
 
 backoffs_are : (ms : Members) (backoffs : Backoffs) → (backoffs_at ms ≡ Ok backoffs) ↔ SaysBackoffs ms backoffs
 unfolding backoffs_at
 backoffs_are ms backoffs = (
   λ h.
-      let one = bind_ok (number_in place.Plant field.RangingStart ms) _ backoffs h in
-      let two = bind_ok (number_in place.Plant field.RangingEnd ms) _ backoffs one.2 in
-      let three = bind_ok (number_in place.Plant field.DataStart ms) _ backoffs two.2 in
-      let four = bind_ok (number_in place.Plant field.DataEnd ms) _ backoffs three.2 in
+      let one = bind_ok (number_of_key place.Plant field.RangingStart ms) _ backoffs h in
+      let two = bind_ok (number_of_key place.Plant field.RangingEnd ms) _ backoffs one.2 in
+      let three = bind_ok (number_of_key place.Plant field.DataStart ms) _ backoffs two.2 in
+      let four = bind_ok (number_of_key place.Plant field.DataEnd ms) _ backoffs three.2 in
       let made : Backoffs = record { ranging_start = one.0; ranging_end = two.0; data_start = three.0; data_end = four.0 } in
       subst (SaysBackoffs ms) (ok_same made backoffs four.2) (record {
         ranging_start = (number_in_is place.Plant field.RangingStart ms one.0).0 one.1;
@@ -63,19 +63,19 @@ backoffs_are ms backoffs = (
         data_end = (number_in_is place.Plant field.DataEnd ms four.0).0 four.1;
       }),
   λ s.
-      bind_both (number_in place.Plant field.RangingStart ms) _ backoffs.ranging_start backoffs ((number_in_is place.Plant field.RangingStart ms backoffs.ranging_start).1 s.ranging_start)
-      (bind_both (number_in place.Plant field.RangingEnd ms) _ backoffs.ranging_end backoffs ((number_in_is place.Plant field.RangingEnd ms backoffs.ranging_end).1 s.ranging_end)
-      (bind_both (number_in place.Plant field.DataStart ms) _ backoffs.data_start backoffs ((number_in_is place.Plant field.DataStart ms backoffs.data_start).1 s.data_start)
-      (bind_both (number_in place.Plant field.DataEnd ms) _ backoffs.data_end backoffs ((number_in_is place.Plant field.DataEnd ms backoffs.data_end).1 s.data_end) refl))),
+      bind_both (number_of_key place.Plant field.RangingStart ms) _ backoffs.ranging_start backoffs ((number_in_is place.Plant field.RangingStart ms backoffs.ranging_start).1 s.ranging_start)
+      (bind_both (number_of_key place.Plant field.RangingEnd ms) _ backoffs.ranging_end backoffs ((number_in_is place.Plant field.RangingEnd ms backoffs.ranging_end).1 s.ranging_end)
+      (bind_both (number_of_key place.Plant field.DataStart ms) _ backoffs.data_start backoffs ((number_in_is place.Plant field.DataStart ms backoffs.data_start).1 s.data_start)
+      (bind_both (number_of_key place.Plant field.DataEnd ms) _ backoffs.data_end backoffs ((number_in_is place.Plant field.DataEnd ms backoffs.data_end).1 s.data_end) refl))),
 )
 
 timers_are : (ms : Members) (timers : Waits) → (timers_at ms ≡ Ok timers) ↔ SaysTimers ms timers
 unfolding timers_at
 timers_are ms timers = (
   λ h.
-      let one = bind_ok (number_in place.Plant field.AckWait ms) _ timers h in
-      let two = bind_ok (number_in place.Plant field.Resends ms) _ timers one.2 in
-      let three = bind_ok (number_in place.Plant field.Hold ms) _ timers two.2 in
+      let one = bind_ok (number_of_key place.Plant field.AckWait ms) _ timers h in
+      let two = bind_ok (number_of_key place.Plant field.Resends ms) _ timers one.2 in
+      let three = bind_ok (number_of_key place.Plant field.Hold ms) _ timers two.2 in
       let made : Waits = record { ack_wait = one.0; resends = two.0; hold = three.0 } in
       subst (SaysTimers ms) (ok_same made timers three.2) (record {
         ack_wait = (number_in_is place.Plant field.AckWait ms one.0).0 one.1;
@@ -83,24 +83,24 @@ timers_are ms timers = (
         hold = (number_in_is place.Plant field.Hold ms three.0).0 three.1;
       }),
   λ s.
-      bind_both (number_in place.Plant field.AckWait ms) _ timers.ack_wait timers ((number_in_is place.Plant field.AckWait ms timers.ack_wait).1 s.ack_wait)
-      (bind_both (number_in place.Plant field.Resends ms) _ timers.resends timers ((number_in_is place.Plant field.Resends ms timers.resends).1 s.resends)
-      (bind_both (number_in place.Plant field.Hold ms) _ timers.hold timers ((number_in_is place.Plant field.Hold ms timers.hold).1 s.hold) refl)),
+      bind_both (number_of_key place.Plant field.AckWait ms) _ timers.ack_wait timers ((number_in_is place.Plant field.AckWait ms timers.ack_wait).1 s.ack_wait)
+      (bind_both (number_of_key place.Plant field.Resends ms) _ timers.resends timers ((number_in_is place.Plant field.Resends ms timers.resends).1 s.resends)
+      (bind_both (number_of_key place.Plant field.Hold ms) _ timers.hold timers ((number_in_is place.Plant field.Hold ms timers.hold).1 s.hold) refl)),
 )
 
 -- the keys, whatever the classes are
 keys_said : (ms : Members) (keys : PlantKeys) (classes : List Class) → plant_keys_at ms ≡ Ok keys → SaysKeys ms (with_classes keys classes)
 unfolding plant_keys_at
 keys_said ms keys classes h =
-    let frame = bind_ok (number_in place.Plant field.FrameMinislots ms) _ keys h in
+    let frame = bind_ok (number_of_key place.Plant field.FrameMinislots ms) _ keys h in
     let head = bind_ok (number_at place.Plant field.Head 0 frame.0 ms) _ keys frame.2 in
     let units = bind_ok (units_at ms) _ keys head.2 in
-    let short_max = bind_ok (number_in place.Plant field.ShortMax ms) _ keys units.2 in
-    let id = bind_ok (number_in place.Plant field.Channel ms) _ keys short_max.2 in
-    let ucd_count = bind_ok (number_in place.Plant field.UcdCount ms) _ keys id.2 in
+    let short_max = bind_ok (number_of_key place.Plant field.ShortMax ms) _ keys units.2 in
+    let id = bind_ok (number_of_key place.Plant field.Channel ms) _ keys short_max.2 in
+    let ucd_count = bind_ok (number_of_key place.Plant field.UcdCount ms) _ keys id.2 in
     let backoffs = bind_ok (backoffs_at ms) _ keys ucd_count.2 in
     let timers = bind_ok (timers_at ms) _ keys backoffs.2 in
-    let first_frame = bind_ok (number_in place.Plant field.FirstFrame ms) _ keys timers.2 in
+    let first_frame = bind_ok (number_of_key place.Plant field.FirstFrame ms) _ keys timers.2 in
     let made : PlantKeys = record {
       channel = record { frame_minislots = frame.0; head = head.0; id = id.0; ucd_count = ucd_count.0; backoffs = backoffs.0; first_frame = first_frame.0 };
       units = units.0;
@@ -122,15 +122,15 @@ keys_said ms keys classes h =
 keys_again : (ms : Members) (consts : ConstsFields) (keys : PlantKeys) → with_classes keys consts.classes ≡ consts → SaysKeys ms (with_classes keys consts.classes) → plant_keys_at ms ≡ Ok keys
 unfolding plant_keys_at
 keys_again ms consts keys is s =
-    bind_both (number_in place.Plant field.FrameMinislots ms) _ keys.channel.frame_minislots keys ((number_in_is place.Plant field.FrameMinislots ms keys.channel.frame_minislots).1 s.frame_minislots)
+    bind_both (number_of_key place.Plant field.FrameMinislots ms) _ keys.channel.frame_minislots keys ((number_in_is place.Plant field.FrameMinislots ms keys.channel.frame_minislots).1 s.frame_minislots)
     (bind_both (number_at place.Plant field.Head 0 keys.channel.frame_minislots ms) _ keys.channel.head keys ((number_is place.Plant field.Head 0 keys.channel.frame_minislots ms keys.channel.head).1 s.head)
     (bind_both (units_at ms) _ keys.units keys ((units_are ms keys.units).1 s.units)
-    (bind_both (number_in place.Plant field.ShortMax ms) _ keys.short_max keys ((number_in_is place.Plant field.ShortMax ms keys.short_max).1 s.short_max)
-    (bind_both (number_in place.Plant field.Channel ms) _ keys.channel.id keys ((number_in_is place.Plant field.Channel ms keys.channel.id).1 s.id)
-    (bind_both (number_in place.Plant field.UcdCount ms) _ keys.channel.ucd_count keys ((number_in_is place.Plant field.UcdCount ms keys.channel.ucd_count).1 s.ucd_count)
+    (bind_both (number_of_key place.Plant field.ShortMax ms) _ keys.short_max keys ((number_in_is place.Plant field.ShortMax ms keys.short_max).1 s.short_max)
+    (bind_both (number_of_key place.Plant field.Channel ms) _ keys.channel.id keys ((number_in_is place.Plant field.Channel ms keys.channel.id).1 s.id)
+    (bind_both (number_of_key place.Plant field.UcdCount ms) _ keys.channel.ucd_count keys ((number_in_is place.Plant field.UcdCount ms keys.channel.ucd_count).1 s.ucd_count)
     (bind_both (backoffs_at ms) _ keys.channel.backoffs keys ((backoffs_are ms keys.channel.backoffs).1 s.backoffs)
     (bind_both (timers_at ms) _ keys.timers keys ((timers_are ms keys.timers).1 s.timers)
-    (bind_both (number_in place.Plant field.FirstFrame ms) _ keys.channel.first_frame keys ((number_in_is place.Plant field.FirstFrame ms keys.channel.first_frame).1 s.first_frame) refl))))))))
+    (bind_both (number_of_key place.Plant field.FirstFrame ms) _ keys.channel.first_frame keys ((number_in_is place.Plant field.FirstFrame ms keys.channel.first_frame).1 s.first_frame) refl))))))))
 
 keys_of_said : (document : Members) (keys : PlantKeys) (classes : List Class) → plant_keys_of document ≡ Ok keys
     → (ms : Members) × (get_member (codes "plant") document ≡ Some (table ms)) × SaysKeys ms (with_classes keys classes)

@@ -19,16 +19,16 @@ use Rattle.slice_table.specs.declared.plant_key.Place.{Place}
 use Rattle.slice_table.specs.declared.plant_key.Key.{Key}
 use Rattle.slice_table.specs.declared.plant_key.Key.TheVariants.{Table, Entry}
 use Rattle.slice_table.specs.Ranges.{range_of, default_of}
-use Rattle.slice_table.specs.Tree.{Read, each, required_value, expected_value, checked_value, at_field, natural, number_of, number_if, number_at, number_in, both, pair_in, array_at, pair_at, text_at, bytes_if_decoded, bytes_at, modem_in, modem_of, table_of}
-use Rattle.slice_table.specs.ReadRows.{is_within, slice_at, is_range, range_at, aged_at, policy_named, policy_at}
+use Rattle.slice_table.specs.Tree.{PlantResult, each, required_value, expected_value, checked_value, at_field, natural, number_of, number_if, number_at, number_of_key, both, pair_in, array_at, pair_at, text_at, bytes_if_decoded, bytes_at, modem_in, modem_of, table_of}
+use Rattle.slice_table.specs.ReadRows.{fits_frame, slice_at, is_range, range_at, aged_at, policy_named, policy_at}
 use Rattle.slice_table.specs.Says.{SaysNumber, SaysNumberIn, two, SaysBytes, IsAddress, SayInTurn, SaysSlice, SaysRange, SaysPolicy}
 use Rattle.slice_table.proofs.Parsed.{ok_same, bind_ok, required_ok, expected_ok, checked_ok}
 use Rattle.slice_table.proofs.Values.{at_most}
 
 -- ---- the parts of a reading
 
-pub bind_both : {A B : Type 0} (r : Read A) (f : A → Read B) (x : A) (y : B) → r ≡ Ok x → f x ≡ Ok y → (r >>= f) ≡ Ok y
-bind_both r f x y h k = subst (λ (q : Read _). (q >>= f) ≡ Ok y) (sym h) k
+pub bind_both : {A B : Type 0} (r : PlantResult A) (f : A → PlantResult B) (x : A) (y : B) → r ≡ Ok x → f x ≡ Ok y → (r >>= f) ≡ Ok y
+bind_both r f x y h k = subst (λ (q : PlantResult _). (q >>= f) ≡ Ok y) (sym h) k
 
 pub required_said : {A : Type 0} (key : Key) (o : Option A) (x : A) → o ≡ Some x → required_value key o ≡ Ok x
 required_said key o x h = ap (required_value key) h
@@ -135,8 +135,8 @@ number_if_said place f ms (Some d) n at h =
     let said = number_said (Entry place f) (range_of f).low (range_of f).high d n h in
     inr (record { held = under (at_field f ms) d (integer (pos n)) at said.0; low_enough = said.1; high_enough = said.2 })
 
-pub number_in_is : (place : Place) (f : Field) (ms : Members) (n : ℕ) → (number_in place f ms ≡ Ok n) ↔ SaysNumberIn ms f n
-unfolding number_in
+pub number_in_is : (place : Place) (f : Field) (ms : Members) (n : ℕ) → (number_of_key place f ms ≡ Ok n) ↔ SaysNumberIn ms f n
+unfolding number_of_key
 number_in_is place f ms n = (
   λ h. number_if_said place f ms (at_field f ms) n refl h,
   λ s. elim s [
@@ -183,12 +183,12 @@ pair_again place f ms a b h =
     (bind_both (required_value (Entry place f) (at_field f ms)) _ (two a b) (item (integer (pos a)) (item (integer (pos b)) no_items)) (required_said (Entry place f) (at_field f ms) (two a b) h) refl) refl
 
 pub slice_is : (consts : ConstsFields) (place : Place) (ms : Members) (slice : Minislots) → (slice_at consts place ms ≡ Ok slice) ↔ SaysSlice consts ms slice
-unfolding slice_at is_within
+unfolding slice_at fits_frame
 slice_is consts place ms slice = (
   λ h.
       let pair = bind_ok (pair_at place field.Slice ms) _ slice h in
       let made : Minislots = record { start = pair.0.0; length = pair.0.1 } in
-      let test = checked_ok (Entry place field.Slice) (is_within consts pair.0.0 pair.0.1) made slice pair.2 in
+      let test = checked_ok (Entry place field.Slice) (fits_frame consts pair.0.0 pair.0.1) made slice pair.2 in
       let parts = and_parts (nat_le consts.channel.head pair.0.0 && nat_le 1 pair.0.1) (nat_le (pair.0.0 + pair.0.1) consts.channel.frame_minislots) test.0 in
       let low = and_parts (nat_le consts.channel.head pair.0.0) (nat_le 1 pair.0.1) parts.0 in
       subst (SaysSlice consts ms) test.1 (record {
@@ -200,7 +200,7 @@ slice_is consts place ms slice = (
   λ s.
       let low = both_true (nat_le consts.channel.head slice.start) (nat_le 1 slice.length) (le_true consts.channel.head slice.start s.behind_head) (le_true 1 slice.length s.some) in
       bind_both (pair_at place field.Slice ms) _ (slice.start, slice.length) slice (pair_again place field.Slice ms slice.start slice.length s.held)
-      (checked_said (Entry place field.Slice) (is_within consts slice.start slice.length) slice
+      (checked_said (Entry place field.Slice) (fits_frame consts slice.start slice.length) slice
       (both_true (nat_le consts.channel.head slice.start && nat_le 1 slice.length) (nat_le (slice.start + slice.length) consts.channel.frame_minislots) low
       (le_true (slice.start + slice.length) consts.channel.frame_minislots s.within_frame))),
 )
@@ -270,12 +270,12 @@ address_is key d modem = (
 aged_said : (place : Place) (ms : Members) (policy : Policy) → aged_at place ms ≡ Ok policy → (step : ℕ) × (policy ≡ Aged step) × SaysNumberIn ms field.Step step
 unfolding aged_at
 aged_said place ms policy h =
-    let step = bind_ok (number_in place field.Step ms) _ policy h in
+    let step = bind_ok (number_of_key place field.Step ms) _ policy h in
     (step.0, sym (ok_same (Aged step.0) policy step.2), (number_in_is place field.Step ms step.0).0 step.1)
 
 aged_again : (place : Place) (ms : Members) (step : ℕ) → SaysNumberIn ms field.Step step → aged_at place ms ≡ Ok (Aged step)
 unfolding aged_at
-aged_again place ms step s = bind_both (number_in place field.Step ms) _ step (Aged step) ((number_in_is place field.Step ms step).1 s) refl
+aged_again place ms step s = bind_both (number_of_key place field.Step ms) _ step (Aged step) ((number_in_is place field.Step ms step).1 s) refl
 
 same_text : (a b : List ℕ) → bytes_eq a b ≡ true → a ≡ b
 same_text a b h = (bytes_eq-Decides a b).0 h
@@ -317,7 +317,7 @@ policy_is place ms policy = (
 
 -- ---- arrays
 
-turn_said : {A : Type 0} (read : List A → Data → Read A) (Says : List A → Data → A → Type 0)
+turn_said : {A : Type 0} (read : List A → Data → PlantResult A) (Says : List A → Data → A → Type 0)
     → ((done : List A) (d : Data) (x : A) → read done d ≡ Ok x → Says done d x)
     → (done : List A) (ds : Items) (xs : List A) → each read done ds ≡ Ok xs → SayInTurn Says done ds xs
 turn_said read Says one done no_items xs h = ok_same done xs h
@@ -325,14 +325,14 @@ turn_said read Says one done (item d ds) xs h =
     let x = bind_ok (read done d) (λ x. each read (done ++ x ∷ []) ds) xs h in
     (x.0, one done d x.0 x.1, turn_said read Says one (done ++ x.0 ∷ []) ds xs x.2)
 
-turn_again : {A : Type 0} (read : List A → Data → Read A) (Says : List A → Data → A → Type 0)
+turn_again : {A : Type 0} (read : List A → Data → PlantResult A) (Says : List A → Data → A → Type 0)
     → ((done : List A) (d : Data) (x : A) → Says done d x → read done d ≡ Ok x)
     → (done : List A) (ds : Items) (xs : List A) → SayInTurn Says done ds xs → each read done ds ≡ Ok xs
 turn_again read Says one done no_items xs h = ap (λ (ys : List _). Ok ys) h
 turn_again read Says one done (item d ds) xs h =
     bind_both (read done d) (λ x. each read (done ++ x ∷ []) ds) h.0 xs (one done d h.0 h.1) (turn_again read Says one (done ++ h.0 ∷ []) ds xs h.2)
 
-pub turn_is : {A : Type 0} (read : List A → Data → Read A) (Says : List A → Data → A → Type 0)
+pub turn_is : {A : Type 0} (read : List A → Data → PlantResult A) (Says : List A → Data → A → Type 0)
     → ((done : List A) (d : Data) (x : A) → (read done d ≡ Ok x) ↔ Says done d x)
     → (done : List A) (ds : Items) (xs : List A) → (each read done ds ≡ Ok xs) ↔ SayInTurn Says done ds xs
 turn_is read Says one done ds xs = (turn_said read Says (λ p d x. (one p d x).0) done ds xs, turn_again read Says (λ p d x. (one p d x).1) done ds xs)

@@ -17,7 +17,7 @@ use Rattle.plant.specs.Row.{is_listed, same_modem, DoesFit, count_of}
 use Rattle.plant.specs.Plant.{IsPlant, all_modems, most_elements}
 use Rattle.slice_table.specs.ReadConsts.{consts_of}
 use Rattle.slice_table.specs.ReadRows.{rows_of}
-use Rattle.slice_table.specs.Checks.{meets, first_pair, first_meeting, first_again, is_over_slice, is_overfull, sids_needed, minislots_needed, elements_needed, counts_fit, needs_fit, do_fit, meeting_fault, twice_fault, elements_fault, budget_fault, provisioned_fault, late_fault, rows_fault, unless}
+use Rattle.slice_table.specs.Checks.{meets, first_pair, first_meeting, first_again, is_over_slice, is_overfull, sids_needed, minislots_needed, provision_elements, counts_fit, needs_fit, do_fit, meeting_fault, twice_fault, elements_fault, budget_fault, provisioned_fault, late_fault, rows_fault, unless}
 use Rattle.slice_table.specs.ReadPlant.{plant_of}
 use Rattle.slice_table.specs.Says.{SaysConsts, SaysPlant}
 use Rattle.slice_table.proofs.Parsed.{ok_same, bind_ok}
@@ -63,15 +63,15 @@ none_again before (m ∷ ms) h =
     rw (is_new before ms m h) (none_again (before ++ m ∷ []) ms (subst (AllPairs (λ a b. a ≢ b)) (sym (append_assoc before (m ∷ []) ms)) h))
 
 fits_again : (consts : ConstsFields) (row : RowFields) → DoesFit consts row → do_fit consts row ≡ true
-unfolding do_fit counts_fit needs_fit sids_needed minislots_needed elements_needed
+unfolding do_fit counts_fit needs_fit sids_needed minislots_needed provision_elements
 fits_again consts row h =
     both_true (counts_fit row) (needs_fit consts row)
     (both_true (nat_le (length row.provisions) row.flows) (nat_le (length row.provisions) (count_of row.sfids))
     (le_true (length row.provisions) row.flows h.flows) (le_true (length row.provisions) (count_of row.sfids) h.sfids))
-    (both_true (nat_le (sids_needed consts row.provisions) (count_of row.sids) && nat_le (minislots_needed consts row.provisions) row.budget) (nat_le (elements_needed consts row.provisions) row.elements)
+    (both_true (nat_le (sids_needed consts row.provisions) (count_of row.sids) && nat_le (minislots_needed consts row.provisions) row.budget) (nat_le (provision_elements consts row.provisions) row.elements)
     (both_true (nat_le (sids_needed consts row.provisions) (count_of row.sids)) (nat_le (minislots_needed consts row.provisions) row.budget)
     (le_true (sids_needed consts row.provisions) (count_of row.sids) h.sids) (le_true (minislots_needed consts row.provisions) row.budget h.minislots))
-    (le_true (elements_needed consts row.provisions) row.elements h.elements))
+    (le_true (provision_elements consts row.provisions) row.elements h.elements))
 
 not_over : (a b : ℕ) → b ≤ a → nat_lt a b ≡ false
 not_over a b h = grind arith

@@ -15,11 +15,11 @@ use Rattle.slice_table.specs.declared.plant_key.Field.TheVariants as field
 use Rattle.slice_table.specs.declared.plant_key.Place.{Place}
 use Rattle.slice_table.specs.declared.plant_key.Place.TheVariants as place
 use Rattle.slice_table.specs.declared.plant_key.Key.TheVariants.{Operators, Entry}
-use Rattle.plant.specs.Name.{IsOperatorName}
+use Rattle.plant.specs.Name.{IsOperatorName, is_operator_name}
 use Rattle.plant.specs.Provisioned.{sets_of_encoding}
 use Rattle.plant.specs.Row.{is_listed}
-use Rattle.slice_table.specs.Tree.{items_len, required_value, expected_value, checked_value, at_field, number_in, text_at, bytes_at, array_at, modem_at, table_of}
-use Rattle.slice_table.specs.ReadRows.{is_operator_name, is_called, name_at, slice_at, range_at, policy_at, modem_read, modems_at, own_modem_at, has_sets, provision_at, provision_read, provisions_in, provisions_if, row_at, row_read, rows_of}
+use Rattle.slice_table.specs.Tree.{items_len, required_value, expected_value, checked_value, at_field, number_of_key, text_at, bytes_at, array_at, modem_at, table_of}
+use Rattle.slice_table.specs.ReadRows.{is_called, name_at, slice_at, range_at, policy_at, modem_read, modems_at, own_modem_at, has_sets, provision_at, provision_read, provisions_in, provisions_if, row_at, row_read, rows_of}
 use Rattle.slice_table.specs.Says.{IsAddress, SayInTurn, SaysName, SaysModems, SaysProvision, SaysProvisions, SaysRow, SaysRows}
 use Rattle.slice_table.proofs.Parsed.{ok_same, bind_ok, required_ok, expected_ok, checked_ok}
 use Rattle.slice_table.proofs.RowParts.{row_parts}
@@ -212,11 +212,11 @@ row_again consts rows operator d row s =
     (bind_both (slice_at consts place ms) _ row.slice row ((slice_is consts place ms row.slice).1 s.slice)
     (bind_both (range_at place field.Sfids ms) _ row.sfids row ((range_is place field.Sfids ms row.sfids).1 s.sfids)
     (bind_both (range_at place field.Sids ms) _ row.sids row ((range_is place field.Sids ms row.sids).1 s.sids)
-    (bind_both (number_in place field.Flows ms) _ row.flows row ((number_in_is place field.Flows ms row.flows).1 s.flows)
-    (bind_both (number_in place field.Transactions ms) _ row.transactions row ((number_in_is place field.Transactions ms row.transactions).1 s.transactions)
-    (bind_both (number_in place field.Inbox ms) _ row.inbox row ((number_in_is place field.Inbox ms row.inbox).1 s.inbox)
-    (bind_both (number_in place field.Budget ms) _ row.budget row ((number_in_is place field.Budget ms row.budget).1 s.budget)
-    (bind_both (number_in place field.Elements ms) _ row.elements row ((number_in_is place field.Elements ms row.elements).1 s.elements)
+    (bind_both (number_of_key place field.Flows ms) _ row.flows row ((number_in_is place field.Flows ms row.flows).1 s.flows)
+    (bind_both (number_of_key place field.Transactions ms) _ row.transactions row ((number_in_is place field.Transactions ms row.transactions).1 s.transactions)
+    (bind_both (number_of_key place field.Inbox ms) _ row.inbox row ((number_in_is place field.Inbox ms row.inbox).1 s.inbox)
+    (bind_both (number_of_key place field.Budget ms) _ row.budget row ((number_in_is place field.Budget ms row.budget).1 s.budget)
+    (bind_both (number_of_key place field.Elements ms) _ row.elements row ((number_in_is place field.Elements ms row.elements).1 s.elements)
     (bind_both (policy_at place ms) _ row.policy row ((policy_is place ms row.policy).1 s.policy)
     (bind_both (modems_at place ms) _ row.modems row ((modems_are place ms row.modems).1 s.modems)
     (bind_both (provisions_if consts operator row.modems (at_field field.Flow ms)) _ row.provisions row ((provisions_are consts operator row.modems ms row.provisions).1 s.provisions) refl)))))))))))

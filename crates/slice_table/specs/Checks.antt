@@ -13,7 +13,7 @@ use Rattle.plant.specs.Provisioned.{sets_of_encoding}
 use Rattle.plant.specs.Row.{is_listed, need_of_provision, admits, count_of}
 use Rattle.plant.specs.Plant.{ranges_overlap, all_modems, most_elements}
 use Rattle.slice_scheduler.specs.Minislots.{slices_overlap}
-use Rattle.slice_table.specs.Tree.{Read}
+use Rattle.slice_table.specs.Tree.{PlantResult}
 
 -- ---- two operators have something in common
 
@@ -50,8 +50,8 @@ sids_needed consts ps = count_by (λ p. admits (sets_of_encoding consts p.encodi
 unfoldable pub minislots_needed : ConstsFields → List Provision → ℕ
 minislots_needed consts ps = sum_by (λ p. (need_of_provision consts p).minislots) ps
 
-unfoldable pub elements_needed : ConstsFields → List Provision → ℕ
-elements_needed consts ps = sum_by (λ p. (need_of_provision consts p).elements) ps
+unfoldable pub provision_elements : ConstsFields → List Provision → ℕ
+provision_elements consts ps = sum_by (λ p. (need_of_provision consts p).elements) ps
 
 -- whether the provisioned flows fit the flows and the SFIDs
 unfoldable pub counts_fit : RowFields → Bool
@@ -61,7 +61,7 @@ counts_fit row = nat_le (length row.provisions) row.flows && nat_le (length row.
 unfoldable pub needs_fit : ConstsFields → RowFields → Bool
 needs_fit consts row =
     (nat_le (sids_needed consts row.provisions) (count_of row.sids) && nat_le (minislots_needed consts row.provisions) row.budget)
-    && nat_le (elements_needed consts row.provisions) row.elements
+    && nat_le (provision_elements consts row.provisions) row.elements
 
 unfoldable pub do_fit : ConstsFields → RowFields → Bool
 do_fit consts row = counts_fit row && needs_fit consts row
@@ -97,7 +97,7 @@ unfoldable pub provisioned_fault : ConstsFields → List RowFields → Option Pl
 provisioned_fault consts rows = option_map ProvisionedOver (first_named (is_overfull consts) rows)
 
 -- no fault, or this one
-abbrev pub unless : {A : Type 0} → Option PlantFault → A → Read A
+abbrev pub unless : {A : Type 0} → Option PlantFault → A → PlantResult A
 unless None x = Ok x
 unless (Some fault) x = Err fault
 

@@ -4,19 +4,19 @@ use Rattle.toml.specs.Data.{Members}
 use Rattle.lists.specs.Results.{◌>>=◌}
 use Rattle.plant.specs.declared.plant.PlantFields.{PlantFields}
 use Rattle.slice_table.specs.declared.plant_fault.PlantFault.TheVariants.{NotToml}
-use Rattle.slice_table.specs.Tree.{Read}
+use Rattle.slice_table.specs.Tree.{PlantResult}
 use Rattle.slice_table.specs.ReadConsts.{consts_of}
 use Rattle.slice_table.specs.ReadRows.{rows_of}
 use Rattle.slice_table.specs.Checks.{rows_fault, unless}
 
 -- the keys in their order, and then all of them together
-unfoldable pub plant_of : Members → Read PlantFields
+unfoldable pub plant_of : Members → PlantResult PlantFields
 plant_of ms = do
   consts ← consts_of ms
   rows ← rows_of consts ms
   unless (rows_fault consts rows) (record { consts = consts; rows = rows })
 
 -- of a text that is not TOML there is no tree
-abbrev pub text_plant : Option Members → Read PlantFields
+abbrev pub text_plant : Option Members → PlantResult PlantFields
 text_plant None = Err NotToml
 text_plant (Some ms) = plant_of ms

@@ -1,5 +1,5 @@
 -- What is under a key of a TOML table: a value, or the first fault (implementation-specific).
-use Rattle.std.specs.Prelude.{◌≡◌, ℕ, suc, ◌++◌, [], ◌∷◌, pos, ◌&&◌, nat_le, Bool, List, Option, Some, None, Result, Ok, Err, if◌then◌else◌}
+use Rattle.std.specs.Prelude.{ℕ, suc, ◌++◌, [], ◌∷◌, pos, ◌&&◌, nat_le, Bool, List, Option, Some, None, Result, Ok, Err, if◌then◌else◌}
 use Rattle.toml.specs.Data.{Data, integer, Items, no_items, item, Members, get_member, as_str, as_array, as_table}
 use Rattle.hex.specs.Hex.{decode_of, decode_sized}
 use Rattle.hex.specs.declared.error.FromHexError.{FromHexError}
@@ -17,20 +17,16 @@ use Rattle.slice_table.specs.Ranges.{range_of, default_of}
 
 -- ---- a value, or the first fault
 
-abbrev pub Read : Type 0 → Type 0
-Read A = Result A PlantFault
+abbrev pub PlantResult : Type 0 → Type 0
+PlantResult A = Result A PlantFault
 
--- what a call answered, seen by view, is what is read, unless there was no memory
-abbrev pub Fails : {B : Type 0} → PlantFault → Read B → Type 0
-Fails NoMemory read = Unit {0}
-Fails fault read = read ≡ Err fault
-
-abbrev pub Gives : {A B : Type 0} → (A → B) → Read A → Read B → Type 0
-Gives view (Ok x) read = read ≡ Ok (view x)
-Gives view (Err fault) read = Fails fault read
+-- the fault of a plant file that a fault stands for: none where memory ran out
+abbrev pub plant_cause : PlantFault → Option PlantFault
+plant_cause NoMemory = None
+plant_cause fault = Some fault
 
 -- the items of an array one after the other, each with those read before it
-abbrev pub each : {A : Type 0} → (List A → Data → Read A) → List A → Items → Read (List A)
+abbrev pub each : {A : Type 0} → (List A → Data → PlantResult A) → List A → Items → PlantResult (List A)
 each read done no_items = Ok done
 each read done (item d ds) = read done d >>= λ x. each read (done ++ x ∷ []) ds
 
@@ -41,17 +37,17 @@ items_len (item d ds) = suc (items_len ds)
 -- ---- faults
 
 -- the key is missing where there is none
-abbrev pub required_value : {A : Type 0} → Key → Option A → Read A
+abbrev pub required_value : {A : Type 0} → Key → Option A → PlantResult A
 required_value key None = Err (Missing key)
 required_value key (Some x) = Ok x
 
 -- what is under the key is not what is wanted where there is none
-abbrev pub expected_value : {A : Type 0} → Key → Option A → Read A
+abbrev pub expected_value : {A : Type 0} → Key → Option A → PlantResult A
 expected_value key None = Err (BadValue key)
 expected_value key (Some x) = Ok x
 
 -- the same where a test fails
-abbrev pub checked_value : {A : Type 0} → Key → Bool → A → Read A
+abbrev pub checked_value : {A : Type 0} → Key → Bool → A → PlantResult A
 checked_value key passes x = if passes then Ok x else Err (BadValue key)
 
 -- ---- values
@@ -64,24 +60,24 @@ natural (integer (pos n)) = Some n
 natural d = None
 
 -- a number from low to high
-unfoldable pub number_of : Key → ℕ → ℕ → Data → Read ℕ
+unfoldable pub number_of : Key → ℕ → ℕ → Data → PlantResult ℕ
 number_of key low high d = do
   n ← expected_value key (natural d)
   checked_value key (nat_le low n && nat_le n high) n
 
-unfoldable pub number_at : Place → Field → ℕ → ℕ → Members → Read ℕ
+unfoldable pub number_at : Place → Field → ℕ → ℕ → Members → PlantResult ℕ
 number_at place field low high ms = do
   d ← required_value (Entry place field) (at_field field ms)
   number_of (Entry place field) low high d
 
 -- a number of a range; the default where the key is not there, and is missing where it has none
-abbrev pub number_if : Key → Bounds → Option ℕ → Option Data → Read ℕ
+abbrev pub number_if : Key → Bounds → Option ℕ → Option Data → PlantResult ℕ
 number_if key range default None = required_value key default
 number_if key range default (Some d) = number_of key range.low range.high d
 
 -- a number as the table of ranges says of its key
-unfoldable pub number_in : Place → Field → Members → Read ℕ
-number_in place field ms = number_if (Entry place field) (range_of field) (default_of field) (at_field field ms)
+unfoldable pub number_of_key : Place → Field → Members → PlantResult ℕ
+number_of_key place field ms = number_if (Entry place field) (range_of field) (default_of field) (at_field field ms)
 
 -- two numbers
 abbrev pub both : Option ℕ → Option ℕ → Option (ℕ × ℕ)
@@ -94,18 +90,18 @@ pair_in (item a (item b no_items)) = both (natural a) (natural b)
 pair_in ds = None
 
 -- the items of an array
-unfoldable pub array_at : Place → Field → Members → Read Items
+unfoldable pub array_at : Place → Field → Members → PlantResult Items
 array_at place field ms = do
   d ← required_value (Entry place field) (at_field field ms)
   expected_value (Entry place field) (as_array d)
 
-unfoldable pub pair_at : Place → Field → Members → Read (ℕ × ℕ)
+unfoldable pub pair_at : Place → Field → Members → PlantResult (ℕ × ℕ)
 pair_at place field ms = do
   ds ← array_at place field ms
   expected_value (Entry place field) (pair_in ds)
 
 -- a text
-unfoldable pub text_at : Place → Field → Members → Read (List ℕ)
+unfoldable pub text_at : Place → Field → Members → PlantResult (List ℕ)
 text_at place field ms = do
   d ← required_value (Entry place field) (at_field field ms)
   expected_value (Entry place field) (as_str d)
@@ -115,7 +111,7 @@ abbrev pub bytes_if_decoded : Result (List ℕ) FromHexError → Option (List �
 bytes_if_decoded (Ok bytes) = Some bytes
 bytes_if_decoded (Err e) = None
 
-unfoldable pub bytes_at : Place → Field → Members → Read (List ℕ)
+unfoldable pub bytes_at : Place → Field → Members → PlantResult (List ℕ)
 bytes_at place field ms = do
   text ← text_at place field ms
   expected_value (Entry place field) (bytes_if_decoded (decode_of text))
@@ -125,16 +121,16 @@ abbrev pub modem_in : Result (List ℕ) FromHexError → Option Modem
 modem_in (Ok bytes) = Some (record { 0 = bytes })
 modem_in (Err e) = None
 
-unfoldable pub modem_of : Key → Data → Read Modem
+unfoldable pub modem_of : Key → Data → PlantResult Modem
 modem_of key d = do
   text ← expected_value key (as_str d)
   expected_value key (modem_in (decode_sized text 6))
 
-unfoldable pub modem_at : Place → Field → Members → Read Modem
+unfoldable pub modem_at : Place → Field → Members → PlantResult Modem
 modem_at place field ms = do
   d ← required_value (Entry place field) (at_field field ms)
   modem_of (Entry place field) d
 
 -- a table
-unfoldable pub table_of : Place → Data → Read Members
+unfoldable pub table_of : Place → Data → PlantResult Members
 table_of place d = expected_value (Table place) (as_table d)

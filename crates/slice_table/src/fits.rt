@@ -2,7 +2,7 @@
 
 ghost use Rattle.std.specs.Prelude.{◌≡◌, ◌≤◌, true, length, find, option_copied};
 ghost use Rattle.plant.specs.Row.{need_of_sets, admits, count_of};
-ghost use Rattle.slice_table.specs.Checks.{sids_needed, minislots_needed, elements_needed, counts_fit, needs_fit, do_fit, is_overfull, provisioned_fault};
+ghost use Rattle.slice_table.specs.Checks.{sids_needed, minislots_needed, provision_elements, counts_fit, needs_fit, do_fit, is_overfull, provisioned_fault};
 
 use crate::plant_fault::PlantFault;
 use admission::{Budget, IdRange};
@@ -49,12 +49,12 @@ fn count_of(range: &IdRange) -> u64
 }
 
 /// Returns what provisioned flows need together.
-#[tactic(auto, unfolding(crate::specs::Checks::sids_needed, crate::specs::Checks::minislots_needed, crate::specs::Checks::elements_needed))]
+#[tactic(auto, unfolding(crate::specs::Checks::sids_needed, crate::specs::Checks::minislots_needed, crate::specs::Checks::provision_elements))]
 fn demand_of(consts: &Consts, provisions: &[Provision]) -> Demand
     requires { length provisions.now ≤ 1024 }
     ensures sids { result.sids ≡ sids_needed consts.now provisions.now }
     ensures minislots { result.minislots ≡ minislots_needed consts.now provisions.now }
-    ensures elements { result.elements ≡ elements_needed consts.now provisions.now }
+    ensures elements { result.elements ≡ provision_elements consts.now provisions.now }
 {
     let mut all = Demand {
         sids: 0,

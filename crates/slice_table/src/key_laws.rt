@@ -8,7 +8,7 @@ ghost use Rattle.slice_scheduler.specs.Minislots.{Minislots};
 ghost use Rattle.plant.specs.declared.consts.ConstsFields.{ConstsFields};
 ghost use Rattle.slice_table.specs.declared.plant_key.Field.{Field};
 ghost use Rattle.slice_table.specs.declared.plant_key.Place.{Place};
-ghost use Rattle.slice_table.specs.Tree.{number_at, number_in};
+ghost use Rattle.slice_table.specs.Tree.{number_at, number_of_key};
 ghost use Rattle.slice_table.specs.ReadRows.{slice_at, range_at, policy_at};
 ghost use Rattle.slice_table.specs.Says.{SaysNumber, SaysNumberIn, SaysSlice, SaysRange, SaysPolicy};
 
@@ -22,7 +22,7 @@ pub fn number_is_said()
 /// range that is there.
 pub fn default_is_said()
     ensures { (place : Place) (field : Field) (ms : Members) (n : ℕ)
-        → (number_in place field ms ≡ Ok n) ↔ SaysNumberIn ms field n }
+        → (number_of_key place field ms ≡ Ok n) ↔ SaysNumberIn ms field n }
 {}
 
 /// States that a slice is read exactly where it is under its key, after the head and within the

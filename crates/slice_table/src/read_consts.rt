@@ -8,12 +8,13 @@ ghost use Rattle.tlv24.specs.Flow.{flow_of};
 ghost use Rattle.slice_table.specs.declared.plant_key.Key.TheVariants.{Entry};
 ghost use Rattle.plant.specs.Classes.{is_class_named};
 ghost use Rattle.plant.specs.Consts.{AreBackoffs};
-ghost use Rattle.slice_table.specs.Tree.{Gives, each};
+ghost use Rattle.lists.specs.Results.{Gives};
+ghost use Rattle.slice_table.specs.Tree.{plant_cause, each};
 ghost use Rattle.slice_table.specs.ReadConsts.{units_at, backoffs_at, timers_at, plant_keys_at, plant_keys_of, is_class_name, class_name_at, states_parameters, parameters_in, class_encoding_at, class_read, classes_in, classes_if, with_classes, consts_of, AreKeys};
 
 use crate::plant_fault::PlantFault;
 use crate::plant_key::{Field, Key, Place};
-use crate::tree::{array_of, bytes_at, entry, number_at, number_in, table_of, text_at};
+use crate::tree::{array_of, bytes_at, entry, number_at, number_of_key, table_of, text_at};
 use param_sets::Units;
 use plant::{Backoffs, Channel, Class, Classes, Consts, ConstsFields, is_alphanumeric};
 use std::alloc::Global;
@@ -35,8 +36,8 @@ pub struct PlantKeys {
 fn units_at(table: &Table) -> Result<Units, PlantFault>
     ensures { result ≡ units_at (table_view table.now) }
 {
-    let frame_us = number_in(table, Place::Plant, Field::FrameUs)?;
-    let bytes_per_minislot = number_in(table, Place::Plant, Field::BytesPerMinislot)?;
+    let frame_us = number_of_key(table, Place::Plant, Field::FrameUs)?;
+    let bytes_per_minislot = number_of_key(table, Place::Plant, Field::BytesPerMinislot)?;
     Ok(Units::new(frame_us, bytes_per_minislot))
 }
 
@@ -46,10 +47,10 @@ fn backoffs_at(table: &Table) -> Result<Backoffs, PlantFault>
     ensures value { result ≡ backoffs_at (table_view table.now) }
     ensures in_range { IfOk result AreBackoffs }
 {
-    let ranging_start = number_in(table, Place::Plant, Field::RangingStart)?;
-    let ranging_end = number_in(table, Place::Plant, Field::RangingEnd)?;
-    let data_start = number_in(table, Place::Plant, Field::DataStart)?;
-    let data_end = number_in(table, Place::Plant, Field::DataEnd)?;
+    let ranging_start = number_of_key(table, Place::Plant, Field::RangingStart)?;
+    let ranging_end = number_of_key(table, Place::Plant, Field::RangingEnd)?;
+    let data_start = number_of_key(table, Place::Plant, Field::DataStart)?;
+    let data_end = number_of_key(table, Place::Plant, Field::DataEnd)?;
     Ok(Backoffs {
         ranging_start: ranging_start as u8,
         ranging_end: ranging_end as u8,
@@ -63,9 +64,9 @@ fn backoffs_at(table: &Table) -> Result<Backoffs, PlantFault>
 fn timers_at(table: &Table) -> Result<Timers, PlantFault>
     ensures { result ≡ timers_at (table_view table.now) }
 {
-    let ack_wait = number_in(table, Place::Plant, Field::AckWait)?;
-    let resends = number_in(table, Place::Plant, Field::Resends)?;
-    let hold = number_in(table, Place::Plant, Field::Hold)?;
+    let ack_wait = number_of_key(table, Place::Plant, Field::AckWait)?;
+    let resends = number_of_key(table, Place::Plant, Field::Resends)?;
+    let hold = number_of_key(table, Place::Plant, Field::Hold)?;
     Ok(Timers::new(ack_wait as u16, resends as u8, hold as u16))
 }
 
@@ -75,15 +76,15 @@ fn plant_keys_at(table: &Table) -> Result<PlantKeys, PlantFault>
     ensures value { result ≡ plant_keys_at (table_view table.now) }
     ensures in_range { IfOk result AreKeys }
 {
-    let frame_minislots = number_in(table, Place::Plant, Field::FrameMinislots)?;
+    let frame_minislots = number_of_key(table, Place::Plant, Field::FrameMinislots)?;
     let head = number_at(table, Place::Plant, Field::Head, 0, frame_minislots)?;
     let units = units_at(table)?;
-    let short_max = number_in(table, Place::Plant, Field::ShortMax)?;
-    let id = number_in(table, Place::Plant, Field::Channel)?;
-    let ucd_count = number_in(table, Place::Plant, Field::UcdCount)?;
+    let short_max = number_of_key(table, Place::Plant, Field::ShortMax)?;
+    let id = number_of_key(table, Place::Plant, Field::Channel)?;
+    let ucd_count = number_of_key(table, Place::Plant, Field::UcdCount)?;
     let backoffs = backoffs_at(table)?;
     let timers = timers_at(table)?;
-    let first_frame = number_in(table, Place::Plant, Field::FirstFrame)?;
+    let first_frame = number_of_key(table, Place::Plant, Field::FirstFrame)?;
     Ok(PlantKeys {
         channel: Channel {
             frame_minislots: frame_minislots as u16,
@@ -159,7 +160,7 @@ fn states_parameters(flow: &FlowTlv) -> bool
 /// Returns the encoding of a class.
 #[tactic(auto, unfolding(crate::specs::ReadConsts::class_encoding_at))]
 fn class_encoding_at(alloc: Global, table: &Table, place: Place) -> Result<FlowTlv, PlantFault>
-    ensures { Gives (λ flow. flow) result (class_encoding_at place (table_view table.now)) }
+    ensures { Gives plant_cause (λ flow. flow) result (class_encoding_at place (table_view table.now)) }
 {
     let bytes = bytes_at(alloc, table, place, Field::Encoding)?;
     match read_flow(bytes.as_slice()) {
@@ -171,7 +172,7 @@ fn class_encoding_at(alloc: Global, table: &Table, place: Place) -> Result<FlowT
 /// Returns a class that comes after others.
 #[tactic(auto, unfolding(crate::specs::ReadConsts::class_read))]
 fn class_read(alloc: Global, classes: &[Class], value: &Value) -> Result<Class, PlantFault>
-    ensures { Gives (λ class. class) result (class_read classes.now (view value.now)) }
+    ensures { Gives plant_cause (λ class. class) result (class_read classes.now (view value.now)) }
 {
     let place = Place::Class(classes.len());
     let table = table_of(value, place)?;
@@ -182,7 +183,7 @@ fn class_read(alloc: Global, classes: &[Class], value: &Value) -> Result<Class, 
 
 /// Returns the classes one after the other.
 fn classes_each(alloc: Global, values: &[Value]) -> Result<Vec<Class>, PlantFault>
-    ensures { Gives (λ classes. classes.items) result (each class_read [] (items_view values.now)) }
+    ensures { Gives plant_cause (λ classes. classes.items) result (each class_read [] (items_view values.now)) }
 {
     let mut classes = Vec::with_capacity(alloc, values.len())?;
     for value in values {
@@ -195,7 +196,7 @@ fn classes_each(alloc: Global, values: &[Value]) -> Result<Vec<Class>, PlantFaul
 /// Returns the classes of an array.
 #[tactic(auto, unfolding(crate::specs::ReadConsts::classes_in), using(crate::proofs::Trees::items_len_view))]
 fn classes_in(alloc: Global, value: &Value) -> Result<Vec<Class>, PlantFault>
-    ensures { Gives (λ classes. classes.items) result (classes_in (view value.now)) }
+    ensures { Gives plant_cause (λ classes. classes.items) result (classes_in (view value.now)) }
 {
     let values = array_of(value, Key::Classes)?;
     if values.len() > 64 {
@@ -206,7 +207,7 @@ fn classes_in(alloc: Global, value: &Value) -> Result<Vec<Class>, PlantFault>
 
 /// Returns the classes of a document.
 fn classes_of(alloc: Global, document: &Table) -> Result<Classes, PlantFault>
-    ensures { Gives (λ classes. classes) result (classes_if (get_member (codes "class") (table_view document.now))) }
+    ensures { Gives plant_cause (λ classes. classes) result (classes_if (get_member (codes "class") (table_view document.now))) }
 {
     match entry(document, "class") {
         Some(value) => Ok(Classes::from_vec(classes_in(alloc, value)?)),
@@ -217,7 +218,7 @@ fn classes_of(alloc: Global, document: &Table) -> Result<Classes, PlantFault>
 /// Returns what all operators share.
 #[tactic(auto, unfolding(crate::specs::ReadConsts::consts_of))]
 pub(crate) fn consts_of(alloc: Global, document: &Table) -> Result<Consts, PlantFault>
-    ensures { Gives (λ consts. consts) result (consts_of (table_view document.now)) }
+    ensures { Gives plant_cause (λ consts. consts) result (consts_of (table_view document.now)) }
 {
     let keys = plant_keys_of(document)?;
     let classes = classes_of(alloc, document)?;

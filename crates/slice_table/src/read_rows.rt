@@ -6,15 +6,18 @@ ghost use Rattle.toml.specs.Data.{get_member};
 ghost use Rattle.toml.specs.View.{view, table_view, items_view};
 ghost use Rattle.slice_table.specs.declared.plant_key.Key.TheVariants.{Entry};
 ghost use Rattle.slice_table.specs.declared.plant_key.Field.TheVariants.{Flow as FlowField};
-ghost use Rattle.slice_table.specs.Tree.{Gives, each, at_field};
+ghost use Rattle.lists.specs.Results.{Gives};
+ghost use Rattle.slice_table.specs.Tree.{plant_cause, each, at_field};
 ghost use Rattle.slice_table.specs.Ranges.{range_of};
-ghost use Rattle.slice_table.specs.ReadRows.{is_operator_name, is_called, name_at, is_within, slice_at, is_range, range_at, aged_at, policy_named, policy_at, modem_read, modems_at, own_modem_at, has_sets, provision_at, provision_read, provisions_in, provisions_if, row_at, row_read, rows_of};
+ghost use Rattle.plant.specs.Name.{is_operator_name};
+ghost use Rattle.slice_table.specs.ReadRows.{is_called, name_at, fits_frame, slice_at, is_range, range_at, aged_at, policy_named, policy_at, modem_read, modems_at, own_modem_at, has_sets, provision_at, provision_read, provisions_in, provisions_if, row_at, row_read, rows_of};
 
 use crate::plant_fault::PlantFault;
 use crate::plant_key::{Field, Key, Place};
 use crate::ranges::range_of;
 use crate::tree::{
-    array_at, array_of, bytes_at, entry, modem_at, modem_of, number_in, pair_at, table_of, text_at,
+    array_at, array_of, bytes_at, entry, modem_at, modem_of, number_of_key, pair_at, table_of,
+    text_at,
 };
 use admission::IdRange;
 use dsx_messages::Modem;
@@ -61,9 +64,9 @@ fn name_at(rows: &[OperatorRow], table: &Table, place: Place) -> Result<Operator
 }
 
 /// Returns the slice of these minislots, after the head and within the frame.
-#[tactic(auto, unfolding(crate::specs::ReadRows::is_within))]
+#[tactic(auto, unfolding(crate::specs::ReadRows::fits_frame))]
 fn slice_of(consts: &Consts, start: u64, length: u64) -> Option<Slice>
-    ensures { result ≡ (if is_within consts.now start length then Some (record { start = start; length = length })
+    ensures { result ≡ (if fits_frame consts.now start length then Some (record { start = start; length = length })
         else None) }
 {
     let channel = consts.get_fields().channel;
@@ -105,7 +108,7 @@ fn range_at(table: &Table, place: Place, field: Field) -> Result<IdRange, PlantF
 fn aged_at(table: &Table, place: Place) -> Result<Policy, PlantFault>
     ensures { result ≡ aged_at place (table_view table.now) }
 {
-    let step = number_in(table, place, Field::Step)?;
+    let step = number_of_key(table, place, Field::Step)?;
     match Policy::aged(step as u8) {
         Some(policy) => Ok(policy),
         None => unreachable!(),
@@ -135,7 +138,7 @@ fn policy_at(table: &Table, place: Place) -> Result<Policy, PlantFault>
 
 /// Returns the modems one after the other.
 fn modems_each(alloc: Global, values: &[Value], place: Place) -> Result<Vec<Modem>, PlantFault>
-    ensures { Gives (λ modems. modems.items) result (each (modem_read place) [] (items_view values.now)) }
+    ensures { Gives plant_cause (λ modems. modems.items) result (each (modem_read place) [] (items_view values.now)) }
 {
     let mut modems = Vec::with_capacity(alloc, values.len())?;
     for value in values {
@@ -148,7 +151,7 @@ fn modems_each(alloc: Global, values: &[Value], place: Place) -> Result<Vec<Mode
 /// Returns the modems of an operator.
 #[tactic(auto, unfolding(crate::specs::ReadRows::modems_at), using(crate::proofs::Trees::items_len_view))]
 fn modems_at(alloc: Global, table: &Table, place: Place) -> Result<Modems, PlantFault>
-    ensures { Gives (λ modems. modems) result (modems_at place (table_view table.now)) }
+    ensures { Gives plant_cause (λ modems. modems) result (modems_at place (table_view table.now)) }
 {
     let values = array_at(table, place, Field::Modems)?;
     if values.is_empty() || values.len() > 1024 {
@@ -187,7 +190,7 @@ fn provision_at(
     table: &Table,
     place: Place,
 ) -> Result<Provision, PlantFault>
-    ensures { Gives (λ provision. provision) result (provision_at consts.now modems.now place (table_view table.now)) }
+    ensures { Gives plant_cause (λ provision. provision) result (provision_at consts.now modems.now place (table_view table.now)) }
 {
     let modem = own_modem_at(modems, table, place)?;
     let encoding = Bytes::from_vec(bytes_at(alloc, table, place, Field::Encoding)?);
@@ -209,7 +212,7 @@ fn provision_read(
     flows: &[Provision],
     value: &Value,
 ) -> Result<Provision, PlantFault>
-    ensures { Gives (λ provision. provision) result
+    ensures { Gives plant_cause (λ provision. provision) result
         (provision_read consts.now operator modems.now flows.now (view value.now)) }
 {
     let place = Place::Flow(operator, flows.len());
@@ -225,7 +228,7 @@ fn provisions_each(
     modems: &Modems,
     values: &[Value],
 ) -> Result<Vec<Provision>, PlantFault>
-    ensures { Gives (λ provisions. provisions.items) result
+    ensures { Gives plant_cause (λ provisions. provisions.items) result
         (each (provision_read consts.now operator modems.now) [] (items_view values.now)) }
 {
     let mut flows = Vec::with_capacity(alloc, values.len())?;
@@ -245,7 +248,7 @@ fn provisions_in(
     modems: &Modems,
     value: &Value,
 ) -> Result<Provisions, PlantFault>
-    ensures { Gives (λ provisions. provisions) result (provisions_in consts.now operator modems.now (view value.now)) }
+    ensures { Gives plant_cause (λ provisions. provisions) result (provisions_in consts.now operator modems.now (view value.now)) }
 {
     let values = array_of(value, Key::Entry(Place::Operator(operator), Field::Flow))?;
     Ok(Provisions::from_vec(provisions_each(alloc, consts, operator, modems, values)?))
@@ -259,7 +262,7 @@ fn provisions_of(
     modems: &Modems,
     table: &Table,
 ) -> Result<Provisions, PlantFault>
-    ensures { Gives (λ provisions. provisions) result
+    ensures { Gives plant_cause (λ provisions. provisions) result
         (provisions_if consts.now operator modems.now (at_field FlowField (table_view table.now))) }
 {
     match entry(table, Field::Flow.text()) {
@@ -276,7 +279,7 @@ fn row_at(
     rows: &[OperatorRow],
     table: &Table,
 ) -> Result<OperatorRow, PlantFault>
-    ensures { Gives (λ row. row) result (row_at consts.now rows.now (length rows.now) (table_view table.now)) }
+    ensures { Gives plant_cause (λ row. row) result (row_at consts.now rows.now (length rows.now) (table_view table.now)) }
 {
     let operator = rows.len();
     let place = Place::Operator(operator);
@@ -284,11 +287,11 @@ fn row_at(
     let slice = slice_at(consts, table, place)?;
     let sfids = range_at(table, place, Field::Sfids)?;
     let sids = range_at(table, place, Field::Sids)?;
-    let flows = number_in(table, place, Field::Flows)?;
-    let transactions = number_in(table, place, Field::Transactions)?;
-    let inbox = number_in(table, place, Field::Inbox)?;
-    let budget = number_in(table, place, Field::Budget)?;
-    let elements = number_in(table, place, Field::Elements)?;
+    let flows = number_of_key(table, place, Field::Flows)?;
+    let transactions = number_of_key(table, place, Field::Transactions)?;
+    let inbox = number_of_key(table, place, Field::Inbox)?;
+    let budget = number_of_key(table, place, Field::Budget)?;
+    let elements = number_of_key(table, place, Field::Elements)?;
     let policy = policy_at(table, place)?;
     let modems = modems_at(alloc, table, place)?;
     let provisions = provisions_of(alloc, consts, operator, &modems, table)?;
@@ -316,7 +319,7 @@ fn row_read(
     rows: &[OperatorRow],
     value: &Value,
 ) -> Result<OperatorRow, PlantFault>
-    ensures { Gives (λ row. row) result (row_read consts.now rows.now (view value.now)) }
+    ensures { Gives plant_cause (λ row. row) result (row_read consts.now rows.now (view value.now)) }
 {
     let table = table_of(value, Place::Operator(rows.len()))?;
     row_at(alloc, consts, rows, table)
@@ -328,7 +331,7 @@ fn rows_each(
     consts: &Consts,
     values: &[Value],
 ) -> Result<Vec<OperatorRow>, PlantFault>
-    ensures { Gives (λ rows. rows.items) result (each (row_read consts.now) [] (items_view values.now)) }
+    ensures { Gives plant_cause (λ rows. rows.items) result (each (row_read consts.now) [] (items_view values.now)) }
 {
     let mut rows = Vec::with_capacity(alloc, values.len())?;
     for value in values {
@@ -345,7 +348,7 @@ pub(crate) fn rows_of(
     consts: &Consts,
     document: &Table,
 ) -> Result<Vec<OperatorRow>, PlantFault>
-    ensures { Gives (λ rows. rows.items) result (rows_of consts.now (table_view document.now)) }
+    ensures { Gives plant_cause (λ rows. rows.items) result (rows_of consts.now (table_view document.now)) }
 {
     let Some(value) = entry(document, "operator") else {
         return Err(PlantFault::Missing {

@@ -8,7 +8,8 @@ ghost use Rattle.plant.specs.declared.plant.PlantFields.{PlantFields};
 ghost use Rattle.plant.specs.Plant.{IsPlant};
 ghost use Rattle.slice_table.specs.Says.{SaysPlant};
 ghost use Rattle.plant.specs.Roster.{Finds};
-ghost use Rattle.slice_table.specs.Tree.{Gives};
+ghost use Rattle.lists.specs.Results.{Gives};
+ghost use Rattle.slice_table.specs.Tree.{plant_cause};
 ghost use Rattle.slice_table.specs.Checks.{late_fault, rows_fault, unless};
 ghost use Rattle.slice_table.specs.ReadPlant.{plant_of, text_plant};
 
@@ -47,7 +48,7 @@ fn checked_roster(
     rows: &[OperatorRow],
 ) -> Result<IndexMap<Modem, usize>, PlantFault>
     requires { length rows.now ≤ 32 }
-    ensures fault { Gives (λ _. tt {0}) result (unless (rows_fault consts.now rows.now) (tt {0})) }
+    ensures fault { Gives plant_cause (λ _. tt {0}) result (unless (rows_fault consts.now rows.now) (tt {0})) }
     ensures found { IfOk result (Finds rows.now) }
 {
     if let Some(fault) = meeting_fault(rows) {
@@ -63,7 +64,7 @@ fn checked_roster(
 /// Returns the plant of a document.
 #[tactic(auto, unfolding(crate::specs::ReadPlant::plant_of))]
 fn plant_of(alloc: Global, document: &Table) -> Result<Plant, PlantFault>
-    ensures { Gives (λ plant. plant) result (plant_of (table_view document.now)) }
+    ensures { Gives plant_cause (λ plant. plant) result (plant_of (table_view document.now)) }
 {
     let consts = consts_of(alloc, document)?;
     let rows = rows_of(alloc, &consts, document)?;
@@ -74,7 +75,7 @@ fn plant_of(alloc: Global, document: &Table) -> Result<Plant, PlantFault>
 
 /// Returns the plant of a text.
 fn plant_of_text(alloc: Global, text: &str) -> Result<Plant, PlantFault>
-    ensures { Gives (λ plant. plant) result (text_plant (parse_document text.now)) }
+    ensures { Gives plant_cause (λ plant. plant) result (text_plant (parse_document text.now)) }
 {
     match toml::table_from_str(alloc, text) {
         Ok(document) => plant_of(alloc, &document),
@@ -97,9 +98,9 @@ pub fn read_plant(alloc: Global, text: &str) -> Result<Plant, PlantFault>
         × SaysPlant document plant) }
     // A plant that the text says is read, unless memory runs out.
     ensures only { (document : Members) (plant : PlantFields) → parse_document text.now ≡ Some document
-        → SaysPlant document plant → Gives (λ p. p) result (Ok plant) }
+        → SaysPlant document plant → Gives plant_cause (λ p. p) result (Ok plant) }
     // Which fault it is.
-    ensures exact { Gives (λ plant. plant) result (text_plant (parse_document text.now)) }
+    ensures exact { Gives plant_cause (λ plant. plant) result (text_plant (parse_document text.now)) }
     ensures valid { IfOk result IsPlant }
 {
     plant_of_text(alloc, text)

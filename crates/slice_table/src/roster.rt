@@ -4,7 +4,8 @@ ghost use Rattle.std.specs.Prelude.{◌≡◌, List, IfOk, OnOk};
 ghost use Rattle.dsx_messages.specs.declared.modem.Modem.{Modem};
 ghost use Rattle.plant.specs.Plant.{all_modems};
 ghost use Rattle.plant.specs.Roster.{Finds, Lists, Adds, place_of, holder};
-ghost use Rattle.slice_table.specs.Tree.{Gives};
+ghost use Rattle.lists.specs.Results.{Gives};
+ghost use Rattle.slice_table.specs.Tree.{plant_cause};
 ghost use Rattle.slice_table.specs.Checks.{first_again, modem_twice_fault, twice_fault, unless};
 
 use crate::plant_fault::PlantFault;
@@ -20,7 +21,7 @@ fn add_modems(
     place: usize,
 ) -> Result<(), PlantFault>
     ensures fault { (before : List Modem) → Lists places.old before
-        → Gives (λ x. x) result (unless (modem_twice_fault (first_again before modems.now)) (tt {0})) }
+        → Gives plant_cause (λ x. x) result (unless (modem_twice_fault (first_again before modems.now)) (tt {0})) }
     ensures added { OnOk result (Adds places.old place modems.now places.new) }
 {
     for modem in modems {
@@ -38,7 +39,7 @@ pub(crate) fn places_of(
     alloc: Global,
     rows: &[OperatorRow],
 ) -> Result<IndexMap<Modem, usize>, PlantFault>
-    ensures fault { Gives (λ _. tt {0}) result (unless (twice_fault rows.now) (tt {0})) }
+    ensures fault { Gives plant_cause (λ _. tt {0}) result (unless (twice_fault rows.now) (tt {0})) }
     ensures found { IfOk result (Finds rows.now) }
 {
     let mut places = IndexMap::new(alloc);

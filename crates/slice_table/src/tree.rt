@@ -3,8 +3,8 @@
 ghost use Rattle.std.specs.Prelude.{◌≡◌, ◌≤◌, option_map, Some, IfOk};
 ghost use Rattle.toml.specs.Data.{get_member, as_array, as_table};
 ghost use Rattle.toml.specs.View.{view, table_view, items_view};
-ghost use Rattle.lists.specs.Results.{result_map};
-ghost use Rattle.slice_table.specs.Tree.{Gives, required_value, expected_value, array_at, modem_at, at_field, natural, number_of, number_at, number_in, pair_in, pair_at, text_at, bytes_at, modem_of, table_of};
+ghost use Rattle.lists.specs.Results.{result_map, Gives};
+ghost use Rattle.slice_table.specs.Tree.{plant_cause, required_value, expected_value, array_at, modem_at, at_field, natural, number_of, number_at, number_of_key, pair_in, pair_at, text_at, bytes_at, modem_of, table_of};
 ghost use Rattle.slice_table.specs.Ranges.{range_of, default_of};
 ghost use Rattle.slice_table.specs.declared.plant_key.Key.TheVariants.{Entry};
 
@@ -74,9 +74,9 @@ pub(crate) fn number_at(
 }
 
 /// Returns the number under a key, of the key's range, and the key's default where it is not there.
-#[tactic(auto, unfolding(crate::specs::Tree::number_in))]
-pub(crate) fn number_in(table: &Table, place: Place, field: Field) -> Result<u32, PlantFault>
-    ensures value { result ≡ number_in place field (table_view table.now) }
+#[tactic(auto, unfolding(crate::specs::Tree::number_of_key))]
+pub(crate) fn number_of_key(table: &Table, place: Place, field: Field) -> Result<u32, PlantFault>
+    ensures value { result ≡ number_of_key place field (table_view table.now) }
     ensures in_range { IfOk result (λ n. ((range_of field).low ≤ n) × (n ≤ (range_of field).high)) }
 {
     let key = Key::Entry(place, field);
@@ -149,7 +149,7 @@ pub(crate) fn bytes_at(
     place: Place,
     field: Field,
 ) -> Result<Vec<u8>, PlantFault>
-    ensures { Gives (λ v. v.items) result (bytes_at place field (table_view table.now)) }
+    ensures { Gives plant_cause (λ v. v.items) result (bytes_at place field (table_view table.now)) }
 {
     let text = text_at(table, place, field)?;
     match hex::decode(alloc, text) {

@@ -13,9 +13,9 @@ use Rattle.std.proofs.lemmas.List.{take_at}
 use Rattle.hex.specs.Hex.{IsBytes, encode_upper, encode_with, upper_digits, decode_sized}
 use Rattle.hex.proofs.HexLemmas.{length-encode_with, decode_of-encode_upper, decode_sized-twice}
 use Rattle.dsx_messages.specs.declared.modem.Modem.{Modem}
-use Rattle.plant.specs.Name.{IsOperatorName}
-use Rattle.snapshot_format.specs.Fields.{field_at, number_after, number_at, is_operator_name, name_at, modem_at, bytes_at}
-use Rattle.snapshot_format.specs.Text.{address, bytes_text}
+use Rattle.plant.specs.Name.{IsOperatorName, is_operator_name}
+use Rattle.snapshot_format.specs.Fields.{take_field, digits_after, take_number, take_name, take_modem, take_bytes}
+use Rattle.snapshot_format.specs.Text.{address_field, bytes_text}
 use Rattle.snapshot_format.specs.Saved.{IsModem}
 
 -- ---- a field up to the byte that ends it
@@ -31,8 +31,8 @@ past_end : (field : List ℕ) (mark : ℕ) (rest : List ℕ) → drop (suc (leng
 past_end [] mark rest = refl
 past_end (b ∷ field) mark rest = past_end field mark rest
 
-pub field_back : (mark : ℕ) (field rest : List ℕ) → HasNone mark field → field_at mark (field ++ mark ∷ rest) ≡ Ok (field, rest)
-unfolding field_at
+pub field_back : (mark : ℕ) (field rest : List ℕ) → HasNone mark field → take_field mark (field ++ mark ∷ rest) ≡ Ok (field, rest)
+unfolding take_field
 field_back mark field rest none =
     let inside : nat_lt (length field) (length (field ++ mark ∷ rest)) ≡ true = lt-ltb _ _ (omega (arith, length-append field (mark ∷ rest))) in
     rw (none_len mark field rest none, inside, take_at field (mark ∷ rest) (length field) refl, add-one (length field), past_end field mark rest) refl
@@ -43,10 +43,10 @@ grows : (n : ℕ) (digits : List ℕ) → n ≤ digits_value_after 10 n digits
 grows n [] = omega arith
 grows n (d ∷ digits) = let more = grows (n * 10 + digit_value d) digits in omega (arith, more)
 
-next_digit : (most n d : ℕ) (digits : List ℕ) → is_ascii_digit d ≡ true → nat_le (n * 10 + (d - 48)) most ≡ true → number_after most n (d ∷ digits) ≡ number_after most (n * 10 + (d - 48)) digits
+next_digit : (most n d : ℕ) (digits : List ℕ) → is_ascii_digit d ≡ true → nat_le (n * 10 + (d - 48)) most ≡ true → digits_after most n (d ∷ digits) ≡ digits_after most (n * 10 + (d - 48)) digits
 next_digit most n d digits digit small = rw (digit, small) refl
 
-digits_back : (most n : ℕ) (digits : List ℕ) → AllDigits 10 digits → digits_value_after 10 n digits ≤ most → number_after most n digits ≡ Ok (digits_value_after 10 n digits)
+digits_back : (most n : ℕ) (digits : List ℕ) → AllDigits 10 digits → digits_value_after 10 n digits ≤ most → digits_after most n digits ≡ Ok (digits_value_after 10 n digits)
 digits_back most n [] all few = refl
 digits_back most n (d ∷ digits) all few =
     let range = digit_from_value d all.0 in
@@ -57,19 +57,19 @@ digits_back most n (d ∷ digits) all few =
     let within : n * 10 + digit_value d ≤ most = omega (arith, more, few) in
     let small : nat_le (n * 10 + (d - 48)) most ≡ true = ap (λ (k : ℕ). nat_le (n * 10 + k) most) value ∙ le-leb _ _ within in
     next_digit most n d digits digit small
-    ∙ ap (λ (k : ℕ). number_after most (n * 10 + k) digits) value
+    ∙ ap (λ (k : ℕ). digits_after most (n * 10 + k) digits) value
     ∙ digits_back most (n * 10 + digit_value d) digits all.1 few
 
 digits_have_none : (mark : ℕ) (digits : List ℕ) → 10 < digit_value mark → AllDigits 10 digits → HasNone mark digits
 digits_have_none mark [] gt all = tt
 digits_have_none mark (d ∷ digits) gt all = ((λ e. let same : digit_value d ≡ digit_value mark = ap digit_value e in let lt = all.0 in omega (arith, same, lt)), digits_have_none mark digits gt all.1)
 
-pub number_back : (most mark n : ℕ) (rest : List ℕ) → 10 < digit_value mark → n ≤ most → n < 2 ^ 64 → number_at most mark (decimal n ++ mark ∷ rest) ≡ Ok (n, rest)
-unfolding number_at
+pub number_back : (most mark n : ℕ) (rest : List ℕ) → 10 < digit_value mark → n ≤ most → n < 2 ^ 64 → take_number most mark (decimal n ++ mark ∷ rest) ≡ Ok (n, rest)
+unfolding take_number
 number_back most mark n rest gt few small =
     let is = decimal_is_IsNumeral n small in
     let some : (length (decimal n) == 0) ≡ false = ne_eqb _ _ (λ e. let long = is.0.0 in omega (arith, e, long)) in
-    let value : number_after most 0 (decimal n) ≡ Ok n =
+    let value : digits_after most 0 (decimal n) ≡ Ok n =
     digits_back most 0 (decimal n) is.0.1 (let v = is.1 in omega (arith, v, few)) ∙ ap (λ (k : ℕ). Ok k) is.1 in
     rw (field_back mark (decimal n) rest (digits_have_none mark (decimal n) gt is.0.1), some, value) refl
 
@@ -84,10 +84,11 @@ letters_have_none mark (c ∷ name) no_letter all = by (is_ascii_alphanumeric c)
     by false e h more = absurd cc
 
 pub name_is : (name : List ℕ) → IsOperatorName name → is_operator_name name ≡ true
+unfolding is_operator_name
 name_is name is = rw (le-leb _ _ is.some, le-leb _ _ is.few) is.letters
 
-pub name_back : (mark : ℕ) (name rest : List ℕ) → is_ascii_alphanumeric mark ≡ false → IsOperatorName name → name_at mark (name ++ mark ∷ rest) ≡ Ok (name, rest)
-unfolding name_at
+pub name_back : (mark : ℕ) (name rest : List ℕ) → is_ascii_alphanumeric mark ≡ false → IsOperatorName name → take_name mark (name ++ mark ∷ rest) ≡ Ok (name, rest)
+unfolding take_name
 name_back mark name rest no_letter is =
     rw (field_back mark name rest (letters_have_none mark name no_letter is.letters), name_is name is) refl
 
@@ -104,8 +105,8 @@ hex_has_none mark (b ∷ bytes) none = (none _, (none _, hex_has_none mark bytes
 abbrev pub IsOutside : ℕ → Type 0
 IsOutside mark = (0 ≢ mark) × HasNone mark upper_digits
 
-pub modem_back : (mark : ℕ) (modem : Modem) (rest : List ℕ) → IsOutside mark → IsModem modem → modem_at mark (address modem ++ mark ∷ rest) ≡ Ok (modem, rest)
-unfolding modem_at
+pub modem_back : (mark : ℕ) (modem : Modem) (rest : List ℕ) → IsOutside mark → IsModem modem → take_modem mark (address_field modem ++ mark ∷ rest) ≡ Ok (modem, rest)
+unfolding take_modem
 modem_back mark modem rest outside is =
     let twelve = length-encode_with upper_digits modem.0 in
     let six = is.six in
@@ -121,8 +122,8 @@ no_dash b bytes = by (slice_index upper_digits (b / 16) == 45)
     by true = refl
     by false = refl
 
-pub bytes_back : (mark : ℕ) (bytes rest : List ℕ) → IsOutside mark → 45 ≢ mark → IsBytes bytes → bytes_at mark (bytes_text bytes ++ mark ∷ rest) ≡ Ok (bytes, rest)
-unfolding bytes_at
+pub bytes_back : (mark : ℕ) (bytes rest : List ℕ) → IsOutside mark → 45 ≢ mark → IsBytes bytes → take_bytes mark (bytes_text bytes ++ mark ∷ rest) ≡ Ok (bytes, rest)
+unfolding take_bytes
 bytes_back mark [] rest outside dash is = rw (field_back mark (45 ∷ []) rest (dash, tt)) refl
 bytes_back mark (b ∷ bytes) rest outside dash is =
     rw (field_back mark (encode_upper (b ∷ bytes)) rest (hex_has_none mark (b ∷ bytes) (has_none_at mark upper_digits outside.0 outside.1)), no_dash b bytes, decode_of-encode_upper (b ∷ bytes) is) refl

@@ -3,32 +3,33 @@ use Rattle.std.proofs.Common.{◌≡◌, ℕ, suc, ◌-◌, ◌+◌, ◌≤◌, 
 use Rattle.snapshot_format.specs.declared.fault.Wrong.TheVariants.{Repeated}
 use Rattle.snapshot_format.specs.declared.fault.ReadFault.{ReadFault}
 use Rattle.snapshot_format.specs.declared.fault.ReadFault.TheVariants.{NoMemory, Stopped}
-use Rattle.snapshot_format.specs.Reading.{Taken, Fails, stop_at, items_at}
+use Rattle.lists.specs.Results.{Fails}
+use Rattle.snapshot_format.specs.Reading.{Taken, read_cause, stop_at, take_items}
 
 module _ {A : Type 0} (item_at : List ℕ → Taken A) (may_follow : List A → A → Bool) (count i : ℕ) (before : List A) (bytes : List ℕ) (total : Taken (List A)) where
   pub goes_on : (item : A) (after : List ℕ) → i < count → item_at bytes ≡ Ok (item, after) → may_follow before item ≡ true
-      → items_at item_at may_follow (count - i) before bytes ≡ total → items_at item_at may_follow (count - (i + 1)) (before ++ item ∷ []) after ≡ total
+      → take_items item_at may_follow (count - i) before bytes ≡ total → take_items item_at may_follow (count - (i + 1)) (before ++ item ∷ []) after ≡ total
   goes_on item after lt read follows so_far =
       let k : count - i ≡ suc (count - (i + 1)) = omega arith in
-      let one : items_at item_at may_follow (count - i) before bytes ≡ items_at item_at may_follow (count - (i + 1)) (before ++ item ∷ []) after = rw (k, read, follows) refl in
+      let one : take_items item_at may_follow (count - i) before bytes ≡ take_items item_at may_follow (count - (i + 1)) (before ++ item ∷ []) after = rw (k, read, follows) refl in
       sym one ∙ so_far
 
   pub repeats : (item : A) (after : List ℕ) → i < count → item_at bytes ≡ Ok (item, after) → may_follow before item ≡ false
-      → items_at item_at may_follow (count - i) before bytes ≡ total → total ≡ stop_at Repeated bytes
+      → take_items item_at may_follow (count - i) before bytes ≡ total → total ≡ stop_at Repeated bytes
   repeats item after lt read follows so_far =
       let k : count - i ≡ suc (count - (i + 1)) = omega arith in
-      let one : items_at item_at may_follow (count - i) before bytes ≡ stop_at Repeated bytes = rw (k, read, follows) refl in
+      let one : take_items item_at may_follow (count - i) before bytes ≡ stop_at Repeated bytes = rw (k, read, follows) refl in
       sym so_far ∙ one
 
-  pub ends : (fault : ReadFault) → i < count → Fails fault (item_at bytes) → items_at item_at may_follow (count - i) before bytes ≡ total → Fails fault total
+  pub ends : (fault : ReadFault) → i < count → Fails (read_cause fault) (item_at bytes) → take_items item_at may_follow (count - i) before bytes ≡ total → Fails (read_cause fault) total
   ends NoMemory lt fails so_far = tt
   ends (Stopped stop) lt fails so_far =
       let k : count - i ≡ suc (count - (i + 1)) = omega arith in
-      let one : items_at item_at may_follow (count - i) before bytes ≡ Err stop = rw (k, fails) refl in
+      let one : take_items item_at may_follow (count - i) before bytes ≡ Err stop = rw (k, fails) refl in
       sym so_far ∙ one
 
-  pub is_done : count ≤ i → items_at item_at may_follow (count - i) before bytes ≡ total → total ≡ Ok (before, bytes)
+  pub is_done : count ≤ i → take_items item_at may_follow (count - i) before bytes ≡ total → total ≡ Ok (before, bytes)
   is_done le so_far =
       let k : count - i ≡ 0 = omega arith in
-      let one : items_at item_at may_follow (count - i) before bytes ≡ Ok (before, bytes) = rw k refl in
+      let one : take_items item_at may_follow (count - i) before bytes ≡ Ok (before, bytes) = rw k refl in
       sym so_far ∙ one

@@ -13,21 +13,21 @@ use Rattle.param_sets.specs.ParamSet.{IsParameterSet, IsOfKind, HasNoPolls, HasN
 use Rattle.param_sets.specs.Sets.{IsWithinProvisioned}
 use Rattle.param_sets.specs.Within.{IsWithinOrNull}
 use Rattle.param_sets.proofs.WithinLemmas.{nothing_fails}
-use Rattle.snapshot_format.specs.Fields.{literal_at, presence_at, number_at}
-use Rattle.snapshot_format.specs.Sets.{scheduling_at, params_at, has_no_polls, has_no_grants, has_grants, is_of_kind, is_parameter_set, set_at, optional_set_at, sets_of, sets_at}
+use Rattle.snapshot_format.specs.Fields.{take_literal, take_presence, take_number}
+use Rattle.snapshot_format.specs.Sets.{take_scheduling, take_params, has_no_polls, has_no_grants, has_grants, is_of_kind, is_parameter_set, take_set, take_optional_set, checked_sets, take_sets}
 use Rattle.snapshot_format.specs.Text.{params_text, optional_set_text, sets_text}
 use Rattle.snapshot_format.specs.Saved.{IsSet, AreSets}
 use Rattle.snapshot_format.proofs.FieldLemmas.{number_back}
 
 -- ---- numbers of a width
 
-pub long_back : (mark n : ℕ) (rest : List ℕ) → 10 < digit_value mark → n < 2 ^ 32 → number_at 4294967295 mark (decimal n ++ mark ∷ rest) ≡ Ok (n, rest)
+pub long_back : (mark n : ℕ) (rest : List ℕ) → 10 < digit_value mark → n < 2 ^ 32 → take_number 4294967295 mark (decimal n ++ mark ∷ rest) ≡ Ok (n, rest)
 long_back mark n rest gt small = number_back 4294967295 mark n rest gt (omega (arith, small)) (omega (arith, small))
 
-pub short_back : (mark n : ℕ) (rest : List ℕ) → 10 < digit_value mark → n < 2 ^ 16 → number_at 65535 mark (decimal n ++ mark ∷ rest) ≡ Ok (n, rest)
+pub short_back : (mark n : ℕ) (rest : List ℕ) → 10 < digit_value mark → n < 2 ^ 16 → take_number 65535 mark (decimal n ++ mark ∷ rest) ≡ Ok (n, rest)
 short_back mark n rest gt small = number_back 65535 mark n rest gt (omega (arith, small)) (omega (arith, small))
 
-pub byte_back : (mark n : ℕ) (rest : List ℕ) → 10 < digit_value mark → n < 2 ^ 8 → number_at 255 mark (decimal n ++ mark ∷ rest) ≡ Ok (n, rest)
+pub byte_back : (mark n : ℕ) (rest : List ℕ) → 10 < digit_value mark → n < 2 ^ 8 → take_number 255 mark (decimal n ++ mark ∷ rest) ≡ Ok (n, rest)
 byte_back mark n rest gt small = number_back 255 mark n rest gt (omega (arith, small)) (omega (arith, small))
 
 -- ---- what a kind of scheduling keeps, as a test
@@ -95,12 +95,12 @@ same_kind NonRealTimePolling = refl
 same_kind RealTimePolling = refl
 same_kind UnsolicitedGrant = refl
 
-scheduling_back : (kind : Scheduling) (rest : List ℕ) → scheduling_at (decimal (scheduling_number kind) ++ 44 ∷ rest) ≡ Ok (kind, rest)
-unfolding scheduling_at
+scheduling_back : (kind : Scheduling) (rest : List ℕ) → take_scheduling (decimal (scheduling_number kind) ++ 44 ∷ rest) ≡ Ok (kind, rest)
+unfolding take_scheduling
 scheduling_back kind rest = rw (byte_back 44 (scheduling_number kind) rest (omega arith) (few_kinds kind), same_kind kind) refl
 
-params_back : (set : ParamFields) (rest : List ℕ) → IsSet set → params_at (params_text set ++ rest) ≡ Ok (set, rest)
-unfolding params_at params_text
+params_back : (set : ParamFields) (rest : List ℕ) → IsSet set → take_params (params_text set ++ rest) ≡ Ok (set, rest)
+unfolding take_params params_text
 params_back set rest is =
     let comma : 10 < digit_value 44 = omega arith in
     let space : 10 < digit_value 32 = omega arith in
@@ -116,7 +116,7 @@ params_back set rest is =
     let t2 : List ℕ = decimal set.max_sustained_rate ++ 44 ∷ t3 in
     let t1 : List ℕ = decimal set.priority ++ 44 ∷ t2 in
     let whole : params_text set ++ rest ≡ decimal (scheduling_number set.scheduling) ++ 44 ∷ t1 = simp append_assoc in
-    ap params_at whole
+    ap take_params whole
     ∙ rw (
       scheduling_back set.scheduling t1,
       byte_back 44 set.priority t2 comma is.priority,
@@ -132,12 +132,12 @@ params_back set rest is =
       byte_back 32 set.grants_per_interval rest space is.grants_per_interval,
     ) refl
 
-set_back : (set : ParamFields) (rest : List ℕ) → IsSet set → set_at (params_text set ++ rest) ≡ Ok (set, rest)
-unfolding set_at
+set_back : (set : ParamFields) (rest : List ℕ) → IsSet set → take_set (params_text set ++ rest) ≡ Ok (set, rest)
+unfolding take_set
 set_back set rest is = rw (params_back set rest is, set_is set is.kept) refl
 
-optional_back : (set : Option ParamFields) (rest : List ℕ) → IfSome set IsSet → optional_set_at (optional_set_text set ++ rest) ≡ Ok (set, rest)
-unfolding optional_set_at optional_set_text presence_at literal_at
+optional_back : (set : Option ParamFields) (rest : List ℕ) → IfSome set IsSet → take_optional_set (optional_set_text set ++ rest) ≡ Ok (set, rest)
+unfolding take_optional_set optional_set_text take_presence take_literal
 optional_back None rest is = refl
 optional_back (Some set) rest is = rw (set_back set rest is) refl
 
@@ -147,7 +147,7 @@ abbrev three : Option ParamFields → Option ParamFields → Option ParamFields 
 three provisioned admitted active = record { provisioned = provisioned; admitted = admitted; active = active }
 
 sets_are : (provisioned admitted active : Option ParamFields) → IsWithinOrNull active admitted → IsWithinProvisioned admitted provisioned
-    → sets_of provisioned admitted active ≡ Ok (three provisioned admitted active)
+    → checked_sets provisioned admitted active ≡ Ok (three provisioned admitted active)
 sets_are provisioned None None inner outer = refl
 sets_are provisioned None (Some c) inner outer = absurd inner
 sets_are None (Some a) None inner outer = refl
@@ -155,13 +155,13 @@ sets_are None (Some a) (Some c) inner outer = rw (nothing_fails c a inner) refl
 sets_are (Some p) (Some a) None inner outer = rw (nothing_fails a p outer) refl
 sets_are (Some p) (Some a) (Some c) inner outer = rw (nothing_fails a p outer, nothing_fails c a inner) refl
 
-pub sets_back : (sets : SetsFields) (rest : List ℕ) → AreSets sets → sets_at (sets_text sets ++ rest) ≡ Ok (sets, rest)
-unfolding sets_at sets_text
+pub sets_back : (sets : SetsFields) (rest : List ℕ) → AreSets sets → take_sets (sets_text sets ++ rest) ≡ Ok (sets, rest)
+unfolding take_sets sets_text
 sets_back sets rest is =
     let t2 : List ℕ = optional_set_text sets.active ++ rest in
     let t1 : List ℕ = optional_set_text sets.admitted ++ t2 in
     let whole : sets_text sets ++ rest ≡ optional_set_text sets.provisioned ++ t1 = simp append_assoc in
-    ap sets_at whole
+    ap take_sets whole
     ∙ rw (
       optional_back sets.provisioned t1 is.provisioned,
       optional_back sets.admitted t2 is.admitted,

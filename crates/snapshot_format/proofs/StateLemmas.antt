@@ -2,9 +2,9 @@
 use Rattle.std.proofs.Common.{◌≡◌, ℕ, List, [], ◌∷◌, map, refl, ap}
 use Rattle.flow_table.specs.declared.flow.Flow.{Flow}
 use Rattle.operator_model.specs.State.{OperatorState}
-use Rattle.snapshot_format.specs.States.{entry_of, saved_flow, state_of, saved_state}
+use Rattle.snapshot_format.specs.States.{sfid_with_flow, saved_flow, state_of, saved_state}
 
-flows_are : (flows : List (ℕ × Flow)) → map entry_of (map saved_flow flows) ≡ flows
+flows_are : (flows : List (ℕ × Flow)) → map sfid_with_flow (map saved_flow flows) ≡ flows
 flows_are [] = refl
 flows_are (flow ∷ flows) = ap (λ (more : List (ℕ × Flow)). flow ∷ more) (flows_are flows)
 

@@ -19,41 +19,41 @@ use Rattle.snapshot_format.specs.declared.fault.Wrong.TheVariants.{Shape, Range}
 use Rattle.snapshot_format.specs.declared.saved.SavedFlow.{SavedFlow}
 use Rattle.snapshot_format.specs.declared.saved.SavedOperator.{SavedOperator}
 use Rattle.snapshot_format.specs.declared.operator_records.OperatorHead.{OperatorHead}
-use Rattle.snapshot_format.specs.Reading.{Taken, place_result, items_at}
-use Rattle.snapshot_format.specs.Fields.{literal_at, presence_at, field_at, number_at, name_at, modem_at, bytes_at}
-use Rattle.snapshot_format.specs.Sets.{sets_at}
+use Rattle.snapshot_format.specs.Reading.{Taken, place_result, take_items}
+use Rattle.snapshot_format.specs.Fields.{take_literal, take_presence, take_field, take_number, take_name, take_modem, take_bytes}
+use Rattle.snapshot_format.specs.Sets.{take_sets}
 
 -- ---- a flow
 
-unfoldable pub sid_at : List ℕ → Taken (Option ℕ)
-sid_at bytes = do
-  presence ← presence_at 32 bytes
-  if presence.0 then (number_at 65535 32 presence.1 >>= λ sid. Ok (Some sid.0, sid.1)) else Ok (None, presence.1)
+unfoldable pub take_sid : List ℕ → Taken (Option ℕ)
+take_sid bytes = do
+  presence ← take_presence 32 bytes
+  if presence.0 then (take_number 65535 32 presence.1 >>= λ sid. Ok (Some sid.0, sid.1)) else Ok (None, presence.1)
 
 -- whether the request gave the flow its SID, and the sets that wait
-unfoldable pub waiting_at : List ℕ → Taken Pending
-waiting_at bytes = do
-  new ← number_at 1 32 bytes
-  sets ← sets_at new.1
+unfoldable pub take_waiting : List ℕ → Taken Pending
+take_waiting bytes = do
+  new ← take_number 1 32 bytes
+  sets ← take_sets new.1
   Ok (record { sets = sets.0; sid_is_new = new.0 == 1 }, sets.1)
 
-unfoldable pub pending_at : List ℕ → Taken (Option Pending)
-pending_at bytes = do
-  presence ← presence_at 32 bytes
-  if presence.0 then (waiting_at presence.1 >>= λ pending. Ok (Some pending.0, pending.1)) else Ok (None, presence.1)
+unfoldable pub take_pending : List ℕ → Taken (Option Pending)
+take_pending bytes = do
+  presence ← take_presence 32 bytes
+  if presence.0 then (take_waiting presence.1 >>= λ pending. Ok (Some pending.0, pending.1)) else Ok (None, presence.1)
 
 -- `flow sfid modem sid sets pending start backlog since`
-unfoldable pub flow_at : List ℕ → Taken SavedFlow
-flow_at bytes = do
-  head ← literal_at (codes "flow ") bytes
-  sfid ← number_at 4294967295 32 head
-  modem ← modem_at 32 sfid.1
-  sid ← sid_at modem.1
-  sets ← sets_at sid.1
-  pending ← pending_at sets.1
-  start ← number_at 4294967295 32 pending.1
-  backlog ← number_at 65535 32 start.1
-  since ← number_at 4294967295 10 backlog.1
+unfoldable pub take_flow : List ℕ → Taken SavedFlow
+take_flow bytes = do
+  head ← take_literal (codes "flow ") bytes
+  sfid ← take_number 4294967295 32 head
+  modem ← take_modem 32 sfid.1
+  sid ← take_sid modem.1
+  sets ← take_sets sid.1
+  pending ← take_pending sets.1
+  start ← take_number 4294967295 32 pending.1
+  backlog ← take_number 65535 32 start.1
+  since ← take_number 4294967295 10 backlog.1
   Ok (
     record {
       sfid = sfid.0;
@@ -70,8 +70,8 @@ can_follow (Some last) sfid = nat_lt last.sfid sfid
 abbrev pub flow_follows : List SavedFlow → SavedFlow → Bool
 flow_follows before flow = can_follow (slice_get before (length before - 1)) flow.sfid
 
-unfoldable pub flows_at : ℕ → List ℕ → Taken (List SavedFlow)
-flows_at count bytes = items_at flow_at flow_follows count [] bytes
+unfoldable pub take_flows : ℕ → List ℕ → Taken (List SavedFlow)
+take_flows count bytes = take_items take_flow flow_follows count [] bytes
 
 -- ---- a cached response
 
@@ -82,8 +82,8 @@ kind_in field =
     if bytes_eq field (codes "dsd") then Ok Dsd else
     Err Shape
 
-unfoldable pub kind_at : List ℕ → Taken Kind
-kind_at bytes = field_at 32 bytes >>= λ field. place_result (kind_in field.0) bytes field.1
+unfoldable pub take_kind : List ℕ → Taken Kind
+take_kind bytes = take_field 32 bytes >>= λ field. place_result (kind_in field.0) bytes field.1
 
 abbrev pub state_in : List ℕ → Result ResponseState Wrong
 state_in field =
@@ -91,29 +91,29 @@ state_in field =
     if bytes_eq field (codes "held") then Ok Held else
     Err Shape
 
-unfoldable pub state_at : List ℕ → Taken ResponseState
-state_at bytes = field_at 32 bytes >>= λ field. place_result (state_in field.0) bytes field.1
+unfoldable pub take_state : List ℕ → Taken ResponseState
+take_state bytes = take_field 32 bytes >>= λ field. place_result (state_in field.0) bytes field.1
 
 -- its time has not ended, and where it is held no resend is left
 abbrev pub is_timed : KeptEntry → Bool
 is_timed entry = nat_le 1 entry.ticks_left && (is_waiting entry || entry.resends_left == 0)
 
-abbrev pub entry_of : KeptEntry → Result KeptEntry Wrong
-entry_of entry = if is_timed entry then Ok entry else Err Range
+abbrev pub checked_entry : KeptEntry → Result KeptEntry Wrong
+checked_entry entry = if is_timed entry then Ok entry else Err Range
 
 -- `response modem tid kind sfid state ticks resends reply`
-unfoldable pub entry_at : List ℕ → Taken KeptEntry
-entry_at bytes = do
-  head ← literal_at (codes "response ") bytes
-  modem ← modem_at 32 head
-  tid ← number_at 65535 32 modem.1
-  kind ← kind_at tid.1
-  sfid ← number_at 4294967295 32 kind.1
-  standing ← state_at sfid.1
-  ticks ← number_at 65535 32 standing.1
-  resends ← number_at 255 32 ticks.1
-  reply ← bytes_at 10 resends.1
-  place_result (entry_of (record {
+unfoldable pub take_entry : List ℕ → Taken KeptEntry
+take_entry bytes = do
+  head ← take_literal (codes "response ") bytes
+  modem ← take_modem 32 head
+  tid ← take_number 65535 32 modem.1
+  kind ← take_kind tid.1
+  sfid ← take_number 4294967295 32 kind.1
+  standing ← take_state sfid.1
+  ticks ← take_number 65535 32 standing.1
+  resends ← take_number 255 32 ticks.1
+  reply ← take_bytes 10 resends.1
+  place_result (checked_entry (record {
     modem = modem.0;
     tid = tid.0;
     kind = kind.0;
@@ -128,94 +128,94 @@ entry_at bytes = do
 abbrev pub entry_follows : List KeptEntry → KeptEntry → Bool
 entry_follows before entry = not (list_any (is_of entry.modem entry.tid) before)
 
-unfoldable pub entries_at : ℕ → List ℕ → Taken (List KeptEntry)
-entries_at count bytes = items_at entry_at entry_follows count [] bytes
+unfoldable pub take_entries : ℕ → List ℕ → Taken (List KeptEntry)
+take_entries count bytes = take_items take_entry entry_follows count [] bytes
 
 -- ---- what was received
 
 -- `message modem bytes`, after its first word
-unfoldable pub message_at : List ℕ → Taken Arrival
-message_at bytes = do
-  modem ← modem_at 32 bytes
-  message ← bytes_at 10 modem.1
+unfoldable pub take_message : List ℕ → Taken Arrival
+take_message bytes = do
+  modem ← take_modem 32 bytes
+  message ← take_bytes 10 modem.1
   Ok (record { modem = modem.0; heard = Message message.0 }, message.1)
 
 -- `request modem sid minislots`, after its first word
-unfoldable pub request_at : List ℕ → Taken Arrival
-request_at bytes = do
-  modem ← modem_at 32 bytes
-  sid ← number_at 65535 32 modem.1
-  minislots ← number_at 65535 10 sid.1
+unfoldable pub take_request : List ℕ → Taken Arrival
+take_request bytes = do
+  modem ← take_modem 32 bytes
+  sid ← take_number 65535 32 modem.1
+  minislots ← take_number 65535 10 sid.1
   Ok (record { modem = modem.0; heard = Request sid.0 minislots.0 }, minislots.1)
 
-unfoldable pub arrival_at : List ℕ → Taken Arrival
-arrival_at bytes =
-    if bytes_eq (take 8 bytes) (codes "message ") then message_at (drop 8 bytes)
-    else literal_at (codes "request ") bytes >>= λ rest. request_at rest
+unfoldable pub take_arrival : List ℕ → Taken Arrival
+take_arrival bytes =
+    if bytes_eq (take 8 bytes) (codes "message ") then take_message (drop 8 bytes)
+    else take_literal (codes "request ") bytes >>= λ rest. take_request rest
 
 -- an arrival follows whatever was received before it
 abbrev pub arrival_follows : List Arrival → Arrival → Bool
 arrival_follows before arrival = true
 
-unfoldable pub arrivals_at : ℕ → List ℕ → Taken (List Arrival)
-arrivals_at count bytes = items_at arrival_at arrival_follows count [] bytes
+unfoldable pub take_arrivals : ℕ → List ℕ → Taken (List Arrival)
+take_arrivals count bytes = take_items take_arrival arrival_follows count [] bytes
 
 -- ---- slices and budgets
 
-abbrev pub share_of : ℕ → ℕ → ℕ → Result Share Wrong
-share_of start length budget =
+abbrev pub checked_share : ℕ → ℕ → ℕ → Result Share Wrong
+checked_share start length budget =
     if nat_le 1 length && nat_le (start + length) 4096 then Ok (record { slice = record { start = start; length = length }; budget = budget }) else Err Range
 
 -- `start length budget`
-unfoldable pub share_at : List ℕ → Taken Share
-share_at bytes = do
-  start ← number_at 65535 32 bytes
-  length ← number_at 65535 32 start.1
-  budget ← number_at 65535 10 length.1
-  place_result (share_of start.0 length.0 budget.0) bytes budget.1
+unfoldable pub take_share : List ℕ → Taken Share
+take_share bytes = do
+  start ← take_number 65535 32 bytes
+  length ← take_number 65535 32 start.1
+  budget ← take_number 65535 10 length.1
+  place_result (checked_share start.0 length.0 budget.0) bytes budget.1
 
 -- `slice start length budget`
-unfoldable pub slice_at : List ℕ → Taken Share
-slice_at bytes = literal_at (codes "slice ") bytes >>= λ rest. share_at rest
+unfoldable pub take_slice : List ℕ → Taken Share
+take_slice bytes = take_literal (codes "slice ") bytes >>= λ rest. take_share rest
 
-unfoldable pub next_share_at : List ℕ → Taken NextShare
-next_share_at bytes = do
-  from ← number_at 4294967295 32 bytes
-  share ← share_at from.1
+unfoldable pub take_next_share : List ℕ → Taken NextShare
+take_next_share bytes = do
+  from ← take_number 4294967295 32 bytes
+  share ← take_share from.1
   Ok (record { from = from.0; share = share.0 }, share.1)
 
 -- `next =from start length budget`, or `next -`
-unfoldable pub next_at : List ℕ → Taken (Option NextShare)
-next_at bytes = do
-  head ← literal_at (codes "next ") bytes
-  presence ← presence_at 10 head
-  if presence.0 then (next_share_at presence.1 >>= λ next. Ok (Some next.0, next.1)) else Ok (None, presence.1)
+unfoldable pub take_next : List ℕ → Taken (Option NextShare)
+take_next bytes = do
+  head ← take_literal (codes "next ") bytes
+  presence ← take_presence 10 head
+  if presence.0 then (take_next_share presence.1 >>= λ next. Ok (Some next.0, next.1)) else Ok (None, presence.1)
 
 -- ---- an operator
 
 -- `operator name flows responses arrivals`
-unfoldable pub head_at : List ℕ → Taken OperatorHead
-head_at bytes = do
-  head ← literal_at (codes "operator ") bytes
-  name ← name_at 32 head
-  flows ← number_at 65535 32 name.1
-  kept ← number_at 65535 32 flows.1
-  inbox ← number_at 65535 10 kept.1
+unfoldable pub take_head : List ℕ → Taken OperatorHead
+take_head bytes = do
+  head ← take_literal (codes "operator ") bytes
+  name ← take_name 32 head
+  flows ← take_number 65535 32 name.1
+  kept ← take_number 65535 32 flows.1
+  inbox ← take_number 65535 10 kept.1
   Ok (record { name = name.0; flows = flows.0; kept = kept.0; inbox = inbox.0 }, inbox.1)
 
-unfoldable pub operator_at : List ℕ → Taken SavedOperator
-operator_at bytes = do
-  head ← head_at bytes
-  share ← slice_at head.1
-  next ← next_at share.1
-  flows ← flows_at head.0.flows next.1
-  kept ← entries_at head.0.kept flows.1
-  inbox ← arrivals_at head.0.inbox kept.1
+unfoldable pub take_operator : List ℕ → Taken SavedOperator
+take_operator bytes = do
+  head ← take_head bytes
+  share ← take_slice head.1
+  next ← take_next share.1
+  flows ← take_flows head.0.flows next.1
+  kept ← take_entries head.0.kept flows.1
+  inbox ← take_arrivals head.0.inbox kept.1
   Ok (record { name = head.0.name; share = share.0; next = next.0; flows = flows.0; kept = kept.0; inbox = inbox.0 }, inbox.1)
 
 -- an operator has another name than those before it
 abbrev pub operator_follows : List SavedOperator → SavedOperator → Bool
 operator_follows before operator = not (list_any (λ other. bytes_eq other.name operator.name) before)
 
-unfoldable pub operators_at : ℕ → List ℕ → Taken (List SavedOperator)
-operators_at count bytes = items_at operator_at operator_follows count [] bytes
+unfoldable pub take_operators : ℕ → List ℕ → Taken (List SavedOperator)
+take_operators count bytes = take_items take_operator operator_follows count [] bytes

@@ -11,7 +11,7 @@ use Rattle.param_sets.specs.Sets.{admit_of, activate_of}
 use Rattle.snapshot_format.specs.declared.fault.Wrong.{Wrong}
 use Rattle.snapshot_format.specs.declared.fault.Wrong.TheVariants.{Range, Parameters, NotWithin}
 use Rattle.snapshot_format.specs.Reading.{Taken, place_result}
-use Rattle.snapshot_format.specs.Fields.{number_at, presence_at}
+use Rattle.snapshot_format.specs.Fields.{take_number, take_presence}
 
 -- ---- one set
 
@@ -20,24 +20,24 @@ scheduling_in None = Err Range
 scheduling_in (Some scheduling) = Ok scheduling
 
 -- a kind of scheduling by its number
-unfoldable pub scheduling_at : List ℕ → Taken Scheduling
-scheduling_at bytes = number_at 255 44 bytes >>= λ number. place_result (scheduling_in (scheduling_of (Some number.0))) bytes number.1
+unfoldable pub take_scheduling : List ℕ → Taken Scheduling
+take_scheduling bytes = take_number 255 44 bytes >>= λ number. place_result (scheduling_in (scheduling_of (Some number.0))) bytes number.1
 
 -- the twelve parameters, a comma after each but the last
-unfoldable pub params_at : List ℕ → Taken ParamFields
-params_at bytes = do
-  scheduling ← scheduling_at bytes
-  priority ← number_at 255 44 scheduling.1
-  max_sustained_rate ← number_at 4294967295 44 priority.1
-  max_burst ← number_at 4294967295 44 max_sustained_rate.1
-  min_reserved_rate ← number_at 4294967295 44 max_burst.1
-  request_policy ← number_at 4294967295 44 min_reserved_rate.1
-  polling_interval ← number_at 4294967295 44 request_policy.1
-  poll_jitter ← number_at 4294967295 44 polling_interval.1
-  grant_size ← number_at 65535 44 poll_jitter.1
-  grant_interval ← number_at 4294967295 44 grant_size.1
-  grant_jitter ← number_at 4294967295 44 grant_interval.1
-  grants_per_interval ← number_at 255 32 grant_jitter.1
+unfoldable pub take_params : List ℕ → Taken ParamFields
+take_params bytes = do
+  scheduling ← take_scheduling bytes
+  priority ← take_number 255 44 scheduling.1
+  max_sustained_rate ← take_number 4294967295 44 priority.1
+  max_burst ← take_number 4294967295 44 max_sustained_rate.1
+  min_reserved_rate ← take_number 4294967295 44 max_burst.1
+  request_policy ← take_number 4294967295 44 min_reserved_rate.1
+  polling_interval ← take_number 4294967295 44 request_policy.1
+  poll_jitter ← take_number 4294967295 44 polling_interval.1
+  grant_size ← take_number 65535 44 poll_jitter.1
+  grant_interval ← take_number 4294967295 44 grant_size.1
+  grant_jitter ← take_number 4294967295 44 grant_interval.1
+  grants_per_interval ← take_number 255 32 grant_jitter.1
   Ok (
     record {
       scheduling = scheduling.0;
@@ -78,16 +78,16 @@ is_of_kind UnsolicitedGrant set = has_no_polls set && has_grants set
 abbrev pub is_parameter_set : ParamFields → Bool
 is_parameter_set set = nat_le set.priority 7 && is_of_kind set.scheduling set
 
-abbrev pub set_of : ParamFields → Result ParamFields Wrong
-set_of set = if is_parameter_set set then Ok set else Err Parameters
+abbrev pub checked_set : ParamFields → Result ParamFields Wrong
+checked_set set = if is_parameter_set set then Ok set else Err Parameters
 
-unfoldable pub set_at : List ℕ → Taken ParamFields
-set_at bytes = params_at bytes >>= λ set. place_result (set_of set.0) bytes set.1
+unfoldable pub take_set : List ℕ → Taken ParamFields
+take_set bytes = take_params bytes >>= λ set. place_result (checked_set set.0) bytes set.1
 
-unfoldable pub optional_set_at : List ℕ → Taken (Option ParamFields)
-optional_set_at bytes = do
-  presence ← presence_at 32 bytes
-  if presence.0 then (set_at presence.1 >>= λ set. Ok (Some set.0, set.1)) else Ok (None, presence.1)
+unfoldable pub take_optional_set : List ℕ → Taken (Option ParamFields)
+take_optional_set bytes = do
+  presence ← take_presence 32 bytes
+  if presence.0 then (take_set presence.1 >>= λ set. Ok (Some set.0, set.1)) else Ok (None, presence.1)
 
 -- ---- the sets of a flow
 
@@ -108,12 +108,12 @@ with_active sets None = Ok sets
 with_active sets (Some set) = within (activate_of sets set)
 
 -- the sets that a machine makes of these by admitting and activating them
-abbrev pub sets_of : Option ParamFields → Option ParamFields → Option ParamFields → Result SetsFields Wrong
-sets_of provisioned admitted active = with_admitted (sets_under provisioned) admitted >>= λ sets. with_active sets active
+abbrev pub checked_sets : Option ParamFields → Option ParamFields → Option ParamFields → Result SetsFields Wrong
+checked_sets provisioned admitted active = with_admitted (sets_under provisioned) admitted >>= λ sets. with_active sets active
 
-unfoldable pub sets_at : List ℕ → Taken SetsFields
-sets_at bytes = do
-  provisioned ← optional_set_at bytes
-  admitted ← optional_set_at provisioned.1
-  active ← optional_set_at admitted.1
-  place_result (sets_of provisioned.0 admitted.0 active.0) bytes active.1
+unfoldable pub take_sets : List ℕ → Taken SetsFields
+take_sets bytes = do
+  provisioned ← take_optional_set bytes
+  admitted ← take_optional_set provisioned.1
+  active ← take_optional_set admitted.1
+  place_result (checked_sets provisioned.0 admitted.0 active.0) bytes active.1

@@ -7,13 +7,13 @@ use Rattle.snapshot_format.specs.declared.saved.SavedOperator.{SavedOperator}
 use Rattle.snapshot_format.specs.declared.saved.Snapshot.{Snapshot}
 
 -- a flow under its identifier
-abbrev pub entry_of : SavedFlow → ℕ × Flow
-entry_of saved = (saved.sfid, saved.flow)
+abbrev pub sfid_with_flow : SavedFlow → ℕ × Flow
+sfid_with_flow saved = (saved.sfid, saved.flow)
 
 -- the state of an operator's machine before this frame
 abbrev pub state_of : ℕ → SavedOperator → OperatorState
 state_of frame saved = record {
-  flows = map entry_of saved.flows;
+  flows = map sfid_with_flow saved.flows;
   kept = saved.kept;
   inbox = saved.inbox;
   frame = frame;

@@ -26,8 +26,8 @@ use Rattle.snapshot_format.specs.Checksum.{adler_32, line_count}
 -- ---- fields
 
 -- an address, 12 upper-case hexadecimal digits
-abbrev pub address : Modem → List ℕ
-address modem = encode_upper modem.0
+abbrev pub address_field : Modem → List ℕ
+address_field modem = encode_upper modem.0
 
 -- bytes in upper-case hexadecimal; `-` for none
 abbrev pub bytes_text : List ℕ → List ℕ
@@ -57,15 +57,15 @@ abbrev pub flag_text : Bool → List ℕ
 flag_text false = codes "0 "
 flag_text true = codes "1 "
 
-unfoldable pub pending_text : Option Pending → List ℕ
-pending_text None = codes "- "
-pending_text (Some pending) = codes "=" ++ (flag_text pending.sid_is_new ++ sets_text pending.sets)
+unfoldable pub pending_record : Option Pending → List ℕ
+pending_record None = codes "- "
+pending_record (Some pending) = codes "=" ++ (flag_text pending.sid_is_new ++ sets_text pending.sets)
 
 -- ---- records
 
 unfoldable pub flow_text : SavedFlow → List ℕ
 flow_text saved =
-    codes "flow " ++ (decimal saved.sfid ++ (codes " " ++ (address saved.flow.modem ++ (codes " " ++ (sid_text saved.flow.sid ++ (sets_text saved.flow.sets ++ (pending_text saved.flow.pending
+    codes "flow " ++ (decimal saved.sfid ++ (codes " " ++ (address_field saved.flow.modem ++ (codes " " ++ (sid_text saved.flow.sid ++ (sets_text saved.flow.sets ++ (pending_record saved.flow.pending
     ++ (decimal saved.flow.start ++ (codes " " ++ (decimal saved.flow.backlog ++ (codes " " ++ (decimal saved.flow.since ++ 10 ∷ []))))))))))))
 
 abbrev pub kind_text : Kind → List ℕ
@@ -79,12 +79,12 @@ state_text Held = codes "held"
 
 unfoldable pub entry_text : KeptEntry → List ℕ
 entry_text entry =
-    codes "response " ++ (address entry.modem ++ (codes " " ++ (decimal entry.tid ++ (codes " " ++ (kind_text entry.kind ++ (codes " " ++ (decimal entry.sfid ++ (codes " " ++ (state_text entry.standing ++ (codes " "
+    codes "response " ++ (address_field entry.modem ++ (codes " " ++ (decimal entry.tid ++ (codes " " ++ (kind_text entry.kind ++ (codes " " ++ (decimal entry.sfid ++ (codes " " ++ (state_text entry.standing ++ (codes " "
     ++ (decimal entry.ticks_left ++ (codes " " ++ (decimal entry.resends_left ++ (codes " " ++ (bytes_text entry.reply ++ 10 ∷ [])))))))))))))))
 
 abbrev pub heard_text : Modem → Heard → List ℕ
-heard_text modem (Message bytes) = codes "message " ++ (address modem ++ (codes " " ++ (bytes_text bytes ++ 10 ∷ [])))
-heard_text modem (Request sid minislots) = codes "request " ++ (address modem ++ (codes " " ++ (decimal sid ++ (codes " " ++ (decimal minislots ++ 10 ∷ [])))))
+heard_text modem (Message bytes) = codes "message " ++ (address_field modem ++ (codes " " ++ (bytes_text bytes ++ 10 ∷ [])))
+heard_text modem (Request sid minislots) = codes "request " ++ (address_field modem ++ (codes " " ++ (decimal sid ++ (codes " " ++ (decimal minislots ++ 10 ∷ [])))))
 
 unfoldable pub arrival_text : Arrival → List ℕ
 arrival_text arrival = heard_text arrival.modem arrival.heard
@@ -116,8 +116,8 @@ unfoldable pub body_text : Snapshot → List ℕ
 body_text saved = opening_text saved ++ flat_map operator_text saved.operators
 
 -- how many lines are before the last one, and the checksum of their text
-unfoldable pub end_text : List ℕ → List ℕ
-end_text body = codes "end " ++ (decimal (line_count body) ++ (codes " " ++ (decimal (adler_32 body) ++ 10 ∷ [])))
+unfoldable pub closing_line : List ℕ → List ℕ
+closing_line body = codes "end " ++ (decimal (line_count body) ++ (codes " " ++ (decimal (adler_32 body) ++ 10 ∷ [])))
 
-abbrev pub snapshot_text : Snapshot → List ℕ
-snapshot_text saved = body_text saved ++ end_text (body_text saved)
+abbrev pub text_of_snapshot : Snapshot → List ℕ
+text_of_snapshot saved = body_text saved ++ closing_line (body_text saved)

@@ -2,10 +2,10 @@
 
 ghost use Rattle.std.specs.Prelude.{◌≡◌, ◌==◌, ◌≤◌, ◌<◌, length, position, IfOk, IfSome};
 ghost use Rattle.hex.specs.Hex.{decode_sized};
-ghost use Rattle.lists.specs.Results.{result_map};
+ghost use Rattle.lists.specs.Results.{result_map, Gives};
 ghost use Rattle.snapshot_format.specs.declared.fault.ReadFault.TheVariants.{Stopped};
-ghost use Rattle.snapshot_format.specs.Reading.{Gives};
-ghost use Rattle.snapshot_format.specs.Fields.{literal_at, presence_at, field_at, number_in, number_at, name_in, name_at, address_of, modem_at, bytes_at};
+ghost use Rattle.snapshot_format.specs.Reading.{read_cause};
+ghost use Rattle.snapshot_format.specs.Fields.{take_literal, take_presence, take_field, parse_number, take_number, parse_name, take_name, address_of, take_modem, take_bytes};
 
 use crate::fault::{ReadFault, ReadStop, Wrong};
 use dsx_messages::Modem;
@@ -25,9 +25,9 @@ pub(crate) fn stop_at(wrong: Wrong, bytes: &[u8]) -> ReadFault
 }
 
 /// Returns the bytes after a literal.
-#[tactic(auto, unfolding(crate::specs::Fields::literal_at))]
-pub(crate) fn literal_at<'a>(bytes: &'a [u8], literal: &[u8]) -> Result<&'a [u8], ReadFault>
-    ensures { Gives (λ rest. rest.now) result (literal_at literal.now bytes.now) }
+#[tactic(auto, unfolding(crate::specs::Fields::take_literal))]
+pub(crate) fn take_literal<'a>(bytes: &'a [u8], literal: &[u8]) -> Result<&'a [u8], ReadFault>
+    ensures { Gives read_cause (λ rest. rest.now) result (take_literal literal.now bytes.now) }
 {
     match bytes.strip_prefix(literal) {
         Some(rest) => Ok(rest),
@@ -37,14 +37,14 @@ pub(crate) fn literal_at<'a>(bytes: &'a [u8], literal: &[u8]) -> Result<&'a [u8]
 }
 
 /// Returns whether a value follows, and what is after that mark.
-#[tactic(auto, unfolding(crate::specs::Fields::presence_at))]
-pub(crate) fn presence_at(bytes: &[u8], end: u8) -> Result<(bool, &[u8]), ReadFault>
-    ensures { Gives (λ x. (x.0, x.1.now)) result (presence_at end bytes.now) }
+#[tactic(auto, unfolding(crate::specs::Fields::take_presence))]
+pub(crate) fn take_presence(bytes: &[u8], end: u8) -> Result<(bool, &[u8]), ReadFault>
+    ensures { Gives read_cause (λ x. (x.0, x.1.now)) result (take_presence end bytes.now) }
 {
     if let Some(rest) = bytes.strip_prefix(b"=") {
         return Ok((true, rest));
     }
-    let rest = literal_at(bytes, &[b'-', end])?;
+    let rest = take_literal(bytes, &[b'-', end])?;
     Ok((false, rest))
 }
 
@@ -57,8 +57,8 @@ fn field_end(bytes: &[u8], end: u8) -> Option<usize>
 }
 
 /// Returns the bytes of a field, and those after the byte that ends it.
-pub(crate) fn field_at(bytes: &[u8], end: u8) -> Result<(&[u8], &[u8]), ReadFault>
-    ensures { Gives (λ x. (x.0.now, x.1.now)) result (field_at end bytes.now) }
+pub(crate) fn take_field(bytes: &[u8], end: u8) -> Result<(&[u8], &[u8]), ReadFault>
+    ensures { Gives read_cause (λ x. (x.0.now, x.1.now)) result (take_field end bytes.now) }
 {
     match field_end(bytes, end) {
         Some(place) => Ok((&bytes[..place], &bytes[place + 1..])),
@@ -67,8 +67,8 @@ pub(crate) fn field_at(bytes: &[u8], end: u8) -> Result<(&[u8], &[u8]), ReadFaul
 }
 
 /// Returns a decimal number, at most `most`.
-fn number_in(most: u32, field: &[u8]) -> Result<u32, Wrong>
-    ensures value { result ≡ number_in most field.now }
+fn parse_number(most: u32, field: &[u8]) -> Result<u32, Wrong>
+    ensures value { result ≡ parse_number most field.now }
     ensures bound { IfOk result (λ number. number ≤ most) }
 {
     if field.is_empty() {
@@ -88,44 +88,45 @@ fn number_in(most: u32, field: &[u8]) -> Result<u32, Wrong>
 }
 
 /// Returns the number in a field, at most `most`, and what is after the field.
-#[tactic(auto, unfolding(crate::specs::Fields::number_at))]
-pub(crate) fn number_at(bytes: &[u8], most: u32, end: u8) -> Result<(u32, &[u8]), ReadFault>
-    ensures value { Gives (λ x. (x.0, x.1.now)) result (number_at most end bytes.now) }
+#[tactic(auto, unfolding(crate::specs::Fields::take_number))]
+pub(crate) fn take_number(bytes: &[u8], most: u32, end: u8) -> Result<(u32, &[u8]), ReadFault>
+    ensures value { Gives read_cause (λ x. (x.0, x.1.now)) result (take_number most end bytes.now) }
     ensures bound { IfOk result (λ x. x.0 ≤ most) }
 {
-    let (field, rest) = field_at(bytes, end)?;
-    match number_in(most, field) {
+    let (field, rest) = take_field(bytes, end)?;
+    match parse_number(most, field) {
         Ok(number) => Ok((number, rest)),
         Err(wrong) => Err(stop_at(wrong, bytes)),
     }
 }
 
 /// Returns the number of 32 bits in a field, and what is after the field.
-pub(crate) fn long_at(bytes: &[u8], end: u8) -> Result<(u32, &[u8]), ReadFault>
-    ensures { Gives (λ x. (x.0, x.1.now)) result (number_at 4294967295 end bytes.now) }
+pub(crate) fn take_long(bytes: &[u8], end: u8) -> Result<(u32, &[u8]), ReadFault>
+    ensures { Gives read_cause (λ x. (x.0, x.1.now)) result (take_number 4294967295 end bytes.now) }
 {
-    number_at(bytes, u32::MAX, end)
+    take_number(bytes, u32::MAX, end)
 }
 
 /// Returns the number of 16 bits in a field, and what is after the field.
-pub(crate) fn short_at(bytes: &[u8], end: u8) -> Result<(u16, &[u8]), ReadFault>
-    ensures { Gives (λ x. (x.0, x.1.now)) result (number_at 65535 end bytes.now) }
+pub(crate) fn take_short(bytes: &[u8], end: u8) -> Result<(u16, &[u8]), ReadFault>
+    ensures { Gives read_cause (λ x. (x.0, x.1.now)) result (take_number 65535 end bytes.now) }
 {
-    let (number, rest) = number_at(bytes, 65535, end)?;
+    let (number, rest) = take_number(bytes, 65535, end)?;
     Ok((number as u16, rest))
 }
 
 /// Returns the number of 8 bits in a field, and what is after the field.
-pub(crate) fn byte_at(bytes: &[u8], end: u8) -> Result<(u8, &[u8]), ReadFault>
-    ensures { Gives (λ x. (x.0, x.1.now)) result (number_at 255 end bytes.now) }
+pub(crate) fn take_byte(bytes: &[u8], end: u8) -> Result<(u8, &[u8]), ReadFault>
+    ensures { Gives read_cause (λ x. (x.0, x.1.now)) result (take_number 255 end bytes.now) }
 {
-    let (number, rest) = number_at(bytes, 255, end)?;
+    let (number, rest) = take_number(bytes, 255, end)?;
     Ok((number as u8, rest))
 }
 
 /// Returns the operator's name in a field, if it is one.
-fn name_in(field: &[u8]) -> Result<OperatorName, Wrong>
-    ensures { result_map (λ name. name) result ≡ name_in field.now }
+#[tactic(auto, unfolding(plant::specs::Name::is_operator_name))]
+fn parse_name(field: &[u8]) -> Result<OperatorName, Wrong>
+    ensures { result_map (λ name. name) result ≡ parse_name field.now }
 {
     match OperatorName::new(field) {
         Some(name) => Ok(name),
@@ -134,12 +135,12 @@ fn name_in(field: &[u8]) -> Result<OperatorName, Wrong>
 }
 
 /// Returns the operator's name in a field, and what is after the field.
-#[tactic(auto, unfolding(crate::specs::Fields::name_at))]
-pub(crate) fn name_at(bytes: &[u8], end: u8) -> Result<(OperatorName, &[u8]), ReadFault>
-    ensures { Gives (λ x. (x.0, x.1.now)) result (name_at end bytes.now) }
+#[tactic(auto, unfolding(crate::specs::Fields::take_name))]
+pub(crate) fn take_name(bytes: &[u8], end: u8) -> Result<(OperatorName, &[u8]), ReadFault>
+    ensures { Gives read_cause (λ x. (x.0, x.1.now)) result (take_name end bytes.now) }
 {
-    let (field, rest) = field_at(bytes, end)?;
-    match name_in(field) {
+    let (field, rest) = take_field(bytes, end)?;
+    match parse_name(field) {
         Ok(name) => Ok((name, rest)),
         Err(wrong) => Err(stop_at(wrong, bytes)),
     }
@@ -149,19 +150,19 @@ pub(crate) fn name_at(bytes: &[u8], end: u8) -> Result<(OperatorName, &[u8]), Re
 fn address_in(field: &[u8]) -> Result<Modem, Wrong>
     ensures { result ≡ address_of (decode_sized field.now 6) }
 {
-    let mut address = [0u8; 6];
-    match decode_to_slice(field, &mut address) {
-        Ok(()) => Ok(Modem(address)),
+    let mut address_field = [0u8; 6];
+    match decode_to_slice(field, &mut address_field) {
+        Ok(()) => Ok(Modem(address_field)),
         Err(_fault) => Err(Wrong::Shape),
     }
 }
 
 /// Returns the address of a modem in a field, and what is after the field.
-#[tactic(auto, unfolding(crate::specs::Fields::modem_at))]
-pub(crate) fn modem_at(bytes: &[u8], end: u8) -> Result<(Modem, &[u8]), ReadFault>
-    ensures { Gives (λ x. (x.0, x.1.now)) result (modem_at end bytes.now) }
+#[tactic(auto, unfolding(crate::specs::Fields::take_modem))]
+pub(crate) fn take_modem(bytes: &[u8], end: u8) -> Result<(Modem, &[u8]), ReadFault>
+    ensures { Gives read_cause (λ x. (x.0, x.1.now)) result (take_modem end bytes.now) }
 {
-    let (field, rest) = field_at(bytes, end)?;
+    let (field, rest) = take_field(bytes, end)?;
     match address_in(field) {
         Ok(modem) => Ok((modem, rest)),
         Err(wrong) => Err(stop_at(wrong, bytes)),
@@ -169,11 +170,11 @@ pub(crate) fn modem_at(bytes: &[u8], end: u8) -> Result<(Modem, &[u8]), ReadFaul
 }
 
 /// Returns the bytes in a field, if it has them, and what is after the field.
-#[tactic(auto, unfolding(crate::specs::Fields::bytes_at))]
-pub(crate) fn bytes_at(alloc: Global, bytes: &[u8], end: u8) -> Result<(Bytes, &[u8]), ReadFault>
-    ensures { Gives (λ x. (x.0, x.1.now)) result (bytes_at end bytes.now) }
+#[tactic(auto, unfolding(crate::specs::Fields::take_bytes))]
+pub(crate) fn take_bytes(alloc: Global, bytes: &[u8], end: u8) -> Result<(Bytes, &[u8]), ReadFault>
+    ensures { Gives read_cause (λ x. (x.0, x.1.now)) result (take_bytes end bytes.now) }
 {
-    let (field, rest) = field_at(bytes, end)?;
+    let (field, rest) = take_field(bytes, end)?;
     if field == b"-".as_slice() {
         return Ok((Bytes::new(alloc), rest));
     }

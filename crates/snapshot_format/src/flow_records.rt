@@ -1,37 +1,40 @@
 //! The records of flows.
 
 ghost use Rattle.std.specs.Prelude.{◌≡◌, ◌-◌, length, slice_get};
-ghost use Rattle.snapshot_format.specs.Reading.{Gives};
-ghost use Rattle.snapshot_format.specs.Records.{sid_at, waiting_at, pending_at, flow_at, can_follow, flows_at};
+ghost use Rattle.lists.specs.Results.{Gives};
+ghost use Rattle.snapshot_format.specs.Reading.{read_cause};
+ghost use Rattle.snapshot_format.specs.Records.{take_sid, take_waiting, take_pending, take_flow, can_follow, take_flows};
 
 use crate::fault::{ReadFault, Wrong};
-use crate::fields::{literal_at, long_at, modem_at, number_at, presence_at, short_at, stop_at};
+use crate::fields::{
+    stop_at, take_literal, take_long, take_modem, take_number, take_presence, take_short,
+};
 use crate::saved::SavedFlow;
-use crate::sets::sets_at;
+use crate::sets::take_sets;
 use flow_table::{Flow, Pending};
 use lists::Listed;
 use std::alloc::Global;
 
 /// Returns a SID if there is one, and what is after it.
-#[tactic(auto, unfolding(crate::specs::Records::sid_at))]
-fn sid_at(bytes: &[u8]) -> Result<(Option<u16>, &[u8]), ReadFault>
-    ensures { Gives (λ x. (x.0, x.1.now)) result (sid_at bytes.now) }
+#[tactic(auto, unfolding(crate::specs::Records::take_sid))]
+fn take_sid(bytes: &[u8]) -> Result<(Option<u16>, &[u8]), ReadFault>
+    ensures { Gives read_cause (λ x. (x.0, x.1.now)) result (take_sid bytes.now) }
 {
-    let (is_there, rest) = presence_at(bytes, b' ')?;
+    let (is_there, rest) = take_presence(bytes, b' ')?;
     if !is_there {
         return Ok((None, rest));
     }
-    let (sid, rest) = short_at(rest, b' ')?;
+    let (sid, rest) = take_short(rest, b' ')?;
     Ok((Some(sid), rest))
 }
 
 /// Returns what waits for an acknowledgement, and what is after it.
-#[tactic(auto, unfolding(crate::specs::Records::waiting_at))]
-fn waiting_at(bytes: &[u8]) -> Result<(Pending, &[u8]), ReadFault>
-    ensures { Gives (λ x. (x.0, x.1.now)) result (waiting_at bytes.now) }
+#[tactic(auto, unfolding(crate::specs::Records::take_waiting))]
+fn take_waiting(bytes: &[u8]) -> Result<(Pending, &[u8]), ReadFault>
+    ensures { Gives read_cause (λ x. (x.0, x.1.now)) result (take_waiting bytes.now) }
 {
-    let (new, rest) = number_at(bytes, 1, b' ')?;
-    let (sets, rest) = match sets_at(rest) {
+    let (new, rest) = take_number(bytes, 1, b' ')?;
+    let (sets, rest) = match take_sets(rest) {
         Ok(taken) => taken,
         Err(fault) => return Err(fault),
     };
@@ -43,15 +46,15 @@ fn waiting_at(bytes: &[u8]) -> Result<(Pending, &[u8]), ReadFault>
 }
 
 /// Returns what waits for an acknowledgement if something does, and what is after it.
-#[tactic(auto, unfolding(crate::specs::Records::pending_at))]
-fn pending_at(bytes: &[u8]) -> Result<(Option<Pending>, &[u8]), ReadFault>
-    ensures { Gives (λ x. (x.0, x.1.now)) result (pending_at bytes.now) }
+#[tactic(auto, unfolding(crate::specs::Records::take_pending))]
+fn take_pending(bytes: &[u8]) -> Result<(Option<Pending>, &[u8]), ReadFault>
+    ensures { Gives read_cause (λ x. (x.0, x.1.now)) result (take_pending bytes.now) }
 {
-    let (is_there, rest) = presence_at(bytes, b' ')?;
+    let (is_there, rest) = take_presence(bytes, b' ')?;
     if !is_there {
         return Ok((None, rest));
     }
-    let (pending, rest) = match waiting_at(rest) {
+    let (pending, rest) = match take_waiting(rest) {
         Ok(taken) => taken,
         Err(fault) => return Err(fault),
     };
@@ -59,25 +62,25 @@ fn pending_at(bytes: &[u8]) -> Result<(Option<Pending>, &[u8]), ReadFault>
 }
 
 /// Returns a flow, and what is after its line.
-#[tactic(auto, unfolding(crate::specs::Records::flow_at))]
-fn flow_at(bytes: &[u8]) -> Result<(SavedFlow, &[u8]), ReadFault>
-    ensures { Gives (λ x. (x.0, x.1.now)) result (flow_at bytes.now) }
+#[tactic(auto, unfolding(crate::specs::Records::take_flow))]
+fn take_flow(bytes: &[u8]) -> Result<(SavedFlow, &[u8]), ReadFault>
+    ensures { Gives read_cause (λ x. (x.0, x.1.now)) result (take_flow bytes.now) }
 {
-    let rest = literal_at(bytes, b"flow ")?;
-    let (sfid, rest) = long_at(rest, b' ')?;
-    let (modem, rest) = modem_at(rest, b' ')?;
-    let (sid, rest) = sid_at(rest)?;
-    let (sets, rest) = match sets_at(rest) {
+    let rest = take_literal(bytes, b"flow ")?;
+    let (sfid, rest) = take_long(rest, b' ')?;
+    let (modem, rest) = take_modem(rest, b' ')?;
+    let (sid, rest) = take_sid(rest)?;
+    let (sets, rest) = match take_sets(rest) {
         Ok(taken) => taken,
         Err(fault) => return Err(fault),
     };
-    let (pending, rest) = match pending_at(rest) {
+    let (pending, rest) = match take_pending(rest) {
         Ok(taken) => taken,
         Err(fault) => return Err(fault),
     };
-    let (start, rest) = long_at(rest, b' ')?;
-    let (backlog, rest) = short_at(rest, b' ')?;
-    let (since, rest) = long_at(rest, b'\n')?;
+    let (start, rest) = take_long(rest, b' ')?;
+    let (backlog, rest) = take_short(rest, b' ')?;
+    let (since, rest) = take_long(rest, b'\n')?;
     let flow = Flow {
         modem,
         sid,
@@ -101,18 +104,18 @@ fn may_follow(flows: &[SavedFlow], sfid: u32) -> bool
 }
 
 /// Returns so many flows, ascending by their identifiers, and what is after them.
-#[tactic(auto, unfolding(crate::specs::Records::flows_at))]
-pub(crate) fn flows_at(
+#[tactic(auto, unfolding(crate::specs::Records::take_flows))]
+pub(crate) fn take_flows(
     alloc: Global,
     count: u16,
     bytes: &[u8],
 ) -> Result<(Listed<SavedFlow>, &[u8]), ReadFault>
-    ensures { Gives (λ x. (x.0, x.1.now)) result (flows_at count bytes.now) }
+    ensures { Gives read_cause (λ x. (x.0, x.1.now)) result (take_flows count bytes.now) }
 {
     let mut flows = Vec::new(alloc);
     let mut rest = bytes;
     for _ in 0..count {
-        let (flow, after) = match flow_at(rest) {
+        let (flow, after) = match take_flow(rest) {
             Ok(taken) => taken,
             Err(fault) => return Err(fault),
         };

@@ -3,7 +3,7 @@
 ghost use Rattle.std.specs.Prelude.{◌≡◌, ◌++◌, OnOk};
 ghost use Rattle.std.specs.List.{flat_map};
 ghost use Rattle.std.specs.String.{string_bytes};
-ghost use Rattle.snapshot_format.specs.Text.{params_text, optional_set_text, sets_text, sid_text, flag_text, pending_text, flow_text};
+ghost use Rattle.snapshot_format.specs.Text.{params_text, optional_set_text, sets_text, sid_text, flag_text, pending_record, flow_text};
 
 use crate::saved::SavedFlow;
 use flow_table::{Flow, Pending};
@@ -71,9 +71,9 @@ fn flag_text(pending: &Pending) -> &'static str
 }
 
 /// Adds what waits for an acknowledgement if something does, else a dash.
-#[tactic(auto, unfolding(crate::specs::Text::pending_text))]
+#[tactic(auto, unfolding(crate::specs::Text::pending_record))]
 fn put_pending(text: &mut String, pending: &Option<Pending>) -> Result<(), AllocError>
-    ensures { OnOk result (string_bytes text.new ≡ string_bytes text.old ++ pending_text pending.now) }
+    ensures { OnOk result (string_bytes text.new ≡ string_bytes text.old ++ pending_record pending.now) }
 {
     match pending {
         None => text.push_str("- "),
@@ -93,8 +93,8 @@ fn put_flow(alloc: Global, text: &mut String, saved: &SavedFlow) -> Result<(), A
     let flow: &Flow = &saved.flow;
     let sfid = saved.sfid;
     let (start, backlog, since) = (flow.start, flow.backlog, flow.since);
-    let address = encode_upper(alloc, flow.modem.0.as_slice())?;
-    write!(text, "flow {sfid} {address} ")?;
+    let address_field = encode_upper(alloc, flow.modem.0.as_slice())?;
+    write!(text, "flow {sfid} {address_field} ")?;
     put_sid(text, flow.sid)?;
     put_sets(text, &flow.sets)?;
     put_pending(text, &flow.pending)?;

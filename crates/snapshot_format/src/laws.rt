@@ -3,7 +3,7 @@
 ghost use Rattle.std.specs.Prelude.{◌≡◌, ℕ, List, Ok};
 ghost use Rattle.operator_model.specs.State.{OperatorState};
 ghost use Rattle.snapshot_format.specs.declared.saved.Snapshot.{Snapshot};
-ghost use Rattle.snapshot_format.specs.Text.{snapshot_text};
+ghost use Rattle.snapshot_format.specs.Text.{text_of_snapshot};
 ghost use Rattle.snapshot_format.specs.Snapshot.{snapshot_of};
 ghost use Rattle.snapshot_format.specs.Saved.{IsSnapshot};
 ghost use Rattle.snapshot_format.specs.Kept.{IsKeptSnapshot};
@@ -12,7 +12,7 @@ ghost use Rattle.snapshot_format.specs.States.{state_of, saved_state};
 /// States that the text of a snapshot says that snapshot, if its values fit the types of a machine
 /// and keep what these keep.
 pub fn snapshot_is_read_back()
-    ensures { (saved : Snapshot) → IsSnapshot saved → snapshot_of (snapshot_text saved) ≡ Ok saved }
+    ensures { (saved : Snapshot) → IsSnapshot saved → snapshot_of (text_of_snapshot saved) ≡ Ok saved }
 {}
 
 /// States that whatever text is read, the states keep what the types of a machine keep: sets within

@@ -3,14 +3,14 @@
 ghost use Rattle.std.specs.Prelude.{◌≡◌};
 ghost use Rattle.std.specs.List.{list_any};
 ghost use Rattle.std.specs.Str.{bytes_eq};
-ghost use Rattle.lists.specs.Results.{result_map};
-ghost use Rattle.snapshot_format.specs.Reading.{Gives};
-ghost use Rattle.snapshot_format.specs.Records.{share_of, share_at, slice_at, next_share_at, next_at, head_at, operator_at, operators_at};
+ghost use Rattle.lists.specs.Results.{result_map, Gives};
+ghost use Rattle.snapshot_format.specs.Reading.{read_cause};
+ghost use Rattle.snapshot_format.specs.Records.{checked_share, take_share, take_slice, take_next_share, take_next, take_head, take_operator, take_operators};
 
 use crate::fault::{ReadFault, Wrong};
-use crate::fields::{literal_at, long_at, name_at, presence_at, short_at, stop_at};
-use crate::flow_records::flows_at;
-use crate::response_records::{arrivals_at, entries_at};
+use crate::fields::{stop_at, take_literal, take_long, take_name, take_presence, take_short};
+use crate::flow_records::take_flows;
+use crate::response_records::{take_arrivals, take_entries};
 use crate::saved::SavedOperator;
 use lists::Listed;
 use operator_model::{NextShare, Share};
@@ -28,8 +28,8 @@ pub(crate) struct OperatorHead {
 }
 
 /// Returns a slice and a budget, if the slice is within a frame.
-fn share_of(start: u16, length: u16, budget: u16) -> Result<Share, Wrong>
-    ensures { result_map (λ share. share) result ≡ share_of start length budget }
+fn checked_share(start: u16, length: u16, budget: u16) -> Result<Share, Wrong>
+    ensures { result_map (λ share. share) result ≡ checked_share start length budget }
 {
     if length >= 1 && start as u32 + length as u32 <= 4096 {
         let slice = Slice::new(start, length);
@@ -40,35 +40,35 @@ fn share_of(start: u16, length: u16, budget: u16) -> Result<Share, Wrong>
 }
 
 /// Returns a slice and a budget, and what is after their line.
-#[tactic(auto, unfolding(crate::specs::Records::share_at))]
-fn share_at(bytes: &[u8]) -> Result<(Share, &[u8]), ReadFault>
-    ensures { Gives (λ x. (x.0, x.1.now)) result (share_at bytes.now) }
+#[tactic(auto, unfolding(crate::specs::Records::take_share))]
+fn take_share(bytes: &[u8]) -> Result<(Share, &[u8]), ReadFault>
+    ensures { Gives read_cause (λ x. (x.0, x.1.now)) result (take_share bytes.now) }
 {
-    let (start, rest) = short_at(bytes, b' ')?;
-    let (length, rest) = short_at(rest, b' ')?;
-    let (budget, rest) = short_at(rest, b'\n')?;
-    match share_of(start, length, budget) {
+    let (start, rest) = take_short(bytes, b' ')?;
+    let (length, rest) = take_short(rest, b' ')?;
+    let (budget, rest) = take_short(rest, b'\n')?;
+    match checked_share(start, length, budget) {
         Ok(share) => Ok((share, rest)),
         Err(wrong) => Err(stop_at(wrong, bytes)),
     }
 }
 
 /// Returns the slice and the budget in force, and what is after their line.
-#[tactic(auto, unfolding(crate::specs::Records::slice_at))]
-fn slice_at(bytes: &[u8]) -> Result<(Share, &[u8]), ReadFault>
-    ensures { Gives (λ x. (x.0, x.1.now)) result (slice_at bytes.now) }
+#[tactic(auto, unfolding(crate::specs::Records::take_slice))]
+fn take_slice(bytes: &[u8]) -> Result<(Share, &[u8]), ReadFault>
+    ensures { Gives read_cause (λ x. (x.0, x.1.now)) result (take_slice bytes.now) }
 {
-    let rest = literal_at(bytes, b"slice ")?;
-    share_at(rest)
+    let rest = take_literal(bytes, b"slice ")?;
+    take_share(rest)
 }
 
 /// Returns the slice and the budget that wait for a frame, and what is after their line.
-#[tactic(auto, unfolding(crate::specs::Records::next_share_at))]
-fn next_share_at(bytes: &[u8]) -> Result<(NextShare, &[u8]), ReadFault>
-    ensures { Gives (λ x. (x.0, x.1.now)) result (next_share_at bytes.now) }
+#[tactic(auto, unfolding(crate::specs::Records::take_next_share))]
+fn take_next_share(bytes: &[u8]) -> Result<(NextShare, &[u8]), ReadFault>
+    ensures { Gives read_cause (λ x. (x.0, x.1.now)) result (take_next_share bytes.now) }
 {
-    let (from, rest) = long_at(bytes, b' ')?;
-    let (share, rest) = match share_at(rest) {
+    let (from, rest) = take_long(bytes, b' ')?;
+    let (share, rest) = match take_share(rest) {
         Ok(taken) => taken,
         Err(fault) => return Err(fault),
     };
@@ -76,16 +76,16 @@ fn next_share_at(bytes: &[u8]) -> Result<(NextShare, &[u8]), ReadFault>
 }
 
 /// Returns what waits for a frame if something does, and what is after its line.
-#[tactic(auto, unfolding(crate::specs::Records::next_at))]
-fn next_at(bytes: &[u8]) -> Result<(Option<NextShare>, &[u8]), ReadFault>
-    ensures { Gives (λ x. (x.0, x.1.now)) result (next_at bytes.now) }
+#[tactic(auto, unfolding(crate::specs::Records::take_next))]
+fn take_next(bytes: &[u8]) -> Result<(Option<NextShare>, &[u8]), ReadFault>
+    ensures { Gives read_cause (λ x. (x.0, x.1.now)) result (take_next bytes.now) }
 {
-    let rest = literal_at(bytes, b"next ")?;
-    let (is_there, rest) = presence_at(rest, b'\n')?;
+    let rest = take_literal(bytes, b"next ")?;
+    let (is_there, rest) = take_presence(rest, b'\n')?;
     if !is_there {
         return Ok((None, rest));
     }
-    let (next, rest) = match next_share_at(rest) {
+    let (next, rest) = match take_next_share(rest) {
         Ok(taken) => taken,
         Err(fault) => return Err(fault),
     };
@@ -93,18 +93,18 @@ fn next_at(bytes: &[u8]) -> Result<(Option<NextShare>, &[u8]), ReadFault>
 }
 
 /// Returns whose records follow and how many there are, and what is after that line.
-#[tactic(auto, unfolding(crate::specs::Records::head_at))]
-fn head_at(bytes: &[u8]) -> Result<(OperatorHead, &[u8]), ReadFault>
-    ensures { Gives (λ x. (x.0, x.1.now)) result (head_at bytes.now) }
+#[tactic(auto, unfolding(crate::specs::Records::take_head))]
+fn take_head(bytes: &[u8]) -> Result<(OperatorHead, &[u8]), ReadFault>
+    ensures { Gives read_cause (λ x. (x.0, x.1.now)) result (take_head bytes.now) }
 {
-    let rest = literal_at(bytes, b"operator ")?;
-    let (name, rest) = match name_at(rest, b' ') {
+    let rest = take_literal(bytes, b"operator ")?;
+    let (name, rest) = match take_name(rest, b' ') {
         Ok(taken) => taken,
         Err(fault) => return Err(fault),
     };
-    let (flows, rest) = short_at(rest, b' ')?;
-    let (kept, rest) = short_at(rest, b' ')?;
-    let (inbox, rest) = short_at(rest, b'\n')?;
+    let (flows, rest) = take_short(rest, b' ')?;
+    let (kept, rest) = take_short(rest, b' ')?;
+    let (inbox, rest) = take_short(rest, b'\n')?;
     let head = OperatorHead {
         name,
         flows,
@@ -115,28 +115,28 @@ fn head_at(bytes: &[u8]) -> Result<(OperatorHead, &[u8]), ReadFault>
 }
 
 /// Returns the state of an operator, and what is after its lines.
-#[tactic(auto, unfolding(crate::specs::Records::operator_at))]
-fn operator_at(alloc: Global, bytes: &[u8]) -> Result<(SavedOperator, &[u8]), ReadFault>
-    ensures { Gives (λ x. (x.0, x.1.now)) result (operator_at bytes.now) }
+#[tactic(auto, unfolding(crate::specs::Records::take_operator))]
+fn take_operator(alloc: Global, bytes: &[u8]) -> Result<(SavedOperator, &[u8]), ReadFault>
+    ensures { Gives read_cause (λ x. (x.0, x.1.now)) result (take_operator bytes.now) }
 {
-    let (head, rest) = match head_at(bytes) {
+    let (head, rest) = match take_head(bytes) {
         Ok(taken) => taken,
         Err(fault) => return Err(fault),
     };
-    let (share, rest) = match slice_at(rest) {
+    let (share, rest) = match take_slice(rest) {
         Ok(taken) => taken,
         Err(fault) => return Err(fault),
     };
-    let (next, rest) = match next_at(rest) {
+    let (next, rest) = match take_next(rest) {
         Ok(taken) => taken,
         Err(fault) => return Err(fault),
     };
-    let (flows, rest) = match flows_at(alloc, head.flows, rest) {
+    let (flows, rest) = match take_flows(alloc, head.flows, rest) {
         Ok(taken) => taken,
         Err(fault) => return Err(fault),
     };
-    let (kept, rest) = entries_at(alloc, head.kept, rest)?;
-    let (inbox, rest) = arrivals_at(alloc, head.inbox, rest)?;
+    let (kept, rest) = take_entries(alloc, head.kept, rest)?;
+    let (inbox, rest) = take_arrivals(alloc, head.inbox, rest)?;
     let operator = SavedOperator {
         name: head.name,
         share,
@@ -158,18 +158,18 @@ fn has_name(operators: &[SavedOperator], name: OperatorName) -> bool
 }
 
 /// Returns the states of so many operators, each of another name, and what is after them.
-#[tactic(auto, unfolding(crate::specs::Records::operators_at))]
-pub(crate) fn operators_at(
+#[tactic(auto, unfolding(crate::specs::Records::take_operators))]
+pub(crate) fn take_operators(
     alloc: Global,
     count: u16,
     bytes: &[u8],
 ) -> Result<(Listed<SavedOperator>, &[u8]), ReadFault>
-    ensures { Gives (λ x. (x.0, x.1.now)) result (operators_at count bytes.now) }
+    ensures { Gives read_cause (λ x. (x.0, x.1.now)) result (take_operators count bytes.now) }
 {
     let mut operators = Vec::new(alloc);
     let mut rest = bytes;
     for _ in 0..count {
-        let (operator, after) = operator_at(alloc, rest)?;
+        let (operator, after) = take_operator(alloc, rest)?;
         if has_name(&operators, operator.name) {
             return Err(stop_at(Wrong::Repeated, rest));
         }

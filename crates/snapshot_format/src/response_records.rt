@@ -3,12 +3,13 @@
 ghost use Rattle.std.specs.Prelude.{◌≡◌};
 ghost use Rattle.std.specs.List.{list_any};
 ghost use Rattle.transactions.specs.Entry.{is_of};
-ghost use Rattle.snapshot_format.specs.Reading.{Gives};
-ghost use Rattle.snapshot_format.specs.Records.{kind_in, kind_at, state_in, state_at, is_timed, entry_at, entries_at, message_at, request_at, arrival_at, arrivals_at};
+ghost use Rattle.lists.specs.Results.{Gives};
+ghost use Rattle.snapshot_format.specs.Reading.{read_cause};
+ghost use Rattle.snapshot_format.specs.Records.{kind_in, take_kind, state_in, take_state, is_timed, take_entry, take_entries, take_message, take_request, take_arrival, take_arrivals};
 
 use crate::fault::{ReadFault, Wrong};
 use crate::fields::{
-    byte_at, bytes_at, field_at, literal_at, long_at, modem_at, short_at, stop_at,
+    stop_at, take_byte, take_bytes, take_field, take_literal, take_long, take_modem, take_short,
 };
 use dsx_messages::{Kind, Modem};
 use lists::Listed;
@@ -32,11 +33,11 @@ fn kind_in(field: &[u8]) -> Result<Kind, Wrong>
 }
 
 /// Returns a kind of transaction, and what is after it.
-#[tactic(auto, unfolding(crate::specs::Records::kind_at))]
-fn kind_at(bytes: &[u8]) -> Result<(Kind, &[u8]), ReadFault>
-    ensures { Gives (λ x. (x.0, x.1.now)) result (kind_at bytes.now) }
+#[tactic(auto, unfolding(crate::specs::Records::take_kind))]
+fn take_kind(bytes: &[u8]) -> Result<(Kind, &[u8]), ReadFault>
+    ensures { Gives read_cause (λ x. (x.0, x.1.now)) result (take_kind bytes.now) }
 {
-    let (field, rest) = field_at(bytes, b' ')?;
+    let (field, rest) = take_field(bytes, b' ')?;
     match kind_in(field) {
         Ok(kind) => Ok((kind, rest)),
         Err(wrong) => Err(stop_at(wrong, bytes)),
@@ -57,11 +58,11 @@ fn state_in(field: &[u8]) -> Result<ResponseState, Wrong>
 }
 
 /// Returns the state of a response, and what is after it.
-#[tactic(auto, unfolding(crate::specs::Records::state_at))]
-fn state_at(bytes: &[u8]) -> Result<(ResponseState, &[u8]), ReadFault>
-    ensures { Gives (λ x. (x.0, x.1.now)) result (state_at bytes.now) }
+#[tactic(auto, unfolding(crate::specs::Records::take_state))]
+fn take_state(bytes: &[u8]) -> Result<(ResponseState, &[u8]), ReadFault>
+    ensures { Gives read_cause (λ x. (x.0, x.1.now)) result (take_state bytes.now) }
 {
-    let (field, rest) = field_at(bytes, b' ')?;
+    let (field, rest) = take_field(bytes, b' ')?;
     match state_in(field) {
         Ok(standing) => Ok((standing, rest)),
         Err(wrong) => Err(stop_at(wrong, bytes)),
@@ -76,19 +77,19 @@ fn is_timed(entry: &KeptEntry) -> bool
 }
 
 /// Returns a cached response, and what is after its line.
-#[tactic(auto, unfolding(crate::specs::Records::entry_at))]
-fn entry_at(alloc: Global, bytes: &[u8]) -> Result<(KeptEntry, &[u8]), ReadFault>
-    ensures { Gives (λ x. (x.0, x.1.now)) result (entry_at bytes.now) }
+#[tactic(auto, unfolding(crate::specs::Records::take_entry))]
+fn take_entry(alloc: Global, bytes: &[u8]) -> Result<(KeptEntry, &[u8]), ReadFault>
+    ensures { Gives read_cause (λ x. (x.0, x.1.now)) result (take_entry bytes.now) }
 {
-    let rest = literal_at(bytes, b"response ")?;
-    let (modem, rest) = modem_at(rest, b' ')?;
-    let (tid, rest) = short_at(rest, b' ')?;
-    let (kind, rest) = kind_at(rest)?;
-    let (sfid, rest) = long_at(rest, b' ')?;
-    let (standing, rest) = state_at(rest)?;
-    let (ticks_left, rest) = short_at(rest, b' ')?;
-    let (resends_left, rest) = byte_at(rest, b' ')?;
-    let (reply, rest) = bytes_at(alloc, rest, b'\n')?;
+    let rest = take_literal(bytes, b"response ")?;
+    let (modem, rest) = take_modem(rest, b' ')?;
+    let (tid, rest) = take_short(rest, b' ')?;
+    let (kind, rest) = take_kind(rest)?;
+    let (sfid, rest) = take_long(rest, b' ')?;
+    let (standing, rest) = take_state(rest)?;
+    let (ticks_left, rest) = take_short(rest, b' ')?;
+    let (resends_left, rest) = take_byte(rest, b' ')?;
+    let (reply, rest) = take_bytes(alloc, rest, b'\n')?;
     let entry = KeptEntry {
         modem,
         tid,
@@ -116,18 +117,18 @@ fn has_transaction(entries: &[KeptEntry], modem: Modem, tid: u16) -> bool
 }
 
 /// Returns so many cached responses, each of another transaction, and what is after them.
-#[tactic(auto, unfolding(crate::specs::Records::entries_at))]
-pub(crate) fn entries_at(
+#[tactic(auto, unfolding(crate::specs::Records::take_entries))]
+pub(crate) fn take_entries(
     alloc: Global,
     count: u16,
     bytes: &[u8],
 ) -> Result<(Listed<KeptEntry>, &[u8]), ReadFault>
-    ensures { Gives (λ x. (x.0, x.1.now)) result (entries_at count bytes.now) }
+    ensures { Gives read_cause (λ x. (x.0, x.1.now)) result (take_entries count bytes.now) }
 {
     let mut entries = Vec::new(alloc);
     let mut rest = bytes;
     for _ in 0..count {
-        let (entry, after) = entry_at(alloc, rest)?;
+        let (entry, after) = take_entry(alloc, rest)?;
         if has_transaction(&entries, entry.modem, entry.tid) {
             return Err(stop_at(Wrong::Repeated, rest));
         }
@@ -138,53 +139,53 @@ pub(crate) fn entries_at(
 }
 
 /// Returns a message that was received, and what is after its line.
-#[tactic(auto, unfolding(crate::specs::Records::message_at))]
-fn message_at(alloc: Global, bytes: &[u8]) -> Result<(Arrival, &[u8]), ReadFault>
-    ensures { Gives (λ x. (x.0, x.1.now)) result (message_at bytes.now) }
+#[tactic(auto, unfolding(crate::specs::Records::take_message))]
+fn take_message(alloc: Global, bytes: &[u8]) -> Result<(Arrival, &[u8]), ReadFault>
+    ensures { Gives read_cause (λ x. (x.0, x.1.now)) result (take_message bytes.now) }
 {
-    let (modem, rest) = modem_at(bytes, b' ')?;
-    let (message, rest) = bytes_at(alloc, rest, b'\n')?;
+    let (modem, rest) = take_modem(bytes, b' ')?;
+    let (message, rest) = take_bytes(alloc, rest, b'\n')?;
     let heard = Heard::Message(message);
     Ok((Arrival { modem, heard }, rest))
 }
 
 /// Returns a bandwidth request that was received, and what is after its line.
-#[tactic(auto, unfolding(crate::specs::Records::request_at))]
-fn request_at(bytes: &[u8]) -> Result<(Arrival, &[u8]), ReadFault>
-    ensures { Gives (λ x. (x.0, x.1.now)) result (request_at bytes.now) }
+#[tactic(auto, unfolding(crate::specs::Records::take_request))]
+fn take_request(bytes: &[u8]) -> Result<(Arrival, &[u8]), ReadFault>
+    ensures { Gives read_cause (λ x. (x.0, x.1.now)) result (take_request bytes.now) }
 {
-    let (modem, rest) = modem_at(bytes, b' ')?;
-    let (sid, rest) = short_at(rest, b' ')?;
-    let (minislots, rest) = short_at(rest, b'\n')?;
+    let (modem, rest) = take_modem(bytes, b' ')?;
+    let (sid, rest) = take_short(rest, b' ')?;
+    let (minislots, rest) = take_short(rest, b'\n')?;
     let heard = Heard::Request { sid, minislots };
     Ok((Arrival { modem, heard }, rest))
 }
 
 /// Returns what was received, and what is after its line.
-#[tactic(auto, unfolding(crate::specs::Records::arrival_at))]
-fn arrival_at(alloc: Global, bytes: &[u8]) -> Result<(Arrival, &[u8]), ReadFault>
-    ensures { Gives (λ x. (x.0, x.1.now)) result (arrival_at bytes.now) }
+#[tactic(auto, unfolding(crate::specs::Records::take_arrival))]
+fn take_arrival(alloc: Global, bytes: &[u8]) -> Result<(Arrival, &[u8]), ReadFault>
+    ensures { Gives read_cause (λ x. (x.0, x.1.now)) result (take_arrival bytes.now) }
 {
     if let Some(rest) = bytes.strip_prefix(b"message ") {
-        return message_at(alloc, rest);
+        return take_message(alloc, rest);
     }
-    let rest = literal_at(bytes, b"request ")?;
-    request_at(rest)
+    let rest = take_literal(bytes, b"request ")?;
+    take_request(rest)
 }
 
 /// Returns so many arrivals, and what is after them.
-#[tactic(auto, unfolding(crate::specs::Records::arrivals_at))]
-pub(crate) fn arrivals_at(
+#[tactic(auto, unfolding(crate::specs::Records::take_arrivals))]
+pub(crate) fn take_arrivals(
     alloc: Global,
     count: u16,
     bytes: &[u8],
 ) -> Result<(Listed<Arrival>, &[u8]), ReadFault>
-    ensures { Gives (λ x. (x.0, x.1.now)) result (arrivals_at count bytes.now) }
+    ensures { Gives read_cause (λ x. (x.0, x.1.now)) result (take_arrivals count bytes.now) }
 {
     let mut arrivals = Vec::new(alloc);
     let mut rest = bytes;
     for _ in 0..count {
-        let (arrival, after) = arrival_at(alloc, rest)?;
+        let (arrival, after) = take_arrival(alloc, rest)?;
         arrivals.push(arrival)?;
         rest = after;
     }

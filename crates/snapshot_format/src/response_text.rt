@@ -53,10 +53,10 @@ fn put_entry(alloc: Global, text: &mut String, entry: &KeptEntry) -> Result<(), 
     let (ticks, resends) = (entry.ticks_left, entry.resends_left);
     let kind = kind_text(entry.kind);
     let standing = state_text(entry.standing);
-    let address = encode_upper(alloc, entry.modem.0.as_slice())?;
+    let address_field = encode_upper(alloc, entry.modem.0.as_slice())?;
     write!(
         text,
-        "response {address} {tid} {kind} {sfid} {standing} {ticks} {resends} "
+        "response {address_field} {tid} {kind} {sfid} {standing} {ticks} {resends} "
     )?;
     put_bytes(alloc, text, &entry.reply)?;
     text.push_str("\n")
@@ -85,14 +85,17 @@ fn put_heard(
 ) -> Result<(), AllocError>
     ensures { OnOk result (string_bytes text.new ≡ string_bytes text.old ++ heard_text modem heard.now) }
 {
-    let address = encode_upper(alloc, modem.0.as_slice())?;
+    let address_field = encode_upper(alloc, modem.0.as_slice())?;
     match heard {
         Heard::Message(bytes) => {
-            write!(text, "message {address} ")?;
+            write!(text, "message {address_field} ")?;
             put_bytes(alloc, text, bytes)?;
             text.push_str("\n")
         }
-        Heard::Request { sid, minislots } => write!(text, "request {address} {sid} {minislots}\n"),
+        Heard::Request { sid, minislots } => write!(
+            text,
+            "request {address_field} {sid} {minislots}\n"
+        ),
     }
 }
 

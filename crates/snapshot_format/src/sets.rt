@@ -1,21 +1,21 @@
 //! Parameter sets in a line.
 
 ghost use Rattle.std.specs.Prelude.{◌≡◌, true};
-ghost use Rattle.lists.specs.Results.{result_map};
+ghost use Rattle.lists.specs.Results.{result_map, Gives};
 ghost use Rattle.param_sets.specs.ParamSet.{IsParameterSet};
-ghost use Rattle.snapshot_format.specs.Reading.{Gives};
-ghost use Rattle.snapshot_format.specs.Sets.{scheduling_at, params_at, has_no_polls, has_no_grants, has_grants, is_of_kind, is_parameter_set, set_of, set_at, optional_set_at, with_admitted, with_active, sets_under, sets_of, sets_at};
+ghost use Rattle.snapshot_format.specs.Reading.{read_cause};
+ghost use Rattle.snapshot_format.specs.Sets.{take_scheduling, take_params, has_no_polls, has_no_grants, has_grants, is_of_kind, is_parameter_set, checked_set, take_set, take_optional_set, with_admitted, with_active, sets_under, checked_sets, take_sets};
 
 use crate::fault::{ReadFault, Wrong};
-use crate::fields::{byte_at, long_at, presence_at, short_at, stop_at};
+use crate::fields::{stop_at, take_byte, take_long, take_presence, take_short};
 use param_sets::{ParamFields, ParamSet, Scheduling, Sets};
 
 /// Returns a kind of scheduling by its number, and what is after it.
-#[tactic(auto, unfolding(crate::specs::Sets::scheduling_at))]
-fn scheduling_at(bytes: &[u8]) -> Result<(Scheduling, &[u8]), ReadFault>
-    ensures { Gives (λ x. (x.0, x.1.now)) result (scheduling_at bytes.now) }
+#[tactic(auto, unfolding(crate::specs::Sets::take_scheduling))]
+fn take_scheduling(bytes: &[u8]) -> Result<(Scheduling, &[u8]), ReadFault>
+    ensures { Gives read_cause (λ x. (x.0, x.1.now)) result (take_scheduling bytes.now) }
 {
-    let (number, rest) = byte_at(bytes, b',')?;
+    let (number, rest) = take_byte(bytes, b',')?;
     match Scheduling::from_stated_number(Some(number)) {
         Some(scheduling) => Ok((scheduling, rest)),
         None => Err(stop_at(Wrong::Range, bytes)),
@@ -23,22 +23,22 @@ fn scheduling_at(bytes: &[u8]) -> Result<(Scheduling, &[u8]), ReadFault>
 }
 
 /// Returns the twelve parameters of a set, and what is after them.
-#[tactic(auto, unfolding(crate::specs::Sets::params_at))]
-fn params_at(bytes: &[u8]) -> Result<(ParamFields, &[u8]), ReadFault>
-    ensures { Gives (λ x. (x.0, x.1.now)) result (params_at bytes.now) }
+#[tactic(auto, unfolding(crate::specs::Sets::take_params))]
+fn take_params(bytes: &[u8]) -> Result<(ParamFields, &[u8]), ReadFault>
+    ensures { Gives read_cause (λ x. (x.0, x.1.now)) result (take_params bytes.now) }
 {
-    let (scheduling, rest) = scheduling_at(bytes)?;
-    let (priority, rest) = byte_at(rest, b',')?;
-    let (max_sustained_rate, rest) = long_at(rest, b',')?;
-    let (max_burst, rest) = long_at(rest, b',')?;
-    let (min_reserved_rate, rest) = long_at(rest, b',')?;
-    let (request_policy, rest) = long_at(rest, b',')?;
-    let (polling_interval, rest) = long_at(rest, b',')?;
-    let (poll_jitter, rest) = long_at(rest, b',')?;
-    let (grant_size, rest) = short_at(rest, b',')?;
-    let (grant_interval, rest) = long_at(rest, b',')?;
-    let (grant_jitter, rest) = long_at(rest, b',')?;
-    let (grants_per_interval, rest) = byte_at(rest, b' ')?;
+    let (scheduling, rest) = take_scheduling(bytes)?;
+    let (priority, rest) = take_byte(rest, b',')?;
+    let (max_sustained_rate, rest) = take_long(rest, b',')?;
+    let (max_burst, rest) = take_long(rest, b',')?;
+    let (min_reserved_rate, rest) = take_long(rest, b',')?;
+    let (request_policy, rest) = take_long(rest, b',')?;
+    let (polling_interval, rest) = take_long(rest, b',')?;
+    let (poll_jitter, rest) = take_long(rest, b',')?;
+    let (grant_size, rest) = take_short(rest, b',')?;
+    let (grant_interval, rest) = take_long(rest, b',')?;
+    let (grant_jitter, rest) = take_long(rest, b',')?;
+    let (grants_per_interval, rest) = take_byte(rest, b' ')?;
     let fields = ParamFields {
         scheduling,
         priority,
@@ -103,8 +103,8 @@ fn is_parameter_set(set: &ParamFields) -> bool
 }
 
 /// Returns the set of these parameters, if they are those of a set.
-fn set_of(fields: ParamFields) -> Result<ParamSet, Wrong>
-    ensures { result_map (λ set. set) result ≡ set_of fields }
+fn checked_set(fields: ParamFields) -> Result<ParamSet, Wrong>
+    ensures { result_map (λ set. set) result ≡ checked_set fields }
 {
     if is_parameter_set(&fields) {
         Ok(ParamSet::new(fields))
@@ -114,27 +114,27 @@ fn set_of(fields: ParamFields) -> Result<ParamSet, Wrong>
 }
 
 /// Returns a parameter set, and what is after it.
-#[tactic(auto, unfolding(crate::specs::Sets::set_at))]
-fn set_at(bytes: &[u8]) -> Result<(ParamSet, &[u8]), ReadFault>
-    ensures { Gives (λ x. (x.0, x.1.now)) result (set_at bytes.now) }
+#[tactic(auto, unfolding(crate::specs::Sets::take_set))]
+fn take_set(bytes: &[u8]) -> Result<(ParamSet, &[u8]), ReadFault>
+    ensures { Gives read_cause (λ x. (x.0, x.1.now)) result (take_set bytes.now) }
 {
-    let (fields, rest) = params_at(bytes)?;
-    match set_of(fields) {
+    let (fields, rest) = take_params(bytes)?;
+    match checked_set(fields) {
         Ok(set) => Ok((set, rest)),
         Err(wrong) => Err(stop_at(wrong, bytes)),
     }
 }
 
 /// Returns a parameter set if there is one, and what is after it.
-#[tactic(auto, unfolding(crate::specs::Sets::optional_set_at))]
-fn optional_set_at(bytes: &[u8]) -> Result<(Option<ParamSet>, &[u8]), ReadFault>
-    ensures { Gives (λ x. (x.0, x.1.now)) result (optional_set_at bytes.now) }
+#[tactic(auto, unfolding(crate::specs::Sets::take_optional_set))]
+fn take_optional_set(bytes: &[u8]) -> Result<(Option<ParamSet>, &[u8]), ReadFault>
+    ensures { Gives read_cause (λ x. (x.0, x.1.now)) result (take_optional_set bytes.now) }
 {
-    let (is_there, rest) = presence_at(bytes, b' ')?;
+    let (is_there, rest) = take_presence(bytes, b' ')?;
     if !is_there {
         return Ok((None, rest));
     }
-    match set_at(rest) {
+    match take_set(rest) {
         Ok((set, rest)) => Ok((Some(set), rest)),
         Err(fault) => Err(fault),
     }
@@ -177,12 +177,12 @@ fn with_active(sets: Sets, active: Option<ParamSet>) -> Result<Sets, Wrong>
 }
 
 /// Returns the sets that admitting and activating these makes.
-fn sets_of(
+fn checked_sets(
     provisioned: Option<ParamSet>,
     admitted: Option<ParamSet>,
     active: Option<ParamSet>,
 ) -> Result<Sets, Wrong>
-    ensures { result_map (λ sets. sets) result ≡ sets_of provisioned admitted active }
+    ensures { result_map (λ sets. sets) result ≡ checked_sets provisioned admitted active }
 {
     match with_admitted(sets_under(provisioned), admitted) {
         Ok(sets) => with_active(sets, active),
@@ -191,23 +191,23 @@ fn sets_of(
 }
 
 /// Returns the three sets of a flow, and what is after them.
-#[tactic(auto, unfolding(crate::specs::Sets::sets_at))]
-pub(crate) fn sets_at(bytes: &[u8]) -> Result<(Sets, &[u8]), ReadFault>
-    ensures { Gives (λ x. (x.0, x.1.now)) result (sets_at bytes.now) }
+#[tactic(auto, unfolding(crate::specs::Sets::take_sets))]
+pub(crate) fn take_sets(bytes: &[u8]) -> Result<(Sets, &[u8]), ReadFault>
+    ensures { Gives read_cause (λ x. (x.0, x.1.now)) result (take_sets bytes.now) }
 {
-    let (provisioned, rest) = match optional_set_at(bytes) {
+    let (provisioned, rest) = match take_optional_set(bytes) {
         Ok(taken) => taken,
         Err(fault) => return Err(fault),
     };
-    let (admitted, rest) = match optional_set_at(rest) {
+    let (admitted, rest) = match take_optional_set(rest) {
         Ok(taken) => taken,
         Err(fault) => return Err(fault),
     };
-    let (active, rest) = match optional_set_at(rest) {
+    let (active, rest) = match take_optional_set(rest) {
         Ok(taken) => taken,
         Err(fault) => return Err(fault),
     };
-    match sets_of(provisioned, admitted, active) {
+    match checked_sets(provisioned, admitted, active) {
         Ok(sets) => Ok((sets, rest)),
         Err(wrong) => Err(stop_at(wrong, bytes)),
     }

@@ -2,7 +2,6 @@ pub mod Subtype
 pub mod SetType
 pub mod Tlv
 pub mod Name
-pub mod Padding
 pub mod Range
 pub mod Flow
 pub mod Stated

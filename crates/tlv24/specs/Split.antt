@@ -15,6 +15,6 @@ IsSplitFault bytes (Range subtype) = ⊥
 IsSplitFault bytes NoMemory = Unit {0}
 
 -- these TLVs, unless memory ran out
-abbrev pub IsOkUnlessMemory : Result (Vec Tlv) TlvFault → List Tlv → Type 0
-IsOkUnlessMemory (Ok v) tlvs = v.items ≡ tlvs
-IsOkUnlessMemory (Err fault) tlvs = fault ≡ NoMemory
+abbrev pub TlvsAreRead : Result (Vec Tlv) TlvFault → List Tlv → Type 0
+TlvsAreRead (Ok v) tlvs = v.items ≡ tlvs
+TlvsAreRead (Err fault) tlvs = fault ≡ NoMemory

@@ -19,14 +19,14 @@ pub struct ClassName {
 
 impl Model for ClassName {
     ghost use Rattle.std.specs.Prelude.{ℕ, List, ◌++◌, ◌-◌, length, take, replicate};
-    ghost use Rattle.tlv24.specs.Name.{IsPaddedName};
-    ghost use Rattle.tlv24.specs.Padding.{padded_name_splits};
+    ghost use Rattle.tlv24.specs.Name.{IsClassName};
+    ghost use Rattle.lists.specs.Padding.{IsPaddedName, padded_name_splits};
 
     ghost Value = { List ℕ };
 
     ghost view = { λ n. take n.len n.bytes };
 
-    ghost invariant = { λ n. IsPaddedName n.bytes n.len };
+    ghost invariant = { λ n. IsPaddedName IsClassName 15 n.bytes n.len };
 
     ghost inverse = { λ name. record { bytes = name ++ replicate (15 - length name) 0; len = length name } };
 

@@ -3,7 +3,7 @@
 ghost use Rattle.std.specs.Prelude.{◌≡◌, ℕ, ◌≤◌, List, [], ◌∷◌, length, Option, Some, None, MatchOption, IfOk, IfErr};
 ghost use Rattle.std.specs.Option.{option_map};
 ghost use Rattle.tlv24.specs.Tlv.{tlv, first_tlv, Begins, NoTlvBegins, IsTlvList};
-ghost use Rattle.tlv24.specs.Split.{IsSplitFault, IsOkUnlessMemory};
+ghost use Rattle.tlv24.specs.Split.{IsSplitFault, TlvsAreRead};
 ghost use Rattle.tlv24.specs.declared.tlv.TlvFault.TheVariants.{NoMemory};
 
 use lists::Listed;
@@ -87,7 +87,7 @@ impl Tlvs {
     /// Returns the TLVs that the bytes are, in order, or `Cut` if they are not a list of TLVs.
     pub fn split(alloc: Global, bytes: &[u8]) -> Result<Vec<Tlv>, TlvFault>
         ensures found { IfOk result (λ tlvs. IsTlvList bytes.now tlvs.items) }
-        ensures only { (tlvs : List Tlv) → IsTlvList bytes.now tlvs → IsOkUnlessMemory result tlvs }
+        ensures only { (tlvs : List Tlv) → IsTlvList bytes.now tlvs → TlvsAreRead result tlvs }
         ensures fault { IfErr result (IsSplitFault bytes.now) }
     {
         let mut tlvs = Vec::new(alloc);

@@ -3,7 +3,7 @@ use Rattle.std.proofs.Common.{◌≡◌, ◌∙◌, true, false, ap, ap₂}
 use Rattle.std.proofs.lemmas.Result.{IfOk-weaker}
 use Rattle.clap.specs.Words.{Rule, rule_of, with_rule}
 use Rattle.clap.specs.declared.builder.arg.Arg.{Arg}
-use Rattle.command_line.specs.ClapLine.{operator}
+use Rattle.command_line.specs.ClapLine.{name_argument}
 use Rattle.command_line.proofs.command.history_command.Goals as goal
 
 pub returns : goal.returns
@@ -11,7 +11,7 @@ returns c =
     let named : rule_of c.value_name.result ≡ record (rule_of c.new.result) { value_names = 1 } = ap rule_of c.value_name.ensures in
     let required : rule_of c.required.result ≡ record (rule_of c.value_name.result) { required = true } = ap rule_of c.required.ensures in
     let told : rule_of c.help-operator.result ≡ rule_of c.required.result = ap rule_of c.help-operator.ensures in
-    let rule : rule_of c.help-operator.result ≡ operator =
+    let rule : rule_of c.help-operator.result ≡ name_argument =
     told ∙ (required ∙ ap (λ (r : Rule). record r { required = true }) (named ∙ ap (λ (r : Rule). record r { value_names = 1 }) c.new.ensures.rule)) in
     let global = λ (a : Arg). a.global in
     let local : c.help-operator.result.global ≡ false =

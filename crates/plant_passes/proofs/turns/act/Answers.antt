@@ -1,7 +1,7 @@
 use Rattle.std.proofs.Common.{rules, ◌≡◌, ◌<◌, ℕ, true, [], ◌∷◌, ◌++◌, sym, ap, ◌∙◌, refl, subst}
 use Rattle.operator_model.specs.Machine.{is_spent}
 use Rattle.plant_passes.specs.Runs.{state_after}
-use Rattle.plant_passes.specs.Histories.{entries, entry_of}
+use Rattle.plant_passes.specs.Histories.{entries, history_entry}
 use Rattle.plant_passes.specs.Steps.{SeesHistory, after_closing}
 use Rattle.plant_passes.specs.Turns.{HasBookWith}
 use Rattle.plant_passes.proofs.Moves.{advances, shuts}
@@ -20,7 +20,7 @@ store-requires g c =
       search rules,
       advances _ _ _ _ _ _ _ [] k.book _ k.ranking (search rules) (ap (λ v. v.holds_book) same ∙ mine.holds_book) (ap (λ v. v.ticket) same ∙ mine.ticket_is)
           (subst (λ (n : ℕ). 0 < n) (sym number) c.requires.idle.number) refl k.hand_is
-          (k.history_is ∙ ap (λ v. entries v.seen ++ entry_of c.args.action c.in-Ok.outputs.items ∷ []) (sym same)) k.origin k.run,
+          (k.history_is ∙ ap (λ v. entries v.seen ++ history_entry c.args.action c.in-Ok.outputs.items ∷ []) (sym same)) k.origin k.run,
     )
 
 pub store-requires-in-Err : goal.store-requires-in-Err
@@ -41,7 +41,7 @@ pub returns-in-Ok-clause-ok : goal.returns-in-Ok-clause-ok
 returns-in-Ok-clause-ok g c =
     let mine = c.if-not-wait_turn.ensures.turn in
     let looks = subst (λ m. SeesHistory m.0 c.wait_turn.new.seat.me.0) c.draw-ticket.ensures.ticket c.wait_turn.ensures.looks in
-    let held = subst (λ outputs. HasBookWith (entries c.wait_turn.new.seat.me.0.seen ++ entry_of c.args.action outputs ∷ []) c.act_in_turn.new.seat.me)
+    let held = subst (λ outputs. HasBookWith (entries c.wait_turn.new.seat.me.0.seen ++ history_entry c.args.action outputs ∷ []) c.act_in_turn.new.seat.me)
     (sym c.from_vec.ensures) c.in-Ok.ensures.ok in
     let a = c.store.ensures.2 in
     acts_now _ c.args.seat.now.me.0 c.draw-ticket.result c.draw-ticket.result c.args.action c.from_vec.result _ _ c.store.new.seat.me.0

@@ -1,6 +1,6 @@
 use Rattle.clap.specs.Walk.{texts}
 use Rattle.script_format.proofs.Outcomes.{if_ok}
-use Rattle.plant_script.proofs.Reached.{word_reaches, fault_reaches}
+use Rattle.plant_script.proofs.Reached.{word_reaches}
 use Rattle.plant_script.proofs.program.answer_words.Goals as goal
 
 pub returns-in-Ok-clause-answered : goal.returns-in-Ok-clause-answered

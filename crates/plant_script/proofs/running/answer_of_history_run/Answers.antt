@@ -1,7 +1,7 @@
 use Rattle.std.proofs.Common.{subst}
 use Rattle.std.specs.Prelude.{slice_get}
 use Rattle.plant.specs.declared.plant.PlantFields.{PlantFields}
-use Rattle.plant_script.specs.Run.{IsRunOf}
+use Rattle.plant_script.specs.Run.{IsScriptRun}
 use Rattle.plant_script.specs.Task.{history_at}
 use Rattle.plant_script.specs.Statuses.{status_code}
 use Rattle.plant_script.proofs.running.answer_of_history_run.Goals as goal
@@ -9,5 +9,5 @@ use Rattle.plant_script.proofs.running.answer_of_history_run.Goals as goal
 pub returns : goal.returns
 returns g c =
     let answer = c.in_ok-answer.answer in
-    subst (λ (p : PlantFields). IsRunOf p c.args.lines.items (λ done told. history_at (slice_get p.rows c.args.op) c.args.op done) (status_code answer.status) answer.text.items)
+    subst (λ (p : PlantFields). IsScriptRun p c.args.lines.items (λ done told. history_at (slice_get p.rows c.args.op) c.args.op done) (status_code answer.status) answer.text.items)
     c.in_ok-core.ensures.plant_is c.in_ok-answer.ensures

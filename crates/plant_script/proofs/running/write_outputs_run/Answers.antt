@@ -1,4 +1,3 @@
-use Rattle.std.specs.Io.KnownBytes.{Appends}
 use Rattle.script_format.proofs.Outcomes.{if_ok}
 use Rattle.command_line.specs.declared.asked.RunReport.TheVariants.{Outputs}
 use Rattle.plant_script.specs.Task.{RunsTo}

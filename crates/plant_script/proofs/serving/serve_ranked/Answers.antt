@@ -1,5 +1,4 @@
-use Rattle.std.proofs.Common.{inl, inr, refl}
-use Rattle.script_format.proofs.Outcomes.{if_ok}
+use Rattle.std.proofs.Common.{inr, refl}
 use Rattle.live_core.specs.LiveView.{live_view}
 use Rattle.plant_script.proofs.Services.{service_served}
 use Rattle.plant_script.proofs.serving.serve_ranked.Goals as goal

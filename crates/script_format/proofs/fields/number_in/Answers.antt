@@ -1,11 +1,11 @@
 use Rattle.std.proofs.Common.{◌≡◌, ℕ, ◌+◌, ◌*◌, ◌-◌, ◌<◌, ◌≤◌, le-leb, true, List, length, get_or, drop, sym, ap, ◌∙◌}
 use Rattle.std.specs.Char.{is_ascii_digit}
 use Rattle.std.proofs.lemmas.List.{drop_more}
-use Rattle.script_format.specs.Fields.{Read, number_after}
+use Rattle.script_format.specs.Fields.{FieldResult, number_after}
 use Rattle.script_format.proofs.fields.number_in.Goals as goal
 
 -- one digit more, where the number stays at most so great
-digit_more : (most number : ℕ) (digits : List ℕ) (i : ℕ) (all : Read ℕ) → i < length digits → true ≡ is_ascii_digit (get_or digits i 0)
+digit_more : (most number : ℕ) (digits : List ℕ) (i : ℕ) (all : FieldResult ℕ) → i < length digits → true ≡ is_ascii_digit (get_or digits i 0)
     → number * 10 + (get_or digits i 0 - 48) ≤ most → number_after most number (drop i digits) ≡ all
     → number_after most (number * 10 + (get_or digits i 0 - 48)) (drop (i + 1) digits) ≡ all
 digit_more most number digits i all within digit few left =

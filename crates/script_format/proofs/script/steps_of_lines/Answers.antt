@@ -2,7 +2,8 @@ use Rattle.std.proofs.Common.{◌≡◌, ℕ, ◌+◌, List, [], map, drop, get_
 use Rattle.std.specs.Borrow.{Bor}
 use Rattle.script_format.specs.declared.fields.FieldFault.{FieldFault}
 use Rattle.script_format.specs.declared.fields.FieldFault.TheVariants.{Shape}
-use Rattle.script_format.specs.Fields.{Fails, behind}
+use Rattle.lists.specs.Results.{Fails}
+use Rattle.script_format.specs.Fields.{field_cause, behind}
 use Rattle.script_format.specs.Script.{line_steps, steps_after}
 use Rattle.script_format.proofs.Splits.{line_at}
 use Rattle.script_format.proofs.Scripts.{steps_more, steps_fail}
@@ -19,7 +20,7 @@ returns-in-Err-Shape c =
     let lines = map (λ (l : Bor (List ℕ)). l.now) c.args.lines.now in
     let here = line_at c.args.lines.now place none c.loop-line-test.true in
     let said = line_steps plant number line in
-    let fails : Fails Shape (behind steps said) = subst (λ (f : FieldFault). Fails f (behind steps said)) c.in-Err-Shape.field-0-is c.in-Err-Shape.ensures.said in
+    let fails : Fails (field_cause Shape) (behind steps said) = subst (λ (f : FieldFault). Fails (field_cause f) (behind steps said)) c.in-Err-Shape.field-0-is c.in-Err-Shape.ensures.said in
     sym c.loop-line.invariant.goes_on
     ∙ ap (steps_after plant number steps) here
     ∙ steps_fail plant number steps line (drop (place + 1) lines) Shape said refl fails

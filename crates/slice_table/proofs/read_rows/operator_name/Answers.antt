@@ -2,8 +2,7 @@ use Rattle.std.proofs.Common.{◌≡◌, ℕ, ◌↔◌, ◌&&◌, nat_le, le-le
 use Rattle.std.specs.Char.{is_ascii_alphanumeric}
 use Rattle.std.specs.List.{list_all}
 use Rattle.std.proofs.lemmas.Bool.{and_parts, false≢true, false_from_ne_true}
-use Rattle.plant.specs.Name.{IsOperatorName}
-use Rattle.slice_table.specs.ReadRows.{is_operator_name}
+use Rattle.plant.specs.Name.{IsOperatorName, is_operator_name}
 use Rattle.slice_table.proofs.Values.{at_most}
 use Rattle.slice_table.proofs.read_rows.operator_name.Goals as goal
 

@@ -2,13 +2,14 @@ use Rattle.std.proofs.Common.{◌≡◌, Option, Some, None, Ok, Err, IfOk, refl
 use Rattle.toml.specs.Data.{Members}
 use Rattle.toml.specs.Parse.{parse_document}
 use Rattle.plant.specs.declared.plant.PlantFields.{PlantFields}
-use Rattle.slice_table.specs.Tree.{Read, Gives}
+use Rattle.lists.specs.Results.{Gives}
+use Rattle.slice_table.specs.Tree.{PlantResult, plant_cause}
 use Rattle.slice_table.specs.ReadPlant.{text_plant}
 use Rattle.slice_table.specs.Says.{SaysPlant}
 use Rattle.slice_table.proofs.SaidPlant.{plant_is}
 use Rattle.slice_table.proofs.reading.read_plant.Goals as goal
 
-said : (o : Option Members) (r : Read PlantFields) → Gives (λ p. p) r (text_plant o) → IfOk r (λ plant. (document : Members) × (o ≡ Some document) × SaysPlant document plant)
+said : (o : Option Members) (r : PlantResult PlantFields) → Gives plant_cause (λ p. p) r (text_plant o) → IfOk r (λ plant. (document : Members) × (o ≡ Some document) × SaysPlant document plant)
 said None (Ok plant) h = cc
 said (Some document) (Ok plant) h = (document, refl, (plant_is document plant).0 h)
 said o (Err fault) h = tt
@@ -18,4 +19,4 @@ returns-clause-found c = said (parse_document c.args.text.now) c.plant_of_text.r
 
 pub returns-clause-only : goal.returns-clause-only
 returns-clause-only c document plant parsed says =
-    subst (λ (read : Read PlantFields). Gives (λ p. p) c.plant_of_text.result read) (ap text_plant parsed ∙ (plant_is document plant).1 says) c.plant_of_text.ensures
+    subst (λ (read : PlantResult PlantFields). Gives plant_cause (λ p. p) c.plant_of_text.result read) (ap text_plant parsed ∙ (plant_is document plant).1 says) c.plant_of_text.ensures

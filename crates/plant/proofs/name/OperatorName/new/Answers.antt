@@ -3,11 +3,12 @@ use Rattle.std.specs.Prelude.{replicate}
 use Rattle.std.specs.Char.{is_ascii_alphanumeric}
 use Rattle.std.specs.List.{list_all}
 use Rattle.std.proofs.lemmas.List.{take_at, drop-replicate, length-replicate}
-use Rattle.plant.specs.Name.{IsPaddedName}
+use Rattle.lists.specs.Padding.{IsPaddedName}
+use Rattle.plant.specs.Name.{IsOperatorName}
 use Rattle.plant.proofs.name.OperatorName.new.Goals as goal
 
 padded_name : (name copied : List ℕ) → copied ≡ name → 1 ≤ length name → length name ≤ 16 → list_all is_ascii_alphanumeric name ≡ true
-    → IsPaddedName (copied ++ drop (length name) (replicate 16 0)) (length name)
+    → IsPaddedName IsOperatorName 16 (copied ++ drop (length name) (replicate 16 0)) (length name)
 padded_name name copied same some few letters =
     let front : take (length name) (copied ++ drop (length name) (replicate 16 0)) ≡ name = take_at copied (drop (length name) (replicate 16 0)) (length name) (ap length same) ∙ same in
     record {

@@ -2,11 +2,12 @@ use Rattle.std.proofs.Common.{ℕ, rules, length-append, ◌≡◌, ◌-◌, ◌
 use Rattle.std.specs.Prelude.{replicate}
 use Rattle.std.specs.List.{list_all}
 use Rattle.std.proofs.lemmas.List.{take_at, drop-replicate, length-replicate}
-use Rattle.tlv24.specs.Name.{IsPaddedName}
+use Rattle.lists.specs.Padding.{IsPaddedName}
+use Rattle.tlv24.specs.Name.{IsClassName}
 use Rattle.tlv24.proofs.class_name.ClassName.new.Goals as goal
 
 padded_name : (name copied : List ℕ) → copied ≡ name → 1 ≤ length name → length name ≤ 15 → list_all (λ b. not (b == 0)) name ≡ true
-    → IsPaddedName (copied ++ drop (length name) (replicate 15 0)) (length name)
+    → IsPaddedName IsClassName 15 (copied ++ drop (length name) (replicate 15 0)) (length name)
 padded_name name copied same some few no_zero =
     let front : take (length name) (copied ++ drop (length name) (replicate 15 0)) ≡ name = take_at copied (drop (length name) (replicate 15 0)) (length name) (ap length same) ∙ same in
     record {

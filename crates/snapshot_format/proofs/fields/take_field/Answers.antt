@@ -3,15 +3,15 @@ use Rattle.std.specs.List.{position}
 use Rattle.std.proofs.lemmas.List.{take_rest}
 use Rattle.snapshot_format.specs.declared.fault.Wrong.TheVariants.{Cut}
 use Rattle.snapshot_format.specs.Reading.{stop_at}
-use Rattle.snapshot_format.specs.Fields.{field_at}
-use Rattle.snapshot_format.proofs.fields.field_at.Goals as goal
+use Rattle.snapshot_format.specs.Fields.{take_field}
+use Rattle.snapshot_format.proofs.fields.take_field.Goals as goal
 
-field_of : (end place : ℕ) (bytes : List ℕ) → Some place ≡ position (λ b. b == end) bytes → field_at end bytes ≡ Ok (take place bytes, take (length bytes - (place + 1)) (drop (place + 1) bytes))
-unfolding field_at
+field_of : (end place : ℕ) (bytes : List ℕ) → Some place ≡ position (λ b. b == end) bytes → take_field end bytes ≡ Ok (take place bytes, take (length bytes - (place + 1)) (drop (place + 1) bytes))
+unfolding take_field
 field_of end place bytes e = rw (← e, take_rest bytes (place + 1)) refl
 
-no_field : (end : ℕ) (bytes : List ℕ) → None ≡ position (λ b. b == end) bytes → field_at end bytes ≡ stop_at Cut bytes
-unfolding field_at
+no_field : (end : ℕ) (bytes : List ℕ) → None ≡ position (λ b. b == end) bytes → take_field end bytes ≡ stop_at Cut bytes
+unfolding take_field
 no_field end bytes e = rw (← e) refl
 
 pub returns-in-Some : goal.returns-in-Some

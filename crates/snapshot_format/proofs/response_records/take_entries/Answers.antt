@@ -3,10 +3,10 @@ use Rattle.std.proofs.lemmas.Result.{err_from_is_err_and}
 use Rattle.std.specs.List.{list_any}
 use Rattle.transactions.specs.declared.entry.KeptEntry.{KeptEntry}
 use Rattle.transactions.specs.Entry.{is_of}
-use Rattle.snapshot_format.specs.Reading.{items_at}
-use Rattle.snapshot_format.specs.Records.{entry_at, entry_follows, entries_at}
+use Rattle.snapshot_format.specs.Reading.{take_items}
+use Rattle.snapshot_format.specs.Records.{take_entry, entry_follows, take_entries}
 use Rattle.snapshot_format.proofs.Loop.{goes_on, repeats, ends}
-use Rattle.snapshot_format.proofs.response_records.entries_at.Goals as goal
+use Rattle.snapshot_format.proofs.response_records.take_entries.Goals as goal
 
 -- what the code tests is whether the response may not follow
 entry_test : (before items : List KeptEntry) (entry : KeptEntry) (said other : Bool) → said ≡ list_any (is_of entry.modem entry.tid) items → items ≡ before → said ≡ other
@@ -14,18 +14,18 @@ entry_test : (before items : List KeptEntry) (entry : KeptEntry) (said other : B
 entry_test before items entry said other e same is = rw (← same) (ap not (sym e ∙ is))
 
 pub returns-in_err-entry : goal.returns-in_err-entry
-unfolding entries_at
+unfolding take_entries
 returns-in_err-entry c =
     let exit = err_from_is_err_and c.from_residual.result c.from_residual.ensures.1 in
-    rw (exit.1, exit.2) (ends entry_at entry_follows c.args.count c.loop.counter c.loop.entries.items c.loop.rest.now (items_at entry_at entry_follows c.args.count [] c.args.bytes.now) c.in_err-entry.field-0.0 (omega arith) c.in_err-entry.ensures c.loop.invariant)
+    rw (exit.1, exit.2) (ends take_entry entry_follows c.args.count c.loop.counter c.loop.entries.items c.loop.rest.now (take_items take_entry entry_follows c.args.count [] c.args.bytes.now) c.in_err-entry.field-0.0 (omega arith) c.in_err-entry.ensures c.loop.invariant)
 
 pub returns-then-has_transaction : goal.returns-then-has_transaction
-unfolding entries_at
+unfolding take_entries
 returns-then-has_transaction c =
     let follows = entry_test c.loop.entries.items c.deref.result.now c.in_ok-entry.entry c.has_transaction.result true c.has_transaction.ensures c.deref.ensures.value (search rules) in
-    rw c.stop_at.ensures (repeats entry_at entry_follows c.args.count c.loop.counter c.loop.entries.items c.loop.rest.now (items_at entry_at entry_follows c.args.count [] c.args.bytes.now) c.in_ok-entry.entry c.in_ok-entry.after.now (omega arith) c.in_ok-entry.ensures follows c.loop.invariant)
+    rw c.stop_at.ensures (repeats take_entry entry_follows c.args.count c.loop.counter c.loop.entries.items c.loop.rest.now (take_items take_entry entry_follows c.args.count [] c.args.bytes.now) c.in_ok-entry.entry c.in_ok-entry.after.now (omega arith) c.in_ok-entry.ensures follows c.loop.invariant)
 
 pub loop-preserved : goal.loop-preserved
 loop-preserved c =
     let follows = entry_test c.loop.entries.items c.deref.result.now c.in_ok-entry.entry c.has_transaction.result false c.has_transaction.ensures c.deref.ensures.value (search rules) in
-    rw c.in_ok-push.ensures.items (goes_on entry_at entry_follows c.args.count c.loop.counter c.loop.entries.items c.loop.rest.now (items_at entry_at entry_follows c.args.count [] c.args.bytes.now) c.in_ok-entry.entry c.in_ok-entry.after.now (omega arith) c.in_ok-entry.ensures follows c.loop.invariant)
+    rw c.in_ok-push.ensures.items (goes_on take_entry entry_follows c.args.count c.loop.counter c.loop.entries.items c.loop.rest.now (take_items take_entry entry_follows c.args.count [] c.args.bytes.now) c.in_ok-entry.entry c.in_ok-entry.after.now (omega arith) c.in_ok-entry.ensures follows c.loop.invariant)
