@@ -1,4 +1,3 @@
-pub mod NoteMembers
 pub mod Props
 pub mod Writable
 pub mod Written

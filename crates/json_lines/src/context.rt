@@ -1,10 +1,17 @@
-//! What is said of the output that comes next: the line of the script, and the check that decides it.
-
-ghost use Rattle.std.specs.Prelude.{◌≡◌, None, Some};
+//! What the lines of a trace say of the output that comes next: the line of the script, and the check that decided it.
 
 use crate::plain_line::PlainLine;
 use crate::remark::{Remark, remark_of};
 use std::alloc::{AllocError, Global};
+
+/// The check that decided what a message is answered.
+#[derive(Debug, Drop)]
+pub struct DecidingCheck {
+    /// Its number in the table of checks.
+    pub number: u64,
+    /// Its name.
+    pub name: String,
+}
 
 /// The numbers that a check compared.
 #[derive(Clone, Copy, Debug, PartialEq, Eq)]
@@ -19,17 +26,6 @@ pub struct Comparison {
     pub from_frame: Option<u64>,
 }
 
-/// The check that decided what a message is answered.
-#[derive(Debug, Drop)]
-pub struct DecidingCheck {
-    /// Its number in the table of checks.
-    pub number: u64,
-    /// Its name.
-    pub name: String,
-    /// The numbers that it compared, where it compares any.
-    pub comparison: Option<Comparison>,
-}
-
 /// What is known of an output besides its own line.
 #[derive(Debug, Drop)]
 pub struct OutputNote {
@@ -37,14 +33,18 @@ pub struct OutputNote {
     pub line: Option<u64>,
     /// The check that decided it.
     pub check: Option<DecidingCheck>,
+    /// The numbers that the check compared.
+    pub comparison: Option<Comparison>,
 }
 
 impl OutputNote {
     /// Returns a note of a line of the script, and of no check.
-    pub(crate) fn of_line(line: Option<u64>) -> OutputNote
-        ensures { (result.line ≡ line) × (result.check ≡ None) }
-    {
-        OutputNote { line, check: None }
+    pub(crate) fn of_line(line: Option<u64>) -> OutputNote {
+        OutputNote {
+            line,
+            check: None,
+            comparison: None,
+        }
     }
 }
 
@@ -65,7 +65,7 @@ fn numbers_in(text: &str) -> ([u64; 4], usize) {
 }
 
 /// Returns the numbers that a check compared, by the remark on them.
-fn comparison_of(remark: &str) -> Option<Comparison> {
+pub(crate) fn comparison_of(remark: &str) -> Option<Comparison> {
     let ([first, second, third, fourth], count) = numbers_in(remark);
     let (held, limit, needed, from_frame) = match count {
         2 => (first, second, None, None),
@@ -95,62 +95,43 @@ pub(crate) enum TakenLine {
     Other,
 }
 
-/// What was said so far of the output that comes next.
+/// What the lines of a trace have said so far of the next output.
 #[derive(Drop)]
-pub struct OutputContext {
+pub struct TraceContext {
     line: Option<u64>,
     check: Option<DecidingCheck>,
+    comparison: Option<Comparison>,
 }
 
-impl OutputContext {
+impl TraceContext {
     /// Returns that nothing was said.
-    pub(crate) fn new() -> OutputContext
-        ensures { (result.line ≡ None) × (result.check ≡ None) }
-    {
-        OutputContext {
+    pub(crate) fn new() -> TraceContext {
+        TraceContext {
             line: None,
             check: None,
+            comparison: None,
         }
     }
 
-    /// Begins a line of the script. No check was said yet.
-    pub(crate) fn begin_line(&mut self, number: u64)
-        ensures { (self.new.line ≡ Some number) × (self.new.check ≡ None) }
-    {
-        self.line = Some(number);
-        self.check = None;
-    }
-
-    /// Says which check decides the next output, if one does.
-    pub(crate) fn say_check(&mut self, check: Option<DecidingCheck>)
-        ensures { (self.new.line ≡ self.old.line) × (self.new.check ≡ check) }
-    {
-        self.check = check;
-    }
-
     /// Returns a note of the line of the script alone.
-    pub(crate) fn note_of_line(&self) -> OutputNote
-        ensures { (result.line ≡ self.now.line) × (result.check ≡ None) }
-    {
+    pub(crate) fn note_of_line(&self) -> OutputNote {
         OutputNote::of_line(self.line)
     }
 
     /// Takes what was said of an output that has come.
-    pub(crate) fn take_note(&mut self) -> OutputNote
-        ensures note { (result.line ≡ self.old.line) × (result.check ≡ self.old.check) }
-        ensures taken { (self.new.line ≡ self.old.line) × (self.new.check ≡ None) }
-    {
+    fn take_note(&mut self) -> OutputNote {
         OutputNote {
             line: self.line,
             check: self.check.take(),
+            comparison: self.comparison.take(),
         }
     }
 
     /// Takes a remark other than an output: between a check and its output, the numbers that the check compared.
     fn take_other(&mut self, remark: &str) -> TakenLine {
-        match (&mut self.check, comparison_of(remark)) {
-            (Some(check), Some(comparison)) => {
-                check.comparison = Some(comparison);
+        match (&self.check, comparison_of(remark)) {
+            (Some(_check), Some(comparison)) => {
+                self.comparison = Some(comparison);
                 TakenLine::Comparison {
                     line: self.line,
                     comparison,
@@ -176,17 +157,14 @@ impl OutputContext {
     ) -> Result<TakenLine, AllocError> {
         match line {
             PlainLine::Script { number } => {
-                self.begin_line(number);
+                self.line = Some(number);
+                self.check = None;
+                self.comparison = None;
                 Ok(TakenLine::Other)
             }
             PlainLine::Check { number, name } => {
                 let name = String::from_str(alloc, name)?;
-                let comparison = None;
-                self.check = Some(DecidingCheck {
-                    number,
-                    name,
-                    comparison,
-                });
+                self.check = Some(DecidingCheck { number, name });
                 Ok(TakenLine::Other)
             }
             PlainLine::Remark { remark } => Ok(self.take_remark(remark)),

@@ -1,8 +1,8 @@
 //! The notes of a whole trace: what is known of each output, in their order.
 
-ghost use Rattle.std.specs.Prelude.{◌≡◌, ◌≤◌, [], false, true, None, Some, IfOk, length};
+ghost use Rattle.std.specs.Prelude.{◌≤◌, IfOk, length};
 
-use crate::context::{OutputContext, OutputNote, TakenLine};
+use crate::context::{OutputNote, TakenLine, TraceContext};
 use crate::plain_line::plain_line;
 use memchr::memchr;
 use std::alloc::{AllocError, Global};
@@ -13,7 +13,7 @@ use std::io::Write;
 #[derive(Drop)]
 pub struct TraceNotes {
     alloc: Global,
-    context: OutputContext,
+    context: TraceContext,
     /// The line so far.
     held: Vec<u8>,
     /// The notes, in the order of the outputs.
@@ -24,12 +24,10 @@ pub struct TraceNotes {
 
 impl TraceNotes {
     /// Returns that nothing was written.
-    pub fn new(alloc: Global) -> TraceNotes
-        ensures { (result.notes.items ≡ []) × (result.is_full ≡ false) }
-    {
+    pub fn new(alloc: Global) -> TraceNotes {
         TraceNotes {
             alloc,
-            context: OutputContext::new(),
+            context: TraceContext::new(),
             held: Vec::new(alloc),
             notes: Vec::new(alloc),
             is_full: false,
@@ -37,10 +35,7 @@ impl TraceNotes {
     }
 
     /// Returns the notes, in the order of the outputs. None where an allocation for one failed.
-    pub fn into_notes(self) -> Option<Vec<OutputNote>>
-        ensures all { self.is_full ≡ false → result ≡ Some self.notes }
-        ensures none { self.is_full ≡ true → result ≡ None }
-    {
+    pub fn into_notes(self) -> Option<Vec<OutputNote>> {
         if self.is_full { None } else { Some(self.notes) }
     }
 

@@ -4,8 +4,6 @@
 mod answering;
 mod command;
 mod file_input;
-mod noted_lines;
-mod noted_service;
 mod objects;
 mod recording;
 mod running;
