@@ -1,0 +1,4 @@
+pub mod ByName
+pub mod Restarted
+pub mod Saving
+pub mod Changing
