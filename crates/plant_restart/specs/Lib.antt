@@ -1,4 +1,0 @@
-pub mod ByName
-pub mod Restarted
-pub mod Saving
-pub mod Changing
