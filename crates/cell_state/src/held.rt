@@ -1,6 +1,6 @@
 //! The state that an operator's lock guards.
 
-ghost use Rattle.std.specs.Prelude.{◌≡◌, ◌≢◌, ◌↔◌, ◌++◌, ◌≤◌, length, Some, Err, IfOk, IfErr, IfSome, OnOk, OnErr};
+ghost use Rattle.std.specs.Prelude.{◌≡◌, ◌≢◌, ◌↔◌, [], ◌++◌, ◌≤◌, length, Some, Err, IfOk, IfErr, IfSome, OnOk, OnErr};
 ghost use Rattle.operator_model.specs.Machine.{own_step};
 ghost use Rattle.operator_model.specs.Replay.{operator_of_book, book_after_action};
 ghost use Rattle.operator_book.specs.declared.book.BookFault.{BookFault};
@@ -77,6 +77,8 @@ impl Held {
         ensures book { cell_book self.new ≡ cell_book self.old }
         ensures stopped { self.new.stopped ≡ self.old.stopped }
         ensures err { OnErr result (waiting_of self.new ≡ waiting_of self.old) }
+        // Only a frame that waits takes memory.
+        ensures memory { OnErr result (waiting_of self.old ≢ []) }
     {
         // For the proof: the state of the book is the replay of its history.
         self.desk.book.always_replayed();

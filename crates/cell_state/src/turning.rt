@@ -1,6 +1,6 @@
 //! Turns at an operator's book.
 
-ghost use Rattle.std.specs.Prelude.{◌≡◌, ◌≢◌, ◌↔◌, ◌++◌, ◌≤◌, true, false, length, Some, Ok, Err, IfOk, IfErr, IfSome, OnOk, OnErr};
+ghost use Rattle.std.specs.Prelude.{◌≡◌, ◌≢◌, ◌↔◌, [], ◌++◌, ◌≤◌, true, false, length, Some, Ok, Err, IfOk, IfErr, IfSome, OnOk, OnErr};
 ghost use Rattle.operator_model.specs.Machine.{own_step};
 ghost use Rattle.operator_model.specs.Replay.{operator_of_book, book_after_action};
 ghost use Rattle.operator_book.specs.declared.book.BookFault.{BookFault};
@@ -78,6 +78,8 @@ impl Held {
         ensures some_book { IfOk result (λ taken. IfSome taken IsFrameOfSomeBook) }
         ensures stopped { (result ≡ Err (CellFault.Stopped op)) ↔ (self.old.stopped ≡ true) }
         ensures fault { IfErr result (IsOfTaking op) }
+        // Only a frame that waits takes memory.
+        ensures memory { (result ≡ Err (CellFault.Book BookFault.NoMemory)) → waiting_of self.old ≢ [] }
         ensures book { cell_book self.new ≡ cell_book self.old }
         ensures same { self.new.stopped ≡ self.old.stopped }
         ensures err { OnErr result (waiting_of self.new ≡ waiting_of self.old) }

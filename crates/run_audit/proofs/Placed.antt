@@ -1,19 +1,23 @@
 -- One placing more.
-use Rattle.std.proofs.Common.{◌≡◌, ℕ, List, [], ◌∷◌, ◌++◌, map, append_assoc, append-nil, Option, None, refl, sym, ap, ◌∙◌, subst, arith}
-use Rattle.std.specs.Prelude.{All}
+use Rattle.std.proofs.Common.{◌≡◌, ℕ, List, [], ◌∷◌, ◌++◌, map, append_assoc, append-nil, length, ◌≤◌, Option, None, Result, Ok, Err, refl, sym, ap, ◌∙◌, subst, arith}
+use Rattle.std.specs.Prelude.{All, OnOk, OnErr}
 use Rattle.std.specs.List.{AllByRecursion}
 use Rattle.std.proofs.lemmas.List.Elements.{All-from_recursion, recursion_from_All}
+use Rattle.std.proofs.lemmas.List.{length-map}
 use Rattle.slice_scheduler.specs.Minislots.{IsSlice}
 use Rattle.map_assembly.specs.Plan.{IsInFrame}
 use Rattle.slice_scheduler.specs.declared.elements.ElementsFields.{ElementsFields}
+use Rattle.plant.specs.declared.plant.PlantFields.{PlantFields}
 use Rattle.operator_model.specs.declared.action.SliceRow.{SliceRow}
 use Rattle.map_assembly.specs.declared.map_bytes.MapBytes.{MapBytes}
-use Rattle.map_assembly.specs.Gathering.{Gathering, put_fault, after_put, MayReslice, gathering_after_reslice, IsGathering}
+use Rattle.map_assembly.specs.declared.refused.GatherFault.{GatherFault}
+use Rattle.map_assembly.specs.declared.refused.Refused.{Refused}
+use Rattle.map_assembly.specs.Gathering.{Gathering, gathering_of, put_fault, after_put, MayReslice, gathering_after_reslice, IsGathering}
 use Rattle.map_assembly.specs.Assembled.{IsPutResult}
 use Rattle.run_model.specs.OwnSteps.{slice_of}
 use Rattle.run_audit.specs.declared.placing.Placing.{Placing}
 use Rattle.run_audit.specs.declared.placing.Placing.TheVariants.{Put, Reslice}
-use Rattle.run_audit.specs.Placings.{map_if_made, HaveMade}
+use Rattle.run_audit.specs.Placings.{map_if_made, HaveMade, HasPut}
 
 -- a part more is put
 pub put_more : (g after : Gathering) (placings : List Placing) (maps : List MapBytes) (op frame : ℕ) (part : ElementsFields) (made : Option MapBytes)
@@ -67,6 +71,29 @@ reslice_more g after (Reslice n others ∷ later) maps from rows h is may = (
   h.1,
   reslice_more (gathering_after_reslice g n (map slice_of others)) after later maps from rows h.2 is may,
 )
+
+-- a part is put, or nothing is changed
+pub put_or_refused : (r : Result (Unit {0}) GatherFault) (plant : PlantFields) (op frame : ℕ) (part : ElementsFields) (old new : Gathering)
+    (placings more : List Placing) (maps made : List MapBytes)
+    → HaveMade (gathering_of plant) placings maps old → IsGathering old
+    → OnOk r (HasPut op frame part (record { plant = plant; gathering = old; placings = placings; maps = maps })
+    (record { plant = plant; gathering = new; placings = more; maps = made }))
+    → OnErr r (new ≡ old) → OnErr r (more ≡ placings) → OnErr r (made ≡ maps) → HaveMade (gathering_of plant) more made new
+put_or_refused (Ok _) plant op frame part old new placings more maps made h is put _ _ _ =
+    rw (put.placings_are, put.maps_are, put.gathering_is) (put_more (gathering_of plant) old placings maps op frame part put.made h is put.fits put.made_is)
+put_or_refused (Err _) plant op frame part old new placings more maps made h is _ same listed given = rw (listed, given, same) h
+
+-- the fault of a part that was refused, else this one
+abbrev pub fault_refused : GatherFault → Result (Option MapBytes) Refused → GatherFault
+fault_refused fault (Ok _) = fault
+fault_refused fault (Err refused) = refused.fault
+
+-- what may be given is of few operators
+pub are_few_slices : (g : Gathering) (from : ℕ) (rows : List SliceRow) → IsGathering g → MayReslice g from (map slice_of rows) → length rows ≤ 120
+are_few_slices g from rows is may =
+    let one_each = may.slices_are.one_each in
+    let few = is.quotas_are.few in
+    omega (arith, length-map rows slice_of, one_each, few)
 
 -- what may be given are slices
 pub are_slices : (g : Gathering) (from : ℕ) (rows : List SliceRow) → IsGathering g → MayReslice g from (map slice_of rows) → All (λ row. IsSlice (slice_of row)) rows

@@ -1,8 +1,9 @@
 //! The assembly that the workers of a plant share.
 
-ghost use Rattle.std.specs.Prelude.{◌≡◌, ◌≢◌, ◌↔◌, [], ◌∷◌, ◌++◌, map, All, IsTrue, Option, Some, Result, Ok, Err, IfOk, OnOk, OnErr, ◌<◌, vec_len, vec_capacity, true, false};
+ghost use Rattle.std.specs.Prelude.{◌≡◌, ◌≢◌, ◌↔◌, [], ◌∷◌, ◌++◌, map, All, IsTrue, Option, Some, Result, Ok, Err, IfOk, OnOk, OnErr, ◌<◌, length, vec_len, vec_capacity, true, false};
 ghost use Rattle.slice_scheduler.specs.Minislots.{IsSlice};
 ghost use Rattle.plant.specs.Plant.{IsPlant};
+ghost use Rattle.plant.specs.declared.plant.PlantFields.{PlantFields};
 ghost use Rattle.operator_model.specs.declared.action.SliceRow.{SliceRow};
 ghost use Rattle.map_assembly.specs.declared.map_bytes.MapBytes.{MapBytes};
 ghost use Rattle.map_assembly.specs.declared.refused.GatherFault.{GatherFault};
@@ -47,6 +48,9 @@ impl Model for Assembly {
     ghost invariant = { λ a. HaveMade (gathering_of a.plant) a.placings.items a.maps.items a.gather };
 }
 
+/// The most slices that can be given: each is of an operator that takes two elements at least of the 240 of a MAP.
+const MOST_SLICES: usize = 120;
+
 /// Returns whether a row's slice is one: it has a minislot, and none past the 4,096 of a frame.
 fn is_slice(row: SliceRow) -> bool
     ensures { IsTrue result ↔ IsSlice (slice_of row) }
@@ -71,6 +75,35 @@ fn slices_of(alloc: Global, rows: &[SliceRow]) -> Result<Vec<Slice>, AllocError>
         slices.push(Slice::new(row.start, row.length))?;
     }
     Ok(slices)
+}
+
+/// Writes the slices of rows into as many places.
+fn write_slices(slices: &mut [Slice], rows: &[SliceRow])
+    requires each { All (λ row. IsSlice (slice_of row)) rows.now }
+    requires one_each { length slices.old ≡ length rows.now }
+    ensures { slices.new ≡ map slice_of rows.now }
+{
+    for (op, row) in rows.iter().enumerate() {
+        slices[op] = Slice::new(row.start, row.length);
+    }
+}
+
+/// Returns whether new slices may be given from a frame on. Takes no memory.
+fn may_reslice(gather: &Gather, from: u32, rows: &[SliceRow]) -> bool
+    ensures { IsTrue result ↔ MayReslice gather.now from (map slice_of rows.now) }
+{
+    // For the proof: what always holds of the gathering.
+    gather.always();
+    if rows.len() > MOST_SLICES {
+        return false;
+    }
+    if !are_slices(rows) {
+        return false;
+    }
+    let mut slices = [Slice::new(0, 1); MOST_SLICES];
+    let slices = &mut slices[..rows.len()];
+    write_slices(slices, rows);
+    gather.may_reslice(from, slices)
 }
 
 /// Makes room for one more placing and one more MAP.
@@ -99,6 +132,51 @@ fn note_map(maps: &mut Vec<MapBytes>, made: Option<MapBytes>)
 {
     if let Some(map) = made {
         maps.push_reserved(map);
+    }
+}
+
+/// Puts an operator's part of a frame, of which `kept` is a copy, and keeps the MAP where it is the last one of its frame.
+/// Room is there for what is kept.
+///
+/// Faults: those of `Gather::put`, out of memory only where it refuses nothing. Nothing has changed then.
+fn put_kept(
+    alloc: Global,
+    gather: &mut Gather,
+    placings: &mut Vec<Placing>,
+    maps: &mut Vec<MapBytes>,
+    op: Op,
+    frame: u32,
+    elements: Elements,
+    kept: Elements,
+) -> Result<(), GatherFault>
+    requires copied { kept ≡ elements }
+    requires for_placing { vec_len placings.old < vec_capacity placings.old }
+    requires for_map { vec_len maps.old < vec_capacity maps.old }
+    ensures ok { (plant : PlantFields) → OnOk result (HasPut op frame elements
+        (record { plant = plant; gathering = gather.old; placings = placings.old.items; maps = maps.old.items })
+        (record { plant = plant; gathering = gather.new; placings = placings.new.items; maps = maps.new.items })) }
+    ensures fault { (fault : GatherFault) → fault ≢ NoMemory
+        → (result ≡ Err fault) ↔ (put_fault gather.old op frame elements ≡ Some fault) }
+    ensures memory { result ≡ Err NoMemory → put_fault gather.old op frame elements ≡ None }
+    ensures gather { OnErr result (gather.new ≡ gather.old) }
+    ensures placings { OnErr result (placings.new.items ≡ placings.old.items) }
+    ensures maps { OnErr result (maps.new.items ≡ maps.old.items) }
+{
+    match gather.put(alloc, op, frame, elements) {
+        Ok(made) => {
+            let elements = kept;
+            note(
+                placings,
+                Placing::Put {
+                    op,
+                    frame,
+                    elements,
+                },
+            );
+            note_map(maps, made);
+            Ok(())
+        }
+        Err(refused) => Err(refused.fault),
     }
 }
 
@@ -141,22 +219,8 @@ impl Assembly {
         if make_room(&mut self.placings, &mut self.maps).is_err() {
             return Err(GatherFault::NoMemory);
         }
-        match self.gather.put(alloc, op, frame, elements) {
-            Ok(made) => {
-                let elements = kept;
-                note(
-                    &mut self.placings,
-                    Placing::Put {
-                        op,
-                        frame,
-                        elements,
-                    },
-                );
-                note_map(&mut self.maps, made);
-                Ok(())
-            }
-            Err(refused) => Err(refused.fault),
-        }
+        let (gather, placings, maps) = (&mut self.gather, &mut self.placings, &mut self.maps);
+        put_kept(alloc, gather, placings, maps, op, frame, elements, kept)
     }
 
     /// Gives the operators new slices from a frame on, where `Gather::may_reslice` allows it; false
@@ -168,19 +232,17 @@ impl Assembly {
         rows: &[SliceRow],
     ) -> Result<bool, AllocError>
         ensures given { result ≡ Ok true → HasResliced from rows.now self.old self.new }
-        ensures refused { result ≡ Ok false → MayReslice self.old.gathering from (map slice_of rows.now) → ⊥ }
+        ensures refused { (result ≡ Ok false) ↔ (MayReslice self.old.gathering from (map slice_of rows.now) → ⊥) }
+        ensures memory { OnErr result (MayReslice self.old.gathering from (map slice_of rows.now)) }
         ensures same { result ≡ Ok false → self.new ≡ self.old }
         ensures err { OnErr result (self.new ≡ self.old) }
     {
         // For the proof: what always holds of the gathering, before it changes.
         self.gather.always();
-        if !are_slices(rows) {
+        if !may_reslice(&self.gather, from, rows) {
             return Ok(false);
         }
         let slices = slices_of(alloc, rows)?;
-        if !self.gather.may_reslice(from, slices.as_slice()) {
-            return Ok(false);
-        }
         let kept = SliceRows::from_vec(Vec::from_slice(alloc, rows)?);
         self.placings.reserve(1)?;
         self.gather.reslice(alloc, from, slices)?;

@@ -1,19 +1,12 @@
-use Rattle.std.proofs.Common.{◌≡◌, Option, Result, Err, ap}
-use Rattle.map_assembly.specs.declared.map_bytes.MapBytes.{MapBytes}
-use Rattle.map_assembly.specs.declared.refused.Refused.{Refused}
-use Rattle.map_assembly.specs.Gathering.{gathering_of}
-use Rattle.run_audit.proofs.Placed.{put_more}
+use Rattle.run_audit.proofs.Placed.{put_or_refused}
 use Rattle.run_audit.proofs.assembly.Assembly.put_part.Goals as goal
 
-pub invariant_of-self-in-Ok-put : goal.invariant_of-self-in-Ok-put
-invariant_of-self-in-Ok-put c =
-    rw (c.note.ensures, c.make_room.ensures.placings, c.note_map.ensures, c.make_room.ensures.maps, c.in-Ok.ensures, c.in-Ok-put.ensures.state)
-    (put_more (gathering_of c.self.inside.plant) c.self.inside.gather c.self.inside.placings.items c.self.inside.maps.items c.args.op c.args.frame c.args.elements c.in-Ok-put.made
-    c.self.invariant c.always.ensures c.in-Ok-put.ensures.goes c.in-Ok-put.ensures.map)
+pub invariant_of-self-2 : goal.invariant_of-self-2
+invariant_of-self-2 c =
+    put_or_refused c.put_kept.result c.self.inside.plant c.args.op c.args.frame c.args.elements c.self.inside.gather c.put_kept.new.gather
+    c.make_room.new.placings.items c.put_kept.new.placings.items c.make_room.new.maps.items c.put_kept.new.maps.items
+    (rw (c.make_room.ensures.placings, c.make_room.ensures.maps) c.self.invariant) c.always.ensures
+    (c.put_kept.ensures.ok c.self.inside.plant) c.put_kept.ensures.gather c.put_kept.ensures.placings c.put_kept.ensures.maps
 
-pub returns-in-Err-clause-fault : goal.returns-in-Err-clause-fault
-returns-in-Err-clause-fault c fault ne e =
-    let same : c.in-Err.refused.fault ≡ fault = cc in
-    let refused : c.in-Err.refused ≡ record { fault = fault; elements = c.args.elements } = λ i. record { fault = same i; elements = c.in-Err.ensures.refused i } in
-    rw (← c.self.view_is)
-    ((c.in-Err.ensures.fault fault ne).0 (ap (λ (r : Refused). let x : Result (Option MapBytes) Refused = Err r in x) refused))
+pub returns-clause-fault : goal.returns-clause-fault
+returns-clause-fault c fault ne e = rw (← c.self.view_is) ((c.put_kept.ensures.fault fault ne).0 e)
