@@ -54,6 +54,11 @@ abbrev pub Completes : Progress → ℕ → Option (List ℕ) → Option (List �
 Completes (Ended ended failed) status old new = (status ≡ status_code ended) × (new ≡ old)
 Completes (Threads plant lines) status old new = IsWritten (IsThreadedRunOf plant lines.items) status (λ text. Appends old new text)
 
+-- what has ended is left as it is, with its status, 6 included
+abbrev pub IsLeftEnded : Progress → ℕ → Option (List ℕ) → Option (List ℕ) → Type 0
+IsLeftEnded (Ended ended failed) status old new = (status ≡ status_code ended) × (new ≡ old)
+IsLeftEnded (Threads plant lines) status old new = ⊤
+
 -- ---- words that give no order
 
 -- wrong words are reported as such, with status 2, help with 0, and out of memory with 5

@@ -23,9 +23,9 @@ use script_format::{LineFault, before_bar, plant_text, script_text, steps_of};
 use slice_table::{PlantFault, read_plant};
 use std::alloc::{AllocError, Global};
 
-/// Returns the line of an invalid plant.
+/// Returns the line of an invalid plant, with the fault's number and what it names.
 #[tactic(auto, unfolding(crate::specs::Check::fault_text))]
-fn plant_line(alloc: Global, fault: PlantFault) -> Result<String, AllocError>
+pub fn plant_line(alloc: Global, fault: PlantFault) -> Result<String, AllocError>
     ensures { IfOk result (λ line. string_bytes line ≡ codes "fault: plant " ++ fault_text fault) }
 {
     match fault {

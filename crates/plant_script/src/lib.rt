@@ -22,6 +22,7 @@ mod status;
 mod task;
 mod tracing;
 
+pub use check::plant_line;
 pub use command::{behind_name, exit_code};
 pub use ending::Ending;
 pub use program::{run_program, run_program_with_reasons, run_without_threads};

@@ -1,10 +1,10 @@
 //! The program over any reader and any writer.
 
-ghost use Rattle.std.specs.Prelude.{◌≡◌, ◌≢◌, ◌⊎◌, true, false, Err, IfOk, IfErr, IfSome, MatchResult};
+ghost use Rattle.std.specs.Prelude.{◌≡◌, ◌≢◌, ◌⊎◌, ⊤, true, false, Err, IfOk, IfErr, IfSome, MatchResult};
 ghost use Rattle.clap.specs.Walk.{texts};
 ghost use Rattle.std.specs.Io.KnownBytes.{Appends};
 ghost use Rattle.plant_script.specs.Task.{Comes, IsNotThreaded};
-ghost use Rattle.plant_script.specs.Reaching.{AnswersFault, AnswersWords, Completes, ReachesOrder, ReachesWords};
+ghost use Rattle.plant_script.specs.Reaching.{AnswersFault, AnswersWords, Completes, IsLeftEnded, ReachesOrder, ReachesWords};
 ghost use Rattle.command_line.specs.declared.asked.BatchWord.TheVariants as batch;
 ghost use Rattle.command_line.specs.Order.{batch_order, order_of};
 ghost use Rattle.command_line.specs.CommandLine.{AsksHelp, AreWrong};
@@ -297,47 +297,42 @@ fn answer_words<'a, R: Read, W: Write>(
     }
 }
 
-/// Does what is left of the program, the run of `threads`. Returns the exit status.
-fn complete<H: Threads + Wait + Sync, W: Write>(
-    rt: &H,
-    alloc: Global,
-    reached: io::Result<Progress>,
-    writer: &mut W,
-) -> io::Result<Status>
-    ensures { IfOk result (λ status. MatchResult reached
-        (λ progress. Completes progress (status_code status) (W.contents writer.old) (W.contents writer.new)) (λ error. ⊥)) }
+/// Reports a read or a write that failed, and returns the status of that. What is written then no clause says, since nothing
+/// is known of a write that failed.
+fn report_failure<W: Write>(writer: &mut W) -> Status
+    ensures { result ≡ Status.IoError }
 {
-    match reached {
-        Ok(
-            Progress::Ended {
-                status,
-                is_read_failed: _,
-            },
-        ) => Ok(status),
-        Ok(Progress::Threads { plant, lines }) => write_threads(rt, alloc, plant, lines, writer),
-        Err(error) => Err(error),
-    }
+    let _lost = writer.write_all(b"fault: io\n");
+    let _lost = writer.flush();
+    Status::IoError
 }
 
-/// Ends the program: does what is left of it, and returns the exit status. After a write that
-/// failed, or under `serve` a read, it tries to write the line that says so, and returns 6. What is
-/// written then no clause says, since nothing is known of a write that failed.
+/// Ends the program: does what is left of it, the run of `threads`, and returns the exit status. What has ended is left as it
+/// is. After a write that failed, or under `serve` a read, it tries to write the line that says so, and returns 6.
 fn end_program<H: Threads + Wait + Sync, W: Write>(
     rt: &H,
     alloc: Global,
     reached: io::Result<Progress>,
     writer: &mut W,
 ) -> Status
-    ensures { status_code result ≢ 6 → MatchResult reached
+    ensures written { status_code result ≢ 6 → MatchResult reached
         (λ progress. Completes progress (status_code result) (W.contents writer.old) (W.contents writer.new)) (λ error. ⊥) }
+    ensures ended { MatchResult reached
+        (λ progress. IsLeftEnded progress (status_code result) (W.contents writer.old) (W.contents writer.new)) (λ error. ⊤) }
 {
-    match complete(rt, alloc, reached, writer) {
+    let written = match reached {
+        Ok(
+            Progress::Ended {
+                status,
+                is_read_failed: _,
+            },
+        ) => return status,
+        Ok(Progress::Threads { plant, lines }) => write_threads(rt, alloc, plant, lines, writer),
+        Err(error) => Err(error),
+    };
+    match written {
         Ok(status) => status,
-        Err(_failed) => {
-            let _lost = writer.write_all(b"fault: io\n");
-            let _lost = writer.flush();
-            Status::IoError
-        }
+        Err(_failed) => report_failure(writer),
     }
 }
 

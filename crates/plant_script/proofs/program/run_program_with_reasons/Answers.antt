@@ -15,4 +15,4 @@ returns-clause-answered g c = λ no_io.
     let no_io_here : ended ≢ 6 = λ six. no_io (c.code.ensures ∙ six) in
     subst (λ (n : ℕ). AnswersWords (texts c.args.words.now) (g.R.Read.remaining c.args.reader.now) n (λ text. Appends old new text)) (sym c.code.ensures)
     (words_completed (texts c.args.words.now) (g.R.Read.remaining c.args.reader.now) c.answer_words-reached.result ended old (g.W.Write.contents c.answer_words-reached.new.writer) new c.answer_words-reached.ensures.answered
-    (c.end_program-status.ensures no_io_here) no_io_here)
+    (c.end_program-status.ensures.written no_io_here) no_io_here)
