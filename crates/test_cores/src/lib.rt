@@ -10,6 +10,8 @@ mod live;
 #[cfg(test)]
 mod opening;
 #[cfg(test)]
+mod restarting;
+#[cfg(test)]
 mod resuming;
 #[cfg(test)]
 mod runs;

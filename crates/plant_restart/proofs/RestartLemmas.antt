@@ -1,0 +1,82 @@
+-- Operators that start in states by their names.
+use Rattle.std.proofs.Common.{◌≡◌, ℕ, ◌+◌, ◌<◌, List, [], ◌∷◌, length, map, drop, get_or, All, Some, sym, ap, subst, ◌∙◌, refl}
+use Rattle.std.specs.Prelude.{slice_get, ◌≢◌}
+use Rattle.std.specs.List.{AllByRecursion}
+use Rattle.std.proofs.lemmas.List.{at_drop_more, map-id}
+use Rattle.std.proofs.lemmas.List.Elements.{All-from_recursion}
+use Rattle.grant_policy.specs.declared.policy.Policy.{Policy}
+use Rattle.plant.specs.declared.consts.ConstsFields.{ConstsFields}
+use Rattle.plant.specs.declared.operator_row.RowFields.{RowFields}
+use Rattle.plant.specs.declared.plant.PlantFields.{PlantFields}
+use Rattle.operator_model.specs.State.{OperatorState, Operator}
+use Rattle.map_assembly.proofs.OrderLemmas.{all-map}
+use Rattle.run_model.specs.IsStateAfter.{CoreView}
+use Rattle.run_model.specs.Opened.{started_core}
+use Rattle.live_core.specs.declared.resume_fault.ResumeFault.{ResumeFault}
+use Rattle.live_core.specs.declared.resume_fault.ResumeFault.TheVariants as resume
+use Rattle.live_core.specs.Resumed.{start_with, IsResumeFault}
+use Rattle.live_core.specs.After.{IsAfterFrom}
+use Rattle.live_core.proofs.ResumeLemmas.{over_map}
+use Rattle.plant_restart.specs.declared.fault.RestartFault.{RestartFault}
+use Rattle.plant_restart.specs.declared.fault.RestartFault.TheVariants.{RankingsMismatch, State, Core, NoMemory}
+use Rattle.plant_restart.specs.ByName.{state_under, operator_by_name, operators_by_name}
+use Rattle.plant_restart.specs.Restarted.{IsFaultOfState, IsRowFault, IsRowsFault, IsRestarted, IsRestartFault}
+
+-- ---- row by row
+
+-- the next ranking is that of the next row
+pub next_policy : (rows : List RowFields) (n : ℕ) (row : RowFields) (policy : Policy) (policies : List Policy) → n < length rows → row ≡ get_or rows n row → policy ∷ policies ≡ map (λ r. r.policy) (drop n rows)
+    → (policy ≡ row.policy) × (policies ≡ map (λ (r : RowFields). r.policy) (drop (n + 1) rows))
+next_policy rows n row policy policies lt is are =
+    let here : map (λ (r : RowFields). r.policy) (drop n rows) ≡ row.policy ∷ map (λ (r : RowFields). r.policy) (drop (n + 1) rows) =
+    at_drop_more (λ (rs : List RowFields). map (λ (r : RowFields). r.policy) rs) rows n row lt ∙ ap (λ (r : RowFields). r.policy ∷ map (λ (x : RowFields). x.policy) (drop (n + 1) rows)) (sym is) in
+    let both : policy ∷ policies ≡ row.policy ∷ map (λ (r : RowFields). r.policy) (drop (n + 1) rows) = are ∙ here in
+    (cc, cc)
+
+-- what a fault says of a state under a name is what it says of the row with the name
+pub under_name : (consts : ConstsFields) (states : List (List ℕ × OperatorState)) (op : ℕ) (row : RowFields) (state : OperatorState) (fault : RestartFault) → state_under states row.name ≡ Some state
+    → IsFaultOfState consts op row state fault → IsRowFault consts states op row fault
+under_name consts states op row state RankingsMismatch there is = is
+under_name consts states op row state (State at why) there is = (is.0, record { state = state; state_is = there; wrong = is.1 })
+under_name consts states op row state (Core why) there is = is
+under_name consts states op row state NoMemory there is = is
+
+pub of_row : (consts : ConstsFields) (states : List (List ℕ × OperatorState)) (rows : List RowFields) (op : ℕ) (row : RowFields) (fault : RestartFault) → slice_get rows op ≡ Some row
+    → IsRowFault consts states op row fault → IsRowsFault consts states rows fault
+of_row consts states rows op row RankingsMismatch there is = is
+of_row consts states rows op row (State at why) there is = record { row = row; row_is = ap (λ (n : ℕ). slice_get rows n) is.0 ∙ there; wrong = is.1 }
+of_row consts states rows op row (Core why) there is = is
+of_row consts states rows op row NoMemory there is = is
+
+pub of_rows_fault : (plant : PlantFields) (policies : List Policy) (frame : ℕ) (states : List (List ℕ × OperatorState)) (fault : RestartFault) → IsRowsFault plant.consts states plant.rows fault → IsRestartFault plant policies frame states fault
+of_rows_fault plant policies frame states RankingsMismatch is = absurd is
+of_rows_fault plant policies frame states (State op why) is = is
+of_rows_fault plant policies frame states (Core why) is = absurd is
+of_rows_fault plant policies frame states NoMemory is = tt
+
+-- ---- all of them
+
+module _ {X : Type 0} (see : X → Operator) (plant : PlantFields) (frame : ℕ) (states : List (List ℕ × OperatorState)) (machines : List X) (made : map see machines ≡ operators_by_name plant frame states) where
+  pub rows_by_name : map (λ x. (see x).row) machines ≡ plant.rows
+  rows_by_name =
+      sym (over_map (λ (o : Operator). o.row) see machines)
+      ∙ (ap (λ (os : List Operator). map (λ (o : Operator). o.row) os) made ∙ (over_map (λ (o : Operator). o.row) (operator_by_name plant.consts frame states) plant.rows ∙ map-id plant.rows))
+
+  consts_each : (rows : List RowFields) → AllByRecursion (λ (o : Operator). o.consts ≡ plant.consts) (map (operator_by_name plant.consts frame states) rows)
+  consts_each [] = tt
+  consts_each (row ∷ rows) = (refl, consts_each rows)
+
+  pub consts_by_name : All (λ x. (see x).consts ≡ plant.consts) machines
+  consts_by_name =
+      All-from_recursion (λ x. (see x).consts ≡ plant.consts) machines
+      (all-map (λ (o : Operator). o.consts ≡ plant.consts) see machines
+      (subst (λ (os : List Operator). AllByRecursion (λ (o : Operator). o.consts ≡ plant.consts) os) (sym made) (consts_each plant.rows)))
+
+  pub restarts : (live : CoreView) → live ≡ started_core plant (start_with plant frame (map see machines)) → IsAfterFrom plant (start_with plant frame (map see machines)) [] [] live → IsRestarted plant frame states live
+  restarts live is after = record {
+    is_started = is ∙ ap (λ (os : List Operator). started_core plant (start_with plant frame os)) made;
+    reached = subst (λ (os : List Operator). IsAfterFrom plant (start_with plant frame os) [] [] live) made after;
+  }
+
+  pub core_fault : (policies : List Policy) (why : ResumeFault) → IsResumeFault plant frame (map see machines) why → why ≢ resume.NoMemory → IsRestartFault plant policies frame states (Core why)
+  core_fault policies why is ne = (subst (λ (os : List Operator). IsResumeFault plant frame os why) made is, ne)

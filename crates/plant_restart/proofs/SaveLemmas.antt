@@ -1,0 +1,47 @@
+-- The states of a core's operators, as they are saved.
+use Rattle.std.proofs.Common.{◌≡◌, ℕ, zero, suc, ◌+◌, ◌≤◌, List, [], ◌∷◌, ◌++◌, length, map, take, Option, Some, None, option_map, sym, ap, ap₂, ◌∙◌, add-one}
+use Rattle.std.specs.Prelude.{slice_get}
+use Rattle.std.proofs.lemmas.List.{length-map, map-append, take_all}
+use Rattle.std.proofs.lemmas.Option.{none-some, same_Some, slice_get-map}
+use Rattle.operator_model.specs.State.{OperatorState, Operator}
+use Rattle.operator_model.specs.Replay.{BookView}
+use Rattle.run_model.specs.IsStateAfter.{CoreView}
+use Rattle.snapshot_format.specs.declared.saved.SavedOperator.{SavedOperator}
+use Rattle.snapshot_format.specs.States.{state_of, saved_state}
+use Rattle.snapshot_format.proofs.StateLemmas.{state_is}
+use Rattle.live_core.specs.DeskView.{book_of}
+use Rattle.live_core.specs.Resting.{Rests}
+use Rattle.live_core.proofs.ResumeLemmas.{over_map, map_is}
+use Rattle.plant_restart.specs.Saving.{state_of_book, states_by_name, saved_book, saved_by_name}
+
+-- ---- one operator after the other
+
+take_one : (books : List BookView) (op : ℕ) (book : BookView) → slice_get books op ≡ Some book → take (suc op) books ≡ take op books ++ book ∷ []
+take_one [] op book e = let f : ◌≡◌ {A = Option BookView} None (Some book) = e in absurd (none-some book f)
+take_one (b ∷ books) zero book e = ap (λ (x : BookView). x ∷ []) (same_Some b book e)
+take_one (b ∷ books) (suc op) book e = ap (λ (xs : List BookView). b ∷ xs) (take_one books op book e)
+
+pub saved_more : (books : List BookView) (op : ℕ) (o : Operator) (saved more : List SavedOperator) (one : SavedOperator) → slice_get books op ≡ Some (book_of o) → one ≡ saved_state o.row.name o.state → more ≡ saved ++ one ∷ []
+    → saved ≡ map saved_book (take op books) → more ≡ map saved_book (take (op + 1) books)
+saved_more books op o saved more one here is grows so_far =
+    grows
+    ∙ (ap₂ (λ (xs : List SavedOperator) (x : SavedOperator). xs ++ x ∷ []) so_far is
+    ∙ (sym (map-append saved_book (take op books) (book_of o ∷ []))
+    ∙ ap (map saved_book) (sym (take_one books op (book_of o) here) ∙ ap (λ (n : ℕ). take n books) (sym (add-one op)))))
+
+pub saved_all : (books : List BookView) (n : ℕ) (saved : List SavedOperator) → length books ≤ n → saved ≡ map saved_book (take n books) → saved ≡ map saved_book books
+saved_all books n saved le is = is ∙ ap (map saved_book) (take_all n books le)
+
+-- ---- the states
+
+one_state : (frame : ℕ) (book : BookView) → book.state.frame ≡ frame → state_of_book book ≡ saved_by_name frame (saved_book book)
+one_state frame book at = ap (λ (s : OperatorState). (book.row.name, s)) (sym (ap (λ (n : ℕ). state_of n (saved_state book.row.name book.state)) (sym at) ∙ state_is book.row.name book.state))
+
+pub states_saved : (live : CoreView) (frame : ℕ) (operators : List SavedOperator) → operators ≡ map saved_book live.books → Rests live frame → map (saved_by_name frame) operators ≡ states_by_name live
+states_saved live frame operators are rests =
+    ap (map (saved_by_name frame)) are
+    ∙ (over_map (saved_by_name frame) saved_book live.books
+    ∙ map_is (λ (book : BookView). saved_by_name frame (saved_book book)) live.books (states_by_name live) (sym (length-map live.books state_of_book))
+    (λ i book here.
+    slice_get-map state_of_book live.books i
+    ∙ (ap (option_map state_of_book) here ∙ ap (λ (s : List ℕ × OperatorState). let o : Option (List ℕ × OperatorState) = Some s in o) (one_state frame book (rests.before i book here)))))

@@ -1,0 +1,28 @@
+use Rattle.std.proofs.Common.{List, map, ap₂, ◌∙◌}
+use Rattle.plant.specs.declared.consts.ConstsFields.{ConstsFields}
+use Rattle.plant.specs.declared.operator_row.RowFields.{RowFields}
+use Rattle.live_core.specs.LiveOperator.{sound_of}
+use Rattle.live_core.specs.LiveView.{live_view}
+use Rattle.plant_restart.specs.ByName.{operator_by_name}
+use Rattle.plant_restart.specs.Saving.{saved_by_name}
+use Rattle.plant_restart.proofs.RestartLemmas.{rows_by_name, consts_by_name, restarts}
+use Rattle.plant_restart.proofs.restarting.restart.Goals as goal
+
+pub resume-requires-clause-rows : goal.resume-requires-clause-rows
+resume-requires-clause-rows g c =
+    let states = map (saved_by_name c.args.frame) c.args.operators.now in
+    rows_by_name sound_of c.args.plant c.args.frame states c.in_ok-machines.machines.items
+    (c.in_ok-machines.ensures.ok ∙ ap₂ (λ (consts : ConstsFields) (rows : List RowFields). map (operator_by_name consts c.args.frame states) rows) c.consts.ensures.value c.rows-2.ensures.value)
+
+pub resume-requires-clause-consts : goal.resume-requires-clause-consts
+resume-requires-clause-consts g c =
+    let states = map (saved_by_name c.args.frame) c.args.operators.now in
+    consts_by_name sound_of c.args.plant c.args.frame states c.in_ok-machines.machines.items
+    (c.in_ok-machines.ensures.ok ∙ ap₂ (λ (consts : ConstsFields) (rows : List RowFields). map (operator_by_name consts c.args.frame states) rows) c.consts.ensures.value c.rows-2.ensures.value)
+
+pub returns-in-Ok-clause-ok : goal.returns-in-Ok-clause-ok
+returns-in-Ok-clause-ok g c =
+    let states = map (saved_by_name c.args.frame) c.args.operators.now in
+    restarts sound_of c.args.plant c.args.frame states c.in_ok-machines.machines.items
+    (c.in_ok-machines.ensures.ok ∙ ap₂ (λ (consts : ConstsFields) (rows : List RowFields). map (operator_by_name consts c.args.frame states) rows) c.consts.ensures.value c.rows-2.ensures.value)
+    (live_view c.in-Ok.core) c.in-Ok.ensures.ok c.in-Ok.ensures.reached

@@ -1,0 +1,7 @@
+use Rattle.std.proofs.Common.{◌≡◌, map, drop}
+use Rattle.plant_restart.specs.ByName.{state_under}
+use Rattle.plant_restart.specs.Saving.{saved_by_name}
+use Rattle.plant_restart.proofs.restarting.state_under.Given as goal
+
+abbrev pub invariant-loop-saved : goal.invariant-loop-saved
+invariant-loop-saved l = state_under (map (saved_by_name l.frame) l.operators) l.name ≡ state_under (map (saved_by_name l.frame) (drop l.saved-index l.operators)) l.name

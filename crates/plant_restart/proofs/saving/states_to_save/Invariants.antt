@@ -1,0 +1,7 @@
+use Rattle.std.proofs.Common.{◌≡◌, map, take}
+use Rattle.live_core.specs.LiveView.{live_view}
+use Rattle.plant_restart.specs.Saving.{saved_book}
+use Rattle.plant_restart.proofs.saving.states_to_save.Given as goal
+
+abbrev pub invariant-loop-op : goal.invariant-loop-op
+invariant-loop-op g l = l.operators.items ≡ map saved_book (take l.op (live_view l.core).books)

@@ -1,0 +1,5 @@
+pub mod ByName
+pub mod Restarted
+pub mod Saving
+pub mod Changing
+pub mod Noticing

@@ -1,0 +1,60 @@
+//! Changes the plant of a core that rests.
+
+ghost use Rattle.std.specs.Prelude.{◌≡◌, map, IfOk, IfErr};
+ghost use Rattle.operator_book.specs.ViewOf.{policy_of};
+ghost use Rattle.live_core.specs.LiveView.{live_view};
+ghost use Rattle.plant_restart.specs.declared.fault.ChangeFault.TheVariants as change_faults;
+ghost use Rattle.plant_restart.specs.declared.fault.RestartFault.TheVariants as restart_faults;
+ghost use Rattle.plant_restart.specs.Changing.{IsChangeOf, IsChangeFault, CanChange};
+
+use crate::fault::{ChangeFault, RestartFault};
+use crate::restarting::restart;
+use crate::saving::states_to_save;
+use grant_policy::Ranking;
+use live_core::LiveCore;
+use plant::Plant;
+use plant_comparison::are_same_consts;
+use std::alloc::Global;
+
+/// Returns the core of another plant that goes on from a core that rests, which is left as it is: an operator with the name of
+/// one of the old core goes on in its state, under its row of the new plant. An operator with a new name is opened before the
+/// frame. One whose name the new plant does not have leaves with its flows.
+///
+/// Fails in the order of `ChangeFault` (implementation-specific).
+pub fn change(
+    alloc: Global,
+    core: &LiveCore,
+    plant: Plant,
+    rankings: Vec<Ranking>,
+) -> Result<LiveCore, ChangeFault>
+    ensures ok { IfOk result (λ new. IsChangeOf (live_view core.now) plant (live_view new)) }
+    ensures fault { IfErr result (IsChangeFault (live_view core.now) plant (map policy_of rankings.items)) }
+
+    // Where the core rests, and the operators can start in their states under the new plant, the only fault is out of memory.
+    ensures only { CanChange (live_view core.now) plant (map policy_of rankings.items)
+        → IfErr result (λ fault. fault ≡ change_faults.Restart restart_faults.NoMemory) }
+{
+    // For the proof: that the plants are valid.
+    core.always();
+    let _rows = plant.rows();
+    if !are_same_consts(plant.consts(), core.plant().consts()) {
+        return Err(ChangeFault::ConstantsDiffer);
+    }
+    let frame = match core.resting_frame() {
+        Ok(frame) => frame,
+        Err(why) => return Err(ChangeFault::Unfinished { why }),
+    };
+    let Ok(operators) = states_to_save(alloc, core) else {
+        return Err(ChangeFault::Restart {
+            why: RestartFault::NoMemory,
+        });
+    };
+    match restart(alloc, plant, rankings, frame, operators.as_slice()) {
+        Ok(new) => {
+            // For the proof: what always holds of `new`.
+            new.always();
+            Ok(new)
+        }
+        Err(why) => Err(ChangeFault::Restart { why }),
+    }
+}

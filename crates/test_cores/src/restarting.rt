@@ -1,0 +1,278 @@
+//! Cores that go on from a snapshot, or under another plant.
+
+use crate::fixtures::{ADDITION, MODEM_OF_A, REPLY};
+use crate::opening::strict;
+use crate::step_calls::{StepCall, step_of};
+use grant_policy::Ranking;
+use live_core::{LiveCore, RestFault, ResumeFault};
+use operator_book::{Output, StateFault};
+use plant::{Op, OperatorName};
+use plant_restart::{ChangeFault, RestartFault, RestoreFault, SaveFault, change, restore, save};
+use run_model::Out;
+use slice_table::read_plant;
+use snapshot_format::{Snapshot, read_snapshot, write_snapshot};
+use std::alloc::{AllocError, Global};
+use std::process::Abort;
+use std::test::Fail;
+use test_plants::{ALONE, PLANT, replace_first};
+use tlv24::Bytes;
+
+/// What a step of a core outputs.
+#[derive(Clone, Copy, Debug, PartialEq, Eq)]
+enum StepOutput {
+    Nothing,
+    Reply(&'static [u8]),
+    /// The operator's frame of this number.
+    Frame(Op, u32),
+    Map(u32),
+}
+
+/// Returns whether an output is the expected one.
+fn is_wanted(out: &Out, wanted: StepOutput) -> bool {
+    match (out, wanted) {
+        (
+            Out::Of {
+                op: _,
+                output: Output::Reply { modem: _, bytes },
+            },
+            StepOutput::Reply(reply),
+        ) => bytes.as_slice() == reply,
+        (
+            Out::Of {
+                op,
+                output: Output::Frame {
+                    number,
+                    elements: _,
+                },
+            },
+            StepOutput::Frame(of, frame),
+        ) => *op == of && *number == frame,
+        (Out::Map(made), StepOutput::Map(frame)) => made.frame == frame,
+        _ => false,
+    }
+}
+
+/// Returns whether the outputs are the expected one alone, or none where none is expected.
+fn are_wanted(outs: &[Out], wanted: StepOutput) -> bool {
+    match outs {
+        [] => wanted == StepOutput::Nothing,
+        [out] => is_wanted(out, wanted),
+        _ => false,
+    }
+}
+
+/// A step, and the output that is expected.
+type CoreStep = (StepCall, StepOutput);
+
+/// Returns whether a core does steps as expected, one after the other.
+fn does_all(alloc: Global, core: &mut LiveCore, rows: &[CoreStep]) -> Result<bool, AllocError> {
+    for (call, wanted) in rows {
+        let step = step_of(alloc, *call)?;
+        match core.step(alloc, step) {
+            Ok(outs) => {
+                if !are_wanted(outs.as_slice(), *wanted) {
+                    return Ok(false);
+                }
+            }
+            Err(_) => return Ok(false),
+        }
+    }
+    Ok(true)
+}
+
+/// Opens the core of a plant of operators A and B with their rankings.
+fn open(alloc: Global, first: Ranking, second: Ranking) -> Result<LiveCore, Fail> {
+    let plant = read_plant(alloc, PLANT)?;
+    let rankings = Vec::from_array(alloc, [first, second])?;
+    Ok(LiveCore::open(alloc, plant, rankings)?)
+}
+
+/// Saves a core, and reads the snapshot back from its text.
+fn save_as_text(alloc: Global, core: &LiveCore) -> Result<Snapshot, Fail> {
+    let saved = save(alloc, core, Bytes::from_slice(alloc, PLANT.as_bytes())?)?;
+    let mut text = Vec::new(alloc);
+    write_snapshot(alloc, &mut text, &saved)?;
+    Ok(read_snapshot(alloc, text.as_slice())?)
+}
+
+/// Restores a core of the plant with this text.
+fn restore_plant(
+    alloc: Global,
+    text: &str,
+    saved: &Snapshot,
+    rankings: Vec<Ranking>,
+) -> Result<Result<LiveCore, RestoreFault>, Fail> {
+    let plant = read_plant(alloc, text)?;
+    Ok(restore(alloc, plant, saved, rankings))
+}
+
+/// Changes the plant of a core to the one with this text.
+fn change_plant(
+    alloc: Global,
+    text: &str,
+    core: &LiveCore,
+    rankings: Vec<Ranking>,
+) -> Result<Result<LiveCore, ChangeFault>, Fail> {
+    let plant = read_plant(alloc, text)?;
+    Ok(change(alloc, core, plant, rankings))
+}
+
+/// A second addition, and the reply to it: SFID and SID 257 are those of the flow of the first.
+const SECOND: &[u8] = &[15, 0, 2, 24, 10, 1, 2, 0, 1, 6, 1, 6, 15, 1, 2];
+
+const SECOND_REPLY: &[u8] = &[
+    16, 0, 2, 0, 24, 14, 1, 2, 0, 1, 2, 4, 0, 0, 1, 2, 3, 2, 1, 2,
+];
+
+/// A flow of A is added, and the first frame has its MAP.
+const BEFORE: &[CoreStep] = &[
+    (StepCall::Arrive(MODEM_OF_A, ADDITION), StepOutput::Nothing),
+    (StepCall::Work(0), StepOutput::Reply(REPLY)),
+    (StepCall::Tick(0), StepOutput::Frame(0, 0)),
+    (StepCall::Tick(1), StepOutput::Frame(1, 0)),
+    (StepCall::Collect(0), StepOutput::Nothing),
+    (StepCall::Collect(1), StepOutput::Map(0)),
+];
+
+/// The addition is repeated, and has its cached reply. A second flow has the next identifiers, and the next frame its MAP.
+const AFTER: &[CoreStep] = &[
+    (StepCall::Arrive(MODEM_OF_A, ADDITION), StepOutput::Nothing),
+    (StepCall::Work(0), StepOutput::Reply(REPLY)),
+    (StepCall::Arrive(MODEM_OF_A, SECOND), StepOutput::Nothing),
+    (StepCall::Work(0), StepOutput::Reply(SECOND_REPLY)),
+    (StepCall::Tick(0), StepOutput::Frame(0, 1)),
+    (StepCall::Tick(1), StepOutput::Frame(1, 1)),
+    (StepCall::Collect(0), StepOutput::Nothing),
+    (StepCall::Collect(1), StepOutput::Map(1)),
+];
+
+#[test]
+fn a_restored_core_goes_on_as_the_one_that_was_saved(rt: HostRuntime) -> Result<(), Fail> {
+    let alloc = rt.alloc();
+    let mut core = open(alloc, strict!(alloc), strict!(alloc))?;
+    assert!(rt; does_all(alloc, &mut core, BEFORE)?);
+    let saved = save_as_text(alloc, &core)?;
+    let rankings = Vec::from_array(alloc, [strict!(alloc), strict!(alloc)])?;
+    let mut restored = restore_plant(alloc, PLANT, &saved, rankings)??;
+    let rankings = Vec::from_array(alloc, [strict!(alloc), strict!(alloc)])?;
+    let mut changed = change_plant(alloc, PLANT, &core, rankings)??;
+    assert!(rt; does_all(alloc, &mut core, AFTER)?);
+    assert!(rt; does_all(alloc, &mut restored, AFTER)?);
+    assert!(rt; does_all(alloc, &mut changed, AFTER)?);
+    Ok(())
+}
+
+/// Changes of the plant file with which a snapshot is not restored, and why.
+const NOT_RESTORED: &[(&str, &str, RestartFault)] = &[
+    (
+        "policy = \"strict\"",
+        "policy = \"short\"",
+        RestartFault::RankingsMismatch,
+    ),
+    (
+        "sfids = [257, 512]",
+        "sfids = [258, 512]",
+        RestartFault::State {
+            op: 0,
+            why: StateFault::SfidOutOfRange { sfid: 257 },
+        },
+    ),
+    (
+        "ucd_count = 1",
+        "ucd_count = 1\nfirst_frame = 2",
+        RestartFault::Core {
+            why: ResumeFault::BeforeFirstFrame,
+        },
+    ),
+];
+
+#[test]
+fn a_snapshot_that_does_not_fit_the_plant_is_refused(rt: HostRuntime) -> Result<(), Fail> {
+    let alloc = rt.alloc();
+    let mut core = open(alloc, strict!(alloc), strict!(alloc))?;
+    assert!(rt; does_all(alloc, &mut core, BEFORE)?);
+    let saved = save_as_text(alloc, &core)?;
+    for (old, new, why) in NOT_RESTORED {
+        let text = replace_first(alloc, PLANT, old, new)?;
+        let rankings = Vec::from_array(alloc, [strict!(alloc), strict!(alloc)])?;
+        let restored = restore_plant(alloc, text.as_str(), &saved, rankings)?;
+        assert_eq!(rt; restored.err(), Some(RestoreFault::Restart { why: *why }));
+    }
+    let name = OperatorName::new(b"B").ok_or("a name")?;
+    let rankings = Vec::from_array(alloc, [strict!(alloc)])?;
+    let restored = restore_plant(alloc, ALONE, &saved, rankings)?;
+    assert_eq!(rt;
+        restored.err(),
+        Some(RestoreFault::UnknownOperator { name })
+    );
+    Ok(())
+}
+
+/// Changes of the plant file to which a core at rest is not changed, and why.
+const NOT_CHANGED: &[(&str, &str, ChangeFault)] = &[
+    (
+        "ucd_count = 1",
+        "ucd_count = 2",
+        ChangeFault::ConstantsDiffer,
+    ),
+    (
+        "sfids = [257, 512]",
+        "sfids = [258, 512]",
+        ChangeFault::Restart {
+            why: RestartFault::State {
+                op: 0,
+                why: StateFault::SfidOutOfRange { sfid: 257 },
+            },
+        },
+    ),
+];
+
+#[test]
+fn a_core_is_not_changed_to_a_plant_that_does_not_fit(rt: HostRuntime) -> Result<(), Fail> {
+    let alloc = rt.alloc();
+    let mut core = open(alloc, strict!(alloc), strict!(alloc))?;
+    assert!(rt; does_all(alloc, &mut core, BEFORE)?);
+    for (old, new, why) in NOT_CHANGED {
+        let text = replace_first(alloc, PLANT, old, new)?;
+        let rankings = Vec::from_array(alloc, [strict!(alloc), strict!(alloc)])?;
+        let changed = change_plant(alloc, text.as_str(), &core, rankings)?;
+        assert_eq!(rt; changed.err(), Some(*why));
+    }
+    Ok(())
+}
+
+#[test]
+fn a_core_of_which_a_frame_waits_is_not_saved_nor_changed(rt: HostRuntime) -> Result<(), Fail> {
+    let alloc = rt.alloc();
+    let mut core = open(alloc, strict!(alloc), strict!(alloc))?;
+    let ticked = &[(StepCall::Tick(0), StepOutput::Frame(0, 0))];
+    assert!(rt; does_all(alloc, &mut core, ticked)?);
+    let why = RestFault::FrameWaits { op: 0 };
+    let text = Bytes::from_slice(alloc, PLANT.as_bytes())?;
+    assert_eq!(rt;
+        save(alloc, &core, text).err(),
+        Some(SaveFault::Unfinished { why })
+    );
+    let rankings = Vec::from_array(alloc, [strict!(alloc), strict!(alloc)])?;
+    let changed = change_plant(alloc, PLANT, &core, rankings)?;
+    assert_eq!(rt; changed.err(), Some(ChangeFault::Unfinished { why }));
+    Ok(())
+}
+
+/// Operator B leaves, and A keeps its flow and its frames.
+#[test]
+fn an_operator_without_a_row_leaves(rt: HostRuntime) -> Result<(), Fail> {
+    let alloc = rt.alloc();
+    let mut core = open(alloc, strict!(alloc), strict!(alloc))?;
+    assert!(rt; does_all(alloc, &mut core, BEFORE)?);
+    let rankings = Vec::from_array(alloc, [strict!(alloc)])?;
+    let mut alone = change_plant(alloc, ALONE, &core, rankings)??;
+    let rows = &[
+        (StepCall::Arrive(MODEM_OF_A, SECOND), StepOutput::Nothing),
+        (StepCall::Work(0), StepOutput::Reply(SECOND_REPLY)),
+        (StepCall::Tick(0), StepOutput::Frame(0, 1)),
+        (StepCall::Collect(0), StepOutput::Map(1)),
+    ];
+    assert!(rt; does_all(alloc, &mut alone, rows)?);
+    Ok(())
+}
