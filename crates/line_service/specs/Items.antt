@@ -1,5 +1,5 @@
 -- A service whose plant may be changed: its input is lines of a script, plant files and requests for a snapshot
--- (implementation-specific). The program has no such service yet; the law below is what it will rest on.
+-- (implementation-specific).
 use Rattle.std.specs.Prelude.{◌≡◌, ◌⊎◌, ℕ, ◌+◌, List, [], ◌∷◌, ◌++◌, drop, Bool, true, false, Option, Some, ⊤, if◌then◌else◌}
 use Rattle.std.specs.Io.KnownBytes.{Appends}
 use Rattle.std.specs.List.{flat_map}
@@ -7,6 +7,7 @@ use Rattle.plant.specs.declared.plant.PlantFields.{PlantFields}
 use Rattle.run_model.specs.IsStateAfter.{CoreView}
 use Rattle.run_model.specs.Changing.{RunSoFar, IsPlantChange, AreChanges}
 use Rattle.live_core.specs.After.{IsAfterFrom}
+use Rattle.live_core.specs.Resting.{Rests}
 use Rattle.script_format.specs.Lines.{lines_of}
 use Rattle.line_service.specs.declared.line_outcome.LineOutcome.TheVariants.{AtFault, NoMemory}
 use Rattle.line_service.specs.Service.{LineRun, IsAnswer, answer_text, end_text}
@@ -20,12 +21,12 @@ pub record ItemAnswer : Type 0 where
   pub text : List ℕ
 
 -- how items are read: which line begins a plant file, the plant that lines say from there on and how many lines it takes, which
--- line requests a snapshot, and the text of a snapshot
+-- line requests a snapshot, and the text of a snapshot of a core that rests before a frame
 pub record Meaning : Type 0 where
   pub begins_plant : List ℕ → Bool
   pub plant_of : List (List ℕ) → Option (ℕ × PlantFields)
   pub asks_snapshot : List ℕ → Bool
-  pub snapshot_of : RunSoFar → List ℕ
+  pub snapshot_of : CoreView → ℕ → List ℕ
 
 -- the run led to this live core
 abbrev pub IsRunSoFarOf : RunSoFar → CoreView → Type 0
@@ -53,10 +54,26 @@ pub record IsChangeAnswer (meaning : Meaning) (old : RunSoFar) (line : List ℕ)
   pub stands : IsRunSoFarOf answer.run live
   pub text_is : answer.text ≡ []
 
--- a snapshot is written, unless an allocation fails
-abbrev pub IsSnapshotOf : Meaning → RunSoFar → ℕ → List ℕ → ItemAnswer → Type 0
-IsSnapshotOf meaning old number line answer =
-    (meaning.asks_snapshot line ≡ true) × (answer.lines ≡ 1) × ((answer.text ≡ meaning.snapshot_of old) ⊎ (answer.text ≡ end_text number NoMemory))
+-- the core rests before a frame, and its snapshot is written
+pub record SnapshotIsGiven (meaning : Meaning) (live : CoreView) (text : List ℕ) : Type 0 where
+  pub frame : ℕ
+  pub rests : Rests live frame
+  pub text_is : text ≡ meaning.snapshot_of live frame
+
+-- so it is; or the core rests and an allocation failed, or the core rests before no frame
+abbrev pub SnapshotIsAnswered : Meaning → CoreView → ℕ → List ℕ → Type 0
+SnapshotIsAnswered meaning live number text =
+    SnapshotIsGiven meaning live text
+    ⊎ (((text ≡ end_text number NoMemory) × ((frame : ℕ) × Rests live frame))
+    ⊎ ((text ≡ end_text number AtFault) × ((frame : ℕ) → Rests live frame → ⊥)))
+
+-- a line requests a snapshot, and is answered by it
+pub record IsSnapshotOf (meaning : Meaning) (old : RunSoFar) (number : ℕ) (line : List ℕ) (answer : ItemAnswer) : Type 0 where
+  pub live : CoreView
+  pub leads : IsRunSoFarOf old live
+  pub requests : meaning.asks_snapshot line ≡ true
+  pub one : answer.lines ≡ 1
+  pub answered : SnapshotIsAnswered meaning live number answer.text
 
 -- the plant is not changed: an allocation failed, or there is no such change
 abbrev pub ItemIsRefused : Meaning → RunSoFar → ℕ → List ℕ → List (List ℕ) → ItemAnswer → Type 0

@@ -101,8 +101,8 @@ fn do_line<W: Write>(
     }
 }
 
-/// Writes how a line ended.
-pub(crate) fn write_end<W: Write>(writer: &mut W, number: u64, end: LineOutcome) -> io::Result<()>
+/// Writes how a line ended: nothing if all is done, else its fault.
+pub fn write_end<W: Write>(writer: &mut W, number: u64, end: LineOutcome) -> io::Result<()>
     ensures { OnOk result (Appends (W.contents writer.old) (W.contents writer.new) (end_text number end)) }
 {
     match end {

@@ -53,17 +53,45 @@ fn with_last_line(mut text: Vec<u8>, line: &[u8]) -> Result<Vec<u8>, AllocError>
     Ok(text)
 }
 
-/// Fails where a plant's text has more than 1,048,576 bytes.
-fn judge_length(text: &[u8]) -> io::Result<()>
-    ensures { IsOk result ↔ (length text.now ≤ 1048576) }
+/// Fails where a text has more than so many bytes.
+fn judge_length(text: &[u8], most: usize) -> io::Result<()>
+    ensures { IsOk result ↔ (length text.now ≤ most) }
 {
-    if text.len() > MOST_BYTES {
+    if text.len() > most {
         return Err(io::Error::from(io::ErrorKind::FileTooLarge));
     }
     Ok(())
 }
 
-/// Reads a plant's text, up to the first line of three dashes and that line too, and answers what
+/// Reads a text, up to the first line of three dashes and that line too, and returns what is before it. The reader is left after
+/// that line. Where there is no such line, the text is all that the reader has. An error is one of the reader's, out of memory, or
+/// a text of more than `most` bytes.
+pub fn read_to_bar<R: Read>(alloc: Global, reader: &mut R, most: usize) -> io::Result<Vec<u8>>
+    ensures text { IfOk result (λ text. IfSome (R.remaining reader.old) (λ input. text.items ≡ plant_text input)) }
+    ensures script { OnOk result (IfSome (R.remaining reader.old) (λ input. R.remaining reader.new ≡ Some (script_text input))) }
+    ensures limit { IfOk result (λ text. length text.items ≤ most) }
+{
+    let mut text = Vec::new(alloc);
+    let mut line = Vec::new(alloc);
+    for _ in 0..most.saturating_add(BAR_BYTES) {
+        match next_byte(reader)? {
+            None => {
+                let whole = with_last_line(text, line.as_slice())?;
+                judge_length(whole.as_slice(), most)?;
+                return Ok(whole);
+            }
+            Some(byte) => {
+                if take_byte(&mut text, &mut line, byte)? {
+                    judge_length(text.as_slice(), most)?;
+                    return Ok(text);
+                }
+            }
+        }
+    }
+    Err(io::Error::from(io::ErrorKind::FileTooLarge))
+}
+
+/// Reads a plant's text, up to the first line of three dashes and that line too, and returns what
 /// is before it. The reader is left where the script begins. Where there is no such line, all is
 /// the plant's text. An error is one of the reader's, out of memory, or a text of more than
 /// 1,048,576 bytes.
@@ -72,22 +100,5 @@ pub fn read_plant_text<R: Read>(alloc: Global, reader: &mut R) -> io::Result<Vec
     ensures script { OnOk result (IfSome (R.remaining reader.old) (λ input. R.remaining reader.new ≡ Some (script_text input))) }
     ensures limit { IfOk result (λ text. length text.items ≤ 1048576) }
 {
-    let mut text = Vec::new(alloc);
-    let mut line = Vec::new(alloc);
-    for _ in 0..MOST_BYTES + BAR_BYTES {
-        match next_byte(reader)? {
-            None => {
-                let whole = with_last_line(text, line.as_slice())?;
-                judge_length(whole.as_slice())?;
-                return Ok(whole);
-            }
-            Some(byte) => {
-                if take_byte(&mut text, &mut line, byte)? {
-                    judge_length(text.as_slice())?;
-                    return Ok(text);
-                }
-            }
-        }
-    }
-    Err(io::Error::from(io::ErrorKind::FileTooLarge))
+    read_to_bar(alloc, reader, MOST_BYTES)
 }

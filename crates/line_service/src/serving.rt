@@ -19,8 +19,8 @@ use std::alloc::Global;
 use std::io;
 use std::io::{Read, Write};
 
-/// Returns the number of the next line.
-fn next_number(number: u64) -> io::Result<u64>
+/// Returns the number of the line after this one, or an error after 2^64 - 1 lines.
+pub fn next_number(number: u64) -> io::Result<u64>
     ensures { IfOk result (λ next. next ≡ number + 1) }
 {
     match number.checked_add(1) {
@@ -29,8 +29,8 @@ fn next_number(number: u64) -> io::Result<u64>
     }
 }
 
-/// Returns the line that was read.
-fn answer_held<W: Write>(
+/// Answers the line that was read, as `answer_line` does. A line that is too long is invalid.
+pub fn answer_held<W: Write>(
     alloc: Global,
     core: &mut LiveCore,
     number: u64,

@@ -2,7 +2,7 @@ use Rattle.std.proofs.Common.{◌≡◌, ◌∷◌, List, ℕ, Bool, true, false
 use Rattle.line_service.specs.Bytes.{WhereKnown, Takes}
 use Rattle.line_service.specs.Front.{IsReadSoFar, ReadsOn}
 use Rattle.line_service.proofs.FrontLemmas.{known_on, text_known, script_known}
-use Rattle.line_service.proofs.front.read_plant_text.Goals as goal
+use Rattle.line_service.proofs.front.read_to_bar.Goals as goal
 
 module _ (a b d : Option (List ℕ)) (byte : Option ℕ) (old_text old_line new_text new_line : List ℕ) (x : ℕ) (is_bar t : Bool)
     (h : WhereKnown a b (λ input rest. IsReadSoFar input rest old_text old_line)) (took : Takes b d byte) (some : byte ≡ Some x)

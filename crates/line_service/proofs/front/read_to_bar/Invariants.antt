@@ -1,6 +1,6 @@
 use Rattle.line_service.specs.Bytes.{WhereKnown}
 use Rattle.line_service.specs.Front.{IsReadSoFar}
-use Rattle.line_service.proofs.front.read_plant_text.Given as goal
+use Rattle.line_service.proofs.front.read_to_bar.Given as goal
 
 abbrev pub invariant-loop : goal.invariant-loop
 invariant-loop g l =
