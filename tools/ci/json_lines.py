@@ -3,8 +3,8 @@
     tools/ci/json_lines [PROGRAM]     Prints each difference; exits with 1 if there is one.
 
 Each line of the plain output must have one object, in its order. Its member `text` must be the line, and the line that is made again
-of the other members must be the same. Statuses and standard error must be the same. The outputs of run and of trace must come from
-the same lines of the script, by the same checks.
+of the other members must be the same. Statuses and standard error must be the same. The outputs of run, of trace and of serve must
+come from the same lines of the script, by the same checks, with the same numbers. After an invalid line only serve goes on.
 """
 
 import json
@@ -154,9 +154,8 @@ def found_in(program, case):
     run, trace, serve = (decisions(answers[word]) for word in ("run", "trace", "serve"))
     if run != trace:
         found.append(f"run has the outputs {run}, trace {trace}")
-    both = [ran[:2] for ran in run], [served[:2] for served in serve[:len(run)]]
-    if both[0] != both[1]:
-        found.append(f"run has the outputs {both[0]}, serve {both[1]}")
+    if run != serve[:len(run)]:
+        found.append(f"run has the outputs {run}, serve {serve}")
     found += lines_of_service(answers["serve"], data.partition(b"\n---\n")[2])
     return found
 

@@ -1,3 +1,4 @@
+pub mod NoteMembers
 pub mod Props
 pub mod Writable
 pub mod Written

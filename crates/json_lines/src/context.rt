@@ -1,17 +1,10 @@
-//! What the lines of a trace say of the output that comes next: the line of the script, and the check that decided it.
+//! What is said of the output that comes next: the line of the script, and the check that decides it.
+
+ghost use Rattle.std.specs.Prelude.{◌≡◌, None, Some};
 
 use crate::plain_line::PlainLine;
 use crate::remark::{Remark, remark_of};
 use std::alloc::{AllocError, Global};
-
-/// The check that decided what a message is answered.
-#[derive(Debug, Drop)]
-pub struct DecidingCheck {
-    /// Its number in the table of checks.
-    pub number: u64,
-    /// Its name.
-    pub name: String,
-}
 
 /// The numbers that a check compared.
 #[derive(Clone, Copy, Debug, PartialEq, Eq)]
@@ -26,6 +19,17 @@ pub struct Comparison {
     pub from_frame: Option<u64>,
 }
 
+/// The check that decided what a message is answered.
+#[derive(Debug, Drop)]
+pub struct DecidingCheck {
+    /// Its number in the table of checks.
+    pub number: u64,
+    /// Its name.
+    pub name: String,
+    /// The numbers that it compared, where it compares any.
+    pub comparison: Option<Comparison>,
+}
+
 /// What is known of an output besides its own line.
 #[derive(Debug, Drop)]
 pub struct OutputNote {
@@ -33,18 +37,14 @@ pub struct OutputNote {
     pub line: Option<u64>,
     /// The check that decided it.
     pub check: Option<DecidingCheck>,
-    /// The numbers that the check compared.
-    pub comparison: Option<Comparison>,
 }
 
 impl OutputNote {
     /// Returns a note of a line of the script, and of no check.
-    pub(crate) fn of_line(line: Option<u64>) -> OutputNote {
-        OutputNote {
-            line,
-            check: None,
-            comparison: None,
-        }
+    pub(crate) fn of_line(line: Option<u64>) -> OutputNote
+        ensures { (result.line ≡ line) × (result.check ≡ None) }
+    {
+        OutputNote { line, check: None }
     }
 }
 
@@ -65,7 +65,7 @@ fn numbers_in(text: &str) -> ([u64; 4], usize) {
 }
 
 /// Returns the numbers that a check compared, by the remark on them.
-pub(crate) fn comparison_of(remark: &str) -> Option<Comparison> {
+fn comparison_of(remark: &str) -> Option<Comparison> {
     let ([first, second, third, fourth], count) = numbers_in(remark);
     let (held, limit, needed, from_frame) = match count {
         2 => (first, second, None, None),
@@ -95,43 +95,62 @@ pub(crate) enum TakenLine {
     Other,
 }
 
-/// What the lines of a trace have said so far of the next output.
+/// What was said so far of the output that comes next.
 #[derive(Drop)]
-pub struct TraceContext {
+pub struct OutputContext {
     line: Option<u64>,
     check: Option<DecidingCheck>,
-    comparison: Option<Comparison>,
 }
 
-impl TraceContext {
+impl OutputContext {
     /// Returns that nothing was said.
-    pub(crate) fn new() -> TraceContext {
-        TraceContext {
+    pub(crate) fn new() -> OutputContext
+        ensures { (result.line ≡ None) × (result.check ≡ None) }
+    {
+        OutputContext {
             line: None,
             check: None,
-            comparison: None,
         }
     }
 
+    /// Begins a line of the script. No check was said yet.
+    pub(crate) fn begin_line(&mut self, number: u64)
+        ensures { (self.new.line ≡ Some number) × (self.new.check ≡ None) }
+    {
+        self.line = Some(number);
+        self.check = None;
+    }
+
+    /// Says which check decides the next output, if one does.
+    pub(crate) fn say_check(&mut self, check: Option<DecidingCheck>)
+        ensures { (self.new.line ≡ self.old.line) × (self.new.check ≡ check) }
+    {
+        self.check = check;
+    }
+
     /// Returns a note of the line of the script alone.
-    pub(crate) fn note_of_line(&self) -> OutputNote {
+    pub(crate) fn note_of_line(&self) -> OutputNote
+        ensures { (result.line ≡ self.now.line) × (result.check ≡ None) }
+    {
         OutputNote::of_line(self.line)
     }
 
     /// Takes what was said of an output that has come.
-    fn take_note(&mut self) -> OutputNote {
+    pub(crate) fn take_note(&mut self) -> OutputNote
+        ensures note { (result.line ≡ self.old.line) × (result.check ≡ self.old.check) }
+        ensures taken { (self.new.line ≡ self.old.line) × (self.new.check ≡ None) }
+    {
         OutputNote {
             line: self.line,
             check: self.check.take(),
-            comparison: self.comparison.take(),
         }
     }
 
     /// Takes a remark other than an output: between a check and its output, the numbers that the check compared.
     fn take_other(&mut self, remark: &str) -> TakenLine {
-        match (&self.check, comparison_of(remark)) {
-            (Some(_check), Some(comparison)) => {
-                self.comparison = Some(comparison);
+        match (&mut self.check, comparison_of(remark)) {
+            (Some(check), Some(comparison)) => {
+                check.comparison = Some(comparison);
                 TakenLine::Comparison {
                     line: self.line,
                     comparison,
@@ -157,14 +176,17 @@ impl TraceContext {
     ) -> Result<TakenLine, AllocError> {
         match line {
             PlainLine::Script { number } => {
-                self.line = Some(number);
-                self.check = None;
-                self.comparison = None;
+                self.begin_line(number);
                 Ok(TakenLine::Other)
             }
             PlainLine::Check { number, name } => {
                 let name = String::from_str(alloc, name)?;
-                self.check = Some(DecidingCheck { number, name });
+                let comparison = None;
+                self.check = Some(DecidingCheck {
+                    number,
+                    name,
+                    comparison,
+                });
                 Ok(TakenLine::Other)
             }
             PlainLine::Remark { remark } => Ok(self.take_remark(remark)),

@@ -1,6 +1,11 @@
 //! The members of the object of a line.
 
-use crate::context::{Comparison, OutputNote};
+ghost use Rattle.std.specs.Prelude.{◌≡◌, Some, OnOk, codes};
+ghost use Rattle.serde_json.specs.Data.{put, string};
+ghost use Rattle.serde_json.specs.View.{members_view};
+ghost use Rattle.json_lines.specs.NoteMembers.{put_if, with_comparison, with_check, with_note};
+
+use crate::context::{Comparison, DecidingCheck, OutputNote};
 use crate::object::JsonObject;
 use crate::plain_line::PlainLine;
 use crate::remark::{Remark, StepSubject, remark_of};
@@ -42,7 +47,9 @@ fn put_reply(object: &mut JsonObject, bytes: &str) -> Result<(), AllocError> {
 }
 
 /// Adds the numbers that a check compared.
-fn put_comparison(object: &mut JsonObject, comparison: Comparison) -> Result<(), AllocError> {
+fn put_comparison(object: &mut JsonObject, comparison: Comparison) -> Result<(), AllocError>
+    ensures { OnOk result (members_view object.new.members.entries ≡ with_comparison comparison (members_view object.old.members.entries)) }
+{
     object.put_number("held", comparison.held)?;
     object.put_number("limit", comparison.limit)?;
     if let Some(needed) = comparison.needed {
@@ -54,17 +61,27 @@ fn put_comparison(object: &mut JsonObject, comparison: Comparison) -> Result<(),
     }
 }
 
+/// Adds the check that decided an output, and the numbers that it compared.
+fn put_check(object: &mut JsonObject, check: &DecidingCheck) -> Result<(), AllocError>
+    ensures { OnOk result (members_view object.new.members.entries ≡ with_check (Some check.now) (members_view object.old.members.entries)) }
+{
+    object.put_number("check", check.number)?;
+    object.put_text("check_name", check.name.as_str())?;
+    match check.comparison {
+        Some(comparison) => put_comparison(object, comparison),
+        None => Ok(()),
+    }
+}
+
 /// Adds what is known of an output besides its own line.
-pub(crate) fn put_note(object: &mut JsonObject, note: &OutputNote) -> Result<(), AllocError> {
+pub(crate) fn put_note(object: &mut JsonObject, note: &OutputNote) -> Result<(), AllocError>
+    ensures { OnOk result (members_view object.new.members.entries ≡ with_note note.now (members_view object.old.members.entries)) }
+{
     if let Some(line) = note.line {
         object.put_number("line", line)?;
     }
-    if let Some(check) = &note.check {
-        object.put_number("check", check.number)?;
-        object.put_text("check_name", check.name.as_str())?;
-    }
-    match note.comparison {
-        Some(comparison) => put_comparison(object, comparison),
+    match &note.check {
+        Some(check) => put_check(object, check),
         None => Ok(()),
     }
 }
@@ -244,7 +261,11 @@ pub(crate) fn put_comparison_line(
     object: &mut JsonObject,
     line: Option<u64>,
     comparison: Comparison,
-) -> Result<(), AllocError> {
+) -> Result<(), AllocError>
+    ensures { OnOk result (members_view object.new.members.entries
+        ≡ with_comparison comparison (put_if (codes "line") line
+        (put (codes "type") (string (codes "comparison")) (members_view object.old.members.entries)))) }
+{
     object.put_text("type", "comparison")?;
     if let Some(line) = line {
         object.put_number("line", line)?;

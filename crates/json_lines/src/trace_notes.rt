@@ -1,8 +1,8 @@
 //! The notes of a whole trace: what is known of each output, in their order.
 
-ghost use Rattle.std.specs.Prelude.{◌≤◌, IfOk, length};
+ghost use Rattle.std.specs.Prelude.{◌≡◌, ◌≤◌, [], false, true, None, Some, IfOk, length};
 
-use crate::context::{OutputNote, TakenLine, TraceContext};
+use crate::context::{OutputContext, OutputNote, TakenLine};
 use crate::plain_line::plain_line;
 use memchr::memchr;
 use std::alloc::{AllocError, Global};
@@ -13,7 +13,7 @@ use std::io::Write;
 #[derive(Drop)]
 pub struct TraceNotes {
     alloc: Global,
-    context: TraceContext,
+    context: OutputContext,
     /// The line so far.
     held: Vec<u8>,
     /// The notes, in the order of the outputs.
@@ -24,10 +24,12 @@ pub struct TraceNotes {
 
 impl TraceNotes {
     /// Returns that nothing was written.
-    pub fn new(alloc: Global) -> TraceNotes {
+    pub fn new(alloc: Global) -> TraceNotes
+        ensures { (result.notes.items ≡ []) × (result.is_full ≡ false) }
+    {
         TraceNotes {
             alloc,
-            context: TraceContext::new(),
+            context: OutputContext::new(),
             held: Vec::new(alloc),
             notes: Vec::new(alloc),
             is_full: false,
@@ -35,7 +37,10 @@ impl TraceNotes {
     }
 
     /// Returns the notes, in the order of the outputs. None where an allocation for one failed.
-    pub fn into_notes(self) -> Option<Vec<OutputNote>> {
+    pub fn into_notes(self) -> Option<Vec<OutputNote>>
+        ensures all { self.is_full ≡ false → result ≡ Some self.notes }
+        ensures none { self.is_full ≡ true → result ≡ None }
+    {
         if self.is_full { None } else { Some(self.notes) }
     }
 

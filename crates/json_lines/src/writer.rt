@@ -1,8 +1,9 @@
 //! A writer that takes the lines of the program, and writes an object of JSON for each.
 
-ghost use Rattle.std.specs.Prelude.{◌≤◌, IfOk, length};
+ghost use Rattle.std.specs.Prelude.{◌≡◌, ◌≤◌, [], false, None, Some, IfOk, length};
+ghost use Rattle.json_lines.specs.declared.writer.LineSource.TheVariants as sources;
 
-use crate::context::{OutputNote, TakenLine, TraceContext};
+use crate::context::{DecidingCheck, OutputContext, OutputNote, TakenLine};
 use crate::members::{put_comparison_line, put_line, put_note};
 use crate::object::{JsonObject, write_object};
 use crate::plain_line::{PlainLine, plain_line};
@@ -18,11 +19,11 @@ pub enum LineSource {
     /// A command whose lines say all.
     Alone,
     /// A trace: its lines say from which line of the script an output comes, and which check decided it.
-    Trace(TraceContext),
+    Trace(OutputContext),
     /// A run whose outputs have these notes.
     Run(IntoIter<OutputNote>),
-    /// A service, which flushes once for each line of the script. This is the number of the next one.
-    Service(u64),
+    /// A service, which says of each output from which line of the script it comes, and which check decides it.
+    Service(OutputContext),
 }
 
 /// A writer that takes the lines of the program, and writes an object of JSON for each. An allocation that fails for an object
@@ -40,8 +41,19 @@ pub struct JsonLines<'a, W> {
 
 impl LineSource {
     /// Returns the source of a trace.
-    pub fn trace() -> LineSource {
-        LineSource::Trace(TraceContext::new())
+    pub fn trace() -> LineSource
+        ensures { result ≡ sources.Trace (record { line = None; check = None }) }
+    {
+        LineSource::Trace(OutputContext::new())
+    }
+
+    /// Returns the source of a service, before its first line.
+    pub fn service() -> LineSource
+        ensures { result ≡ sources.Service (record { line = Some 1; check = None }) }
+    {
+        let mut context = OutputContext::new();
+        context.begin_line(1);
+        LineSource::Service(context)
     }
 
     /// Takes a line. Returns what is known of it.
@@ -53,7 +65,7 @@ impl LineSource {
                 taken => Ok(taken),
             },
             LineSource::Run(notes) => Ok(note_of_run(notes, line)),
-            LineSource::Service(number) => Ok(note_of_service(*number, line)),
+            LineSource::Service(context) => Ok(note_of_service(context, line)),
         }
     }
 }
@@ -72,11 +84,13 @@ fn note_of_run(notes: &mut IntoIter<OutputNote>, line: PlainLine<'_>) -> TakenLi
     }
 }
 
-/// Returns the number of the line of the script, except for a fault that comes before the first.
-fn note_of_service(number: u64, line: PlainLine<'_>) -> TakenLine {
+/// Returns what the service has said of an output. Of a fault that is the line of the script, except for one that comes before the
+/// first line.
+fn note_of_service(context: &mut OutputContext, line: PlainLine<'_>) -> TakenLine {
     match line {
         PlainLine::Fault { fault } if fault != "memory" => TakenLine::Other,
-        _ => TakenLine::Output(OutputNote::of_line(Some(number))),
+        PlainLine::Fault { fault: _ } => TakenLine::Output(context.note_of_line()),
+        _ => TakenLine::Output(context.take_note()),
     }
 }
 
@@ -102,7 +116,9 @@ fn object_of(
 
 impl<'a, W: Write> JsonLines<'a, W> {
     /// Returns that no line was written.
-    pub fn new(alloc: Global, writer: &'a mut W, source: LineSource) -> JsonLines<'a, W> {
+    pub fn new(alloc: Global, writer: &'a mut W, source: LineSource) -> JsonLines<'a, W>
+        ensures { (result.source ≡ source) × (result.held.items ≡ []) × (result.is_full ≡ false) }
+    {
         JsonLines {
             alloc,
             writer,
@@ -112,8 +128,24 @@ impl<'a, W: Write> JsonLines<'a, W> {
         }
     }
 
+    /// Begins a line of the script of a service. Has no effect on another source.
+    pub fn begin_line(&mut self, number: u64) {
+        if let LineSource::Service(context) = &mut self.source {
+            context.begin_line(number);
+        }
+    }
+
+    /// Says which check decides the next output of a service, if one does. Has no effect on another source.
+    pub fn say_check(&mut self, check: Option<DecidingCheck>) {
+        if let LineSource::Service(context) = &mut self.source {
+            context.say_check(check);
+        }
+    }
+
     /// Returns whether an allocation failed for an object.
-    pub fn is_full(&self) -> bool {
+    pub fn is_full(&self) -> bool
+        ensures { result ≡ self.now.is_full }
+    {
         self.is_full
     }
 
@@ -175,10 +207,6 @@ impl<W: Write> Write for JsonLines<'_, W> {
     }
 
     fn flush(&mut self) -> io::Result<()> {
-        self.writer.flush()?;
-        if let LineSource::Service(number) = &mut self.source {
-            *number = number.saturating_add(1);
-        }
-        Ok(())
+        self.writer.flush()
     }
 }

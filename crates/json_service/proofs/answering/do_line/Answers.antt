@@ -1,0 +1,17 @@
+use Rattle.std.proofs.Common.{◌≡◌, Ok, subst, sym, ◌∙◌}
+use Rattle.plant.specs.declared.plant.PlantFields.{PlantFields}
+use Rattle.live_core.specs.LiveView.{live_view}
+use Rattle.line_service.specs.declared.line_outcome.LineOutcome.{LineOutcome}
+use Rattle.line_service.specs.Service.{steps_said}
+use Rattle.line_service.specs.SoFar.{HasAnswered}
+use Rattle.line_service.proofs.StepLemmas.{after_plant}
+use Rattle.line_service.proofs.LineLemmas.{steps_answered}
+use Rattle.json_service.proofs.answering.do_line.Goals as goal
+
+pub returns-in_ok-end-in-Ok : goal.returns-in_ok-end-in-Ok
+returns-in_ok-end-in-Ok g c plant start before shown after =
+    let same : c.plant.result.now ≡ plant = c.plant.ensures ∙ after_plant plant start before shown _ after in
+    subst (λ (e : LineOutcome). HasAnswered plant start before shown c.args.number c.args.line.now (live_view c.run_noted_steps.new.core) e (g.W.Write.contents c.args.writer.now) (g.W.Write.contents c.run_noted_steps.new.writer))
+    (sym c.line_outcome.ensures)
+    (steps_answered plant start before shown c.args.number c.args.line.now c.in-Ok.steps.items _ c.in_ok-end-in-Ok.end _ _
+    (subst (λ (p : PlantFields). steps_said p c.args.number c.args.line.now ≡ Ok c.in-Ok.steps.items) same c.in-Ok.ensures.said) (c.in_ok-end-in-Ok.ensures plant start before shown after))

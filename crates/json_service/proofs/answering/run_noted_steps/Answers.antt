@@ -1,0 +1,60 @@
+use Rattle.std.proofs.Common.{◌≡◌, None, [], ◌∷◌, length, ap, refl, sym, ◌∙◌}
+use Rattle.std.specs.Vec.Iter.{into_iter_items, into_iter_len}
+use Rattle.std.proofs.lemmas.List.{nil_from_length}
+use Rattle.plant_core.specs.declared.core_fault.CoreFault.TheVariants as faults
+use Rattle.plant_core.specs.Faults.{step_fault}
+use Rattle.live_core.specs.LiveView.{live_view}
+use Rattle.line_service.specs.declared.steps_end.StepsEnd.TheVariants as ends
+use Rattle.line_service.proofs.LeftLemmas.{count_next}
+use Rattle.line_service.proofs.StepLemmas.{none_done, half_more, all_are_done, step_not_done}
+use Rattle.trace_report.proofs.TraceLemmas.{on_err_of}
+use Rattle.json_service.proofs.answering.run_noted_steps.Goals as goal
+
+pub loop-number-init : goal.loop-number-init
+loop-number-init g c =
+    let gives = c.into_iter-number-iterator.ensures.into_iter_gives in
+    record {
+      next = tt;
+      finite = tt;
+      count = gives.1 ∙ c.args.steps.ok.0 ∙ ap length (sym gives.0);
+      half = λ plant start before shown after. rw gives.0 (none_done plant start before shown c.args.steps.items (live_view c.args.core.now) (g.W.Write.contents c.args.writer.now) after);
+    }
+
+-- an allocation failed for the note of a step
+pub returns-in_default : goal.returns-in_default
+returns-in_default g c plant start before shown after =
+    let at = c.loop-number in
+    let line = c.in-Some.field-0 in
+    let left : into_iter_items at.number-iterator ≡ line ∷ into_iter_items c.next.new.self = c.in-Some.ensures.steps.0 in
+    let none : step_fault (live_view at.core) line.step ≡ None = on_err_of c.note_decision.result _ c.in_default.not-Ok c.note_decision.ensures.memory in
+    step_not_done plant start before shown c.args.steps.items (live_view at.core) (live_view at.core) (g.W.Write.contents c.args.writer.now) (g.W.Write.contents c.note_decision.new.writer) line (into_iter_items c.next.new.self) (Unit {0}) faults.NoMemory ends.NoMemory
+    (rw c.note_decision.ensures.kept (rw left at (at.invariant.half plant start before shown after))) refl none refl
+
+pub loop-number-preserved : goal.loop-number-preserved
+loop-number-preserved g c =
+    let at = c.loop-number in
+    let line = c.in-Some.field-0 in
+    let left : into_iter_items at.number-iterator ≡ line ∷ into_iter_items c.next.new.self = c.in-Some.ensures.steps.0 in
+    record {
+      next = tt;
+      finite = tt;
+      count = count_next (into_iter_items at.number-iterator) line (into_iter_items c.next.new.self) (into_iter_len at.number-iterator) (into_iter_len c.next.new.self) left c.in-Some.ensures.steps.1 at.invariant.count;
+      half = λ plant start before shown after.
+          half_more plant start before shown c.args.steps.items (live_view at.core) (live_view c.step_over.new.self) (g.W.Write.contents c.args.writer.now) (g.W.Write.contents c.note_decision.new.writer) (g.W.Write.contents c.write_outs.new.writer) line (into_iter_items c.next.new.self) c.step_over.new.outs.items
+          (rw c.note_decision.ensures.kept (rw left at (at.invariant.half plant start before shown after))) (c.in-Ok-step_over.ensures.reached start)
+          (rw (← c.plant.ensures, ← c.as_slice.ensures.value) c.in_ok-write_outs-in-Ok-step_over.ensures);
+    }
+
+pub returns-in-Err : goal.returns-in-Err
+returns-in-Err g c plant start before shown after =
+    let at = c.loop-number in
+    let line = c.in-Some.field-0 in
+    let left : into_iter_items at.number-iterator ≡ line ∷ into_iter_items c.next.new.self = c.in-Some.ensures.steps.0 in
+    step_not_done plant start before shown c.args.steps.items (live_view at.core) (live_view c.step_over.new.self) (g.W.Write.contents c.args.writer.now) (g.W.Write.contents c.note_decision.new.writer) line (into_iter_items c.next.new.self) (Unit {0}) c.in-Err.fault c.end_of.result
+    (rw c.note_decision.ensures.kept (rw left at (at.invariant.half plant start before shown after))) c.in-Err.ensures.err c.in-Err.ensures.fault c.end_of.ensures
+
+pub returns : goal.returns
+returns g c plant start before shown after =
+    let at = c.loop-number in
+    let none : into_iter_items at.number-iterator ≡ [] = nil_from_length (into_iter_items at.number-iterator) (sym at.invariant.count ∙ c.in-None.ensures.steps.0) in
+    all_are_done plant start before shown c.args.steps.items (live_view at.core) (g.W.Write.contents c.args.writer.now) (g.W.Write.contents at.writer) (into_iter_items at.number-iterator) (at.invariant.half plant start before shown after) none

@@ -1,0 +1,19 @@
+use Rattle.run_model.specs.Starts.{Start}
+use Rattle.std.proofs.Common.{◌≡◌, length, List}
+use Rattle.std.specs.Vec.Iter.{into_iter_items, into_iter_len}
+use Rattle.plant.specs.declared.plant.PlantFields.{PlantFields}
+use Rattle.run_model.specs.declared.step.Out.{Out}
+use Rattle.run_model.specs.declared.step.Step.{Step}
+use Rattle.live_core.specs.After.{IsAfterFrom}
+use Rattle.live_core.specs.LiveView.{live_view}
+use Rattle.line_service.specs.SoFar.{IsHalfDone}
+use Rattle.json_service.proofs.answering.run_noted_steps.Given as goal
+
+abbrev pub invariant-loop-number : goal.invariant-loop-number
+invariant-loop-number g l = record {
+  next : (goal.iterator-loop-number g).can_next l.number-iterator;
+  finite : (goal.iterator-loop-number g).is_finite l.number-iterator;
+  count : into_iter_len l.number-iterator ≡ length (into_iter_items l.number-iterator);
+  half : (plant : PlantFields) (start : Start) (before : List Step) (shown : List Out) → IsAfterFrom plant start before shown (live_view l.fn.core)
+      → IsHalfDone plant start before shown l.fn.steps.items (live_view l.core) (g.W.Write.contents l.fn.writer) (g.W.Write.contents l.writer) (into_iter_items l.number-iterator);
+}

@@ -1,0 +1,111 @@
+//! The check that decides a step, as objects have it.
+
+ghost use Rattle.std.specs.Prelude.{◌≡◌, None, option_map, IfOk};
+ghost use Rattle.std.specs.String.{string_bytes};
+ghost use Rattle.trace_report.specs.Names.{decision_name};
+ghost use Rattle.trace_report.specs.Trace.{IsCheckNumber};
+ghost use Rattle.json_service.specs.Numbers.{numbers_of};
+
+use crate::step_notes::StepNotes;
+use json_lines::{Comparison, DecidingCheck, JsonLines};
+use std::alloc::{AllocError, Global};
+use std::io::Write;
+use trace_report::{CheckComparison, Decision, StepReport};
+
+/// Returns the frame from which a limit counts, as a number of 64 bits.
+fn wide(frame: Option<u32>) -> Option<u64>
+    ensures { result ≡ frame }
+{
+    match frame {
+        Some(frame) => Some(u64::from(frame)),
+        None => None,
+    }
+}
+
+/// Returns the numbers of a check that compares what is present with the most that may be.
+fn of_count(held: u64, limit: u16) -> Comparison
+    ensures { result ≡ record { held = held; limit = limit; needed = None; from_frame = None } }
+{
+    Comparison {
+        held,
+        limit: u64::from(limit),
+        needed: None,
+        from_frame: None,
+    }
+}
+
+/// Returns the numbers that a check compares, as objects have them.
+fn comparison_of(comparison: CheckComparison) -> Comparison
+    ensures { result ≡ numbers_of comparison }
+{
+    match comparison {
+        CheckComparison::Budget {
+            held,
+            limit,
+            needed,
+            from_frame,
+        } => Comparison {
+            held,
+            limit: u64::from(limit),
+            needed: Some(needed),
+            from_frame: wide(from_frame),
+        },
+        CheckComparison::Quota {
+            held,
+            limit,
+            needed,
+        } => Comparison {
+            held,
+            limit: u64::from(limit),
+            needed: Some(needed),
+            from_frame: None,
+        },
+        CheckComparison::Flows { held, limit } => of_count(held, limit),
+        CheckComparison::Transactions { held, limit } => of_count(held, limit),
+    }
+}
+
+/// Returns the numbers that a check compares, where it compares any.
+fn comparison_if(comparison: Option<CheckComparison>) -> Option<Comparison>
+    ensures { result ≡ option_map numbers_of comparison }
+{
+    match comparison {
+        Some(comparison) => Some(comparison_of(comparison)),
+        None => None,
+    }
+}
+
+/// Returns a check with its number, its name and the numbers that it compares, as objects have it.
+fn check_of(
+    alloc: Global,
+    decision: Decision,
+    comparison: Option<CheckComparison>,
+) -> Result<DecidingCheck, AllocError>
+    ensures number { IfOk result (λ check. IsCheckNumber decision check.number) }
+    ensures name { IfOk result (λ check. string_bytes check.name ≡ decision_name decision) }
+    ensures comparison { IfOk result (λ check. check.comparison ≡ option_map numbers_of comparison) }
+{
+    let name = String::from_str(alloc, decision.name())?;
+    Ok(DecidingCheck {
+        number: u64::from(decision.number()),
+        name,
+        comparison: comparison_if(comparison),
+    })
+}
+
+impl<W: Write> StepNotes for JsonLines<'_, W> {
+    fn start_line(&mut self, number: u64) {
+        self.begin_line(number);
+    }
+
+    fn note_step(&mut self, alloc: Global, seen: StepReport) -> Result<(), AllocError> {
+        match seen.decision {
+            Some(decision) => {
+                let check = check_of(alloc, decision, seen.comparison)?;
+                self.say_check(Some(check));
+            }
+            None => self.say_check(None),
+        }
+        Ok(())
+    }
+}

@@ -1,0 +1,177 @@
+//! Serving a plant as long as there are lines.
+
+ghost use Rattle.run_model.specs.Starts.{Start};
+ghost use Rattle.std.specs.Prelude.{◌≡◌, ◌+◌, [], ◌∷◌, List, ℕ, Option, map, Err, IfOk, OnOk, IfSome};
+ghost use Rattle.plant.specs.declared.plant.PlantFields.{PlantFields};
+ghost use Rattle.run_model.specs.declared.step.Out.{Out};
+ghost use Rattle.run_model.specs.declared.step.Step.{Step};
+ghost use Rattle.live_core.specs.After.{BehindEachRun, IsAfter, IsReachableFromStart};
+ghost use Rattle.live_core.specs.LiveView.{live_view};
+ghost use Rattle.line_service.specs.Service.{IsServiceOf};
+ghost use Rattle.line_service.specs.SoFar.{IsHeld, LineIsAnswered, IsServedSoFar};
+ghost use Rattle.json_service.specs.declared.serving.ServiceFault.TheVariants as faults;
+ghost use Rattle.json_service.specs.Served.{IsServedFromOpening};
+
+use crate::answering::{answer_line, write_end};
+use crate::step_notes::StepNotes;
+use grant_policy::Ranking;
+use line_service::{LineBuffer, LineOutcome, next_byte};
+use live_core::LiveCore;
+use plant::Plant;
+use plant_core::CoreOpenFault;
+use std::alloc::{AllocError, Global};
+use std::io;
+use std::io::Read;
+
+/// Why a service ended before its input did.
+#[derive(Clone, Copy, Debug, PartialEq, Eq)]
+pub enum ServiceFault {
+    /// Memory ran out before the first line.
+    Memory,
+    /// A read or a write failed.
+    Io,
+}
+
+/// Returns the number of the next line.
+fn next_number(number: u64) -> io::Result<u64>
+    ensures { IfOk result (λ next. next ≡ number + 1) }
+{
+    match number.checked_add(1) {
+        Some(next) => Ok(next),
+        None => Err(io::Error::from(io::ErrorKind::Other)),
+    }
+}
+
+/// Answers the line that was read, whose number the writer knows.
+fn answer_begun<W: StepNotes>(
+    alloc: Global,
+    core: &mut LiveCore,
+    number: u64,
+    held: &LineBuffer,
+    writer: &mut W,
+) -> io::Result<()>
+    requires reached { IsReachableFromStart (live_view core.old) }
+    ensures reached { OnOk result (IsReachableFromStart (live_view core.new)) }
+    ensures answered { OnOk result (BehindEachRun (live_view core.old) (λ plant start before shown. (line : List ℕ)
+        → IsHeld held.now.bytes.items held.now.is_long line
+        → LineIsAnswered plant start before shown number line (live_view core.new)
+        (W.contents writer.old) (W.contents writer.new))) }
+{
+    if held.is_long {
+        write_end(writer, number, LineOutcome::AtFault)?;
+        return writer.flush();
+    }
+    answer_line(alloc, core, number, held.bytes.as_slice(), writer)
+}
+
+/// Answers the line that was read.
+fn answer_held<W: StepNotes>(
+    alloc: Global,
+    core: &mut LiveCore,
+    number: u64,
+    held: &LineBuffer,
+    writer: &mut W,
+) -> io::Result<()>
+    requires reached { IsReachableFromStart (live_view core.old) }
+    ensures reached { OnOk result (IsReachableFromStart (live_view core.new)) }
+    ensures answered { OnOk result (BehindEachRun (live_view core.old) (λ plant start before shown. (line : List ℕ)
+        → IsHeld held.now.bytes.items held.now.is_long line
+        → LineIsAnswered plant start before shown number line (live_view core.new)
+        (W.contents writer.old) (W.contents writer.new))) }
+{
+    writer.start_line(number);
+    answer_begun(alloc, core, number, held, writer)
+}
+
+/// Takes a byte more of a script: where a line ends it is answered, and the next one begins.
+fn take_byte<W: StepNotes>(
+    alloc: Global,
+    core: &mut LiveCore,
+    number: &mut u64,
+    held: &mut LineBuffer,
+    byte: u8,
+    writer: &mut W,
+) -> io::Result<()>
+    requires reached { IsReachableFromStart (live_view core.old) }
+    ensures reached { OnOk result (IsReachableFromStart (live_view core.new)) }
+    ensures on { OnOk result ((plant : PlantFields) (start : Start) (before : List Step) (shown : List Out) (input rest : List ℕ)
+        (written : Option (List ℕ)) → IsServedSoFar plant start before shown input (byte ∷ rest) held.old.bytes.items
+        held.old.is_long number.old (live_view core.old) written (W.contents writer.old)
+        → IsServedSoFar plant start before shown input rest held.new.bytes.items held.new.is_long number.new
+        (live_view core.new) written (W.contents writer.new)) }
+{
+    if byte != b'\n' {
+        held.push(byte)?;
+        return Ok(());
+    }
+    answer_held(alloc, core, *number, held, writer)?;
+    *number = next_number(*number)?;
+    held.clear();
+    Ok(())
+}
+
+/// Serves the plant as `serve` of `line_service` does, and notes before each step what decides it.
+fn serve<R: Read, W: StepNotes>(
+    alloc: Global,
+    core: &mut LiveCore,
+    mut held: LineBuffer,
+    reader: &mut R,
+    writer: &mut W,
+) -> io::Result<()>
+    requires reached { IsReachableFromStart (live_view core.old) }
+    requires empty { IsHeld held.bytes.items held.is_long [] }
+    // After whatever run led to the core, all lines of the input are answered, and their answers written.
+    ensures { OnOk result (IfSome (R.remaining reader.old) (λ input. BehindEachRun (live_view core.old)
+        (λ plant start before shown. IsServiceOf plant start before shown input (live_view core.new) (W.contents writer.old)
+        (W.contents writer.new)))) }
+{
+    let mut number = 1u64;
+    for _ in 0..u64::MAX {
+        match next_byte(reader)? {
+            None => return answer_held(alloc, core, number, &held, writer),
+            Some(byte) => take_byte(alloc, core, &mut number, &mut held, byte, writer)?,
+        }
+    }
+    Err(io::Error::from(io::ErrorKind::Other))
+}
+
+/// Returns a core of the plant, as it is opened. The rankings are in the plant's order of operators.
+fn core_of(alloc: Global, plant: Plant, rankings: Vec<Ranking>) -> Result<LiveCore, AllocError>
+    requires { map (λ ranking. ranking.policy) rankings.items ≡ map (λ row. row.policy) plant.rows }
+    ensures { IfOk result (λ core. IsAfter plant [] [] (live_view core)) }
+{
+    match LiveCore::open(alloc, plant, rankings) {
+        Ok(core) => Ok(core),
+        Err(CoreOpenFault::NoMemory) => Err(AllocError),
+        Err(CoreOpenFault::RankingsMismatch) => unreachable!(),
+    }
+}
+
+/// Serves a plant as it is opened: reads lines of a script for as long as there are any, and answers each before it reads the next.
+/// The answers are those of `serve` of `line_service`, and before each step the writer notes what decides what the step outputs.
+/// The rankings are in the plant's order of operators. It reads a byte at a time: give it a reader with a buffer.
+pub fn serve_ranked<R: Read, W: StepNotes>(
+    alloc: Global,
+    plant: Plant,
+    rankings: Vec<Ranking>,
+    reader: &mut R,
+    writer: &mut W,
+) -> Result<(), ServiceFault>
+    requires { map (λ ranking. ranking.policy) rankings.items ≡ map (λ row. row.policy) plant.rows }
+    ensures served { OnOk result (IfSome (R.remaining reader.old) (λ input. IsServedFromOpening plant input (W.contents writer.old)
+        (W.contents writer.new))) }
+
+    // Memory is reported before the first line alone: nothing is read or written then.
+    ensures memory { result ≡ Err faults.Memory → (reader.new ≡ reader.old) × (writer.new ≡ writer.old) }
+{
+    let Ok(held) = LineBuffer::new(alloc) else {
+        return Err(ServiceFault::Memory);
+    };
+    let Ok(mut core) = core_of(alloc, plant, rankings) else {
+        return Err(ServiceFault::Memory);
+    };
+    match serve(alloc, &mut core, held, reader, writer) {
+        Ok(()) => Ok(()),
+        Err(_error) => Err(ServiceFault::Io),
+    }
+}
