@@ -1,0 +1,98 @@
+-- The answer to a line.
+use Rattle.std.proofs.Common.{◌≡◌, ◌<◌, ℕ, ◌==◌, ◌&&◌, Bool, true, false, List, [], ◌∷◌, ◌++◌, length, Option, Some, None, map, refl, sym, ap, subst, ◌∙◌, arith, codes, inl, inr}
+use Rattle.std.specs.Str.{bytes_eq}
+use Rattle.std.specs.Io.KnownBytes.{Appends}
+use Rattle.plant.specs.declared.plant.PlantFields.{PlantFields}
+use Rattle.run_model.specs.declared.step.Step.{Step}
+use Rattle.run_model.specs.declared.step.Out.{Out}
+use Rattle.run_model.specs.Starts.{Start}
+use Rattle.run_model.specs.IsStateAfter.{CoreView}
+use Rattle.live_core.specs.After.{IsAfterFrom}
+use Rattle.operator_model.specs.State.{OperatorState}
+use Rattle.operator_model.specs.Replay.{BookView}
+use Rattle.snapshot_format.specs.declared.saved.SavedFlow.{SavedFlow}
+use Rattle.snapshot_format.specs.declared.saved.SavedOperator.{SavedOperator}
+use Rattle.snapshot_format.specs.declared.saved.Snapshot.{Snapshot}
+use Rattle.snapshot_format.specs.Text.{text_of_snapshot}
+use Rattle.snapshot_format.specs.States.{sfid_with_flow, saved_flow, state_of, saved_state}
+use Rattle.line_service.specs.Service.{answer_text}
+use Rattle.line_service.specs.SoFar.{IsHeld, LineIsAnswered}
+use Rattle.line_service.specs.Items.{ItemAnswer}
+use Rattle.plant_restart.specs.Saving.{state_of_book, saved_book, IsCoreSnapshot}
+use Rattle.resumed_service.specs.Items.{asks_snapshot, core_snapshot, meaning_of, run_so_far, ItemIsAnswered, WritesSnapshot}
+
+-- a line that is too long is not the letter
+pub long_line : (line : List ℕ) → 4096 < length line → asks_snapshot line ≡ false
+long_line [] long = absurd (omega (arith, long))
+long_line (a ∷ []) long = absurd (omega (arith, long))
+long_line (a ∷ b ∷ line) long = by (a == 75) refl where
+  by : (t : Bool) → (a == 75) ≡ t → asks_snapshot (a ∷ b ∷ line) ≡ false
+  by true is = rw is refl
+  by false is = rw is refl
+
+module _ (file : List ℕ) (plant : PlantFields) (start : Start) (before : List Step) (shown : List Out) (number : ℕ) (line : List ℕ) (w0 w1 : Option (List ℕ)) where
+  -- the line of a script
+  pub line_answered : (live : CoreView) → asks_snapshot line ≡ false → LineIsAnswered plant start before shown number line live w0 w1
+      → ItemIsAnswered (meaning_of file) (run_so_far plant start before shown) number line live w0 w1
+  line_answered live other told = record {
+    answer = record { lines = 1; run = run_so_far plant start (before ++ told.answered.done) (shown ++ told.answered.told); changes = false; text = answer_text plant number told.answered };
+    is = λ lines. inl (record {
+      live = live;
+      answered = told.answered;
+      is = told.is;
+      no_plant = refl;
+      no_snapshot = other;
+      one = refl;
+      on = refl;
+      run_is = refl;
+      text_is = refl;
+    });
+    one = refl;
+    leads = told.is.after;
+    written = told.written;
+  }
+
+  -- the request for a snapshot
+  pub snapshot_answered : (live : CoreView) → asks_snapshot line ≡ true → IsAfterFrom plant start before shown live → WritesSnapshot file live number w0 w1
+      → ItemIsAnswered (meaning_of file) (run_so_far plant start before shown) number line live w0 w1
+  snapshot_answered live asks after wrote = record {
+    answer = record { lines = 1; run = run_so_far plant start before shown; changes = false; text = wrote.text };
+    is = λ lines. inr (inr (record {
+      on = refl;
+      run_is = refl;
+      why = inl (record { live = live; leads = after; requests = asks; one = refl; answered = wrote.answered });
+    }));
+    one = refl;
+    leads = after;
+    written = wrote.written;
+  }
+
+-- ---- the text of a snapshot
+
+flows_back : (flows : List SavedFlow) → map saved_flow (map sfid_with_flow flows) ≡ flows
+flows_back [] = refl
+flows_back (flow ∷ flows) = ap (λ (more : List SavedFlow). flow ∷ more) (flows_back flows)
+
+abbrev saved_named : List ℕ × OperatorState → SavedOperator
+saved_named named = saved_state named.0 named.1
+
+operator_back : (frame : ℕ) (saved : SavedOperator) → saved_state saved.name (state_of frame saved) ≡ saved
+operator_back frame saved = ap (λ (flows : List SavedFlow). record saved { flows = flows }) (flows_back saved.flows)
+
+operators_back : (frame : ℕ) (operators : List SavedOperator) → map saved_named (map (λ operator. (operator.name, state_of frame operator)) operators) ≡ operators
+operators_back frame [] = refl
+operators_back frame (operator ∷ operators) =
+    ap (λ (more : List SavedOperator). saved_state operator.name (state_of frame operator) ∷ more) (operators_back frame operators)
+    ∙ ap (λ (one : SavedOperator). one ∷ operators) (operator_back frame operator)
+
+books_saved : (books : List BookView) → map saved_named (map state_of_book books) ≡ map saved_book books
+books_saved [] = refl
+books_saved (book ∷ books) = ap (λ (more : List SavedOperator). saved_book book ∷ more) (books_saved books)
+
+-- the snapshot of a core has this text
+pub core_text : (file : List ℕ) (live : CoreView) (saved : Snapshot) → IsCoreSnapshot live file saved → text_of_snapshot saved ≡ core_snapshot file live saved.frame
+core_text file live saved is =
+    let operators : saved.operators ≡ map saved_book live.books =
+    sym (operators_back saved.frame saved.operators) ∙ (ap (map saved_named) is.states_are ∙ books_saved live.books) in
+    ap (λ (plant : List ℕ). text_of_snapshot (record { plant = plant; frame = saved.frame; operators = saved.operators })) is.plant_is
+    ∙ ap (λ (all : List SavedOperator). text_of_snapshot (record { plant = file; frame = saved.frame; operators = all })) operators

@@ -1,0 +1,4 @@
+pub mod BeginLemmas
+pub mod ReadLemmas
+pub mod ItemLemmas
+pub mod ServedLemmas

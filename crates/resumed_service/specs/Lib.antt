@@ -1,0 +1,4 @@
+pub mod Beginning
+pub mod Items
+pub mod Lines
+pub mod Resumed

@@ -1,0 +1,10 @@
+//! What is after a line.
+
+/// What is after a line that was read.
+#[derive(Clone, Copy, Debug, PartialEq, Eq)]
+pub(crate) enum LineBreak {
+    /// Another line, which may be empty.
+    Another,
+    /// The end of the input.
+    End,
+}
