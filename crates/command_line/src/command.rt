@@ -24,6 +24,7 @@ const PROGRAM_INPUT: &str =
     plant_script run < script.txt
 
 With `--input FILE` it reads the file in place of standard input. `plant_script --version` prints the version.
+`plant_script resume` serves a plant that begins with a snapshot, and writes snapshots (`plant_script resume --help`).
 
 A line of a script is a message of a modem, `M ADDRESS MESSAGE`, a bandwidth request, `Q ADDRESS SID MINISLOTS`, the
 next frame, `T` or `T OPERATOR`, or new slices, `Z FRAME START/LENGTH/BUDGET ..`, one for each operator.

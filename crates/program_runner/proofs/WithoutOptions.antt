@@ -1,5 +1,5 @@
 -- What is written for words without an option.
-use Rattle.std.proofs.Common.{◌≡◌, ◌≢◌, ◌≤◌, [], ℕ, List, Option, Some, None, refl, sym, subst, ◌∙◌, arith, inl}
+use Rattle.std.proofs.Common.{◌≡◌, ◌≢◌, ◌≤◌, [], ℕ, List, Bool, true, false, MatchBool, Option, Some, None, IfSome, refl, sym, subst, ◌∙◌, arith, inl, inr}
 use Rattle.std.specs.Io.KnownBytes.{Appends}
 use Rattle.clap.specs.Walk.{texts}
 use Rattle.program_options.specs.declared.options.OptionName.TheVariants.{Input, Json, Strict}
@@ -15,7 +15,9 @@ use Rattle.program_options.specs.Separating.{IsSeparatedFrom, HasOptionsFault}
 use Rattle.program_options.proofs.NoOption.{all_left}
 use Rattle.plant_script.specs.Run.{memory_line}
 use Rattle.command_line.specs.CommandLine.{AreWrong, AsksHelp}
-use Rattle.program_runner.specs.Answered.{IsProgramAnswer, IsWithoutOption, HasNoOption}
+use Rattle.resumed_service.specs.declared.begin_fault.BeginFault.TheVariants as begin_faults
+use Rattle.program_runner.specs.Answered.{IsProgramAnswer, IsCommandAnswer, IsWithoutOption, HasNoOption}
+use Rattle.program_runner.specs.Resume.{is_resume, IsResumeAnswer}
 
 -- ---- a fault
 
@@ -59,19 +61,27 @@ module _ (words : List (List ℕ)) (found : SeparatedWords) (none : HasNoOption 
 
   -- what is answered to the words that are left is answered to words without an option
   pub separated : (read : Option (List ℕ)) (status : ℕ) (old new : Option (List ℕ))
-      → (IsWithoutOption found → IsProgramAnswer (texts found.words.items) read status old new) → IsProgramAnswer words read status old new
-  separated read status old new answers = subst (λ all. IsProgramAnswer all read status old new) same (answers without)
+      → (IsWithoutOption found → IsCommandAnswer (texts found.words.items) read status old new) → IsCommandAnswer words read status old new
+  separated read status old new answers = subst (λ (all : List (List ℕ)). IsCommandAnswer all read status old new) same (answers without)
 
   -- and nothing is read for them where nothing is read for those
-  pub unread_wrong : {X : Type 0} (old new : X) → (IsWithoutOption found → AreWrong (texts found.words.items) → new ≡ old)
-      → AreWrong words → new ≡ old
-  unread_wrong old new unread wrong = unread without (subst AreWrong (sym same) wrong)
+  other : is_resume words ≡ false → is_resume (texts found.words.items) ≡ false
+  other is_other = subst (λ (all : List (List ℕ)). is_resume all ≡ false) (sym same) is_other
 
-  pub unread_help : {X : Type 0} (old new : X) → (IsWithoutOption found → AsksHelp (texts found.words.items) → new ≡ old)
-      → AsksHelp words → new ≡ old
-  unread_help old new unread help = unread without (subst AsksHelp (sym same) help)
+  pub unread_wrong : {X : Type 0} (old new : X) → (IsWithoutOption found → is_resume (texts found.words.items) ≡ false → AreWrong (texts found.words.items) → new ≡ old)
+      → is_resume words ≡ false → AreWrong words → new ≡ old
+  unread_wrong old new unread is_other wrong = unread without (other is_other) (subst AreWrong (sym same) wrong)
+
+  pub unread_help : {X : Type 0} (old new : X) → (IsWithoutOption found → is_resume (texts found.words.items) ≡ false → AsksHelp (texts found.words.items) → new ≡ old)
+      → is_resume words ≡ false → AsksHelp words → new ≡ old
+  unread_help old new unread is_other help = unread without (other is_other) (subst AsksHelp (sym same) help)
 
 -- ---- out of memory
+
+-- what holds of each input holds of a known one
+if_known : (read : Option (List ℕ)) (P : List ℕ → Type 0) → ((input : List ℕ) → P input) → IfSome read P
+if_known None P holds = tt
+if_known (Some input) P holds = holds input
 
 -- no word was read: the line of a failed allocation is written alone
 out_of_memory : (words : List (List ℕ)) (read : Option (List ℕ)) (status : ℕ) (old new : Option (List ℕ))
@@ -88,5 +98,11 @@ out_of_memory words read status old new wrote = record {
 -- what is written for invalid options
 pub refused : (words : List (List ℕ)) (fault : OptionsFault) (read : Option (List ℕ)) (status : ℕ) (old new : Option (List ℕ)) → HasNoOption words
     → HasOptionsFault words fault → (fault ≡ NoMemory → status ≢ 6 → (status ≡ 5) × Appends old new memory_line)
-    → IsProgramAnswer words read status old new
-refused words fault read status old new none has wrote = out_of_memory words read status old new (wrote (no_fault words fault none has))
+    → IsCommandAnswer words read status old new
+refused words fault read status old new none has wrote = by (is_resume words) where
+  out : status ≢ 6 → (status ≡ 5) × Appends old new memory_line
+  out = wrote (no_fault words fault none has)
+
+  by : (t : Bool) → MatchBool t (IsResumeAnswer read status old new) (IsProgramAnswer words read status old new)
+  by true = λ not_six. if_known read _ (λ input. inr (begin_faults.NoMemory, tt, (out not_six).0, (out not_six).1))
+  by false = out_of_memory words read status old new out

@@ -1,5 +1,5 @@
 -- What a writer gets for words without an option (implementation-specific).
-use Rattle.std.specs.Prelude.{◌≡◌, ◌≢◌, ℕ, List, Option, None, false}
+use Rattle.std.specs.Prelude.{◌≡◌, ◌≢◌, ℕ, List, Option, None, false, MatchBool}
 use Rattle.std.specs.Io.KnownBytes.{Appends}
 use Rattle.plant_script.specs.Reaching.{AnswersWords}
 use Rattle.program_options.specs.declared.options.OptionName.{OptionName}
@@ -7,6 +7,7 @@ use Rattle.program_options.specs.declared.options.OutputFormat.TheVariants.{Plai
 use Rattle.program_options.specs.declared.options.SeparatedWords.{SeparatedWords}
 use Rattle.program_options.specs.declared.options.UnknownKeyHandling.TheVariants.{Warn}
 use Rattle.program_options.specs.Options.{option_count}
+use Rattle.program_runner.specs.Resume.{is_resume, IsResumeAnswer}
 
 -- the words have no option
 abbrev pub HasNoOption : List (List ℕ) → Type 0
@@ -21,3 +22,7 @@ pub record IsWithoutOption (found : SeparatedWords) : Type 0 where
 -- it gets what `run_program` writes for the words and for what is read; status 6 is for what could not be read or written
 pub record IsProgramAnswer (words : List (List ℕ)) (read : Option (List ℕ)) (status : ℕ) (old new : Option (List ℕ)) : Type 0 where
   pub answered : status ≢ 6 → AnswersWords words read status (λ text. Appends old new text)
+
+-- under `resume` the answer of that command, else that of `run_program`
+abbrev pub IsCommandAnswer : List (List ℕ) → Option (List ℕ) → ℕ → Option (List ℕ) → Option (List ℕ) → Type 0
+IsCommandAnswer words read status old new = MatchBool (is_resume words) (IsResumeAnswer read status old new) (IsProgramAnswer words read status old new)

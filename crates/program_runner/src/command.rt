@@ -1,10 +1,12 @@
 //! A command that is performed, with what it needs besides its streams.
 
-ghost use Rattle.std.specs.Prelude.{◌≡◌};
+ghost use Rattle.std.specs.Prelude.{◌≡◌, false};
 ghost use Rattle.clap.specs.Walk.{texts};
 ghost use Rattle.command_line.specs.CommandLine.{AreWrong, AsksHelp};
-ghost use Rattle.program_runner.specs.Answered.{IsProgramAnswer};
+ghost use Rattle.program_runner.specs.Answered.{IsCommandAnswer};
+ghost use Rattle.program_runner.specs.Resume.{is_resume};
 
+use crate::resuming::{is_resume, run_resume};
 use plant_script::{Ending, run_program_with_reasons};
 use program_options::UnknownKeyHandling;
 use std::alloc::Global;
@@ -31,11 +33,16 @@ impl<H: Threads + Wait + Sync> Command<'_, H> {
         writer: &mut W,
         reasons: &mut E,
     ) -> u8
-        ensures answered { IsProgramAnswer (texts self.now.words.now) (R.remaining reader.old) result
+        ensures answered { IsCommandAnswer (texts self.now.words.now) (R.remaining reader.old) result
             (W.contents writer.old) (W.contents writer.new) }
-        ensures unread_if_wrong { AreWrong (texts self.now.words.now) → reader.new ≡ reader.old }
-        ensures unread_for_help { AsksHelp (texts self.now.words.now) → reader.new ≡ reader.old }
+        ensures unread_if_wrong { is_resume (texts self.now.words.now) ≡ false → AreWrong (texts self.now.words.now)
+            → reader.new ≡ reader.old }
+        ensures unread_for_help { is_resume (texts self.now.words.now) ≡ false → AsksHelp (texts self.now.words.now)
+            → reader.new ≡ reader.old }
     {
+        if is_resume(self.words) {
+            return run_resume(self.alloc, reader, writer, reasons);
+        }
         run_program_with_reasons(
             self.rt,
             self.alloc,

@@ -2,10 +2,13 @@
 #![tactic(auto)]
 
 mod answering;
+mod begin_reasons;
 mod command;
 mod file_input;
+mod noted_service;
 mod objects;
 mod recording;
+mod resuming;
 mod running;
 mod strict;
 mod version;

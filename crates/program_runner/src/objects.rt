@@ -2,6 +2,7 @@
 
 use crate::answering::finish;
 use crate::command::Command;
+use crate::noted_service::serve_objects;
 use crate::recording::RecordingReader;
 use crate::strict::run_keys;
 use command_line::{BatchWord, RunReport, Word, WordsFault, read_words};
@@ -93,7 +94,7 @@ pub(crate) fn run_objects<H: Threads + Wait + Sync, R: Read, W: Write, E: Write>
         Ok(Word::Batch(BatchWord::Run(RunReport::Trace))) => {
             run_lines(command, LineSource::trace(), reader, writer, reasons)
         }
-        Ok(Word::Serve) => run_lines(command, LineSource::Service(1), reader, writer, reasons),
+        Ok(Word::Serve) => serve_objects(command, reader, writer, reasons),
         Err(WordsFault::Help { .. }) => command.run(reader, writer, reasons),
         _ => run_lines(command, LineSource::Alone, reader, writer, reasons),
     }

@@ -6,13 +6,15 @@ ghost use Rattle.clap.specs.Walk.{texts};
 ghost use Rattle.command_line.specs.CommandLine.{AreWrong, AsksHelp};
 ghost use Rattle.program_options.specs.declared.options.OutputFormat.TheVariants.{Plain};
 ghost use Rattle.program_options.specs.declared.options.UnknownKeyHandling.TheVariants.{Warn};
-ghost use Rattle.program_runner.specs.Answered.{HasNoOption, IsProgramAnswer, IsWithoutOption};
+ghost use Rattle.program_runner.specs.Answered.{HasNoOption, IsCommandAnswer, IsWithoutOption};
+ghost use Rattle.program_runner.specs.Resume.{is_resume, asks_resume_help, WritesHelp};
 ghost use Rattle.program_runner.specs.Version.{asks_version, version_text};
 
 use crate::answering::{answer_out_of_memory, pass_on, refuse, tell};
 use crate::command::Command;
 use crate::file_input::FileInput;
 use crate::objects::run_objects;
+use crate::resuming::{answer_resume_help, asks_resume_help};
 use crate::strict::run_keys;
 use crate::version::{answer_version, asks_version};
 use plant_script::Ending;
@@ -31,12 +33,12 @@ fn run_format<H: Threads + Wait + Sync, R: Read, W: Write, E: Write>(
     writer: &mut W,
     reasons: &mut E,
 ) -> u8
-    ensures answered { output ≡ Plain → command.now.unknown_keys ≡ Warn → IsProgramAnswer (texts command.now.words.now)
+    ensures answered { output ≡ Plain → command.now.unknown_keys ≡ Warn → IsCommandAnswer (texts command.now.words.now)
         (R.remaining reader.old) result (W.contents writer.old) (W.contents writer.new) }
-    ensures unread_if_wrong { output ≡ Plain → command.now.unknown_keys ≡ Warn → AreWrong (texts command.now.words.now)
-        → reader.new ≡ reader.old }
-    ensures unread_for_help { output ≡ Plain → command.now.unknown_keys ≡ Warn → AsksHelp (texts command.now.words.now)
-        → reader.new ≡ reader.old }
+    ensures unread_if_wrong { output ≡ Plain → command.now.unknown_keys ≡ Warn
+        → is_resume (texts command.now.words.now) ≡ false → AreWrong (texts command.now.words.now) → reader.new ≡ reader.old }
+    ensures unread_for_help { output ≡ Plain → command.now.unknown_keys ≡ Warn
+        → is_resume (texts command.now.words.now) ≡ false → AsksHelp (texts command.now.words.now) → reader.new ≡ reader.old }
 {
     match output {
         OutputFormat::Plain => run_keys(command, reader, writer, reasons),
@@ -75,10 +77,14 @@ fn run_separated<H: Files + Threads + Wait + Sync, R: Read, W: Write, E: Write>(
     reasons: &mut E,
     ending: Ending,
 ) -> u8
-    ensures answered { IsWithoutOption separated.entry → IsProgramAnswer (texts separated.entry.words.items) (R.remaining reader.old) result
+    ensures answered { IsWithoutOption separated.entry → IsCommandAnswer (texts separated.entry.words.items) (R.remaining reader.old) result
         (W.contents writer.old) (W.contents writer.new) }
-    ensures unread_if_wrong { IsWithoutOption separated.entry → AreWrong (texts separated.entry.words.items) → reader.new ≡ reader.old }
-    ensures unread_for_help { IsWithoutOption separated.entry → AsksHelp (texts separated.entry.words.items) → reader.new ≡ reader.old }
+    ensures unread_if_wrong { IsWithoutOption separated.entry
+        → is_resume (texts separated.entry.words.items) ≡ false → AreWrong (texts separated.entry.words.items)
+        → reader.new ≡ reader.old }
+    ensures unread_for_help { IsWithoutOption separated.entry
+        → is_resume (texts separated.entry.words.items) ≡ false → AsksHelp (texts separated.entry.words.items)
+        → reader.new ≡ reader.old }
 {
     let SeparatedWords { options, words } = separated;
     let command = Command {
@@ -99,7 +105,8 @@ fn run_separated<H: Files + Threads + Wait + Sync, R: Read, W: Write, E: Write>(
 ///
 /// With `--input FILE` the file is read in place of the reader. With `--strict`, unknown keys are a fault of the plant file, with
 /// status 3. With `--json`, an object of JSON is written for each line. Options that are invalid give status 2, and a message that
-/// says why; then nothing is read. With `--version` alone, the version is written.
+/// says why; then nothing is read. With `--version` alone, the version is written. The command `resume` serves a plant that begins
+/// with a plant file or a snapshot.
 #[tactic(auto, using(crate::proofs::WithoutOptions::refused))]
 pub fn run_with_options<'a, H: Files + Threads + Wait + Sync, R: Read, W: Write, E: Write>(
     rt: &H,
@@ -111,19 +118,28 @@ pub fn run_with_options<'a, H: Files + Threads + Wait + Sync, R: Read, W: Write,
     ending: Ending,
 ) -> u8
     // Without an option it writes what the program writes.
-    ensures plain { asks_version (texts words.entry.now) ≡ false
-        → HasNoOption (texts words.entry.now) → IsProgramAnswer (texts words.entry.now) (R.remaining reader.old) result
+    ensures plain { asks_version (texts words.entry.now) ≡ false → asks_resume_help (texts words.entry.now) ≡ false
+        → HasNoOption (texts words.entry.now) → IsCommandAnswer (texts words.entry.now) (R.remaining reader.old) result
         (W.contents writer.old) (W.contents writer.new) }
     // Nothing is read for words that are wrong or ask for help.
-    ensures unread_if_wrong { HasNoOption (texts words.entry.now) → AreWrong (texts words.entry.now) → reader.new ≡ reader.old }
-    ensures unread_for_help { HasNoOption (texts words.entry.now) → AsksHelp (texts words.entry.now) → reader.new ≡ reader.old }
+    ensures unread_if_wrong { HasNoOption (texts words.entry.now)
+        → is_resume (texts words.entry.now) ≡ false → AreWrong (texts words.entry.now) → reader.new ≡ reader.old }
+    ensures unread_for_help { HasNoOption (texts words.entry.now)
+        → is_resume (texts words.entry.now) ≡ false → AsksHelp (texts words.entry.now) → reader.new ≡ reader.old }
     // Alone, `--version` writes the version.
     ensures version { asks_version (texts words.entry.now) ≡ true → result ≢ 6
         → (result ≡ 0) × Appends (W.contents writer.old) (W.contents writer.new) version_text }
+    // The help of `resume` is written for words that ask for it.
+    ensures resume_help { asks_resume_help (texts words.entry.now) ≡ true → result ≢ 6
+        → WritesHelp result (W.contents writer.old) (W.contents writer.new) }
+    ensures unread_for_resume_help { asks_resume_help (texts words.entry.now) ≡ true → reader.new ≡ reader.old }
     ensures unread_for_version { asks_version (texts words.entry.now) ≡ true → reader.new ≡ reader.old }
 {
     if asks_version(words) {
         return answer_version(writer);
+    }
+    if asks_resume_help(words) {
+        return answer_resume_help(writer);
     }
     match separate(alloc, words) {
         Ok(separated) => run_separated(rt, alloc, separated, reader, writer, reasons, ending),
