@@ -50,6 +50,7 @@ done
 for check in DSA\ {1..9} DSA\ {13,14,15,17,18,19,20,21,22} DSC\ {1..16} DSC\ {19..22} DSD\ {1,2,3,10,11,12,22}; do
     grep -q " ${check/ / check }\(:\|$\)" "$work/met" || { echo "tools/compare/handwritten_inputs does not reach $check" >&2; exit 1; }
 done
+quietly "$tools/compare/resumed_cases" 0 10
 echo 'the second implementation agrees with the documents, and the generator with itself'
 
 if [ -x "$program" ]; then
@@ -57,6 +58,7 @@ if [ -x "$program" ]; then
     "$tools/compare/generated_cases" --threads 0 50
     "$tools/compare/generated_cases" --capture 0 50
     "$tools/compare/generated_cases" --trace 0 50
+    "$tools/compare/resumed_cases" 0 25 --program "$program"
     quietly "$tools/compare/threads_as_run"
     quietly "$tools/compare/handwritten_inputs" --compare
     quietly "$tools/compare/odd_spellings"

@@ -2,6 +2,7 @@
 
 from .captures import captured
 from .program import answer
+from .resuming import resumed
 from .services import served
 from .traces import traced
 
@@ -13,6 +14,8 @@ def reference_answer(words, data):
         status, text = traced(data)
     elif words == ["serve"]:
         status, text = served(data)
+    elif words == ["resume"]:
+        status, text = resumed(data)
     else:
         status, text = answer(words, data)
     return status, text.encode()

@@ -73,10 +73,10 @@ class Book:
     inbox: list = field(default_factory=list)
 
 
-def open_book(plant, row):
-    """Returns a book with the provisioned flows, and nothing else."""
+def open_book(plant, row, frame=None):
+    """Returns a book with the provisioned flows, and nothing else, before the first frame of the plant or before another one."""
     start, length = row.slice
-    book = Book(plant, row, plant.first_frame, Share(start, length, row.budget))
+    book = Book(plant, row, plant.first_frame if frame is None else frame, Share(start, length, row.budget))
     for provisioned in row.provisioned:
         flow = Flow(free_sfid(book), provisioned.modem, None, provisioned.provisioned, provisioned.admitted,
                     provisioned.active, None, book.frame, 0, book.frame)
@@ -210,11 +210,11 @@ def answer_request(book, modem, tid, kind, body):
 
 
 def keep(book, modem, tid, kind, response, sfid):
-    """Caches a response. A DSA or DSC with code 0 waits for its acknowledgement; all others are held."""
+    """Caches a response. A DSA or DSC with code 0 waits for its acknowledgement; all others are held. A refusal has no SFID."""
     if sfid is not None and kind != "DSD":
         book.kept.append(Entry(modem, tid, kind, response, True, book.plant.ack_wait, book.plant.resends, sfid))
     else:
-        book.kept.append(Entry(modem, tid, kind, response, False, book.plant.hold))
+        book.kept.append(Entry(modem, tid, kind, response, False, book.plant.hold, 0, sfid))
 
 
 def add_flow(book, modem, tid, body):
@@ -232,7 +232,7 @@ def add_flow(book, modem, tid, body):
     if sid is None:
         raise Refused(19, RESOURCE)
     judge_committed(book, Flow(sfid, modem), admitted)
-    book.flows[sfid] = Flow(sfid, modem, sid, waiting=Waiting("DSA", admitted, active))
+    book.flows[sfid] = Flow(sfid, modem, sid, waiting=Waiting("DSA", admitted, active), start=book.frame, since=book.frame)
     return added_reply(tid, flows[0][REFERENCE], sfid, sid), sfid
 
 
@@ -374,6 +374,7 @@ def acknowledge(book, modem, tid, kind, code):
     else:
         take_back(book, book.flows[entry.sfid], "acknowledgement")
     entry.waits = False
+    entry.resends = 0
     entry.ticks = book.plant.hold
 
 
@@ -450,7 +451,8 @@ def schedule_frame(book):
         if grant > 0:
             flow = book.flows[sfid]
             flow.backlog -= grant
-            flow.since = book.frame + 1
+            if flow.backlog > 0:
+                flow.since = book.frame + 1
     met("frame" if not pending else "frame: a grant is pending")
     return ("F", book.frame, spans, pending)
 

@@ -233,9 +233,9 @@ def share_of(field):
 # The core: all operators' books side by side, and the MAPs
 
 class Core:
-    def __init__(self, plant):
+    def __init__(self, plant, books=None):
         self.plant = plant
-        self.books = [open_book(plant, row) for row in plant.rows]
+        self.books = books or [open_book(plant, row) for row in plant.rows]
         self.histories = [[] for _ in plant.rows]
         self.parts = {}
 

@@ -7,20 +7,36 @@ MOST_LINE = 4_096
 
 def served(data):
     """Returns the exit status of `serve`, and what it prints: for each line what its steps output, and its number if it is invalid."""
-    lines = data.split(b"\n")
-    bar = lines.index(b"---") if b"---" in lines else len(lines)
-    file = b"".join(line + b"\n" for line in lines[:bar]) if bar < len(lines) else data
+    file, lines = split_service(data)
     try:
         plant, _none = judged_plant(text_of(file))
     except Fault as fault:
         return fault.status, fault.last_line + "\n"
-    core, out = Core(plant), []
-    for number, line in enumerate(lines[bar + 1:], 1):
+    return 0, served_lines(Core(plant), lines)
+
+
+def split_service(data):
+    """Returns the plant file up to the first line `---`, and the lines after it. Without that line all is the plant file."""
+    lines = data.split(b"\n")
+    if b"---" not in lines:
+        return data, []
+    bar = lines.index(b"---")
+    return b"".join(line + b"\n" for line in lines[:bar]), lines[bar + 1:]
+
+
+def served_lines(core, lines, snapshot_of=None):
+    """Returns what a service prints for its lines. With `snapshot_of` it answers the line `K` by that text of the core, or None."""
+    out = []
+    for number, line in enumerate(lines, 1):
+        if line == b"K" and snapshot_of is not None:
+            text = snapshot_of(core)
+            out.append(f"fault: line {number}\n" if text is None else text)
+            continue
         try:
-            core.run(judged_script(plant, [line_of(line)]), out.append)
+            core.run(judged_script(core.plant, [line_of(line)]), lambda text: out.append(text + "\n"))
         except Fault:
-            out.append(f"fault: line {number}")
-    return 0, "".join(line + "\n" for line in out)
+            out.append(f"fault: line {number}\n")
+    return "".join(out)
 
 
 def line_of(line):

@@ -1,0 +1,262 @@
+"""Cuts generated scripts at a random line, and compares what a plant outputs with what it outputs if it is resumed there.
+
+    tools/compare/resumed_cases FIRST COUNT                    the seeds FIRST to FIRST + COUNT - 1, by the second implementation alone
+    tools/compare/resumed_cases FIRST COUNT --program PATH     the same by a built program, compared with the second implementation
+
+For each seed that has a valid plant file and a script:
+
+  - The output up to the cut, with a snapshot there, and the output of what is resumed from that snapshot, are together the output of the
+    whole under `resume`. Both end with a snapshot, so the states are equal too. Without the snapshots it is the output under `serve`.
+  - With a program, the outputs of both implementations are the same, snapshots included.
+  - Twenty snapshots are spoiled: bits and bytes are changed, numbers are other ones, fields are copied from other records, lines are cut,
+    swapped and repeated. Half of them get a right last line again. With a program, both give the same status and first line of output.
+    Without one, the second implementation only has to answer.
+
+Prints how many cases there were, and the first lines that spoiled snapshots gave. Exits with 1 at the first seed that differs.
+"""
+
+import random
+import re
+import sys
+from collections import Counter
+from dataclasses import dataclass
+
+from tools import show_help
+from tools.compare.program import program_answer
+from tools.generator.case import case
+from tools.reference.answers import reference_answer
+from tools.reference.plant import PlantFault, read_plant
+from tools.reference.program import split_input
+from tools.reference.saving import end_of
+
+SPOILED, CUTS = 20, 8
+
+
+@dataclass
+class Cut:
+    """A plant file, and the lines of a script before and after the line at which it is cut."""
+    plant: str
+    before: list
+    after: list
+
+    def input(self, *lines):
+        return (self.plant + "---\n" + "".join(f"{line}\n" for line in lines)).encode()
+
+
+class Differs(Exception):
+    """Reports the input for which two answers differ, and both answers."""
+
+
+class Answers:
+    """Answers of the program, or of the second implementation if there is none. With a program both have to answer the same."""
+
+    def __init__(self, program):
+        self.program = program
+
+    def of(self, words, data, part=lambda answer: answer):
+        expected = reference_answer(words, data)
+        if self.program is None:
+            return expected
+        answer = program_answer(self.program, words, data)
+        if part(answer) != part(expected):
+            raise Differs(data, answer, expected)
+        return answer
+
+
+def first_line(answer):
+    return answer[0], answer[1].split(b"\n")[0]
+
+
+# A script that is cut
+
+def cut_of(seed):
+    """Returns the script of a seed, cut at a line before which its plant rests, or None if it has none."""
+    words, data = case(seed)
+    try:
+        plant, script = split_input(data.decode())
+        read_plant(plant)
+    except (UnicodeDecodeError, PlantFault):
+        return None
+    if words == ["one"]:
+        return None
+    rng = random.Random(f"cut {seed}")
+    for _ in range(CUTS):
+        place = rng.randrange(len(script) + 1)
+        cut = Cut(plant, script[:place], script[place:])
+        if rests(cut):
+            return cut
+    return None
+
+
+def rests(cut):
+    return not reference_answer(["resume"], cut.input(*cut.before, "K"))[1].endswith(b"fault: line %d\n" % (len(cut.before) + 1))
+
+
+def judge_cut(answers, cut):
+    """Compares the two parts of a script with the whole, and returns the snapshot between them."""
+    whole = answers.of(["resume"], cut.input(*cut.before, "K", *cut.after, "K"))
+    before = answers.of(["resume"], cut.input(*cut.before))
+    first = answers.of(["resume"], cut.input(*cut.before, "K"))
+    snapshot = first[1].removeprefix(before[1])
+    # Empty lines before the rest of the script, so that its lines have the numbers that they have in the whole.
+    rest = snapshot + b"---\n" + b"\n" * (len(cut.before) + 1) + "".join(f"{line}\n" for line in [*cut.after, "K"]).encode()
+    second = answers.of(["resume"], rest)
+    if (0, first[1] + second[1]) != whole or second[0] != 0:
+        raise Differs(rest, second, (whole[0], whole[1].removeprefix(first[1])))
+    served = answers.of(["serve"], cut.input(*cut.before, "", *cut.after, ""))
+    # (the last snapshot is left out: nothing follows it)
+    resumed = answers.of(["resume"], snapshot + rest.removeprefix(snapshot)[:-2])
+    if served != (0, before[1] + resumed[1]):
+        raise Differs(rest, resumed, served)
+    return snapshot
+
+
+# Spoiled snapshots
+
+def spoiled(rng, snapshot):
+    """Returns a snapshot with one to three changes. In half of them the last line is right for the changed text."""
+    for _ in range(rng.choice((1, 1, 1, 2, 3))):
+        change = rng.choices((change_bit, change_byte, change_number, copy_field, swap_fields, cut_line, cut_text, swap_lines, repeat_line),
+                             (2, 2, 6, 6, 1, 1, 1, 1, 1))[0]
+        snapshot = change(rng, snapshot)
+    return mended(snapshot) if rng.random() < 0.5 else snapshot
+
+
+def mended(snapshot):
+    """Returns a snapshot with the number of bytes of its plant file, the number of its lines and the checksum that its text has."""
+    plant = snapshot.find(b"\n") + 1
+    end = snapshot.find(b"\n---\n", plant - 1) + 1
+    if end >= plant > 0:
+        snapshot = re.sub(rb"\A(melfjits-snapshot 1 )[0-9]+", lambda found: found[1] + str(end - plant).encode(), snapshot)
+    before = snapshot[:snapshot.rfind(b"\nend ") + 1] or snapshot
+    return before + end_of(before).encode()
+
+
+def place_in(rng, snapshot):
+    """Returns a place in a snapshot, mostly behind the plant file."""
+    least = max(0, snapshot.find(b"\n---\n")) if rng.random() < 0.9 else 0
+    return rng.randrange(least, max(least + 1, len(snapshot)))
+
+
+def change_bit(rng, snapshot):
+    place = place_in(rng, snapshot)
+    return snapshot[:place] + bytes(byte ^ 1 << rng.randrange(8) for byte in snapshot[place:place + 1]) + snapshot[place + 1:]
+
+
+def change_byte(rng, snapshot):
+    place = place_in(rng, snapshot)
+    return snapshot[:place] + bytes([rng.choice(b"0123456789abAB -=,\n\xff")]) + snapshot[place + rng.choice((0, 1)):]
+
+
+def change_number(rng, snapshot):
+    """Changes the first number from a place on: by 1, or to one at which a range may end."""
+    found = re.compile(rb"[0-9]+").search(snapshot, place_in(rng, snapshot))
+    if found is None:
+        return snapshot
+    value = int(found[0][:20])
+    number = rng.choice((value + 1, max(0, value - 1), value + 1, 0, 1, 7, 127, 128, 255, 256, 4_096, 8_191, 65_535, 65_536, 2**32 - 1, 2**32))
+    return snapshot[:found.start()] + str(number).encode() + snapshot[found.end():]
+
+
+def swap_fields(rng, snapshot):
+    lines = snapshot.split(b"\n")
+    place = line_in(rng, snapshot)
+    fields = lines[place].split(b" ")
+    one, other = rng.randrange(len(fields)), rng.randrange(len(fields))
+    fields[one], fields[other] = fields[other], fields[one]
+    return b"\n".join(lines[:place] + [b" ".join(fields)] + lines[place + 1:])
+
+
+def copy_field(rng, snapshot):
+    """Gives a record a field of another record of the same word, such as the SID or a set of another flow."""
+    lines = snapshot.split(b"\n")
+    place = line_in(rng, snapshot)
+    fields = lines[place].split(b" ")
+    others = [line.split(b" ") for line in lines if line.split(b" ")[0] == fields[0]]
+    one, other = rng.randrange(len(fields)), rng.choice(others)
+    fields[one] = other[min(one, len(other) - 1)]
+    return b"\n".join(lines[:place] + [b" ".join(fields)] + lines[place + 1:])
+
+
+def line_in(rng, snapshot):
+    """Returns the place of a line, mostly behind the plant file."""
+    return snapshot[:place_in(rng, snapshot)].count(b"\n")
+
+
+def cut_line(rng, snapshot):
+    lines = snapshot.split(b"\n")
+    del lines[line_in(rng, snapshot)]
+    return b"\n".join(lines)
+
+
+def cut_text(rng, snapshot):
+    return snapshot[:place_in(rng, snapshot)]
+
+
+def swap_lines(rng, snapshot):
+    lines = snapshot.split(b"\n")
+    one, other = line_in(rng, snapshot), line_in(rng, snapshot)
+    lines[one], lines[other] = lines[other], lines[one]
+    return b"\n".join(lines)
+
+
+def repeat_line(rng, snapshot):
+    lines = snapshot.split(b"\n")
+    lines.insert(line_in(rng, snapshot), lines[line_in(rng, snapshot)])
+    return b"\n".join(lines)
+
+
+def judge_spoiled(answers, seed, cut, snapshot):
+    """Counts by their first lines what spoiled snapshots are answered."""
+    rng, counts = random.Random(f"spoiled {seed}"), Counter()
+    for _ in range(SPOILED):
+        lines = ["T", *cut.after[:20], "K"]
+        data = spoiled(rng, snapshot) + b"---\n" + "".join(f"{line}\n" for line in lines).encode()
+        counts[kind_of(answers.of(["resume"], data, first_line))] += 1
+    return counts
+
+
+def kind_of(answer):
+    """Returns what a spoiled snapshot gave: its fault without numbers and names, or that it was resumed."""
+    status, line = first_line(answer)
+    return f"status {status}: " + (" ".join(line.decode().split(" ")[:2]) if status else "resumed")
+
+
+# Counting
+
+def compare(answers, first, count):
+    counts, kinds = Counter(), Counter()
+    for seed in range(first, first + count):
+        cut = cut_of(seed)
+        if cut is None:
+            counts["seeds without a plant that rests at a cut"] += 1
+            continue
+        try:
+            kinds += judge_spoiled(answers, seed, cut, judge_cut(answers, cut))
+        except Differs as found:
+            show(seed, *found.args)
+            return 1
+        counts["scripts that were cut, resumed and compared with the whole"] += 1
+    for what, times in [*sorted(counts.items()), *sorted(kinds.items())]:
+        print(f"{times:9} {what}")
+    return 0
+
+
+def show(seed, data, answer, expected):
+    print(f"seed {seed} differs, with the input:\n{data.decode(errors='backslashreplace')}")
+    for who, (status, out) in (("answered", answer), ("expected", expected)):
+        print(f"{who}: status {status}\n{out.decode(errors='backslashreplace')}")
+
+
+def main():
+    show_help(__doc__)
+    words, program = sys.argv[1:], None
+    if words[2:3] == ["--program"] and len(words) == 4:
+        words, program = words[:2], words[3]
+    if len(words) != 2 or not all(word.isdigit() for word in words):
+        sys.exit(__doc__)
+    sys.exit(compare(Answers(program), int(words[0]), int(words[1])))
+
+
+if __name__ == "__main__":
+    main()
