@@ -23,7 +23,8 @@ SECONDS = 10
 # A test that waits fails after this time, once the script has an edit.
 SECONDS_OF_EDIT = 2
 MOST_EXPOSURE = 3.0
-# `check` refuses a plant with the word bad. `serve` answers each line; `die` kills it, and `slow` keeps it busy.
+# `check` refuses a plant with the word bad. `serve` answers each line; `die` kills it, and `slow` keeps it busy. `resume` begins with a
+# plant file or a snapshot, and answers K by a snapshot with the plant file of the tests.
 PROGRAM = r"""#!/bin/sh
 case $1 in
 check) cat >"$FOLDER/checked"; if grep -q bad "$FOLDER/checked"; then echo fault: plant 1; echo a reason >&2; exit 3; fi; echo ok ;;
@@ -33,9 +34,22 @@ serve) while read -r line && [ "$line" != --- ]; do echo "P $line"; done
         echo "A $line"
     done
     echo end; exit 6 ;;
+resume) bars=1
+    while read -r line; do
+        case $line in melfjits-snapshot*) bars=2 ;; ---) bars=$((bars - 1)); [ $bars != 0 ] || break ;; esac
+        echo "P $line"
+    done
+    while read -r line || [ -n "$line" ]; do
+        case $line in
+        K) printf 'melfjits-snapshot 1 12\na = 1\nb = 2\n---\nframe 1 0\nend 5 9\n' ;;
+        half) kill -9 $$ ;;
+        *) echo "A $line" ;;
+        esac
+    done ;;
 esac
 """
 PLANT = "a = 1\nb = 2"
+SNAPSHOT = "melfjits-snapshot 1 12\na = 1\nb = 2\n---\nframe 1 0\nend 5 9\n"
 
 
 def wait_until(holds):
@@ -141,7 +155,7 @@ class Channel(unittest.TestCase):
 
     def test_wrong_arguments_are_refused(self):
         for words in ([], ["one", "two"]):
-            self.assertEqual(self.refused(self.start(words=words)), (2, "serve_channel: usage: serve_channel PLANT\n"))
+            self.assertEqual(self.refused(self.start(words=words)), (2, "serve_channel: usage: serve_channel PLANT, or serve_channel --keep-state\n"))
 
     def test_answers_that_cannot_be_written_are_refused(self):
         self.assertEqual(self.refused(self.start(ANSWERS="/nowhere/answers"))[0], 6)
@@ -173,6 +187,47 @@ class Channel(unittest.TestCase):
         self.assertEqual([path.read_text() for path in sorted((self.folder / "records").iterdir())],
                          ["a = 1\nb = 2\n---\none\ntwo\n", "a = 1\nb = 2\n---\nthree\n"])
 
+    def keep_state(self, result="success"):
+        words = {"PATH": os.environ["PATH"], "ANSWERS": str(self.answers), "STATE": str(self.folder / "state"), "SERVICE_RESULT": result}
+        subprocess.run([self.script, "--keep-state"], env=words, check=True, timeout=SECONDS)
+
+    def start_with_state(self, plant=PLANT):
+        return self.start(plant=plant, STATE=str(self.folder / "state"))
+
+    def test_a_stop_keeps_the_state_for_the_next_start(self):
+        process = self.start_with_state()
+        self.send("one\n")
+        self.wait_for("P a = 1\nP b = 2\nA one\n")
+        self.assertEqual(self.stop(process), 0)
+        self.assertEqual(self.answers.read_text(), f"P a = 1\nP b = 2\nA one\n{SNAPSHOT}")
+        self.keep_state()
+        self.assertEqual((self.folder / "state").read_text(), SNAPSHOT)
+        self.answers.write_text("")
+        self.start_with_state()
+        self.send("two\n")
+        self.wait_for("P melfjits-snapshot 1 12\nP a = 1\nP b = 2\nP ---\nP frame 1 0\nP end 5 9\nA two\n")
+        self.assertFalse((self.folder / "state").exists())
+
+    def test_a_state_with_another_plant_file_is_put_aside(self):
+        (self.folder / "state").write_text(SNAPSHOT)
+        self.start_with_state(plant="a = 1\n")
+        self.wait_for("P a = 1\n")
+        self.assertFalse((self.folder / "state").exists())
+        self.assertEqual((self.folder / "state.old").read_text(), SNAPSHOT)
+
+    def test_no_state_is_kept_of_a_channel_that_was_killed(self):
+        process = self.start_with_state()
+        self.send("K\nhalf\n")
+        self.assertEqual(process.wait(SECONDS), -signal.SIGKILL)
+        self.assertTrue(self.answers.read_text().endswith(SNAPSHOT))
+        self.keep_state("signal")
+        self.assertFalse((self.folder / "state").exists())
+
+    def test_no_state_is_kept_if_an_answer_follows(self):
+        self.answers.write_text(SNAPSHOT + "A one\n")
+        self.keep_state()
+        self.assertFalse((self.folder / "state").exists())
+
     def test_readiness_is_reported_once_the_plant_file_is_checked(self):
         (self.folder / "bin").mkdir()
         self.write("bin/systemd-notify", '#!/bin/sh\n[ -e "$FOLDER/checked" ] && echo "$*" >"$FOLDER/notified"\n', 0o755)
@@ -199,11 +254,19 @@ class Units(unittest.TestCase):
 EDITS = [
     ("a_stop_answers_what_has_come", "trap '' TERM\n", ""),
     ("a_stop_answers_what_has_come", "trap - TERM && ", ""),
+    ("a_stop_keeps_the_state_for_the_next_start", "trap : TERM; ", ""),
+    ("a_stop_keeps_the_state_for_the_next_start", "; echo K)", ")"),
+    ("a_stop_keeps_the_state_for_the_next_start", ' && mv -- "$STATE" "$STATE.taken"', ""),
+    ("a_stop_keeps_the_state_for_the_next_start", " | sed '/^melfjits-snapshot /q'", ""),
+    ("a_state_with_another_plant_file_is_put_aside", "cmp --quiet", "true"),
+    ("a_state_with_another_plant_file_is_put_aside", 'mv -- "$STATE" "$STATE.old"', "true"),
+    ("no_state_is_kept_if_an_answer_follows", "*) return 0 ;; esac", "esac"),
+    ("no_state_is_kept_of_a_channel_that_was_killed", '[ "${SERVICE_RESULT-success}" = success ] && ', ""),
     ("a_stop_leaves_no_part_of_a_line", "LC_ALL=C exec grep --text --line-buffered ''", "exec cat"),
     ("bytes_that_are_no_text_are_passed_on", "--text --line-buffered", "--line-buffered"),
     ("lines_of_clients_that_come_and_go_are_answered", "--text --line-buffered", "--text"),
-    ("the_plant_file_ends_at_its_separator", "/^---$/ { exit } ", ""),
-    ("the_plant_file_ends_at_its_separator", '"$plant" && echo ---; }', '"$plant"; }'),
+    ("the_plant_file_ends_at_its_separator", "'/^---$/ { exit } ", "'"),
+    ("the_plant_file_ends_at_its_separator", "plant_file && echo ---; }", "plant_file; }"),
     ("a_missing_plant_file_is_refused", "    exit 3\n", "    exit 1\n"),
     ("an_invalid_plant_file_is_refused_with_its_reason", '    exit "$status"\n', "    exit 1\n"),
     ("an_invalid_plant_file_is_refused_with_its_reason", "check >&2\n", "check >/dev/null\n"),
@@ -212,7 +275,7 @@ EDITS = [
     ("answers_are_appended_and_a_cut_line_is_ended", "end_cut_line && exec", "exec"),
     ("answers_are_appended_and_a_cut_line_is_ended", '[ -z "$(tail -c 1 -- "$ANSWERS")" ] || ', ""),
     ("answers_are_appended_and_a_cut_line_is_ended", 'exec >>"$ANSWERS"', 'exec >"$ANSWERS"'),
-    ("each_start_records_all_input", 'plant_and_separator | tee -- "$record" && ', "plant_and_separator && "),
+    ("each_start_records_all_input", 'beginning_and_separator | tee -- "$record" && ', "beginning_and_separator && "),
     ("each_start_records_all_input", 'tee --append -- "$record" | ', ""),
     ("each_start_records_all_input", "$(date --utc +%Y%m%dT%H%M%S.%3NZ)", "record"),
     ("the_end_of_the_program_is_the_end_of_the_script", 'exec "$program" serve', '"$program" serve'),
