@@ -110,7 +110,7 @@ def as_the_page_says(box):
     box.run("set -e\n" + "\n".join(line for line in section(ROOT, "docs/OPERATING.md#first-start") if line.startswith("    ")))
     output = box.wait_until("cat /var/lib/plant_script/east/answers", lambda output: "MAP " in output, "no MAP after the commands of the page")
     want(re.fullmatch("R 020000000001 .*\nF A 0 .*\nF B 0 .*\nMAP 0 .*\n", output), f"the commands of the page give\n{output}")
-    box.run("systemctl disable --now plant@east.socket plant@east; rm /var/lib/plant_script/east/answers")
+    box.run("systemctl disable --now plant@east.socket plant@east; rm /var/lib/plant_script/east/answers /var/lib/plant_script/east/state")
     return "the commands of docs/OPERATING.md start a channel"
 
 
@@ -157,29 +157,42 @@ def second_channel(box):
 
 
 def killed(box):
-    """Kills the program, then the process that copies the lines; each time the channel starts anew, without its flows."""
+    """Kills the program: the channel starts anew, without its flows. Then kills the process that copies the lines: it goes on with its state."""
     for count, which in enumerate(("systemctl show -P MainPID plant@east", "for p in /proc/[0-9]*; do case $(tr '\\0' ' ' <$p/cmdline) in grep*) basename $p ;; esac; done"), 1):
         box.run(f"kill -KILL $({which})")
         box.wait_until("systemctl show -P NRestarts plant@east", lambda output, count=count: output == f"{count}\n", "no restart")
         box.wait_until("systemctl is-active plant@east", lambda output: output == "active\n", "not active")
         before = answers(box, "east")
         want(before.endswith("\n"), "a line of the answers was cut off")
+        beginning = PLANT if count == 1 else before[before.rindex("melfjits-snapshot "):]
         send(box, "east", "T\n")
-        wait_for_answers(box, "east", before + run_answers(box, "T\n"))
-    return "the channel restarts with the first frame if one of its processes is killed"
+        wait_for_answers(box, "east", before + box.ask("plant_script resume", beginning + "---\nT\n"))
+    return "the channel restarts with the first frame if its program is killed, and goes on if the process that copies is"
+
+
+def goes_on(box):
+    """Restarts the channel: it answers with its state, and goes on from there."""
+    before = answers(box, "east")
+    box.run("systemctl restart plant@east")
+    state = answers(box, "east").removeprefix(before)
+    want(state.startswith("melfjits-snapshot ") and "\nend " in state, f"a stop is answered by\n{state}")
+    send(box, "east", LINES)
+    wait_for_answers(box, "east", before + state + box.ask("plant_script resume", state + "---\n" + LINES))
+    return "a restart keeps the state of the channel"
 
 
 def stopped_at_work(box):
-    """Stops the channel while it has much to do: what it got is answered whole, and nothing else."""
+    """Stops the channel while it has much to do: what it got is answered whole, and then its state."""
     lines = "T\n" * 200_000
+    box.run("systemctl stop plant@east; rm /var/lib/plant_script/east/state")
     before = answers(box, "east")
-    box.run("systemctl restart plant@east")
+    box.run("systemctl start plant@east")
     sender = box.start("cat > /run/plant_script/east/in; echo sent")
     sender.stdin.write(lines)
     box.run("systemctl stop plant@east.socket plant@east")
     sender.communicate()
     want(shown(box, "plant@east", "ActiveState", "Result", "ExecMainStatus") == ["inactive", "success", "0"], "the channel did not end well")
-    done = answers(box, "east").removeprefix(before)
+    done = answers(box, "east").removeprefix(before).split("melfjits-snapshot ")[0]
     frames = done.count("MAP ")
     want(0 < frames < 200_000 and done == run_answers(box, "T\n" * frames), "the answers are not those of whole lines")
     return f"a stop in the middle of the work leaves whole answers ({frames} of 200,000 frames)"
@@ -235,7 +248,7 @@ def full_disk(box):
 def recorded(box):
     box.write("/etc/systemd/system/plant@east.service.d/record.conf", "[Service]\nEnvironment=RECORDS=/var/lib/plant_script/east\n")
     before = answers(box, "east")
-    box.run("systemctl daemon-reload; systemctl start plant@east")
+    box.run("rm -f /var/lib/plant_script/east/state; systemctl daemon-reload; systemctl start plant@east")
     send(box, "east", LINES)
     wanted = run_answers(box, LINES)
     wait_for_answers(box, "east", before + wanted)
@@ -246,12 +259,13 @@ def recorded(box):
 
 def rebooted(box):
     box.stop()
+    state = (box.folder / "var/lib/plant_script/east/state").read_text()
     box.boot()
     box.wait_until("systemctl is-active plant@east", lambda output: output == "active\n", "the channel is not there after a reboot")
     before = answers(box, "east")
     send(box, "east", LINES)
-    wait_for_answers(box, "east", before + run_answers(box, LINES))
-    return "an enabled channel is there after a reboot"
+    wait_for_answers(box, "east", before + box.ask("plant_script resume", state + "---\n" + LINES))
+    return "an enabled channel is there after a reboot, and goes on with its state"
 
 
 def newer(package, work):
@@ -304,7 +318,7 @@ def trials(box, package, work):
     """Yields a line for each trial."""
     yield lintian(package)
     yield install(box, package)
-    for trial in (complete, verify_units, as_the_page_says, first_start, invalid_line, rights, second_channel, killed, ticked, stopped_at_work, invalid_plant,
+    for trial in (complete, verify_units, as_the_page_says, first_start, invalid_line, rights, second_channel, killed, goes_on, ticked, stopped_at_work, invalid_plant,
                   full_disk, recorded, rebooted):
         yield trial(box)
     yield upgraded(box, package, work)
